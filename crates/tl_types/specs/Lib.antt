@@ -1,0 +1,4 @@
+pub mod Types
+pub mod Values
+pub mod Schemas
+pub mod Seen
