@@ -1,1 +1,10 @@
 pub mod Contents
+pub mod Causes
+pub mod Outside
+pub mod Using
+pub mod Taking
+pub mod Writing
+pub mod Calls
+pub mod Memory
+pub mod MemoryFiles
+pub mod MemoryHost

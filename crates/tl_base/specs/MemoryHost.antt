@@ -1,0 +1,19 @@
+-- What a host in memory shows.
+use Rattle.std.specs.Prelude.{Bool, length, map, ◌==◌}
+use Rattle.tl_base.specs.Outside.{View}
+use Rattle.tl_base.specs.declared.mem_host.MemHost.{MemHost}
+use Rattle.tl_base.specs.MemoryFiles.{file_view, left_of_file}
+
+abbrev pub host_view : MemHost → View
+host_view h = record {
+  files = map file_view h.files.items;
+  schema_left = left_of_file h.files.items h.schema;
+  input_left = left_of_file h.files.items h.input;
+  output = h.output.items;
+  errors = h.errors.items;
+  room = h.room;
+}
+
+-- it was told to fail at no call
+abbrev pub is_sound_host : MemHost → Bool
+is_sound_host h = length h.fails.items == 0
