@@ -1,6 +1,6 @@
 -- Program text: the tokens of a text.
 -- From "Formal description of TL" (core.telegram.org/mtproto/TL-formal), its lexical part.
-use Rattle.std.specs.Prelude.{◌≡◌, ◌⊎◌, ℕ, ◌-◌, ◌<◌, ◌≤◌, List, [], ◌∷◌, ◌++◌, length, Bool, true, Option, Some, None, Result, Ok, Err, nat_le, ◌==◌, ◌&&◌, ◌||◌, if◌then◌else◌}
+use Rattle.std.specs.Prelude.{◌≡◌, ◌⊎◌, ℕ, ◌-◌, ◌<◌, ◌≤◌, List, [], ◌∷◌, ◌++◌, length, Bool, true, Option, Some, None, nat_le, ◌==◌, ◌&&◌, ◌||◌, if◌then◌else◌}
 use Rattle.tl_lexer.specs.Rule.{Rule, gives, fails, here, one, Next, chain, choice, loop}
 use Rattle.tl_lexer.specs.declared.token.Token.{Token}
 use Rattle.tl_lexer.specs.declared.token.TokenKind.{TokenKind}
@@ -24,6 +24,7 @@ single b = if b == 35 then Some Hash else if b == 58 then Some Colon else if b =
 abbrev pub place : ℕ → List ℕ → ℕ
 place size bs = size - length bs
 
+-- a byte that passes the test
 abbrev pub Is : (ℕ → Bool) → ℕ → Type 0
 Is test b = test b ≡ true
 
@@ -31,6 +32,7 @@ Is test b = test b ≡ true
 unfoldable pub any_byte : Rule ℕ LexFault ℕ
 any_byte = one (λ bs. NotYetBuilt) (λ b. Unit {0})
 
+-- one byte, whose value is let go
 abbrev pub one_byte : Unit {0} → Rule ℕ LexFault (Unit {0})
 one_byte u = chain any_byte (λ b. gives tt)
 
@@ -38,6 +40,7 @@ one_byte u = chain any_byte (λ b. gives tt)
 unfoldable pub bytes_while : (List ℕ → Type 0) → Rule ℕ LexFault (Unit {0})
 bytes_while P = loop P one_byte tt
 
+-- a byte that is a token by itself
 abbrev pub HasKind : ℕ → Type 0
 HasKind b = (k : TokenKind) × (single b ≡ Some k)
 
@@ -49,6 +52,7 @@ piece =
     (choice (Next HasKind) (chain any_byte (λ b. gives (single b)))
     (fails (λ bs. NotYetBuilt))))
 
+-- the tokens, and one more behind them if the piece is one
 abbrev pub with_piece : List Token → ℕ → ℕ → Option TokenKind → List Token
 with_piece ts start end None = ts
 with_piece ts start end (Some k) = ts ++ (record { kind = k; start = start; end = end } ∷ [])
@@ -78,12 +82,6 @@ Tokens text ts = (length text ≤ 65536) × (pieces (length text)).reads text ts
 -- the text has no tokens, for this fault
 abbrev pub LexRefused : List ℕ → LexFault → Type 0
 LexRefused text fault = ((65536 < length text) × (fault ≡ NotYetBuilt)) ⊎ ((length text ≤ 65536) × (pieces (length text)).refused text fault)
-
--- what `lex` answers for a text; want of memory is free
-abbrev pub Lexes : List ℕ → Result (List Token) LexFault → Type 0
-Lexes text (Ok ts) = Tokens text ts
-Lexes text (Err NotYetBuilt) = LexRefused text NotYetBuilt
-Lexes text (Err Memory) = Unit {0}
 
 -- a byte of the plain form: white space, a Word's byte, `#`, `:`, `;` or `=`
 abbrev pub is_plain : ℕ → Bool

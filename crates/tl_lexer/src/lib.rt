@@ -2,7 +2,13 @@
 #![tactic(auto)]
 
 mod fault;
+mod law;
+mod lexer;
+#[cfg(test)]
+mod tests;
 mod token;
 
 pub use fault::LexFault;
+pub use law::{each_text_has_tokens_or_is_refused, tokens_spell_their_text};
+pub use lexer::{TEXT_LIMIT, lex};
 pub use token::{Token, TokenKind};
