@@ -1,0 +1,10 @@
+pub mod Parts
+pub mod Numbers
+pub mod Texts
+pub mod SureProgram
+pub mod Exact
+pub mod Spanned
+pub mod Values
+pub mod PlainForm
+pub mod DecidedParts
+pub mod WholeProgram
