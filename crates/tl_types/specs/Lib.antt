@@ -2,3 +2,12 @@ pub mod Types
 pub mod Values
 pub mod Schemas
 pub mod Seen
+pub mod Checking
+pub mod CheckSteps
+pub mod CheckedSchema
+pub mod NameLists
+pub mod Words
+pub mod Spelling
+pub mod Refusal
+pub mod Reading
+pub mod Exactly

@@ -1,0 +1,15 @@
+mod Maps
+mod NameKeys
+mod Repeats
+mod TypeNames
+mod Fields
+mod Declarations
+mod Finding
+pub mod Words
+pub mod Members
+pub mod Views
+pub mod Spelling
+pub mod Refusal
+pub mod Reading
+pub mod Exactly
+pub mod Rows

@@ -1,0 +1,7 @@
+//! Laws of the definitions, each carried by a function that does nothing.
+ghost use Rattle.tl_types.specs.Exactly.{EachIsSpelledOrRefused};
+
+/// Over each type and each list of bytes exactly one holds: one prefix spells one value, or the bytes are refused at one place for one cause.
+pub fn each_input_is_spelled_or_refused()
+    ensures { EachIsSpelledOrRefused }
+{}
