@@ -1,0 +1,10 @@
+pub mod Steps
+pub mod Items
+pub mod Values
+pub mod Outcomes
+pub mod WholeInput
+pub mod Forms
+pub mod Slots
+pub mod Loading
+pub mod Lines
+pub mod Endings

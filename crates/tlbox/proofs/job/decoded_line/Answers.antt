@@ -1,0 +1,21 @@
+use Rattle.tlbox.proofs.Lines.{no_schema_line, no_type_line, no_value_line, value_line}
+use Rattle.tlbox.proofs.job.decoded_line.Goals as goal
+
+pub returns-in_err-schema-clause-line : goal.returns-in_err-schema-clause-line
+returns-in_err-schema-clause-line g c =
+    no_schema_line c.args.schema.now c.args.of.now c.args.input.now c.in_err-schema.field-0.0 c.from_residual.result _ _ c.in_err-schema.ensures.loads c.from_residual.ensures.1
+
+pub returns-in_err-of-clause-line : goal.returns-in_err-of-clause-line
+returns-in_err-of-clause-line g c =
+    no_type_line c.args.schema.now c.args.of.now c.args.input.now c.as_bytes.result.now c.in_ok-schema.schema c.in_err-of.field-0.0 c.from_residual-in_err-of.result _ _ c.as_bytes.ensures.value c.in_ok-schema.ensures.loads
+    c.in_err-of.ensures c.from_residual-in_err-of.ensures.1
+
+pub returns-in_err-value-clause-line : goal.returns-in_err-value-clause-line
+returns-in_err-value-clause-line g c =
+    no_value_line c.args.schema.now c.args.of.now c.args.input.now c.in_ok-schema.schema c.in_ok-of.of c.in_err-value.field-0.0 c.from_residual-in_err-value.result _ _ _ c.in_ok-schema.ensures.loads
+    (rw c.as_bytes.ensures.value at c.in_ok-of.ensures) c.in_err-value.ensures.loads c.from_residual-in_err-value.ensures.1
+
+pub returns-clause-line : goal.returns-clause-line
+returns-clause-line g c =
+    value_line c.args.schema.now c.args.of.now c.args.input.now c.in_ok-schema.schema c.in_ok-of.of c.in_ok-value.value c.in_ok-line.line _ _ _ c.in_ok-schema.ensures.loads
+    (rw c.as_bytes.ensures.value at c.in_ok-of.ensures) c.in_ok-value.ensures.loads c.in_ok-line.ensures

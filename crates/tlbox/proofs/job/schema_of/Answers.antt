@@ -1,0 +1,11 @@
+use Rattle.std.proofs.Common.{sym, ◌∙◌}
+use Rattle.tlbox.proofs.Loading.{no_program, no_schema}
+use Rattle.tlbox.proofs.job.schema_of.Goals as goal
+
+pub returns-in_err-program-clause-reads : goal.returns-in_err-program-clause-reads
+returns-in_err-program-clause-reads c =
+    no_program c.args.text.now c.deref.result.now c.in_err-program.field-0.0 _ (rw c.deref.ensures.value c.in_ok-tokens.ensures.lexes) c.in_err-program.ensures.parses c.from_residual-in_err-program.ensures.1
+
+pub returns-in_err-schema-clause-reads : goal.returns-in_err-schema-clause-reads
+returns-in_err-schema-clause-reads c =
+    no_schema c.args.text.now c.deref.result.now _ c.in_err-schema.field-0.0 _ (rw c.deref.ensures.value c.in_ok-tokens.ensures.lexes) c.in_ok-program.ensures.parses c.in_err-schema.ensures.checks c.from_residual-in_err-schema.ensures.1

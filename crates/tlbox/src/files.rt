@@ -1,0 +1,54 @@
+//! Reading the slots of a host, and writing to its outs.
+ghost use Rattle.std.specs.Prelude.{◌≡◌, ◌≤◌, ◌+◌, IsErrOf, IsOk, IfSome, length, IsSome, IsTrue};
+ghost use Rattle.tl_base.specs.Calls.{Told};
+ghost use Rattle.tl_base.specs.Causes.{HasCause, Rose};
+ghost use Rattle.tl_base.specs.Outside.{written_of};
+ghost use Rattle.tlbox.specs.Steps.{ReadsText, TakesSlot, Puts};
+
+use std::alloc::Global;
+use tl_base::{Host, Out, SinkOf, Slot, SourceOf, TextFault, WriteFault, take_text, write_all};
+
+/// Reads a file to its end, or to one byte past the limit.
+pub fn text_of<H: Host>(
+    alloc: Global,
+    host: &mut H,
+    slot: Slot,
+    name: &str,
+    limit: u32,
+) -> Result<Vec<u8>, TextFault>
+    ensures text { Told (H.view host.old) (H.view host.new) (ReadsText slot name.now limit result) }
+    ensures later { H.read_faults host.old ≤ H.read_faults host.new }
+    ensures cause { IsErrOf result TextFault.ReadFault → Rose (H.read_faults host.old) (H.read_faults host.new) }
+    ensures others { H.write_faults host.new ≡ H.write_faults host.old }
+{
+    match host.open_slot(slot, name) {
+        Ok(()) => slot_text(alloc, host, slot, limit),
+        Err(_) => Err(TextFault::ReadFault),
+    }
+}
+
+// Reads what is left of a slot.
+fn slot_text<H: Host>(
+    alloc: Global,
+    host: &mut H,
+    slot: Slot,
+    limit: u32,
+) -> Result<Vec<u8>, TextFault>
+    ensures text { Told (H.view host.old) (H.view host.new) (TakesSlot slot limit result) }
+    ensures later { H.read_faults host.old ≤ H.read_faults host.new }
+    ensures cause { IsErrOf result TextFault.ReadFault → Rose (H.read_faults host.old) (H.read_faults host.new) }
+    ensures others { H.write_faults host.new ≡ H.write_faults host.old }
+{
+    let mut source = SourceOf::new(host, slot);
+    take_text(alloc, &mut source, limit)
+}
+
+/// Writes a piece to an out.
+pub fn put<H: Host>(host: &mut H, out: Out, piece: &[u8]) -> Result<(), WriteFault>
+    ensures put { Told (H.view host.old) (H.view host.new) (Puts out piece.now result) }
+    ensures cause { HasCause (H.write_faults host.old) (H.write_faults host.new) result }
+    ensures others { H.read_faults host.new ≡ H.read_faults host.old }
+{
+    let mut sink = SinkOf::new(host, out);
+    write_all(&mut sink, piece)
+}

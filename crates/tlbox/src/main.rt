@@ -1,0 +1,31 @@
+//! tlbox: reads schemas of Telegram's TL language and values that are spelled in them.
+#![tactic(auto)]
+
+mod decoder;
+mod files;
+mod job;
+mod program;
+mod real;
+mod report;
+mod shown;
+mod status;
+mod stop;
+mod whole;
+mod words;
+
+use program::run;
+use real::RealHost;
+use status::Status;
+use std::process::ExitCode;
+
+fn main(rt: HostRuntime) -> ExitCode {
+    let alloc = rt.alloc();
+    let Ok(args) = std::env::args(&rt) else {
+        return ExitCode::from(Status::Memory.code());
+    };
+    let Ok(words) = args.skip(1).collect::<Vec<String>>(alloc) else {
+        return ExitCode::from(Status::Memory.code());
+    };
+    let mut host = RealHost::new(rt);
+    ExitCode::from(run(alloc, words.as_slice(), &mut host).code())
+}

@@ -1,0 +1,33 @@
+//! The top call.
+ghost use Rattle.std.specs.Prelude.{◌≡◌, map, string_bytes};
+ghost use Rattle.tl_base.specs.Calls.{Told};
+ghost use Rattle.tl_base.specs.Causes.{Rose};
+ghost use Rattle.tlbox.specs.Runs.{Ends};
+
+use crate::job::decode;
+use crate::report::{report, tell};
+use crate::status::Status;
+use crate::words::decode_words;
+use std::alloc::Global;
+use tl_base::Host;
+
+/// What is told where the words are no row.
+const USAGE: &[u8] =
+    b"usage: tlbox check SCHEMA, decode SCHEMA TYPE INPUT, encode SCHEMA TYPE INPUT, replay SCHEMA JOURNAL CLIENTS, make SCHEMA NUMBER STEPS, serve SCHEMA ADDRESS SESSIONS, post SCHEMA ADDRESS INPUT, client SCHEMA ADDRESS STATE [CHANNEL ..]\n";
+
+/// Runs the program over an outside: the words without the program's name, and the status that it ends with.
+pub fn run<H: Host>(alloc: Global, words: &[String], host: &mut H) -> Status
+    // Status, Output and Errors are those of the definition, or a fault's whose count rose, or memory's.
+    ensures ends { Told (H.view host.old) (H.view host.new) (Ends (map string_bytes words.now) (Rose (H.read_faults host.old) (H.read_faults host.new)) (Rose (H.write_faults host.old) (H.write_faults host.new)) result) }
+    // A fault's status comes only where its count rose, told or not.
+    ensures read { result ≡ Status.ReadFault → Rose (H.read_faults host.old) (H.read_faults host.new) }
+    ensures write { result ≡ Status.WriteFault → Rose (H.write_faults host.old) (H.write_faults host.new) }
+{
+    match decode_words(words) {
+        Some(asked) => match decode(alloc, host, asked.schema, asked.of, asked.input) {
+            Ok(()) => Status::Done,
+            Err(stop) => report(alloc, host, stop),
+        },
+        None => tell(host, Status::Usage, USAGE),
+    }
+}

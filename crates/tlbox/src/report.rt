@@ -1,0 +1,83 @@
+//! How a run that stopped is told on Errors.
+ghost use Rattle.std.specs.Prelude.{◌≡◌, ◌≤◌, IfOk, string_bytes, codes};
+ghost use Rattle.tl_base.specs.Calls.{Told};
+ghost use Rattle.tl_base.specs.Causes.{Rose};
+ghost use Rattle.tlbox.specs.Answers.{cause_text, input_line};
+ghost use Rattle.tlbox.specs.Jobs.{refusal_line, Reports, TellsLine};
+
+use crate::files::put;
+use crate::status::Status;
+use crate::stop::{Refusal, Stop};
+use std::alloc::{AllocError, Global};
+use tl_base::{Host, Out};
+use tl_types::Cause;
+
+// A cause, and its values.
+fn cause_name(alloc: Global, cause: Cause) -> Result<String, AllocError>
+    ensures { IfOk result (λ s. string_bytes s ≡ cause_text cause) }
+{
+    match cause {
+        Cause::TooDeep => String::from_str(alloc, "TooDeep"),
+        Cause::Truncated => String::from_str(alloc, "Truncated"),
+        Cause::Packed => String::from_str(alloc, "NotYetBuilt"),
+        Cause::UnknownNumber { word } => {
+            let digits = hex::encode(alloc, word.to_be_bytes())?;
+            format!(in alloc; "UnknownNumber {digits}")
+        }
+    }
+}
+
+// The line of an input that is refused at a place.
+fn input_line_of(alloc: Global, place: u64, why: &str) -> Result<String, AllocError>
+    ensures { IfOk result (λ s. string_bytes s ≡ input_line place why.now) }
+{
+    let mut line = format!(in alloc; "tlbox: input {place} ")?;
+    line.push_str(why)?;
+    line.push_str("\n")?;
+    Ok(line)
+}
+
+// The line of a refusal.
+fn line_of(alloc: Global, refusal: Refusal) -> Result<String, AllocError>
+    ensures { IfOk result (λ s. string_bytes s ≡ refusal_line refusal) }
+{
+    match refusal {
+        Refusal::SchemaText => String::from_str(alloc, "tlbox: schema - NotYetBuilt\n"),
+        Refusal::TypeName => String::from_str(alloc, "tlbox: type - NotYetBuilt\n"),
+        Refusal::Input { place, cause } => {
+            let why = cause_name(alloc, cause)?;
+            input_line_of(alloc, place, why.as_str())
+        }
+        Refusal::Trailing { place } => input_line_of(alloc, place, "Trailing"),
+    }
+}
+
+/// Writes a line to Errors. A fault in writing it leaves the status.
+pub fn tell<H: Host>(host: &mut H, status: Status, line: &[u8]) -> Status
+    ensures status { result ≡ status }
+    ensures told { Told (H.view host.old) (H.view host.new) (TellsLine (Rose (H.write_faults host.old) (H.write_faults host.new)) line.now) }
+    ensures later { H.write_faults host.old ≤ H.write_faults host.new }
+    ensures others { H.read_faults host.new ≡ H.read_faults host.old }
+{
+    let _ = put(host, Out::Errors, line);
+    status
+}
+
+/// Tells why a run stopped, and answers its status.
+pub fn report<H: Host>(alloc: Global, host: &mut H, stop: Stop) -> Status
+    ensures reports { Told (H.view host.old) (H.view host.new) (Reports (Rose (H.write_faults host.old) (H.write_faults host.new)) stop result) }
+    ensures later { H.write_faults host.old ≤ H.write_faults host.new }
+    ensures others { H.read_faults host.new ≡ H.read_faults host.old }
+    ensures read { result ≡ Status.ReadFault → stop ≡ Stop.ReadFault }
+    ensures write { result ≡ Status.WriteFault → stop ≡ Stop.WriteFault }
+{
+    match stop {
+        Stop::Refused(refusal) => match line_of(alloc, refusal) {
+            Ok(line) => tell(host, Status::Refused, line.as_bytes()),
+            Err(_) => tell(host, Status::Memory, b"tlbox: memory\n"),
+        },
+        Stop::ReadFault => tell(host, Status::ReadFault, b"tlbox: read fault\n"),
+        Stop::WriteFault => tell(host, Status::WriteFault, b"tlbox: write fault\n"),
+        Stop::Memory => tell(host, Status::Memory, b"tlbox: memory\n"),
+    }
+}
