@@ -1,0 +1,4 @@
+pub mod Happenings
+pub mod Views
+pub mod Boxes
+pub mod Appending

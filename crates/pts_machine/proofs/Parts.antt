@@ -1,0 +1,77 @@
+-- The steps of a lane, from what the parts of the code give.
+use Rattle.std.proofs.Common.{◌≡◌, ℕ, ◌+◌, ◌<◌, ◌≤◌, ◌++◌, List, Bool, true, false, cond, is_some, eqb, ◌&&◌, sym, ap, ◌∙◌, subst, arith, inl, inr}
+use Rattle.std.specs.List.{sum_by}
+use Rattle.std.specs.FinMap.{get, len, empty, len-insert}
+use Rattle.std.specs.Cmp.{nat_cmp_total}
+use Rattle.pts_machine.specs.Holding.{Items, from, most, Holds}
+use Rattle.pts_machine.specs.declared.gap.Outcome.{Outcome}
+use Rattle.pts_machine.specs.declared.gap.Outcome.TheVariants.{Kept, Known, Full}
+use Rattle.pts_machine.specs.declared.mode.Mode.{Mode}
+use Rattle.pts_machine.specs.declared.mode.Mode.TheVariants.{Live}
+use Rattle.pts_machine.specs.declared.seen.Seen.{Seen}
+use Rattle.pts_machine.specs.Tracks.{Track, IsSound, is_live}
+use Rattle.pts_machine.specs.Chains.{chain, reach}
+use Rattle.pts_machine.specs.Steps.{settle, loaded, IsPast, IsNext, Hears}
+use Rattle.pts_machine.specs.Outcomes.{seen_by}
+use Rattle.pts_machine.proofs.Ends.{none_at, some_at, look}
+use Rattle.pts_machine.proofs.Kept.{next_test}
+
+pub same_track : {E : Type 0} (restart : ℕ) (mode : Mode) (es es2 : List E) (at at2 : ℕ) (m m2 : Items E) → es ≡ es2 → at ≡ at2 → m ≡ m2
+    → ◌≡◌ {A = Track E} (record { restart = restart; events = es; at = at; held = m; mode = mode }) (record { restart = restart; events = es2; at = at2; held = m2; mode = mode })
+same_track restart mode es es2 at at2 m m2 p q r = λ i. record { restart = restart; events = p i; at = q i; held = r i; mode = mode }
+
+pub settled : {E : Type 0} (t : Track E) (es : List E) (r : ℕ) (m : Items E) → es ≡ t.events ++ chain (len t.held) t.at t.held → r ≡ reach (len t.held) t.at t.held → m ≡ from r t.held → record t { events = es; at = r; held = m } ≡ settle t
+unfolding settle
+settled t es r m p q s = same_track t.restart t.mode es _ r _ m _ p q (s ∙ ap (λ (k : ℕ). from k t.held) q)
+
+-- an item in turn
+pub next_of : (m : Mode) (s p : ℕ) (b : Bool) → b ≡ (is_live m && eqb s p) → b ≡ true → (m ≡ Live) × (s ≡ p)
+next_of m s p b e t = (next_test m s p).0 (sym e ∙ t)
+
+both_ways : (b : Bool) → b ≡ false → b ≡ true → ⊥
+both_ways b f t = cc
+
+pub not_next_of : (m : Mode) (s p : ℕ) (b : Bool) → b ≡ (is_live m && eqb s p) → b ≡ false → (m ≡ Live) × (s ≡ p) → ⊥
+not_next_of m s p b e f h = both_ways _ (sym e ∙ f) ((next_test m s p).1 h)
+
+pub never_past : {E : Type 0} (count : E → ℕ) (t : Track E) (start : ℕ) → IsSound count t → IsNext t start → IsPast t start → ⊥
+never_past count t start sound next (inl lt) = let same : start ≡ t.at = next.1 in absurd (omega arith)
+never_past count t start sound next (inr ne) = elim (look t.held start) [
+  | none_at e ↦ ne e
+  | some_at x e ↦ let same : start ≡ t.at = next.1 in let past : t.at < start = sound.ahead next.0 start x e in absurd (omega arith)
+]
+
+cond_le : (b : Bool) (n : ℕ) → cond b n (n + 1) ≤ n + 1
+cond_le true n = omega arith
+cond_le false n = omega arith
+
+same_held : {E : Type 0} (t : Track E) (m : Items E) → m ≡ t.held → record t { held = m } ≡ t
+same_held t m e = λ i. record t { held = e i }
+
+pub held_hears : {E : Type 0} (t : Track E) (start end : ℕ) (item : E) (room : ℕ) (new : Items E × ℕ) (r : Outcome E)
+    → (IsNext t start → ⊥) → t.at ≤ start → Holds (t.held, room) new start end item r → Hears t start end item (seen_by r) (record t { held = new.0 })
+held_hears t start end item room new Kept no_next le h =
+    (elim [ inl lt ↦ absurd (omega arith) | inr ne ↦ ne h.0 ], no_next, h.1, λ i. record t { held = h.2 i })
+held_hears t start end item room new (Known x) no_next le h = (inr h.0, same_held t new.0 (ap (λ (p : Items _ × ℕ). p.0) h.2))
+held_hears t start end item room new (Full x) no_next le h =
+    (elim [ inl lt ↦ absurd (omega arith) | inr ne ↦ ne h.0 ], no_next, (let full : len t.held ≡ most = h.1 in omega arith), same_held t new.0 (ap (λ (p : Items _ × ℕ). p.0) h.3))
+
+pub held_len : {E : Type 0} (old new : Items E × ℕ) (start end : ℕ) (item : E) (r : Outcome E) → Holds old new start end item r → len new.0 ≤ len old.0 + 1
+held_len old new start end item Kept h = omega (arith, ap len h.2, len-insert nat_cmp_total old.0 start (end, item), cond_le (is_some (get old.0 start)) (len old.0))
+held_len old new start end item (Known x) h = omega (arith, ap (λ (p : Items _ × ℕ). len p.0) h.2)
+held_len old new start end item (Full x) h = omega (arith, ap (λ (p : Items _ × ℕ). len p.0) h.3)
+
+pub held_room : {E : Type 0} (old new : Items E × ℕ) (start end : ℕ) (item : E) (r : Outcome E) → Holds old new start end item r → old.1 ≤ new.1 + 1
+held_room old new start end item Kept h = h.3
+held_room old new start end item (Known x) h = omega (arith, ap (λ (p : Items _ × ℕ). p.1) h.2)
+held_room old new start end item (Full x) h = omega (arith, ap (λ (p : Items _ × ℕ). p.1) h.3)
+
+pub fresh : {E : Type 0} (restart at : ℕ) (events : List E) (m : Items E) (count : E → ℕ) → m ≡ empty → at ≡ restart + sum_by count events
+    → ◌≡◌ {A = Track E} (record { restart = restart; events = events; at = at; held = m; mode = Live }) (loaded count restart events)
+fresh restart at events m count e f = λ i. record { restart = restart; events = events; at = f i; held = e i; mode = Live }
+
+pub hears_as : {E : Type 0} (t v : Track E) (start end : ℕ) (item : E) (r : Seen) (u : Track E) → t ≡ v → Hears t start end item r u → Hears v start end item r u
+hears_as {E} t v start end item r u e h = subst (λ (w : Track E). Hears w start end item r u) e h
+
+pub holds_to : {E : Type 0} (old new : Items E × ℕ) (start end to : ℕ) (item : E) (r : Outcome E) → end ≡ to → Holds old new start end item r → Holds old new start to item r
+holds_to old new start end to item r e h = subst (λ (n : ℕ). Holds old new start n item r) e h

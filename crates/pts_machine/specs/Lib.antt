@@ -1,0 +1,7 @@
+pub mod Entries
+pub mod Holding
+pub mod Chains
+pub mod Tracks
+pub mod Steps
+pub mod Views
+pub mod Outcomes

@@ -1,0 +1,15 @@
+//! A lane: the events of a box in order, and what is held since it came before its turn.
+#![tactic(auto)]
+
+mod counted;
+mod gap;
+mod lane;
+mod mode;
+mod seen;
+#[cfg(test)]
+mod tests;
+
+pub use counted::Counted;
+pub use lane::Lane;
+pub use mode::Mode;
+pub use seen::Seen;
