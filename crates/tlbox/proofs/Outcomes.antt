@@ -15,14 +15,14 @@ use Rattle.tl_types.proofs.Refusal.{refused}
 use Rattle.tl_types.proofs.Exactly.{same_ok, same_err, never_err}
 use Rattle.tlbox.specs.declared.decoder.DecodeFault.{DecodeFault}
 use Rattle.tlbox.specs.declared.decoder.DecodeFault.TheVariants as fault
-use Rattle.tlbox.specs.Decoding.{Decodes, Answers, Refuses}
+use Rattle.tlbox.specs.Decoding.{ReadsAs, GivesValue, GivesFault}
 
 -- reading what begins with a spelling
 reads : (ds : List Declaration) → IsSchema ds → (T : Shape) (n p : ℕ) → p < 2 ^ 64 → (bytes : List ℕ) (t : Tree) (x rest : List ℕ) → bytes ≡ x ++ rest → Spells ds T t x → depth t ≤ n → value_at ds n T (spot p bytes) ≡ Ok (t, spot (moved p (length x)) rest)
 reads ds good T n p lt bytes t x rest split s deep = ap (λ (z : List ℕ). value_at ds n T (spot p z)) split ∙ spelled ds good t T n x rest p lt s deep
 
-pub gives_value : (ds : List Declaration) → IsSchema ds → (T : Shape) (n : ℕ) (a b : Option (List ℕ)) (p q : ℕ) (r : Result Value DecodeFault) → p < 2 ^ 64 → Decodes view a b p q r (value_at ds n T)
-    → IfSome a (λ bytes. (t : Tree) (x rest : List ℕ) → bytes ≡ x ++ rest → Spells ds T t x → depth t ≤ n → Answers r b p q t x rest)
+pub gives_value : (ds : List Declaration) → IsSchema ds → (T : Shape) (n : ℕ) (a b : Option (List ℕ)) (p q : ℕ) (r : Result Value DecodeFault) → p < 2 ^ 64 → ReadsAs view a b p q r (value_at ds n T)
+    → IfSome a (λ bytes. (t : Tree) (x rest : List ℕ) → bytes ≡ x ++ rest → Spells ds T t x → depth t ≤ n → GivesValue r b p q t x rest)
 gives_value ds good T n None b p q r lt h = tt
 gives_value ds good T n (Some bytes) b p q (Ok v) lt h = λ t x rest split s deep.
     let both = same_ok {A = Tree} (sym h.2 ∙ reads ds good T n p lt bytes t x rest split s deep) in
@@ -32,8 +32,8 @@ gives_value ds good T n (Some bytes) b p q (Err (fault.Refused place cause)) lt 
 gives_value ds good T n (Some bytes) b p q (Err fault.ReadFault) lt h = λ t x rest split s deep. tt
 gives_value ds good T n (Some bytes) b p q (Err fault.Memory) lt h = λ t x rest split s deep. tt
 
-pub gives_fault : (ds : List Declaration) → IsSchema ds → (T : Shape) (n : ℕ) (a b : Option (List ℕ)) (p q : ℕ) (r : Result Value DecodeFault) → p < 2 ^ 64 → Decodes view a b p q r (value_at ds n T)
-    → IfSome a (λ bytes. (place : ℕ) (cause : Cause) → Refused ds n T bytes place cause → Refuses r (moved p place) cause)
+pub gives_fault : (ds : List Declaration) → IsSchema ds → (T : Shape) (n : ℕ) (a b : Option (List ℕ)) (p q : ℕ) (r : Result Value DecodeFault) → p < 2 ^ 64 → ReadsAs view a b p q r (value_at ds n T)
+    → IfSome a (λ bytes. (place : ℕ) (cause : Cause) → Refused ds n T bytes place cause → GivesFault r (moved p place) cause)
 gives_fault ds good T n None b p q r lt h = tt
 gives_fault ds good T n (Some bytes) b p q (Ok v) lt h = λ place cause s. never_err {A = Tree} (sym (refused ds good n T bytes place cause p lt s) ∙ h.2)
 gives_fault ds good T n (Some bytes) b p q (Err (fault.Refused at why)) lt h = λ place cause s. same_err {A = Tree} (sym h ∙ refused ds good n T bytes place cause p lt s)

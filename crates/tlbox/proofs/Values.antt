@@ -16,25 +16,25 @@ use Rattle.tl_types.specs.declared.schema.SchemaField.{SchemaField}
 use Rattle.tl_types.specs.declared.value.Value.{Value}
 use Rattle.tlbox.specs.declared.decoder.DecodeFault.{DecodeFault}
 use Rattle.tlbox.specs.declared.decoder.DecodeFault.TheVariants.{Refused}
-use Rattle.tlbox.specs.Decoding.{Decodes}
+use Rattle.tlbox.specs.Decoding.{ReadsAs}
 use Rattle.tlbox.proofs.Steps.{then_read, then_fails, makes, refuses, as_read}
 
 abbrev Word : Option (List ℕ) → Option (List ℕ) → ℕ → ℕ → Result ℕ DecodeFault → Type 0
-Word a b p q res = Decodes (λ (w : ℕ). w) a b p q res word_at
+Word a b p q res = ReadsAs (λ (w : ℕ). w) a b p q res word_at
 
 -- ---- any type
 
-pub value_plain : (a b : Option (List ℕ)) (p q n : ℕ) (res : Result Value DecodeFault) (ds : List Declaration) (T U : Shape) → T ≡ U → is_deep U ≡ false → Decodes view a b p q res (plain_at U) → Decodes view a b p q res (value_at ds n T)
+pub value_plain : (a b : Option (List ℕ)) (p q n : ℕ) (res : Result Value DecodeFault) (ds : List Declaration) (T U : Shape) → T ≡ U → is_deep U ≡ false → ReadsAs view a b p q res (plain_at U) → ReadsAs view a b p q res (value_at ds n T)
 unfolding value_at
 value_plain a b p q zero res ds T U is plain h = as_read view a b p q res (plain_at U) (value_at ds zero T) h (λ s. rw (is, plain) refl)
 value_plain a b p q (suc n) res ds T U is plain h = as_read view a b p q res (plain_at U) (value_at ds (suc n) T) h (λ s. rw (is, plain) refl)
 
-pub value_too_deep : (a : Option (List ℕ)) (p q n h : ℕ) (ds : List Declaration) (T : Shape) → T ≡ shape.boxed h → n ≡ 0 → Decodes view a a p q (Err (Refused p TooDeep)) (value_at ds n T)
+pub value_too_deep : (a : Option (List ℕ)) (p q n h : ℕ) (ds : List Declaration) (T : Shape) → T ≡ shape.boxed h → n ≡ 0 → ReadsAs view a a p q (Err (Refused p TooDeep)) (value_at ds n T)
 unfolding value_at
 value_too_deep None p q n h ds T is none = tt
 value_too_deep (Some bytes) p q n h ds T is none = rw (none, is) refl
 
-pub value_deep : (a b : Option (List ℕ)) (p q n m h : ℕ) (res : Result Value DecodeFault) (ds : List Declaration) (T : Shape) → T ≡ shape.boxed h → n ≡ suc m → Decodes view a b p q res (boxed_at ds (fields_at (value_at ds m) []) h) → Decodes view a b p q res (value_at ds n T)
+pub value_deep : (a b : Option (List ℕ)) (p q n m h : ℕ) (res : Result Value DecodeFault) (ds : List Declaration) (T : Shape) → T ≡ shape.boxed h → n ≡ suc m → ReadsAs view a b p q res (boxed_at ds (fields_at (value_at ds m) []) h) → ReadsAs view a b p q res (value_at ds n T)
 unfolding value_at deep_at
 value_deep a b p q n m h res ds T is some got = as_read view a b p q res (boxed_at ds (fields_at (value_at ds m) []) h) (value_at ds n T) got (λ s. rw (some, is) refl)
 
@@ -43,21 +43,21 @@ value_deep a b p q n m h res ds T is some got = as_read view a b p q res (boxed_
 abbrev pub Fields : Type 0
 Fields = List Slot → Spot → Read (List Tree)
 
-pub boxed_fails : (a b : Option (List ℕ)) (p q r h : ℕ) (e : DecodeFault) (f : Fields) (ds : List Declaration) → Word a b p q (Err e) → Decodes view a b p r (Err e) (boxed_at ds f h)
+pub boxed_fails : (a b : Option (List ℕ)) (p q r h : ℕ) (e : DecodeFault) (f : Fields) (ds : List Declaration) → Word a b p q (Err e) → ReadsAs view a b p r (Err e) (boxed_at ds f h)
 unfolding by_number_at
 boxed_fails a b p q r h e f ds got = then_fails (λ (w : ℕ). w) view a b p q r e word_at (λ place w. numbered_at f value.node ds place w.0 (member_from 0 ds h w.0) w.1) got
 
-pub boxed_wrong : (a b : Option (List ℕ)) (p q r h w : ℕ) (cause : Cause) (f : Fields) (ds : List Declaration) → Word a b p q (Ok w) → None ≡ member_from 0 ds h w → cause ≡ wrong_number w → Decodes view a b p r (Err (Refused p cause)) (boxed_at ds f h)
+pub boxed_wrong : (a b : Option (List ℕ)) (p q r h w : ℕ) (cause : Cause) (f : Fields) (ds : List Declaration) → Word a b p q (Ok w) → None ≡ member_from 0 ds h w → cause ≡ wrong_number w → ReadsAs view a b p r (Err (Refused p cause)) (boxed_at ds f h)
 unfolding by_number_at numbered_at
 boxed_wrong a b p q r h w cause f ds got none is =
     then_read (λ (w : ℕ). w) view a b b p q r w (Err (Refused p cause)) word_at (λ place w. numbered_at f value.node ds place w.0 (member_from 0 ds h w.0) w.1) got (rw (← none, is) (refuses view b q r p (wrong_number w)))
 
-pub boxed_inner : {X : Type 0} (see : X → List Tree) (a b c : Option (List ℕ)) (p q r s h w i : ℕ) (e : DecodeFault) (f : Fields) (ds : List Declaration) (ks : List Slot) → Word a b p q (Ok w) → Some i ≡ member_from 0 ds h w → fields_in ds i ≡ ks → Decodes {X = X} see b c q r (Err e) (f ks) → Decodes view a c p s (Err e) (boxed_at ds f h)
+pub boxed_inner : {X : Type 0} (see : X → List Tree) (a b c : Option (List ℕ)) (p q r s h w i : ℕ) (e : DecodeFault) (f : Fields) (ds : List Declaration) (ks : List Slot) → Word a b p q (Ok w) → Some i ≡ member_from 0 ds h w → fields_in ds i ≡ ks → ReadsAs {X = X} see b c q r (Err e) (f ks) → ReadsAs view a c p s (Err e) (boxed_at ds f h)
 unfolding by_number_at numbered_at record_at
 boxed_inner see a b c p q r s h w i e f ds ks got some fields inner =
     then_read (λ (w : ℕ). w) view a b c p q s w (Err e) word_at (λ place w. numbered_at f value.node ds place w.0 (member_from 0 ds h w.0) w.1) got (rw (← some, fields) (then_fails see view b c q r s e (f ks) (λ _ x. Ok (value.node i (trees_of x.0), x.1)) inner))
 
-pub boxed_read : {X : Type 0} (see : X → List Tree) (a b c : Option (List ℕ)) (p q r h w i : ℕ) (x : X) (z : Value) (f : Fields) (ds : List Declaration) (ks : List Slot) → Word a b p q (Ok w) → Some i ≡ member_from 0 ds h w → fields_in ds i ≡ ks → Decodes see b c q r (Ok x) (f ks) → view z ≡ value.node i (trees_of (see x)) → Decodes view a c p r (Ok z) (boxed_at ds f h)
+pub boxed_read : {X : Type 0} (see : X → List Tree) (a b c : Option (List ℕ)) (p q r h w i : ℕ) (x : X) (z : Value) (f : Fields) (ds : List Declaration) (ks : List Slot) → Word a b p q (Ok w) → Some i ≡ member_from 0 ds h w → fields_in ds i ≡ ks → ReadsAs see b c q r (Ok x) (f ks) → view z ≡ value.node i (trees_of (see x)) → ReadsAs view a c p r (Ok z) (boxed_at ds f h)
 unfolding by_number_at numbered_at record_at
 boxed_read see a b c p q r h w i x z f ds ks got some fields inner seen =
     then_read (λ (w : ℕ). w) view a b c p q r w (Ok z) word_at (λ place w. numbered_at f value.node ds place w.0 (member_from 0 ds h w.0) w.1) got (rw (← some, fields) (makes see view b c q r x z (f ks) (λ ts. value.node i (trees_of ts)) inner seen))

@@ -18,15 +18,15 @@ use Rattle.tlbox.specs.declared.decoder.DecodeFault.{DecodeFault}
 use Rattle.tlbox.specs.declared.decoder.DecodeFault.TheVariants as fault
 use Rattle.tlbox.specs.declared.whole.InputFault.{InputFault}
 use Rattle.tlbox.specs.declared.whole.InputFault.TheVariants as input
-use Rattle.tlbox.specs.Decoding.{Answers, Refuses, input_fault, DecodesWhole}
+use Rattle.tlbox.specs.Decoding.{GivesValue, GivesFault, input_fault, DecodesWhole}
 
 module _ (ds : List Declaration) (T : Shape) where
   -- what is spelled is read, and what is refused is refused
   abbrev pub ReadsSpelled : Option (List ℕ) → Option (List ℕ) → ℕ → Result Value DecodeFault → Type 0
-  ReadsSpelled a b q r = IfSome a (λ bytes. (t : Tree) (x rest : List ℕ) → bytes ≡ x ++ rest → Spells ds T t x → depth t ≤ 120 → Answers r b 0 q t x rest)
+  ReadsSpelled a b q r = IfSome a (λ bytes. (t : Tree) (x rest : List ℕ) → bytes ≡ x ++ rest → Spells ds T t x → depth t ≤ 120 → GivesValue r b 0 q t x rest)
 
   abbrev pub RefusesRefused : Option (List ℕ) → Result Value DecodeFault → Type 0
-  RefusesRefused a r = IfSome a (λ bytes. (place : ℕ) (cause : Cause) → Refused ds 120 T bytes place cause → Refuses r (moved 0 place) cause)
+  RefusesRefused a r = IfSome a (λ bytes. (place : ℕ) (cause : Cause) → Refused ds 120 T bytes place cause → GivesFault r (moved 0 place) cause)
 
   abbrev pub Whole : Option (List ℕ) → Result Value InputFault → Type 0
   Whole a r = IfSome a (λ bytes. AreBytes bytes → DecodesWhole ds T bytes r)

@@ -19,6 +19,7 @@ use Rattle.tl_types.specs.Refusal.{Refused}
 use Rattle.tl_types.specs.Reading.{moved}
 use Rattle.tl_types.specs.declared.fault.Cause.{Cause}
 use Rattle.tl_types.specs.declared.fault.Cause.TheVariants.{TooDeep, Truncated, Packed, UnknownNumber}
+use Rattle.tlbox.specs.declared.decoder.TheConstants.{MAX_LEVELS}
 use Rattle.tlbox.specs.Shown.{line_text}
 use Rattle.tlbox.specs.declared.status.Status.{Status}
 use Rattle.tlbox.specs.declared.status.Status.TheVariants as status
@@ -96,9 +97,9 @@ pub data SchemaRefused (text : List ℕ) : Type 0 where
 -- The input is the spelling of one value of the type, or more bytes stand behind such a spelling, or it is refused.
 -- A place stops at 2^64 - 1.
 pub data OfInput (schema : Declared) (head : ℕ) (bytes : List ℕ) (a : Answer) : Type 0 where
-  whole : (t : Tree) → Spells schema.decls (boxed head) t bytes → depth t ≤ 120 → a ≡ done (line_text schema.decls t) → OfInput schema head bytes a
-  longer : (t : Tree) (x rest : List ℕ) (b : ℕ) → bytes ≡ x ++ b ∷ rest → Spells schema.decls (boxed head) t x → depth t ≤ 120 → a ≡ refused (input_line (moved 0 (length x)) (codes "Trailing")) → OfInput schema head bytes a
-  faulty : (at : ℕ) (why : Cause) → Refused schema.decls 120 (boxed head) bytes at why → a ≡ refused (input_line (moved 0 at) (cause_text why)) → OfInput schema head bytes a
+  whole : (t : Tree) → Spells schema.decls (boxed head) t bytes → depth t ≤ MAX_LEVELS → a ≡ done (line_text schema.decls t) → OfInput schema head bytes a
+  longer : (t : Tree) (x rest : List ℕ) (b : ℕ) → bytes ≡ x ++ b ∷ rest → Spells schema.decls (boxed head) t x → depth t ≤ MAX_LEVELS → a ≡ refused (input_line (moved 0 (length x)) (codes "Trailing")) → OfInput schema head bytes a
+  faulty : (at : ℕ) (why : Cause) → Refused schema.decls MAX_LEVELS (boxed head) bytes at why → a ≡ refused (input_line (moved 0 at) (cause_text why)) → OfInput schema head bytes a
 
 -- the type is no result of a declaration, or it is one, and then the input's file tells
 pub data OfType (schema : Declared) (type input : List ℕ) (files : Files) (a : Answer) : Type 0 where
@@ -118,3 +119,7 @@ DecodeAnswer files schema type input a = (text : List ℕ) × HasFile files sche
 pub data Answers (words : List (List ℕ)) (files : Files) (a : Answer) : Type 0 where
   no_row : ((schema type input : List ℕ) → AskDecode words schema type input → ⊥) → a ≡ usage → Answers words files a
   decode : (schema type input : List ℕ) → AskDecode words schema type input → DecodeAnswer files schema type input a → Answers words files a
+
+-- words and files have one answer at most
+abbrev pub HasOneAnswer : Type 0
+HasOneAnswer = (words : List (List ℕ)) (files : Files) (a b : Answer) → Answers words files a → Answers words files b → a ≡ b

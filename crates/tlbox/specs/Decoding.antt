@@ -16,32 +16,32 @@ use Rattle.tlbox.specs.declared.whole.InputFault.{InputFault}
 use Rattle.tlbox.specs.declared.whole.InputFault.TheVariants as input
 
 -- The value that is spelled, the bytes that follow are left, and the place rose by the number of bytes that were taken. Want of memory and a failed read are free here.
-abbrev pub Answers : Result Value DecodeFault → Option (List ℕ) → ℕ → ℕ → Tree → List ℕ → List ℕ → Type 0
-Answers (Ok v) after p q t x rest = (view v ≡ t) × (after ≡ Some rest) × (q ≡ moved p (length x))
-Answers (Err (decode.Refused place cause)) after p q t x rest = ⊥
-Answers (Err decode.ReadFault) after p q t x rest = Unit {0}
-Answers (Err decode.Memory) after p q t x rest = Unit {0}
+abbrev pub GivesValue : Result Value DecodeFault → Option (List ℕ) → ℕ → ℕ → Tree → List ℕ → List ℕ → Type 0
+GivesValue (Ok v) after p q t x rest = (view v ≡ t) × (after ≡ Some rest) × (q ≡ moved p (length x))
+GivesValue (Err (decode.Refused place cause)) after p q t x rest = ⊥
+GivesValue (Err decode.ReadFault) after p q t x rest = Unit {0}
+GivesValue (Err decode.Memory) after p q t x rest = Unit {0}
 
 -- The fault at this place, for this cause. Want of memory and a failed read are free here.
-abbrev pub Refuses : Result Value DecodeFault → ℕ → Cause → Type 0
-Refuses (Ok v) place cause = ⊥
-Refuses (Err (decode.Refused at why)) place cause = (at ≡ place) × (why ≡ cause)
-Refuses (Err decode.ReadFault) place cause = Unit {0}
-Refuses (Err decode.Memory) place cause = Unit {0}
+abbrev pub GivesFault : Result Value DecodeFault → ℕ → Cause → Type 0
+GivesFault (Ok v) place cause = ⊥
+GivesFault (Err (decode.Refused at why)) place cause = (at ≡ place) × (why ≡ cause)
+GivesFault (Err decode.ReadFault) place cause = Unit {0}
+GivesFault (Err decode.Memory) place cause = Unit {0}
 
 -- ---- steps of decoding
 
 -- a step gave the fault that reading gives
-abbrev pub Ends : {Y : Type 0} → DecodeFault → Read Y → Type 0
-Ends (decode.Refused place cause) read = read ≡ Err (place, cause)
-Ends decode.ReadFault read = Unit {0}
-Ends decode.Memory read = Unit {0}
+abbrev pub FailsAs : {Y : Type 0} → DecodeFault → Read Y → Type 0
+FailsAs (decode.Refused place cause) read = read ≡ Err (place, cause)
+FailsAs decode.ReadFault read = Unit {0}
+FailsAs decode.Memory read = Unit {0}
 
 -- What a step over a source returned, and where it left the source and the place, is what reading gives.
-abbrev pub Decodes : {X Y : Type 0} → (X → Y) → Option (List ℕ) → Option (List ℕ) → ℕ → ℕ → Result X DecodeFault → (Spot → Read Y) → Type 0
-Decodes see None after p q r read = Unit {0}
-Decodes see (Some bytes) after p q (Ok x) read = (rest : List ℕ) × (after ≡ Some rest) × (read (spot p bytes) ≡ Ok (see x, spot q rest))
-Decodes see (Some bytes) after p q (Err e) read = Ends e (read (spot p bytes))
+abbrev pub ReadsAs : {X Y : Type 0} → (X → Y) → Option (List ℕ) → Option (List ℕ) → ℕ → ℕ → Result X DecodeFault → (Spot → Read Y) → Type 0
+ReadsAs see None after p q r read = Unit {0}
+ReadsAs see (Some bytes) after p q (Ok x) read = (rest : List ℕ) × (after ≡ Some rest) × (read (spot p bytes) ≡ Ok (see x, spot q rest))
+ReadsAs see (Some bytes) after p q (Err e) read = FailsAs e (read (spot p bytes))
 
 -- ---- the whole input
 

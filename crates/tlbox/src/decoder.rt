@@ -8,7 +8,7 @@ ghost use Rattle.tl_types.specs.Spelling.{Spells};
 ghost use Rattle.tl_types.specs.Refusal.{Refused};
 ghost use Rattle.tl_types.specs.Reading.{moved, word_at, double_at, plain_at, fields_at, boxed_at, value_at, member_from, wrong_number};
 ghost use Rattle.tl_types.specs.declared.fault.Cause.{Cause};
-ghost use Rattle.tlbox.specs.Decoding.{Answers, Refuses, Decodes};
+ghost use Rattle.tlbox.specs.Decoding.{GivesValue, GivesFault, ReadsAs};
 
 use std::alloc::{AllocError, AllocFailed, Global};
 use thiserror::Error;
@@ -64,11 +64,12 @@ pub fn decode<S: Source>(
     from: &mut S,
 ) -> Result<Value, DecodeFault>
     // What is spelled is read, and exactly its bytes are taken.
-    ensures spelled { IfSome (S.left from.old) (λ bytes. (t : Tree) (x rest : List ℕ) → bytes ≡ x ++ rest → Spells schema.now.decls (shape of) t x → depth t ≤ MAX_LEVELS → Answers result (S.left from.new) at.old at.new t x rest) }
+    ensures spelled { IfSome (S.left from.old) (λ bytes. (t : Tree) (x rest : List ℕ) → bytes ≡ x ++ rest → Spells schema.now.decls (shape of) t x → depth t ≤ MAX_LEVELS → GivesValue result (S.left from.new) at.old at.new t x rest) }
     // What is refused is refused at its place, for its cause.
-    ensures refused { IfSome (S.left from.old) (λ bytes. (place : ℕ) (cause : Cause) → Refused schema.now.decls MAX_LEVELS (shape of) bytes place cause → Refuses result (moved at.old place) cause) }
+    ensures refused { IfSome (S.left from.old) (λ bytes. (place : ℕ) (cause : Cause) → Refused schema.now.decls MAX_LEVELS (shape of) bytes place cause → GivesFault result (moved at.old place) cause) }
     ensures used { Used S.left S.faults S.aside S.sound from.old from.new (IsErrOf result DecodeFault.ReadFault) }
 {
+    // Read for the proof alone: that the place fits, and that the schema is sound.
     let _start = *at;
     let _count = schema.count();
     value_of(alloc, schema, MAX_LEVELS, of, at, from)
@@ -84,7 +85,7 @@ fn value_of<S: Source>(
     at: &mut u64,
     from: &mut S,
 ) -> Result<Value, DecodeFault>
-    ensures read { Decodes view (S.left from.old) (S.left from.new) at.old at.new result (value_at schema.now.decls levels (shape of)) }
+    ensures read { ReadsAs view (S.left from.old) (S.left from.new) at.old at.new result (value_at schema.now.decls levels (shape of)) }
     ensures used { Used S.left S.faults S.aside S.sound from.old from.new (IsErrOf result DecodeFault.ReadFault) }
 {
     match of {
@@ -112,7 +113,7 @@ fn record_of<S: Source>(
     at: &mut u64,
     from: &mut S,
 ) -> Result<Value, DecodeFault>
-    ensures read { Decodes view (S.left from.old) (S.left from.new) at.old at.new result (boxed_at schema.now.decls (fields_at (value_at schema.now.decls levels) []) head) }
+    ensures read { ReadsAs view (S.left from.old) (S.left from.new) at.old at.new result (boxed_at schema.now.decls (fields_at (value_at schema.now.decls levels) []) head) }
     ensures used { Used S.left S.faults S.aside S.sound from.old from.new (IsErrOf result DecodeFault.ReadFault) }
 {
     let place = *at;
@@ -139,7 +140,7 @@ fn fields_of<S: Source>(
     at: &mut u64,
     from: &mut S,
 ) -> Result<Vec<Value>, DecodeFault>
-    ensures read { Decodes (λ v. map view v.items) (S.left from.old) (S.left from.new) at.old at.new result (fields_at (value_at schema.now.decls levels) [] (map slot slots.now)) }
+    ensures read { ReadsAs (λ v. map view v.items) (S.left from.old) (S.left from.new) at.old at.new result (fields_at (value_at schema.now.decls levels) [] (map slot slots.now)) }
     ensures used { Used S.left S.faults S.aside S.sound from.old from.new (IsErrOf result DecodeFault.ReadFault) }
 {
     let mut fields = Vec::new(alloc);
@@ -183,7 +184,7 @@ fn wrong(word: u32) -> Cause
 
 // A number of 32 bits.
 fn int_of<S: Source>(at: &mut u64, from: &mut S) -> Result<Value, DecodeFault>
-    ensures read { Decodes view (S.left from.old) (S.left from.new) at.old at.new result (plain_at int) }
+    ensures read { ReadsAs view (S.left from.old) (S.left from.new) at.old at.new result (plain_at int) }
     ensures used { Used S.left S.faults S.aside S.sound from.old from.new (IsErrOf result DecodeFault.ReadFault) }
 {
     let word = word_of(at, from)?;
@@ -192,7 +193,7 @@ fn int_of<S: Source>(at: &mut u64, from: &mut S) -> Result<Value, DecodeFault>
 
 // A number of 64 bits.
 fn long_of<S: Source>(at: &mut u64, from: &mut S) -> Result<Value, DecodeFault>
-    ensures read { Decodes view (S.left from.old) (S.left from.new) at.old at.new result (plain_at long) }
+    ensures read { ReadsAs view (S.left from.old) (S.left from.new) at.old at.new result (plain_at long) }
     ensures used { Used S.left S.faults S.aside S.sound from.old from.new (IsErrOf result DecodeFault.ReadFault) }
 {
     let word = double_of(at, from)?;
@@ -201,7 +202,7 @@ fn long_of<S: Source>(at: &mut u64, from: &mut S) -> Result<Value, DecodeFault>
 
 // The next four bytes as a number.
 fn word_of<S: Source>(at: &mut u64, from: &mut S) -> Result<u32, DecodeFault>
-    ensures read { Decodes (λ w. w) (S.left from.old) (S.left from.new) at.old at.new result word_at }
+    ensures read { ReadsAs (λ w. w) (S.left from.old) (S.left from.new) at.old at.new result word_at }
     ensures used { Used S.left S.faults S.aside S.sound from.old from.new (IsErrOf result DecodeFault.ReadFault) }
 {
     match take_word(from) {
@@ -219,7 +220,7 @@ fn word_of<S: Source>(at: &mut u64, from: &mut S) -> Result<u32, DecodeFault>
 
 // The next eight bytes as a number.
 fn double_of<S: Source>(at: &mut u64, from: &mut S) -> Result<u64, DecodeFault>
-    ensures read { Decodes (λ w. w) (S.left from.old) (S.left from.new) at.old at.new result double_at }
+    ensures read { ReadsAs (λ w. w) (S.left from.old) (S.left from.new) at.old at.new result double_at }
     ensures used { Used S.left S.faults S.aside S.sound from.old from.new (IsErrOf result DecodeFault.ReadFault) }
 {
     let mut word = [0u8; 8];

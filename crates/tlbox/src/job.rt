@@ -13,11 +13,13 @@ use crate::whole::{InputFault, decode_whole};
 use std::alloc::Global;
 use tl_base::{Host, Out, Slot, SourceOf};
 use tl_combinators::parse;
-use tl_lexer::lex;
+use tl_lexer::{TEXT_LIMIT, lex};
 use tl_types::{Schema, TypeRef, Value, check, type_of};
 
 /// The most bytes that a schema's text may have.
-const SCHEMA_BYTES: u32 = 65536;
+const SCHEMA_BYTES: u32 = 65_536;
+
+const _: () = prove!(SCHEMA_BYTES as usize == TEXT_LIMIT);
 
 // The schema that a text spells.
 fn schema_of(alloc: Global, text: &[u8]) -> Result<Schema, Stop>

@@ -4,6 +4,7 @@
 mod decoder;
 mod files;
 mod job;
+mod laws;
 mod program;
 mod real;
 mod report;
