@@ -5,6 +5,7 @@ pub mod Using
 pub mod Taking
 pub mod Writing
 pub mod Calls
+pub mod Numbers
 pub mod Memory
 pub mod MemoryFiles
 pub mod MemoryHost

@@ -10,6 +10,9 @@ use crate::mem_sink::put;
 use crate::memory::most_at;
 use std::alloc::Global;
 
+// In place of a file's number, where a slot was not opened.
+const CLOSED: usize = usize::MAX;
+
 /// A kind of call to a host.
 #[derive(Clone, Copy, Debug, PartialEq, Eq)]
 pub enum HostCall {
@@ -83,13 +86,14 @@ fn is_failing(fails: &[Failing], call: HostCall, number: u64) -> bool
 
 impl MemHost {
     ghost use Rattle.tl_base.specs.Outside.{View, written_of};
-    ghost use Rattle.tl_base.specs.MemoryHost.{host_view, is_sound_host};
+    ghost use Rattle.tl_base.specs.MemoryHost.{host_view, is_sound_host, IsUnfailed, KeepsCounts, KeepsOuts};
     ghost use Rattle.tl_base.specs.Causes.{Rose};
 
     /// An outside without files, whose outs take `room` bytes each. It takes their memory.
     pub fn new(alloc: Global, room: u32) -> Result<MemHost, Memory>
         ensures view { IfOk result (λ h. host_view h ≡ record { files = []; schema_left = []; input_left = []; output = []; errors = []; room = room }) }
         ensures sound { IfOk result (λ h. is_sound_host h ≡ true) }
+        ensures counts { IfOk result IsUnfailed }
     {
         Ok(MemHost {
             files: Vec::new(alloc),
@@ -102,8 +106,14 @@ impl MemHost {
                 output_writes: 0,
                 errors_writes: 0,
             },
-            schema: Reading { file: 0, at: 0 },
-            input: Reading { file: 0, at: 0 },
+            schema: Reading {
+                file: CLOSED,
+                at: 0,
+            },
+            input: Reading {
+                file: CLOSED,
+                at: 0,
+            },
             output: Vec::with_capacity(alloc, room as usize)?,
             errors: Vec::with_capacity(alloc, room as usize)?,
             room: room as usize,
@@ -115,6 +125,9 @@ impl MemHost {
     /// Adds a file behind the others. Before the run.
     pub fn file(&mut self, alloc: Global, name: &str, bytes: Bytes) -> Result<(), Memory>
         ensures ok { OnOk result ((host_view self.new).files ≡ (host_view self.old).files ++ (name.now, bytes) ∷ []) }
+        ensures outs { KeepsOuts self.old self.new }
+        ensures counts { KeepsCounts self.old self.new }
+        ensures sound { is_sound_host self.new ≡ is_sound_host self.old }
     {
         let name = Bytes::from_slice(alloc, name.as_bytes())?;
         self.files.push(MemFile { name, bytes })?;
@@ -124,6 +137,8 @@ impl MemHost {
     /// Adds a cut: the next read of each slot that has no cut yet gives at most so many bytes, where that is above 0.
     pub fn cut(&mut self, most: u32) -> Result<(), Memory>
         ensures view { host_view self.new ≡ host_view self.old }
+        ensures counts { KeepsCounts self.old self.new }
+        ensures sound { is_sound_host self.new ≡ is_sound_host self.old }
     {
         self.cuts.push(most)?;
         Ok(())
@@ -132,6 +147,7 @@ impl MemHost {
     /// Lets call number `number` of this kind, from 0, fail.
     pub fn fail(&mut self, call: HostCall, number: u64) -> Result<(), Memory>
         ensures view { host_view self.new ≡ host_view self.old }
+        ensures counts { KeepsCounts self.old self.new }
     {
         self.fails.push(Failing { call, number })?;
         Ok(())

@@ -1,5 +1,9 @@
 //! A sink in memory.
-ghost use Rattle.std.specs.Prelude.{◌≡◌, ◌==◌, ◌+◌, ◌<◌, ◌≤◌, [], ◌++◌, length, take, IfSome, IfNone, IfOk, vec_capacity};
+ghost use Rattle.std.specs.Prelude.{◌≡◌, ◌==◌, ◌+◌, ◌-◌, ◌<◌, ◌≤◌, [], ◌++◌, length, take, min, Ok, IfSome, IfNone, IfOk, vec_capacity};
+ghost use Rattle.std.specs.Io.{WritesAtMost};
+ghost use Rattle.std.specs.Io.KnownBytes.{WriteAppends};
+ghost use Rattle.tl_base.specs.Causes.{HasCause};
+ghost use Rattle.tl_base.specs.Using.{WritesSound};
 
 use crate::fault::{Failed, Memory};
 use crate::sink::Sink;
@@ -17,7 +21,7 @@ pub struct MemSink {
 }
 
 impl MemSink {
-    ghost use Rattle.tl_base.specs.Memory.{sink_bytes, sink_room, sink_faults, is_sound_sink};
+    ghost use Rattle.tl_base.specs.Memory.{sink_bytes, sink_room, sink_faults, is_sound_sink, IsUnwritten};
 
     /// Takes memory for `room` bytes. Write number k, from 0 and without empty pieces, takes what still fits, and fails exactly
     /// where k is in `fails` or nothing fits.
@@ -26,6 +30,7 @@ impl MemSink {
         ensures room { IfOk result (λ s. sink_room s ≡ room) }
         ensures faults { IfOk result (λ s. sink_faults s ≡ 0) }
         ensures sound { IfOk result (λ s. is_sound_sink s ≡ (length fails.items == 0)) }
+        ensures first { IfOk result (λ s. IsUnwritten s fails) }
     {
         Ok(MemSink {
             bytes: Vec::with_capacity(alloc, room as usize)?,
@@ -49,6 +54,7 @@ pub fn put(to: &mut Vec<u8>, room: usize, piece: &[u8]) -> Option<usize>
     requires room { room ≤ vec_capacity to.old }
     requires some { 0 < length piece.now }
     ensures taken { IfSome result (λ n. (0 < n) × (n ≤ length piece.now) × (to.new.items ≡ to.old.items ++ take n piece.now)) }
+    ensures count { IfSome result (λ n. n ≡ min (length piece.now) (room - length to.old.items)) }
     ensures full { IfNone result ((to.new.items ≡ to.old.items) × (room ≤ length to.old.items)) }
     ensures capacity { vec_capacity to.old ≤ vec_capacity to.new }
 {
@@ -65,7 +71,7 @@ pub fn put(to: &mut Vec<u8>, room: usize, piece: &[u8]) -> Option<usize>
 impl Sink for MemSink {
     ghost use Rattle.std.specs.Prelude.{Some};
     ghost use Rattle.tl_base.specs.Outside.{nothing_aside};
-    ghost use Rattle.tl_base.specs.Memory.{sink_bytes, sink_room, sink_faults, is_sound_sink};
+    ghost use Rattle.tl_base.specs.Memory.{sink_bytes, sink_room, sink_faults, is_sound_sink, TakesWhatFits, CountsWrite};
 
     ghost written = { λ s. Some (sink_bytes s) };
 
@@ -77,7 +83,17 @@ impl Sink for MemSink {
 
     ghost room = { sink_room };
 
-    fn write(&mut self, piece: &[u8]) -> Result<usize, Failed> {
+    fn write(&mut self, piece: &[u8]) -> Result<usize, Failed>
+        ensures bound { WritesAtMost result piece.now }
+        ensures some { 0 < length piece.now → IfOk result (λ n. 0 < n) }
+        ensures empty { length piece.now ≡ 0 → result ≡ Ok 0 }
+        ensures bytes { WriteAppends (Some (sink_bytes self.old)) (Some (sink_bytes self.new)) result piece.now }
+        ensures cause { HasCause (sink_faults self.old) (sink_faults self.new) result }
+        ensures room { sink_room self.new ≡ sink_room self.old }
+        ensures sound { 0 < length piece.now → WritesSound (Some (sink_bytes self.old)) (sink_room self.old) (is_sound_sink self.old) (is_sound_sink self.new) result }
+        ensures fits { 0 < length piece.now → TakesWhatFits self.old (length piece.now) result }
+        ensures counts { 0 < length piece.now → CountsWrite self.old self.new }
+    {
         if piece.is_empty() {
             return Ok(0);
         }

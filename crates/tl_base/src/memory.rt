@@ -1,6 +1,11 @@
 //! A source in memory.
-ghost use Rattle.std.specs.Prelude.{◌≡◌, ◌==◌, ◌+◌, ◌<◌, ◌≤◌, [], ◌++◌, length, drop, take, min, Some, List, ℕ, slice_index};
+ghost use Rattle.std.specs.Prelude.{◌≡◌, ◌==◌, ◌+◌, ◌<◌, ◌≤◌, [], ◌++◌, length, drop, take, min, Some, List, ℕ, slice_index, Ok};
+ghost use Rattle.std.specs.Io.{ReadsAtMost};
+ghost use Rattle.std.specs.Io.KnownBytes.{ReadConsumes};
+ghost use Rattle.tl_base.specs.Causes.{HasCause};
 ghost use Rattle.tl_base.specs.Outside.{nothing_aside};
+ghost use Rattle.tl_base.specs.Using.{StaysSound};
+ghost use Rattle.tl_base.specs.Numbers.{cut_at};
 
 use crate::bytes::Bytes;
 use crate::fault::Failed;
@@ -19,7 +24,7 @@ pub struct MemSource {
 }
 
 impl MemSource {
-    ghost use Rattle.tl_base.specs.Memory.{source_bytes, source_faults, is_sound_source};
+    ghost use Rattle.tl_base.specs.Memory.{source_bytes, source_faults, is_sound_source, IsUnread};
 
     /// Read number k, from 0 and without those into empty buffers, gives at most `cuts[k]` bytes where that stands and is
     /// above 0, and fails exactly where k is in `fails`.
@@ -27,6 +32,7 @@ impl MemSource {
         ensures bytes { source_bytes result ≡ bytes }
         ensures faults { source_faults result ≡ 0 }
         ensures sound { is_sound_source result ≡ (length fails.items == 0) }
+        ensures first { IsUnread result cuts fails }
     {
         MemSource {
             bytes,
@@ -41,7 +47,8 @@ impl MemSource {
 
 /// How many bytes a read or write with this number may move.
 pub fn most_at(cuts: &[u32], number: u64) -> usize
-    ensures { 0 < result }
+    ensures some { 0 < result }
+    ensures cut { result ≡ cut_at cuts.now number }
 {
     match cuts.get(number as usize) {
         Some(cut) if *cut > 0 => *cut as usize,
@@ -63,7 +70,7 @@ pub fn give(bytes: &[u8], most: usize, into: &mut [u8]) -> usize
 impl Source for MemSource {
     ghost use Rattle.std.specs.Prelude.{Some};
     ghost use Rattle.tl_base.specs.Outside.{nothing_aside};
-    ghost use Rattle.tl_base.specs.Memory.{source_bytes, source_faults, is_sound_source};
+    ghost use Rattle.tl_base.specs.Memory.{source_bytes, source_faults, is_sound_source, ReadsPiece, CountsRead};
 
     ghost left = { λ s. Some (source_bytes s) };
 
@@ -73,7 +80,15 @@ impl Source for MemSource {
 
     ghost sound = { is_sound_source };
 
-    fn read(&mut self, into: &mut [u8]) -> Result<usize, Failed> {
+    fn read(&mut self, into: &mut [u8]) -> Result<usize, Failed>
+        ensures bound { ReadsAtMost result into.new }
+        ensures empty { length into.old ≡ 0 → result ≡ Ok 0 }
+        ensures bytes { ReadConsumes (Some (source_bytes self.old)) (Some (source_bytes self.new)) result into.new }
+        ensures cause { HasCause (source_faults self.old) (source_faults self.new) result }
+        ensures sound { StaysSound (Some (source_bytes self.old)) (is_sound_source self.old) (is_sound_source self.new) result }
+        ensures piece { 0 < length into.old → ReadsPiece self.old (length into.old) result }
+        ensures counts { 0 < length into.old → CountsRead self.old self.new }
+    {
         if into.is_empty() {
             return Ok(0);
         }
