@@ -1,5 +1,5 @@
 -- How a run ends, from how its job ended and what was told; and that words and files have one answer.
-use Rattle.std.proofs.Common.{get_or, map, ◌≡◌, ◌≢◌, ℕ, ◌+◌, ◌<◌, ◌≤◌, List, [], ◌∷◌, ◌++◌, append_assoc, append-nil, length, Option, Some, None, Result, Ok, Err, refl, sym, ap, ◌∙◌, subst, arith, codes, ◌⊎◌, inl, inr}
+use Rattle.std.proofs.Common.{get_or, map, ◌≡◌, ℕ, ◌+◌, ◌<◌, ◌≤◌, List, [], ◌∷◌, ◌++◌, append-nil, length, Option, Some, None, Ok, Err, refl, sym, ap, ◌∙◌, subst, arith, codes, inl, inr}
 use Rattle.std.specs.Prelude.{IfSome}
 use Rattle.std.proofs.lemmas.List.{length-append}
 use Rattle.tl_base.specs.Contents.{Files}
@@ -7,7 +7,7 @@ use Rattle.tl_base.specs.Outside.{View, HasFile}
 use Rattle.tl_base.specs.Calls.{Told}
 use Rattle.tl_lexer.specs.declared.token.Token.{Token}
 use Rattle.tl_lexer.specs.declared.fault.LexFault.TheVariants as lex
-use Rattle.tl_lexer.specs.Tokens.{Tokens, LexRefused}
+use Rattle.tl_lexer.specs.Tokens.{Tokens}
 use Rattle.tl_lexer.proofs.WholePieces.{one_answer as lexer_law}
 use Rattle.tl_combinators.specs.Program.{DeclText}
 use Rattle.tl_combinators.specs.Sentences.{Reads, SyntaxRefused}
@@ -16,9 +16,8 @@ use Rattle.tl_combinators.proofs.WholeProgram.{one_reading}
 use Rattle.tl_types.specs.Types.{boxed}
 use Rattle.tl_types.specs.Values.{Tree, depth}
 use Rattle.tl_types.specs.Schemas.{Declared, IsSchema}
-use Rattle.tl_types.specs.Checking.{place, declared, Has}
+use Rattle.tl_types.specs.Checking.{declared, Has}
 use Rattle.tl_types.specs.Spelling.{Spells}
-use Rattle.tl_types.specs.Refusal.{Refused}
 use Rattle.tl_types.specs.Reading.{moved}
 use Rattle.tl_types.specs.declared.fault.Cause.{Cause}
 use Rattle.tl_types.proofs.Exactly.{never_both, one_value, one_fault}
@@ -28,9 +27,9 @@ use Rattle.tlbox.specs.declared.stop.Stop.{Stop}
 use Rattle.tlbox.specs.declared.stop.Stop.TheVariants as stop
 use Rattle.tlbox.specs.declared.status.Status.{Status}
 use Rattle.tlbox.specs.declared.status.Status.TheVariants as status
-use Rattle.tlbox.specs.Answers.{Answer, IsOperand, AskDecode, usage, usage_line, done, refused, schema_line, type_line, input_line, cause_text, IsSchemaText, SchemaRefused, by_bytes, by_tokens, by_checks, OfInput, whole, longer, faulty, OfType, unknown, named, OfSchema, no_schema, schema_of, DecodeAnswer, Answers, no_row, decode}
+use Rattle.tlbox.specs.Answers.{Answer, IsOperand, AskDecode, usage, usage_line, done, refused, input_line, cause_text, IsSchemaText, SchemaRefused, by_bytes, by_tokens, by_checks, OfInput, whole, longer, faulty, OfType, unknown, named, OfSchema, no_schema, schema_of, DecodeAnswer, Answers, no_row, decode}
 use Rattle.tlbox.specs.Runs.{IsFront, Tells, WritesFront, Ends, answered, read_failed, write_failed, out_of_memory}
-use Rattle.tlbox.specs.Jobs.{OnlyReads, Works, TellsLine, Reports, refusal_line}
+use Rattle.tlbox.specs.Jobs.{Works, TellsLine, Reports, refusal_line}
 
 -- ---- one answer
 
@@ -132,12 +131,10 @@ one_answer words files a c (decode s t i asked h) k = one_decode files s t i a c
 -- ---- endings
 
 nothing_yet : (words : List (List ℕ)) (v w : View) → w.output ≡ v.output → WritesFront words v w
-nothing_yet words v w e a h = (a.output, ap (λ (x : List ℕ). x ++ a.output) e)
+nothing_yet words v w e = inl e
 
 front_written : (words : List (List ℕ)) (s t i line : List ℕ) (v w : View) → AskDecode words s t i → DecodeAnswer v.files s t i (done line) → IsFront w.output (v.output ++ line) → WritesFront words v w
-front_written words s t i line v w asked h front a k =
-    let same : a ≡ done line = one_answer words v.files a (done line) k (decode s t i asked h) in
-    (front.0, front.1 ∙ ap (λ (x : Answer). v.output ++ x.output) (sym same))
+front_written words s t i line v w asked h front = inr (done line, decode s t i asked h, front)
 
 tells_on : {W : Type 0} (V : Type 0) (line : List ℕ) (v u w : View) → u.errors ≡ v.errors → (V → W) → Tells V line u w → Tells W line v w
 tells_on V line v u w e rose (inl h) = inl (h ∙ ap (λ (x : List ℕ). x ++ line) e)

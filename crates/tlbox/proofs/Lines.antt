@@ -1,5 +1,5 @@
 -- The line of `decode`, from its parts.
-use Rattle.std.proofs.Common.{◌≡◌, ℕ, List, [], ◌∷◌, ◌++◌, length, Option, Some, None, Result, Ok, Err, refl, sym, ap, ◌∙◌, subst, append_assoc, Global}
+use Rattle.std.proofs.Common.{◌≡◌, ℕ, List, ◌++◌, Option, Some, None, Result, Ok, Err, refl, sym, ap, ◌∙◌, subst, append_assoc, Global}
 use Rattle.std.specs.Prelude.{IsErrAnd, String, string_bytes, codes}
 use Rattle.tl_base.specs.Contents.{Files}
 use Rattle.tl_base.specs.Outside.{View, HasFile}
@@ -19,9 +19,9 @@ use Rattle.tlbox.specs.declared.stop.Refusal.TheVariants.{SchemaText, TypeName, 
 use Rattle.tlbox.specs.declared.stop.Stop.{Stop}
 use Rattle.tlbox.specs.declared.stop.Stop.TheVariants as stop
 use Rattle.tlbox.specs.Stops.{of_type, of_input}
-use Rattle.tlbox.specs.Answers.{Answer, IsSchemaText, SchemaRefused, OfInput, whole, longer, faulty, OfType, unknown, named, OfSchema, no_schema, schema_of, DecodeAnswer, done, refused, schema_line, type_line, input_line, cause_text}
+use Rattle.tlbox.specs.Answers.{Answer, OfInput, whole, longer, faulty, unknown, named, no_schema, schema_of, DecodeAnswer, done, refused, input_line, cause_text}
 use Rattle.tlbox.specs.Decoding.{DecodesWhole}
-use Rattle.tlbox.specs.Jobs.{OnlyReads, LoadsSchema, LoadsValue, DecodesLine, Works, refusal_line}
+use Rattle.tlbox.specs.Jobs.{LoadsSchema, LoadsValue, DecodesLine, Works}
 use Rattle.tl_base.specs.declared.host.Out.TheVariants.{Output}
 use Rattle.tlbox.specs.Steps.{Puts}
 use Rattle.tlbox.proofs.Loading.{then_reads}

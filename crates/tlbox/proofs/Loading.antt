@@ -1,5 +1,5 @@
 -- A schema from its text and its file, and an input's value from its file.
-use Rattle.std.proofs.Common.{◌≡◌, ℕ, ◌+◌, ◌<◌, ◌≤◌, List, [], ◌∷◌, ◌++◌, length, Option, Some, None, Result, Ok, Err, refl, sym, ap, ◌∙◌, subst, arith, ◌⊎◌, inl, inr, append-nil, Vec, Global}
+use Rattle.std.proofs.Common.{◌≡◌, ℕ, ◌<◌, ◌≤◌, List, [], ◌∷◌, ◌++◌, length, Option, Some, None, Result, Ok, Err, refl, sym, ap, ◌∙◌, subst, arith, inl, inr, append-nil, Vec, Global}
 use Rattle.std.specs.Prelude.{IsErrAnd, IfSome}
 use Rattle.std.proofs.lemmas.List.{length-append}
 use Rattle.std.proofs.lemmas.Bool.{cases_lt}
@@ -11,16 +11,14 @@ use Rattle.tl_base.specs.declared.host.Slot.TheVariants.{Schema, Input}
 use Rattle.tl_base.specs.declared.source.TextFault.{TextFault}
 use Rattle.tl_base.specs.declared.source.TextFault.TheVariants as text
 use Rattle.tl_lexer.specs.declared.token.Token.{Token}
-use Rattle.tl_lexer.specs.Tokens.{Tokens, LexRefused}
-use Rattle.tl_lexer.specs.declared.fault.LexFault.{LexFault}
-use Rattle.tl_lexer.specs.declared.fault.LexFault.TheVariants as lex
+use Rattle.tl_lexer.specs.Tokens.{Tokens}
 use Rattle.tl_combinators.specs.declared.fault.SyntaxFault.{SyntaxFault}
 use Rattle.tl_combinators.specs.declared.fault.SyntaxFault.TheVariants as syntax
-use Rattle.tl_combinators.specs.Program.{DeclText, program_text}
+use Rattle.tl_combinators.specs.Program.{DeclText}
 use Rattle.tl_combinators.specs.Sentences.{Reads, Parsed}
 use Rattle.tl_types.specs.Types.{Shape}
 use Rattle.tl_types.specs.Schemas.{Declared, Declaration}
-use Rattle.tl_types.specs.Checking.{Checks, CheckRefused}
+use Rattle.tl_types.specs.Checking.{Checks}
 use Rattle.tl_types.specs.declared.fault.CheckFault.{CheckFault}
 use Rattle.tl_types.specs.declared.fault.CheckFault.TheVariants as check
 use Rattle.tl_types.specs.declared.value.Value.{Value}
@@ -30,8 +28,8 @@ use Rattle.tlbox.specs.declared.whole.InputFault.TheVariants as input
 use Rattle.tlbox.specs.declared.stop.Refusal.TheVariants.{SchemaText, TypeName, Input as AtInput, Trailing}
 use Rattle.tlbox.specs.declared.stop.Stop.{Stop}
 use Rattle.tlbox.specs.declared.stop.Stop.TheVariants as stop
-use Rattle.tlbox.specs.Stops.{of_text, of_lex, of_syntax, of_check}
-use Rattle.tlbox.specs.Answers.{IsSchemaText, SchemaRefused, by_bytes, by_tokens, by_checks}
+use Rattle.tlbox.specs.Stops.{of_text, of_syntax, of_check}
+use Rattle.tlbox.specs.Answers.{by_bytes, by_tokens, by_checks}
 use Rattle.tlbox.specs.Steps.{SameBut, ReadsText, TakesValue}
 use Rattle.tlbox.specs.Jobs.{OnlyReads, ReadsSchema, LoadsSchema, LoadsValue}
 

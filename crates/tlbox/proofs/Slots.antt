@@ -1,7 +1,6 @@
 -- What a call over one slot or one out of a host does to the whole view.
-use Rattle.std.proofs.Common.{◌≡◌, ℕ, List, [], ◌∷◌, ◌++◌, Option, Some, None, Result, Ok, Err, refl, sym, ap, ◌∙◌, subst, arith}
+use Rattle.std.proofs.Common.{◌≡◌, ℕ, List, [], ◌∷◌, Option, Some, None, Result, Ok, Err, refl, sym, ap, ◌∙◌, subst, arith}
 use Rattle.std.specs.Prelude.{IfSome, option_map}
-use Rattle.std.specs.Io.KnownBytes.{Appends}
 use Rattle.tl_base.specs.Outside.{View, Aside, left_of, with_left, written_of, with_written, slot_left, slot_aside, slot_number, out_written, out_aside, out_number}
 use Rattle.tl_base.specs.Calls.{Told}
 use Rattle.tl_base.specs.Writing.{WritesPiece}

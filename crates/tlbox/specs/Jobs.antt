@@ -1,8 +1,8 @@
 -- What the parts of a job answer, and what they do to the outside.
-use Rattle.std.specs.Prelude.{◌≡◌, ◌⊎◌, ℕ, List, [], ◌++◌, Result, Ok, Err, codes, String, string_bytes}
+use Rattle.std.specs.Prelude.{◌≡◌, ◌⊎◌, ℕ, List, ◌++◌, Result, Ok, Err, codes, String, string_bytes}
 use Rattle.std.specs.declared.alloc.Global.{Global}
 use Rattle.tl_base.specs.Outside.{View, HasFile}
-use Rattle.tl_types.specs.Types.{Shape, boxed}
+use Rattle.tl_types.specs.Types.{Shape}
 use Rattle.tl_types.specs.Schemas.{Declared, Declaration}
 use Rattle.tl_types.specs.declared.value.Value.{Value}
 use Rattle.tlbox.specs.Decoding.{DecodesWhole}
@@ -14,7 +14,7 @@ use Rattle.tlbox.specs.declared.stop.Stop.{Stop}
 use Rattle.tlbox.specs.declared.stop.Stop.TheVariants as stop
 use Rattle.tlbox.specs.declared.status.Status.{Status}
 use Rattle.tlbox.specs.declared.status.Status.TheVariants as status
-use Rattle.tlbox.specs.Answers.{Answer, IsSchemaText, SchemaRefused, DecodeAnswer, done, refused, schema_line, type_line, input_line, cause_text}
+use Rattle.tlbox.specs.Answers.{IsSchemaText, SchemaRefused, DecodeAnswer, done, refused, schema_line, type_line, input_line, cause_text}
 use Rattle.tlbox.specs.Runs.{IsFront, Tells}
 
 -- files, Output and Errors are as before

@@ -1,9 +1,18 @@
 -- How a run ends.
-use Rattle.std.specs.Prelude.{◌≡◌, ℕ, List, [], ◌∷◌, ◌++◌, codes, ◌⊎◌}
+use Rattle.std.specs.Prelude.{◌≡◌, ℕ, List, ◌++◌, codes, ◌⊎◌}
 use Rattle.tl_base.specs.Outside.{View}
 use Rattle.tlbox.specs.declared.status.Status.{Status}
-use Rattle.tlbox.specs.declared.status.Status.TheVariants.{ReadFault, WriteFault, Memory}
+use Rattle.tlbox.specs.declared.status.Status.TheVariants.{Done, Refused, Usage, ReadFault, WriteFault, Memory}
 use Rattle.tlbox.specs.Answers.{Answer, Answers}
+
+-- the number that a process ends with
+abbrev pub status_number : Status → ℕ
+status_number Done = 0
+status_number Refused = 1
+status_number Usage = 2
+status_number ReadFault = 3
+status_number WriteFault = 4
+status_number Memory = 5
 
 abbrev pub IsFront : List ℕ → List ℕ → Type 0
 IsFront front whole = (rest : List ℕ) × (front ++ rest ≡ whole)
@@ -12,9 +21,9 @@ IsFront front whole = (rest : List ℕ) × (front ++ rest ≡ whole)
 abbrev pub Tells : Type 0 → List ℕ → View → View → Type 0
 Tells write_rose line v w = (w.errors ≡ v.errors ++ line) ⊎ (write_rose × IsFront w.errors (v.errors ++ line))
 
--- Output has a front of what the run without a fault writes
+-- Output is as before, or has a front of what the run without a fault writes
 abbrev pub WritesFront : List (List ℕ) → View → View → Type 0
-WritesFront words v w = (a : Answer) → Answers words v.files a → IsFront w.output (v.output ++ a.output)
+WritesFront words v w = (w.output ≡ v.output) ⊎ ((a : Answer) × Answers words v.files a × IsFront w.output (v.output ++ a.output))
 
 -- a run ends with its answer, or with a fault whose count rose, or for want of memory
 pub data Ends (words : List (List ℕ)) (read_rose write_rose : Type 0) (status : Status) (v w : View) : Type 0 where

@@ -13,7 +13,7 @@ use Rattle.tlbox.specs.declared.whole.InputFault.{InputFault}
 use Rattle.tlbox.specs.declared.whole.InputFault.TheVariants as input
 use Rattle.tlbox.specs.declared.stop.Refusal.TheVariants.{SchemaText, TypeName, Input, Trailing}
 use Rattle.tlbox.specs.declared.stop.Stop.{Stop}
-use Rattle.tlbox.specs.declared.stop.Stop.TheVariants.{Refused, ReadFault, WriteFault, Memory}
+use Rattle.tlbox.specs.declared.stop.Stop.TheVariants.{Refused, ReadFault, Memory}
 
 abbrev pub of_text : TextFault → Stop
 of_text text.ReadFault = ReadFault

@@ -11,6 +11,8 @@ mod report;
 mod shown;
 mod status;
 mod stop;
+#[cfg(test)]
+mod tests;
 mod whole;
 mod words;
 

@@ -1,4 +1,6 @@
 //! How the program ends.
+ghost use Rattle.std.specs.Prelude.{◌≡◌};
+ghost use Rattle.tlbox.specs.Runs.{status_number};
 
 /// The exit status.
 #[derive(Clone, Copy, Debug, PartialEq, Eq)]
@@ -19,7 +21,9 @@ pub enum Status {
 
 impl Status {
     /// The number that a process ends with.
-    pub fn code(self) -> u8 {
+    pub fn code(self) -> u8
+    ensures number { result ≡ status_number self }
+    {
         match self {
             Status::Done => 0,
             Status::Refused => 1,

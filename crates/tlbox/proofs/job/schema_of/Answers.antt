@@ -1,4 +1,3 @@
-use Rattle.std.proofs.Common.{sym, ◌∙◌}
 use Rattle.tlbox.proofs.Loading.{no_program, no_schema}
 use Rattle.tlbox.proofs.job.schema_of.Goals as goal
 

@@ -1,4 +1,4 @@
-use Rattle.std.proofs.Common.{rules, codes, ◌≡◌, string_bytes, ◌∷◌, [], map, ap, ◌∙◌, sym}
+use Rattle.std.proofs.Common.{rules, codes, ◌≡◌, string_bytes, ◌∷◌, [], map}
 use Rattle.tlbox.proofs.Endings.{four_words, asked}
 use Rattle.tlbox.proofs.words.decode_words.Goals as goal
 

@@ -1,0 +1,657 @@
+use crate::program::run;
+use crate::status::Status;
+use std::alloc::{AllocError, Global};
+use std::process::Abort;
+use std::test::Fail;
+use tl_base::{Bytes, HostCall, MemHost, Out, Slot};
+
+const POINT: &str = "point#00000001 x:int y:int = Point;";
+
+const POINT_BYTES: &str = "0100000005000000ffffffff";
+
+const POINT_LINE: &str = "{\"_\":\"point\",\"x\":5,\"y\":-1}\n";
+
+const USAGE: &str =
+    "usage: tlbox check SCHEMA, decode SCHEMA TYPE INPUT, encode SCHEMA TYPE INPUT, replay SCHEMA JOURNAL CLIENTS, make SCHEMA NUMBER STEPS, serve SCHEMA ADDRESS SESSIONS, post SCHEMA ADDRESS INPUT, client SCHEMA ADDRESS STATE [CHANNEL ..]\n";
+
+// A call that fails: its kind, and its number among the calls of this kind.
+type Failing = Option<(HostCall, u64)>;
+
+// How a run over memory ended, and what it wrote.
+#[derive(Drop)]
+struct Ended {
+    status: Status,
+    host: MemHost,
+}
+
+fn words_of(alloc: Global, words: &[&str]) -> Result<Vec<String>, AllocError> {
+    let mut owned = Vec::new(alloc);
+    for word in words {
+        owned.push(String::from_str(alloc, word)?)?;
+    }
+    Ok(owned)
+}
+
+// A file `schema` and a file `input`.
+fn host_of(alloc: Global, schema: &[u8], input: &[u8]) -> Result<MemHost, AllocError> {
+    let mut host = MemHost::new(alloc, 4096)?;
+    host.file(alloc, "schema", Bytes::from_slice(alloc, schema)?)?;
+    host.file(alloc, "input", Bytes::from_slice(alloc, input)?)?;
+    Ok(host)
+}
+
+fn run_words(alloc: Global, words: &[&str], mut host: MemHost) -> Result<Ended, AllocError> {
+    let owned = words_of(alloc, words)?;
+    let status = run(alloc, owned.as_slice(), &mut host);
+    Ok(Ended { status, host })
+}
+
+// Decodes over a host of `host_of`.
+fn decode_over(alloc: Global, of: &str, host: MemHost) -> Result<Ended, AllocError> {
+    run_words(alloc, ["decode", "schema", of, "input"].as_slice(), host)
+}
+
+// Decodes an input of hexadecimal digits, with one call failing.
+fn decode_hex(
+    alloc: Global,
+    schema: &str,
+    of: &str,
+    input: &str,
+    failing: Failing,
+) -> Result<Ended, Fail> {
+    let bytes = hex::decode(alloc, input)?;
+    let mut host = host_of(alloc, schema.as_bytes(), &bytes)?;
+    if let Some((call, number)) = failing {
+        host.fail(call, number)?;
+    }
+    Ok(decode_over(alloc, of, host)?)
+}
+
+// Asserts a status and its line: on Output where the work is done, else on Errors, and nothing on the other.
+fn assert_ends(rt: &impl Abort, ended: &Ended, status: Status, line: &str, case: usize) {
+    let (output, errors) = if status == Status::Done {
+        (line, "")
+    } else {
+        ("", line)
+    };
+    assert_eq!(rt; ended.status, status, "case {case}");
+    assert_eq!(rt;
+        ended.host.written(Out::Output),
+        output.as_bytes(),
+        "case {case}"
+    );
+    assert_eq!(rt;
+        ended.host.written(Out::Errors),
+        errors.as_bytes(),
+        "case {case}"
+    );
+}
+
+// Schema, type, input, the call that fails, and what comes of it.
+type Row = (
+    &'static str,
+    &'static str,
+    &'static str,
+    Failing,
+    Status,
+    &'static str,
+);
+
+const READ_SCHEMA: HostCall = HostCall::Read { slot: Slot::Schema };
+
+const READ_INPUT: HostCall = HostCall::Read { slot: Slot::Input };
+
+const WRITE_OUTPUT: HostCall = HostCall::Write { out: Out::Output };
+
+const WRITE_ERRORS: HostCall = HostCall::Write { out: Out::Errors };
+
+const READ_LINE: &str = "tlbox: read fault\n";
+
+const WRITE_LINE: &str = "tlbox: write fault\n";
+
+const SCHEMA_LINE: &str = "tlbox: schema - NotYetBuilt\n";
+
+const TYPE_LINE: &str = "tlbox: type - NotYetBuilt\n";
+
+const ROWS: [Row; 8] = [
+    (POINT, "Point", POINT_BYTES, None, Status::Done, POINT_LINE),
+    (
+        POINT,
+        "Point",
+        POINT_BYTES,
+        Some((READ_INPUT, 0)),
+        Status::ReadFault,
+        READ_LINE,
+    ),
+    (
+        POINT,
+        "Point",
+        POINT_BYTES,
+        Some((WRITE_OUTPUT, 0)),
+        Status::WriteFault,
+        WRITE_LINE,
+    ),
+    (
+        POINT,
+        "Point",
+        "010000000500",
+        None,
+        Status::Refused,
+        "tlbox: input 4 Truncated\n",
+    ),
+    (
+        POINT,
+        "Point",
+        "0100000005000000ffffffff07",
+        None,
+        Status::Refused,
+        "tlbox: input 12 Trailing\n",
+    ),
+    (
+        POINT,
+        "Point",
+        "02000000",
+        None,
+        Status::Refused,
+        "tlbox: input 0 UnknownNumber 00000002\n",
+    ),
+    (
+        POINT,
+        "Point",
+        "a1cf7230",
+        None,
+        Status::Refused,
+        "tlbox: input 0 NotYetBuilt\n",
+    ),
+    (
+        "a x:int = A;",
+        "A",
+        POINT_BYTES,
+        None,
+        Status::Refused,
+        SCHEMA_LINE,
+    ),
+];
+
+#[test]
+fn rows(rt: HostRuntime) -> Result<(), Fail> {
+    for (i, (schema, of, input, failing, status, line)) in ROWS.iter().enumerate() {
+        let ended = decode_hex(rt.alloc(), schema, of, input, *failing)?;
+        assert_ends(&rt, &ended, *status, line, i);
+    }
+    Ok(())
+}
+
+// Words that are no row.
+const NO_ROWS: [&[&str]; 11] = [
+    &[],
+    &["decode"],
+    &["decode", "schema", "Point"],
+    &["decode", "schema", "Point", "input", "input"],
+    &["decode", "", "Point", "input"],
+    &["decode", "schema", "", "input"],
+    &["decode", "-", "Point", "input"],
+    &["decode", "schema", "-Point", "input"],
+    &["decode", "schema", "Point", "--input"],
+    &["Decode", "schema", "Point", "input"],
+    &["", "schema", "Point", "input"],
+];
+
+#[test]
+fn words(rt: HostRuntime) -> Result<(), Fail> {
+    for (i, words) in NO_ROWS.iter().enumerate() {
+        let host = host_of(rt.alloc(), POINT.as_bytes(), b"".as_slice())?;
+        let ended = run_words(rt.alloc(), words, host)?;
+        assert_ends(&rt, &ended, Status::Usage, USAGE, i);
+    }
+    Ok(())
+}
+
+const SHAPES: &str =
+    "point#00000001 x:int y:int = Point; pole#80000002 angle:long = Point; clock#00000003 = Clock;";
+
+const LONGS: &str = "pair#0a0b0c0d low:long high:long = Pair;";
+
+const INTS: &str = "pair#0a0b0c0d low:int high:int = Pair;";
+
+const MIXED: &str = "mixed#00000001 x:int y:long = Mixed;";
+
+// Schema, type, input, and what comes of it.
+type Case = (
+    &'static str,
+    &'static str,
+    &'static str,
+    Status,
+    &'static str,
+);
+
+const TABLE: [Case; 37] = [
+    (
+        "a#00000001 x:int = A;",
+        "A",
+        "0100000005000000",
+        Status::Done,
+        "{\"_\":\"a\",\"x\":5}\n",
+    ),
+    (SHAPES, "Point", POINT_BYTES, Status::Done, POINT_LINE),
+    (
+        SHAPES,
+        "Point",
+        "020000800100000000000000",
+        Status::Done,
+        "{\"_\":\"pole\",\"angle\":1}\n",
+    ),
+    (
+        SHAPES,
+        "Clock",
+        "03000000",
+        Status::Done,
+        "{\"_\":\"clock\"}\n",
+    ),
+    (
+        LONGS,
+        "Pair",
+        "0d0c0b0a0000000000000080ffffffffffffff7f",
+        Status::Done,
+        "{\"_\":\"pair\",\"high\":9223372036854775807,\"low\":-9223372036854775808}\n",
+    ),
+    (
+        INTS,
+        "Pair",
+        "0d0c0b0a00000080ffffff7f",
+        Status::Done,
+        "{\"_\":\"pair\",\"high\":2147483647,\"low\":-2147483648}\n",
+    ),
+    (
+        MIXED,
+        "Mixed",
+        "01000000feffffff0000000001000000",
+        Status::Done,
+        "{\"_\":\"mixed\",\"x\":-2,\"y\":4294967296}\n",
+    ),
+    (
+        "a#00000001 b:int a:int = A;",
+        "A",
+        "010000000200000003000000",
+        Status::Done,
+        "{\"_\":\"a\",\"a\":3,\"b\":2}\n",
+    ),
+    (
+        "a#00000001 a_:int aB:int a1:int a:int = A;",
+        "A",
+        "0100000001000000020000000300000004000000",
+        Status::Done,
+        "{\"_\":\"a\",\"a\":4,\"a1\":3,\"aB\":2,\"a_\":1}\n",
+    ),
+    (
+        "\n a#00000001\tx : int\r\n=A ;",
+        "A",
+        "0100000005000000",
+        Status::Done,
+        "{\"_\":\"a\",\"x\":5}\n",
+    ),
+    (
+        "a#ffffffff=A;",
+        "A",
+        "ffffffff",
+        Status::Done,
+        "{\"_\":\"a\"}\n",
+    ),
+    (
+        "a#00000000=A;",
+        "A",
+        "00000000",
+        Status::Done,
+        "{\"_\":\"a\"}\n",
+    ),
+    (
+        "a#00000000=A_1;b#00000001=A;",
+        "A",
+        "01000000",
+        Status::Done,
+        "{\"_\":\"b\"}\n",
+    ),
+    (
+        SHAPES,
+        "Clock",
+        "",
+        Status::Refused,
+        "tlbox: input 0 Truncated\n",
+    ),
+    (
+        SHAPES,
+        "Clock",
+        "03",
+        Status::Refused,
+        "tlbox: input 0 Truncated\n",
+    ),
+    (
+        SHAPES,
+        "Clock",
+        "0300",
+        Status::Refused,
+        "tlbox: input 0 Truncated\n",
+    ),
+    (
+        SHAPES,
+        "Clock",
+        "030000",
+        Status::Refused,
+        "tlbox: input 0 Truncated\n",
+    ),
+    (
+        SHAPES,
+        "Clock",
+        "0300000003",
+        Status::Refused,
+        "tlbox: input 4 Trailing\n",
+    ),
+    (
+        SHAPES,
+        "Clock",
+        "0300000003000000",
+        Status::Refused,
+        "tlbox: input 4 Trailing\n",
+    ),
+    (
+        SHAPES,
+        "Point",
+        "01000000",
+        Status::Refused,
+        "tlbox: input 4 Truncated\n",
+    ),
+    (
+        SHAPES,
+        "Point",
+        "0100000005000000ffffff",
+        Status::Refused,
+        "tlbox: input 8 Truncated\n",
+    ),
+    (
+        SHAPES,
+        "Point",
+        "02000080",
+        Status::Refused,
+        "tlbox: input 4 Truncated\n",
+    ),
+    (
+        SHAPES,
+        "Point",
+        "02000080010000000000",
+        Status::Refused,
+        "tlbox: input 4 Truncated\n",
+    ),
+    (
+        MIXED,
+        "Mixed",
+        "01000000050000000100000000",
+        Status::Refused,
+        "tlbox: input 8 Truncated\n",
+    ),
+    (
+        SHAPES,
+        "Point",
+        "03000000",
+        Status::Refused,
+        "tlbox: input 0 UnknownNumber 00000003\n",
+    ),
+    (
+        SHAPES,
+        "Clock",
+        "02000080",
+        Status::Refused,
+        "tlbox: input 0 UnknownNumber 80000002\n",
+    ),
+    (
+        SHAPES,
+        "Clock",
+        "efbeadde",
+        Status::Refused,
+        "tlbox: input 0 UnknownNumber deadbeef\n",
+    ),
+    (
+        SHAPES,
+        "Clock",
+        "15c4b51c",
+        Status::Refused,
+        "tlbox: input 0 UnknownNumber 1cb5c415\n",
+    ),
+    (SHAPES, "Line", POINT_BYTES, Status::Refused, TYPE_LINE),
+    (SHAPES, "point", POINT_BYTES, Status::Refused, TYPE_LINE),
+    (SHAPES, "Poin", POINT_BYTES, Status::Refused, TYPE_LINE),
+    (SHAPES, "Points", POINT_BYTES, Status::Refused, TYPE_LINE),
+    (SHAPES, "int", "05000000", Status::Refused, TYPE_LINE),
+    (SHAPES, "Vector", "15c4b51c", Status::Refused, TYPE_LINE),
+    ("", "Point", POINT_BYTES, Status::Refused, TYPE_LINE),
+    (" \t\r\n", "Point", POINT_BYTES, Status::Refused, TYPE_LINE),
+    (";", "Point", POINT_BYTES, Status::Refused, SCHEMA_LINE),
+];
+
+#[test]
+fn table(rt: HostRuntime) -> Result<(), Fail> {
+    for (i, (schema, of, input, status, line)) in TABLE.iter().enumerate() {
+        let ended = decode_hex(rt.alloc(), schema, of, input, None)?;
+        assert_ends(&rt, &ended, *status, line, i);
+    }
+    Ok(())
+}
+
+// Schemas that are refused: each is `a#00000001 x:int = A;` with one fault.
+const REFUSED: [&str; 30] = [
+    "a#00000001 x:int? = A;",
+    "a#00000001 x:int = A; // a",
+    "a#00000001 x:int = A; /* a */",
+    "---functions--- a#00000001 x:int = A;",
+    "a#00000001 x:int = A",
+    "a#00000001 x:int = A;;",
+    "a#00000001 x:int A;",
+    "a#00000001 x:int = ;",
+    "a#00000001 x:int = A B;",
+    "a x:int = A;",
+    "a#0000001 x:int = A;",
+    "a#000000001 x:int = A;",
+    "a#0000000A x:int = A;",
+    "a#0000000g x:int = A;",
+    "a #00000001 x:int = A;",
+    "a# 00000001 x:int = A;",
+    "a#00000001 x:string = A;",
+    "a#00000001 x = A;",
+    "a#00000001 int = A;",
+    "A#00000001 x:int = A;",
+    "a#00000001 X:int = A;",
+    "a#00000001 x:int = a;",
+    "a#00000001 x:int = Vector;",
+    "a#00000001 x:int = Object;",
+    "int#00000001 x:int = A;",
+    "a#00000001 x:int = A; a#00000002 x:int = A;",
+    "a#00000001 x:int = A; b#00000001 x:int = A;",
+    "a#00000001 x:int x:long = A;",
+    "a#00000001 x:int = A; b#3072cfa1 = A;",
+    "a#00000001 x:int = A; b#1cb5c415 = A;",
+];
+
+#[test]
+fn schemas(rt: HostRuntime) -> Result<(), Fail> {
+    for (i, schema) in REFUSED.iter().enumerate() {
+        let ended = decode_hex(rt.alloc(), schema, "A", "0100000005000000", None)?;
+        assert_ends(&rt, &ended, Status::Refused, SCHEMA_LINE, i);
+    }
+    Ok(())
+}
+
+// The words of the schema's file, of the type and of the input's file, and what comes of them.
+const FILES: [Case; 6] = [
+    ("schema", "Point", "input", Status::Done, POINT_LINE),
+    ("none", "Point", "input", Status::ReadFault, READ_LINE),
+    ("schema", "Point", "none", Status::ReadFault, READ_LINE),
+    ("none", "Line", "none", Status::ReadFault, READ_LINE),
+    ("input", "Point", "none", Status::Refused, SCHEMA_LINE),
+    ("schema", "Line", "none", Status::Refused, TYPE_LINE),
+];
+
+#[test]
+fn files(rt: HostRuntime) -> Result<(), Fail> {
+    for (i, (schema, of, input, status, line)) in FILES.iter().enumerate() {
+        let bytes = hex::decode(rt.alloc(), POINT_BYTES)?;
+        let host = host_of(rt.alloc(), POINT.as_bytes(), &bytes)?;
+        let words = ["decode", *schema, *of, *input];
+        let ended = run_words(rt.alloc(), words.as_slice(), host)?;
+        assert_ends(&rt, &ended, *status, line, i);
+    }
+    Ok(())
+}
+
+// A kind of call, how many of it come as the point is decoded, and what comes of a failing one.
+const CALLS: [(HostCall, u64, Status, &str); 5] = [
+    (HostCall::Open, 2, Status::ReadFault, READ_LINE),
+    (READ_SCHEMA, 2, Status::ReadFault, READ_LINE),
+    (READ_INPUT, 4, Status::ReadFault, READ_LINE),
+    (WRITE_OUTPUT, 1, Status::WriteFault, WRITE_LINE),
+    (WRITE_ERRORS, 0, Status::Done, POINT_LINE),
+];
+
+#[test]
+fn faults(rt: HostRuntime) -> Result<(), Fail> {
+    for (i, (call, count, status, line)) in CALLS.iter().enumerate() {
+        for number in 0..=*count {
+            let failing = Some((*call, number));
+            let ended = decode_hex(rt.alloc(), POINT, "Point", POINT_BYTES, failing)?;
+            if number < *count {
+                assert_ends(&rt, &ended, *status, line, i);
+            } else {
+                assert_ends(&rt, &ended, Status::Done, POINT_LINE, i);
+            }
+        }
+    }
+    Ok(())
+}
+
+// Refusals whose line can't be written keep their status.
+#[test]
+fn silent(rt: HostRuntime) -> Result<(), Fail> {
+    let failing = Some((WRITE_ERRORS, 0));
+    for (i, (schema, of, input)) in [
+        ("", "Point", POINT_BYTES),
+        ("a", "Point", POINT_BYTES),
+        (POINT, "Point", "01000000"),
+        (POINT, "Point", "02000000"),
+        (POINT, "Point", "0100000005000000ffffffff07"),
+    ]
+    .iter()
+    .enumerate()
+    {
+        let ended = decode_hex(rt.alloc(), schema, of, input, failing)?;
+        assert_ends(&rt, &ended, Status::Refused, "", i);
+    }
+    Ok(())
+}
+
+// A declaration with so many fields.
+fn with_fields(alloc: Global, count: u32) -> Result<String, AllocError> {
+    let mut text = String::from_str(alloc, "a#00000001")?;
+    for i in 0..count {
+        text.push_str(&format!(in alloc; " f{i:03}:int")?)?;
+    }
+    text.push_str(" = A;")?;
+    Ok(text)
+}
+
+// So many declarations of one type, numbered from 0.
+fn with_declarations(alloc: Global, count: u32) -> Result<String, AllocError> {
+    let mut text = String::new(alloc);
+    for i in 0..count {
+        text.push_str(&format!(in alloc; "d{i:08x}#{i:08x} = A;\n")?)?;
+    }
+    Ok(text)
+}
+
+// A schema's text with spaces behind it, of so many bytes.
+fn with_spaces(alloc: Global, size: usize) -> Result<Vec<u8>, AllocError> {
+    let mut text = Vec::from_slice(alloc, b"a#00000001 = A;".as_slice())?;
+    for _ in text.len()..size {
+        text.push(b' ')?;
+    }
+    Ok(text)
+}
+
+// The line has 8 bytes up to the fields, 9 for each field, and 2 behind them.
+#[test]
+fn fields_limit(rt: HostRuntime) -> Result<(), Fail> {
+    let mut input = vec![in rt.alloc(); 0u8; 1028]?;
+    input[0] = 1;
+    let text = with_fields(rt.alloc(), 256)?;
+    let host = host_of(rt.alloc(), text.as_bytes(), &input)?;
+    let ended = decode_over(rt.alloc(), "A", host)?;
+    assert_eq!(rt; ended.status, Status::Done);
+    assert_eq!(rt; ended.host.written(Out::Output).len(), 2314);
+    let more = with_fields(rt.alloc(), 257)?;
+    let host = host_of(rt.alloc(), more.as_bytes(), &input)?;
+    let ended = decode_over(rt.alloc(), "A", host)?;
+    assert_ends(&rt, &ended, Status::Refused, SCHEMA_LINE, 257);
+    Ok(())
+}
+
+#[test]
+fn declarations_limit(rt: HostRuntime) -> Result<(), Fail> {
+    let text = with_declarations(rt.alloc(), 256)?;
+    let ended = decode_hex(rt.alloc(), text.as_str(), "A", "ff000000", None)?;
+    assert_ends(&rt, &ended, Status::Done, "{\"_\":\"d000000ff\"}\n", 256);
+    let more = with_declarations(rt.alloc(), 257)?;
+    let ended = decode_hex(rt.alloc(), more.as_str(), "A", "ff000000", None)?;
+    assert_ends(&rt, &ended, Status::Refused, SCHEMA_LINE, 257);
+    Ok(())
+}
+
+#[test]
+fn bytes_limit(rt: HostRuntime) -> Result<(), Fail> {
+    for (size, status, line) in [
+        (65_536, Status::Done, "{\"_\":\"a\"}\n"),
+        (65_537, Status::Refused, SCHEMA_LINE),
+    ] {
+        let text = with_spaces(rt.alloc(), size)?;
+        let host = host_of(rt.alloc(), &text, [1, 0, 0, 0].as_slice())?;
+        let ended = decode_over(rt.alloc(), "A", host)?;
+        assert_ends(&rt, &ended, status, line, size);
+    }
+    Ok(())
+}
+
+// Lets so many reads of each file give at most so many bytes each.
+fn cut_reads(host: &mut MemHost, most: u32, count: u32) -> Result<(), AllocError> {
+    for _ in 0..count {
+        host.cut(most)?;
+    }
+    Ok(())
+}
+
+#[test]
+fn cuts(rt: HostRuntime) -> Result<(), Fail> {
+    for most in [1, 2, 3, 5, 7, 11, 35] {
+        let bytes = hex::decode(rt.alloc(), POINT_BYTES)?;
+        let mut host = host_of(rt.alloc(), POINT.as_bytes(), &bytes)?;
+        cut_reads(&mut host, most, 36)?;
+        let ended = decode_over(rt.alloc(), "Point", host)?;
+        assert_ends(&rt, &ended, Status::Done, POINT_LINE, most as usize);
+    }
+    Ok(())
+}
+
+// The schema's text has 24 bytes a declaration, so there are 6,145 reads of a byte each.
+#[test]
+fn large_cuts(rt: HostRuntime) -> Result<(), Fail> {
+    let text = with_declarations(rt.alloc(), 256)?;
+    let input = vec![in rt.alloc(); 0u8; 4_194_304]?;
+    for most in [1, 7, 65_536] {
+        let mut host = host_of(rt.alloc(), text.as_bytes(), &input)?;
+        cut_reads(&mut host, most, 6_145)?;
+        let ended = decode_over(rt.alloc(), "A", host)?;
+        assert_ends(
+            &rt,
+            &ended,
+            Status::Refused,
+            "tlbox: input 4 Trailing\n",
+            most as usize,
+        );
+    }
+    Ok(())
+}
