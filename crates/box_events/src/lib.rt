@@ -5,6 +5,7 @@ mod event;
 mod event_box;
 mod fault;
 mod ids;
+mod laws;
 #[cfg(test)]
 mod tests;
 
@@ -12,3 +13,4 @@ pub use event::{Event, Kind};
 pub use event_box::EventBox;
 pub use fault::BoxFault;
 pub use ids::Ids;
+pub use laws::stretches_of_boxes;

@@ -5,3 +5,4 @@ pub mod Maps
 pub mod Ends
 pub mod Kept
 pub mod Parts
+pub mod Fitting

@@ -5,3 +5,4 @@ pub mod Tracks
 pub mod Steps
 pub mod Views
 pub mod Outcomes
+pub mod Fitting

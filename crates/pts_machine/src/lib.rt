@@ -4,6 +4,7 @@
 mod counted;
 mod gap;
 mod lane;
+mod laws;
 mod mode;
 mod seen;
 #[cfg(test)]
@@ -11,5 +12,6 @@ mod tests;
 
 pub use counted::Counted;
 pub use lane::Lane;
+pub use laws::lanes_fit_boxes;
 pub use mode::Mode;
 pub use seen::Seen;

@@ -28,7 +28,7 @@ use Rattle.tlbox.specs.declared.stop.Stop.TheVariants as stop
 use Rattle.tlbox.specs.declared.status.Status.{Status}
 use Rattle.tlbox.specs.declared.status.Status.TheVariants as status
 use Rattle.tlbox.specs.Answers.{Answer, IsOperand, AskDecode, usage, usage_line, done, refused, input_line, cause_text, IsSchemaText, SchemaRefused, by_bytes, by_tokens, by_checks, OfInput, whole, longer, faulty, OfType, unknown, named, OfSchema, no_schema, schema_of, DecodeAnswer, Answers, no_row, decode}
-use Rattle.tlbox.specs.Runs.{IsFront, Tells, WritesFront, Ends, answered, read_failed, write_failed, out_of_memory}
+use Rattle.tlbox.specs.Runs.{Tells, Ends, answered, read_failed, write_failed, out_of_memory}
 use Rattle.tlbox.specs.Jobs.{Works, TellsLine, Reports, refusal_line}
 
 -- ---- one answer
@@ -130,15 +130,9 @@ one_answer words files a c (decode s t i asked h) k = one_decode files s t i a c
 
 -- ---- endings
 
-nothing_yet : (words : List (List ℕ)) (v w : View) → w.output ≡ v.output → WritesFront words v w
-nothing_yet words v w e = inl e
-
-front_written : (words : List (List ℕ)) (s t i line : List ℕ) (v w : View) → AskDecode words s t i → DecodeAnswer v.files s t i (done line) → IsFront w.output (v.output ++ line) → WritesFront words v w
-front_written words s t i line v w asked h front = inr (done line, decode s t i asked h, front)
-
 tells_on : {W : Type 0} (V : Type 0) (line : List ℕ) (v u w : View) → u.errors ≡ v.errors → (V → W) → Tells V line u w → Tells W line v w
 tells_on V line v u w e rose (inl h) = inl (h ∙ ap (λ (x : List ℕ). x ++ line) e)
-tells_on V line v u w e rose (inr (r, (rest, h))) = inr (rose r, (rest, h ∙ ap (λ (x : List ℕ). x ++ line) e))
+tells_on V line v u w e rose (inr (r, (front, rest, split, h))) = inr (rose r, (front, rest, split, h ∙ ap (λ (x : List ℕ). x ++ front) e))
 
 tells_none : {W : Type 0} (v w : View) → w.errors ≡ v.errors → Tells W [] v w
 tells_none v w e = inl (e ∙ sym (append-nil v.errors))
@@ -154,13 +148,13 @@ module _ (words : List (List ℕ)) (s t i : List ℕ) (asked : AskDecode words s
   ended (stop.Refused r) k v u w rose read write (answer, only) (inl (is, (same, told))) =
       answered (refused (refusal_line r)) (decode s t i asked answer) is (same ∙ only.output ∙ sym (append-nil v.output)) (tells_on V (refusal_line r) v u w only.errors rose told)
   ended (stop.Refused r) k v u w rose read write (answer, only) (inr (is, (same, told))) =
-      out_of_memory is (nothing_yet words v w (same ∙ only.output)) (tells_on V _ v u w only.errors rose told)
+      out_of_memory is (same ∙ only.output) (tells_on V _ v u w only.errors rose told)
   ended stop.ReadFault k v u w rose read write only (is, (same, told)) =
-      read_failed (read refl) is (nothing_yet words v w (same ∙ only.output)) (tells_on V _ v u w only.errors rose told)
-  ended stop.WriteFault k v u w rose read write (line, answer, front, errors) (is, (same, told)) =
-      write_failed (write refl) is (front_written words s t i line v w asked answer (front.0, ap (λ (x : List ℕ). x ++ front.0) same ∙ front.1)) (tells_on V _ v u w errors rose told)
+      read_failed (read refl) is (same ∙ only.output) (tells_on V _ v u w only.errors rose told)
+  ended stop.WriteFault k v u w rose read write (line, answer, (front, rest, split, put), errors) (is, (same, told)) =
+      write_failed (write refl) is (done line, decode s t i asked answer, (front, rest, split, same ∙ put)) (tells_on V _ v u w errors rose told)
   ended stop.Memory k v u w rose read write only (is, (same, told)) =
-      out_of_memory is (nothing_yet words v w (same ∙ only.output)) (tells_on V _ v u w only.errors rose told)
+      out_of_memory is (same ∙ only.output) (tells_on V _ v u w only.errors rose told)
 
   pub ends_stopped : (e : Stop) (k : Status) (a m b : Option View) → (V → W) → (e ≡ stop.ReadFault → R) → (e ≡ stop.WriteFault → W) → Told a m (Works s t i (Err e)) → Told m b (Reports V e k) → Told a b (Ends words R W k)
   ends_stopped e k None None None rose read write h told = tt

@@ -1,5 +1,5 @@
 -- The line of `decode`, from its parts.
-use Rattle.std.proofs.Common.{◌≡◌, ℕ, List, ◌++◌, Option, Some, None, Result, Ok, Err, refl, sym, ap, ◌∙◌, subst, append_assoc, Global}
+use Rattle.std.proofs.Common.{◌≡◌, ℕ, List, ◌++◌, Option, Some, None, Result, Ok, Err, refl, sym, ap, ◌∙◌, subst, Global}
 use Rattle.std.specs.Prelude.{IsErrAnd, String, string_bytes, codes}
 use Rattle.tl_base.specs.Contents.{Files}
 use Rattle.tl_base.specs.Outside.{View, HasFile}
@@ -132,5 +132,4 @@ not_put s t i line piece e r (Some v) (Some u) None same h put is = put
 not_put s t i line piece e (Ok x) (Some v) (Some u) (Some w) same h put is = absurd is
 not_put s t i line piece e (Err z) (Some v) (Some u) (Some w) same (answer, only) (front, rest, split, put) is =
     let output : w.output ≡ v.output ++ front = ap (λ (x : View). x.output) put ∙ ap (λ (x : List ℕ). x ++ front) only.output in
-    let whole_line : w.output ++ rest ≡ v.output ++ string_bytes line = ap (λ (x : List ℕ). x ++ rest) output ∙ append_assoc v.output front rest ∙ ap (λ (x : List ℕ). v.output ++ x) (split ∙ same) in
-    subst (λ (y : Stop). Works s t i (Err y) v w) (sym is) (string_bytes line, answer, (rest, whole_line), ap (λ (x : View). x.errors) put ∙ only.errors)
+    subst (λ (y : Stop). Works s t i (Err y) v w) (sym is) (string_bytes line, answer, (front, rest, split ∙ same, output), ap (λ (x : View). x.errors) put ∙ only.errors)

@@ -15,7 +15,7 @@ use Rattle.tlbox.specs.declared.stop.Stop.TheVariants as stop
 use Rattle.tlbox.specs.declared.status.Status.{Status}
 use Rattle.tlbox.specs.declared.status.Status.TheVariants as status
 use Rattle.tlbox.specs.Answers.{IsSchemaText, SchemaRefused, DecodeAnswer, done, refused, schema_line, type_line, input_line, cause_text}
-use Rattle.tlbox.specs.Runs.{IsFront, Tells}
+use Rattle.tlbox.specs.Runs.{AddsFront, Tells}
 
 -- files, Output and Errors are as before
 pub record OnlyReads (v w : View) : Type 0 where
@@ -66,7 +66,7 @@ abbrev pub Works : List ℕ → List ℕ → List ℕ → Result (Unit {0}) Stop
 Works schema type input (Ok u) v w = (line : List ℕ) × DecodeAnswer v.files schema type input (done line) × (w.output ≡ v.output ++ line) × (w.errors ≡ v.errors)
 Works schema type input (Err (stop.Refused r)) v w = DecodeAnswer v.files schema type input (refused (refusal_line r)) × OnlyReads v w
 Works schema type input (Err stop.ReadFault) v w = OnlyReads v w
-Works schema type input (Err stop.WriteFault) v w = (line : List ℕ) × DecodeAnswer v.files schema type input (done line) × IsFront w.output (v.output ++ line) × (w.errors ≡ v.errors)
+Works schema type input (Err stop.WriteFault) v w = (line : List ℕ) × DecodeAnswer v.files schema type input (done line) × AddsFront v.output w.output line × (w.errors ≡ v.errors)
 Works schema type input (Err stop.Memory) v w = OnlyReads v w
 
 -- a line on Errors, and nothing else

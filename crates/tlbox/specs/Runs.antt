@@ -14,20 +14,21 @@ status_number ReadFault = 3
 status_number WriteFault = 4
 status_number Memory = 5
 
-abbrev pub IsFront : List ℕ → List ℕ → Type 0
-IsFront front whole = (rest : List ℕ) × (front ++ rest ≡ whole)
+-- a front of the line was added
+abbrev pub AddsFront : List ℕ → List ℕ → List ℕ → Type 0
+AddsFront old new line = (front : List ℕ) × (rest : List ℕ) × (front ++ rest ≡ line) × (new ≡ old ++ front)
 
 -- the line was told on Errors, or a front of it where a write failed
 abbrev pub Tells : Type 0 → List ℕ → View → View → Type 0
-Tells write_rose line v w = (w.errors ≡ v.errors ++ line) ⊎ (write_rose × IsFront w.errors (v.errors ++ line))
+Tells write_rose line v w = (w.errors ≡ v.errors ++ line) ⊎ (write_rose × AddsFront v.errors w.errors line)
 
--- Output is as before, or has a front of what the run without a fault writes
+-- Output has a front of what the run without a fault writes
 abbrev pub WritesFront : List (List ℕ) → View → View → Type 0
-WritesFront words v w = (w.output ≡ v.output) ⊎ ((a : Answer) × Answers words v.files a × IsFront w.output (v.output ++ a.output))
+WritesFront words v w = (a : Answer) × Answers words v.files a × AddsFront v.output w.output a.output
 
--- a run ends with its answer, or with a fault whose count rose, or for want of memory
+-- a run ends with its answer, or with a fault whose count rose, or for want of memory, and nothing on Output
 pub data Ends (words : List (List ℕ)) (read_rose write_rose : Type 0) (status : Status) (v w : View) : Type 0 where
   answered : (a : Answer) → Answers words v.files a → status ≡ a.status → w.output ≡ v.output ++ a.output → Tells write_rose a.errors v w → Ends words read_rose write_rose status v w
-  read_failed : read_rose → status ≡ ReadFault → WritesFront words v w → Tells write_rose (codes "tlbox: read fault\n") v w → Ends words read_rose write_rose status v w
+  read_failed : read_rose → status ≡ ReadFault → w.output ≡ v.output → Tells write_rose (codes "tlbox: read fault\n") v w → Ends words read_rose write_rose status v w
   write_failed : write_rose → status ≡ WriteFault → WritesFront words v w → Tells write_rose (codes "tlbox: write fault\n") v w → Ends words read_rose write_rose status v w
-  out_of_memory : status ≡ Memory → WritesFront words v w → Tells write_rose (codes "tlbox: memory\n") v w → Ends words read_rose write_rose status v w
+  out_of_memory : status ≡ Memory → w.output ≡ v.output → Tells write_rose (codes "tlbox: memory\n") v w → Ends words read_rose write_rose status v w

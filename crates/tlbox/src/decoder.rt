@@ -55,7 +55,7 @@ impl<T: Drop> From<AllocFailed<T>> for DecodeFault {
     }
 }
 
-/// Reads the value of a type, and takes exactly its bytes. `at` rises by their number, up to 2^64 - 1. After a refusal the source is not read again.
+/// Reads the value of a type, and takes exactly its bytes. `at` rises by their number, up to 2^64 - 1.
 pub fn decode<S: Source>(
     alloc: Global,
     schema: &Schema,

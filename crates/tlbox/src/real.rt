@@ -1,5 +1,5 @@
 //! The real outside: files and the standard streams. What they hold or take is not told: this is the trusted edge.
-ghost use Rattle.std.specs.Prelude.{None, false, IfSome, ◌≤◌, length};
+ghost use Rattle.std.specs.Prelude.{None, false, IfSome, ◌≡◌, ◌≤◌, length};
 
 use std::fs::File;
 use std::io::{BufReader, Read, Write};
@@ -17,7 +17,9 @@ pub struct RealHost {
 }
 
 impl RealHost {
-    pub fn new(rt: HostRuntime) -> RealHost {
+    pub fn new(rt: HostRuntime) -> RealHost
+    ensures unfailed { (result.read_faults ≡ 0) × (result.write_faults ≡ 0) }
+    {
         RealHost {
             rt,
             schema: None,

@@ -1,0 +1,93 @@
+-- What a lane hears keeps it fitting its box.
+use Rattle.std.proofs.Common.{◌≡◌, ℕ, zero, suc, List, [], ◌∷◌, ◌++◌, Option, Some, None, refl, sym, ap, ◌∙◌, subst, inl, inr}
+use Rattle.std.specs.Option.{option_map_or}
+use Rattle.std.specs.Ordering.{nat_cmp}
+use Rattle.std.specs.FinMap.{get, len, insert, get-empty}
+use Rattle.box_events.specs.Happenings.{Happening}
+use Rattle.box_events.specs.Boxes.{IsBoundary, Between, AreCounted}
+use Rattle.box_events.proofs.Boundaries.{boundary_zero}
+use Rattle.box_events.proofs.Stretches.{between_grows, between_joins, between_none, stops_at}
+use Rattle.pts_machine.specs.Holding.{Items}
+use Rattle.pts_machine.specs.declared.seen.Seen.{Seen}
+use Rattle.pts_machine.specs.declared.seen.Seen.TheVariants.{Applied, Already, Held, Dropped}
+use Rattle.pts_machine.specs.Tracks.{Track}
+use Rattle.pts_machine.specs.Chains.{chain, reach}
+use Rattle.pts_machine.specs.Steps.{settle, hear, new_track, Hears}
+use Rattle.pts_machine.specs.Fitting.{Fits}
+use Rattle.pts_machine.proofs.Maps.{from_some, insert_some, none_is_some}
+use Rattle.pts_machine.proofs.Kept.{hears}
+
+-- each held event lies at its own place of the box
+abbrev pub AreInPlace : List Happening → Items Happening → Type 0
+AreInPlace box m = (s : ℕ) (x : ℕ × Happening) → get m s ≡ Some x → Between box s x.0 (x.1 ∷ [])
+
+chain_over : (box : List Happening) (n p : ℕ) (m : Items Happening) (a : Option (ℕ × Happening)) → AreCounted box → IsBoundary box p
+    → ((x : ℕ × Happening) → a ≡ Some x → Between box p x.0 (x.1 ∷ []) × Between box x.0 (reach n x.0 m) (chain n x.0 m))
+    → Between box p (option_map_or (λ x. reach n x.0 m) a p) (option_map_or (λ x. x.1 ∷ chain n x.0 m) a [])
+chain_over box n p m None c b more = between_none box p b
+chain_over box n p m (Some x) c b more = let two = more x refl in between_joins box p x.0 (reach n x.0 m) (x.1 ∷ []) (chain n x.0 m) c two.0 two.1
+
+-- a chain from a boundary is what lies from there to the place that it reaches
+pub chain_lies : (box : List Happening) (n p : ℕ) (m : Items Happening) → AreCounted box → AreInPlace box m → IsBoundary box p → Between box p (reach n p m) (chain n p m)
+unfolding chain reach
+chain_lies box zero p m c held b = between_none box p b
+chain_lies box (suc n) p m c held b = chain_over box n p m (get m p) c b (λ x is.
+    let one : Between box p x.0 (x.1 ∷ []) = held p x is in
+    (one, chain_lies box n x.0 m c held (stops_at box p x.0 (x.1 ∷ []) one)))
+
+pub fits_settle : (box : List Happening) (t : Track Happening) → AreCounted box → Fits box t → Fits box (settle t)
+unfolding settle
+fits_settle box t c f =
+    let to : ℕ = reach (len t.held) t.at t.held in
+    record {
+      events = between_joins box t.restart t.at to t.events (chain (len t.held) t.at t.held) c f.events
+          (chain_lies box (len t.held) t.at t.held c f.held (stops_at box t.restart t.at t.events f.events));
+      held = λ s x is. f.held s x (from_some to t.held s x is).1;
+    }
+
+pub in_place_insert : (box : List Happening) (m : Items Happening) (start end : ℕ) (event : Happening) → AreInPlace box m → Between box start end (event ∷ []) → AreInPlace box (insert m start (end, event))
+in_place_insert box m start end event held one s x is = elim (insert_some m start (end, event) s x is) [
+  | inl new ↦
+      subst (λ (q : ℕ). Between box q x.0 (x.1 ∷ [])) (sym new.0) (subst (λ (y : ℕ × Happening). Between box start y.0 (y.1 ∷ [])) new.1 one)
+  | inr old ↦ held s x old
+]
+
+-- whatever came of an event that lies at its own place
+fits_by : (box : List Happening) (t : Track Happening) (start end : ℕ) (event : Happening) (r : Seen) (u : Track Happening)
+    → AreCounted box → Fits box t → Between box start end (event ∷ []) → Hears t start end event r u → Fits box u
+fits_by box t start end event Already u c f one s = subst (Fits box) (sym s.1) f
+fits_by box t start end event (Applied to) u c f one s =
+    let here : Between box t.at end (event ∷ []) = subst (λ (q : ℕ). Between box q end (event ∷ [])) s.1.1 one in
+    subst (Fits box) (sym s.2) (fits_settle box (record t { events = t.events ++ event ∷ []; at = end }) c (record {
+      events = between_joins box t.restart t.at end t.events (event ∷ []) c f.events here;
+      held = f.held;
+    }))
+fits_by box t start end event Held u c f one s = subst (Fits box) (sym s.3) (record { events = f.events; held = in_place_insert box t.held start end event f.held one })
+fits_by box t start end event Dropped u c f one s = subst (Fits box) (sym s.3) f
+
+pub fits_hear : (box : List Happening) (t : Track Happening) (start end : ℕ) (event : Happening)
+    → AreCounted box → Fits box t → Between box start end (event ∷ []) → Fits box (hear t start end event).track
+fits_hear box t start end event c f one = fits_by box t start end event _ _ c f one (hears t start end event)
+
+pub fits_grows : (box more : List Happening) (t : Track Happening) → Fits box t → Fits (box ++ more) t
+fits_grows box more t f = record {
+  events = between_grows box more t.restart t.at t.events f.events;
+  held = λ s x is. between_grows box more s x.0 (x.1 ∷ []) (f.held s x is);
+}
+
+pub fits_new : (box : List Happening) → Fits box new_track
+fits_new box = record {
+  events = between_none box 0 (boundary_zero box);
+  held = λ s x is. absurd (none_is_some x (sym (get-empty nat_cmp s) ∙ is));
+}
+
+-- hearing moves no restart
+restart_by : {E : Type 0} (t : Track E) (start end : ℕ) (item : E) (r : Seen) (u : Track E) → Hears t start end item r u → u.restart ≡ t.restart
+unfolding settle
+restart_by {E} t start end item Already u s = ap (λ (v : Track E). v.restart) s.1
+restart_by {E} t start end item (Applied to) u s = ap (λ (v : Track E). v.restart) s.2
+restart_by {E} t start end item Held u s = ap (λ (v : Track E). v.restart) s.3
+restart_by {E} t start end item Dropped u s = ap (λ (v : Track E). v.restart) s.3
+
+pub hear_restart : {E : Type 0} (t : Track E) (start end : ℕ) (item : E) → (hear t start end item).track.restart ≡ t.restart
+hear_restart t start end item = restart_by t start end item _ _ (hears t start end item)
