@@ -18,7 +18,7 @@ pub struct RealHost {
 
 impl RealHost {
     pub fn new(rt: HostRuntime) -> RealHost
-    ensures unfailed { (result.read_faults ≡ 0) × (result.write_faults ≡ 0) }
+        ensures unfailed { (result.read_faults ≡ 0) × (result.write_faults ≡ 0) }
     {
         RealHost {
             rt,

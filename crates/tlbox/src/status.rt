@@ -22,7 +22,7 @@ pub enum Status {
 impl Status {
     /// The number that a process ends with.
     pub fn code(self) -> u8
-    ensures number { result ≡ status_number self }
+        ensures number { result ≡ status_number self }
     {
         match self {
             Status::Done => 0,
