@@ -1,0 +1,23 @@
+use Rattle.std.proofs.Common.{◌≤◌, ◌-◌}
+use Rattle.std.specs.Prelude.{IfSome}
+use Rattle.tl_base.specs.Contents.{AreBytes}
+use Rattle.tl_base.specs.Using.{Used}
+use Rattle.box_events.specs.Boxes.{ending}
+use Rattle.update_replay.specs.Making.{WritesOnly}
+use Rattle.update_replay.proofs.Replaying.{Going}
+use Rattle.update_replay.proofs.replay.replay_steps.Given as goal
+
+abbrev pub invariant-loop-step : goal.invariant-loop-step
+invariant-loop-step g l =
+    let s = g.S.Source in
+    let k = g.K.Sink in
+    record {
+      few : l.count ≤ 100000;
+      space : ending l.world.box ≤ l.count;
+      going : IfSome (s.left l.fn.from) (λ journal. AreBytes journal → Going journal l.world l.at l.count (s.left l.from) (k.written l.fn.to) (k.written l.to));
+      read : Used s.left s.faults s.aside s.sound l.fn.from l.from ⊥;
+      written : WritesOnly k.written k.faults k.aside k.room l.fn.to l.to ⊥;
+    }
+
+abbrev pub decreases-loop-step : goal.decreases-loop-step
+decreases-loop-step g l = 100000 - l.count

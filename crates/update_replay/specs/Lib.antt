@@ -1,0 +1,12 @@
+pub mod Worlds
+pub mod Words
+pub mod Journal
+pub mod Packets
+pub mod Report
+pub mod Replays
+pub mod Reading
+pub mod Outcomes
+pub mod Reached
+pub mod Views
+pub mod Making
+pub mod Settled

@@ -1,0 +1,28 @@
+//! Replays of journals: a server's box, the pushes that it sent, and a client that hears them.
+#![tactic(auto)]
+
+mod journal;
+mod journal_laws;
+mod laws;
+mod lines;
+mod outcome;
+mod packets;
+mod replay;
+#[cfg(test)]
+mod replay_tests;
+mod report;
+#[cfg(test)]
+mod report_tests;
+#[cfg(test)]
+mod tests;
+mod world;
+
+pub use journal::{JournalFault, Step, read_step};
+pub use journal_laws::journals_are_read_in_one_way;
+pub use laws::every_replay_fits;
+pub use lines::{LineFault, write_end, write_step};
+pub use outcome::Outcome;
+pub use packets::packet_of;
+pub use replay::{ReplayFault, replay_steps};
+pub use report::{put_closing, put_outcome};
+pub use world::{StepFault, World};
