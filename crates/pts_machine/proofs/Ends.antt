@@ -3,10 +3,11 @@ use Rattle.std.proofs.Common.{◌≡◌, ℕ, zero, suc, ◌+◌, ◌<◌, ◌�
 use Rattle.std.specs.List.{sum_by}
 use Rattle.std.specs.FinMap.{get, len, remove}
 use Rattle.std.proofs.lemmas.List.Sums.{sum_by-cons}
-use Rattle.pts_machine.specs.Holding.{Items}
+use Rattle.gap_buffer.specs.Holding.{Items}
+use Rattle.gap_buffer.proofs.Maps.{above_remove, len_some, len_taken}
 use Rattle.pts_machine.specs.Chains.{chain, reach, EndsBehind, AreChained}
 use Rattle.pts_machine.specs.Tracks.{AreSized}
-use Rattle.pts_machine.proofs.Links.{chain_step, reach_step, chain_ends, reach_ends, chain_above, reach_above, above_remove, behind_remove, len_some, len_taken, chain_at, reach_at}
+use Rattle.pts_machine.proofs.Links.{chain_step, reach_step, chain_ends, reach_ends, chain_above, reach_above, behind_remove, chain_at, reach_at}
 
 -- the case of a look-up
 pub data Look {E : Type 0} (m : Items E) (p : ℕ) : Type 0 where

@@ -1,20 +1,24 @@
--- What a lane hears keeps it fitting its box.
-use Rattle.std.proofs.Common.{◌≡◌, ℕ, zero, suc, List, [], ◌∷◌, ◌++◌, Option, Some, None, refl, sym, ap, ◌∙◌, subst, inl, inr}
+-- Each step of a lane keeps it fitting its box.
+use Rattle.std.proofs.Common.{◌≡◌, ℕ, zero, suc, ◌+◌, List, [], ◌∷◌, ◌++◌, Option, Some, None, Bool, true, false, refl, sym, ap, ◌∙◌, subst, inl, inr, arith}
+use Rattle.std.specs.List.{sum_by}
 use Rattle.std.specs.Option.{option_map_or}
 use Rattle.std.specs.Ordering.{nat_cmp}
-use Rattle.std.specs.FinMap.{get, len, insert, get-empty}
-use Rattle.box_events.specs.Happenings.{Happening}
-use Rattle.box_events.specs.Boxes.{IsBoundary, Between, AreCounted}
+use Rattle.std.specs.FinMap.{get, len, insert, empty, get-empty}
+use Rattle.std.proofs.lemmas.List.Sums.{sum_by-cons}
+use Rattle.std.proofs.lemmas.Option.{none-some}
+use Rattle.box_events.specs.Happenings.{Happening, count_of}
+use Rattle.box_events.specs.Boxes.{ending, IsBoundary, Between, AreCounted}
 use Rattle.box_events.proofs.Boundaries.{boundary_zero}
-use Rattle.box_events.proofs.Stretches.{between_grows, between_joins, between_none, stops_at}
-use Rattle.pts_machine.specs.Holding.{Items}
+use Rattle.box_events.proofs.Stretches.{between_grows, between_joins, between_none, stops_at, stretch_counts}
+use Rattle.gap_buffer.specs.Holding.{Items, from}
+use Rattle.pts_machine.specs.declared.mode.Mode.TheVariants.{Live}
 use Rattle.pts_machine.specs.declared.seen.Seen.{Seen}
 use Rattle.pts_machine.specs.declared.seen.Seen.TheVariants.{Applied, Already, Held, Dropped}
 use Rattle.pts_machine.specs.Tracks.{Track}
 use Rattle.pts_machine.specs.Chains.{chain, reach}
-use Rattle.pts_machine.specs.Steps.{settle, hear, new_track, Hears}
+use Rattle.pts_machine.specs.Steps.{settle, hear, resumed, extend, restart_at, forget, asked, loaded, new_track, Hears}
 use Rattle.pts_machine.specs.Fitting.{Fits}
-use Rattle.pts_machine.proofs.Maps.{from_some, insert_some, none_is_some}
+use Rattle.gap_buffer.proofs.Maps.{from_some, insert_some}
 use Rattle.pts_machine.proofs.Kept.{hears}
 
 -- each held event lies at its own place of the box
@@ -75,10 +79,54 @@ fits_grows box more t f = record {
   held = λ s x is. between_grows box more s x.0 (x.1 ∷ []) (f.held s x is);
 }
 
+-- ---- answers, restarts, and lanes that forget or are loaded
+
+ending_sums : (xs : List Happening) → ending xs ≡ sum_by count_of xs
+ending_sums [] = refl
+ending_sums (x ∷ xs) = omega (arith, ending_sums xs, sum_by-cons count_of x xs)
+
+-- a stretch from p ends behind it by the sum of the counts
+ends_at : (box : List Happening) (p to : ℕ) (xs : List Happening) → Between box p to xs → to ≡ p + sum_by count_of xs
+ends_at box p to xs b = omega (arith, stretch_counts box p to xs b, ending_sums xs)
+
+fits_resumed : (box : List Happening) (t : Track Happening) (last : Bool) → AreCounted box → Fits box t → Fits box (resumed t last)
+fits_resumed box t true c f = fits_settle box (record t { mode = Live }) c (record { events = f.events; held = f.held })
+fits_resumed box t false c f = record { events = f.events; held = f.held }
+
+pub fits_extend : (box : List Happening) (t : Track Happening) (to : ℕ) (events : List Happening) (last : Bool)
+    → AreCounted box → Fits box t → Between box t.at to events → Fits box (extend count_of t events last)
+unfolding extend
+fits_extend box t to events last c f b =
+    let end : ℕ = t.at + sum_by count_of events in
+    let here : Between box t.at end events = subst (λ (q : ℕ). Between box t.at q events) (ends_at box t.at to events b) b in
+    fits_resumed box (record t { events = t.events ++ events; at = end; held = from end t.held }) last c (record {
+      events = between_joins box t.restart t.at end t.events events c f.events here;
+      held = λ s x is. f.held s x (from_some end t.held s x is).1;
+    })
+
+pub fits_restart : (box : List Happening) (t : Track Happening) (p : ℕ) → AreCounted box → Fits box t → IsBoundary box p → Fits box (restart_at count_of t p)
+unfolding restart_at
+fits_restart box t p c f b =
+    let here : Between box p p [] = between_none box p b in
+    fits_extend box (record t { restart = p; events = []; at = p }) p [] true c (record { events = here; held = f.held }) here
+
+nothing_in_place : (box : List Happening) → AreInPlace box empty
+nothing_in_place box s x is = absurd (none-some x (sym (get-empty nat_cmp s) ∙ is))
+
+pub fits_forget : (box : List Happening) (t : Track Happening) → Fits box t → Fits box (forget t)
+unfolding forget
+fits_forget box t f = record { events = f.events; held = nothing_in_place box }
+
 pub fits_new : (box : List Happening) → Fits box new_track
-fits_new box = record {
-  events = between_none box 0 (boundary_zero box);
-  held = λ s x is. absurd (none_is_some x (sym (get-empty nat_cmp s) ∙ is));
+fits_new box = record { events = between_none box 0 (boundary_zero box); held = nothing_in_place box }
+
+pub fits_asked : (box : List Happening) (t : Track Happening) (number : ℕ) → Fits box t → Fits box (asked t number)
+fits_asked box t number f = record { events = f.events; held = f.held }
+
+pub fits_loaded : (box : List Happening) (p to : ℕ) (events : List Happening) → Between box p to events → Fits box (loaded count_of p events)
+fits_loaded box p to events b = record {
+  events = subst (λ (q : ℕ). Between box p q events) (ends_at box p to events b) b;
+  held = nothing_in_place box;
 }
 
 -- hearing moves no restart

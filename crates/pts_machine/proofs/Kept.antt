@@ -5,16 +5,18 @@ use Rattle.std.specs.Bool.{Decides}
 use Rattle.std.specs.FinMap.{get, len, insert}
 use Rattle.std.proofs.lemmas.Bool.Decides.{nat_tests}
 use Rattle.std.proofs.lemmas.Bool.{cases_lt}
+use Rattle.std.proofs.lemmas.Option.{none-some}
 use Rattle.std.proofs.lemmas.List.Sums.{sum_by-append, sum_by_push}
-use Rattle.pts_machine.specs.Holding.{Items, from, most}
+use Rattle.gap_buffer.specs.Holding.{Items, from, most}
 use Rattle.pts_machine.specs.declared.mode.Mode.{Mode}
 use Rattle.pts_machine.specs.declared.mode.Mode.TheVariants.{Live, Asking, Again}
 use Rattle.pts_machine.specs.declared.seen.Seen.{Seen}
 use Rattle.pts_machine.specs.declared.seen.Seen.TheVariants.{Applied, Already, Held, Dropped}
+use Rattle.gap_buffer.proofs.Maps.{from_some}
 use Rattle.pts_machine.specs.Tracks.{Track, IsSound, AreSized, is_live}
 use Rattle.pts_machine.specs.Chains.{chain, reach, EndsBehind}
 use Rattle.pts_machine.specs.Steps.{Heard, settle, hear, applied, extend, resumed, restart_at, forget, asked, loaded, IsPast, IsNext, Hears}
-use Rattle.pts_machine.proofs.Maps.{from_some, sized_from, sized_empty, sized_insert, none_is_some, behind_empty, behind_insert}
+use Rattle.pts_machine.proofs.Bounds.{sized_from, sized_empty, sized_insert, behind_empty, behind_insert}
 use Rattle.pts_machine.proofs.Ends.{reach_free, reach_sum, reach_limit}
 
 pub behind_of : {E : Type 0} (count : E → ℕ) (m : Items E) → AreSized count m → EndsBehind m
@@ -76,7 +78,7 @@ sound_by count t start end item Dropped u h lt is le s = subst (IsSound count) (
 -- the tests of `hear`
 past_test : {A : Type 0} (s p : ℕ) (o : Option A) → Decides (ltb s p || is_some o) ((s < p) ⊎ (o ≢ None))
 past_test s p None = (λ e. inl (grind (arith, nat_tests)), elim [ inl lt ↦ grind (arith, nat_tests) | inr ne ↦ absurd (ne refl) ])
-past_test s p (Some x) = (λ e. inr (λ n. absurd (none_is_some x (sym n))), λ h. grind (arith, nat_tests))
+past_test s p (Some x) = (λ e. inr (λ n. absurd (none-some x (sym n))), λ h. grind (arith, nat_tests))
 
 pub next_test : (m : Mode) (s p : ℕ) → Decides (is_live m && eqb s p) ((m ≡ Live) × (s ≡ p))
 next_test Live s p = (λ e. (refl, grind (arith, nat_tests)), λ h. let same : s ≡ p = h.1 in grind (arith, nat_tests))
@@ -158,21 +160,21 @@ pub sound_resumed : {E : Type 0} (count : E → ℕ) (t : Track E) (last : Bool)
 sound_resumed count t true h = sound_settle count (record t { mode = Live }) (record { sized = h.sized; place = h.place; limit = h.limit })
 sound_resumed count t false h = sound_again count t h
 
-pub sound_extend : {E : Type 0} (count : E → ℕ) (t : Track E) (events : List E) (last : Bool) → IsSound count t → t.at + sum_by count events ≤ 1000000 → IsSound count (extend count t events last)
+-- an answer's events make a lane sound that was sound but for what it held
+filled_extend : {E : Type 0} (count : E → ℕ) (t : Track E) (events : List E) (last : Bool) → IsFilled count t → t.at + sum_by count events ≤ 1000000 → IsSound count (extend count t events last)
 unfolding extend
-sound_extend count t events last h le = sound_resumed count (record t { events = t.events ++ events; at = t.at + sum_by count events; held = from (t.at + sum_by count events) t.held }) last (record {
+filled_extend count t events last h le = sound_resumed count (record t { events = t.events ++ events; at = t.at + sum_by count events; held = from (t.at + sum_by count events) t.held }) last (record {
   sized = sized_from count _ t.held h.sized;
   place = omega (arith, h.place, sum_by-append count t.events events);
   limit = le;
 })
 
+pub sound_extend : {E : Type 0} (count : E → ℕ) (t : Track E) (events : List E) (last : Bool) → IsSound count t → t.at + sum_by count events ≤ 1000000 → IsSound count (extend count t events last)
+sound_extend count t events last h le = filled_extend count t events last (filled_of count t h) le
+
 pub sound_restart : {E : Type 0} (count : E → ℕ) (t : Track E) (p : ℕ) → IsSound count t → p ≤ 1000000 → IsSound count (restart_at count t p)
 unfolding restart_at
-sound_restart count t p h le = sound_resumed count (record t { restart = p; events = []; at = p; held = from p t.held }) true (record {
-  sized = sized_from count _ t.held h.sized;
-  place = omega arith;
-  limit = le;
-})
+sound_restart count t p h le = filled_extend count (record t { restart = p; events = []; at = p }) [] true (record { sized = h.sized; place = omega arith; limit = le }) (omega arith)
 
 pub sound_forget : {E : Type 0} (count : E → ℕ) (t : Track E) → IsSound count t → IsSound count (forget t)
 unfolding forget

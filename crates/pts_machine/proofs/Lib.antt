@@ -1,7 +1,5 @@
-pub mod Entries
-pub mod Drops
 pub mod Links
-pub mod Maps
+pub mod Bounds
 pub mod Ends
 pub mod Kept
 pub mod Parts

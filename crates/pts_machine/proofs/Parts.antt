@@ -1,17 +1,17 @@
 -- The steps of a lane, from what the parts of the code give.
-use Rattle.std.proofs.Common.{◌≡◌, ℕ, ◌+◌, ◌<◌, ◌≤◌, ◌++◌, List, Bool, true, false, cond, is_some, eqb, ◌&&◌, sym, ap, ◌∙◌, subst, arith, inl, inr}
+use Rattle.std.proofs.Common.{◌≡◌, ℕ, ◌+◌, ◌<◌, ◌≤◌, ◌++◌, List, [], Bool, true, false, cond, is_some, eqb, ◌&&◌, refl, sym, ap, ◌∙◌, subst, arith, inl, inr}
 use Rattle.std.specs.List.{sum_by}
 use Rattle.std.specs.FinMap.{get, len, empty, len-insert}
 use Rattle.std.specs.Cmp.{nat_cmp_total}
-use Rattle.pts_machine.specs.Holding.{Items, from, most, Holds}
-use Rattle.pts_machine.specs.declared.gap.Outcome.{Outcome}
-use Rattle.pts_machine.specs.declared.gap.Outcome.TheVariants.{Kept, Known, Full}
+use Rattle.gap_buffer.specs.Holding.{Items, GapView, from, most, Holds}
+use Rattle.gap_buffer.specs.declared.held.Held.{Held as HowHeld}
+use Rattle.gap_buffer.specs.declared.held.Held.TheVariants.{Kept, Already, Full}
 use Rattle.pts_machine.specs.declared.mode.Mode.{Mode}
-use Rattle.pts_machine.specs.declared.mode.Mode.TheVariants.{Live}
+use Rattle.pts_machine.specs.declared.mode.Mode.TheVariants.{Live, Again}
 use Rattle.pts_machine.specs.declared.seen.Seen.{Seen}
 use Rattle.pts_machine.specs.Tracks.{Track, IsSound, is_live}
 use Rattle.pts_machine.specs.Chains.{chain, reach}
-use Rattle.pts_machine.specs.Steps.{settle, loaded, IsPast, IsNext, Hears}
+use Rattle.pts_machine.specs.Steps.{settle, extend, restart_at, forget, loaded, IsPast, IsNext, Hears}
 use Rattle.pts_machine.specs.Outcomes.{seen_by}
 use Rattle.pts_machine.proofs.Ends.{none_at, some_at, look}
 use Rattle.pts_machine.proofs.Kept.{next_test}
@@ -23,6 +23,36 @@ same_track restart mode es es2 at at2 m m2 p q r = λ i. record { restart = rest
 pub settled : {E : Type 0} (t : Track E) (es : List E) (r : ℕ) (m : Items E) → es ≡ t.events ++ chain (len t.held) t.at t.held → r ≡ reach (len t.held) t.at t.held → m ≡ from r t.held → record t { events = es; at = r; held = m } ≡ settle t
 unfolding settle
 settled t es r m p q s = same_track t.restart t.mode es _ r _ m _ p q (s ∙ ap (λ (k : ℕ). from k t.held) q)
+
+-- behind the last part of an answer
+pub last_part : {E : Type 0} (count : E → ℕ) (t : Track E) (events es es2 : List E) (at at2 : ℕ) (m m2 : Items E) (last : Bool) → last ≡ true
+    → es ≡ t.events ++ events → at ≡ t.at + sum_by count events → m ≡ from at t.held → es2 ≡ es ++ chain (len m) at m → at2 ≡ reach (len m) at m → m2 ≡ from at2 m
+    → record t { events = es2; at = at2; held = m2; mode = Live } ≡ extend count t events last
+unfolding extend
+last_part {E} count t events es es2 at at2 m m2 last is p q r p2 q2 r2 =
+    settled (record t { events = es; at = at; held = m; mode = Live }) es2 at2 m2 p2 q2 r2
+    ∙ ap settle (same_track t.restart Live es (t.events ++ events) at (t.at + sum_by count events) m (from (t.at + sum_by count events) t.held) p q (r ∙ ap (λ (k : ℕ). from k t.held) q))
+    ∙ ap (λ (b : Bool). extend count t events b) (sym is)
+
+-- behind another part
+pub part : {E : Type 0} (count : E → ℕ) (t : Track E) (events es : List E) (at : ℕ) (m : Items E) (last : Bool) → last ≡ false
+    → es ≡ t.events ++ events → at ≡ t.at + sum_by count events → m ≡ from at t.held
+    → record t { events = es; at = at; held = m; mode = Again } ≡ extend count t events last
+unfolding extend
+part {E} count t events es at m last is p q r =
+    same_track t.restart Again es (t.events ++ events) at (t.at + sum_by count events) m (from (t.at + sum_by count events) t.held) p q (r ∙ ap (λ (k : ℕ). from k t.held) q)
+    ∙ ap (λ (b : Bool). extend count t events b) (sym is)
+
+pub restarted : {E : Type 0} (count : E → ℕ) (t : Track E) (es es2 : List E) (p at2 : ℕ) (m m2 : Items E)
+    → es ≡ [] → m ≡ from p t.held → es2 ≡ es ++ chain (len m) p m → at2 ≡ reach (len m) p m → m2 ≡ from at2 m
+    → ◌≡◌ {A = Track E} (record { restart = p; events = es2; at = at2; held = m2; mode = Live }) (restart_at count t p)
+unfolding restart_at
+restarted {E} count t es es2 p at2 m m2 none held events place rest =
+    last_part count (record t { restart = p; events = []; at = p }) [] es es2 p at2 m m2 true refl none (omega arith) held events place rest
+
+pub forgotten : {E : Type 0} (t : Track E) (m : Items E) → m ≡ empty → record t { held = m; mode = Live } ≡ forget t
+unfolding forget
+forgotten t m e = λ i. record t { held = e i; mode = Live }
 
 -- an item in turn
 pub next_of : (m : Mode) (s p : ℕ) (b : Bool) → b ≡ (is_live m && eqb s p) → b ≡ true → (m ≡ Live) × (s ≡ p)
@@ -45,26 +75,27 @@ cond_le : (b : Bool) (n : ℕ) → cond b n (n + 1) ≤ n + 1
 cond_le true n = omega arith
 cond_le false n = omega arith
 
-same_held : {E : Type 0} (t : Track E) (m : Items E) → m ≡ t.held → record t { held = m } ≡ t
-same_held t m e = λ i. record t { held = e i }
+same_held : {E : Type 0} (t : Track E) (m k : Items E) → m ≡ k → record t { held = m } ≡ record t { held = k }
+same_held t m k e = λ i. record t { held = e i }
 
-pub held_hears : {E : Type 0} (t : Track E) (start end : ℕ) (item : E) (room : ℕ) (new : Items E × ℕ) (r : Outcome E)
-    → (IsNext t start → ⊥) → t.at ≤ start → Holds (t.held, room) new start end item r → Hears t start end item (seen_by r) (record t { held = new.0 })
-held_hears t start end item room new Kept no_next le h =
+-- an item that is not applied at once is held, as the gap says
+pub held_hears : {E : Type 0} (t : Track E) (start end : ℕ) (item : E) (old new : GapView E) (r : HowHeld E)
+    → (IsNext t start → ⊥) → t.at ≤ start → Holds old new start end item r → Hears (record t { held = old.held }) start end item (seen_by r) (record t { held = new.held })
+held_hears t start end item old new Kept no_next le h =
     (elim [ inl lt ↦ absurd (omega arith) | inr ne ↦ ne h.0 ], no_next, h.1, λ i. record t { held = h.2 i })
-held_hears t start end item room new (Known x) no_next le h = (inr h.0, same_held t new.0 (ap (λ (p : Items _ × ℕ). p.0) h.2))
-held_hears t start end item room new (Full x) no_next le h =
-    (elim [ inl lt ↦ absurd (omega arith) | inr ne ↦ ne h.0 ], no_next, (let full : len t.held ≡ most = h.1 in omega arith), same_held t new.0 (ap (λ (p : Items _ × ℕ). p.0) h.3))
+held_hears t start end item old new (Already x) no_next le h = (inr h.0, same_held t new.held old.held (ap (λ (g : GapView _). g.held) h.2))
+held_hears t start end item old new (Full x) no_next le h =
+    (elim [ inl lt ↦ absurd (omega arith) | inr ne ↦ ne h.0 ], no_next, (let full : len old.held ≡ most = h.1 in omega arith), same_held t new.held old.held (ap (λ (g : GapView _). g.held) h.3))
 
-pub held_len : {E : Type 0} (old new : Items E × ℕ) (start end : ℕ) (item : E) (r : Outcome E) → Holds old new start end item r → len new.0 ≤ len old.0 + 1
-held_len old new start end item Kept h = omega (arith, ap len h.2, len-insert nat_cmp_total old.0 start (end, item), cond_le (is_some (get old.0 start)) (len old.0))
-held_len old new start end item (Known x) h = omega (arith, ap (λ (p : Items _ × ℕ). len p.0) h.2)
-held_len old new start end item (Full x) h = omega (arith, ap (λ (p : Items _ × ℕ). len p.0) h.3)
+pub held_len : {E : Type 0} (old new : GapView E) (start end : ℕ) (item : E) (r : HowHeld E) → Holds old new start end item r → len new.held ≤ len old.held + 1
+held_len old new start end item Kept h = omega (arith, ap len h.2, len-insert nat_cmp_total old.held start (end, item), cond_le (is_some (get old.held start)) (len old.held))
+held_len old new start end item (Already x) h = omega (arith, ap (λ (g : GapView _). len g.held) h.2)
+held_len old new start end item (Full x) h = omega (arith, ap (λ (g : GapView _). len g.held) h.3)
 
-pub held_room : {E : Type 0} (old new : Items E × ℕ) (start end : ℕ) (item : E) (r : Outcome E) → Holds old new start end item r → old.1 ≤ new.1 + 1
+pub held_room : {E : Type 0} (old new : GapView E) (start end : ℕ) (item : E) (r : HowHeld E) → Holds old new start end item r → old.spare ≤ new.spare + 1
 held_room old new start end item Kept h = h.3
-held_room old new start end item (Known x) h = omega (arith, ap (λ (p : Items _ × ℕ). p.1) h.2)
-held_room old new start end item (Full x) h = omega (arith, ap (λ (p : Items _ × ℕ). p.1) h.3)
+held_room old new start end item (Already x) h = omega (arith, ap (λ (g : GapView _). g.spare) h.2)
+held_room old new start end item (Full x) h = omega (arith, ap (λ (g : GapView _). g.spare) h.3)
 
 pub fresh : {E : Type 0} (restart at : ℕ) (events : List E) (m : Items E) (count : E → ℕ) → m ≡ empty → at ≡ restart + sum_by count events
     → ◌≡◌ {A = Track E} (record { restart = restart; events = events; at = at; held = m; mode = Live }) (loaded count restart events)
@@ -73,5 +104,5 @@ fresh restart at events m count e f = λ i. record { restart = restart; events =
 pub hears_as : {E : Type 0} (t v : Track E) (start end : ℕ) (item : E) (r : Seen) (u : Track E) → t ≡ v → Hears t start end item r u → Hears v start end item r u
 hears_as {E} t v start end item r u e h = subst (λ (w : Track E). Hears w start end item r u) e h
 
-pub holds_to : {E : Type 0} (old new : Items E × ℕ) (start end to : ℕ) (item : E) (r : Outcome E) → end ≡ to → Holds old new start end item r → Holds old new start to item r
+pub holds_to : {E : Type 0} (old new : GapView E) (start end to : ℕ) (item : E) (r : HowHeld E) → end ≡ to → Holds old new start end item r → Holds old new start to item r
 holds_to old new start end to item r e h = subst (λ (n : ℕ). Holds old new start n item r) e h

@@ -1,5 +1,3 @@
-pub mod Entries
-pub mod Holding
 pub mod Chains
 pub mod Tracks
 pub mod Steps

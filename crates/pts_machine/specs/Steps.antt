@@ -2,7 +2,7 @@
 use Rattle.std.specs.Prelude.{◌≡◌, ◌≢◌, ◌⊎◌, ◌<◌, ◌≤◌, None, ℕ, ◌+◌, ◌++◌, List, [], ◌∷◌, Bool, true, ltb, eqb, is_some, ◌&&◌, ◌||◌, if◌then◌else◌}
 use Rattle.std.specs.List.{sum_by}
 use Rattle.std.specs.FinMap as map
-use Rattle.pts_machine.specs.Holding.{from, most}
+use Rattle.gap_buffer.specs.Holding.{from, most}
 use Rattle.pts_machine.specs.declared.mode.Mode.TheVariants.{Live, Asking, Again}
 use Rattle.pts_machine.specs.declared.seen.Seen.{Seen}
 use Rattle.pts_machine.specs.declared.seen.Seen.TheVariants.{Applied, Already, Held, Dropped}
@@ -33,7 +33,7 @@ hear t start end item =
     else if ltb (map.len t.held) most then record { track = record t { held = map.insert t.held start (end, item) }; seen = Held }
     else record { track = t; seen = Dropped }
 
--- held items that follow are applied where this was the last part
+-- a lane goes on behind an answer: behind the last part what is held and follows is applied, behind another it is to ask again
 abbrev pub resumed : {E : Type 0} → Track E → Bool → Track E
 resumed t last = if last then settle (record t { mode = Live }) else record t { mode = Again }
 
@@ -43,9 +43,9 @@ extend count t events last =
     let to = t.at + sum_by count events in
     resumed (record t { events = t.events ++ events; at = to; held = from to t.held }) last
 
--- the lane begins anew at p
+-- the lane begins anew at p, as by a last part without events
 unfoldable pub restart_at : {E : Type 0} → (E → ℕ) → Track E → ℕ → Track E
-restart_at count t p = resumed (record t { restart = p; events = []; at = p; held = from p t.held }) true
+restart_at count t p = extend count (record t { restart = p; events = []; at = p }) [] true
 
 -- nothing is held, and no answer waited for
 unfoldable pub forget : {E : Type 0} → Track E → Track E

@@ -5,13 +5,13 @@ use Rattle.pts_machine.specs.declared.lane.Lane.TheInside.{Inside}
 use Rattle.pts_machine.specs.Tracks.{Track, LaneView, IsSound}
 
 abbrev pub track_of : {E : Type 0} → Inside E → Track E
-track_of a = record { restart = a.restart; events = a.events.items; at = a.at; held = a.gap.0; mode = a.mode }
+track_of a = record { restart = a.restart; events = a.events.items; at = a.at; held = a.gap.held; mode = a.mode }
 
 -- there is room where each of them could be held, and where, with everything held, each could be applied
 abbrev pub view_of : {E : Type 0} → Inside E → LaneView E
-view_of a = record { track = track_of a; spare = min a.gap.1 (vec_capacity a.events - (vec_len a.events + map.len a.gap.0)) }
+view_of a = record { track = track_of a; spare = min a.gap.spare (vec_capacity a.events - (vec_len a.events + map.len a.gap.held)) }
 
 -- what holds of every lane, and there is room to apply everything held
 pub record IsWhole {E : Type 0} (count : E → ℕ) (a : Inside E) : Type 0 where
   pub sound : IsSound count (track_of a)
-  pub room : vec_len a.events + map.len a.gap.0 ≤ vec_capacity a.events
+  pub room : vec_len a.events + map.len a.gap.held ≤ vec_capacity a.events

@@ -1,15 +1,17 @@
 //! Lanes.
-ghost use Rattle.std.specs.Prelude.{◌≡◌, ◌<◌, ◌≤◌, ◌+◌, ◌++◌, ℕ, vec_len, vec_capacity, None, OnOk};
+ghost use Rattle.std.specs.Prelude.{◌≡◌, ◌<◌, ◌≤◌, ◌+◌, vec_len, OnOk};
+ghost use Rattle.std.specs.List.{sum_by};
 ghost use Rattle.std.specs.FinMap as map;
-ghost use Rattle.pts_machine.specs.Holding.{from};
-ghost use Rattle.pts_machine.specs.Chains.{chain, reach, EndsBehind, AreChained};
+ghost use Rattle.pts_machine.specs.Chains.{AreChained};
 ghost use Rattle.pts_machine.specs.Tracks.{IsSound};
-ghost use Rattle.pts_machine.specs.Steps.{hear, Hears, new_track};
+ghost use Rattle.pts_machine.specs.Steps.{hear, Hears, extend, restart_at, forget, asked, loaded, new_track};
 
+use crate::chains::settle;
 use crate::counted::Counted;
-use crate::gap::Gap;
 use crate::mode::{Mode, is_next};
 use crate::seen::{Seen, seen_of};
+use crate::stretches::{append, end_of};
+use gap_buffer::Gap;
 use std::alloc::Global;
 use std::marker::Model;
 use tl_base::Memory;
@@ -37,46 +39,8 @@ impl<E: Counted> Model for Lane<E> {
     ghost invariant = { IsWhole E.count };
 }
 
-// Moves the held items that follow from a place, and answers where they end.
-fn follow<E: Counted>(events: &mut Vec<E>, at: u32, gap: &mut Gap<E>) -> u32
-    requires room { vec_len events.old + map.len gap.old.0 ≤ vec_capacity events.old }
-    requires behind { EndsBehind gap.old.0 }
-    ensures events { events.new.items ≡ events.old.items ++ chain (map.len gap.old.0) at gap.old.0 }
-    ensures reach { result ≡ reach (map.len gap.old.0) at gap.old.0 }
-    ensures free { map.get gap.old.0 result ≡ None }
-    ensures held { (q : ℕ) → result ≤ q → map.get gap.new.0 q ≡ map.get gap.old.0 q }
-    ensures sum { vec_len events.new + map.len gap.new.0 ≡ vec_len events.old + map.len gap.old.0 }
-    ensures capacity { vec_capacity events.old ≤ vec_capacity events.new }
-    ensures spare { gap.old.1 ≤ gap.new.1 }
-{
-    let mut at = at;
-    'items: while let Some((end, event)) = gap.take(at) {
-        match events.push(event) {
-            Ok(()) => at = end,
-            Err(_) => unreachable!(),
-        }
-    }
-    at
-}
-
-// The same, and then the held items below the place reached go.
-fn settle<E: Counted>(events: &mut Vec<E>, at: u32, gap: &mut Gap<E>) -> u32
-    requires room { vec_len events.old + map.len gap.old.0 ≤ vec_capacity events.old }
-    requires behind { EndsBehind gap.old.0 }
-    ensures events { events.new.items ≡ events.old.items ++ chain (map.len gap.old.0) at gap.old.0 }
-    ensures reach { result ≡ reach (map.len gap.old.0) at gap.old.0 }
-    ensures free { map.get gap.old.0 result ≡ None }
-    ensures held { gap.new.0 ≡ from result gap.old.0 }
-    ensures sum { vec_len events.new + map.len gap.new.0 ≤ vec_len events.old + map.len gap.old.0 }
-    ensures capacity { vec_capacity events.old ≤ vec_capacity events.new }
-    ensures spare { gap.old.1 ≤ gap.new.1 }
-{
-    let at = follow(events, at, gap);
-    gap.drop_to(at);
-    at
-}
-
 impl<E: Counted> Lane<E> {
+    /// A lane that has heard of nothing.
     pub fn new(alloc: Global) -> Lane<E>
         ensures { result.track ≡ new_track }
     {
@@ -84,6 +48,21 @@ impl<E: Counted> Lane<E> {
             restart: 0,
             events: Vec::new(alloc),
             at: 0,
+            gap: Gap::new(alloc),
+            mode: Mode::Live,
+        }
+    }
+
+    /// A lane that began at a restart and has these events since.
+    pub fn load(alloc: Global, restart: u32, events: Vec<E>) -> Lane<E>
+        requires limit { restart + sum_by E.count events.items ≤ 1000000 }
+        ensures { result.track ≡ loaded E.count restart events.items }
+    {
+        let at = end_of(restart, &events);
+        Lane {
+            restart,
+            events,
+            at,
             gap: Gap::new(alloc),
             mode: Mode::Live,
         }
@@ -121,6 +100,53 @@ impl<E: Counted> Lane<E> {
         }
         let end = start + event.count();
         seen_of(self.gap.hold(start, end, event))
+    }
+
+    /// The lane waits for the answer to the request of this number.
+    pub fn ask(&mut self, number: u32)
+        ensures step { self.new.track ≡ asked self.old.track number }
+        ensures spare { self.old.spare ≤ self.new.spare }
+    {
+        self.mode = Mode::Asking(number);
+    }
+
+    /// An answer comes, with the events that follow: the last part of it, or one behind which more is to be asked for.
+    pub fn extend(&mut self, events: Vec<E>, last: bool)
+        requires limit { self.old.track.at + sum_by E.count events.items ≤ 1000000 }
+        requires room { vec_len events ≤ self.old.spare }
+        ensures step { self.new.track ≡ extend E.count self.old.track events.items last }
+        ensures spare { self.old.spare ≤ self.new.spare + vec_len events }
+    {
+        self.at = append(&mut self.events, self.at, events);
+        self.gap.drop_to(self.at);
+        if last {
+            self.mode = Mode::Live;
+            self.at = settle(&mut self.events, self.at, &mut self.gap);
+        } else {
+            self.mode = Mode::Again;
+        }
+    }
+
+    /// The lane begins anew at this number, since what it missed is too much to be told.
+    pub fn restart_at(&mut self, at: u32)
+        requires limit { at ≤ 1000000 }
+        ensures step { self.new.track ≡ restart_at E.count self.old.track at }
+        ensures spare { self.old.spare ≤ self.new.spare }
+    {
+        self.restart = at;
+        self.events.clear();
+        self.gap.drop_to(at);
+        self.mode = Mode::Live;
+        self.at = settle(&mut self.events, at, &mut self.gap);
+    }
+
+    /// What is held goes, and no answer is waited for.
+    pub fn forget(&mut self)
+        ensures step { self.new.track ≡ forget self.old.track }
+        ensures spare { self.old.spare ≤ self.new.spare }
+    {
+        self.gap.clear();
+        self.mode = Mode::Live;
     }
 
     /// Up to where the events reach.

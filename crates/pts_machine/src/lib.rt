@@ -1,12 +1,13 @@
 //! A lane: the events of a box in order, and what is held since it came before its turn.
 #![tactic(auto)]
 
+mod chains;
 mod counted;
-mod gap;
 mod lane;
 mod laws;
 mod mode;
 mod seen;
+mod stretches;
 #[cfg(test)]
 mod tests;
 

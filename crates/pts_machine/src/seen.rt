@@ -2,7 +2,7 @@
 ghost use Rattle.std.specs.Prelude.{◌≡◌};
 ghost use Rattle.pts_machine.specs.Outcomes.{seen_by};
 
-use crate::gap::Outcome;
+use gap_buffer::Held;
 
 /// What came of an item.
 #[derive(Clone, Copy, Debug, PartialEq, Eq)]
@@ -17,12 +17,12 @@ pub enum Seen {
 }
 
 /// What came of an item, by how it was held.
-pub fn seen_of<E: Drop>(outcome: Outcome<E>) -> Seen
-    ensures { result ≡ seen_by outcome }
+pub fn seen_of<E: Drop>(held: Held<E>) -> Seen
+    ensures { result ≡ seen_by held }
 {
-    match outcome {
-        Outcome::Kept => Seen::Held,
-        Outcome::Known(_) => Seen::Already,
-        Outcome::Full(_) => Seen::Dropped,
+    match held {
+        Held::Kept => Seen::Held,
+        Held::Already(_) => Seen::Already,
+        Held::Full(_) => Seen::Dropped,
     }
 }

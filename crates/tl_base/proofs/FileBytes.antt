@@ -36,3 +36,14 @@ given fs file at n most len bytes into e lt some count same size =
       end = λ none has. absurd (omega (arith, count, left, none, has, size, lt, some));
       few = omega (arith, count, size);
     }
+
+-- ---- how many are given
+
+pub no_file_count : (fs : List MemFile) (r : Reading) (most len : ℕ) → length fs ≤ r.file → 0 ≡ min most (min len (length (left_of_file fs r)))
+no_file_count fs r most len le = omega (arith, length-drop r.at (bytes_at fs r.file), ap length (past_file fs r.file le))
+
+pub at_end_count : (fs : List MemFile) (r : Reading) (most len : ℕ) (bytes : List ℕ) → bytes_at fs r.file ≡ bytes → length bytes ≤ r.at → 0 ≡ min most (min len (length (left_of_file fs r)))
+at_end_count fs r most len bytes e le = omega (arith, length-drop r.at (bytes_at fs r.file), ap length e, le)
+
+pub given_count : (fs : List MemFile) (r : Reading) (n most len : ℕ) (bytes : List ℕ) → bytes_at fs r.file ≡ bytes → n ≡ min most (min len (length (rest_of bytes r.at))) → n ≡ min most (min len (length (left_of_file fs r)))
+given_count fs r n most len bytes e count = omega (arith, count, ap length (rest_of-is bytes r.at), ap (λ (b : List ℕ). length (drop r.at b)) e)

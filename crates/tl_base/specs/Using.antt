@@ -32,3 +32,13 @@ pub record Wrote {K : Type 0} (written : K → Option (List ℕ)) (faults : K �
   pub told : IsSome (written old) → IsSome (written new)
   pub stays : IsSome (written old) → IsTrue (sound old) → IsTrue (sound new)
   pub never : IfSome (written old) (λ before. IsTrue (sound old) → length before + bytes ≤ room old → failed → ⊥)
+
+-- A call that only writes to a sink, however much: its count doesn't fall, it failed only where the count rose, what stands beside it and its
+-- room are kept, what is told stays told, and what is sound stays sound.
+pub record WritesOnly {K : Type 0} (written : K → Option (List ℕ)) (faults : K → ℕ) (aside : K → Aside) (sound : K → Bool) (room : K → ℕ) (old new : K) (failed : Type 0) : Type 0 where
+  pub later : faults old ≤ faults new
+  pub cause : failed → Rose (faults old) (faults new)
+  pub kept : aside new ≡ aside old
+  pub room_kept : room new ≡ room old
+  pub told : IsSome (written old) → IsSome (written new)
+  pub stays : IsSome (written old) → IsTrue (sound old) → IsTrue (sound new)

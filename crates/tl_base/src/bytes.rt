@@ -39,6 +39,13 @@ impl Bytes {
         })
     }
 
+    /// The bytes of a vector, which is not copied.
+    pub fn from_vec(items: Vec<u8>) -> Bytes
+        ensures { result ≡ items.items }
+    {
+        Bytes { items }
+    }
+
     pub fn as_slice(&self) -> &[u8]
         ensures value { result.now ≡ self.now }
         ensures bytes { AreBytes self.now }

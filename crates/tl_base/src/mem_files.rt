@@ -1,6 +1,6 @@
 //! Files in memory: by their names, and read from a place.
-ghost use Rattle.std.specs.Prelude.{◌≡◌, ◌<◌};
-ghost use Rattle.tl_base.specs.MemoryFiles.{index_from, Gives};
+ghost use Rattle.std.specs.Prelude.{◌≡◌, ◌<◌, min, length};
+ghost use Rattle.tl_base.specs.MemoryFiles.{index_from, left_of_file, Gives};
 
 use crate::mem_file::{MemFile, Reading};
 use crate::memory::give;
@@ -20,7 +20,8 @@ pub fn index_of(files: &[MemFile], name: &str) -> Option<usize>
 // Copies what fits and may be given from a file, and moves on.
 pub fn give_from(files: &[MemFile], reading: &mut Reading, most: usize, into: &mut [u8]) -> usize
     requires { 0 < most }
-    ensures { Gives files.now reading.old reading.new into.new result }
+    ensures bytes { Gives files.now reading.old reading.new into.new result }
+    ensures count { result ≡ min most (min (length into.old) (length (left_of_file files.now reading.old))) }
 {
     if reading.file >= files.len() {
         return 0;

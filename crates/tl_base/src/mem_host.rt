@@ -1,5 +1,5 @@
 //! An outside in memory.
-ghost use Rattle.std.specs.Prelude.{◌≡◌, ◌<◌, ◌≤◌, ◌+◌, ◌==◌, IfOk, OnOk, OnErr, length, take, min, Some, true, false, map, List, ℕ, [], ◌∷◌, ◌++◌, vec_capacity};
+ghost use Rattle.std.specs.Prelude.{◌≡◌, ◌<◌, ◌≤◌, ◌+◌, ◌==◌, IfOk, OnOk, OnErr, length, take, min, Some, true, false, map, List, ℕ, [], ◌∷◌, ◌++◌, Ok, vec_capacity};
 
 use crate::bytes::Bytes;
 use crate::fault::{Failed, Memory};
@@ -21,21 +21,11 @@ pub enum HostCall {
     Write { out: Out },
 }
 
-/// A call that is to fail: its kind, and its number among the calls of this kind.
+/// Calls of one kind: how many there were, and the numbers of those that fail.
 #[derive(Drop)]
-pub struct Failing {
-    call: HostCall,
-    number: u64,
-}
-
-/// How many calls of each kind there were.
-#[derive(Drop)]
-pub struct CallCounts {
-    opens: u64,
-    schema_reads: u64,
-    input_reads: u64,
-    output_writes: u64,
-    errors_writes: u64,
+pub struct Calls {
+    made: u64,
+    failing: Vec<u64>,
 }
 
 /// Files, outs and counts in memory. It tells its view.
@@ -43,8 +33,11 @@ pub struct CallCounts {
 pub struct MemHost {
     files: Vec<MemFile>,
     cuts: Vec<u32>,
-    fails: Vec<Failing>,
-    calls: CallCounts,
+    opens: Calls,
+    schema_reads: Calls,
+    input_reads: Calls,
+    output_writes: Calls,
+    errors_writes: Calls,
     schema: Reading,
     input: Reading,
     output: Vec<u8>,
@@ -56,37 +49,37 @@ pub struct MemHost {
     ghost errors_room: { room ≤ vec_capacity errors },
 }
 
-impl CallCounts {
-    // The number of the next call of this kind, which is counted.
-    fn next(&mut self, call: HostCall) -> u64 {
-        let count = match call {
-            HostCall::Open => &mut self.opens,
-            HostCall::Read { slot: Slot::Schema } => &mut self.schema_reads,
-            HostCall::Read { slot: Slot::Input } => &mut self.input_reads,
-            HostCall::Write { out: Out::Output } => &mut self.output_writes,
-            HostCall::Write { out: Out::Errors } => &mut self.errors_writes,
-        };
-        let number = *count;
-        *count = number.saturating_add(1);
-        number
-    }
-}
+impl Calls {
+    ghost use Rattle.tl_base.specs.MemoryHost.{counted, next_number, IsFresh};
 
-// Whether this call is to fail.
-fn is_failing(fails: &[Failing], call: HostCall, number: u64) -> bool
-    ensures { fails.now ≡ [] → result ≡ false }
-{
-    for failing in fails {
-        if failing.call == call && failing.number == number {
-            return true;
+    // No calls, and none that fails.
+    fn none(alloc: Global) -> Calls
+        ensures { IsFresh result }
+    {
+        Calls {
+            made: 0,
+            failing: Vec::new(alloc),
         }
     }
-    false
+
+    // Counts the next call. It answers the call's number, or none where it is one that fails.
+    fn next(&mut self) -> Option<u64>
+        ensures number { result ≡ next_number self.old }
+        ensures counted { self.new ≡ counted self.old }
+    {
+        let number = self.made;
+        self.made = number.saturating_add(1);
+        if self.failing.contains(&number) {
+            None
+        } else {
+            Some(number)
+        }
+    }
 }
 
 impl MemHost {
     ghost use Rattle.tl_base.specs.Outside.{View, written_of};
-    ghost use Rattle.tl_base.specs.MemoryHost.{host_view, is_sound_host, IsUnfailed, KeepsCounts, KeepsOuts};
+    ghost use Rattle.tl_base.specs.MemoryHost.{host_view, host_cuts, calls_of, is_sound_host, IsUnfailed, IsUnscripted, KeepsCounts, KeepsOuts, KeepsCalls, FailsToo};
     ghost use Rattle.tl_base.specs.Causes.{Rose};
 
     /// An outside without files, whose outs take `room` bytes each. It takes their memory.
@@ -94,18 +87,16 @@ impl MemHost {
         ensures view { IfOk result (λ h. host_view h ≡ record { files = []; schema_left = []; input_left = []; output = []; errors = []; room = room }) }
         ensures sound { IfOk result (λ h. is_sound_host h ≡ true) }
         ensures counts { IfOk result IsUnfailed }
+        ensures script { IfOk result IsUnscripted }
     {
         Ok(MemHost {
             files: Vec::new(alloc),
             cuts: Vec::new(alloc),
-            fails: Vec::new(alloc),
-            calls: CallCounts {
-                opens: 0,
-                schema_reads: 0,
-                input_reads: 0,
-                output_writes: 0,
-                errors_writes: 0,
-            },
+            opens: Calls::none(alloc),
+            schema_reads: Calls::none(alloc),
+            input_reads: Calls::none(alloc),
+            output_writes: Calls::none(alloc),
+            errors_writes: Calls::none(alloc),
             schema: Reading {
                 file: CLOSED,
                 at: 0,
@@ -128,6 +119,8 @@ impl MemHost {
         ensures outs { KeepsOuts self.old self.new }
         ensures counts { KeepsCounts self.old self.new }
         ensures sound { is_sound_host self.new ≡ is_sound_host self.old }
+        ensures cuts { host_cuts self.new ≡ host_cuts self.old }
+        ensures calls { KeepsCalls self.old self.new }
     {
         let name = Bytes::from_slice(alloc, name.as_bytes())?;
         self.files.push(MemFile { name, bytes })?;
@@ -136,6 +129,8 @@ impl MemHost {
 
     /// Adds a cut: the next read of each slot that has no cut yet gives at most so many bytes, where that is above 0.
     pub fn cut(&mut self, most: u32) -> Result<(), Memory>
+        ensures ok { OnOk result (host_cuts self.new ≡ host_cuts self.old ++ most ∷ []) }
+        ensures calls { KeepsCalls self.old self.new }
         ensures view { host_view self.new ≡ host_view self.old }
         ensures counts { KeepsCounts self.old self.new }
         ensures sound { is_sound_host self.new ≡ is_sound_host self.old }
@@ -146,10 +141,18 @@ impl MemHost {
 
     /// Lets call number `number` of this kind, from 0, fail.
     pub fn fail(&mut self, call: HostCall, number: u64) -> Result<(), Memory>
+        ensures ok { OnOk result (FailsToo call number self.old self.new) }
+        ensures cuts { host_cuts self.new ≡ host_cuts self.old }
         ensures view { host_view self.new ≡ host_view self.old }
         ensures counts { KeepsCounts self.old self.new }
     {
-        self.fails.push(Failing { call, number })?;
+        match call {
+            HostCall::Open => self.opens.failing.push(number)?,
+            HostCall::Read { slot: Slot::Schema } => self.schema_reads.failing.push(number)?,
+            HostCall::Read { slot: Slot::Input } => self.input_reads.failing.push(number)?,
+            HostCall::Write { out: Out::Output } => self.output_writes.failing.push(number)?,
+            HostCall::Write { out: Out::Errors } => self.errors_writes.failing.push(number)?,
+        }
         Ok(())
     }
 
@@ -187,7 +190,11 @@ impl MemHost {
 impl Host for MemHost {
     ghost use Rattle.std.specs.Prelude.{Some};
     ghost use Rattle.tl_base.specs.MemoryFiles.{files-HoldBytes};
-    ghost use Rattle.tl_base.specs.MemoryHost.{host_view, is_sound_host};
+    ghost use Rattle.tl_base.specs.MemoryHost.{host_view, is_sound_host, OpensAsTold, ReadsAsTold, WritesAsTold, Counts};
+    ghost use Rattle.tl_base.specs.Outside.{HasFile, written_of};
+    ghost use Rattle.tl_base.specs.Causes.{HasCause};
+    ghost use Rattle.tl_base.specs.Calls.{Told, Opens, ReadsSlot, WritesOut, FailsOnly};
+    ghost use Rattle.std.specs.Io.{ReadsAtMost, WritesAtMost};
 
     ghost view = { λ h. Some (host_view h) };
 
@@ -199,11 +206,17 @@ impl Host for MemHost {
 
     ghost bytes = { λ h. files-HoldBytes h.files.items };
 
-    fn open_slot(&mut self, slot: Slot, name: &str) -> Result<(), Failed> {
-        let number = self.calls.next(HostCall::Open);
-        if is_failing(&self.fails, HostCall::Open, number) {
+    fn open_slot(&mut self, slot: Slot, name: &str) -> Result<(), Failed>
+        ensures view { Told (Some (host_view self.old)) (Some (host_view self.new)) (Opens slot name.now result) }
+        ensures cause { HasCause self.old.read_faults self.new.read_faults result }
+        ensures others { self.new.write_faults ≡ self.old.write_faults }
+        ensures sound { FailsOnly (Some (host_view self.old)) (is_sound_host self.old) (is_sound_host self.new) result (λ v. (bytes : List ℕ) × HasFile v.files name.now bytes) }
+        ensures script { OpensAsTold self.old name.now result }
+        ensures counts { Counts HostCall.Open self.old self.new }
+    {
+        let Some(_) = self.opens.next() else {
             return Err(self.read_failed());
-        }
+        };
         match index_of(&self.files, name) {
             Some(file) => {
                 let reading = Reading { file, at: 0 };
@@ -217,15 +230,26 @@ impl Host for MemHost {
         }
     }
 
-    fn read(&mut self, slot: Slot, into: &mut [u8]) -> Result<usize, Failed> {
+    fn read(&mut self, slot: Slot, into: &mut [u8]) -> Result<usize, Failed>
+        ensures bound { ReadsAtMost result into.new }
+        ensures empty { length into.old ≡ 0 → result ≡ Ok 0 }
+        ensures view { Told (Some (host_view self.old)) (Some (host_view self.new)) (ReadsSlot slot into.new result) }
+        ensures cause { HasCause self.old.read_faults self.new.read_faults result }
+        ensures others { self.new.write_faults ≡ self.old.write_faults }
+        ensures sound { FailsOnly (Some (host_view self.old)) (is_sound_host self.old) (is_sound_host self.new) result (λ v. Unit {0}) }
+        ensures script { 0 < length into.old → ReadsAsTold slot self.old (length into.old) result }
+        ensures counts { 0 < length into.old → Counts (HostCall.Read slot) self.old self.new }
+    {
         if into.is_empty() {
             return Ok(0);
         }
-        let call = HostCall::Read { slot };
-        let number = self.calls.next(call);
-        if is_failing(&self.fails, call, number) {
+        let next = match slot {
+            Slot::Schema => self.schema_reads.next(),
+            Slot::Input => self.input_reads.next(),
+        };
+        let Some(number) = next else {
             return Err(self.read_failed());
-        }
+        };
         let most = most_at(&self.cuts, number);
         Ok(match slot {
             Slot::Schema => give_from(&self.files, &mut self.schema, most, into),
@@ -233,15 +257,27 @@ impl Host for MemHost {
         })
     }
 
-    fn write(&mut self, out: Out, piece: &[u8]) -> Result<usize, Failed> {
+    fn write(&mut self, out: Out, piece: &[u8]) -> Result<usize, Failed>
+        ensures bound { WritesAtMost result piece.now }
+        ensures some { 0 < length piece.now → IfOk result (λ n. 0 < n) }
+        ensures empty { length piece.now ≡ 0 → result ≡ Ok 0 }
+        ensures view { Told (Some (host_view self.old)) (Some (host_view self.new)) (WritesOut out piece.now result) }
+        ensures cause { HasCause self.old.write_faults self.new.write_faults result }
+        ensures others { self.new.read_faults ≡ self.old.read_faults }
+        ensures sound { 0 < length piece.now → FailsOnly (Some (host_view self.old)) (is_sound_host self.old) (is_sound_host self.new) result (λ v. length (written_of out v) < v.room) }
+        ensures script { 0 < length piece.now → WritesAsTold out self.old (length piece.now) result }
+        ensures counts { 0 < length piece.now → Counts (HostCall.Write out) self.old self.new }
+    {
         if piece.is_empty() {
             return Ok(0);
         }
-        let call = HostCall::Write { out };
-        let number = self.calls.next(call);
-        if is_failing(&self.fails, call, number) {
+        let next = match out {
+            Out::Output => self.output_writes.next(),
+            Out::Errors => self.errors_writes.next(),
+        };
+        let Some(_) = next else {
             return Err(self.write_failed());
-        }
+        };
         let taken = match out {
             Out::Output => put(&mut self.output, self.room, piece),
             Out::Errors => put(&mut self.errors, self.room, piece),

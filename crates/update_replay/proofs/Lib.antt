@@ -5,3 +5,8 @@ pub mod Reached
 pub mod Pushes
 pub mod Replaying
 pub mod OneWay
+pub mod Fronts
+pub mod Writes
+pub mod Rooms
+pub mod LongJournals
+pub mod Deciding

@@ -1,5 +1,5 @@
 -- A journal is read in one way.
-use Rattle.std.proofs.Common.{◌≡◌, ℕ, ℤ, ◌+◌, ◌^◌, ◌<◌, ◌≤◌, List, [], ◌∷◌, ◌++◌, append_assoc, length, length-append, take, drop, get_or, replicate, refl, ap, sym, subst, ◌∙◌, arith, inl, inr, Result, Ok, Err}
+use Rattle.std.proofs.Common.{◌≡◌, ℕ, ℤ, ◌+◌, ◌^◌, ◌<◌, ◌≤◌, List, [], ◌∷◌, ◌++◌, append_assoc, append-nil, length, length-append, take, drop, get_or, replicate, refl, ap, sym, subst, ◌∙◌, arith, inl, inr, Result, Ok, Err}
 use Rattle.std.specs.Int.{w32, w64, from_le_bytes, cast_signed}
 use Rattle.std.proofs.lemmas.List.{take_at, append_cancel_left}
 use Rattle.std.proofs.lemmas.Nat.{from_le_bytes-to_le_bytes_4, from_le_bytes-to_le_bytes_8}
@@ -95,45 +95,60 @@ runs_once journal steps others at p left rest lines more (one_more ss a l ls s x
 -- ---- a run that can't go on is the longest
 
 -- one more step can be made behind these steps
-record Goes (steps : List Step) (left : List ℕ) : Type 0 where
-  step : Step
-  x : List ℕ
-  rest : List ℕ
-  few : length steps < 100000
-  begins : BeginsStep left step x rest
-  possible : Possible (run steps) step
+pub record Goes (steps : List Step) (left : List ℕ) : Type 0 where
+  pub step : Step
+  pub x : List ℕ
+  pub rest : List ℕ
+  pub few : length steps < 100000
+  pub begins : BeginsStep left step x rest
+  pub possible : Possible (run steps) step
 
--- the first n steps of a run of `whole` steps
-record Front (journal : List ℕ) (n whole : ℕ) : Type 0 where
-  steps : List Step
-  at : ℕ
-  left : List ℕ
-  lines : List ℕ
-  began : Began journal steps at left lines
-  long : length steps ≡ n
-  goes : n < whole → Goes steps left
+-- the first n steps of a run of `whole` steps, with a front of its lines
+pub record Front (journal : List ℕ) (n whole : ℕ) (all : List ℕ) : Type 0 where
+  pub steps : List Step
+  pub at : ℕ
+  pub left : List ℕ
+  pub lines : List ℕ
+  pub behind : List ℕ
+  pub began : Began journal steps at left lines
+  pub long : length steps ≡ n
+  pub split : lines ++ behind ≡ all
+  pub goes : n < whole → Goes steps left
 
-front_of : (journal : List ℕ) (others : List Step) (p : ℕ) (rest more : List ℕ) → Began journal others p rest more → (n : ℕ) → n ≤ length others → Front journal n (length others)
-front_of journal others p rest more none n le = record { steps = []; at = 0; left = journal; lines = []; began = none; long = omega (arith, le); goes = λ lt. absurd (omega (arith, lt)) }
+pub front_of : (journal : List ℕ) (others : List Step) (p : ℕ) (rest more : List ℕ) → Began journal others p rest more → (n : ℕ) → n ≤ length others → Front journal n (length others) more
+front_of journal others p rest more none n le = record { steps = []; at = 0; left = journal; lines = []; behind = []; began = none; long = omega (arith, le); split = refl; goes = λ lt. absurd (omega (arith, lt)) }
 front_of journal others p rest more (one_more os q m ms t y u c few begins possible) n le =
     let whole : length (os ++ t ∷ []) ≡ length os + 1 = length-append os (t ∷ []) in
+    let last = step_lines (length os) (run os) t in
     elim (cases_lt n (length os)) [
-      | inl lt ↦ let f = front_of journal os q m ms c n (omega (arith, lt)) in record { steps = f.steps; at = f.at; left = f.left; lines = f.lines; began = f.began; long = f.long; goes = λ _. f.goes lt }
+      | inl lt ↦ let f = front_of journal os q m ms c n (omega (arith, lt)) in record {
+        steps = f.steps;
+        at = f.at;
+        left = f.left;
+        lines = f.lines;
+        behind = f.behind ++ last;
+        began = f.began;
+        long = f.long;
+        split = sym (append_assoc f.lines f.behind last) ∙ ap (λ (z : List ℕ). z ++ last) f.split;
+        goes = λ _. f.goes lt;
+      }
       | inr ge ↦ elim (cases_lt (length os) n) [
         | inl lt ↦ record {
           steps = os ++ t ∷ [];
           at = q + length y;
           left = u;
-          lines = ms ++ step_lines (length os) (run os) t;
+          lines = ms ++ last;
+          behind = [];
           began = one_more os q m ms t y u c few begins possible;
           long = omega (arith, whole, le, lt);
+          split = append-nil (ms ++ last);
           goes = λ less. absurd (omega (arith, whole, lt, less));
         }
-        | inr same ↦ record { steps = os; at = q; left = m; lines = ms; began = c; long = omega (arith, ge, same); goes = λ _. record { step = t; x = y; rest = u; few = few; begins = begins; possible = possible } }
+        | inr same ↦ record { steps = os; at = q; left = m; lines = ms; behind = last; began = c; long = omega (arith, ge, same); split = refl; goes = λ _. record { step = t; x = y; rest = u; few = few; begins = begins; possible = possible } }
       ]
     ]
 
-no_longer : (journal : List ℕ) (steps others : List Step) (at p : ℕ) (left rest lines more : List ℕ) → Began journal steps at left lines → Began journal others p rest more → (Goes steps left → ⊥) → length others ≤ length steps
+pub no_longer : (journal : List ℕ) (steps others : List Step) (at p : ℕ) (left rest lines more : List ℕ) → Began journal steps at left lines → Began journal others p rest more → (Goes steps left → ⊥) → length others ≤ length steps
 no_longer journal steps others at p left rest lines more b c stuck = elim (cases_lt (length steps) (length others)) [
   | inl lt ↦ let f = front_of journal others p rest more c (length steps) (omega (arith, lt)) in
       let same = runs_once journal f.steps steps f.at at f.left left f.lines lines f.began b f.long in
@@ -141,14 +156,14 @@ no_longer journal steps others at p left rest lines more b c stuck = elim (cases
   | inr ge ↦ ge
 ]
 
-stuck_once : (journal : List ℕ) (steps others : List Step) (at p : ℕ) (left rest lines more : List ℕ) → Began journal steps at left lines → Began journal others p rest more → (Goes steps left → ⊥) → (Goes others rest → ⊥)
+pub stuck_once : (journal : List ℕ) (steps others : List Step) (at p : ℕ) (left rest lines more : List ℕ) → Began journal steps at left lines → Began journal others p rest more → (Goes steps left → ⊥) → (Goes others rest → ⊥)
     → (steps ≡ others) × (at ≡ p) × (left ≡ rest) × (lines ≡ more)
 stuck_once journal steps others at p left rest lines more b c stuck stays =
     let less = no_longer journal steps others at p left rest lines more b c stuck in
     let few = no_longer journal others steps p at rest left more lines c b stays in
     runs_once journal steps others at p left rest lines more b c (omega (arith, less, few))
 
-spelling_some : (s : Step) (x rest : List ℕ) → [] ≡ x ++ rest → SpellsStep s x → ⊥
+pub spelling_some : (s : Step) (x rest : List ℕ) → [] ≡ x ++ rest → SpellsStep s x → ⊥
 spelling_some (post id body) x rest e s =
     let differ : ◌≡◌ {A = ℕ} 7 1 = ap (λ (z : List ℕ). get_or z 0 7) (e ∙ ap (λ (z : List ℕ). z ++ rest) s.4) in
     absurd (omega arith)
@@ -170,22 +185,23 @@ ends_once journal w v output more n m a b =
 -- ---- a run that a journal settles
 
 -- how a run that can't go on ends
-data Ending (steps : List Step) (at : ℕ) (left lines output : List ℕ) (r : Result ℕ ReplayFault) : Type 0 where
+pub data Ending (steps : List Step) (at : ℕ) (left lines output : List ℕ) (r : Result ℕ ReplayFault) : Type 0 where
   at_end : left ≡ [] → r ≡ Ok (length steps) → output ≡ lines ++ closing_lines (run steps) → Ending steps at left lines output r
   no_step : NoStep left → r ≡ Err (NotYetBuilt at) → output ≡ lines → Ending steps at left lines output r
   no_packet : (k : ℕ) (x rest : List ℕ) → length steps < 100000 → BeginsStep left (hears k) x rest → length (run steps).pool ≤ k → r ≡ Err (NoPacket at k) → output ≡ lines → Ending steps at left lines output r
   too_long : (step : Step) (x rest : List ℕ) → 100000 ≤ length steps → BeginsStep left step x rest → r ≡ Err (TooLong at) → output ≡ lines → Ending steps at left lines output r
 
-record Stop (journal : List ℕ) (w : World) (output : List ℕ) (r : Result ℕ ReplayFault) : Type 0 where
-  steps : List Step
-  at : ℕ
-  left : List ℕ
-  lines : List ℕ
-  began : Began journal steps at left lines
-  world : w ≡ run steps
-  ending : Ending steps at left lines output r
+-- the run that a settled replay made
+pub record Stop (journal : List ℕ) (w : World) (output : List ℕ) (r : Result ℕ ReplayFault) : Type 0 where
+  pub steps : List Step
+  pub at : ℕ
+  pub left : List ℕ
+  pub lines : List ℕ
+  pub began : Began journal steps at left lines
+  pub world : w ≡ run steps
+  pub ending : Ending steps at left lines output r
 
-stop_of : (journal : List ℕ) (w : World) (output : List ℕ) (r : Result ℕ ReplayFault) → Settled r → Replayed journal w output r → Stop journal w output r
+pub stop_of : (journal : List ℕ) (w : World) (output : List ℕ) (r : Result ℕ ReplayFault) → Settled r → Replayed journal w output r → Stop journal w output r
 stop_of journal w output (Ok n) s h = record { steps = h.0; at = h.1; left = []; lines = h.2; began = h.3; world = h.5; ending = at_end refl (ap Ok h.4) h.6 }
 stop_of journal w output (Err (NotYetBuilt at)) s h = record { steps = h.0; at = at; left = h.1; lines = output; began = h.2; world = h.3; ending = no_step h.4 refl refl }
 stop_of journal w output (Err (NoPacket at k)) s h = record { steps = h.0; at = at; left = h.1; lines = output; began = h.4; world = h.5; ending = no_packet k h.2 h.3 h.6 h.7 h.8 refl refl }
@@ -194,7 +210,7 @@ stop_of journal w output (Err ReadFault) s h = absurd s
 stop_of journal w output (Err WriteFault) s h = absurd s
 stop_of journal w output (Err Memory) s h = absurd s
 
-none_begins : (left : List ℕ) (step : Step) (x rest : List ℕ) → left ≡ [] → BeginsStep left step x rest → ⊥
+pub none_begins : (left : List ℕ) (step : Step) (x rest : List ℕ) → left ≡ [] → BeginsStep left step x rest → ⊥
 none_begins left step x rest e b = spelling_some step x rest (sym e ∙ b.whole) b.spelled
 
 not_sent : (steps : List Step) (left : List ℕ) (k : ℕ) (x rest : List ℕ) → BeginsStep left (hears k) x rest → length (run steps).pool ≤ k → Goes steps left → ⊥
@@ -203,7 +219,7 @@ not_sent steps left k x rest b few g =
     let sent : k < length (run steps).pool = subst (Possible (run steps)) same.0 g.possible in
     absurd (omega (arith, sent, few))
 
-stuck : (steps : List Step) (at : ℕ) (left lines output : List ℕ) (r : Result ℕ ReplayFault) → Ending steps at left lines output r → Goes steps left → ⊥
+pub stuck : (steps : List Step) (at : ℕ) (left lines output : List ℕ) (r : Result ℕ ReplayFault) → Ending steps at left lines output r → Goes steps left → ⊥
 stuck steps at left lines output r (at_end e is told) g = none_begins left g.step g.x g.rest e g.begins
 stuck steps at left lines output r (no_step h is told) g = h.none g.step g.x g.rest g.begins
 stuck steps at left lines output r (no_packet k x rest few b past is told) g = not_sent steps left k x rest b past g

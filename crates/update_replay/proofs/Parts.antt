@@ -58,7 +58,7 @@ front_missing Says front (Some bytes) b p q s Memory first = λ good. tt
 
 -- ---- eight bytes, and what stands behind them in a post
 
-double_fits : (bs : List ℕ) → AreBytes bs → from_le_bytes w64 bs < 2 ^ 64
+pub double_fits : (bs : List ℕ) → AreBytes bs → from_le_bytes w64 bs < 2 ^ 64
 double_fits bs bytes = omega (arith, bytes 0, bytes 1, bytes 2, bytes 3, bytes 4, bytes 5, bytes 6, bytes 7)
 
 pub double_read : (a b : Option (List ℕ)) (p q n : ℕ) (xs : List ℕ) (u : Unit {0}) → length xs ≡ 8 → n ≡ from_le_bytes w64 xs → IfSome a (λ bytes. Filled xs bytes b p q (Ok u)) → Reads IsDouble a b p q (Ok n)

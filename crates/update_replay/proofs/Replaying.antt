@@ -1,10 +1,9 @@
 -- A replay, step by step: what is kept from one step to the next, and how each of its ends is one of the definition's.
 use Rattle.std.proofs.Common.{◌≡◌, ℕ, ℤ, ◌+◌, ◌*◌, ◌<◌, ◌≤◌, List, [], ◌∷◌, ◌++◌, append_assoc, append-nil, length, length-append, Option, Some, None, Result, Ok, Err, Bool, true, false, refl, sym, ap, ◌∙◌, subst, arith, inl, inr}
-use Rattle.std.specs.Prelude.{IfSome, IsErrAnd, slice_get, replicate}
+use Rattle.std.specs.Prelude.{IfSome, IsErrAnd, IsErrOf, slice_get, replicate}
 use Rattle.std.specs.Io.KnownBytes.{Appends}
 use Rattle.std.proofs.KnownBytes.{Appends-nil, Appends-trans}
 use Rattle.std.proofs.lemmas.List.{length-replicate}
-use Rattle.tl_base.specs.Outside.{Aside}
 use Rattle.tl_base.specs.Contents.{AreBytes}
 use Rattle.tl_base.specs.Writing.{AppendsFront}
 use Rattle.box_events.specs.Happenings.{Happening, added}
@@ -18,7 +17,7 @@ use Rattle.update_replay.specs.Report.{post_lines, step_lines, closing_of, closi
 use Rattle.update_replay.specs.Outcomes.{came_of, outcome_of, push_body, outcome_lines}
 use Rattle.update_replay.specs.Reached.{IsReached}
 use Rattle.update_replay.specs.Reading.{step_of}
-use Rattle.update_replay.specs.Making.{of_line, NextRead, FrontOfLines, Makes, WritesOnly}
+use Rattle.update_replay.specs.Making.{of_line, NextRead, FrontOfLines, Makes}
 use Rattle.update_replay.specs.Replays.{Began, none, one_more, Next, nothing, a_step, the_end, Stopped, ReplayedOn}
 use Rattle.update_replay.specs.declared.journal.Step.{Step as DeclaredStep}
 use Rattle.update_replay.specs.declared.outcome.Outcome.{Outcome}
@@ -53,20 +52,35 @@ closing_is w before e r at es b he hr ha hes = rw (b, he, hr, ha, hes) refl
 
 -- ---- one step
 
+-- the lines of what came of a step are the step's
+pub same_lines : (count : ℕ) (w v : World) (s : Step) (o : Outcome) → v ≡ happens w s → o ≡ outcome_of w s → outcome_lines v count o ≡ step_lines count w s
+same_lines count w v s o is came = ap (λ (u : World). outcome_lines u count o) is ∙ ap (λ (p : Outcome). outcome_lines (happens w s) count p) came ∙ lines_agree w s count
+
 module _ (at count : ℕ) (w v : World) (s : Step) (o : Outcome) (a b : Option (List ℕ)) (few : count < 100000) (may : Possible w s) (is : v ≡ happens w s) (came : o ≡ outcome_of w s) where
-  same_lines : outcome_lines v count o ≡ step_lines count w s
-  same_lines = ap (λ (u : World). outcome_lines u count o) is ∙ ap (λ (p : Outcome). outcome_lines (happens w s) count p) came ∙ lines_agree w s count
+  same : outcome_lines v count o ≡ step_lines count w s
+  same = same_lines count w v s o is came
 
   pub made : Appends a b (outcome_lines v count o) → Makes at count w s v a b (Ok tt)
-  made bytes = (step_lines count w s, subst (λ (x : List ℕ). Appends a b x) same_lines bytes, (few, may, is, refl))
+  made bytes = (step_lines count w s, subst (λ (x : List ℕ). Appends a b x) same bytes, (few, may, is, refl))
 
   front_made : (e : LineFault) → AppendsFront a b (outcome_lines v count o) → Makes at count w s v a b (Err (of_line e))
-  front_made line.WriteFault (front, rest, split, bytes) = (front, bytes, (few, inr (may, rest, split ∙ same_lines)))
-  front_made line.Memory (front, rest, split, bytes) = (front, bytes, (few, inr (may, rest, split ∙ same_lines)))
+  front_made line.WriteFault (front, rest, split, bytes) = (front, bytes, (few, may, rest, split ∙ same))
+  front_made line.Memory (front, rest, split, bytes) = (front, bytes, (few, inr (may, rest, split ∙ same)))
 
   pub not_made : (e : LineFault) (r : Result (Unit {0}) ReplayFault) → IsErrAnd r (λ z. z ≡ of_line e) → AppendsFront a b (outcome_lines v count o) → Makes at count w s v a b r
-  not_made e (Ok u) same bytes = absurd same
-  not_made e (Err z) same bytes = subst (λ (y : ReplayFault). Makes at count w s v a b (Err y)) (sym same) (front_made e bytes)
+  not_made e (Ok u) are bytes = absurd are
+  not_made e (Err z) are bytes = subst (λ (y : ReplayFault). Makes at count w s v a b (Err y)) (sym are) (front_made e bytes)
+
+-- ---- faults that are passed on
+
+pub same_fault : {T : Type 0} (e f : ReplayFault) (r : Result T ReplayFault) → IsErrAnd r (λ z. z ≡ e) → IsErrOf r f → e ≡ f
+same_fault e f (Ok x) is failed = absurd is
+same_fault e f (Err z) is failed = grind arith
+
+-- lines that could not be written failed a replay by their write alone
+pub line_failed : {T : Type 0} (e : LineFault) (r : Result T ReplayFault) → IsErrAnd r (λ z. z ≡ of_line e) → IsErrOf r WriteFault → e ≡ line.WriteFault
+line_failed line.WriteFault r is failed = refl
+line_failed line.Memory r is failed = let never : Memory ≡ WriteFault = same_fault Memory WriteFault r is failed in absurd (grind arith)
 
 -- ---- a step's spelling is short
 
@@ -87,7 +101,7 @@ began_front journal steps at left lines (one_more before p more shown step x res
     let f = began_front journal before p more shown b in
     (f.0 ++ x, f.1 ∙ ap (λ (y : List ℕ). f.0 ++ y) begins.whole ∙ sym (append_assoc f.0 x rest))
 
-spelled_length : (s : Step) (x : List ℕ) → SpellsStep s x → length x ≤ 280
+pub spelled_length : (s : Step) (x : List ℕ) → SpellsStep s x → length x ≤ 280
 spelled_length (post id body) x (n, bound, is, few, spelled) =
     let h : length (word post_number) ≡ 4 = word_length post_number in
     let d : length (double_word n) ≡ 8 = double_length n in
@@ -133,7 +147,7 @@ pub going_first : (journal : List ℕ) (w : World) (left a : Option (List ℕ)) 
 going_first journal w left a is told = record { steps = []; rest = journal; lines = []; is_left = told; began = none; number = refl; world = is; written = Appends-nil a; place = omega arith }
 
 -- what the source still has is bytes, and this is what was read of it
-going_read : (P : List ℕ → Type 0) (journal : List ℕ) (w : World) (at count : ℕ) (left a b : Option (List ℕ)) → AreBytes journal → (g : Going journal w at count left a b) → IfSome left (λ bytes. AreBytes bytes → P bytes) → P g.rest
+pub going_read : (P : List ℕ → Type 0) (journal : List ℕ) (w : World) (at count : ℕ) (left a b : Option (List ℕ)) → AreBytes journal → (g : Going journal w at count left a b) → IfSome left (λ bytes. AreBytes bytes → P bytes) → P g.rest
 going_read P journal w at count left a b bytes g read =
     let f = began_front journal g.steps at g.rest g.lines g.began in
     subst (λ (o : Option (List ℕ)). IfSome o (λ bytes. AreBytes bytes → P bytes)) g.is_left read (bytes_behind journal f.0 g.rest f.1 bytes)
@@ -176,12 +190,18 @@ module _ (journal : List ℕ) (bytes : AreBytes journal) (w : World) (at count :
   at_end : (q : ℕ) (after : Option (List ℕ)) → IfSome left (λ x. AreBytes x → NextRead x after at q (Ok None)) → g.rest ≡ []
   at_end q after read = (going_read (λ x. NextRead x after at q (Ok None)) journal w at count left a b bytes g read).0
 
-  closing_is_written : closing_lines w ≡ closing_lines (run g.steps)
-  closing_is_written = ap closing_lines g.world
+  -- what comes next: the closing lines at the journal's end, or the lines of a step that can be made
+  pub end_comes : (q : ℕ) (after : Option (List ℕ)) → IfSome left (λ x. AreBytes x → NextRead x after at q (Ok None)) → Next g.steps g.rest (closing_lines w)
+  end_comes q after read = subst (λ (u : World). Next g.steps g.rest (closing_lines u)) (sym g.world) (the_end (at_end q after read))
+
+  pub step_comes : (step : Step) (x rest : List ℕ) → BeginsStep g.rest step x rest → count < 100000 → Possible w step → Next g.steps g.rest (step_lines count w step)
+  step_comes step x rest begins few may =
+      let next : Next g.steps g.rest (step_lines (length g.steps) (run g.steps) step) = a_step step x rest (omega (arith, few, g.number)) begins (subst (λ (u : World). Possible u step) g.world may) in
+      subst (λ (u : World). Next g.steps g.rest (step_lines count u step)) (sym g.world) (subst (λ (n : ℕ). Next g.steps g.rest (step_lines n (run g.steps) step)) (sym g.number) next)
 
   -- the closing lines were written
   pub all_done : (q : ℕ) (after c : Option (List ℕ)) → IfSome left (λ x. AreBytes x → NextRead x after at q (Ok None)) → Appends b c (closing_lines w) → ReplayedOn journal w a c (Ok count)
-  all_done q after c read wrote = (g.lines ++ closing_lines w, Appends-trans a b c g.lines (closing_lines w) g.written wrote, (g.steps, at, g.lines, subst (λ (x : List ℕ). Began journal g.steps at x g.lines) (at_end q after read) g.began, g.number, g.world, ap (λ (x : List ℕ). g.lines ++ x) closing_is_written))
+  all_done q after c read wrote = (g.lines ++ closing_lines w, Appends-trans a b c g.lines (closing_lines w) g.written wrote, (g.steps, at, g.lines, subst (λ (x : List ℕ). Began journal g.steps at x g.lines) (at_end q after read) g.began, g.number, g.world, ap (λ (u : World). g.lines ++ closing_lines u) g.world))
 
   stopped_at : (c : Option (List ℕ)) (next : List ℕ) → Next g.steps g.rest next → AppendsFront b c next → (output : List ℕ) × Appends a c output × Stopped journal output
   stopped_at c next comes (front, rest, split, wrote) = (g.lines ++ front, Appends-trans a b c g.lines front g.written wrote, (g.steps, at, g.rest, g.lines, next, front, rest, g.began, comes, split, refl))
@@ -194,14 +214,12 @@ module _ (journal : List ℕ) (bytes : AreBytes journal) (w : World) (at count :
   pub not_closed : (q : ℕ) (after c : Option (List ℕ)) (e : LineFault) (r : Result ℕ ReplayFault) → IfSome left (λ x. AreBytes x → NextRead x after at q (Ok None)) → AppendsFront b c (closing_lines w) → IsErrAnd r (λ z. z ≡ of_line e) → ReplayedOn journal w a c r
   not_closed q after c e (Ok n) read wrote same = absurd same
   not_closed q after c e (Err z) read wrote same =
-      subst (λ (y : ReplayFault). ReplayedOn journal w a c (Err y)) (sym same) (as_line w c e (stopped_at c (closing_lines (run g.steps)) (the_end (at_end q after read)) (subst (λ (x : List ℕ). AppendsFront b c x) closing_is_written wrote)))
+      subst (λ (y : ReplayFault). ReplayedOn journal w a c (Err y)) (sym same) (as_line w c e (stopped_at c (closing_lines w) (end_comes q after read) wrote))
 
   -- a front of the step's lines, or nothing
   step_front : (step : Step) (x rest : List ℕ) → BeginsStep g.rest step x rest → count < 100000 → (output : List ℕ) (c : Option (List ℕ)) → Appends b c output → FrontOfLines count w step output → (shown : List ℕ) × Appends a c shown × Stopped journal shown
   step_front step x rest begins few output c wrote (inl is) = stopped_at c [] nothing (output, [], append-nil output ∙ is, wrote)
-  step_front step x rest begins few output c wrote (inr (may, more, split)) =
-      let lines : step_lines count w step ≡ step_lines (length g.steps) (run g.steps) step = ap (λ (n : ℕ). step_lines n w step) g.number ∙ ap (λ (u : World). step_lines (length g.steps) u step) g.world in
-      stopped_at c (step_lines (length g.steps) (run g.steps) step) (a_step step x rest (omega (arith, few, g.number)) begins (subst (λ (u : World). Possible u step) g.world may)) (output, more, split ∙ lines, wrote)
+  step_front step x rest begins few output c wrote (inr (may, more, split)) = stopped_at c (step_lines count w step) (step_comes step x rest begins few may) (output, more, split, wrote)
 
   step_missing : (v : World) (step : Step) (x rest : List ℕ) → BeginsStep g.rest step x rest → (c : Option (List ℕ)) (e : ReplayFault) → Makes at count w step v b c (Err e) → ReplayedOn journal v a c (Err e)
   step_missing v step x rest begins c (NotYetBuilt p) (output, wrote, made) = absurd made
@@ -236,7 +254,7 @@ module _ (journal : List ℕ) (bytes : AreBytes journal) (w : World) (at count :
     ),
   )
   step_missing v step x rest begins c ReadFault (output, wrote, made) = absurd made
-  step_missing v step x rest begins c WriteFault (output, wrote, (few, front)) = step_front step x rest begins few output c wrote front
+  step_missing v step x rest begins c WriteFault (output, wrote, (few, may, more, split)) = step_front step x rest begins few output c wrote (inr (may, more, split))
   step_missing v step x rest begins c Memory (output, wrote, (few, front)) = step_front step x rest begins few output c wrote front
 
   -- the next step was not made
@@ -248,7 +266,7 @@ module _ (journal : List ℕ) (bytes : AreBytes journal) (w : World) (at count :
 
 -- ---- what is told of a source and of a sink
 
-map_told : {P Q : List ℕ → Type 0} (o : Option (List ℕ)) → ((journal : List ℕ) → AreBytes journal → P journal → Q journal) → IfSome o (λ journal. AreBytes journal → P journal) → IfSome o (λ journal. AreBytes journal → Q journal)
+pub map_told : {P Q : List ℕ → Type 0} (o : Option (List ℕ)) → ((journal : List ℕ) → AreBytes journal → P journal → Q journal) → IfSome o (λ journal. AreBytes journal → P journal) → IfSome o (λ journal. AreBytes journal → Q journal)
 map_told None f h = tt
 map_told (Some journal) f h = λ bytes. f journal bytes (h bytes)
 
@@ -271,16 +289,6 @@ module _ (o : Option (List ℕ)) (w : World) (at count : ℕ) (left a b : Option
 
   pub not_made_told : (v : World) (q : ℕ) (step : DeclaredStep) (after c : Option (List ℕ)) (e : ReplayFault) (r : Result ℕ ReplayFault) → IfSome left (λ x. AreBytes x → NextRead x after at q (Ok (Some step))) → Makes at count w (step_of step) v b c (Err e) → IsErrAnd r (λ z. z ≡ e) → IfSome o (λ journal. AreBytes journal → ReplayedOn journal v a c r)
   not_made_told v q step after c e r read made same = map_told o (λ journal bytes h. step_not_made journal bytes w at count left a b h v q step after c e r read made same) g
-
-module _ {K : Type 0} {written : K → Option (List ℕ)} {faults : K → ℕ} {aside : K → Aside} {room : K → ℕ} where
-  pub writes_none : (x : K) (F : Type 0) → (F → ⊥) → WritesOnly written faults aside room x x F
-  writes_none x F never = record { later = omega arith; cause = λ f. absurd (never f); kept = refl; room_kept = refl; told = λ t. t }
-
-  pub writes_then : (x y z : K) (P F : Type 0) → WritesOnly written faults aside room x y P → WritesOnly written faults aside room y z F → WritesOnly written faults aside room x z F
-  writes_then x y z P F p q = record { later = omega (arith, p.later, q.later); cause = λ f. omega (arith, p.later, q.cause f); kept = q.kept ∙ p.kept; room_kept = q.room_kept ∙ p.room_kept; told = λ t. q.told (p.told t) }
-
-  pub writes_as : (x y : K) (P F : Type 0) → WritesOnly written faults aside room x y P → (F → P) → WritesOnly written faults aside room x y F
-  writes_as x y P F p f = record { later = p.later; cause = λ e. p.cause (f e); kept = p.kept; room_kept = p.room_kept; told = p.told }
 
 -- ---- a step counts for one number at most
 

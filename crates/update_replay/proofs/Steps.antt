@@ -13,7 +13,7 @@ use Rattle.update_replay.proofs.Parts.{bytes_behind, behind_part}
 
 -- ---- a step is its number and what stands behind it
 
-post_spelled : (id : ℤ) (body y : List ℕ) → IsPost (id, body) y → SpellsStep (post id body) (word post_number ++ y)
+pub post_spelled : (id : ℤ) (body y : List ℕ) → IsPost (id, body) y → SpellsStep (post id body) (word post_number ++ y)
 post_spelled id body y s =
     let one = s.3 in
     let two = one.says in
@@ -23,7 +23,7 @@ post_spelled id body y s =
     one.whole ∙ ap (λ (z : List ℕ). double_word s.0 ++ z) (two.whole ∙ ap (λ (z : List ℕ). word vector_number ++ z) (three.whole ∙ ap (λ (z : List ℕ). word 1 ++ z) (four.whole ∙ ap (λ (z : List ℕ). word message_number ++ z) (four.says).1))) in
     (s.0, s.1, s.2, (four.says).0, ap (λ (z : List ℕ). word post_number ++ z) is)
 
-post_said : (id : ℤ) (body x : List ℕ) → SpellsStep (post id body) x → (y : List ℕ) × (x ≡ word post_number ++ y) × IsPost (id, body) y
+pub post_said : (id : ℤ) (body x : List ℕ) → SpellsStep (post id body) x → (y : List ℕ) × (x ≡ word post_number ++ y) × IsPost (id, body) y
 post_said id body x s = (
   double_word s.0 ++ (word vector_number ++ (word 1 ++ (word message_number ++ short_text body))),
   s.4,
@@ -47,10 +47,10 @@ post_said id body x s = (
   ),
 )
 
-hear_spelled : (k : ℕ) (y : List ℕ) → IsHear k y → SpellsStep (hears k) (word hear_number ++ y)
+pub hear_spelled : (k : ℕ) (y : List ℕ) → IsHear k y → SpellsStep (hears k) (word hear_number ++ y)
 hear_spelled k y s = ((s.says).0, ap (λ (z : List ℕ). word hear_number ++ z) (s.whole ∙ ap (λ (z : List ℕ). word 0 ++ z) (s.says).1))
 
-hear_said : (k : ℕ) (x : List ℕ) → SpellsStep (hears k) x → (y : List ℕ) × (x ≡ word hear_number ++ y) × IsHear k y
+pub hear_said : (k : ℕ) (x : List ℕ) → SpellsStep (hears k) x → (y : List ℕ) × (x ≡ word hear_number ++ y) × IsHear k y
 hear_said k x s = (word 0 ++ word k, s.1, record { rest = word k; whole = refl; says = (s.0, refl) })
 
 -- ---- no step

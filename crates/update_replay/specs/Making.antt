@@ -1,8 +1,6 @@
 -- What making one step of a journal writes, and how it ends.
-use Rattle.std.specs.Prelude.{◌≡◌, ℕ, ◌+◌, ◌-◌, ◌<◌, ◌≤◌, ◌^◌, min, List, [], ◌++◌, length, ◌⊎◌, Option, Some, None, IsSome, Result, Ok, Err}
+use Rattle.std.specs.Prelude.{◌≡◌, ℕ, ◌+◌, ◌-◌, ◌<◌, ◌≤◌, ◌^◌, min, List, [], ◌++◌, length, ◌⊎◌, Option, Some, None, Result, Ok, Err}
 use Rattle.std.specs.Io.KnownBytes.{Appends}
-use Rattle.tl_base.specs.Outside.{Aside}
-use Rattle.tl_base.specs.Causes.{Rose}
 use Rattle.update_replay.specs.Journal.{BeginsStep, NoStep}
 use Rattle.update_replay.specs.Reading.{step_of}
 use Rattle.update_replay.specs.declared.journal.Step.{Step as DeclaredStep}
@@ -17,15 +15,6 @@ use Rattle.update_replay.specs.declared.replay.ReplayFault.TheVariants.{NotYetBu
 abbrev pub of_line : LineFault → ReplayFault
 of_line line.WriteFault = WriteFault
 of_line line.Memory = Memory
-
--- A call that only writes to a sink: its count doesn't fall, it failed only where the count rose, what stands beside it and its
--- room are kept, and what is told stays told.
-pub record WritesOnly {K : Type 0} (written : K → Option (List ℕ)) (faults : K → ℕ) (aside : K → Aside) (room : K → ℕ) (old new : K) (failed : Type 0) : Type 0 where
-  pub later : faults old ≤ faults new
-  pub cause : failed → Rose (faults old) (faults new)
-  pub kept : aside new ≡ aside old
-  pub room_kept : room new ≡ room old
-  pub told : IsSome (written old) → IsSome (written new)
 
 -- The journal is at its end; or the next step is read and its bytes alone are taken; or what follows at this place begins with no step.
 -- Want of memory and a failed read are free here.
@@ -50,7 +39,7 @@ StepMade at count w step after output (Err (NotYetBuilt p)) = ⊥
 StepMade at count w step after output (Err (NoPacket p k)) = (count < 100000) × (p ≡ at) × (step ≡ hears k) × (length w.pool ≤ k) × (after ≡ w) × (output ≡ [])
 StepMade at count w step after output (Err (TooLong p)) = (100000 ≤ count) × (p ≡ at) × (after ≡ w) × (output ≡ [])
 StepMade at count w step after output (Err ReadFault) = ⊥
-StepMade at count w step after output (Err WriteFault) = (count < 100000) × FrontOfLines count w step output
+StepMade at count w step after output (Err WriteFault) = (count < 100000) × Possible w step × (rest : List ℕ) × (output ++ rest ≡ step_lines count w step)
 StepMade at count w step after output (Err Memory) = (count < 100000) × FrontOfLines count w step output
 
 abbrev pub Makes : ℕ → ℕ → World → Step → World → Option (List ℕ) → Option (List ℕ) → Result (Unit {0}) ReplayFault → Type 0

@@ -15,6 +15,11 @@ const VECTOR: u32 = 0x1cb5c415;
 
 const NEW_MESSAGE: u32 = 0xb0c50101;
 
+// Nothing has a date yet, and updates without settings have no seq.
+const DATE: u32 = 0;
+
+const SEQ: u32 = 0;
+
 /// The packet of a message's push. It takes 40 to 292 bytes.
 pub fn packet_of(alloc: Global, body: &[u8], pts: u32) -> Result<Vec<u8>, Memory>
     requires { length body.now ≤ 253 }
@@ -29,8 +34,8 @@ pub fn packet_of(alloc: Global, body: &[u8], pts: u32) -> Result<Vec<u8>, Memory
     put_text(body, &mut bytes)?;
     put_word(pts, &mut bytes)?;
     put_word(1, &mut bytes)?;
-    put_word(0, &mut bytes)?;
-    put_word(0, &mut bytes)?;
+    put_word(DATE, &mut bytes)?;
+    put_word(SEQ, &mut bytes)?;
     Ok(bytes)
 }
 

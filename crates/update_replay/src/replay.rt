@@ -1,13 +1,15 @@
 //! Replays.
-ghost use Rattle.std.specs.Prelude.{◌≡◌, ◌≤◌, IfOk, IfSome, IsErrOf};
+ghost use Rattle.std.specs.Prelude.{◌≡◌, ◌≤◌, IfOk, IfSome, IsErrOf, length};
 ghost use Rattle.tl_base.specs.Contents.{AreBytes};
-ghost use Rattle.tl_base.specs.Using.{Used};
+ghost use Rattle.tl_base.specs.Using.{Used, Wrote, WritesOnly};
 ghost use Rattle.box_events.specs.Boxes.{ending};
 ghost use Rattle.update_replay.specs.Worlds.{start};
 ghost use Rattle.update_replay.specs.Reached.{IsShort};
 ghost use Rattle.update_replay.specs.Reading.{step_of};
-ghost use Rattle.update_replay.specs.Making.{Makes, NextRead, WritesOnly};
+ghost use Rattle.update_replay.specs.Making.{Makes, NextRead};
+ghost use Rattle.update_replay.specs.Report.{step_lines};
 ghost use Rattle.update_replay.specs.Replays.{ReplayedOn};
+ghost use Rattle.update_replay.specs.Settled.{NeverFull};
 
 use crate::journal::{JournalFault, Step, read_step};
 use crate::lines::{LineFault, write_end, write_step};
@@ -65,7 +67,7 @@ fn make_step<K: Sink>(
     requires short { IsShort (step_of step) }
     requires space { ending world.old.box ≤ count }
     ensures made { Makes at count world.old (step_of step) world.new (K.written to.old) (K.written to.new) result }
-    ensures used { WritesOnly K.written K.faults K.aside K.room to.old to.new (IsErrOf result ReplayFault.WriteFault) }
+    ensures used { Wrote K.written K.faults K.aside K.sound K.room to.old to.new (length (step_lines count world.old (step_of step))) (IsErrOf result ReplayFault.WriteFault) }
 {
     if count >= MOST_STEPS {
         return Err(ReplayFault::TooLong { at });
@@ -109,7 +111,8 @@ pub fn replay_steps<S: Source, K: Sink>(
     requires { world.old ≡ start }
     ensures replayed { IfSome (S.left from.old) (λ journal. AreBytes journal → ReplayedOn journal world.new (K.written to.old) (K.written to.new) result) }
     ensures read { Used S.left S.faults S.aside S.sound from.old from.new (IsErrOf result ReplayFault.ReadFault) }
-    ensures written { WritesOnly K.written K.faults K.aside K.room to.old to.new (IsErrOf result ReplayFault.WriteFault) }
+    ensures written { WritesOnly K.written K.faults K.aside K.sound K.room to.old to.new (IsErrOf result ReplayFault.WriteFault) }
+    ensures fits { IfSome (S.left from.old) (λ journal. AreBytes journal → NeverFull journal (K.written to.old) (K.sound to.old) (K.room to.old) (IsErrOf result ReplayFault.WriteFault)) }
 {
     let mut at = 0u64;
     let mut count = 0u32;

@@ -1,6 +1,5 @@
 use crate::{ReplayFault, World, replay_steps};
 use std::alloc::{AllocError, Global};
-use std::process::Abort;
 use std::test::Fail;
 use tl_base::{Bytes, MemSink, MemSource};
 
@@ -12,7 +11,7 @@ struct Ended {
     output: MemSink,
 }
 
-// A write of so many bytes is the most that is written here.
+// The sinks take so many bytes.
 const ROOM: u32 = 8_000_000;
 
 // Puts the post of a message of one byte behind a journal. It takes 28 bytes.
@@ -49,20 +48,6 @@ fn replay_over(
         world,
         output,
     })
-}
-
-// Asserts how a replay without failing calls ends, and all that it writes.
-fn assert_ends(
-    rt: &impl Abort,
-    alloc: Global,
-    journal: &[u8],
-    end: Result<u32, ReplayFault>,
-    output: &str,
-) -> Result<(), Fail> {
-    let ended = replay_over(alloc, journal, &[], &[])?;
-    assert_eq!(rt; ended.result, end);
-    assert_eq!(rt; ended.output.as_slice(), output.as_bytes());
-    Ok(())
 }
 
 const THREE_POSTS: &str = "\
@@ -106,112 +91,10 @@ fn a_gap_closes_in_the_report(rt: HostRuntime) -> Result<(), Fail> {
     let alloc = rt.alloc();
     let journal = three_posts(alloc)?;
     let report = format!(in alloc; "{THREE_POSTS}{FIVE_HEARS}{CLOSING}")?;
-    assert_ends(&rt, alloc, &journal, Ok(8), report.as_str())
-}
-
-#[test]
-fn an_empty_journal_has_closing_lines(rt: HostRuntime) -> Result<(), Fail> {
-    let alloc = rt.alloc();
-    assert_ends(
-        &rt,
-        alloc,
-        &[],
-        Ok(0),
-        "server pts 0 qts 0 seq 0 date 0\nclient 0 common from 0 to 0\nclient 0 secret from 0 to 0\nclient 0 settings seq 0\n",
-    )
-}
-
-#[test]
-fn a_known_id_posts_nothing(rt: HostRuntime) -> Result<(), Fail> {
-    let alloc = rt.alloc();
-    let mut journal = Vec::new(alloc);
-    put_post(&mut journal, 7, 0x61)?;
-    put_post(&mut journal, 7, 0x61)?;
-    assert_ends(
-        &rt,
-        alloc,
-        &journal,
-        Ok(2),
-        "step 0 post pts 1 qts 0 seq 0 packet 0\npacket 0 0104c5b00202c5b015c4b51c010000000101c5b00161000001000000010000000000000000000000\nstep 1 post again\nserver pts 1 qts 0 seq 0 date 0\nclient 0 common from 0 to 0\nclient 0 secret from 0 to 0\nclient 0 settings seq 0\n",
-    )
-}
-
-#[test]
-fn a_packet_is_heard_after_its_post(rt: HostRuntime) -> Result<(), Fail> {
-    let alloc = rt.alloc();
-    let mut journal = Vec::new(alloc);
-    put_hear(&mut journal, 7)?;
-    put_post(&mut journal, 1, 0x61)?;
-    assert_ends(
-        &rt,
-        alloc,
-        &journal,
-        Err(ReplayFault::NoPacket { at: 0, packet: 7 }),
-        "",
-    )
-}
-
-// Where the step begins that stands at byte `cut` of the three posts' journal.
-fn step_place(cut: usize) -> usize {
-    if cut < 84 {
-        cut / 28 * 28
-    } else {
-        84 + (cut - 84) / 12 * 12
-    }
-}
-
-// How many steps begin before a place where one begins.
-fn steps_before(place: usize) -> usize {
-    if place < 84 {
-        place / 28
-    } else {
-        3 + (place - 84) / 12
-    }
-}
-
-#[test]
-fn each_cut_is_refused_at_its_step(rt: HostRuntime) -> Result<(), Fail> {
-    let alloc = rt.alloc();
-    let journal = three_posts(alloc)?;
-    for cut in 0..journal.len() {
-        let place = step_place(cut);
-        let ended = replay_over(alloc, &journal[..cut], &[], &[])?;
-        match ended.result {
-            Ok(count) => assert_eq!(rt;
-                (place, count as usize),
-                (cut, steps_before(cut)),
-                "cut {cut}"
-            ),
-            Err(fault) => {
-                assert!(rt; place < cut, "cut {cut}");
-                assert_eq!(rt;
-                    fault,
-                    ReplayFault::NotYetBuilt { at: place as u64 },
-                    "cut {cut}"
-                );
-            }
-        }
-    }
-    Ok(())
-}
-
-// Pushes 1 to 1,024 are held, 1,025 is dropped; then push 0 closes the gap up to there.
-#[test]
-fn the_last_of_1025_gaps_is_dropped(rt: HostRuntime) -> Result<(), Fail> {
-    let alloc = rt.alloc();
-    let mut journal = Vec::new(alloc);
-    for random_id in 0..1026u64 {
-        put_post(&mut journal, random_id, 0x61)?;
-    }
-    for packet in 1..1026u32 {
-        put_hear(&mut journal, packet)?;
-    }
-    put_hear(&mut journal, 0)?;
     let ended = replay_over(alloc, &journal, &[], &[])?;
-    assert_eq!(rt; ended.result, Ok(2052));
-    assert_eq!(rt; ended.world.server_end(), 1026);
-    assert_eq!(rt; ended.world.at(), 1025);
-    assert_eq!(rt; ended.world.events().len(), 1025);
+    assert_eq!(rt; ended.result, Ok(8));
+    assert_eq!(rt; ended.output.as_slice(), report.as_bytes());
+    assert_eq!(rt; ended.world.at(), 3);
     Ok(())
 }
 

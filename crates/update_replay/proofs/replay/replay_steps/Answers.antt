@@ -1,7 +1,9 @@
 use Rattle.std.proofs.Common.{arith}
 use Rattle.tl_base.proofs.Uses.{used_none, used_then, used_as}
 use Rattle.update_replay.specs.Reading.{step_of}
-use Rattle.update_replay.proofs.Replaying.{first_told, going_told, not_read_told, done_told, not_closed_told, not_made_told, writes_none, writes_then, writes_as, made_few, made_space}
+use Rattle.update_replay.proofs.Replaying.{first_told, going_told, not_read_told, done_told, not_closed_told, not_made_told, made_few, made_space}
+use Rattle.update_replay.proofs.Writes.{writes_none, writes_then, writes_as}
+use Rattle.update_replay.proofs.Rooms.{step_fits, end_fits}
 use Rattle.update_replay.proofs.replay.replay_steps.Goals as goal
 
 pub loop-step-init : goal.loop-step-init
@@ -29,11 +31,19 @@ pub returns-in_err-make_step-clause-replayed : goal.returns-in_err-make_step-cla
 returns-in_err-make_step-clause-replayed g c =
     not_made_told (g.S.Source.left c.args.from.now) c.loop-step.world c.loop-step.at c.loop-step.count (g.S.Source.left c.loop-step.from) (g.K.Sink.written c.args.to.now) (g.K.Sink.written c.loop-step.to) c.loop-step.invariant.going c.make_step.new.world c.next_step.new.at c.in-Some.step (g.S.Source.left c.next_step.new.from) (g.K.Sink.written c.make_step.new.to) c.in_err-make_step.field-0.0 c.from_residual-in_err-make_step.result (rw c.in-Some.is at c.in_ok-step.ensures.read) c.in_err-make_step.ensures.made c.from_residual-in_err-make_step.ensures.1
 
+pub returns-in_err-write_end-clause-fits : goal.returns-in_err-write_end-clause-fits
+returns-in_err-write_end-clause-fits g c =
+    end_fits c.args.to.now c.loop-step.to c.write_end.new.to c.loop-step.world c.loop-step.at c.loop-step.count (g.S.Source.left c.loop-step.from) c.loop-step.invariant.written (g.S.Source.left c.args.from.now) c.loop-step.invariant.going c.next_step.new.at (g.S.Source.left c.next_step.new.from) c.in_err-write_end.field-0.0 c.from_residual-in_err-write_end.result (rw c.in_default.is at c.in_ok-step.ensures.read) c.from_residual-in_err-write_end.ensures.1 c.in_err-write_end.ensures.used
+
+pub returns-in_err-make_step-clause-fits : goal.returns-in_err-make_step-clause-fits
+returns-in_err-make_step-clause-fits g c =
+    step_fits c.args.to.now c.loop-step.to c.make_step.new.to c.loop-step.world c.loop-step.at c.loop-step.count (g.S.Source.left c.loop-step.from) c.loop-step.invariant.written (g.S.Source.left c.args.from.now) c.loop-step.invariant.going c.make_step.new.world c.next_step.new.at c.in-Some.step (g.S.Source.left c.next_step.new.from) c.in_err-make_step.field-0.0 c.from_residual-in_err-make_step.result (rw c.in-Some.is at c.in_ok-step.ensures.read) c.in_err-make_step.ensures.made c.from_residual-in_err-make_step.ensures.1 c.in_err-make_step.ensures.used
+
 pub loop-step-preserved : goal.loop-step-preserved
 loop-step-preserved g c = record {
   few = made_few c.loop-step.at c.loop-step.count c.loop-step.world c.make_step.new.world (step_of c.in-Some.step) (g.K.Sink.written c.loop-step.to) (g.K.Sink.written c.make_step.new.to) c.in_ok-make_step.ensures.made;
   space = made_space c.loop-step.at c.loop-step.count c.loop-step.world c.make_step.new.world (step_of c.in-Some.step) (g.K.Sink.written c.loop-step.to) (g.K.Sink.written c.make_step.new.to) c.loop-step.invariant.space c.in_ok-make_step.ensures.made;
   going = going_told (g.S.Source.left c.args.from.now) c.loop-step.world c.loop-step.at c.loop-step.count (g.S.Source.left c.loop-step.from) (g.K.Sink.written c.args.to.now) (g.K.Sink.written c.loop-step.to) c.loop-step.invariant.going c.make_step.new.world c.next_step.new.at c.in-Some.step (g.S.Source.left c.next_step.new.from) (g.K.Sink.written c.make_step.new.to) (rw c.in-Some.is at c.in_ok-step.ensures.read) c.in_ok-make_step.ensures.made;
   read = used_as c.args.from.now c.next_step.new.from _ ⊥ (used_then c.args.from.now c.loop-step.from c.next_step.new.from ⊥ _ c.loop-step.invariant.read c.in_ok-step.ensures.used) (λ f. absurd f);
-  written = writes_as c.args.to.now c.make_step.new.to _ ⊥ (writes_then c.args.to.now c.loop-step.to c.make_step.new.to ⊥ _ c.loop-step.invariant.written c.in_ok-make_step.ensures.used) (λ f. absurd f);
+  written = writes_as c.args.to.now c.make_step.new.to _ ⊥ (writes_then c.args.to.now c.loop-step.to c.make_step.new.to _ ⊥ _ c.loop-step.invariant.written c.in_ok-make_step.ensures.used) (λ f. absurd f);
 }

@@ -1,9 +1,8 @@
 use Rattle.std.proofs.Common.{◌≤◌, ◌-◌}
 use Rattle.std.specs.Prelude.{IfSome}
 use Rattle.tl_base.specs.Contents.{AreBytes}
-use Rattle.tl_base.specs.Using.{Used}
+use Rattle.tl_base.specs.Using.{Used, WritesOnly}
 use Rattle.box_events.specs.Boxes.{ending}
-use Rattle.update_replay.specs.Making.{WritesOnly}
 use Rattle.update_replay.proofs.Replaying.{Going}
 use Rattle.update_replay.proofs.replay.replay_steps.Given as goal
 
@@ -16,7 +15,7 @@ invariant-loop-step g l =
       space : ending l.world.box ≤ l.count;
       going : IfSome (s.left l.fn.from) (λ journal. AreBytes journal → Going journal l.world l.at l.count (s.left l.from) (k.written l.fn.to) (k.written l.to));
       read : Used s.left s.faults s.aside s.sound l.fn.from l.from ⊥;
-      written : WritesOnly k.written k.faults k.aside k.room l.fn.to l.to ⊥;
+      written : WritesOnly k.written k.faults k.aside k.sound k.room l.fn.to l.to ⊥;
     }
 
 abbrev pub decreases-loop-step : goal.decreases-loop-step

@@ -24,7 +24,7 @@ invariant_of-self g c =
     let e = c.settle-self-inside.ensures in
     let next = next_of c.self.inside.mode c.args.start c.self.inside.at _ c.is_next.ensures c.if-is_next.true in
     let items = c.in-Ok.ensures.items in
-    let t : Track g.row.E.Denot = record { restart = c.self.inside.restart; events = c.push.new.self.items; at = c.args.end; held = c.self.inside.gap.0; mode = c.self.inside.mode } in
+    let t : Track g.row.E.Denot = record { restart = c.self.inside.restart; events = c.push.new.self.items; at = c.args.end; held = c.self.inside.gap.held; mode = c.self.inside.mode } in
     record {
       sound = subst (IsSound g.E.Counted.count) (sym (settled t _ _ _ e.events e.reach e.held))
           (sound_settle g.E.Counted.count t (record { sized = i.sized; place = rw items (omega (arith, next.1, i.place, c.requires.counts, sum_by_push g.E.Counted.count c.self.inside.events.items c.args.event)); limit = c.requires.limit }));
@@ -35,8 +35,8 @@ pub returns-then-is_next-clause-told : goal.returns-then-is_next-clause-told
 returns-then-is_next-clause-told g c =
     let e = c.settle-self-inside.ensures in
     let next = next_of c.self.inside.mode c.args.start c.self.inside.at _ c.is_next.ensures c.if-is_next.true in
-    let t : Track g.row.E.Denot = record { restart = c.self.inside.restart; events = c.push.new.self.items; at = c.args.end; held = c.self.inside.gap.0; mode = c.self.inside.mode } in
-    let u : Track g.row.E.Denot = record { restart = c.self.inside.restart; events = c.settle-self-inside.new.events.items; at = c.settle-self-inside.result; held = c.settle-self-inside.new.gap.0; mode = c.self.inside.mode } in
+    let t : Track g.row.E.Denot = record { restart = c.self.inside.restart; events = c.push.new.self.items; at = c.args.end; held = c.self.inside.gap.held; mode = c.self.inside.mode } in
+    let u : Track g.row.E.Denot = record { restart = c.self.inside.restart; events = c.settle-self-inside.new.events.items; at = c.settle-self-inside.result; held = c.settle-self-inside.new.gap.held; mode = c.self.inside.mode } in
     hears_as (track_of c.self.inside) c.args.self.now.track c.args.start c.args.end c.args.event (Applied c.settle-self-inside.result) u (ap (λ p. p.track) c.self.view_is) (
       never_past g.E.Counted.count (track_of c.self.inside) c.args.start c.self.invariant.sound next,
       next,
@@ -56,7 +56,7 @@ invariant_of-self-2 g c =
     let holds = holds_to c.self.inside.gap c.hold.new.self c.args.start _ c.args.end c.args.event c.hold.result to c.hold.ensures in
     record {
       sound = sound_by g.E.Counted.count (track_of c.self.inside) c.args.start c.args.end c.args.event (seen_by c.hold.result) _ c.self.invariant.sound behind c.requires.counts c.requires.limit
-          (held_hears (track_of c.self.inside) c.args.start c.args.end c.args.event c.self.inside.gap.1 c.hold.new.self c.hold.result no_next c.if-start-self.false holds);
+          (held_hears (track_of c.self.inside) c.args.start c.args.end c.args.event c.self.inside.gap c.hold.new.self c.hold.result no_next c.if-start-self.false holds);
       room = (let room = ap (λ p. p.spare) c.self.view_is in let few = held_len _ _ _ _ _ _ holds in omega (arith, room, few, c.self.invariant.room, c.requires.room));
     }
 
@@ -65,8 +65,8 @@ returns-clause-told g c =
     let no_next = not_next_of c.self.inside.mode c.args.start c.self.inside.at _ c.is_next.ensures c.if-is_next.false in
     let to : c.args.start + c.count.result ≡ c.args.end = omega (arith, c.requires.counts, c.count.ensures.value) in
     let holds = holds_to c.self.inside.gap c.hold.new.self c.args.start _ c.args.end c.args.event c.hold.result to c.hold.ensures in
-    rw c.seen_of.ensures (hears_as (track_of c.self.inside) c.args.self.now.track c.args.start c.args.end c.args.event (seen_by c.hold.result) (record (track_of c.self.inside) { held = c.hold.new.self.0 }) (ap (λ p. p.track) c.self.view_is)
-    (held_hears (track_of c.self.inside) c.args.start c.args.end c.args.event c.self.inside.gap.1 c.hold.new.self c.hold.result no_next c.if-start-self.false holds))
+    rw c.seen_of.ensures (hears_as (track_of c.self.inside) c.args.self.now.track c.args.start c.args.end c.args.event (seen_by c.hold.result) (record (track_of c.self.inside) { held = c.hold.new.self.held }) (ap (λ p. p.track) c.self.view_is)
+    (held_hears (track_of c.self.inside) c.args.start c.args.end c.args.event c.self.inside.gap c.hold.new.self c.hold.result no_next c.if-start-self.false holds))
 
 pub returns-clause-step : goal.returns-clause-step
 returns-clause-step g c = hear_is c.args.self.now.track c.args.start c.args.end c.args.event c.seen_of.result _ (returns-clause-told g c)

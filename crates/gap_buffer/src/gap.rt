@@ -1,0 +1,153 @@
+//! Gaps.
+ghost use Rattle.std.specs.Prelude.{◌≡◌, ◌<◌, ◌≤◌, ◌+◌, OnOk, OnErr, IfSome, length};
+ghost use Rattle.std.specs.FinMap as map;
+ghost use Rattle.gap_buffer.specs.Holding.{Holds, TakesBelow, from};
+ghost use Rattle.gap_buffer.specs.Entries.{index_from, below_from};
+
+use crate::held::Held;
+use std::alloc::Global;
+use std::marker::Model;
+use tl_base::Memory;
+
+/// So many items are held at most.
+const MOST: usize = 1_024;
+
+/// Held items by their starts, each with its end, in order of arrival.
+#[derive(Drop)]
+pub struct Gap<E> {
+    items: Vec<(u32, (u32, E))>,
+}
+
+impl<E> Model for Gap<E> {
+    ghost use Rattle.gap_buffer.specs.Holding.{GapView, gap_code};
+    ghost use Rattle.gap_buffer.specs.Views.{view_of, IsWhole};
+
+    ghost Value = { GapView E };
+
+    ghost coded = { gap_code E.code };
+
+    ghost view = { view_of };
+
+    ghost invariant = { IsWhole };
+}
+
+// Where the item with a start stands.
+fn place_of<E>(items: &[(u32, E)], start: u32) -> Option<usize>
+    ensures place { result ≡ index_from 0 items.now start }
+    ensures within { IfSome result (λ i. i < length items.now) }
+{
+    for (i, held) in items.iter().enumerate() {
+        if start == held.0 {
+            return Some(i);
+        }
+    }
+    None
+}
+
+// Where the first item that starts below a place stands.
+fn place_below<E>(items: &[(u32, E)], at: u32) -> Option<usize>
+    ensures place { result ≡ below_from 0 items.now at }
+    ensures within { IfSome result (λ i. i < length items.now) }
+{
+    for (i, held) in items.iter().enumerate() {
+        if held.0 < at {
+            return Some(i);
+        }
+    }
+    None
+}
+
+impl<E> Gap<E> {
+    /// Nothing is held.
+    pub fn new(alloc: Global) -> Gap<E>
+        ensures { result.held ≡ map.empty }
+    {
+        Gap {
+            items: Vec::new(alloc),
+        }
+    }
+
+    /// Takes memory for so many more items.
+    pub fn reserve(&mut self, more: u32) -> Result<(), Memory>
+        ensures held { self.new.held ≡ self.old.held }
+        ensures spare { self.old.spare ≤ self.new.spare }
+        ensures ok { OnOk result (more ≤ self.new.spare) }
+        ensures err { OnErr result (self.new ≡ self.old) }
+    {
+        self.items.reserve(more as usize)
+    }
+
+    /// Holds an item. There is to be room for it.
+    pub fn hold(&mut self, start: u32, end: u32, item: E) -> Held<E>
+        requires order { start < end }
+        requires room { 1 ≤ self.old.spare }
+        ensures { Holds self.old self.new start end item result }
+    {
+        if place_of(&self.items, start).is_some() {
+            return Held::Already(item);
+        }
+        if self.items.len() >= MOST {
+            return Held::Full(item);
+        }
+        match self.items.push((start, (end, item))) {
+            Ok(()) => Held::Kept,
+            Err(_) => unreachable!(),
+        }
+    }
+
+    /// Takes the item that starts here, with its end.
+    pub fn take(&mut self, at: u32) -> Option<(u32, E)>
+        ensures value { result ≡ map.get self.old.held at }
+        ensures rest { self.new.held ≡ map.remove self.old.held at }
+        ensures spare { self.old.spare ≤ self.new.spare }
+    {
+        let i = place_of(&self.items, at)?;
+        let (_, held) = self.items.remove(i);
+        Some(held)
+    }
+
+    /// Takes an item that starts below this place, with its end.
+    pub fn take_below(&mut self, at: u32) -> Option<(u32, E)>
+        ensures taken { TakesBelow self.old self.new at result }
+        ensures spare { self.old.spare ≤ self.new.spare }
+    {
+        match place_below(&self.items, at) {
+            Some(i) => {
+                let (_, held) = self.items.remove(i);
+                Some(held)
+            }
+            None => None,
+        }
+    }
+
+    /// Drops the items that start below this place, and answers how many.
+    pub fn drop_to(&mut self, at: u32) -> u32
+    where
+        E: Drop,
+        ensures rest { self.new.held ≡ from at self.old.held }
+        ensures number { result + map.len self.new.held ≡ map.len self.old.held }
+        ensures spare { self.old.spare ≤ self.new.spare }
+    {
+        let before = self.items.len();
+        self.items.retain(|held| at <= held.0);
+        (before - self.items.len()) as u32
+    }
+
+    /// Drops every item.
+    pub fn clear(&mut self)
+    where
+        E: Drop,
+        ensures rest { self.new.held ≡ map.empty }
+        ensures spare { self.old.spare ≤ self.new.spare }
+    {
+        self.items.clear();
+    }
+
+    /// How many items are held.
+    pub fn len(&self) -> u32
+        ensures number { result ≡ map.len self.now.held }
+        ensures most { result ≤ 1024 }
+    {
+        self.items.len() as u32
+    }
+}

@@ -1,0 +1,10 @@
+//! Items that came before their turn, held by their starts.
+#![tactic(auto)]
+
+mod gap;
+mod held;
+#[cfg(test)]
+mod tests;
+
+pub use gap::Gap;
+pub use held::Held;

@@ -1,6 +1,0 @@
-use Rattle.std.proofs.Common.{◌∙◌}
-use Rattle.pts_machine.proofs.Maps.{same_from}
-use Rattle.pts_machine.proofs.lane.settle.Goals as goal
-
-pub returns-clause-held : goal.returns-clause-held
-returns-clause-held g c = c.drop_to.ensures.rest ∙ same_from c.follow-at.result _ _ c.follow-at.ensures.held

@@ -1,0 +1,42 @@
+-- The latest settings are one table, and grow with their list.
+use Rattle.std.proofs.Common.{◌≡◌, ℕ, ◌+◌, ◌-◌, ◌<◌, ◌≤◌, List, [], ◌++◌, min, length, take, drop, map as each, refl, sym, ap, ◌∙◌, arith}
+use Rattle.std.specs.Cmp.Lexicographic.{nat_list_cmp_total}
+use Rattle.std.specs.Ordering.{nat_cmp}
+use Rattle.std.specs.Cmp.Lexicographic.{slice_cmp}
+use Rattle.std.specs.FinMap.{get, empty, get-empty, same_map, slice_cmp-IsAntisymmetric, nat_cmp-IsAntisymmetric}
+use Rattle.std.proofs.lemmas.Option.{none-some}
+use Rattle.std.proofs.lemmas.List.{take-append-le, length-take, length-drop, length-map}
+use Rattle.gap_buffer.specs.Holding.{Items}
+use Rattle.seq_machine.specs.declared.setting.Setting.{Setting}
+use Rattle.seq_machine.specs.Packs.{Values, Pack, size}
+use Rattle.seq_machine.specs.Books.{Book, new_book, IsSoundBook}
+use Rattle.seq_machine.specs.Latest.{Dated, last_of, value_of, IsLatest, latest, IsStretch, IsLatestBook}
+use Rattle.seq_machine.proofs.LatestValues.{latest_puts}
+
+latest_none : (L : List Dated) → IsLatest L 0 empty
+latest_none L q = get-empty (slice_cmp nat_cmp) q
+
+pub latest_is : (L : List Dated) (s : ℕ) → IsLatest L s (latest L s)
+latest_is L s = latest_puts L 0 s empty (each (λ e. e.setting) (take s L)) (latest_none L) (record { order = omega arith; is = refl })
+
+pub latest_one : (L : List Dated) (s : ℕ) (table : Values) → IsLatest L s table → table ≡ latest L s
+latest_one L s table h = same_map nat_list_cmp_total (slice_cmp-IsAntisymmetric nat_cmp-IsAntisymmetric) table (latest L s) (λ q. h q ∙ sym (latest_is L s q))
+
+pub latest_new : (L : List Dated) → IsLatestBook L new_book
+latest_new L = record { table = latest_none L; held = λ s x e. absurd (none-some x (sym (get-empty nat_cmp s) ∙ e)) }
+
+-- a stretch that is as long as its numbers say lies within the list
+ends_within : (L : List Dated) (s e : ℕ) (settings : List Setting) → s < e → e ≡ s + length settings → IsStretch L s e settings → e ≤ length L
+ends_within L s e settings lt is h =
+    let sum : length settings ≡ min e (length L) - s =
+    ap (λ (xs : List Setting). length xs) h.is ∙ length-map (drop s (take e L)) (λ e. e.setting) ∙ length-drop s (take e L) ∙ ap (λ (n : ℕ). n - s) (length-take e L) in
+    omega arith
+
+pub latest_grows : (L more : List Dated) (b : Book) → IsSoundBook b → b.at ≤ length L → IsLatestBook L b → IsLatestBook (L ++ more) b
+latest_grows L more b sound le h = record {
+  table = λ q. h.table q ∙ ap (λ (xs : List Dated). value_of (last_of xs q)) (sym (take-append-le b.at L more le));
+  held = λ s x e.
+      let is = h.held s x e in
+      let fits = sound.sized s x e in
+      record { order = is.order; is = is.is ∙ ap (λ (xs : List Dated). each (λ d. d.setting) (drop s xs)) (sym (take-append-le x.0 L more (ends_within L s x.0 x.1.settings fits.0 fits.1 is))) };
+}

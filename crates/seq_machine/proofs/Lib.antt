@@ -1,0 +1,7 @@
+pub mod RowSteps
+pub mod LatestValues
+pub mod Stays
+pub mod Growing
+pub mod Sums
+pub mod Below
+pub mod BookSteps

@@ -1,0 +1,14 @@
+use Rattle.std.proofs.Common.{sym, ap, ◌∙◌, arith}
+use Rattle.seq_machine.specs.Totals.{total}
+use Rattle.seq_machine.proofs.Sums.{total_empty}
+use Rattle.seq_machine.proofs.BookSteps.{sound_empty}
+use Rattle.seq_machine.proofs.settings.Settings.load.Goals as goal
+
+pub invariant_of-result : goal.invariant_of-result
+invariant_of-result c = record {
+  sound = sound_empty _ _ _ _ _ c.new.ensures c.requires.limit;
+  total = sym (ap total c.new.ensures ∙ total_empty);
+  table = omega arith;
+  gap = omega arith;
+  few = omega arith;
+}

@@ -1,0 +1,9 @@
+pub mod Packs
+pub mod Rows
+pub mod Spots
+pub mod Tables
+pub mod TableViews
+pub mod Totals
+pub mod Books
+pub mod Views
+pub mod Latest

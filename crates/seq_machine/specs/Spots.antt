@@ -1,0 +1,8 @@
+-- A spot in a list of so many.
+use Rattle.std.specs.Prelude.{ℕ, ◌<◌, ◌≤◌}
+use Rattle.seq_machine.specs.declared.table.Spot.{Spot}
+use Rattle.seq_machine.specs.declared.table.Spot.TheVariants.{At, Before}
+
+abbrev pub IsWithin : Spot → ℕ → Type 0
+IsWithin (At i) n = i < n
+IsWithin (Before i) n = i ≤ n

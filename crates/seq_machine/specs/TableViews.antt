@@ -1,0 +1,8 @@
+-- A table's fields as a table.
+use Rattle.std.specs.Prelude.{◌-◌, vec_len, vec_capacity}
+use Rattle.seq_machine.specs.declared.table.Table.TheInside.{Inside}
+use Rattle.seq_machine.specs.Rows.{values_of}
+use Rattle.seq_machine.specs.Tables.{TableView}
+
+abbrev pub view_of : Inside → TableView
+view_of a = record { values = values_of a.rows.items; spare = vec_capacity a.rows - vec_len a.rows }

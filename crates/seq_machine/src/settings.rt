@@ -1,0 +1,244 @@
+//! The settings of a client.
+ghost use Rattle.std.specs.Prelude.{◌≡◌, ◌<◌, ◌≤◌, ◌+◌, ◌-◌, ◌&&◌, ◌^◌, eqb, ℕ, List, OnOk, OnErr, MatchOption, None, Some, vec_len};
+ghost use Rattle.std.specs.FinMap as map;
+ghost use Rattle.gap_buffer.specs.declared.held.Held.{Held};
+ghost use Rattle.pts_machine.specs.Chains.{AreChained};
+ghost use Rattle.pts_machine.specs.Outcomes.{seen_by};
+ghost use Rattle.pts_machine.specs.Tracks.{is_live};
+ghost use Rattle.seq_machine.specs.Packs.{puts};
+ghost use Rattle.seq_machine.specs.Rows.{pairs, values_of, AreSorted};
+ghost use Rattle.seq_machine.specs.Totals.{total, kept_by};
+ghost use Rattle.seq_machine.specs.Books.{IsSoundBook, new_book, hear_pack, overlaid, asked, asks_again, forgotten};
+ghost use Rattle.seq_machine.specs.Latest.{Dated, IsLatestBook, IsStretch, AreSince, IsOverlay};
+
+use crate::chains::{put_all, settle};
+use crate::held_pack::HeldPack;
+use crate::setting::Setting;
+use crate::table::Table;
+use gap_buffer::{Gap, Held};
+use pts_machine::{Mode, Seen};
+use std::alloc::{AllocError, Global};
+use std::marker::Model;
+use tl_base::Memory;
+
+/// Keys, held settings and room come to fewer than this number.
+const MOST: usize = 2_147_483_648;
+
+/// The settings of a client at a seq, and packs that came before their turn.
+#[derive(Drop)]
+pub struct Settings {
+    at: u32,
+    date: u32,
+    mode: Mode,
+    gap: Gap<HeldPack>,
+    table: Table,
+    // how many settings are held
+    waiting: usize,
+    // for how many more settings memory was taken
+    spare: u32,
+}
+
+impl Model for Settings {
+    ghost use Rattle.seq_machine.specs.Books.{BookView, view_code};
+    ghost use Rattle.seq_machine.specs.Views.{view_of, IsWhole};
+
+    ghost Value = { BookView };
+
+    ghost coded = { view_code };
+
+    ghost view = { view_of };
+
+    ghost invariant = { IsWhole };
+}
+
+// Whether a pack that starts here is applied at once.
+fn is_next(mode: Mode, start: u32, at: u32) -> bool
+    ensures { result ≡ (is_live mode && eqb start at) }
+{
+    match mode {
+        Mode::Live => start == at,
+        Mode::Asking(_) => false,
+        Mode::Again => false,
+    }
+}
+
+// What came of a pack that was to be held, and how many of its settings are held now.
+fn outcome(held: Held<HeldPack>, number: usize) -> (Seen, usize)
+    ensures seen { result.0 ≡ seen_by held }
+    ensures number { result.1 ≡ kept_by held number }
+{
+    match held {
+        Held::Kept => (Seen::Held, number),
+        Held::Already(_) => (Seen::Already, 0),
+        Held::Full(_) => (Seen::Dropped, 0),
+    }
+}
+
+impl Settings {
+    /// No settings, at seq 0 and date 0.
+    pub fn new(alloc: Global) -> Settings
+        ensures { result.book ≡ new_book }
+    {
+        Settings {
+            at: 0,
+            date: 0,
+            mode: Mode::Live,
+            gap: Gap::new(alloc),
+            table: Table::new(alloc),
+            waiting: 0,
+            spare: 0,
+        }
+    }
+
+    /// Takes memory for so many further settings beside everything kept and held. Where all of them would come to 2^31,
+    /// there is no memory.
+    pub fn reserve(&mut self, more: u32) -> Result<(), Memory>
+        ensures book { self.new.book ≡ self.old.book }
+        ensures spare { self.old.spare ≤ self.new.spare }
+        ensures ok { OnOk result (more ≤ self.new.spare) }
+        ensures limit { OnOk result (map.len self.old.book.table + total self.old.book.held + more < 2 ^ 31) }
+        ensures err { OnErr result (self.new ≡ self.old) }
+    {
+        let kept = self.table.len().saturating_add(self.waiting);
+        if kept.saturating_add(more as usize) >= MOST {
+            return Err(AllocError);
+        }
+        self.table.reserve(self.waiting + more as usize)?;
+        self.gap.reserve(more)?;
+        self.spare = self.spare.max(more);
+        Ok(())
+    }
+
+    /// A pack comes: the settings from one seq to another, and their date.
+    pub fn push_pack(&mut self, seq_start: u32, seq: u32, date: u32, pack: Vec<Setting>) -> Seen
+        requires low { 1 ≤ seq_start }
+        requires order { seq_start ≤ seq }
+        requires limit { seq ≤ 1000000 }
+        requires number { vec_len pack + seq_start ≡ seq + 1 }
+        requires room { vec_len pack ≤ self.old.spare }
+        ensures step { hear_pack self.old.book (seq_start - 1) seq (record { date = date; settings = pack.items }) ≡ record { book = self.new.book; seen = result } }
+        ensures spare { self.old.spare ≤ self.new.spare + vec_len pack }
+        ensures latest { (L : List Dated) → IsLatestBook L self.old.book → IsStretch L (seq_start - 1) seq pack.items → IsLatestBook L self.new.book }
+    {
+        let start = seq_start - 1;
+        if start < self.at {
+            return Seen::Already;
+        }
+        if is_next(self.mode, start, self.at) {
+            self.overlay(pack, seq, date);
+            return Seen::Applied { to: self.at };
+        }
+        let number = pack.len();
+        let held = self.gap.hold(start, seq, HeldPack::new(date, pack));
+        let (seen, kept) = outcome(held, number);
+        self.waiting += kept;
+        self.spare -= kept as u32;
+        seen
+    }
+
+    /// It waits for the answer to the request of this number.
+    pub fn ask(&mut self, number: u32)
+        ensures step { self.new.book ≡ asked self.old.book number }
+        ensures spare { self.old.spare ≤ self.new.spare }
+    {
+        self.mode = Mode::Asking(number);
+    }
+
+    /// The last answer was a part: it is to ask again.
+    pub fn again(&mut self)
+        ensures step { self.new.book ≡ asks_again self.old.book }
+        ensures spare { self.old.spare ≤ self.new.spare }
+    {
+        self.mode = Mode::Again;
+    }
+
+    /// The settings of a final answer come: they are laid over what is kept, and what is held and follows is applied.
+    pub fn overlay(&mut self, pack: Vec<Setting>, seq: u32, date: u32)
+        requires order { self.old.book.at ≤ seq }
+        requires limit { seq ≤ 1000000 }
+        requires room { vec_len pack ≤ self.old.spare }
+        ensures step { self.new.book ≡ overlaid self.old.book pack.items seq date }
+        ensures spare { self.old.spare ≤ self.new.spare + vec_len pack }
+        ensures latest { (L : List Dated) → IsLatestBook L self.old.book → AreSince L self.old.book.at self.old.book.date → IsOverlay L seq self.old.book.date pack.items → IsLatestBook L self.new.book }
+    {
+        let number = pack.len();
+        put_all(&mut self.table, pack);
+        let reached = settle(&mut self.table, seq, date, self.waiting, &mut self.gap);
+        self.mode = Mode::Live;
+        self.at = reached.at;
+        self.date = reached.date;
+        self.waiting = reached.waiting;
+        self.spare -= number as u32;
+    }
+
+    /// Nothing is held, and no answer waited for.
+    pub fn forget(&mut self)
+        ensures step { self.new.book ≡ forgotten self.old.book }
+        ensures spare { self.old.spare ≤ self.new.spare }
+    {
+        self.gap.clear();
+        self.waiting = 0;
+        self.mode = Mode::Live;
+    }
+
+    /// The seq up to which packs were applied.
+    pub fn at(&self) -> u32
+        ensures value { result ≡ self.now.book.at }
+        ensures sound { IsSoundBook self.now.book }
+    {
+        self.at
+    }
+
+    /// The date of the last pack or answer that was applied.
+    pub fn date(&self) -> u32
+        ensures { result ≡ self.now.book.date }
+    {
+        self.date
+    }
+
+    pub fn mode(&self) -> Mode
+        ensures { result ≡ self.now.book.mode }
+    {
+        self.mode
+    }
+
+    /// How many packs are held.
+    pub fn held(&self) -> u32
+        ensures number { result ≡ map.len self.now.book.held }
+        ensures most { result ≤ 1024 }
+        ensures chained { AreChained self.now.book.held }
+    {
+        self.gap.len()
+    }
+
+    /// The value of a key.
+    pub fn get(&self, key: &[u8]) -> Option<&[u8]>
+        ensures { MatchOption result (map.get self.now.book.table key.now ≡ None) (λ v. map.get self.now.book.table key.now ≡ Some v.now) }
+    {
+        self.table.get(key)
+    }
+
+    /// All settings, in byte order of keys.
+    pub fn all(&self) -> &[Setting]
+        ensures rows { pairs result.now ≡ map.entries self.now.book.table }
+    {
+        self.table.rows()
+    }
+
+    /// Settings whose keys rise, at a seq and a date.
+    pub fn load(alloc: Global, seq: u32, date: u32, all: Vec<Setting>) -> Settings
+        requires limit { seq ≤ 1000000 }
+        requires sorted { AreSorted all.items }
+        ensures { result.book ≡ record { at = seq; date = date; table = values_of all.items; held = map.empty; mode = Mode.Live } }
+    {
+        Settings {
+            at: seq,
+            date,
+            mode: Mode::Live,
+            gap: Gap::new(alloc),
+            table: Table::of(all),
+            waiting: 0,
+            spare: 0,
+        }
+    }
+}
