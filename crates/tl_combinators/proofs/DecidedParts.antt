@@ -1,5 +1,5 @@
 -- Whether a token is such, and whether digits are a number's, is decided.
-use Rattle.std.proofs.Common.{◌≡◌, ℕ, zero, suc, ◌<◌, ◌≤◌, ◌^◌, List, [], ◌∷◌, Bool, true, false, Result, Ok, Err, refl, sym, ◌∙◌, ap, subst, inl, inr, arith, codes}
+use Rattle.std.proofs.Common.{◌≡◌, ℕ, zero, suc, ◌<◌, ◌≤◌, ◌^◌, List, [], ◌∷◌, get_or, Bool, true, false, Result, Ok, Err, refl, sym, ◌∙◌, ap, subst, inl, inr, arith, codes}
 use Rattle.std.specs.Prelude.{◌⊎◌}
 use Rattle.std.specs.Int.{w32, to_be_bytes, from_be_bytes}
 use Rattle.std.proofs.lemmas.Bool.{cases_Bool, both_ways, cases_eq, cases_lt}
@@ -8,7 +8,7 @@ use Rattle.hex.specs.Hex.{encode_lower, decode_sized}
 use Rattle.hex.specs.declared.error.FromHexError.{FromHexError}
 use Rattle.tl_lexer.specs.declared.token.Token.{Token}
 use Rattle.tl_lexer.specs.declared.token.TokenKind.{TokenKind}
-use Rattle.tl_lexer.specs.declared.token.TokenKind.TheVariants.{Word, Hash, Colon, Semi, Equals}
+use Rattle.tl_lexer.specs.declared.token.TokenKind.TheVariants.{Word, Dashes, Hash, Colon, Semi, Equals, Query, Dot, Bang, Percent, LBrace, RBrace, LBracket, RBracket, Less, Greater, LParen, RParen, Star, Comma, Plus}
 use Rattle.tl_lexer.proofs.Whole.{Decided}
 use Rattle.tl_combinators.specs.Names.{OfKind, IsAt, bytes_of, first_is, is_lower, is_upper, IsWhole, IsOther, IsWide, IsBuiltIn, IsName, IsResult, IsFieldType, IsNumberText, HasNumber}
 use Rattle.tl_combinators.proofs.Numbers.{decodes}
@@ -23,7 +23,7 @@ pub decided_not : {P : Type 0} → Decided P → Decided (P → ⊥)
 decided_not (inl p) = inr (λ n. n p)
 decided_not (inr n) = inl n
 
-decided_and : {P Q : Type 0} → Decided P → Decided Q → Decided (P × Q)
+pub decided_and : {P Q : Type 0} → Decided P → Decided Q → Decided (P × Q)
 decided_and (inl p) (inl q) = inl (p, q)
 decided_and (inl p) (inr n) = inr (λ h. n h.1)
 decided_and (inr n) d = inr (λ h. n h.0)
@@ -32,7 +32,7 @@ neither : {P Q : Type 0} → (P → ⊥) → (Q → ⊥) → P ⊎ Q → ⊥
 neither n m (inl p) = n p
 neither n m (inr q) = m q
 
-decided_or : {P Q : Type 0} → Decided P → Decided Q → Decided (P ⊎ Q)
+pub decided_or : {P Q : Type 0} → Decided P → Decided Q → Decided (P ⊎ Q)
 decided_or (inl p) d = inl (inl p)
 decided_or (inr n) (inl q) = inl (inr q)
 decided_or (inr n) (inr m) = inr (neither n m)
@@ -46,7 +46,7 @@ cells x y xs ys (inl e) (inl f) = inl cc
 cells x y xs ys (inl e) (inr n) = inr (λ f. n cc)
 cells x y xs ys (inr n) d = inr (λ f. n cc)
 
-text_decided : (xs ys : List ℕ) → Decided (xs ≡ ys)
+pub text_decided : (xs ys : List ℕ) → Decided (xs ≡ ys)
 text_decided [] [] = inl refl
 text_decided [] (y ∷ ys) = inr (λ e. absurd cc)
 text_decided (x ∷ xs) [] = inr (λ e. absurd cc)
@@ -56,24 +56,56 @@ text_decided (x ∷ xs) (y ∷ ys) = cells x y xs ys (cases_eq x y) (text_decide
 
 abbrev index : TokenKind → ℕ
 index Word = 0
-index Hash = 1
-index Colon = 2
-index Semi = 3
-index Equals = 4
+index Dashes = 1
+index Hash = 2
+index Colon = 3
+index Semi = 4
+index Equals = 5
+index Query = 6
+index Dot = 7
+index Bang = 8
+index Percent = 9
+index LBrace = 10
+index RBrace = 11
+index LBracket = 12
+index RBracket = 13
+index Less = 14
+index Greater = 15
+index LParen = 16
+index RParen = 17
+index Star = 18
+index Comma = 19
+index Plus = 20
+
+kinds : List TokenKind
+kinds = Word ∷ Dashes ∷ Hash ∷ Colon ∷ Semi ∷ Equals ∷ Query ∷ Dot ∷ Bang ∷ Percent ∷ LBrace ∷ RBrace ∷ LBracket ∷ RBracket ∷ Less ∷ Greater ∷ LParen ∷ RParen ∷ Star ∷ Comma ∷ Plus ∷ []
 
 abbrev kind_at : ℕ → TokenKind
-kind_at zero = Word
-kind_at (suc zero) = Hash
-kind_at (suc (suc zero)) = Colon
-kind_at (suc (suc (suc zero))) = Semi
-kind_at (suc (suc (suc (suc n)))) = Equals
+kind_at n = get_or kinds n Word
 
 kind_again : (k : TokenKind) → kind_at (index k) ≡ k
+unfolding kinds
 kind_again Word = refl
+kind_again Dashes = refl
 kind_again Hash = refl
 kind_again Colon = refl
 kind_again Semi = refl
 kind_again Equals = refl
+kind_again Query = refl
+kind_again Dot = refl
+kind_again Bang = refl
+kind_again Percent = refl
+kind_again LBrace = refl
+kind_again RBrace = refl
+kind_again LBracket = refl
+kind_again RBracket = refl
+kind_again Less = refl
+kind_again Greater = refl
+kind_again LParen = refl
+kind_again RParen = refl
+kind_again Star = refl
+kind_again Comma = refl
+kind_again Plus = refl
 
 pub kind_decided : (kind : TokenKind) (t : Token) → Decided (OfKind kind t)
 kind_decided kind t = decided_as (λ e. sym (kind_again t.kind) ∙ ap kind_at e ∙ kind_again kind) (ap index) (cases_eq (index t.kind) (index kind))

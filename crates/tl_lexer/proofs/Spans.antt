@@ -4,7 +4,7 @@ use Rattle.tl_lexer.specs.Rule.{Rule, Turns, here, gives, chain, loop}
 use Rattle.tl_lexer.specs.declared.token.Token.{Token}
 use Rattle.tl_lexer.specs.declared.token.TokenKind.{TokenKind}
 use Rattle.tl_lexer.specs.declared.fault.LexFault.{LexFault}
-use Rattle.tl_lexer.specs.Tokens.{Spans, Tokens, any_byte, one_byte, bytes_while, with_piece, more, piece, pieces}
+use Rattle.tl_lexer.specs.Tokens.{Spans, Tokens, any_byte, one_byte, two_bytes, bytes_while, white_byte, word, line, closes, block, dashes, single_byte, with_piece, more, piece, pieces}
 use Rattle.tl_lexer.proofs.Behind.{Shrinks, Shortens, leads_choice, leads_fails, shortens_one, shortens_first, shortens_then, shrinks_shortens, shrinks_gives, shrinks_here, shrinks_chain, shrinks_loop}
 
 pub span_at : (n : ℕ) (ts : List Token) (i : ℕ) (d : Token) → i < length ts → Spans n ts → ((get_or ts i d).start ≤ (get_or ts i d).end) × ((get_or ts i d).end ≤ n)
@@ -13,7 +13,7 @@ span_at n (t ∷ ts) zero d h s = (s.0, s.1)
 span_at n (t ∷ ts) (suc i) d h s = span_at n ts i d (omega (arith, h)) s.2
 
 module _ (text : List ℕ) (tokens : List Token) (is : Tokens text tokens) where
-  pub text_is_small : length text ≤ 65536
+  pub text_is_small : length text ≤ 4194304
   text_is_small = is.0
 
   pub token_ordered : (i : ℕ) (d : Token) → i < length tokens → (get_or tokens i d).start ≤ (get_or tokens i d).end
@@ -32,36 +32,55 @@ spans_piece : (n : ℕ) (ts : List Token) (start end : ℕ) (o : Option TokenKin
 spans_piece n ts start end None p q s = s
 spans_piece n ts start end (Some k) p q s = spans_push n ts (record { kind = k; start = start; end = end }) p q s
 
-shortens_any : Shortens any_byte
+shortens_any : (size : ℕ) → Shortens (any_byte size)
 unfolding any_byte
-shortens_any = shortens_one _ _
+shortens_any size = shortens_one _ _
 
-shortens_byte : {A : Type 0} (s : ℕ → Rule ℕ LexFault A) → ((b : ℕ) → Shrinks (s b)) → Shortens (chain any_byte s)
-shortens_byte s h = shortens_first _ _ shortens_any h
+shortens_byte : {A : Type 0} (size : ℕ) (s : ℕ → Rule ℕ LexFault A) → ((b : ℕ) → Shrinks (s b)) → Shortens (chain (any_byte size) s)
+shortens_byte size s h = shortens_first _ _ (shortens_any size) h
 
-pub shortens_turn : (u : Unit {0}) → Shortens (one_byte u)
-shortens_turn u = shortens_byte _ (λ b. shrinks_gives _ _ _)
+pub shortens_turn : (size : ℕ) (u : Unit {0}) → Shortens (one_byte size u)
+shortens_turn size u = shortens_byte size _ (λ b. shrinks_gives _ _ _)
 
-shrinks_while : (P : List ℕ → Type 0) → Shrinks (bytes_while P)
+shrinks_while : (size : ℕ) (P : List ℕ → Type 0) → Shrinks (bytes_while size P)
 unfolding bytes_while
-shrinks_while P = shrinks_loop P one_byte (λ u. shrinks_shortens (one_byte u) (shortens_turn u)) tt
+shrinks_while size P = shrinks_loop P (one_byte size) (λ u. shrinks_shortens (one_byte size u) (shortens_turn size u)) tt
 
-shortens_piece : Shortens piece
-unfolding piece
-shortens_piece =
-    leads_choice _ _ _ _ (shortens_byte _ (λ b. shrinks_gives _ _ _))
-    (leads_choice _ _ _ _ (shortens_byte _ (λ b. shrinks_chain _ _ (shrinks_while _) (λ u. shrinks_gives _ _ _)))
-    (leads_choice _ _ _ _ (shortens_byte _ (λ b. shrinks_gives _ _ _)) (leads_fails _ _ _)))
+shrinks_byte : {A : Type 0} (size : ℕ) (s : ℕ → Rule ℕ LexFault A) → ((b : ℕ) → Shrinks (s b)) → Shrinks (chain (any_byte size) s)
+shrinks_byte size s h = shrinks_shortens (chain (any_byte size) s) (shortens_byte size s h)
+
+shortens_two : (size : ℕ) → Shortens (two_bytes size)
+unfolding two_bytes
+shortens_two size = shortens_byte size _ (λ a. shrinks_byte size _ (λ b. shrinks_gives _ _ _))
+
+shrinks_two : (size : ℕ) → Shrinks (two_bytes size)
+shrinks_two size = shrinks_shortens (two_bytes size) (shortens_two size)
+
+shortens_block : (size : ℕ) → Shortens (block size)
+unfolding block closes
+shortens_block size =
+    shortens_then _ _ (shrinks_here _ _) (λ start. shortens_first _ _ (shortens_two size) (λ u. shrinks_chain _ _ (shrinks_while _ _)
+    (λ v. leads_choice _ _ _ _ (shrinks_chain _ _ (shrinks_two size) (λ w. shrinks_gives _ _ _)) (leads_fails _ _ _))))
+
+shortens_piece : (size : ℕ) → Shortens (piece size)
+unfolding piece white_byte word line dashes single_byte
+shortens_piece size =
+    leads_choice _ _ _ _ (shortens_byte size _ (λ b. shrinks_gives _ _ _))
+    (leads_choice _ _ _ _ (shortens_byte size _ (λ b. shrinks_chain _ _ (shrinks_while _ _) (λ u. shrinks_gives _ _ _)))
+    (leads_choice _ _ _ _ (shortens_first _ _ (shortens_two size) (λ u. shrinks_chain _ _ (shrinks_while _ _) (λ v. shrinks_gives _ _ _)))
+    (leads_choice _ _ _ _ (shortens_block size)
+    (leads_choice _ _ _ _ (shortens_first _ _ (shortens_two size) (λ u. shrinks_byte size _ (λ b. shrinks_gives _ _ _)))
+    (leads_choice _ _ _ _ (shortens_byte size _ (λ b. shrinks_gives _ _ _)) (leads_fails _ _ _))))))
 
 pub shortens_more : (size : ℕ) (ts : List Token) → Shortens (more size ts)
 unfolding more
 shortens_more size ts =
-    shortens_then _ _ (shrinks_here _ _) (λ start. shortens_first _ _ shortens_piece (λ o. shrinks_chain _ _ (shrinks_here _ _) (λ end. shrinks_gives _ _ _)))
+    shortens_then _ _ (shrinks_here _ _) (λ start. shortens_first _ _ (shortens_piece size) (λ o. shrinks_chain _ _ (shrinks_here _ _) (λ end. shrinks_gives _ _ _)))
 
 spans_more : (size : ℕ) (s x : List Token) (ts rest : List ℕ) → length ts ≤ size → Spans size s → (more size s).reads ts x rest → Spans size x
 unfolding more chain here gives
 spans_more size s x ts rest w h (start, a, (i, j), (o, b, p, (end, c, (k, l), (m, n)))) =
-    let fewer : length b ≤ length a = omega (arith, shortens_piece a b o p) in
+    let fewer : length b ≤ length a = omega (arith, shortens_piece size a b o p) in
     let same : length a ≤ length ts = subst (λ (us : List ℕ). length us ≤ length ts) (sym j) (omega arith) in
     subst (Spans size) (sym m) (spans_piece size s start end o (omega (arith, i, k, ap length j, fewer)) (omega (arith, k)) h)
 

@@ -1,9 +1,8 @@
 -- Each text has its tokens or its fault.
-use Rattle.std.specs.Prelude.{◌≡◌, ◌⊎◌, ◌↔◌, ℕ, List}
+use Rattle.std.specs.Prelude.{◌≡◌, ◌⊎◌, ℕ, List}
 use Rattle.tl_lexer.specs.declared.token.Token.{Token}
 use Rattle.tl_lexer.specs.declared.fault.LexFault.{LexFault}
 use Rattle.tl_lexer.specs.Tokens.{Tokens, LexRefused}
-use Rattle.tl_lexer.specs.Lexed.{IsPlain}
 
 -- there are tokens of the text
 abbrev pub HasTokens : List ℕ → Type 0
@@ -13,10 +12,9 @@ HasTokens text = (ts : List Token) × Tokens text ts
 abbrev pub IsRefused : List ℕ → Type 0
 IsRefused text = (fault : LexFault) × LexRefused text fault
 
--- the text has tokens or is refused, never both, and never by two lists or two faults; it has tokens exactly where it is plain
+-- the text has tokens or is refused, never both, and never by two lists or two faults
 pub record HasOneAnswer (text : List ℕ) : Type 0 where
   pub one : HasTokens text ⊎ IsRefused text
   pub never_both : HasTokens text → IsRefused text → ⊥
   pub same_tokens : (ts us : List Token) → Tokens text ts → Tokens text us → ts ≡ us
   pub same_fault : (fault other : LexFault) → LexRefused text fault → LexRefused text other → fault ≡ other
-  pub plain : HasTokens text ↔ IsPlain text

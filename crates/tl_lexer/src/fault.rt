@@ -5,9 +5,15 @@ use thiserror::Error;
 /// The first fault of a text.
 #[derive(Clone, Copy, Debug, PartialEq, Eq, Error)]
 pub enum LexFault {
-    /// The text has more than 65,536 bytes, or a byte that is no white space, no byte of a Word and none of `# : ; =`.
-    #[error("the text is not yet built")]
-    NotYetBuilt,
+    /// The text has more than 4,194,304 bytes.
+    #[error("the text is too long")]
+    TextTooLong,
+    /// This byte begins no token, no white space and no comment.
+    #[error("no token begins at byte {at}")]
+    BadByte { at: u32 },
+    /// The comment that begins here never closes.
+    #[error("the comment at byte {at} is open")]
+    OpenComment { at: u32 },
     #[error("out of memory")]
     Memory,
 }

@@ -1,8 +1,8 @@
 //! Pieces of a text, one after the other.
 ghost use Rattle.std.specs.Prelude.{◌≡◌, ◌≤◌, ◌<◌, ◌+◌, length, drop, [], OnOk, IfOk, IfErr, ℕ, List, true, false, Option, Ok};
 ghost use Rattle.tl_lexer.specs.Rule.{Parses, Next};
-ghost use Rattle.tl_lexer.specs.Tokens.{is_white, is_word, single, Is, bytes_while, piece, pieces, fault_of, with_piece, Tokens, LexRefused};
-ghost use Rattle.tl_lexer.specs.Lexed.{Lexes, Accepts, Refuses, LexedPlain};
+ghost use Rattle.tl_lexer.specs.Tokens.{is_white, is_word, single, Is, Starts, StartsDashes, InLine, InBlock, bytes_while, block, piece, pieces, fault_of, with_piece, Tokens, LexRefused};
+ghost use Rattle.tl_lexer.specs.Lexed.{Lexes, Accepts, Refuses};
 ghost use Rattle.tl_lexer.specs.Spelled.{SpellsText};
 ghost use Rattle.tl_lexer.specs.declared.token.Token.{Token};
 ghost use Rattle.tl_lexer.specs.declared.fault.LexFault.{LexFault};
@@ -12,7 +12,7 @@ use crate::token::{Token, TokenKind};
 use std::alloc::Global;
 
 /// The most bytes that a text has.
-pub const TEXT_LIMIT: usize = 65_536;
+pub const TEXT_LIMIT: usize = 4_194_304;
 
 fn white(byte: u8) -> bool
     ensures { result ≡ is_white byte }
@@ -37,6 +37,21 @@ fn single_of(byte: u8) -> Option<TokenKind>
         b':' => Some(TokenKind::Colon),
         b';' => Some(TokenKind::Semi),
         b'=' => Some(TokenKind::Equals),
+        b'?' => Some(TokenKind::Query),
+        b'.' => Some(TokenKind::Dot),
+        b'!' => Some(TokenKind::Bang),
+        b'%' => Some(TokenKind::Percent),
+        b'{' => Some(TokenKind::LBrace),
+        b'}' => Some(TokenKind::RBrace),
+        b'[' => Some(TokenKind::LBracket),
+        b']' => Some(TokenKind::RBracket),
+        b'<' => Some(TokenKind::Less),
+        b'>' => Some(TokenKind::Greater),
+        b'(' => Some(TokenKind::LParen),
+        b')' => Some(TokenKind::RParen),
+        b'*' => Some(TokenKind::Star),
+        b',' => Some(TokenKind::Comma),
+        b'+' => Some(TokenKind::Plus),
         _ => None,
     }
 }
@@ -57,10 +72,50 @@ fn in_word(text: &[u8], at: usize) -> bool
     at < text.len() && of_word(text[at])
 }
 
+fn in_line(text: &[u8], at: usize) -> bool
+    ensures yes { result ≡ true → InLine (drop at text.now) }
+    ensures no { result ≡ false → InLine (drop at text.now) → ⊥ }
+    ensures within { result ≡ true → at < length text.now }
+{
+    at < text.len() && text[at] != b'\n'
+}
+
+fn starts(text: &[u8], at: usize, first: u8, second: u8) -> bool
+    requires { at ≤ length text.now }
+    ensures yes { result ≡ true → Starts first second (drop at text.now) }
+    ensures no { result ≡ false → Starts first second (drop at text.now) → ⊥ }
+    ensures within { result ≡ true → at + 2 ≤ length text.now }
+{
+    match &text[at..] {
+        [a, b, ..] => *a == first && *b == second,
+        _ => false,
+    }
+}
+
+fn starts_dashes(text: &[u8], at: usize) -> bool
+    requires { at ≤ length text.now }
+    ensures yes { result ≡ true → StartsDashes (drop at text.now) }
+    ensures no { result ≡ false → StartsDashes (drop at text.now) → ⊥ }
+    ensures within { result ≡ true → at + 3 ≤ length text.now }
+{
+    match &text[at..] {
+        [a, b, c, ..] => *a == b'-' && *b == b'-' && *c == b'-',
+        _ => false,
+    }
+}
+
+fn in_block(text: &[u8], at: usize) -> bool
+    ensures yes { result ≡ true → InBlock (drop at text.now) }
+    ensures no { result ≡ false → InBlock (drop at text.now) → ⊥ }
+    ensures within { result ≡ true → at < length text.now }
+{
+    at < text.len() && !starts(text, at, b'*', b'/')
+}
+
 // Where a run of a Word's bytes ends.
 fn word_end(text: &[u8], from: usize) -> usize
     requires { from ≤ length text.now }
-    ensures read { Parses fault_of (λ (n : ℕ). tt) (bytes_while (Next (Is is_word))) (drop from text.now) (drop result text.now) (Ok from) }
+    ensures read { Parses fault_of (λ (n : ℕ). tt) (bytes_while (length text.now) (Next (Is is_word))) (drop from text.now) (drop result text.now) (Ok from) }
     ensures far { from ≤ result }
     ensures inside { result ≤ length text.now }
 {
@@ -71,10 +126,56 @@ fn word_end(text: &[u8], from: usize) -> usize
     at
 }
 
-// The piece that begins here: its kind, or none for white space.
+// Where a line ends: at its line feed, or behind the text.
+fn line_end(text: &[u8], from: usize) -> usize
+    requires { from ≤ length text.now }
+    ensures read { Parses fault_of (λ (n : ℕ). tt) (bytes_while (length text.now) InLine) (drop from text.now) (drop result text.now) (Ok from) }
+    ensures far { from ≤ result }
+    ensures inside { result ≤ length text.now }
+{
+    let mut at = from;
+    while in_line(text, at) {
+        at += 1;
+    }
+    at
+}
+
+// Where a comment's `*/` begins, or the text ends.
+fn block_end(text: &[u8], from: usize) -> usize
+    requires { from ≤ length text.now }
+    ensures read { Parses fault_of (λ (n : ℕ). tt) (bytes_while (length text.now) InBlock) (drop from text.now) (drop result text.now) (Ok from) }
+    ensures far { from ≤ result }
+    ensures inside { result ≤ length text.now }
+{
+    let mut at = from;
+    while in_block(text, at) {
+        at += 1;
+    }
+    at
+}
+
+// The comment from `/*` to `*/` that begins here.
+fn block_at(text: &[u8], at: &mut usize) -> Result<Option<TokenKind>, LexFault>
+    requires small { length text.now ≤ TEXT_LIMIT }
+    requires left { at.now + 2 ≤ length text.now }
+    ensures read { Parses fault_of (λ (o : Option TokenKind). o) (block (length text.now)) (drop at.old text.now) (drop at.new text.now) result }
+    ensures far { OnOk result (at.old < at.new) }
+    ensures inside { OnOk result (at.new ≤ length text.now) }
+{
+    let start = *at;
+    let close = block_end(text, start + 2);
+    if !starts(text, close, b'*', b'/') {
+        return Err(LexFault::OpenComment { at: start as u32 });
+    }
+    *at = close + 2;
+    Ok(None)
+}
+
+// The piece that begins here: its kind, or none for white space and comments.
 fn piece_at(text: &[u8], at: &mut usize) -> Result<Option<TokenKind>, LexFault>
-    requires { at.now < length text.now }
-    ensures read { Parses fault_of (λ (o : Option TokenKind). o) piece (drop at.old text.now) (drop at.new text.now) result }
+    requires small { length text.now ≤ TEXT_LIMIT }
+    requires left { at.now < length text.now }
+    ensures read { Parses fault_of (λ (o : Option TokenKind). o) (piece (length text.now)) (drop at.old text.now) (drop at.new text.now) result }
     ensures far { OnOk result (at.old < at.new) }
     ensures inside { OnOk result (at.new ≤ length text.now) }
 {
@@ -87,12 +188,23 @@ fn piece_at(text: &[u8], at: &mut usize) -> Result<Option<TokenKind>, LexFault>
         *at = word_end(text, start + 1);
         return Ok(Some(TokenKind::Word));
     }
+    if starts(text, start, b'/', b'/') {
+        *at = line_end(text, start + 2);
+        return Ok(None);
+    }
+    if starts(text, start, b'/', b'*') {
+        return block_at(text, at);
+    }
+    if starts_dashes(text, start) {
+        *at = start + 3;
+        return Ok(Some(TokenKind::Dashes));
+    }
     match single_of(text[start]) {
         Some(kind) => {
             *at = start + 1;
             Ok(Some(kind))
         }
-        None => Err(LexFault::NotYetBuilt),
+        None => Err(LexFault::BadByte { at: start as u32 }),
     }
 }
 
@@ -131,10 +243,9 @@ pub fn lex(alloc: Global, text: &[u8]) -> Result<Vec<Token>, LexFault>
     ensures reads { (ts : List Token) → Tokens text.now ts → Accepts (λ v. v.items) ts result }
     ensures refuses { (fault : LexFault) → LexRefused text.now fault → Refuses fault result }
     ensures spells { IfOk result (λ v. SpellsText text.now v.items) }
-    ensures plain { LexedPlain text.now result }
 {
     if text.len() > TEXT_LIMIT {
-        return Err(LexFault::NotYetBuilt);
+        return Err(LexFault::TextTooLong);
     }
     pieces_of(alloc, text)
 }

@@ -5,10 +5,46 @@
 pub enum TokenKind {
     /// A longest run of ASCII letters, digits and `_`.
     Word,
+    /// `---`
+    Dashes,
+    /// `#`
     Hash,
+    /// `:`
     Colon,
+    /// `;`
     Semi,
+    /// `=`
     Equals,
+    /// `?`
+    Query,
+    /// `.`
+    Dot,
+    /// `!`
+    Bang,
+    /// `%`
+    Percent,
+    /// `{`
+    LBrace,
+    /// `}`
+    RBrace,
+    /// `[`
+    LBracket,
+    /// `]`
+    RBracket,
+    /// `<`
+    Less,
+    /// `>`
+    Greater,
+    /// `(`
+    LParen,
+    /// `)`
+    RParen,
+    /// `*`
+    Star,
+    /// `,`
+    Comma,
+    /// `+`
+    Plus,
 }
 
 /// A token, and where it stands in its text: the byte at which it starts, and the one behind it.

@@ -105,7 +105,7 @@ module _ (ds : List DeclText) (i : ℕ) (d : DeclText) (old : Known) (made : Lis
     }
 
 -- a fault is in a declaration of the program
-has_within : (ds : List DeclText) (k : ℕ) → Has ds k → k < length ds
+pub has_within : (ds : List DeclText) (k : ℕ) → Has ds k → k < length ds
 has_within ds k (same_name r) =
     let within = slice_get_within (names_of ds) k r.item r.here in omega (arith, within, length-map ds (λ (e : DeclText). e.name))
 has_within ds k (same_number r) =
@@ -121,6 +121,23 @@ declared_at types ds i e at = by (slice_get ds i) refl
     by None p = absurd (none-some e (sym (slice_get-map (declaration_of types) ds i ∙ ap (option_map (declaration_of types)) p) ∙ at))
     by (Some d) p =
         (d, p, same_Some (declaration_of types d) e (sym (slice_get-map (declaration_of types) ds i ∙ ap (option_map (declaration_of types)) p) ∙ at))
+
+-- what an accepted program declares is a schema
+module _ (types : List (List ℕ)) (ds : List DeclText) (accepts : Accepted ds) where
+  number_at : (i : ℕ) (e : Declaration) → slice_get (map (declaration_of types) ds) i ≡ Some e → slice_get (numbers_of ds) i ≡ Some e.number
+  number_at i e at =
+      let d = declared_at types ds i e at in slice_get_made (λ (x : DeclText). x.number) ds i d.0 d.1 ∙ ap (λ (x : Declaration). Some x.number) d.2
+
+  pub accepted_schema : length ds ≤ 256 → ((i : ℕ) (d : DeclText) → slice_get ds i ≡ Some d → d.number < 2 ^ 32) → IsSchema (map (declaration_of types) ds)
+  accepted_schema few fits = record {
+    few = omega (arith, few, length-map ds (declaration_of types));
+    distinct =
+        λ i j d e first second same. one_place (numbers_of ds) (λ k r. accepts k (same_number r)) i j e.number (number_at i d first ∙ ap Some same) (number_at j e second);
+    fits =
+        λ i e at. let d = declared_at types ds i e at in subst (λ (x : Declaration). x.number < 2 ^ 32) d.2 (fits i d.0 d.1);
+    plain =
+        λ i e at is. let d = declared_at types ds i e at in accepts i (taken_number d.0 d.1 (inl (ap (λ (x : Declaration). x.number) d.2 ∙ is)));
+  }
 
 module _ (ds : List DeclText) (n : ℕ) (known : Known) (made : List Entry) (has : KnowsFirst ds n known made) (all : length ds ≤ n) where
   pub accepted : Accepted ds
@@ -143,20 +160,8 @@ module _ (ds : List DeclText) (n : ℕ) (known : Known) (made : List Entry) (has
   name_at i e at =
       let d = at_made i e at in slice_get_made (λ (x : DeclText). x.name) ds i d.0 d.1 ∙ ap (λ (x : Declaration). Some x.name) d.2
 
-  number_at : (i : ℕ) (e : Declaration) → slice_get (map declaration made) i ≡ Some e → slice_get (numbers_of ds) i ≡ Some e.number
-  number_at i e at =
-      let d = at_made i e at in slice_get_made (λ (x : DeclText). x.number) ds i d.0 d.1 ∙ ap (λ (x : Declaration). Some x.number) d.2
-
   made_schema : length ds ≤ 256 → IsSchema (map declaration made)
-  made_schema few = record {
-    few = omega (arith, ap length made_all, length-map ds (declaration_of known.types));
-    distinct =
-        λ i j d e first second same. one_place (numbers_of ds) (λ k r. accepted k (same_number r)) i j e.number (number_at i d first ∙ ap Some same) (number_at j e second);
-    fits =
-        λ i e at. let d = at_made i e at in subst (λ (x : Declaration). x.number < 2 ^ 32) d.2 (has.fits i d.0 (let within = slice_get_within ds i d.0 d.1 in omega (arith, within)) d.1);
-    plain =
-        λ i e at is. let d = at_made i e at in accepted i (taken_number d.0 d.1 (inl (ap (λ (x : Declaration). x.number) d.2 ∙ is)));
-  }
+  made_schema few = subst IsSchema (sym made_all) (accepted_schema known.types ds accepted few (λ i d at. has.fits i d (let within = slice_get_within ds i d at in omega (arith, within)) at))
 
   pub checked : n ≤ length ds → length ds ≤ 256 → IsCheckedSchema (record { decls = map declaration made; types = known.types }) known.names
   checked none_more few = record {

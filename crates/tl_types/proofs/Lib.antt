@@ -3,8 +3,9 @@ mod NameKeys
 mod Repeats
 mod TypeNames
 mod Fields
-mod Declarations
+pub mod Declarations
 mod Finding
+pub mod Deciding
 pub mod Words
 pub mod Members
 pub mod Views

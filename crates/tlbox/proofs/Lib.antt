@@ -5,6 +5,14 @@ pub mod Outcomes
 pub mod WholeInput
 pub mod Forms
 pub mod Slots
+pub mod Views
+pub mod Sound
 pub mod Loading
+pub mod OneDecode
+pub mod OneReplay
+pub mod Journals
+pub mod Reports
 pub mod Lines
 pub mod Endings
+pub mod OneFault
+pub mod AnAnswer

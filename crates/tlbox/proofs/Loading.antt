@@ -25,11 +25,16 @@ use Rattle.tl_types.specs.declared.value.Value.{Value}
 use Rattle.tlbox.specs.Decoding.{DecodesWhole}
 use Rattle.tlbox.specs.declared.whole.InputFault.{InputFault}
 use Rattle.tlbox.specs.declared.whole.InputFault.TheVariants as input
-use Rattle.tlbox.specs.declared.stop.Refusal.TheVariants.{SchemaText, TypeName, Input as AtInput, Trailing}
+use Rattle.tlbox.specs.declared.stop.Refusal.TheVariants.{Schema as OfSchemaText, TypeName, Profile, Input as AtInput, Trailing, Journal}
 use Rattle.tlbox.specs.declared.stop.Stop.{Stop}
 use Rattle.tlbox.specs.declared.stop.Stop.TheVariants as stop
-use Rattle.tlbox.specs.Stops.{of_text, of_syntax, of_check}
-use Rattle.tlbox.specs.Answers.{by_bytes, by_tokens, by_checks}
+use Rattle.tl_lexer.specs.declared.fault.LexFault.{LexFault}
+use Rattle.tl_lexer.specs.Lexed.{Lexes}
+use Rattle.tlbox.specs.Stops.{of_text, of_lex, of_syntax, of_check}
+use Rattle.tl_lexer.specs.declared.fault.LexFault.TheVariants as lex
+use Rattle.tlbox.specs.declared.stop.SchemaCause.{SchemaCause}
+use Rattle.tlbox.specs.declared.stop.SchemaCause.TheVariants.{TextTooLong, BadByte, OpenComment, NotYetBuilt}
+use Rattle.tlbox.specs.DecodeAnswers.{SchemaRefused, too_long, bad_byte, open_comment, by_tokens, by_checks}
 use Rattle.tlbox.specs.Steps.{SameBut, ReadsText, TakesValue}
 use Rattle.tlbox.specs.Jobs.{OnlyReads, ReadsSchema, LoadsSchema, LoadsValue}
 
@@ -39,6 +44,12 @@ use Rattle.tlbox.specs.Jobs.{OnlyReads, ReadsSchema, LoadsSchema, LoadsValue}
 stops : (text : List ℕ) (s : Stop) (r : Result Declared Stop) → ReadsSchema text (Err s) → IsErrAnd r (λ z. z ≡ s) → ReadsSchema text r
 stops text s (Ok x) h e = absurd e
 stops text s (Err z) h e = subst (λ (y : Stop). ReadsSchema text (Err y)) (sym e) h
+
+pub no_tokens : {X : Type 0} (view : X → List Token) (text : List ℕ) (e : LexFault) (r : Result Declared Stop) → Lexes view text (Err e) → IsErrAnd r (λ z. z ≡ of_lex e) → ReadsSchema text r
+no_tokens view text lex.TextTooLong r lexed e = stops text _ r (too_long lexed) e
+no_tokens view text (lex.BadByte at) r lexed e = stops text _ r (bad_byte at lexed) e
+no_tokens view text (lex.OpenComment at) r lexed e = stops text _ r (open_comment at lexed) e
+no_tokens view text lex.Memory r lexed e = stops text _ r tt e
 
 pub no_program : (text : List ℕ) (tokens : List Token) (e : SyntaxFault) (r : Result Declared Stop) → Tokens text tokens → Parsed text tokens (Err e) → IsErrAnd r (λ z. z ≡ of_syntax e) → ReadsSchema text r
 no_program text tokens syntax.NotYetBuilt r lexed parsed e = stops text _ r (by_tokens tokens lexed parsed) e
@@ -50,21 +61,28 @@ no_schema text tokens program check.Memory r lexed parsed checked e = stops text
 
 -- ---- files
 
+pub same_file : (files : Files) (name a b : List ℕ) → HasFile files name a → HasFile files name b → a ≡ b
+same_file [] name a b h k = absurd h
+same_file (f ∷ fs) name a b (inl h) (inl k) = sym h.1 ∙ k.1
+same_file (f ∷ fs) name a b (inl h) (inr k) = absurd (k.0 h.0)
+same_file (f ∷ fs) name a b (inr h) (inl k) = absurd (h.0 k.0)
+same_file (f ∷ fs) name a b (inr h) (inr k) = same_file fs name a b h.1 k.1
+
 pub file_bytes : (files : Files) (name bytes : List ℕ) → HoldBytes files → HasFile files name bytes → AreBytes bytes
 file_bytes [] name bytes all has = absurd has
 file_bytes (f ∷ fs) name bytes all (inl here) = subst AreBytes here.1 all.0
 file_bytes (f ∷ fs) name bytes all (inr later) = file_bytes fs name bytes all.1 later.1
 
 pub only_reads : (slot : Slot) (v w : View) → SameBut slot v w → OnlyReads v w
-only_reads Schema v w e = record { files = ap (λ (x : View). x.files) e; output = ap (λ (x : View). x.output) e; errors = ap (λ (x : View). x.errors) e }
-only_reads Input v w e = record { files = ap (λ (x : View). x.files) e; output = ap (λ (x : View). x.output) e; errors = ap (λ (x : View). x.errors) e }
+only_reads Schema v w e = record { files = ap (λ (x : View). x.files) e; output = ap (λ (x : View). x.output) e; errors = ap (λ (x : View). x.errors) e; room = ap (λ (x : View). x.room) e }
+only_reads Input v w e = record { files = ap (λ (x : View). x.files) e; output = ap (λ (x : View). x.output) e; errors = ap (λ (x : View). x.errors) e; room = ap (λ (x : View). x.room) e }
 
 pub then_reads : (u v w : View) → OnlyReads u v → OnlyReads v w → OnlyReads u w
-then_reads u v w p q = record { files = q.files ∙ p.files; output = q.output ∙ p.output; errors = q.errors ∙ p.errors }
+then_reads u v w p q = record { files = q.files ∙ p.files; output = q.output ∙ p.output; errors = q.errors ∙ p.errors; room = q.room ∙ p.room }
 
 opened_reads : (slot : Slot) (bytes : List ℕ) (v w : View) → w ≡ with_left slot bytes v → OnlyReads v w
-opened_reads Schema bytes v w e = record { files = ap (λ (x : View). x.files) e; output = ap (λ (x : View). x.output) e; errors = ap (λ (x : View). x.errors) e }
-opened_reads Input bytes v w e = record { files = ap (λ (x : View). x.files) e; output = ap (λ (x : View). x.output) e; errors = ap (λ (x : View). x.errors) e }
+opened_reads Schema bytes v w e = record { files = ap (λ (x : View). x.files) e; output = ap (λ (x : View). x.output) e; errors = ap (λ (x : View). x.errors) e; room = ap (λ (x : View). x.room) e }
+opened_reads Input bytes v w e = record { files = ap (λ (x : View). x.files) e; output = ap (λ (x : View). x.output) e; errors = ap (λ (x : View). x.errors) e; room = ap (λ (x : View). x.room) e }
 
 -- ---- the schema of a file
 
@@ -83,19 +101,31 @@ no_text name limit e r (Some v) (Some w) read is = stopped_at name e r v w (only
 whole_file : (bytes read rest : List ℕ) (r : Result Declared Stop) → bytes ≡ read ++ rest → rest ≡ [] → ReadsSchema read r → ReadsSchema bytes r
 whole_file bytes read rest r e none h = subst (λ (x : List ℕ). ReadsSchema x r) (sym (e ∙ ap (λ (x : List ℕ). read ++ x) none ∙ append-nil read)) h
 
-long_file : (bytes read rest : List ℕ) (r : Result Declared Stop) → bytes ≡ read ++ rest → 65536 < length read → ReadsSchema read r → ReadsSchema bytes r
+-- a text that is too long stays so, and is refused for nothing else
+still_long : (bytes read rest : List ℕ) (cause : SchemaCause) → bytes ≡ read ++ rest → 4194304 < length read → SchemaRefused read cause → SchemaRefused bytes cause
+still_long bytes read rest _ e long (too_long r) = too_long (inl (omega (arith, ap length e, length-append read rest), refl))
+still_long bytes read rest _ e long (bad_byte at (inl r)) = absurd (let no : lex.BadByte at ≡ lex.TextTooLong = r.1 in cc)
+still_long bytes read rest _ e long (bad_byte at (inr r)) = absurd (omega (arith, r.0))
+still_long bytes read rest _ e long (open_comment at (inl r)) = absurd (let no : lex.OpenComment at ≡ lex.TextTooLong = r.1 in cc)
+still_long bytes read rest _ e long (open_comment at (inr r)) = absurd (omega (arith, r.0))
+still_long bytes read rest _ e long (by_tokens ts t r) = absurd (omega (arith, t.0))
+still_long bytes read rest _ e long (by_checks ts ds t r has) = absurd (omega (arith, t.0))
+
+long_file : (bytes read rest : List ℕ) (r : Result Declared Stop) → bytes ≡ read ++ rest → 4194304 < length read → ReadsSchema read r → ReadsSchema bytes r
 long_file bytes read rest (Ok schema) e long h = absurd (omega (arith, h.lexed.0))
-long_file bytes read rest (Err (stop.Refused SchemaText)) e long h = by_bytes (inl (omega (arith, ap length e, length-append read rest), refl))
+long_file bytes read rest (Err (stop.Refused (OfSchemaText cause))) e long h = still_long bytes read rest cause e long h
 long_file bytes read rest (Err (stop.Refused TypeName)) e long h = h
+long_file bytes read rest (Err (stop.Refused Profile)) e long h = h
 long_file bytes read rest (Err (stop.Refused (AtInput at why))) e long h = h
 long_file bytes read rest (Err (stop.Refused (Trailing at))) e long h = h
+long_file bytes read rest (Err (stop.Refused (Journal at why))) e long h = h
 long_file bytes read rest (Err stop.ReadFault) e long h = h
 long_file bytes read rest (Err stop.WriteFault) e long h = h
 long_file bytes read rest (Err stop.Memory) e long h = tt
 
-file_schema : (bytes read rest : List ℕ) (r : Result Declared Stop) → bytes ≡ read ++ rest → (length read ≤ 65536 → rest ≡ []) → ReadsSchema read r → ReadsSchema bytes r
+file_schema : (bytes read rest : List ℕ) (r : Result Declared Stop) → bytes ≡ read ++ rest → (length read ≤ 4194304 → rest ≡ []) → ReadsSchema read r → ReadsSchema bytes r
 file_schema bytes read rest r e end h =
-    elim (cases_lt 65536 (length read)) [ inl long ↦ long_file bytes read rest r e long h | inr short ↦ whole_file bytes read rest r e (end short) h ]
+    elim (cases_lt 4194304 (length read)) [ inl long ↦ long_file bytes read rest r e long h | inr short ↦ whole_file bytes read rest r e (end short) h ]
 
 loaded : (name : List ℕ) (r : Result Declared Stop) (v w : View) → ((bytes : List ℕ) × HasFile v.files name bytes × ReadsSchema bytes r) → OnlyReads v w → LoadsSchema name r v w
 loaded name (Ok schema) v w h only = (h, only)
@@ -104,7 +134,7 @@ loaded name (Err stop.ReadFault) v w h only = only
 loaded name (Err stop.WriteFault) v w h only = (h, only)
 loaded name (Err stop.Memory) v w h only = only
 
-pub text_loaded : (name : List ℕ) (read : Vec ℕ Global) (r : Result Declared Stop) (a b : Option View) → Told a b (ReadsText Schema name 65536 (Ok read)) → ReadsSchema read.items r → Told a b (LoadsSchema name r)
+pub text_loaded : (name : List ℕ) (read : Vec ℕ Global) (r : Result Declared Stop) (a b : Option View) → Told a b (ReadsText Schema name 4194304 (Ok read)) → ReadsSchema read.items r → Told a b (LoadsSchema name r)
 text_loaded name read r None None h is = tt
 text_loaded name read r None (Some w) h is = h
 text_loaded name read r (Some v) None h is = h
@@ -137,4 +167,4 @@ pub not_opened : {F : Type 0} (ds : List Declaration) (T : Shape) (name : List �
 not_opened ds T name e None None h = tt
 not_opened ds T name e None (Some w) h = h
 not_opened ds T name e (Some v) None h = h
-not_opened ds T name e (Some v) (Some w) h = record { files = ap (λ (x : View). x.files) h; output = ap (λ (x : View). x.output) h; errors = ap (λ (x : View). x.errors) h }
+not_opened ds T name e (Some v) (Some w) h = record { files = ap (λ (x : View). x.files) h; output = ap (λ (x : View). x.output) h; errors = ap (λ (x : View). x.errors) h; room = ap (λ (x : View). x.room) h }

@@ -37,7 +37,7 @@ out_held s t a b n m n' m' e = same_out s t (ap number_of e)
 some_is : {A : Type 0} (x y : A) → Some x ≡ Some y → x ≡ y
 some_is x y e = cc
 
-none_is_no_some : {A : Type 0} (x : A) → None ≡ Some x → ⊥
+pub none_is_no_some : {A : Type 0} (x : A) → None ≡ Some x → ⊥
 none_is_no_some x e = cc
 
 -- ---- a slot

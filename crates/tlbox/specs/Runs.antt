@@ -3,7 +3,8 @@ use Rattle.std.specs.Prelude.{◌≡◌, ℕ, List, ◌++◌, codes, ◌⊎◌}
 use Rattle.tl_base.specs.Outside.{View}
 use Rattle.tlbox.specs.declared.status.Status.{Status}
 use Rattle.tlbox.specs.declared.status.Status.TheVariants.{Done, Refused, Usage, ReadFault, WriteFault, Memory}
-use Rattle.tlbox.specs.Answers.{Answer, Answers}
+use Rattle.tlbox.specs.Answer.{Answer, AskReplay}
+use Rattle.tlbox.specs.Answers.{Answers}
 
 -- the number that a process ends with
 abbrev pub status_number : Status → ℕ
@@ -26,9 +27,14 @@ Tells write_rose line v w = (w.errors ≡ v.errors ++ line) ⊎ (write_rose × A
 abbrev pub WritesFront : List (List ℕ) → View → View → Type 0
 WritesFront words v w = (a : Answer) × Answers words v.files a × AddsFront v.output w.output a.output
 
--- a run ends with its answer, or with a fault whose count rose, or for want of memory, and nothing on Output
+-- Output is as before; or the run is a replay, and Output has a front of what the run without a fault writes
+abbrev pub WritesNoneOrFront : List (List ℕ) → View → View → Type 0
+WritesNoneOrFront words v w = (w.output ≡ v.output) ⊎ ((schema journal : List ℕ) × AskReplay words schema journal × WritesFront words v w)
+
+-- A run ends with its answer; or with a fault whose count rose; or for want of memory. What it wrote until then is none of its
+-- Output, or a front.
 pub data Ends (words : List (List ℕ)) (read_rose write_rose : Type 0) (status : Status) (v w : View) : Type 0 where
   answered : (a : Answer) → Answers words v.files a → status ≡ a.status → w.output ≡ v.output ++ a.output → Tells write_rose a.errors v w → Ends words read_rose write_rose status v w
   read_failed : read_rose → status ≡ ReadFault → w.output ≡ v.output → Tells write_rose (codes "tlbox: read fault\n") v w → Ends words read_rose write_rose status v w
   write_failed : write_rose → status ≡ WriteFault → WritesFront words v w → Tells write_rose (codes "tlbox: write fault\n") v w → Ends words read_rose write_rose status v w
-  out_of_memory : status ≡ Memory → w.output ≡ v.output → Tells write_rose (codes "tlbox: memory\n") v w → Ends words read_rose write_rose status v w
+  out_of_memory : status ≡ Memory → WritesNoneOrFront words v w → Tells write_rose (codes "tlbox: memory\n") v w → Ends words read_rose write_rose status v w

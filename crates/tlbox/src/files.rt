@@ -1,9 +1,9 @@
 //! Reading the slots of a host, and writing to its outs.
-ghost use Rattle.std.specs.Prelude.{◌≡◌, ◌≤◌, ◌+◌, IsErrOf, IsOk, IfSome, length, IsSome, IsTrue};
+ghost use Rattle.std.specs.Prelude.{◌≡◌, ◌≤◌, IsErr, IsErrOf, length};
 ghost use Rattle.tl_base.specs.Calls.{Told};
 ghost use Rattle.tl_base.specs.Causes.{HasCause, Rose};
-ghost use Rattle.tl_base.specs.Outside.{written_of};
 ghost use Rattle.tlbox.specs.Steps.{ReadsText, TakesSlot, Puts};
+ghost use Rattle.tlbox.specs.Sound.{NeverFails, IsThere, HasRoom};
 
 use std::alloc::Global;
 use tl_base::{Host, Out, SinkOf, Slot, SourceOf, TextFault, WriteFault, take_text, write_all};
@@ -20,6 +20,7 @@ pub fn text_of<H: Host>(
     ensures later { H.read_faults host.old ≤ H.read_faults host.new }
     ensures cause { IsErrOf result TextFault.ReadFault → Rose (H.read_faults host.old) (H.read_faults host.new) }
     ensures others { H.write_faults host.new ≡ H.write_faults host.old }
+    ensures sound { NeverFails (H.view host.old) (H.sound host.old) (H.sound host.new) (IsErrOf result TextFault.ReadFault) (IsThere name.now) }
 {
     match host.open_slot(slot, name) {
         Ok(()) => slot_text(alloc, host, slot, limit),
@@ -38,6 +39,7 @@ fn slot_text<H: Host>(
     ensures later { H.read_faults host.old ≤ H.read_faults host.new }
     ensures cause { IsErrOf result TextFault.ReadFault → Rose (H.read_faults host.old) (H.read_faults host.new) }
     ensures others { H.write_faults host.new ≡ H.write_faults host.old }
+    ensures sound { NeverFails (H.view host.old) (H.sound host.old) (H.sound host.new) (IsErrOf result TextFault.ReadFault) (λ _. Unit {0}) }
 {
     let mut source = SourceOf::new(host, slot);
     take_text(alloc, &mut source, limit)
@@ -48,6 +50,7 @@ pub fn put<H: Host>(host: &mut H, out: Out, piece: &[u8]) -> Result<(), WriteFau
     ensures put { Told (H.view host.old) (H.view host.new) (Puts out piece.now result) }
     ensures cause { HasCause (H.write_faults host.old) (H.write_faults host.new) result }
     ensures others { H.read_faults host.new ≡ H.read_faults host.old }
+    ensures sound { NeverFails (H.view host.old) (H.sound host.old) (H.sound host.new) (IsErr result) (HasRoom out (length piece.now)) }
 {
     let mut sink = SinkOf::new(host, out);
     write_all(&mut sink, piece)

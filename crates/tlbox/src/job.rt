@@ -1,10 +1,11 @@
 //! The job of `decode`.
-ghost use Rattle.std.specs.Prelude.{◌≡◌, ◌≤◌, IsErrOf, map};
+ghost use Rattle.std.specs.Prelude.{◌≡◌, ◌≤◌, ◌⊎◌, IsErrOf};
 ghost use Rattle.tl_base.specs.Calls.{Told};
 ghost use Rattle.tl_base.specs.Causes.{Rose};
 ghost use Rattle.tl_types.specs.Seen.{shape};
 ghost use Rattle.tlbox.specs.Jobs.{ReadsSchema, LoadsSchema, LoadsValue, DecodesLine, Works};
 ghost use Rattle.tlbox.specs.Steps.{TakesValue};
+ghost use Rattle.tlbox.specs.Sound.{NeverFails, IsThere, DecodeAnswered, DecodeFits};
 
 use crate::files::{put, text_of};
 use crate::shown::line_of;
@@ -17,7 +18,7 @@ use tl_lexer::{TEXT_LIMIT, lex};
 use tl_types::{Schema, TypeRef, Value, check, type_of};
 
 /// The most bytes that a schema's text may have.
-const SCHEMA_BYTES: u32 = 65_536;
+const SCHEMA_BYTES: u32 = 4_194_304;
 
 const _: () = prove!(SCHEMA_BYTES as usize == TEXT_LIMIT);
 
@@ -40,6 +41,7 @@ fn load_schema<H: Host>(alloc: Global, host: &mut H, name: &str) -> Result<Schem
     ensures later { H.read_faults host.old ≤ H.read_faults host.new }
     ensures cause { IsErrOf result Stop.ReadFault → Rose (H.read_faults host.old) (H.read_faults host.new) }
     ensures others { H.write_faults host.new ≡ H.write_faults host.old }
+    ensures sound { NeverFails (H.view host.old) (H.sound host.old) (H.sound host.new) (IsErrOf result Stop.ReadFault) (IsThere name.now) }
 {
     let text = text_of(alloc, host, Slot::Schema, name, SCHEMA_BYTES)?;
     schema_of(alloc, &text)
@@ -56,6 +58,7 @@ fn slot_value<H: Host>(
     ensures later { H.read_faults host.old ≤ H.read_faults host.new }
     ensures cause { IsErrOf result InputFault.ReadFault → Rose (H.read_faults host.old) (H.read_faults host.new) }
     ensures others { H.write_faults host.new ≡ H.write_faults host.old }
+    ensures sound { NeverFails (H.view host.old) (H.sound host.old) (H.sound host.new) (IsErrOf result InputFault.ReadFault) (λ _. Unit {0}) }
 {
     let mut source = SourceOf::new(host, Slot::Input);
     decode_whole(alloc, schema, of, &mut source)
@@ -73,6 +76,7 @@ fn load_value<H: Host>(
     ensures later { H.read_faults host.old ≤ H.read_faults host.new }
     ensures cause { IsErrOf result InputFault.ReadFault → Rose (H.read_faults host.old) (H.read_faults host.new) }
     ensures others { H.write_faults host.new ≡ H.write_faults host.old }
+    ensures sound { NeverFails (H.view host.old) (H.sound host.old) (H.sound host.new) (IsErrOf result InputFault.ReadFault) (IsThere name.now) }
 {
     match host.open_slot(Slot::Input, name) {
         Ok(()) => slot_value(alloc, host, schema, of),
@@ -93,6 +97,7 @@ fn decoded_line<H: Host>(
     ensures later { H.read_faults host.old ≤ H.read_faults host.new }
     ensures cause { IsErrOf result Stop.ReadFault → Rose (H.read_faults host.old) (H.read_faults host.new) }
     ensures others { H.write_faults host.new ≡ H.write_faults host.old }
+    ensures sound { NeverFails (H.view host.old) (H.sound host.old) (H.sound host.new) (IsErrOf result Stop.ReadFault) (DecodeAnswered schema.now of.now input.now) }
 {
     let schema = load_schema(alloc, host, schema)?;
     let of = type_of(&schema, of.as_bytes())?;
@@ -114,6 +119,7 @@ pub fn decode<H: Host>(
     ensures writes_later { H.write_faults host.old ≤ H.write_faults host.new }
     ensures read { IsErrOf result Stop.ReadFault → Rose (H.read_faults host.old) (H.read_faults host.new) }
     ensures write { IsErrOf result Stop.WriteFault → Rose (H.write_faults host.old) (H.write_faults host.new) }
+    ensures sound { NeverFails (H.view host.old) (H.sound host.old) (H.sound host.new) (IsErrOf result Stop.ReadFault ⊎ IsErrOf result Stop.WriteFault) (DecodeFits schema.now of.now input.now) }
 {
     let line = decoded_line(alloc, host, schema, of, input)?;
     put(host, Out::Output, line.as_bytes())?;

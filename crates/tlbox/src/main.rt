@@ -7,7 +7,12 @@ mod job;
 mod laws;
 mod program;
 mod real;
+#[cfg(test)]
+mod replay_tests;
+mod replaying;
 mod report;
+#[cfg(test)]
+mod runs;
 mod shown;
 mod status;
 mod stop;

@@ -1,13 +1,15 @@
 //! The top call.
-ghost use Rattle.std.specs.Prelude.{◌≡◌, map, string_bytes};
+ghost use Rattle.std.specs.Prelude.{◌≡◌, ◌⊎◌, IfSome, IsTrue, map, string_bytes};
 ghost use Rattle.tl_base.specs.Calls.{Told};
 ghost use Rattle.tl_base.specs.Causes.{Rose};
 ghost use Rattle.tlbox.specs.Runs.{Ends};
+ghost use Rattle.tlbox.specs.Sound.{AnswerFits};
 
 use crate::job::decode;
+use crate::replaying::replay;
 use crate::report::{report, tell};
 use crate::status::Status;
-use crate::words::decode_words;
+use crate::words::{decode_words, replay_words};
 use std::alloc::Global;
 use tl_base::Host;
 
@@ -22,12 +24,20 @@ pub fn run<H: Host>(alloc: Global, words: &[String], host: &mut H) -> Status
     // A fault's status comes only where its count rose, told or not.
     ensures read { result ≡ Status.ReadFault → Rose (H.read_faults host.old) (H.read_faults host.new) }
     ensures write { result ≡ Status.WriteFault → Rose (H.write_faults host.old) (H.write_faults host.new) }
+    // Over a sound host with the files that the words take and room enough, no fault's status comes.
+    ensures sound { IfSome (H.view host.old) (λ v. IsTrue (H.sound host.old) → AnswerFits (map string_bytes words.now) v → (result ≡ Status.ReadFault) ⊎ (result ≡ Status.WriteFault) → ⊥) }
 {
-    match decode_words(words) {
-        Some(asked) => match decode(alloc, host, asked.schema, asked.of, asked.input) {
+    if let Some(asked) = decode_words(words) {
+        return match decode(alloc, host, asked.schema, asked.of, asked.input) {
             Ok(()) => Status::Done,
             Err(stop) => report(alloc, host, stop),
-        },
-        None => tell(host, Status::Usage, USAGE),
+        };
     }
+    if let Some(asked) = replay_words(words) {
+        return match replay(alloc, host, asked.schema, asked.journal) {
+            Ok(()) => Status::Done,
+            Err(stop) => report(alloc, host, stop),
+        };
+    }
+    tell(host, Status::Usage, USAGE)
 }

@@ -2,12 +2,12 @@
 ghost use Rattle.std.specs.Prelude.{◌≡◌, ◌≤◌, IfOk, string_bytes, codes};
 ghost use Rattle.tl_base.specs.Calls.{Told};
 ghost use Rattle.tl_base.specs.Causes.{Rose};
-ghost use Rattle.tlbox.specs.Answers.{cause_text, input_line};
-ghost use Rattle.tlbox.specs.Jobs.{refusal_line, Reports, TellsLine};
+ghost use Rattle.tlbox.specs.Answer.{cause_text, schema_place, schema_line, input_line, journal_line};
+ghost use Rattle.tlbox.specs.Jobs.{journal_cause_text, refusal_line, Reports, TellsLine};
 
 use crate::files::put;
 use crate::status::Status;
-use crate::stop::{Refusal, Stop};
+use crate::stop::{JournalCause, Refusal, SchemaCause, Stop};
 use std::alloc::{AllocError, Global};
 use tl_base::{Host, Out};
 use tl_types::Cause;
@@ -27,6 +27,28 @@ fn cause_name(alloc: Global, cause: Cause) -> Result<String, AllocError>
     }
 }
 
+// The line of a schema's text that is refused at a place.
+fn schema_place_line(alloc: Global, at: u32, why: &str) -> Result<String, AllocError>
+    ensures { IfOk result (λ s. string_bytes s ≡ schema_place at why.now) }
+{
+    let mut line = format!(in alloc; "tlbox: schema {at} ")?;
+    line.push_str(why)?;
+    line.push_str("\n")?;
+    Ok(line)
+}
+
+// The line of a schema's text that is refused.
+fn schema_line_of(alloc: Global, cause: SchemaCause) -> Result<String, AllocError>
+    ensures { IfOk result (λ s. string_bytes s ≡ schema_line cause) }
+{
+    match cause {
+        SchemaCause::TextTooLong => String::from_str(alloc, "tlbox: schema - TextTooLong\n"),
+        SchemaCause::BadByte { at } => schema_place_line(alloc, at, "BadByte"),
+        SchemaCause::OpenComment { at } => schema_place_line(alloc, at, "OpenComment"),
+        SchemaCause::NotYetBuilt => String::from_str(alloc, "tlbox: schema - NotYetBuilt\n"),
+    }
+}
+
 // The line of an input that is refused at a place.
 fn input_line_of(alloc: Global, place: u64, why: &str) -> Result<String, AllocError>
     ensures { IfOk result (λ s. string_bytes s ≡ input_line place why.now) }
@@ -37,18 +59,44 @@ fn input_line_of(alloc: Global, place: u64, why: &str) -> Result<String, AllocEr
     Ok(line)
 }
 
+// Why a journal is refused, and its values.
+fn journal_cause_name(alloc: Global, cause: JournalCause) -> Result<String, AllocError>
+    ensures { IfOk result (λ s. string_bytes s ≡ journal_cause_text cause) }
+{
+    match cause {
+        JournalCause::NotYetBuilt => String::from_str(alloc, "NotYetBuilt"),
+        JournalCause::TooLong => String::from_str(alloc, "TooLong"),
+        JournalCause::NoPacket { packet } => format!(in alloc; "NoPacket {packet}"),
+    }
+}
+
+// The line of a journal that is refused at a place.
+fn journal_line_of(alloc: Global, place: u64, why: &str) -> Result<String, AllocError>
+    ensures { IfOk result (λ s. string_bytes s ≡ journal_line place why.now) }
+{
+    let mut line = format!(in alloc; "tlbox: journal {place} ")?;
+    line.push_str(why)?;
+    line.push_str("\n")?;
+    Ok(line)
+}
+
 // The line of a refusal.
 fn line_of(alloc: Global, refusal: Refusal) -> Result<String, AllocError>
     ensures { IfOk result (λ s. string_bytes s ≡ refusal_line refusal) }
 {
     match refusal {
-        Refusal::SchemaText => String::from_str(alloc, "tlbox: schema - NotYetBuilt\n"),
+        Refusal::Schema { cause } => schema_line_of(alloc, cause),
         Refusal::TypeName => String::from_str(alloc, "tlbox: type - NotYetBuilt\n"),
+        Refusal::Profile => String::from_str(alloc, "tlbox: profile - NotYetBuilt\n"),
         Refusal::Input { place, cause } => {
             let why = cause_name(alloc, cause)?;
             input_line_of(alloc, place, why.as_str())
         }
         Refusal::Trailing { place } => input_line_of(alloc, place, "Trailing"),
+        Refusal::Journal { place, cause } => {
+            let why = journal_cause_name(alloc, cause)?;
+            journal_line_of(alloc, place, why.as_str())
+        }
     }
 }
 

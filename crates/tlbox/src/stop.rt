@@ -6,18 +6,51 @@ use tl_base::{TextFault, WriteFault};
 use tl_combinators::SyntaxFault;
 use tl_lexer::LexFault;
 use tl_types::{Cause, CheckFault, TypeFault};
+use update_replay::ReplayFault;
 
-/// What is refused. A place counts bytes from the input's front.
+/// What is refused. A place counts bytes from the front of the input or journal.
 #[derive(Clone, Copy, Debug, PartialEq, Eq, Error)]
 pub enum Refusal {
-    #[error("the schema is not yet built")]
-    SchemaText,
+    #[error("the schema is refused: {cause}")]
+    Schema { cause: SchemaCause },
     #[error("the type is not yet built")]
     TypeName,
+    #[error("the profile is not yet built")]
+    Profile,
     #[error("the input is refused at {place}: {cause}")]
     Input { place: u64, cause: Cause },
     #[error("more bytes stand behind the value, at {place}")]
     Trailing { place: u64 },
+    #[error("the journal is refused at {place}: {cause}")]
+    Journal { place: u64, cause: JournalCause },
+}
+
+/// Why a schema's text is refused.
+#[derive(Clone, Copy, Debug, PartialEq, Eq, Error)]
+pub enum SchemaCause {
+    /// It has more than 4,194,304 bytes.
+    #[error("the text is too long")]
+    TextTooLong,
+    /// The byte at this place begins no token and no comment.
+    #[error("no token begins at {at}")]
+    BadByte { at: u32 },
+    /// The comment that begins at this place is never closed.
+    #[error("the comment at {at} is open")]
+    OpenComment { at: u32 },
+    /// Its tokens or declarations are not of the plain form.
+    #[error("not yet built")]
+    NotYetBuilt,
+}
+
+/// Why a journal is refused at a step.
+#[derive(Clone, Copy, Debug, PartialEq, Eq, Error)]
+pub enum JournalCause {
+    #[error("not yet built")]
+    NotYetBuilt,
+    #[error("too long")]
+    TooLong,
+    #[error("no packet {packet}")]
+    NoPacket { packet: u32 },
 }
 
 /// Why a job ended.
@@ -55,7 +88,15 @@ impl From<LexFault> for Stop {
 
     fn from(fault: LexFault) -> Stop {
         match fault {
-            LexFault::NotYetBuilt => Stop::Refused(Refusal::SchemaText),
+            LexFault::TextTooLong => Stop::Refused(Refusal::Schema {
+                cause: SchemaCause::TextTooLong,
+            }),
+            LexFault::BadByte { at } => Stop::Refused(Refusal::Schema {
+                cause: SchemaCause::BadByte { at },
+            }),
+            LexFault::OpenComment { at } => Stop::Refused(Refusal::Schema {
+                cause: SchemaCause::OpenComment { at },
+            }),
             LexFault::Memory => Stop::Memory,
         }
     }
@@ -69,7 +110,9 @@ impl From<SyntaxFault> for Stop {
 
     fn from(fault: SyntaxFault) -> Stop {
         match fault {
-            SyntaxFault::NotYetBuilt => Stop::Refused(Refusal::SchemaText),
+            SyntaxFault::NotYetBuilt => Stop::Refused(Refusal::Schema {
+                cause: SchemaCause::NotYetBuilt,
+            }),
             SyntaxFault::Memory => Stop::Memory,
         }
     }
@@ -83,7 +126,9 @@ impl From<CheckFault> for Stop {
 
     fn from(fault: CheckFault) -> Stop {
         match fault {
-            CheckFault::NotYetBuilt => Stop::Refused(Refusal::SchemaText),
+            CheckFault::NotYetBuilt => Stop::Refused(Refusal::Schema {
+                cause: SchemaCause::NotYetBuilt,
+            }),
             CheckFault::Memory => Stop::Memory,
         }
     }
@@ -115,6 +160,33 @@ impl From<InputFault> for Stop {
             InputFault::Trailing { place } => Stop::Refused(Refusal::Trailing { place }),
             InputFault::ReadFault => Stop::ReadFault,
             InputFault::Memory => Stop::Memory,
+        }
+    }
+}
+
+impl From<ReplayFault> for Stop {
+    ghost use Rattle.std.specs.Prelude.{◌≡◌};
+    ghost use Rattle.tlbox.specs.Stops.{of_replay};
+
+    ghost from_gives = { λ e stop. stop ≡ of_replay e };
+
+    fn from(fault: ReplayFault) -> Stop {
+        match fault {
+            ReplayFault::NotYetBuilt { at } => Stop::Refused(Refusal::Journal {
+                place: at,
+                cause: JournalCause::NotYetBuilt,
+            }),
+            ReplayFault::NoPacket { at, packet } => Stop::Refused(Refusal::Journal {
+                place: at,
+                cause: JournalCause::NoPacket { packet },
+            }),
+            ReplayFault::TooLong { at } => Stop::Refused(Refusal::Journal {
+                place: at,
+                cause: JournalCause::TooLong,
+            }),
+            ReplayFault::ReadFault => Stop::ReadFault,
+            ReplayFault::WriteFault => Stop::WriteFault,
+            ReplayFault::Memory => Stop::Memory,
         }
     }
 }

@@ -1,9 +1,12 @@
-use crate::program::run;
+use crate::runs::{
+    Ended, READ_INPUT, READ_LINE, READ_SCHEMA, USAGE, WRITE_ERRORS, WRITE_LINE, WRITE_OUTPUT,
+    assert_wrote, cut_reads, host_with, run_words,
+};
 use crate::status::Status;
 use std::alloc::{AllocError, Global};
 use std::process::Abort;
 use std::test::Fail;
-use tl_base::{Bytes, HostCall, MemHost, Out, Slot};
+use tl_base::{HostCall, MemHost, Out};
 
 const POINT: &str = "point#00000001 x:int y:int = Point;";
 
@@ -11,39 +14,12 @@ const POINT_BYTES: &str = "0100000005000000ffffffff";
 
 const POINT_LINE: &str = "{\"_\":\"point\",\"x\":5,\"y\":-1}\n";
 
-const USAGE: &str =
-    "usage: tlbox check SCHEMA, decode SCHEMA TYPE INPUT, encode SCHEMA TYPE INPUT, replay SCHEMA JOURNAL CLIENTS, make SCHEMA NUMBER STEPS, serve SCHEMA ADDRESS SESSIONS, post SCHEMA ADDRESS INPUT, client SCHEMA ADDRESS STATE [CHANNEL ..]\n";
-
 // A call that fails: its kind, and its number among the calls of this kind.
 type Failing = Option<(HostCall, u64)>;
 
-// How a run over memory ended, and what it wrote.
-#[derive(Drop)]
-struct Ended {
-    status: Status,
-    host: MemHost,
-}
-
-fn words_of(alloc: Global, words: &[&str]) -> Result<Vec<String>, AllocError> {
-    let mut owned = Vec::new(alloc);
-    for word in words {
-        owned.push(String::from_str(alloc, word)?)?;
-    }
-    Ok(owned)
-}
-
 // A file `schema` and a file `input`.
 fn host_of(alloc: Global, schema: &[u8], input: &[u8]) -> Result<MemHost, AllocError> {
-    let mut host = MemHost::new(alloc, 4096)?;
-    host.file(alloc, "schema", Bytes::from_slice(alloc, schema)?)?;
-    host.file(alloc, "input", Bytes::from_slice(alloc, input)?)?;
-    Ok(host)
-}
-
-fn run_words(alloc: Global, words: &[&str], mut host: MemHost) -> Result<Ended, AllocError> {
-    let owned = words_of(alloc, words)?;
-    let status = run(alloc, owned.as_slice(), &mut host);
-    Ok(Ended { status, host })
+    host_with(alloc, 4096, &[("schema", schema), ("input", input)])
 }
 
 // Decodes over a host of `host_of`.
@@ -74,16 +50,13 @@ fn assert_ends(rt: &impl Abort, ended: &Ended, status: Status, line: &str, case:
     } else {
         ("", line)
     };
-    assert_eq!(rt; ended.status, status, "case {case}");
-    assert_eq!(rt;
-        ended.host.written(Out::Output),
+    assert_wrote(
+        rt,
+        ended,
+        status,
         output.as_bytes(),
-        "case {case}"
-    );
-    assert_eq!(rt;
-        ended.host.written(Out::Errors),
         errors.as_bytes(),
-        "case {case}"
+        case,
     );
 }
 
@@ -96,18 +69,6 @@ type Row = (
     Status,
     &'static str,
 );
-
-const READ_SCHEMA: HostCall = HostCall::Read { slot: Slot::Schema };
-
-const READ_INPUT: HostCall = HostCall::Read { slot: Slot::Input };
-
-const WRITE_OUTPUT: HostCall = HostCall::Write { out: Out::Output };
-
-const WRITE_ERRORS: HostCall = HostCall::Write { out: Out::Errors };
-
-const READ_LINE: &str = "tlbox: read fault\n";
-
-const WRITE_LINE: &str = "tlbox: write fault\n";
 
 const SCHEMA_LINE: &str = "tlbox: schema - NotYetBuilt\n";
 
@@ -225,7 +186,7 @@ type Case = (
     &'static str,
 );
 
-const TABLE: [Case; 37] = [
+const TABLE: [Case; 43] = [
     (
         "a#00000001 x:int = A;",
         "A",
@@ -425,6 +386,42 @@ const TABLE: [Case; 37] = [
     ("", "Point", POINT_BYTES, Status::Refused, TYPE_LINE),
     (" \t\r\n", "Point", POINT_BYTES, Status::Refused, TYPE_LINE),
     (";", "Point", POINT_BYTES, Status::Refused, SCHEMA_LINE),
+    (
+        "a#00000001 x:int = A; // a",
+        "A",
+        "0100000005000000",
+        Status::Done,
+        "{\"_\":\"a\",\"x\":5}\n",
+    ),
+    (
+        "/* b */ a#00000001 /* */ x:int = A;",
+        "A",
+        "0100000005000000",
+        Status::Done,
+        "{\"_\":\"a\",\"x\":5}\n",
+    ),
+    ("a/", "A", "", Status::Refused, "tlbox: schema 1 BadByte\n"),
+    (
+        "a#00000001 = A; --",
+        "A",
+        "",
+        Status::Refused,
+        "tlbox: schema 16 BadByte\n",
+    ),
+    (
+        "/*",
+        "A",
+        "",
+        Status::Refused,
+        "tlbox: schema 0 OpenComment\n",
+    ),
+    (
+        "a#00000001 = A; /*/",
+        "A",
+        "",
+        Status::Refused,
+        "tlbox: schema 16 OpenComment\n",
+    ),
 ];
 
 #[test]
@@ -437,10 +434,8 @@ fn table(rt: HostRuntime) -> Result<(), Fail> {
 }
 
 // Schemas that are refused: each is `a#00000001 x:int = A;` with one fault.
-const REFUSED: [&str; 30] = [
+const REFUSED: [&str; 28] = [
     "a#00000001 x:int? = A;",
-    "a#00000001 x:int = A; // a",
-    "a#00000001 x:int = A; /* a */",
     "---functions--- a#00000001 x:int = A;",
     "a#00000001 x:int = A",
     "a#00000001 x:int = A;;",
@@ -485,7 +480,13 @@ const FILES: [Case; 6] = [
     ("none", "Point", "input", Status::ReadFault, READ_LINE),
     ("schema", "Point", "none", Status::ReadFault, READ_LINE),
     ("none", "Line", "none", Status::ReadFault, READ_LINE),
-    ("input", "Point", "none", Status::Refused, SCHEMA_LINE),
+    (
+        "input",
+        "Point",
+        "none",
+        Status::Refused,
+        "tlbox: schema 0 BadByte\n",
+    ),
     ("schema", "Line", "none", Status::Refused, TYPE_LINE),
 ];
 
@@ -605,21 +606,13 @@ fn declarations_limit(rt: HostRuntime) -> Result<(), Fail> {
 #[test]
 fn bytes_limit(rt: HostRuntime) -> Result<(), Fail> {
     for (size, status, line) in [
-        (65_536, Status::Done, "{\"_\":\"a\"}\n"),
-        (65_537, Status::Refused, SCHEMA_LINE),
+        (4_194_304, Status::Done, "{\"_\":\"a\"}\n"),
+        (4_194_305, Status::Refused, "tlbox: schema - TextTooLong\n"),
     ] {
         let text = with_spaces(rt.alloc(), size)?;
         let host = host_of(rt.alloc(), &text, [1, 0, 0, 0].as_slice())?;
         let ended = decode_over(rt.alloc(), "A", host)?;
         assert_ends(&rt, &ended, status, line, size);
-    }
-    Ok(())
-}
-
-// Lets so many reads of each file give at most so many bytes each.
-fn cut_reads(host: &mut MemHost, most: u32, count: u32) -> Result<(), AllocError> {
-    for _ in 0..count {
-        host.cut(most)?;
     }
     Ok(())
 }

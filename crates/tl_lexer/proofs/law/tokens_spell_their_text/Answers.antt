@@ -1,4 +1,4 @@
-use Rattle.tl_lexer.proofs.SpelledOnce.{spelled_once}
+use Rattle.tl_lexer.proofs.ReadPieces.{spelled_once}
 use Rattle.tl_lexer.proofs.law.tokens_spell_their_text.Goals as goal
 
 pub returns : goal.returns

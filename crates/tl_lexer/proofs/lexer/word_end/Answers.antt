@@ -8,7 +8,7 @@ pub loop-at-preserved : goal.loop-at-preserved
 loop-at-preserved c = record {
   far = omega arith;
   inside = omega (arith, c.in_word.ensures.within c.loop-at-test.true);
-  came = run_more _ _ _ c.loop-at.at (c.in_word.ensures.within c.loop-at-test.true) c.loop-at.invariant.came (c.in_word.ensures.yes c.loop-at-test.true);
+  came = run_more _ _ _ _ c.loop-at.at (c.in_word.ensures.within c.loop-at-test.true) c.loop-at.invariant.came (c.in_word.ensures.yes c.loop-at-test.true);
 }
 
 pub returns-clause-read : goal.returns-clause-read

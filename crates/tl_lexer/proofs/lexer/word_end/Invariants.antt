@@ -8,7 +8,7 @@ abbrev pub invariant-loop-at : goal.invariant-loop-at
 invariant-loop-at l = record {
   far : l.from ≤ l.at;
   inside : l.at ≤ length l.text;
-  came : Came (Next (Is is_word)) one_byte tt (drop l.from l.text) tt (drop l.at l.text);
+  came : Came (Next (Is is_word)) (one_byte (length l.text)) tt (drop l.from l.text) tt (drop l.at l.text);
 }
 
 abbrev pub decreases-loop-at : goal.decreases-loop-at

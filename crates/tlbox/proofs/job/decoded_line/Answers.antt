@@ -1,4 +1,7 @@
-use Rattle.tlbox.proofs.Lines.{no_schema_line, no_type_line, no_value_line, value_line}
+use Rattle.std.proofs.Common.{Ok, rules}
+use Rattle.tlbox.specs.Jobs.{LoadsSchema}
+use Rattle.tlbox.proofs.Sound.{none_failed, stays_sound}
+use Rattle.tlbox.proofs.Lines.{no_schema_line, no_type_line, no_value_line, value_line, no_value_sound}
 use Rattle.tlbox.proofs.job.decoded_line.Goals as goal
 
 pub returns-in_err-schema-clause-line : goal.returns-in_err-schema-clause-line
@@ -19,3 +22,16 @@ pub returns-clause-line : goal.returns-clause-line
 returns-clause-line g c =
     value_line c.args.schema.now c.args.of.now c.args.input.now c.in_ok-schema.schema c.in_ok-of.of c.in_ok-value.value c.in_ok-line.line _ _ _ c.in_ok-schema.ensures.loads
     (rw c.as_bytes.ensures.value at c.in_ok-of.ensures) c.in_ok-value.ensures.loads c.in_ok-line.ensures
+
+pub returns-in_err-value-clause-sound : goal.returns-in_err-value-clause-sound
+returns-in_err-value-clause-sound g c =
+    no_value_sound c.args.schema.now c.args.of.now c.args.input.now c.in_ok-schema.schema c.in_ok-of.of c.in_err-value.field-0.0 c.from_residual-in_err-value.result _ _ _ _ _ c.in_ok-schema.ensures.loads
+    (rw c.as_bytes.ensures.value at c.in_ok-of.ensures) c.in_ok-schema.ensures.sound.stays c.in_err-value.ensures.sound c.from_residual-in_err-value.ensures.1
+
+pub returns-in_err-line-clause-sound : goal.returns-in_err-line-clause-sound
+returns-in_err-line-clause-sound g c =
+    none_failed _ _ _ _ _ (stays_sound _ _ _ _ _ (LoadsSchema c.args.schema.now (Ok c.in_ok-schema.schema)) c.in_ok-schema.ensures.loads c.in_ok-schema.ensures.sound.stays c.in_ok-value.ensures.sound.stays) (λ failed. search rules)
+
+pub returns-clause-sound : goal.returns-clause-sound
+returns-clause-sound g c =
+    none_failed _ _ _ _ _ (stays_sound _ _ _ _ _ (LoadsSchema c.args.schema.now (Ok c.in_ok-schema.schema)) c.in_ok-schema.ensures.loads c.in_ok-schema.ensures.sound.stays c.in_ok-value.ensures.sound.stays) (λ failed. search rules)

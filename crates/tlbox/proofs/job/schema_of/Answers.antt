@@ -1,5 +1,10 @@
-use Rattle.tlbox.proofs.Loading.{no_program, no_schema}
+use Rattle.std.proofs.Common.{Vec, Global}
+use Rattle.tl_lexer.specs.declared.token.Token.{Token}
+use Rattle.tlbox.proofs.Loading.{no_tokens, no_program, no_schema}
 use Rattle.tlbox.proofs.job.schema_of.Goals as goal
+
+pub returns-in_err-tokens-clause-reads : goal.returns-in_err-tokens-clause-reads
+returns-in_err-tokens-clause-reads c = no_tokens (λ (v : Vec Token Global). v.items) c.args.text.now c.in_err-tokens.field-0.0 c.from_residual.result c.in_err-tokens.ensures.lexes c.from_residual.ensures.1
 
 pub returns-in_err-program-clause-reads : goal.returns-in_err-program-clause-reads
 returns-in_err-program-clause-reads c =

@@ -1,0 +1,14 @@
+use Rattle.std.proofs.Common.{◌≤◌, ◌-◌, length, drop}
+use Rattle.tl_lexer.proofs.Turns.{Came}
+use Rattle.tl_lexer.specs.Tokens.{one_byte, InBlock}
+use Rattle.tl_lexer.proofs.lexer.block_end.Given as goal
+
+abbrev pub invariant-loop-at : goal.invariant-loop-at
+invariant-loop-at l = record {
+  far : l.from ≤ l.at;
+  inside : l.at ≤ length l.text;
+  came : Came InBlock (one_byte (length l.text)) tt (drop l.from l.text) tt (drop l.at l.text);
+}
+
+abbrev pub decreases-loop-at : goal.decreases-loop-at
+decreases-loop-at l = length l.text - l.at

@@ -1,0 +1,51 @@
+-- Where a run can't fail: over a sound outside that tells its view, has the files that the words take, and has room.
+use Rattle.std.specs.Prelude.{ℕ, ◌+◌, ◌≤◌, List, length, Bool, IsTrue, Option, IsSome, IfSome, Result}
+use Rattle.tl_base.specs.Contents.{AreBytes}
+use Rattle.tl_base.specs.Outside.{View, written_of}
+use Rattle.tl_base.specs.declared.host.Out.{Out}
+use Rattle.tl_base.specs.declared.host.Out.TheVariants.{Output}
+use Rattle.update_replay.specs.declared.replay.ReplayFault.{ReplayFault}
+use Rattle.update_replay.specs.Worlds.{World}
+use Rattle.update_replay.specs.Replays.{Replayed}
+use Rattle.update_replay.specs.Settled.{Settled}
+use Rattle.tlbox.specs.Answer.{Answer}
+use Rattle.tlbox.specs.DecodeAnswers.{DecodeAnswer}
+use Rattle.tlbox.specs.ReplayAnswers.{ReplayAnswer}
+use Rattle.tlbox.specs.Answers.{Answers, IsFile}
+
+-- where the view is told and the outside is sound, it stays sound, and where P the call doesn't fail so
+pub record NeverFails (told : Option View) (before now : Bool) (failed : Type 0) (P : View → Type 0) : Type 0 where
+  pub stays : IsSome told → IsTrue before → IsTrue now
+  pub never : IfSome told (λ v. IsTrue before → P v → failed → ⊥)
+
+-- there is a file with this name
+abbrev pub IsThere : List ℕ → View → Type 0
+IsThere name v = IsFile v.files name
+
+-- so many more bytes fit into the out
+abbrev pub HasRoom : Out → ℕ → View → Type 0
+HasRoom out bytes v = length (written_of out v) + bytes ≤ v.room
+
+-- `decode` has an answer over the files
+abbrev pub DecodeAnswered : List ℕ → List ℕ → List ℕ → View → Type 0
+DecodeAnswered schema type input v = (a : Answer) × DecodeAnswer v.files schema type input a
+
+-- likewise, and there is room for its Output
+abbrev pub DecodeFits : List ℕ → List ℕ → List ℕ → View → Type 0
+DecodeFits schema type input v = (a : Answer) × DecodeAnswer v.files schema type input a × HasRoom Output (length a.output) v
+
+-- `replay` has an answer over the files
+abbrev pub ReplayAnswered : List ℕ → List ℕ → View → Type 0
+ReplayAnswered schema journal v = (a : Answer) × ReplayAnswer v.files schema journal a
+
+-- likewise, and there is room for its Output
+abbrev pub ReplayFits : List ℕ → List ℕ → View → Type 0
+ReplayFits schema journal v = (a : Answer) × ReplayAnswer v.files schema journal a × HasRoom Output (length a.output) v
+
+-- the journal is bytes, and there is room for all that a replay of it writes
+abbrev pub JournalFits : List ℕ → View → Type 0
+JournalFits journal v = AreBytes journal × (w : World) × (output : List ℕ) × (r : Result ℕ ReplayFault) × Settled r × Replayed journal w output r × HasRoom Output (length output) v
+
+-- the words have an answer over the files, and there is room for its Output
+abbrev pub AnswerFits : List (List ℕ) → View → Type 0
+AnswerFits words v = (a : Answer) × Answers words v.files a × HasRoom Output (length a.output) v
