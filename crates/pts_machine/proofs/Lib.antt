@@ -4,3 +4,4 @@ pub mod Ends
 pub mod Kept
 pub mod Parts
 pub mod Fitting
+pub mod Takings

@@ -12,7 +12,7 @@ use Rattle.pts_machine.specs.declared.seen.Seen.{Seen}
 use Rattle.pts_machine.specs.Tracks.{Track, IsSound, is_live}
 use Rattle.pts_machine.specs.Chains.{chain, reach}
 use Rattle.pts_machine.specs.Steps.{settle, extend, restart_at, forget, loaded, IsPast, IsNext, Hears}
-use Rattle.pts_machine.specs.Outcomes.{seen_by}
+use Rattle.pts_machine.specs.Outcomes.{seen_by, kept_by}
 use Rattle.pts_machine.proofs.Ends.{none_at, some_at, look}
 use Rattle.pts_machine.proofs.Kept.{next_test}
 
@@ -87,15 +87,21 @@ held_hears t start end item old new (Already x) no_next le h = (inr h.0, same_he
 held_hears t start end item old new (Full x) no_next le h =
     (elim [ inl lt ↦ absurd (omega arith) | inr ne ↦ ne h.0 ], no_next, (let full : len old.held ≡ most = h.1 in omega arith), same_held t new.held old.held (ap (λ (g : GapView _). g.held) h.3))
 
-pub held_len : {E : Type 0} (old new : GapView E) (start end : ℕ) (item : E) (r : HowHeld E) → Holds old new start end item r → len new.held ≤ len old.held + 1
+pub kept_most : {E : Type 0} (r : HowHeld E) (n : ℕ) → kept_by r n ≤ n
+kept_most Kept n = omega arith
+kept_most (Already x) n = omega arith
+kept_most (Full x) n = omega arith
+
+pub held_len : {E : Type 0} (old new : GapView E) (start end : ℕ) (item : E) (r : HowHeld E) → Holds old new start end item r → len new.held ≤ len old.held + kept_by r 1
 held_len old new start end item Kept h = omega (arith, ap len h.2, len-insert nat_cmp_total old.held start (end, item), cond_le (is_some (get old.held start)) (len old.held))
 held_len old new start end item (Already x) h = omega (arith, ap (λ (g : GapView _). len g.held) h.2)
 held_len old new start end item (Full x) h = omega (arith, ap (λ (g : GapView _). len g.held) h.3)
 
-pub held_room : {E : Type 0} (old new : GapView E) (start end : ℕ) (item : E) (r : HowHeld E) → Holds old new start end item r → old.spare ≤ new.spare + 1
-held_room old new start end item Kept h = h.3
-held_room old new start end item (Already x) h = omega (arith, ap (λ (g : GapView _). g.spare) h.2)
-held_room old new start end item (Full x) h = omega (arith, ap (λ (g : GapView _). g.spare) h.3)
+-- an item takes room for one, so the room for its parts is enough for it
+pub held_spare : {E : Type 0} (old new : GapView E) (start end : ℕ) (item : E) (r : HowHeld E) (n : ℕ) → 1 ≤ n → Holds old new start end item r → old.spare ≤ new.spare + kept_by r n
+held_spare old new start end item Kept n some h = let one : old.spare ≤ new.spare + 1 = h.3 in omega arith
+held_spare old new start end item (Already x) n some h = omega (arith, ap (λ (g : GapView _). g.spare) h.2)
+held_spare old new start end item (Full x) n some h = omega (arith, ap (λ (g : GapView _). g.spare) h.3)
 
 pub fresh : {E : Type 0} (restart at : ℕ) (events : List E) (m : Items E) (count : E → ℕ) → m ≡ empty → at ≡ restart + sum_by count events
     → ◌≡◌ {A = Track E} (record { restart = restart; events = events; at = at; held = m; mode = Live }) (loaded count restart events)

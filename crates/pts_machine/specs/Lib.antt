@@ -4,3 +4,4 @@ pub mod Steps
 pub mod Views
 pub mod Outcomes
 pub mod Fitting
+pub mod Takings

@@ -1,5 +1,5 @@
 -- A lane's fields as a lane.
-use Rattle.std.specs.Prelude.{ℕ, ◌+◌, ◌-◌, ◌≤◌, min, vec_len, vec_capacity}
+use Rattle.std.specs.Prelude.{ℕ, ◌+◌, ◌≤◌, vec_len, vec_capacity}
 use Rattle.std.specs.FinMap as map
 use Rattle.pts_machine.specs.declared.lane.Lane.TheInside.{Inside}
 use Rattle.pts_machine.specs.Tracks.{Track, LaneView, IsSound}
@@ -7,11 +7,11 @@ use Rattle.pts_machine.specs.Tracks.{Track, LaneView, IsSound}
 abbrev pub track_of : {E : Type 0} → Inside E → Track E
 track_of a = record { restart = a.restart; events = a.events.items; at = a.at; held = a.gap.held; mode = a.mode }
 
--- there is room where each of them could be held, and where, with everything held, each could be applied
 abbrev pub view_of : {E : Type 0} → Inside E → LaneView E
-view_of a = record { track = track_of a; spare = min a.gap.spare (vec_capacity a.events - (vec_len a.events + map.len a.gap.held)) }
+view_of a = record { track = track_of a; spare = a.spare }
 
--- what holds of every lane, and there is room to apply everything held
+-- what holds of every lane, and there is room to hold the further items, and to apply them beside everything held
 pub record IsWhole {E : Type 0} (count : E → ℕ) (a : Inside E) : Type 0 where
   pub sound : IsSound count (track_of a)
-  pub room : vec_len a.events + map.len a.gap.held ≤ vec_capacity a.events
+  pub room : vec_len a.events + map.len a.gap.held + a.spare ≤ vec_capacity a.events
+  pub gap : a.spare ≤ a.gap.spare

@@ -1,30 +1,30 @@
 //! Held items that follow one another.
-ghost use Rattle.std.specs.Prelude.{◌≡◌, ◌≤◌, ◌+◌, ◌++◌, ℕ, vec_len, vec_capacity, None};
+ghost use Rattle.std.specs.Prelude.{◌≡◌, ◌≤◌, ◌+◌, ◌++◌, ℕ, vec_len, vec_capacity, None, length};
 ghost use Rattle.std.specs.FinMap as map;
 ghost use Rattle.gap_buffer.specs.Holding.{from};
 ghost use Rattle.pts_machine.specs.Chains.{chain, reach, EndsBehind};
+ghost use Rattle.pts_machine.specs.Takings.{InTurn};
 
 use crate::counted::Counted;
+use crate::takes::Takes;
 use gap_buffer::Gap;
 
-// Moves the held items that follow from a place behind the events, and answers where they end.
-fn follow<E: Counted>(events: &mut Vec<E>, at: u32, gap: &mut Gap<E>) -> u32
-    requires room { vec_len events.old + map.len gap.old.held ≤ vec_capacity events.old }
+/// Gives the held items that follow from a place to what takes them, and answers where they end.
+pub fn follow<E: Drop, T: Takes<E>>(into: &mut T, at: u32, gap: &mut Gap<E>) -> u32
+    requires room { T.has_room into.old gap.old.held }
     requires behind { EndsBehind gap.old.held }
-    ensures events { events.new.items ≡ events.old.items ++ chain (map.len gap.old.held) at gap.old.held }
+    ensures took { InTurn T.took into.old (chain (map.len gap.old.held) at gap.old.held) into.new }
+    ensures room { T.has_room into.new gap.new.held }
     ensures reach { result ≡ reach (map.len gap.old.held) at gap.old.held }
     ensures free { map.get gap.old.held result ≡ None }
     ensures held { (q : ℕ) → result ≤ q → map.get gap.new.held q ≡ map.get gap.old.held q }
-    ensures sum { vec_len events.new + map.len gap.new.held ≡ vec_len events.old + map.len gap.old.held }
-    ensures capacity { vec_capacity events.old ≤ vec_capacity events.new }
+    ensures number { map.len gap.new.held + length (chain (map.len gap.old.held) at gap.old.held) ≡ map.len gap.old.held }
     ensures spare { gap.old.spare ≤ gap.new.spare }
 {
     let mut at = at;
-    'items: while let Some((end, event)) = gap.take(at) {
-        match events.push(event) {
-            Ok(()) => at = end,
-            Err(_) => unreachable!(),
-        }
+    'items: while let Some((end, item)) = gap.take(at) {
+        into.take_in(item);
+        at = end;
     }
     at
 }

@@ -1,5 +1,5 @@
 //! Lanes.
-ghost use Rattle.std.specs.Prelude.{◌≡◌, ◌<◌, ◌≤◌, ◌+◌, vec_len, OnOk};
+ghost use Rattle.std.specs.Prelude.{◌≡◌, ◌<◌, ◌≤◌, ◌+◌, vec_len, OnOk, OnErr};
 ghost use Rattle.std.specs.List.{sum_by};
 ghost use Rattle.std.specs.FinMap as map;
 ghost use Rattle.pts_machine.specs.Chains.{AreChained};
@@ -9,7 +9,7 @@ ghost use Rattle.pts_machine.specs.Steps.{hear, Hears, extend, restart_at, forge
 use crate::chains::settle;
 use crate::counted::Counted;
 use crate::mode::{Mode, is_next};
-use crate::seen::{Seen, seen_of};
+use crate::seen::{Seen, outcome_of};
 use crate::stretches::{append, end_of};
 use gap_buffer::Gap;
 use std::alloc::Global;
@@ -24,6 +24,8 @@ pub struct Lane<E: Counted> {
     at: u32,
     gap: Gap<E>,
     mode: Mode,
+    // for how many more items memory was taken
+    spare: u32,
 }
 
 impl<E: Counted> Model for Lane<E> {
@@ -50,6 +52,7 @@ impl<E: Counted> Lane<E> {
             at: 0,
             gap: Gap::new(alloc),
             mode: Mode::Live,
+            spare: 0,
         }
     }
 
@@ -65,6 +68,7 @@ impl<E: Counted> Lane<E> {
             at,
             gap: Gap::new(alloc),
             mode: Mode::Live,
+            spare: 0,
         }
     }
 
@@ -73,9 +77,13 @@ impl<E: Counted> Lane<E> {
         ensures track { self.new.track ≡ self.old.track }
         ensures spare { self.old.spare ≤ self.new.spare }
         ensures ok { OnOk result (more ≤ self.new.spare) }
+        ensures err { OnErr result (self.new ≡ self.old) }
     {
         self.gap.reserve(more)?;
-        self.events.reserve(self.gap.len() as usize + more as usize)
+        self.events
+            .reserve(self.gap.len() as usize + more as usize)?;
+        self.spare = self.spare.max(more);
+        Ok(())
     }
 
     /// An item comes: an event with the numbers between which it stands in its box.
@@ -96,10 +104,14 @@ impl<E: Counted> Lane<E> {
                 Err(_) => unreachable!(),
             }
             self.at = settle(&mut self.events, end, &mut self.gap);
+            self.spare -= 1;
             return Seen::Applied { to: self.at };
         }
         let end = start + event.count();
-        seen_of(self.gap.hold(start, end, event))
+        let held = self.gap.hold(start, end, event);
+        let (seen, kept) = outcome_of(held, 1);
+        self.spare -= kept;
+        seen
     }
 
     /// The lane waits for the answer to the request of this number.
@@ -117,7 +129,9 @@ impl<E: Counted> Lane<E> {
         ensures step { self.new.track ≡ extend E.count self.old.track events.items last }
         ensures spare { self.old.spare ≤ self.new.spare + vec_len events }
     {
+        let number = events.len();
         self.at = append(&mut self.events, self.at, events);
+        self.spare -= number as u32;
         self.gap.drop_to(self.at);
         if last {
             self.mode = Mode::Live;

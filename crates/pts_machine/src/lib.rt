@@ -8,11 +8,14 @@ mod laws;
 mod mode;
 mod seen;
 mod stretches;
+mod takes;
 #[cfg(test)]
 mod tests;
 
+pub use chains::follow;
 pub use counted::Counted;
 pub use lane::Lane;
 pub use laws::lanes_fit_boxes;
-pub use mode::Mode;
-pub use seen::Seen;
+pub use mode::{Mode, is_next};
+pub use seen::{Seen, outcome_of};
+pub use takes::Takes;

@@ -1,6 +1,6 @@
 //! What came of an item.
 ghost use Rattle.std.specs.Prelude.{◌≡◌};
-ghost use Rattle.pts_machine.specs.Outcomes.{seen_by};
+ghost use Rattle.pts_machine.specs.Outcomes.{seen_by, kept_by};
 
 use gap_buffer::Held;
 
@@ -16,13 +16,14 @@ pub enum Seen {
     Dropped,
 }
 
-/// What came of an item, by how it was held.
-pub fn seen_of<E: Drop>(held: Held<E>) -> Seen
-    ensures { result ≡ seen_by held }
+/// What came of an item, by how it was held; and how many of its parts are held now, where it has so many.
+pub fn outcome_of<E: Drop>(held: Held<E>, number: u32) -> (Seen, u32)
+    ensures seen { result.0 ≡ seen_by held }
+    ensures number { result.1 ≡ kept_by held number }
 {
     match held {
-        Held::Kept => Seen::Held,
-        Held::Already(_) => Seen::Already,
-        Held::Full(_) => Seen::Dropped,
+        Held::Kept => (Seen::Held, number),
+        Held::Already(_) => (Seen::Already, 0),
+        Held::Full(_) => (Seen::Dropped, 0),
     }
 }

@@ -1,14 +1,13 @@
 -- The latest settings are one table, and grow with their list.
-use Rattle.std.proofs.Common.{◌≡◌, ℕ, ◌+◌, ◌-◌, ◌<◌, ◌≤◌, List, [], ◌++◌, min, length, take, drop, map as each, refl, sym, ap, ◌∙◌, arith}
+use Rattle.std.proofs.Common.{◌≡◌, ℕ, ◌+◌, ◌-◌, ◌<◌, ◌≤◌, List, ◌++◌, min, length, take, drop, map as each, refl, sym, ap, ◌∙◌, arith}
 use Rattle.std.specs.Cmp.Lexicographic.{nat_list_cmp_total}
 use Rattle.std.specs.Ordering.{nat_cmp}
 use Rattle.std.specs.Cmp.Lexicographic.{slice_cmp}
-use Rattle.std.specs.FinMap.{get, empty, get-empty, same_map, slice_cmp-IsAntisymmetric, nat_cmp-IsAntisymmetric}
+use Rattle.std.specs.FinMap.{empty, get-empty, same_map, slice_cmp-IsAntisymmetric, nat_cmp-IsAntisymmetric}
 use Rattle.std.proofs.lemmas.Option.{none-some}
 use Rattle.std.proofs.lemmas.List.{take-append-le, length-take, length-drop, length-map}
-use Rattle.gap_buffer.specs.Holding.{Items}
 use Rattle.seq_machine.specs.declared.setting.Setting.{Setting}
-use Rattle.seq_machine.specs.Packs.{Values, Pack, size}
+use Rattle.seq_machine.specs.Packs.{Values}
 use Rattle.seq_machine.specs.Books.{Book, new_book, IsSoundBook}
 use Rattle.seq_machine.specs.Latest.{Dated, last_of, value_of, IsLatest, latest, IsStretch, IsLatestBook}
 use Rattle.seq_machine.proofs.LatestValues.{latest_puts}

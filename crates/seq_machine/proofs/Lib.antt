@@ -5,3 +5,4 @@ pub mod Growing
 pub mod Sums
 pub mod Below
 pub mod BookSteps
+mod Stores

@@ -1,5 +1,5 @@
 -- How many settings are held, by what is held.
-use Rattle.std.proofs.Common.{◌≡◌, ℕ, ◌+◌, ◌≤◌, List, [], ◌∷◌, length, Option, Some, None, Bool, true, false, cond, refl, sym, ap, ◌∙◌, arith}
+use Rattle.std.proofs.Common.{◌≡◌, ℕ, ◌+◌, List, [], ◌∷◌, length, Option, Some, None, Bool, true, false, cond, refl, sym, ap, ◌∙◌, arith}
 use Rattle.std.specs.List.{sum_by}
 use Rattle.std.specs.Ordering.{nat_cmp, eq_by_cmp, is_eq}
 use Rattle.std.specs.declared.cmp.Ordering.{Ordering}
@@ -14,8 +14,9 @@ use Rattle.gap_buffer.specs.Holding.{Items, GapView, Holds}
 use Rattle.gap_buffer.specs.declared.held.Held.{Held as HowHeld}
 use Rattle.gap_buffer.specs.declared.held.Held.TheVariants.{Kept, Already, Full}
 use Rattle.gap_buffer.proofs.Maps.{untaken}
+use Rattle.pts_machine.specs.Outcomes.{kept_by}
 use Rattle.seq_machine.specs.Packs.{Pack, size}
-use Rattle.seq_machine.specs.Totals.{total, kept_by}
+use Rattle.seq_machine.specs.Totals.{total}
 
 sum_put : (k : ℕ) (v : ℕ × Pack) (es : List (ℕ × (ℕ × Pack))) → find nat_cmp k es ≡ None → sum_by (λ e. size e.1.1) (put nat_cmp k v es) ≡ sum_by (λ e. size e.1.1) es + size v.1
 sum_put k v [] none = omega (arith, sum_by-cons (λ (e : ℕ × (ℕ × Pack)). size e.1.1) (k, v) [])
@@ -71,14 +72,3 @@ pub held_total : (old new : GapView Pack) (start end : ℕ) (item : Pack) (r : H
 held_total old new start end item Kept h = ap total h.2 ∙ total_insert old.held start (end, item) h.0
 held_total old new start end item (Already x) h = omega (arith, ap (λ (p : GapView _). total p.held) h.2)
 held_total old new start end item (Full x) h = omega (arith, ap (λ (p : GapView _). total p.held) h.3)
-
-pub kept_most : (r : HowHeld Pack) (n : ℕ) → kept_by r n ≤ n
-kept_most Kept n = omega arith
-kept_most (Already x) n = omega arith
-kept_most (Full x) n = omega arith
-
--- a pack takes room for one, so its settings' room is enough for it
-pub held_spare : (old new : GapView Pack) (start end : ℕ) (item : Pack) (r : HowHeld Pack) (n : ℕ) → 1 ≤ n → Holds old new start end item r → old.spare ≤ new.spare + kept_by r n
-held_spare old new start end item Kept n some h = let one : old.spare ≤ new.spare + 1 = h.3 in omega arith
-held_spare old new start end item (Already x) n some h = omega (arith, ap (λ (p : GapView _). p.spare) h.2)
-held_spare old new start end item (Full x) n some h = omega (arith, ap (λ (p : GapView _). p.spare) h.3)

@@ -7,3 +7,4 @@ pub mod Totals
 pub mod Books
 pub mod Views
 pub mod Latest
+pub mod Stores

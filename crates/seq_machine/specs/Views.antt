@@ -5,7 +5,7 @@ use Rattle.seq_machine.specs.Totals.{total}
 use Rattle.seq_machine.specs.Books.{Book, BookView, IsSoundBook}
 
 abbrev pub book_of : Inside → Book
-book_of a = record { at = a.at; date = a.date; table = a.table.values; held = a.gap.held; mode = a.mode }
+book_of a = record { at = a.at; date = a.store.date; table = a.store.table.values; held = a.gap.held; mode = a.mode }
 
 abbrev pub view_of : Inside → BookView
 view_of a = record { book = book_of a; spare = a.spare }
@@ -13,7 +13,7 @@ view_of a = record { book = book_of a; spare = a.spare }
 -- what holds of all settings: the number of held settings is exact, and there is room to keep all of them and the further ones
 pub record IsWhole (a : Inside) : Type 0 where
   pub sound : IsSoundBook (book_of a)
-  pub total : a.waiting ≡ total a.gap.held
-  pub table : a.waiting + a.spare ≤ a.table.spare
+  pub total : a.store.waiting ≡ total a.gap.held
+  pub table : a.store.waiting + a.spare ≤ a.store.table.spare
   pub gap : a.spare ≤ a.gap.spare
-  pub few : a.waiting + a.spare < 2 ^ 31
+  pub few : a.store.waiting + a.spare < 2 ^ 31

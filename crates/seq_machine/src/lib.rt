@@ -6,6 +6,7 @@ mod held_pack;
 mod laws;
 mod setting;
 mod settings;
+mod store;
 mod table;
 #[cfg(test)]
 mod tests;

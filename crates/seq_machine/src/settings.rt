@@ -1,22 +1,20 @@
 //! The settings of a client.
-ghost use Rattle.std.specs.Prelude.{◌≡◌, ◌<◌, ◌≤◌, ◌+◌, ◌-◌, ◌&&◌, ◌^◌, eqb, ℕ, List, OnOk, OnErr, MatchOption, None, Some, vec_len};
+ghost use Rattle.std.specs.Prelude.{◌≡◌, ◌<◌, ◌≤◌, ◌+◌, ◌-◌, ◌^◌, ℕ, List, OnOk, OnErr, MatchOption, None, Some, vec_len};
 ghost use Rattle.std.specs.FinMap as map;
-ghost use Rattle.gap_buffer.specs.declared.held.Held.{Held};
 ghost use Rattle.pts_machine.specs.Chains.{AreChained};
-ghost use Rattle.pts_machine.specs.Outcomes.{seen_by};
-ghost use Rattle.pts_machine.specs.Tracks.{is_live};
 ghost use Rattle.seq_machine.specs.Packs.{puts};
 ghost use Rattle.seq_machine.specs.Rows.{pairs, values_of, AreSorted};
-ghost use Rattle.seq_machine.specs.Totals.{total, kept_by};
+ghost use Rattle.seq_machine.specs.Totals.{total};
 ghost use Rattle.seq_machine.specs.Books.{IsSoundBook, new_book, hear_pack, overlaid, asked, asks_again, forgotten};
 ghost use Rattle.seq_machine.specs.Latest.{Dated, IsLatestBook, IsStretch, AreSince, IsOverlay};
 
-use crate::chains::{put_all, settle};
+use crate::chains::settle;
 use crate::held_pack::HeldPack;
 use crate::setting::Setting;
+use crate::store::Store;
 use crate::table::Table;
-use gap_buffer::{Gap, Held};
-use pts_machine::{Mode, Seen};
+use gap_buffer::Gap;
+use pts_machine::{Mode, Seen, is_next, outcome_of};
 use std::alloc::{AllocError, Global};
 use std::marker::Model;
 use tl_base::Memory;
@@ -28,12 +26,9 @@ const MOST: usize = 2_147_483_648;
 #[derive(Drop)]
 pub struct Settings {
     at: u32,
-    date: u32,
     mode: Mode,
     gap: Gap<HeldPack>,
-    table: Table,
-    // how many settings are held
-    waiting: usize,
+    store: Store,
     // for how many more settings memory was taken
     spare: u32,
 }
@@ -51,29 +46,6 @@ impl Model for Settings {
     ghost invariant = { IsWhole };
 }
 
-// Whether a pack that starts here is applied at once.
-fn is_next(mode: Mode, start: u32, at: u32) -> bool
-    ensures { result ≡ (is_live mode && eqb start at) }
-{
-    match mode {
-        Mode::Live => start == at,
-        Mode::Asking(_) => false,
-        Mode::Again => false,
-    }
-}
-
-// What came of a pack that was to be held, and how many of its settings are held now.
-fn outcome(held: Held<HeldPack>, number: usize) -> (Seen, usize)
-    ensures seen { result.0 ≡ seen_by held }
-    ensures number { result.1 ≡ kept_by held number }
-{
-    match held {
-        Held::Kept => (Seen::Held, number),
-        Held::Already(_) => (Seen::Already, 0),
-        Held::Full(_) => (Seen::Dropped, 0),
-    }
-}
-
 impl Settings {
     /// No settings, at seq 0 and date 0.
     pub fn new(alloc: Global) -> Settings
@@ -81,11 +53,13 @@ impl Settings {
     {
         Settings {
             at: 0,
-            date: 0,
             mode: Mode::Live,
             gap: Gap::new(alloc),
-            table: Table::new(alloc),
-            waiting: 0,
+            store: Store {
+                table: Table::new(alloc),
+                date: 0,
+                waiting: 0,
+            },
             spare: 0,
         }
     }
@@ -99,11 +73,13 @@ impl Settings {
         ensures limit { OnOk result (map.len self.old.book.table + total self.old.book.held + more < 2 ^ 31) }
         ensures err { OnErr result (self.new ≡ self.old) }
     {
-        let kept = self.table.len().saturating_add(self.waiting);
+        let kept = self.store.table.len().saturating_add(self.store.waiting);
         if kept.saturating_add(more as usize) >= MOST {
             return Err(AllocError);
         }
-        self.table.reserve(self.waiting + more as usize)?;
+        self.store
+            .table
+            .reserve(self.store.waiting + more as usize)?;
         self.gap.reserve(more)?;
         self.spare = self.spare.max(more);
         Ok(())
@@ -128,11 +104,11 @@ impl Settings {
             self.overlay(pack, seq, date);
             return Seen::Applied { to: self.at };
         }
-        let number = pack.len();
+        let number = pack.len() as u32;
         let held = self.gap.hold(start, seq, HeldPack::new(date, pack));
-        let (seen, kept) = outcome(held, number);
-        self.waiting += kept;
-        self.spare -= kept as u32;
+        let (seen, kept) = outcome_of(held, number);
+        self.store.waiting += kept as usize;
+        self.spare -= kept;
         seen
     }
 
@@ -162,12 +138,10 @@ impl Settings {
         ensures latest { (L : List Dated) → IsLatestBook L self.old.book → AreSince L self.old.book.at self.old.book.date → IsOverlay L seq self.old.book.date pack.items → IsLatestBook L self.new.book }
     {
         let number = pack.len();
-        put_all(&mut self.table, pack);
-        let reached = settle(&mut self.table, seq, date, self.waiting, &mut self.gap);
+        self.store.table.put_all(pack);
+        self.store.date = date;
+        self.at = settle(&mut self.store, seq, &mut self.gap);
         self.mode = Mode::Live;
-        self.at = reached.at;
-        self.date = reached.date;
-        self.waiting = reached.waiting;
         self.spare -= number as u32;
     }
 
@@ -177,7 +151,7 @@ impl Settings {
         ensures spare { self.old.spare ≤ self.new.spare }
     {
         self.gap.clear();
-        self.waiting = 0;
+        self.store.waiting = 0;
         self.mode = Mode::Live;
     }
 
@@ -193,7 +167,7 @@ impl Settings {
     pub fn date(&self) -> u32
         ensures { result ≡ self.now.book.date }
     {
-        self.date
+        self.store.date
     }
 
     pub fn mode(&self) -> Mode
@@ -215,14 +189,14 @@ impl Settings {
     pub fn get(&self, key: &[u8]) -> Option<&[u8]>
         ensures { MatchOption result (map.get self.now.book.table key.now ≡ None) (λ v. map.get self.now.book.table key.now ≡ Some v.now) }
     {
-        self.table.get(key)
+        self.store.table.get(key)
     }
 
     /// All settings, in byte order of keys.
     pub fn all(&self) -> &[Setting]
         ensures rows { pairs result.now ≡ map.entries self.now.book.table }
     {
-        self.table.rows()
+        self.store.table.rows()
     }
 
     /// Settings whose keys rise, at a seq and a date.
@@ -233,11 +207,13 @@ impl Settings {
     {
         Settings {
             at: seq,
-            date,
             mode: Mode::Live,
             gap: Gap::new(alloc),
-            table: Table::of(all),
-            waiting: 0,
+            store: Store {
+                table: Table::of(all),
+                date,
+                waiting: 0,
+            },
             spare: 0,
         }
     }

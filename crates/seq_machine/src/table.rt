@@ -4,6 +4,7 @@ ghost use Rattle.std.specs.Ordering.{nat_cmp};
 ghost use Rattle.std.specs.Cmp.Lexicographic.{slice_cmp};
 ghost use Rattle.std.specs.FinMap as map;
 ghost use Rattle.std.specs.FinMap.{put, find};
+ghost use Rattle.seq_machine.specs.Packs.{puts};
 ghost use Rattle.seq_machine.specs.Rows.{pairs, spot_from, values_of, AreSorted};
 ghost use Rattle.seq_machine.specs.Spots.{IsWithin};
 
@@ -29,6 +30,7 @@ pub struct Table {
 impl Model for Table {
     ghost use Rattle.seq_machine.specs.Tables.{TableView, table_code};
     ghost use Rattle.seq_machine.specs.TableViews.{view_of};
+    ghost use Rattle.seq_machine.specs.Packs.{puts};
     ghost use Rattle.seq_machine.specs.Rows.{AreSorted};
 
     ghost Value = { TableView };
@@ -115,6 +117,17 @@ impl Table {
         ensures spare { self.old.spare ≤ self.new.spare + 1 }
     {
         put_row(&mut self.rows, setting);
+    }
+
+    /// Puts settings in turn.
+    pub fn put_all(&mut self, settings: Vec<Setting>)
+        requires room { vec_len settings ≤ self.old.spare }
+        ensures values { self.new.values ≡ puts self.old.values settings.items }
+        ensures spare { self.old.spare ≤ self.new.spare + vec_len settings }
+    {
+        for setting in settings {
+            self.put(setting);
+        }
     }
 
     /// How many keys there are.

@@ -6,6 +6,7 @@ ghost use Rattle.update_replay.specs.Words.{word};
 ghost use Rattle.update_replay.specs.Reached.{IsShort};
 ghost use Rattle.update_replay.specs.Reading.{step_of, StepRead, Reads, Filled, FirstRead, IsThis, IsByte, IsWord, IsDouble, IsPadded, IsText, IsMessage, IsPost, IsPacketNumber, IsHear};
 
+use crate::profile::VECTOR;
 use std::alloc::{AllocError, AllocFailed, Global};
 use thiserror::Error;
 use tl_base::{Bytes, Source, TakeFault, take_bytes};
@@ -59,8 +60,6 @@ const POST: u32 = 0xb0c50501;
 const HEAR: u32 = 0xb0c50504;
 
 const MESSAGE: u32 = 0xb0c50411;
-
-const VECTOR: u32 = 0x1cb5c415;
 
 // The most bytes that a body has.
 const MOST_BYTES: u8 = 253;

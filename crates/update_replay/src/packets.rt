@@ -3,6 +3,7 @@ ghost use Rattle.std.specs.Prelude.{◌≡◌, ◌≤◌, ◌++◌, IfOk, OnOk, 
 ghost use Rattle.update_replay.specs.Words.{word, short_text};
 ghost use Rattle.update_replay.specs.Packets.{packet};
 
+use crate::profile::VECTOR;
 use std::alloc::Global;
 use tl_base::Memory;
 
@@ -10,8 +11,6 @@ use tl_base::Memory;
 const PUSH: u32 = 0xb0c50401;
 
 const UPDATES: u32 = 0xb0c50202;
-
-const VECTOR: u32 = 0x1cb5c415;
 
 const NEW_MESSAGE: u32 = 0xb0c50101;
 

@@ -1,5 +1,8 @@
 //! The schema of updates, peers and journals that a replay is made with.
 
+/// The number of a boxed vector.
+pub const VECTOR: u32 = 0x1cb5c415;
+
 /// The profile's text. A journal is spelled by it, and so are packets. The numbers are this project's own; names and fields of
 /// updates are those of "Working with Updates" (core.telegram.org/api/updates).
 pub const PROFILE_TEXT: &str = "\

@@ -1,15 +1,8 @@
 use crate::{ReplayFault, World, replay_steps};
 use std::alloc::{AllocError, Global};
+use std::process::Abort;
 use std::test::Fail;
 use tl_base::{Bytes, MemSink, MemSource};
-
-// How a replay ended, and what stands then.
-#[derive(Drop)]
-struct Ended {
-    result: Result<u32, ReplayFault>,
-    world: World,
-    output: MemSink,
-}
 
 // The sinks take so many bytes.
 const ROOM: u32 = 8_000_000;
@@ -29,25 +22,24 @@ fn put_hear(journal: &mut Vec<u8>, packet: u32) -> Result<(), AllocError> {
     journal.extend_from_slice(&packet.to_le_bytes())
 }
 
-fn replay_over(
-    alloc: Global,
-    journal: &[u8],
-    failed_reads: &[u64],
-    failed_writes: &[u64],
-) -> Result<Ended, AllocError> {
-    let mut world = World::new(alloc);
-    let mut from = MemSource::new(
+// A source of the journal, whose first reads give 5, 1, 2 and 3 bytes, and some of whose reads fail.
+fn source(alloc: Global, journal: &[u8], failed: &[u64]) -> Result<MemSource, AllocError> {
+    Ok(MemSource::new(
         Bytes::from_slice(alloc, journal)?,
         Vec::from_slice(alloc, &[5u32, 1, 2, 3])?,
-        Vec::from_slice(alloc, failed_reads)?,
-    );
-    let mut output = MemSink::new(alloc, ROOM, Vec::from_slice(alloc, failed_writes)?)?;
-    let result = replay_steps(alloc, &mut world, &mut from, &mut output);
-    Ok(Ended {
-        result,
-        world,
-        output,
-    })
+        Vec::from_slice(alloc, failed)?,
+    ))
+}
+
+// How a replay of the journal ended, and where the client's events reach then.
+fn replay(
+    alloc: Global,
+    from: &mut MemSource,
+    output: &mut MemSink,
+) -> (Result<u32, ReplayFault>, u32) {
+    let mut world = World::new(alloc);
+    let result = replay_steps(alloc, &mut world, from, output);
+    (result, world.at())
 }
 
 const THREE_POSTS: &str = "\
@@ -86,49 +78,61 @@ fn three_posts(alloc: Global) -> Result<Vec<u8>, AllocError> {
     Ok(journal)
 }
 
+// The journal is replayed over reads and writes some of which fail. It ends so, and this was written.
+fn assert_replays(
+    rt: &impl Abort,
+    alloc: Global,
+    failed_reads: &[u64],
+    failed_writes: &[u64],
+    ends: (Result<u32, ReplayFault>, u32),
+    lines: &str,
+) -> Result<(), Fail> {
+    let mut from = source(alloc, &three_posts(alloc)?, failed_reads)?;
+    let mut output = MemSink::new(alloc, ROOM, Vec::from_slice(alloc, failed_writes)?)?;
+    assert_eq!(rt; replay(alloc, &mut from, &mut output), ends);
+    assert_eq!(rt; output.as_slice(), lines.as_bytes());
+    Ok(())
+}
+
 #[test]
 fn a_gap_closes_in_the_report(rt: HostRuntime) -> Result<(), Fail> {
     let alloc = rt.alloc();
-    let journal = three_posts(alloc)?;
     let report = format!(in alloc; "{THREE_POSTS}{FIVE_HEARS}{CLOSING}")?;
-    let ended = replay_over(alloc, &journal, &[], &[])?;
-    assert_eq!(rt; ended.result, Ok(8));
-    assert_eq!(rt; ended.output.as_slice(), report.as_bytes());
-    assert_eq!(rt; ended.world.at(), 3);
-    Ok(())
+    assert_replays(&rt, alloc, &[], &[], (Ok(8), 3), &report)
 }
 
-// One post and 100,000 hears: the last step is one too many.
-#[test]
-fn a_replay_has_100000_steps(rt: HostRuntime) -> Result<(), Fail> {
-    let alloc = rt.alloc();
-    let mut journal = Vec::new(alloc);
-    put_post(&mut journal, 1, 0x61)?;
-    for _ in 0..99_999u32 {
-        put_hear(&mut journal, 0)?;
-    }
-    let whole = replay_over(alloc, &journal, &[], &[])?;
-    assert_eq!(rt; whole.result, Ok(100_000));
-    put_hear(&mut journal, 0)?;
-    let longer = replay_over(alloc, &journal, &[], &[])?;
-    assert_eq!(rt; longer.result, Err(ReplayFault::TooLong { at: 1_200_016 }));
-    Ok(())
-}
-
-// Each step is one write, and the closing lines are another.
+// Each step is one write, and the closing lines are another. A step is made before its lines are written.
 #[test]
 fn faults_keep_the_lines_before(rt: HostRuntime) -> Result<(), Fail> {
     let alloc = rt.alloc();
-    let journal = three_posts(alloc)?;
-    let unread = replay_over(alloc, &journal, &[0], &[])?;
-    assert_eq!(rt; unread.result, Err(ReplayFault::ReadFault));
-    assert_eq!(rt; unread.output.as_slice(), b"".as_slice());
-    let unwritten = replay_over(alloc, &journal, &[], &[3])?;
-    assert_eq!(rt; unwritten.result, Err(ReplayFault::WriteFault));
-    assert_eq!(rt; unwritten.output.as_slice(), THREE_POSTS.as_bytes());
-    let unclosed = replay_over(alloc, &journal, &[], &[8])?;
-    assert_eq!(rt; unclosed.result, Err(ReplayFault::WriteFault));
     let lines = format!(in alloc; "{THREE_POSTS}{FIVE_HEARS}")?;
-    assert_eq!(rt; unclosed.output.as_slice(), lines.as_bytes());
+    let unread = Err(ReplayFault::ReadFault);
+    assert_replays(&rt, alloc, &[0], &[], (unread, 0), "")?;
+    let unwritten = Err(ReplayFault::WriteFault);
+    assert_replays(&rt, alloc, &[], &[3], (unwritten, 0), THREE_POSTS)?;
+    assert_replays(&rt, alloc, &[], &[8], (unwritten, 3), &lines)
+}
+
+// How a replay of one post and so many hears ended.
+fn hears(alloc: Global, number: u32) -> Result<Result<u32, ReplayFault>, Fail> {
+    let mut journal = Vec::new(alloc);
+    put_post(&mut journal, 1, 0x61)?;
+    for _ in 0..number {
+        put_hear(&mut journal, 0)?;
+    }
+    let mut from = source(alloc, &journal, &[])?;
+    let mut output = MemSink::new(alloc, ROOM, Vec::new(alloc))?;
+    Ok(replay(alloc, &mut from, &mut output).0)
+}
+
+// The last step is one too many.
+#[test]
+fn a_replay_has_100000_steps(rt: HostRuntime) -> Result<(), Fail> {
+    let alloc = rt.alloc();
+    assert_eq!(rt; hears(alloc, 99_999)?, Ok(100_000));
+    assert_eq!(rt;
+        hears(alloc, 100_000)?,
+        Err(ReplayFault::TooLong { at: 1_200_016 })
+    );
     Ok(())
 }

@@ -1,5 +1,7 @@
 use crate::{Outcome, put_closing, put_outcome};
-use box_events::{Event, Ids};
+use box_events::{Event, EventBox, Ids};
+use std::alloc::Global;
+use std::process::Abort;
 use std::test::Fail;
 use tl_base::Bytes;
 
@@ -59,15 +61,42 @@ fn what_came_of_steps_is_told(rt: HostRuntime) -> Result<(), Fail> {
     Ok(())
 }
 
+// The closing lines for a client whose events are those of the box, behind the number `restart`.
+fn closing_lines(
+    rt: &impl Abort,
+    alloc: Global,
+    server_end: u32,
+    restart: u32,
+    seen: &EventBox,
+) -> Result<Vec<u8>, Fail> {
+    let at = restart as u64 + seen.end() as u64;
+    assert!(rt; at <= 1_000_000);
+    let mut lines = Vec::new(alloc);
+    put_closing(
+        alloc,
+        &mut lines,
+        server_end,
+        restart,
+        at as u32,
+        seen.events(),
+    )?;
+    Ok(lines)
+}
+
+// Puts a message of one byte behind the others.
+fn put_message(alloc: Global, seen: &mut EventBox, byte: u8) -> Result<(), Fail> {
+    let body = Bytes::from_slice(alloc, &[byte])?;
+    Ok(seen.append(Event::new_message(body))?)
+}
+
 #[test]
 fn the_closing_lines_tell_each_message(rt: HostRuntime) -> Result<(), Fail> {
     let alloc = rt.alloc();
-    let mut events = Vec::new(alloc);
-    events.push(Event::new_message(Bytes::from_slice(alloc, [0x61].as_slice())?))?;
-    events.push(Event::new_message(Bytes::from_slice(alloc, [0x62].as_slice())?))?;
-    events.push(Event::new_message(Bytes::from_slice(alloc, [0x63].as_slice())?))?;
-    let mut lines = Vec::new(alloc);
-    put_closing(alloc, &mut lines, 3, 0, 3, events.as_slice())?;
+    let mut seen = EventBox::new(alloc);
+    for byte in [0x61, 0x62, 0x63] {
+        put_message(alloc, &mut seen, byte)?;
+    }
+    let lines = closing_lines(&rt, alloc, 3, 0, &seen)?;
     assert_eq!(rt; lines.as_slice(), MESSAGE_LINES.as_bytes());
     Ok(())
 }
@@ -75,11 +104,10 @@ fn the_closing_lines_tell_each_message(rt: HostRuntime) -> Result<(), Fail> {
 #[test]
 fn the_closing_lines_tell_an_edit_and_a_delete(rt: HostRuntime) -> Result<(), Fail> {
     let alloc = rt.alloc();
-    let mut events = Vec::new(alloc);
-    events.push(Event::edit(Bytes::new(alloc)))?;
-    events.push(Event::delete(Ids::from_slice(alloc, [1, -1].as_slice())?))?;
-    let mut lines = Vec::new(alloc);
-    put_closing(alloc, &mut lines, 3, 0, 3, events.as_slice())?;
+    let mut seen = EventBox::new(alloc);
+    seen.append(Event::edit(Bytes::new(alloc)))?;
+    seen.append(Event::delete(Ids::from_slice(alloc, [1, -1].as_slice())?))?;
+    let lines = closing_lines(&rt, alloc, 3, 0, &seen)?;
     assert_eq!(rt; lines.as_slice(), CHANGE_LINES.as_bytes());
     Ok(())
 }
@@ -87,10 +115,9 @@ fn the_closing_lines_tell_an_edit_and_a_delete(rt: HostRuntime) -> Result<(), Fa
 #[test]
 fn events_end_behind_the_restart(rt: HostRuntime) -> Result<(), Fail> {
     let alloc = rt.alloc();
-    let mut events = Vec::new(alloc);
-    events.push(Event::new_message(Bytes::from_slice(alloc, [0x61].as_slice())?))?;
-    let mut lines = Vec::new(alloc);
-    put_closing(alloc, &mut lines, 9, 7, 8, events.as_slice())?;
+    let mut seen = EventBox::new(alloc);
+    put_message(alloc, &mut seen, 0x61)?;
+    let lines = closing_lines(&rt, alloc, 9, 7, &seen)?;
     assert_eq!(rt; lines.as_slice(), LATER_LINES.as_bytes());
     Ok(())
 }

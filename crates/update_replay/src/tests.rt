@@ -25,6 +25,45 @@ fn source(alloc: Global, bytes: &[u8]) -> Result<MemSource, Fail> {
     Ok(MemSource::new(Bytes::from_slice(alloc, bytes)?, cuts, Vec::new(alloc)))
 }
 
+// POST is read, up to the place behind it.
+fn assert_post(
+    rt: &impl Abort,
+    alloc: Global,
+    at: &mut u64,
+    from: &mut MemSource,
+) -> Result<(), Fail> {
+    match read_step(alloc, at, from)? {
+        Some(Step::Post { random_id, body }) => {
+            assert_eq!(rt; random_id, 1);
+            assert_eq!(rt; body.as_slice(), [0x61].as_slice());
+        }
+        _ => assert!(rt; false, "the post"),
+    }
+    assert_eq!(rt; *at, 28);
+    Ok(())
+}
+
+// HEAR is read behind it.
+fn assert_hear(
+    rt: &impl Abort,
+    alloc: Global,
+    at: &mut u64,
+    from: &mut MemSource,
+) -> Result<(), Fail> {
+    match read_step(alloc, at, from)? {
+        Some(Step::Hear { packet }) => assert_eq!(rt; packet, 1),
+        _ => assert!(rt; false, "the hear"),
+    }
+    assert_eq!(rt; *at, 40);
+    Ok(())
+}
+
+// Behind both nothing is left.
+fn assert_end(rt: &impl Abort, alloc: Global, at: &mut u64, from: &mut MemSource) {
+    assert!(rt; matches!(read_step(alloc, at, from), Ok(None)));
+    assert_eq!(rt; *at, 40);
+}
+
 // Whether the bytes begin with no step.
 fn is_refused(alloc: Global, bytes: &[u8]) -> Result<bool, Fail> {
     let mut at = 0;
@@ -35,6 +74,20 @@ fn is_refused(alloc: Global, bytes: &[u8]) -> Result<bool, Fail> {
     ))
 }
 
+// Whether they begin with none where the byte at a place is another.
+fn is_refused_with(
+    rt: &impl Abort,
+    alloc: Global,
+    bytes: &[u8],
+    place: usize,
+    byte: u8,
+) -> Result<bool, Fail> {
+    let mut changed = Vec::from_slice(alloc, bytes)?;
+    assert!(rt; place < changed.len());
+    changed[place] = byte;
+    is_refused(alloc, &changed)
+}
+
 #[test]
 fn a_journal_is_read_step_by_step(rt: HostRuntime) -> Result<(), Fail> {
     let alloc = rt.alloc();
@@ -42,21 +95,9 @@ fn a_journal_is_read_step_by_step(rt: HostRuntime) -> Result<(), Fail> {
     journal.extend_from_slice(HEAR.as_slice())?;
     let mut at = 0;
     let mut from = source(alloc, journal.as_slice())?;
-    match read_step(alloc, &mut at, &mut from)? {
-        Some(Step::Post { random_id, body }) => {
-            assert_eq!(rt; random_id, 1);
-            assert_eq!(rt; body.as_slice(), [0x61].as_slice());
-        }
-        _ => assert!(rt; false, "the post"),
-    }
-    assert_eq!(rt; at, 28);
-    match read_step(alloc, &mut at, &mut from)? {
-        Some(Step::Hear { packet }) => assert_eq!(rt; packet, 1),
-        _ => assert!(rt; false, "the hear"),
-    }
-    assert_eq!(rt; at, 40);
-    assert!(rt; matches!(read_step(alloc, &mut at, &mut from), Ok(None)));
-    assert_eq!(rt; at, 40);
+    assert_post(&rt, alloc, &mut at, &mut from)?;
+    assert_hear(&rt, alloc, &mut at, &mut from)?;
+    assert_end(&rt, alloc, &mut at, &mut from);
     Ok(())
 }
 
@@ -71,21 +112,23 @@ fn what_spells_no_step_is_refused(rt: HostRuntime) -> Result<(), Fail> {
         (24, 0xfe),
         (26, 0x01),
     ] {
-        let mut bytes = POST;
-        bytes[place] = byte;
         assert!(rt;
-            is_refused(alloc, bytes.as_slice())?,
+            is_refused_with(&rt, alloc, &POST, place, byte)?,
             "byte {place} of a post"
         );
     }
     for (place, byte) in [(4, 0x01), (11, 0x80)] {
-        let mut bytes = HEAR;
-        bytes[place] = byte;
         assert!(rt;
-            is_refused(alloc, bytes.as_slice())?,
+            is_refused_with(&rt, alloc, &HEAR, place, byte)?,
             "byte {place} of a hear"
         );
     }
+    Ok(())
+}
+
+#[test]
+fn a_cut_step_is_refused(rt: HostRuntime) -> Result<(), Fail> {
+    let alloc = rt.alloc();
     assert!(rt; is_refused(alloc, &POST[..27])?);
     assert!(rt; is_refused(alloc, &HEAR[..3])?);
     Ok(())
@@ -104,51 +147,97 @@ fn a_packet_is_spelled(rt: HostRuntime) -> Result<(), Fail> {
 }
 
 // A message of one byte is posted.
-fn post(
+fn assert_posts(
     rt: &impl Abort,
     alloc: Global,
     world: &mut World,
     random_id: i64,
     byte: u8,
-) -> Result<Outcome, Fail> {
+    outcome: Outcome,
+) -> Result<(), Fail> {
     assert!(rt; world.server_end() < 1_000_000);
     let body = Bytes::from_slice(alloc, [byte].as_slice())?;
-    Ok(world.step(Step::Post { random_id, body })?)
+    assert_eq!(rt; world.step(Step::Post { random_id, body })?, outcome);
+    Ok(())
 }
 
-// The client hears a packet.
-fn hear(rt: &impl Abort, world: &mut World, packet: u32) -> Result<Outcome, StepFault> {
+// The client hears a packet, and its events reach up to `pts`.
+fn assert_hears(rt: &impl Abort, world: &mut World, packet: u32, pts: u32) -> Result<(), Fail> {
     assert!(rt; world.server_end() < 1_000_000);
-    world.step(Step::Hear { packet })
+    assert_eq!(rt; world.step(Step::Hear { packet })?, Outcome::Heard { pts });
+    Ok(())
 }
 
-// The third push and the second are held until the first comes.
-#[test]
-fn three_pushes_are_heard_backwards(rt: HostRuntime) -> Result<(), Fail> {
-    let alloc = rt.alloc();
-    let mut world = World::new(alloc);
-    for (random_id, byte, pts, packet) in [(7, b'a', 1, 0), (-7, b'b', 2, 1), (0, b'c', 3, 2)] {
-        assert_eq!(rt;
-            post(&rt, alloc, &mut world, random_id, byte)?,
-            Outcome::Posted { pts, packet }
-        );
-    }
-    assert_eq!(rt; post(&rt, alloc, &mut world, -7, b'd')?, Outcome::Again);
+// Three messages are posted, and then one under the second's id.
+fn post_four(rt: &impl Abort, alloc: Global, world: &mut World) -> Result<(), Fail> {
+    assert_posts(
+        rt,
+        alloc,
+        world,
+        7,
+        b'a',
+        Outcome::Posted { pts: 1, packet: 0 },
+    )?;
+    assert_posts(
+        rt,
+        alloc,
+        world,
+        -7,
+        b'b',
+        Outcome::Posted { pts: 2, packet: 1 },
+    )?;
+    assert_posts(
+        rt,
+        alloc,
+        world,
+        0,
+        b'c',
+        Outcome::Posted { pts: 3, packet: 2 },
+    )?;
+    assert_posts(rt, alloc, world, -7, b'd', Outcome::Again)
+}
+
+// Three of them stand in the box, and their pushes were sent.
+fn assert_sent(rt: &impl Abort, world: &World) {
     assert_eq!(rt; world.server_end(), 3);
     assert_eq!(rt; world.packets(), 3);
+    assert_eq!(rt; world.packet_body(1), b"b".as_slice());
+}
+
+// The third push and the second are held until the first comes. The first is then known.
+fn hear_backwards(rt: &impl Abort, world: &mut World) -> Result<(), Fail> {
     for (packet, pts) in [(2, 0), (1, 0), (0, 3), (0, 3)] {
-        assert_eq!(rt; hear(&rt, &mut world, packet)?, Outcome::Heard { pts });
+        assert_hears(rt, world, packet, pts)?;
     }
+    Ok(())
+}
+
+// A push that was not sent changes nothing.
+fn assert_not_sent(rt: &impl Abort, world: &mut World) {
+    assert!(rt; world.server_end() < 1_000_000);
     assert_eq!(rt;
-        hear(&rt, &mut world, 7),
+        world.step(Step::Hear { packet: 7 }),
         Err(StepFault::NoPacket { packet: 7 })
     );
     assert_eq!(rt; world.restart(), 0);
     assert_eq!(rt; world.at(), 3);
+}
+
+// The three messages stand in order.
+fn assert_heard(rt: &impl Abort, world: &World) {
     let events = world.events();
     assert_eq!(rt; events.len(), 3);
     assert_eq!(rt; events[2].body(), b"c".as_slice());
-    assert!(rt; 1 < world.packets());
-    assert_eq!(rt; world.packet_body(1), b"b".as_slice());
+}
+
+#[test]
+fn three_pushes_are_heard_backwards(rt: HostRuntime) -> Result<(), Fail> {
+    let alloc = rt.alloc();
+    let mut world = World::new(alloc);
+    post_four(&rt, alloc, &mut world)?;
+    assert_sent(&rt, &world);
+    hear_backwards(&rt, &mut world)?;
+    assert_not_sent(&rt, &mut world);
+    assert_heard(&rt, &world);
     Ok(())
 }

@@ -1,7 +1,9 @@
-use Rattle.std.proofs.Common.{◌≡◌, None, arith, sym, ap, ◌∙◌, ◌++◌, append_assoc}
+use Rattle.std.proofs.Common.{◌≡◌, length, None, arith, sym, ap, ◌∙◌, subst}
 use Rattle.std.specs.FinMap.{get, len}
-use Rattle.gap_buffer.proofs.Maps.{above_remove, len_some, len_taken, len_untaken, get_untaken}
-use Rattle.pts_machine.proofs.Links.{chain_step, reach_step, chain_stops, reach_ends, behind_remove}
+use Rattle.gap_buffer.proofs.Maps.{above_remove, len_some, len_taken, len_untaken, get_untaken, untaken}
+use Rattle.pts_machine.specs.Takings.{InTurn}
+use Rattle.pts_machine.specs.Takings.InTurn.{one_more}
+use Rattle.pts_machine.proofs.Links.{chain_step, reach_step, chain_ends, reach_ends, behind_remove}
 use Rattle.pts_machine.proofs.chains.follow.Goals as goal
 
 pub items-smaller : goal.items-smaller
@@ -9,30 +11,33 @@ items-smaller g c =
     let is = sym c.in-Some.ensures.value in
     rw c.in-Some.ensures.rest (omega (arith, len_some _ c.items.at _ is, len_taken _ c.items.at _ is))
 
+pub take_in-requires : goal.take_in-requires
+take_in-requires g c = record { room = (c.items.gap.held, c.items.at, _, sym c.in-Some.ensures.value, c.items.invariant.room) }
+
 pub items-preserved : goal.items-preserved
 items-preserved g c =
     let is = sym c.in-Some.ensures.value in
     let i = c.items.invariant in
+    let step = chain_step c.items.at _ _ i.behind is in
     record {
-      room = rw c.in-Some.ensures.rest (omega (arith, len_some _ c.items.at _ is, len_taken _ c.items.at _ is, i.room, c.in-Ok.ensures.len, c.in-Ok.ensures.capacity));
       behind = rw c.in-Some.ensures.rest (behind_remove _ c.items.at i.behind);
-      events = rw (c.in-Some.ensures.rest, c.in-Ok.ensures.items) (simp append_assoc (ap (λ xs. c.items.events.items ++ xs) (sym (chain_step c.items.at _ _ i.behind is)) ∙ i.events));
+      room = rw c.in-Some.ensures.rest (c.take_in.ensures.room c.items.gap.held c.items.at _ is i.room);
+      took = λ z more. i.took z (rw step (one_more _ _ _ _ _ c.take_in.ensures.took (rw c.in-Some.ensures.rest at more)));
       reach = rw c.in-Some.ensures.rest (sym (reach_step c.items.at _ _ i.behind is) ∙ i.reach);
       held = λ q le. let past = i.behind c.items.at _ is in rw c.in-Some.ensures.rest (sym (above_remove _ c.items.at q (omega (arith, past, le))) ∙ i.held q (omega (arith, past, le)));
-      sum = rw c.in-Some.ensures.rest (omega (arith, len_some _ c.items.at _ is, len_taken _ c.items.at _ is, i.sum, c.in-Ok.ensures.len));
-      capacity = omega (arith, i.capacity, c.in-Ok.ensures.capacity);
+      number = rw c.in-Some.ensures.rest (omega (arith, len_some _ c.items.at _ is, len_taken _ c.items.at _ is, i.number, ap length step));
       spare = omega (arith, i.spare, c.in-Some.ensures.spare);
     }
 
-pub unreachable-requires : goal.unreachable-requires
-unreachable-requires g c =
-    let is = sym (rw c.in-Some.is at c.take.ensures.value) in
-    omega (arith, len_some _ c.items.at _ is, c.items.invariant.room, c.in-Err.ensures.full)
-
-pub returns-clause-events : goal.returns-clause-events
-returns-clause-events g c =
+pub returns-clause-took : goal.returns-clause-took
+returns-clause-took g c =
     let none : get c.items.gap.held c.items.at ≡ None = sym c.take.ensures.value ∙ c.in_default.is in
-    sym (chain_stops c.items.events.items (len c.items.gap.held) c.items.at c.items.gap.held none) ∙ c.items.invariant.events
+    c.items.invariant.took c.items.into (rw (chain_ends (len c.items.gap.held) c.items.at c.items.gap.held none) (InTurn.none c.items.into))
+
+pub returns-clause-room : goal.returns-clause-room
+returns-clause-room g c =
+    let none : get c.items.gap.held c.items.at ≡ None = sym c.take.ensures.value ∙ c.in_default.is in
+    subst (λ m. g.T.Takes.has_room c.items.into m) (untaken c.items.gap.held c.items.at none ∙ sym c.take.ensures.rest) c.items.invariant.room
 
 pub returns-clause-reach : goal.returns-clause-reach
 returns-clause-reach g c =
@@ -49,7 +54,7 @@ returns-clause-free g c =
     let none : get c.items.gap.held c.items.at ≡ None = sym c.take.ensures.value ∙ c.in_default.is in
     sym (c.items.invariant.held c.items.at (omega arith)) ∙ none
 
-pub returns-clause-sum : goal.returns-clause-sum
-returns-clause-sum g c =
+pub returns-clause-number : goal.returns-clause-number
+returns-clause-number g c =
     let none : get c.items.gap.held c.items.at ≡ None = sym c.take.ensures.value ∙ c.in_default.is in
-    rw c.take.ensures.rest (omega (arith, len_untaken _ c.items.at none, c.items.invariant.sum))
+    rw c.take.ensures.rest (omega (arith, len_untaken _ c.items.at none, c.items.invariant.number, ap length (chain_ends (len c.items.gap.held) c.items.at c.items.gap.held none)))

@@ -19,6 +19,7 @@ invariant_of-self g c =
       sound = subst (IsSound g.E.Counted.count) (sym (last_part g.E.Counted.count (track_of c.self.inside) c.args.events.items _ _ _ _ _ _ c.args.last c.if-last.true a.items a.sum c.drop_to.ensures.rest e.events e.reach e.held))
           (sound_extend g.E.Counted.count (track_of c.self.inside) c.args.events.items c.args.last c.self.invariant.sound (omega (arith, place, c.requires.limit)));
       room = (let room = ap (λ p. p.spare) c.self.view_is in omega (arith, room, c.requires.room, e.sum, e.capacity, a.len, a.capacity, c.self.invariant.room, c.drop_to.ensures.number));
+      gap = (let room = ap (λ p. p.spare) c.self.view_is in omega (arith, room, c.requires.room, e.spare, c.self.invariant.gap, c.drop_to.ensures.spare));
     }
 
 pub invariant_of-self-else-last : goal.invariant_of-self-else-last
@@ -29,6 +30,7 @@ invariant_of-self-else-last g c =
       sound = subst (IsSound g.E.Counted.count) (sym (part g.E.Counted.count (track_of c.self.inside) c.args.events.items _ _ _ c.args.last c.if-last.false a.items a.sum c.drop_to.ensures.rest))
           (sound_extend g.E.Counted.count (track_of c.self.inside) c.args.events.items c.args.last c.self.invariant.sound (omega (arith, place, c.requires.limit)));
       room = (let room = ap (λ p. p.spare) c.self.view_is in omega (arith, room, c.requires.room, a.len, a.capacity, c.self.invariant.room, c.drop_to.ensures.number));
+      gap = (let room = ap (λ p. p.spare) c.self.view_is in omega (arith, room, c.requires.room, c.self.invariant.gap, c.drop_to.ensures.spare));
     }
 
 pub returns-then-last : goal.returns-then-last
@@ -37,7 +39,7 @@ returns-then-last g c =
     let e = c.settle-self-inside.ensures in
     record {
       step = last_part g.E.Counted.count (track_of c.self.inside) c.args.events.items _ _ _ _ _ _ c.args.last c.if-last.true a.items a.sum c.drop_to.ensures.rest e.events e.reach e.held ∙ ap (λ p. extend g.E.Counted.count p.track c.args.events.items c.args.last) c.self.view_is;
-      spare = (let room = ap (λ p. p.spare) c.self.view_is in omega (arith, room, c.requires.room, e.sum, e.capacity, e.spare, a.len, a.capacity, c.self.invariant.room, c.drop_to.ensures.number, c.drop_to.ensures.spare));
+      spare = (let room = ap (λ p. p.spare) c.self.view_is in omega (arith, room, c.requires.room));
     }
 
 pub returns-else-last : goal.returns-else-last
@@ -45,5 +47,5 @@ returns-else-last g c =
     let a = c.append-self-inside.ensures in
     record {
       step = part g.E.Counted.count (track_of c.self.inside) c.args.events.items _ _ _ c.args.last c.if-last.false a.items a.sum c.drop_to.ensures.rest ∙ ap (λ p. extend g.E.Counted.count p.track c.args.events.items c.args.last) c.self.view_is;
-      spare = (let room = ap (λ p. p.spare) c.self.view_is in omega (arith, room, c.requires.room, a.len, a.capacity, c.self.invariant.room, c.drop_to.ensures.number, c.drop_to.ensures.spare));
+      spare = (let room = ap (λ p. p.spare) c.self.view_is in omega (arith, room, c.requires.room));
     }

@@ -12,10 +12,11 @@ pub invariant_of-self : goal.invariant_of-self
 invariant_of-self g c = record {
   sound = subst (IsSound g.E.Counted.count) (sym (forgotten (track_of c.self.inside) _ c.clear.ensures.rest)) (sound_forget g.E.Counted.count (track_of c.self.inside) c.self.invariant.sound);
   room = (let none = ap len c.clear.ensures.rest ∙ len-empty nat_cmp _ in omega (arith, none, c.self.invariant.room));
+  gap = omega (arith, c.self.invariant.gap, c.clear.ensures.spare);
 }
 
 pub returns : goal.returns
 returns g c = record {
   step = forgotten (track_of c.self.inside) _ c.clear.ensures.rest ∙ ap (λ p. forget p.track) c.self.view_is;
-  spare = (let none = ap len c.clear.ensures.rest ∙ len-empty nat_cmp _ in let room = ap (λ p. p.spare) c.self.view_is in omega (arith, none, room, c.self.invariant.room, c.clear.ensures.spare));
+  spare = (let room = ap (λ p. p.spare) c.self.view_is in omega (arith, room));
 }

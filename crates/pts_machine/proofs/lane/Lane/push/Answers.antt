@@ -6,7 +6,7 @@ use Rattle.pts_machine.specs.Views.{track_of}
 use Rattle.pts_machine.specs.Steps.{settle}
 use Rattle.pts_machine.specs.Outcomes.{seen_by}
 use Rattle.pts_machine.proofs.Kept.{sound_settle, sound_by, hear_is}
-use Rattle.pts_machine.proofs.Parts.{settled, next_of, not_next_of, never_past, held_hears, held_len, held_room, hears_as, holds_to}
+use Rattle.pts_machine.proofs.Parts.{settled, next_of, not_next_of, never_past, held_hears, held_len, held_spare, kept_most, hears_as, holds_to}
 use Rattle.pts_machine.proofs.lane.Lane.push.Goals as goal
 
 pub returns-then-start-self-clause-told : goal.returns-then-start-self-clause-told
@@ -29,6 +29,7 @@ invariant_of-self g c =
       sound = subst (IsSound g.E.Counted.count) (sym (settled t _ _ _ e.events e.reach e.held))
           (sound_settle g.E.Counted.count t (record { sized = i.sized; place = rw items (omega (arith, next.1, i.place, c.requires.counts, sum_by_push g.E.Counted.count c.self.inside.events.items c.args.event)); limit = c.requires.limit }));
       room = (let room = ap (λ p. p.spare) c.self.view_is in omega (arith, room, e.sum, e.capacity, c.self.invariant.room, c.in-Ok.ensures.len, c.in-Ok.ensures.capacity, c.requires.room));
+      gap = (let room = ap (λ p. p.spare) c.self.view_is in omega (arith, room, e.spare, c.self.invariant.gap, c.requires.room));
     }
 
 pub returns-then-is_next-clause-told : goal.returns-then-is_next-clause-told
@@ -53,27 +54,28 @@ invariant_of-self-2 g c =
     let no_next = not_next_of c.self.inside.mode c.args.start c.self.inside.at _ c.is_next.ensures c.if-is_next.false in
     let to : c.args.start + c.count.result ≡ c.args.end = omega (arith, c.requires.counts, c.count.ensures.value) in
     let behind : c.args.start < c.args.end = omega (arith, to, c.count.ensures.some) in
-    let holds = holds_to c.self.inside.gap c.hold.new.self c.args.start _ c.args.end c.args.event c.hold.result to c.hold.ensures in
+    let holds = holds_to c.self.inside.gap c.hold-held.new.self c.args.start _ c.args.end c.args.event c.hold-held.result to c.hold-held.ensures in
+    let room = ap (λ p. p.spare) c.self.view_is in
+    let most = kept_most c.hold-held.result 1 in
     record {
-      sound = sound_by g.E.Counted.count (track_of c.self.inside) c.args.start c.args.end c.args.event (seen_by c.hold.result) _ c.self.invariant.sound behind c.requires.counts c.requires.limit
-          (held_hears (track_of c.self.inside) c.args.start c.args.end c.args.event c.self.inside.gap c.hold.new.self c.hold.result no_next c.if-start-self.false holds);
-      room = (let room = ap (λ p. p.spare) c.self.view_is in let few = held_len _ _ _ _ _ _ holds in omega (arith, room, few, c.self.invariant.room, c.requires.room));
+      sound = sound_by g.E.Counted.count (track_of c.self.inside) c.args.start c.args.end c.args.event (seen_by c.hold-held.result) _ c.self.invariant.sound behind c.requires.counts c.requires.limit
+          (held_hears (track_of c.self.inside) c.args.start c.args.end c.args.event c.self.inside.gap c.hold-held.new.self c.hold-held.result no_next c.if-start-self.false holds);
+      room = omega (arith, room, held_len _ _ _ _ _ _ holds, c.self.invariant.room, c.requires.room, c.outcome_of-seen.ensures.number, most);
+      gap = omega (arith, room, held_spare _ _ _ _ _ _ 1 (omega arith) holds, c.self.invariant.gap, c.requires.room, c.outcome_of-seen.ensures.number, most);
     }
 
 pub returns-clause-told : goal.returns-clause-told
 returns-clause-told g c =
     let no_next = not_next_of c.self.inside.mode c.args.start c.self.inside.at _ c.is_next.ensures c.if-is_next.false in
     let to : c.args.start + c.count.result ≡ c.args.end = omega (arith, c.requires.counts, c.count.ensures.value) in
-    let holds = holds_to c.self.inside.gap c.hold.new.self c.args.start _ c.args.end c.args.event c.hold.result to c.hold.ensures in
-    rw c.seen_of.ensures (hears_as (track_of c.self.inside) c.args.self.now.track c.args.start c.args.end c.args.event (seen_by c.hold.result) (record (track_of c.self.inside) { held = c.hold.new.self.held }) (ap (λ p. p.track) c.self.view_is)
-    (held_hears (track_of c.self.inside) c.args.start c.args.end c.args.event c.self.inside.gap c.hold.new.self c.hold.result no_next c.if-start-self.false holds))
+    let holds = holds_to c.self.inside.gap c.hold-held.new.self c.args.start _ c.args.end c.args.event c.hold-held.result to c.hold-held.ensures in
+    rw c.outcome_of-seen.ensures.seen (hears_as (track_of c.self.inside) c.args.self.now.track c.args.start c.args.end c.args.event (seen_by c.hold-held.result) (record (track_of c.self.inside) { held = c.hold-held.new.self.held }) (ap (λ p. p.track) c.self.view_is)
+    (held_hears (track_of c.self.inside) c.args.start c.args.end c.args.event c.self.inside.gap c.hold-held.new.self c.hold-held.result no_next c.if-start-self.false holds))
 
 pub returns-clause-step : goal.returns-clause-step
-returns-clause-step g c = hear_is c.args.self.now.track c.args.start c.args.end c.args.event c.seen_of.result _ (returns-clause-told g c)
+returns-clause-step g c = hear_is c.args.self.now.track c.args.start c.args.end c.args.event c.outcome_of-seen.result.0 _ (returns-clause-told g c)
 
 pub returns-clause-spare : goal.returns-clause-spare
 returns-clause-spare g c =
     let room = ap (λ p. p.spare) c.self.view_is in
-    let few = held_len _ _ _ _ _ _ c.hold.ensures in
-    let spare = held_room _ _ _ _ _ _ c.hold.ensures in
-    omega (arith, room, few, spare, c.self.invariant.room, c.requires.room)
+    omega (arith, room, c.requires.room, c.outcome_of-seen.ensures.number, kept_most c.hold-held.result 1)

@@ -17,6 +17,7 @@ invariant_of-self g c =
       sound = subst (IsSound g.E.Counted.count) (sym (restarted g.E.Counted.count (track_of c.self.inside) _ _ c.args.at _ _ _ c.clear.ensures.items c.drop_to-self-inside.ensures.rest e.events e.reach e.held))
           (sound_restart g.E.Counted.count (track_of c.self.inside) c.args.at c.self.invariant.sound c.requires.limit);
       room = omega (arith, e.sum, e.capacity, c.self.invariant.room, c.drop_to-self-inside.ensures.number, c.clear.ensures.len, c.clear.ensures.capacity);
+      gap = omega (arith, e.spare, c.self.invariant.gap, c.drop_to-self-inside.ensures.spare);
     }
 
 pub returns : goal.returns
@@ -24,5 +25,5 @@ returns g c =
     let e = c.settle-self-inside.ensures in
     record {
       step = restarted g.E.Counted.count (track_of c.self.inside) _ _ c.args.at _ _ _ c.clear.ensures.items c.drop_to-self-inside.ensures.rest e.events e.reach e.held ∙ ap (λ p. restart_at g.E.Counted.count p.track c.args.at) c.self.view_is;
-      spare = (let room = ap (λ p. p.spare) c.self.view_is in omega (arith, room, e.sum, e.capacity, e.spare, c.self.invariant.room, c.drop_to-self-inside.ensures.number, c.drop_to-self-inside.ensures.spare, c.clear.ensures.len, c.clear.ensures.capacity));
+      spare = (let room = ap (λ p. p.spare) c.self.view_is in omega (arith, room));
     }

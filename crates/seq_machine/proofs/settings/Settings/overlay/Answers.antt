@@ -9,12 +9,12 @@ use Rattle.seq_machine.proofs.Stays.{latest_over}
 use Rattle.seq_machine.proofs.BookSteps.{overlaid_is, sound_overlaid}
 use Rattle.seq_machine.proofs.settings.Settings.overlay.Goals as goal
 
-pub settle-reached-requires-clause-behind : goal.settle-reached-requires-clause-behind
-settle-reached-requires-clause-behind c = λ s x e. (c.self.invariant.sound.sized s x e).0
+pub settle-self-inside-requires-clause-behind : goal.settle-self-inside-requires-clause-behind
+settle-self-inside-requires-clause-behind c = λ s x e. (c.self.invariant.sound.sized s x e).0
 
 pub invariant_of-self : goal.invariant_of-self
 invariant_of-self c =
-    let e = c.settle-reached.ensures in
+    let e = c.settle-self-inside.ensures in
     let room = ap (λ p. p.spare) c.self.view_is in
     record {
       sound = subst IsSoundBook (sym (overlaid_is (book_of c.self.inside) c.args.pack.items c.args.seq c.args.date _ _ _ _
@@ -28,7 +28,7 @@ invariant_of-self c =
 
 pub returns-clause-step : goal.returns-clause-step
 returns-clause-step c =
-    let e = c.settle-reached.ensures in
+    let e = c.settle-self-inside.ensures in
     overlaid_is (book_of c.self.inside) c.args.pack.items c.args.seq c.args.date _ _ _ _
     (e.values ∙ ap (λ m. puts_all m (chain (len c.self.inside.gap.held) c.args.seq c.self.inside.gap.held)) c.put_all.ensures.values) e.date e.reach e.held
     ∙ ap (λ p. overlaid p.book c.args.pack.items c.args.seq c.args.date) c.self.view_is

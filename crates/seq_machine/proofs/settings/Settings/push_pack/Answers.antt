@@ -1,15 +1,14 @@
 use Rattle.std.proofs.Common.{◌≡◌, ◌-◌, refl, sym, ap, ◌∙◌, subst, arith, inl}
 use Rattle.gap_buffer.specs.Holding.{Holds}
 use Rattle.pts_machine.specs.declared.seen.Seen.TheVariants.{Applied, Already}
-use Rattle.pts_machine.specs.Outcomes.{seen_by}
-use Rattle.pts_machine.proofs.Parts.{next_of, not_next_of, held_hears}
+use Rattle.pts_machine.specs.Outcomes.{seen_by, kept_by}
+use Rattle.pts_machine.proofs.Parts.{next_of, not_next_of, held_hears, held_spare, kept_most}
 use Rattle.seq_machine.specs.Packs.{Pack}
-use Rattle.seq_machine.specs.Totals.{kept_by}
 use Rattle.seq_machine.specs.Books.{hear_pack, overlaid, lane_of}
 use Rattle.seq_machine.specs.Views.{book_of}
 use Rattle.seq_machine.specs.Latest.{IsLatestBook}
 use Rattle.seq_machine.proofs.Stays.{latest_hear}
-use Rattle.seq_machine.proofs.Sums.{held_total, held_spare, kept_most}
+use Rattle.seq_machine.proofs.Sums.{held_total}
 use Rattle.seq_machine.proofs.BookSteps.{heard_pack, heard_next, sound_heard}
 use Rattle.seq_machine.proofs.settings.Settings.push_pack.Goals as goal
 
@@ -33,7 +32,7 @@ returns-then-is_next-clause-step c =
 pub overflow_add-self : goal.overflow_add-self
 overflow_add-self c =
     let room = ap (λ p. p.spare) c.self.view_is in
-    omega (arith, room, c.self.invariant.few, c.requires.room, c.len-number.ensures, c.outcome-seen.ensures.number, kept_most c.hold-held.result c.len-number.result)
+    omega (arith, room, c.self.invariant.few, c.requires.room, c.len-number.ensures, c.outcome_of-seen.ensures.number, kept_most c.hold-held.result c.len-number.result)
 
 pub invariant_of-self : goal.invariant_of-self
 invariant_of-self c =
@@ -47,10 +46,10 @@ invariant_of-self c =
     record {
       sound = sound_heard b (c.args.seq_start - 1) c.args.seq p (seen_by r) _ c.self.invariant.sound (omega (arith, c.requires.low, c.requires.order)) (omega (arith, c.requires.number, c.args.pack.ok.0, c.requires.low)) c.requires.limit
           (held_hears (lane_of b) (c.args.seq_start - 1) c.args.seq p c.self.inside.gap c.hold-held.new.self r no_next c.if-start-self.false holds);
-      total = omega (arith, held_total _ _ _ _ p _ holds, ap (kept_by r) (c.len-number.ensures ∙ c.args.pack.ok.0), c.self.invariant.total, c.outcome-seen.ensures.number);
-      table = omega (arith, room, c.self.invariant.table, most, c.requires.room, c.len-number.ensures, c.outcome-seen.ensures.number);
-      gap = omega (arith, room, c.self.invariant.gap, held_spare _ _ _ _ p _ c.len-number.result (omega (arith, c.len-number.ensures, c.requires.number, c.requires.order)) holds, c.outcome-seen.ensures.number);
-      few = omega (arith, room, c.self.invariant.few, most, c.requires.room, c.len-number.ensures, c.outcome-seen.ensures.number);
+      total = omega (arith, held_total _ _ _ _ p _ holds, ap (kept_by r) (c.len-number.ensures ∙ c.args.pack.ok.0), c.self.invariant.total, c.outcome_of-seen.ensures.number);
+      table = omega (arith, room, c.self.invariant.table, most, c.requires.room, c.len-number.ensures, c.outcome_of-seen.ensures.number);
+      gap = omega (arith, room, c.self.invariant.gap, held_spare _ _ _ _ p _ c.len-number.result (omega (arith, c.len-number.ensures, c.requires.number, c.requires.order)) holds, c.outcome_of-seen.ensures.number);
+      few = omega (arith, room, c.self.invariant.few, most, c.requires.room, c.len-number.ensures, c.outcome_of-seen.ensures.number);
     }
 
 pub returns-clause-step : goal.returns-clause-step
@@ -61,8 +60,8 @@ returns-clause-step c =
     let no_next = not_next_of c.self.inside.mode (c.args.seq_start - 1) c.self.inside.at _ c.is_next.ensures c.if-is_next.false in
     let holds : Holds c.self.inside.gap c.hold-held.new.self (c.args.seq_start - 1) c.args.seq p r = rw c.new.ensures at c.hold-held.ensures in
     ap (λ u. hear_pack u (c.args.seq_start - 1) c.args.seq p) (sym (ap (λ q. q.book) c.self.view_is))
-    ∙ heard_pack b (c.args.seq_start - 1) c.args.seq p c.outcome-seen.result.0 (record (lane_of b) { held = c.hold-held.new.self.held })
-    (rw c.outcome-seen.ensures.seen (held_hears (lane_of b) (c.args.seq_start - 1) c.args.seq p c.self.inside.gap c.hold-held.new.self r no_next c.if-start-self.false holds))
+    ∙ heard_pack b (c.args.seq_start - 1) c.args.seq p c.outcome_of-seen.result.0 (record (lane_of b) { held = c.hold-held.new.self.held })
+    (rw c.outcome_of-seen.ensures.seen (held_hears (lane_of b) (c.args.seq_start - 1) c.args.seq p c.self.inside.gap c.hold-held.new.self r no_next c.if-start-self.false holds))
 
 pub returns-then-is_next-clause-latest : goal.returns-then-is_next-clause-latest
 returns-then-is_next-clause-latest c = λ L h is.

@@ -1,0 +1,29 @@
+//! Settings that were applied.
+use crate::held_pack::HeldPack;
+use crate::table::Table;
+use pts_machine::Takes;
+
+/// Settings that were applied.
+#[derive(Drop)]
+pub struct Store {
+    pub table: Table,
+    /// The date of the pack or answer that was applied last.
+    pub date: u32,
+    /// How many further settings are held.
+    pub waiting: usize,
+}
+
+impl Takes<HeldPack> for Store {
+    ghost use Rattle.seq_machine.specs.Stores.{HasRoom, Applied};
+
+    ghost has_room = { HasRoom };
+
+    ghost took = { Applied };
+
+    fn take_in(&mut self, pack: HeldPack) {
+        let (date, settings) = pack.open();
+        self.waiting -= settings.len();
+        self.table.put_all(settings);
+        self.date = date;
+    }
+}
