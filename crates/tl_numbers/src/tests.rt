@@ -1,3 +1,4 @@
+use crate::crc::crc32;
 use crate::printing::print_hex;
 use crate::reading::read_hex;
 
@@ -53,5 +54,20 @@ fn refuses_what_is_no_number(rt: HostRuntime) {
     ];
     for text in rows {
         assert!(rt; read_hex(text).is_none(), "{text:?}");
+    }
+}
+
+// The first number is the one that descriptions of CRC32 give as their check, the last two are
+// those of TL's own schema.
+#[test]
+fn sums_texts_up(rt: HostRuntime) {
+    let rows: [(&[u8], u32); 4] = [
+        (b"123456789".as_slice(), 0xcbf4_3926),
+        (b"".as_slice(), 0),
+        (b"boolTrue = Bool".as_slice(), 0x9972_75b5),
+        (b"boolFalse = Bool".as_slice(), 0xbc79_9737),
+    ];
+    for (text, number) in rows {
+        assert!(rt; crc32(text) == number, "{text:?}");
     }
 }
