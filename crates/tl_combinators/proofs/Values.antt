@@ -1,6 +1,7 @@
 -- What each value that a rule reads has in common.
 use Rattle.std.proofs.Common.{List, [], ◌∷◌, sym, subst, inl, inr}
 use Rattle.tl_lexer.specs.Rule.{Rule, Turns, gives, fails, chain, choice, loop}
+use Rattle.tl_combinators.specs.Taken.{taken}
 
 -- each value that the rule reads is such
 pub record Only {T F A : Type 0} (r : Rule T F A) (I : A → Type 0) : Type 0 where
@@ -39,3 +40,7 @@ module _ {T F S : Type 0} (I : S → Type 0) (P : List T → Type 0) (r : S → 
   pub only_loop : (s : S) → I s → Only (loop P r s) I
   unfolding loop
   only_loop s i = record { each = λ ts rest end h. turns_each s ts h.0 end rest i h.1 }
+
+pub only_taken : {T F A : Type 0} (I : A → Type 0) (r : Rule T F A) → Only r I → Only (taken r) (λ x. I x.0)
+unfolding taken
+only_taken I r k = record { each = λ ts rest x h. k.each ts rest x.0 h.0 }

@@ -1,42 +1,87 @@
--- Program text: declarations as rows of tokens.
--- From "Formal description of TL" (core.telegram.org/mtproto/TL-formal), its combinator declarations.
-use Rattle.std.specs.Prelude.{◌≡◌, ℕ, List, [], ◌∷◌, ◌++◌, length}
-use Rattle.tl_lexer.specs.Rule.{Rule, gives, fails, chain, choice, loop, Next}
+-- Program text: declarations.
+-- From "TL language" (core.telegram.org/mtproto/TL) and "Formal description of TL" (core.telegram.org/mtproto/TL-formal), its combinator declarations.
+use Rattle.std.specs.Prelude.{◌≡◌, ◌⊎◌, ℕ, List, [], ◌∷◌, ◌++◌, length, Bool, false, Option, Some, None, codes}
+use Rattle.tl_lexer.specs.Rule.{Rule, gives, fails, here, chain, choice, loop, Next}
 use Rattle.tl_lexer.specs.declared.token.Token.{Token}
-use Rattle.tl_lexer.specs.declared.token.TokenKind.TheVariants.{Colon, Semi, Equals}
+use Rattle.tl_lexer.specs.declared.token.TokenKind.TheVariants.{Colon, Semi, Equals, LBrace, RBrace}
 use Rattle.tl_combinators.specs.declared.fault.SyntaxFault.{SyntaxFault}
-use Rattle.tl_combinators.specs.Names.{bytes_of, not_built, OfKind, token, hash, name, number, field_type, result_name}
-use Rattle.tl_combinators.specs.Program.{FieldText, DeclText, of, named}
+use Rattle.tl_combinators.specs.declared.fault.Form.TheVariants.{Lifecycle, PartialApplication, Anonymous}
+use Rattle.tl_combinators.specs.declared.built_in.BuiltIn.{BuiltIn}
+use Rattle.tl_combinators.specs.Taken.{taken}
+use Rattle.tl_combinators.specs.Tokens.{bytes_of, place, unexpected, not_profile, too_many, Begins, token, IsWord, IsThis, is_lower, is_upper, letter_word}
+use Rattle.tl_combinators.specs.Names.{NameText, declared_name, number}
+use Rattle.tl_combinators.specs.Trees.{Tree}
+use Rattle.tl_combinators.specs.Types.{expression}
+use Rattle.tl_combinators.specs.Program.{DeclText}
+use Rattle.tl_combinators.specs.Description.{Described, undescribed, all_shown, all_left_out}
+use Rattle.tl_combinators.specs.Fields.{fields, part_limit}
+use Rattle.tl_combinators.specs.BuiltIns.{sort, built_in, built_in_line}
 
--- `name:type`
-unfoldable pub field : List ℕ → Rule Token SyntaxFault FieldText
-field text =
-    chain (name text) (λ w. chain (token text Colon) (λ c. chain (field_type text) (λ t.
-    gives (record { name = bytes_of text w; kind = of (named (bytes_of text t)) }))))
+-- ---- variables
 
--- one more field, of at most 256
-unfoldable pub more_fields : List ℕ → List FieldText → Rule Token SyntaxFault (List FieldText)
-more_fields text fs = choice (λ ts. length fs ≡ 256) (fails (not_built text)) (chain (field text) (λ f. gives (fs ++ (f ∷ []))))
+-- `{X:Type}`
+unfoldable pub variable : List ℕ → Rule Token SyntaxFault (List ℕ)
+variable text =
+    chain (token text LBrace) (λ l. chain (letter_word text) (λ w. chain (token text Colon) (λ c. chain (sort text) (λ s.
+    chain (token text RBrace) (λ r. gives (bytes_of text w))))))
 
--- `=` comes next
-abbrev pub AtEquals : List Token → Type 0
-AtEquals ts = Next (OfKind Equals) ts
+-- one more variable
+unfoldable pub one_variable : List ℕ → List (List ℕ) → Rule Token SyntaxFault (List (List ℕ))
+one_variable text vs = choice (λ ts. length vs ≡ part_limit) (fails (too_many text)) (chain (variable text) (λ v. gives (vs ++ (v ∷ []))))
 
--- fields up to `=`
-unfoldable pub fields : List ℕ → Rule Token SyntaxFault (List FieldText)
-fields text = loop (λ ts. AtEquals ts → ⊥) (more_fields text) []
+-- variables, as long as one begins
+unfoldable pub variables : List ℕ → Rule Token SyntaxFault (List (List ℕ))
+variables text = loop (Begins LBrace) (one_variable text) []
 
--- `name#number field .. = result;`
-unfoldable pub declaration : List ℕ → Rule Token SyntaxFault DeclText
-declaration text =
-    chain (name text) (λ w. chain (hash text w.end) (λ h. chain (number text h.end) (λ n. chain (fields text) (λ fs.
-    chain (token text Equals) (λ e. chain (result_name text) (λ r. chain (token text Semi) (λ s.
-    gives (record { name = bytes_of text w; number = n; fields = fs; result = named (bytes_of text r) }))))))))
+-- ---- combinators
 
--- one more declaration, of at most 256
-unfoldable pub more_declarations : List ℕ → List DeclText → Rule Token SyntaxFault (List DeclText)
-more_declarations text ds = choice (λ ts. length ds ≡ 256) (fails (not_built text)) (chain (declaration text) (λ d. gives (ds ++ (d ∷ []))))
+-- `= result`
+unfoldable pub result_type : List ℕ → Rule Token SyntaxFault Tree
+result_type text = chain (token text Equals) (λ e. expression text)
 
--- a program: declarations until no token is left
-unfoldable pub program : List ℕ → Rule Token SyntaxFault (List DeclText)
-program text = loop (λ ts. ts ≡ [] → ⊥) (more_declarations text) []
+-- a constructor or a function, behind its name, which is described
+unfoldable pub combinator : List ℕ → Bool → NameText → Described → Rule Token SyntaxFault DeclText
+combinator text function n d =
+    chain (taken (number text n.end)) (λ i.
+    chain (taken (variables text)) (λ vs.
+    chain (fields text function (length vs.0) (all_shown text vs.1 (all_left_out i.1 d))) (λ fs.
+    chain (taken (result_type text)) (λ t.
+    chain (token text Semi) (λ s.
+    gives (record {
+      name = n.bytes;
+      number = i.0;
+      vars = vs.0;
+      fields = fs.fields;
+      result = t.0;
+      function = function;
+      builtin = false;
+      text = (all_shown text t.1 fs.described).bytes;
+    }))))))
+
+-- what its name makes of a declaration: the line of a built-in type, or a combinator
+abbrev pub named_declaration : List ℕ → Bool → NameText → Described → Option BuiltIn → Rule Token SyntaxFault DeclText
+named_declaration text function n d (Some b) = built_in_line text b n
+named_declaration text function n d None = combinator text function n d
+
+-- a declaration; function says whether it stands in a section of functions
+unfoldable pub declaration : List ℕ → Bool → Rule Token SyntaxFault DeclText
+declaration text function =
+    chain (here (place text)) (λ start. chain (taken (declared_name text)) (λ n.
+    named_declaration text function n.0 (all_shown text n.1 (undescribed start)) (built_in n.0.bytes)))
+
+-- ---- where a declaration is expected
+
+-- the Word `New`, `Final` or `Empty`
+abbrev pub IsLifecycle : List ℕ → Token → Type 0
+IsLifecycle text t = IsThis text (codes "New") t ⊎ IsThis text (codes "Final") t ⊎ IsThis text (codes "Empty") t
+
+-- the three forms that are left out, or what r reads
+unfoldable pub where_declaration : {A : Type 0} → List ℕ → Rule Token SyntaxFault A → Rule Token SyntaxFault A
+where_declaration text r =
+    choice (Next (IsLifecycle text)) (fails (not_profile text Lifecycle))
+    (choice (Next (IsWord text is_upper)) (fails (not_profile text PartialApplication))
+    (choice (Next (IsThis text (codes "_"))) (fails (not_profile text Anonymous)) r))
+
+-- one declaration more than there may be
+unfoldable pub declaration_too_many : {A : Type 0} → List ℕ → Rule Token SyntaxFault A
+declaration_too_many text = where_declaration text (choice (Next (IsWord text is_lower)) (fails (too_many text)) (fails (unexpected text)))

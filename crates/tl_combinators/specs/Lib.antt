@@ -1,5 +1,14 @@
-pub mod Program
+pub mod Taken
+pub mod Tokens
 pub mod Names
+pub mod Trees
+pub mod Types
+pub mod Program
+pub mod Description
+pub mod Fields
+pub mod BuiltIns
 pub mod Declarations
 pub mod Sentences
 pub mod OneReading
+pub mod Printed
+pub mod Written

@@ -1,121 +1,93 @@
--- Program text: the tokens that a declaration is made of.
--- From "Formal description of TL" (core.telegram.org/mtproto/TL-formal), its tokens and names.
-use Rattle.std.specs.Prelude.{◌≡◌, ◌≢◌, ◌⊎◌, ℕ, ◌-◌, ◌<◌, ◌≤◌, ◌^◌, nat_le, ◌&&◌, EachIndex, get_or, List, [], ◌∷◌, take, drop, length, Bool, true, false, Option, Some, None, codes}
-use Rattle.std.specs.Int.{w32, to_be_bytes}
-use Rattle.hex.specs.Hex.{encode_lower}
-use Rattle.tl_lexer.specs.Rule.{Rule, one, Next}
+-- Program text: names and numbers.
+-- From "TL language" (core.telegram.org/mtproto/TL) and "Formal description of TL" (core.telegram.org/mtproto/TL-formal), its identifiers.
+use Rattle.std.specs.Prelude.{◌≡◌, ◌≢◌, ℕ, List, [], ◌∷◌, ◌++◌, Bool, Option, Some, None, codes}
+use Rattle.tl_numbers.specs.HexText.{IsHexText, hex_value}
+use Rattle.tl_lexer.specs.Rule.{Rule, gives, fails, one, chain, choice, Next}
 use Rattle.tl_lexer.specs.declared.token.Token.{Token}
-use Rattle.tl_lexer.specs.declared.token.TokenKind.{TokenKind}
-use Rattle.tl_lexer.specs.declared.token.TokenKind.TheVariants.{Word, Hash}
+use Rattle.tl_lexer.specs.declared.token.TokenKind.TheVariants.{Word, Hash, Dot}
 use Rattle.tl_combinators.specs.declared.fault.SyntaxFault.{SyntaxFault}
-use Rattle.tl_combinators.specs.declared.fault.SyntaxFault.TheVariants.{NotYetBuilt, Memory}
-
--- the bytes of a token
-abbrev pub bytes_of : List ℕ → Token → List ℕ
-bytes_of text t = take (t.end - t.start) (drop t.start text)
-
--- the fault of tokens that are not of the plain form, wherever they stand
-abbrev pub not_built : List ℕ → List Token → SyntaxFault
-not_built text ts = NotYetBuilt
-
--- the fault that an error stands for; none for want of memory
-abbrev pub fault_of : SyntaxFault → Option SyntaxFault
-fault_of NotYetBuilt = Some NotYetBuilt
-fault_of Memory = None
-
--- each token is a part of the text
-pub record Fits (text : List ℕ) (tokens : List Token) : Type 0 where
-  pub parts : EachIndex tokens (λ i. (d : Token) → ((get_or tokens i d).start ≤ (get_or tokens i d).end) × ((get_or tokens i d).end ≤ length text))
-
-abbrev pub OfKind : TokenKind → Token → Type 0
-OfKind kind t = t.kind ≡ kind
-
--- one token of this kind
-unfoldable pub token : List ℕ → TokenKind → Rule Token SyntaxFault Token
-token text kind = one (not_built text) (OfKind kind)
-
--- a token of this kind, which begins at this byte
-pub record IsAt (edge : ℕ) (kind : TokenKind) (t : Token) : Type 0 where
-  pub kind_is : t.kind ≡ kind
-  pub edge_is : t.start ≡ edge
-
--- the `#` behind a name, with no space between them
-unfoldable pub hash : List ℕ → ℕ → Rule Token SyntaxFault Token
-hash text edge = one (not_built text) (IsAt edge Hash)
+use Rattle.tl_combinators.specs.declared.fault.Form.TheVariants.{ObjectType, VectorNumber}
+use Rattle.tl_combinators.specs.declared.names.Name.{Name}
+use Rattle.tl_combinators.specs.Tokens.{bytes_of, unexpected, not_profile, token, IsAt, is_lower, is_letter, IsWord, IsThis, letter_word}
 
 -- ---- names
 
-abbrev pub first_is : (ℕ → Bool) → List ℕ → Bool
-first_is test [] = false
-first_is test (b ∷ bs) = test b
+-- a name, and the byte behind it
+pub record NameText : Type 0 where
+  pub bytes : List ℕ
+  pub end : ℕ
 
-abbrev pub is_lower : ℕ → Bool
-is_lower b = (nat_le 97 b) && (nat_le b 122)
+abbrev pub name_text : Name → NameText
+name_text n = record { bytes = n.bytes; end = n.end }
 
-abbrev pub is_upper : ℕ → Bool
-is_upper b = (nat_le 65 b) && (nat_le b 90)
+-- two Words joined by `.`
+abbrev pub joined : List ℕ → List ℕ → List ℕ
+joined space last = (space ++ (46 ∷ [])) ++ last
 
--- `int` or `long`
-abbrev pub IsWhole : List ℕ → Type 0
-IsWhole bytes = (bytes ≡ codes "int") ⊎ (bytes ≡ codes "long")
+-- behind the Word w, which begins in lower case, a `.` adjoins
+pub record IsSpace (text : List ℕ) (w : Token) (ts : List Token) : Type 0 where
+  pub lower : IsWord text is_lower w
+  pub dot : Next (IsAt w.end Dot) ts
 
--- `double`, `string` or `bytes`
-abbrev pub IsOther : List ℕ → Type 0
-IsOther bytes = (bytes ≡ codes "double") ⊎ (bytes ≡ codes "string") ⊎ (bytes ≡ codes "bytes")
+-- a Word that adjoins the `.` before it, and begins with such a letter
+pub record IsLast (text : List ℕ) (test : ℕ → Bool) (edge : ℕ) (t : Token) : Type 0 where
+  pub word : IsWord text test t
+  pub adjoins : t.start ≡ edge
 
--- `int128`, `int256` or `vector`
-abbrev pub IsWide : List ℕ → Type 0
-IsWide bytes = (bytes ≡ codes "int128") ⊎ (bytes ≡ codes "int256") ⊎ (bytes ≡ codes "vector")
+-- the Word w is a name, or the namespace of one whose last Word begins with such a letter
+unfoldable pub name_from : List ℕ → (ℕ → Bool) → Token → Rule Token SyntaxFault NameText
+name_from text test w =
+    choice (IsSpace text w)
+    (chain (token text Dot) (λ d. chain (one (unexpected text) (IsLast text test d.end)) (λ v.
+    gives (record { bytes = joined (bytes_of text w) (bytes_of text v); end = v.end }))))
+    (gives (record { bytes = bytes_of text w; end = w.end }))
 
--- one of the eight names that the language has from the start
-abbrev pub IsBuiltIn : List ℕ → Type 0
-IsBuiltIn bytes = IsWhole bytes ⊎ IsOther bytes ⊎ IsWide bytes
+-- a name: a Word that begins with a letter, or a namespace and one
+unfoldable pub name : List ℕ → Rule Token SyntaxFault NameText
+name text = chain (letter_word text) (name_from text is_letter)
 
--- a Word that begins with a lower-case letter, and is none of these eight
-pub record IsName (text : List ℕ) (t : Token) : Type 0 where
-  pub word : t.kind ≡ Word
-  pub first : first_is is_lower (bytes_of text t) ≡ true
-  pub free : IsBuiltIn (bytes_of text t) → ⊥
+-- a name that a declaration may have: it begins in lower case, and so does its last Word
+unfoldable pub declared_name : List ℕ → Rule Token SyntaxFault NameText
+declared_name text = chain (one (unexpected text) (IsWord text is_lower)) (name_from text is_lower)
 
-unfoldable pub name : List ℕ → Rule Token SyntaxFault Token
-name text = one (not_built text) (IsName text)
+-- the Word `Object`
+abbrev pub IsObject : List ℕ → Token → Type 0
+IsObject text t = IsThis text (codes "Object") t
 
--- a Word that begins with an upper-case letter, and is neither `Vector` nor `Object`
-pub record IsResult (text : List ℕ) (t : Token) : Type 0 where
-  pub word : t.kind ≡ Word
-  pub first : first_is is_upper (bytes_of text t) ≡ true
-  pub no_vector : bytes_of text t ≢ codes "Vector"
-  pub no_object : bytes_of text t ≢ codes "Object"
-
-unfoldable pub result_name : List ℕ → Rule Token SyntaxFault Token
-result_name text = one (not_built text) (IsResult text)
-
--- the Word `int` or `long`
-pub record IsFieldType (text : List ℕ) (t : Token) : Type 0 where
-  pub word : t.kind ≡ Word
-  pub whole : IsWhole (bytes_of text t)
-
-unfoldable pub field_type : List ℕ → Rule Token SyntaxFault Token
-field_type text = one (not_built text) (IsFieldType text)
+-- the name of a type or of a constructor; `Object` is left out
+unfoldable pub type_name : List ℕ → Rule Token SyntaxFault NameText
+type_name text = choice (Next (IsObject text)) (fails (not_profile text ObjectType)) (name text)
 
 -- ---- numbers
 
--- the digits are the lower-case hexadecimal text of the number's four bytes, the highest first
-pub record IsNumberText (digits : List ℕ) (n : ℕ) : Type 0 where
-  pub fits : n < 2 ^ 32
-  pub text : digits ≡ encode_lower (to_be_bytes w32 n)
-
--- a Word of the number's digits, which begins at this byte
-pub record IsNumber (text : List ℕ) (edge n : ℕ) (t : Token) : Type 0 where
+-- a Word of one to eight lower-case hexadecimal digits that adjoins the `#` before it
+pub record IsHex (text : List ℕ) (edge : ℕ) (t : Token) : Type 0 where
   pub at : IsAt edge Word t
-  pub digits : IsNumberText (bytes_of text t) n
+  pub digits : IsHexText (bytes_of text t)
 
-abbrev pub HasNumber : List ℕ → ℕ → Token → Type 0
-HasNumber text edge t = (n : ℕ) × IsNumber text edge n t
+unfoldable pub hex : List ℕ → ℕ → Rule Token SyntaxFault ℕ
+hex text edge = chain (one (unexpected text) (IsHex text edge)) (λ t. gives (hex_value (bytes_of text t)))
 
--- the number behind a `#`, with no space between them
-unfoldable pub number : List ℕ → ℕ → Rule Token SyntaxFault ℕ
-number text edge = record {
-  reads = λ ts n rest. (t : Token) × (ts ≡ t ∷ rest) × IsNumber text edge n t;
-  refused = λ ts fault. (Next (HasNumber text edge) ts → ⊥) × (fault ≡ not_built text ts);
-}
+-- the number of a boxed vector
+abbrev pub vector_number : ℕ
+vector_number = 481674261
+
+-- a Word of digits that is another number than a boxed vector's
+pub record IsOtherNumber (text : List ℕ) (edge : ℕ) (t : Token) : Type 0 where
+  pub hex_is : IsHex text edge t
+  pub other : hex_value (bytes_of text t) ≢ vector_number
+
+-- the number of the vector line can't be another
+unfoldable pub vector_hex : List ℕ → ℕ → Rule Token SyntaxFault ℕ
+vector_hex text edge = choice (Next (IsOtherNumber text edge)) (fails (not_profile text VectorNumber)) (hex text edge)
+
+-- `#` and digits that adjoin what ends at this byte, or nothing; digits reads those behind the `#`
+unfoldable pub number_by : List ℕ → (ℕ → Rule Token SyntaxFault ℕ) → ℕ → Rule Token SyntaxFault (Option ℕ)
+number_by text digits edge =
+    choice (Next (IsAt edge Hash)) (chain (token text Hash) (λ h. chain (digits h.end) (λ n. gives (Some n)))) (gives None)
+
+unfoldable pub number : List ℕ → ℕ → Rule Token SyntaxFault (Option ℕ)
+number text edge = number_by text (hex text) edge
+
+unfoldable pub vector_line_number : List ℕ → ℕ → Rule Token SyntaxFault (Option ℕ)
+vector_line_number text edge = number_by text (vector_hex text) edge

@@ -2,19 +2,21 @@
 use Rattle.std.specs.Prelude.{◌≡◌, ◌⊎◌, ℕ, List}
 use Rattle.tl_lexer.specs.declared.token.Token.{Token}
 use Rattle.tl_combinators.specs.declared.fault.SyntaxFault.{SyntaxFault}
-use Rattle.tl_combinators.specs.Program.{DeclText, IsPlainProgram}
-use Rattle.tl_combinators.specs.Sentences.{Reads, SyntaxRefused}
+use Rattle.tl_combinators.specs.Trees.{Tree}
+use Rattle.tl_combinators.specs.Program.{DeclText}
+use Rattle.tl_combinators.specs.Sentences.{Reads, SyntaxRefused, ReadsType, TypeRefused}
 
-abbrev pub IsSentence : List ℕ → List Token → Type 0
-IsSentence text tokens = (ds : List DeclText) × Reads text tokens ds
+-- something is read or something is refused, and never both; nothing is read in two ways, or refused for two faults
+pub record HasOneReading {A F : Type 0} (Read : A → Type 0) (Refused : F → Type 0) : Type 0 where
+  pub either : ((a : A) × Read a) ⊎ ((fault : F) × Refused fault)
+  pub never_both : (a : A) (fault : F) → Read a → Refused fault → ⊥
+  pub same : (a b : A) → Read a → Read b → a ≡ b
+  pub same_fault : (fault other : F) → Refused fault → Refused other → fault ≡ other
 
-abbrev pub IsRefused : List ℕ → List Token → Type 0
-IsRefused text tokens = (fault : SyntaxFault) × SyntaxRefused text tokens fault
+-- the tokens as a program
+abbrev pub HasOneProgram : List ℕ → List Token → Type 0
+HasOneProgram text tokens = HasOneReading {A = List DeclText} {F = SyntaxFault} (Reads text tokens) (SyntaxRefused text tokens)
 
--- the tokens are a sentence or are refused, and never both; a sentence has no two lists of parts, and a refusal no two faults; the parts are of the plain form
-pub record HasOneReading (text : List ℕ) (tokens : List Token) : Type 0 where
-  pub one : IsSentence text tokens ⊎ IsRefused text tokens
-  pub never_both : IsSentence text tokens → IsRefused text tokens → ⊥
-  pub same_parts : (ds es : List DeclText) → Reads text tokens ds → Reads text tokens es → ds ≡ es
-  pub same_fault : (fault other : SyntaxFault) → SyntaxRefused text tokens fault → SyntaxRefused text tokens other → fault ≡ other
-  pub plain : (ds : List DeclText) → Reads text tokens ds → IsPlainProgram ds
+-- the tokens as a type
+abbrev pub HasOneType : List ℕ → List Token → Type 0
+HasOneType text tokens = HasOneReading {A = Tree} {F = SyntaxFault} (ReadsType text tokens) (TypeRefused text tokens)

@@ -1,56 +1,69 @@
 -- Program text: what a text declares, as lists of names and numbers.
-use Rattle.std.specs.Prelude.{◌≡◌, ◌⊎◌, ℕ, ◌≤◌, List, map, length, All, codes}
-use Rattle.tl_combinators.specs.declared.program.TypeTree.{TypeTree}
-use Rattle.tl_combinators.specs.declared.program.TypeTree.TheVariants.{Named}
+use Rattle.std.specs.Prelude.{ℕ, List, map, Bool, Option, Some, None}
 use Rattle.tl_combinators.specs.declared.program.FieldKind.{FieldKind}
-use Rattle.tl_combinators.specs.declared.program.FieldKind.TheVariants.{Of}
+use Rattle.tl_combinators.specs.declared.program.FieldKind.TheVariants.{Nat, Flag, Call, Of}
+use Rattle.tl_combinators.specs.declared.program.Cond.{Cond}
 use Rattle.tl_combinators.specs.declared.program.Field.{Field}
 use Rattle.tl_combinators.specs.declared.program.Decl.{Decl}
 use Rattle.tl_combinators.specs.declared.program.Program.{Program}
+use Rattle.tl_combinators.specs.Trees.{Tree, view}
 
--- a type as it is written
-pub data TypeText : Type 0 where
-  named : List ℕ → TypeText
-
--- what a field holds
+-- what a field holds: `#`, a flag `?true`, a call `!X`, or a type
 pub data KindText : Type 0 where
-  of : TypeText → KindText
+  nat : KindText
+  flag : KindText
+  call : List ℕ → KindText
+  of : Tree → KindText
+
+-- `F.N?`: the name of a `#` field and the number of one of its bits
+pub record CondText : Type 0 where
+  pub flags : List ℕ
+  pub bit : ℕ
 
 pub record FieldText : Type 0 where
   pub name : List ℕ
+  pub cond : Option CondText
   pub kind : KindText
 
+-- text is the description, on which an unwritten number rests
 pub record DeclText : Type 0 where
   pub name : List ℕ
-  pub number : ℕ
+  pub number : Option ℕ
+  pub vars : List (List ℕ)
   pub fields : List FieldText
-  pub result : TypeText
-
-abbrev pub tree_text : TypeTree → TypeText
-tree_text (Named name) = named name
+  pub result : Tree
+  pub function : Bool
+  pub builtin : Bool
+  pub text : List ℕ
 
 abbrev pub kind_text : FieldKind → KindText
-kind_text (Of tree) = of (tree_text tree)
+kind_text Nat = nat
+kind_text Flag = flag
+kind_text (Call var) = call var
+kind_text (Of tree) = of (view tree)
+
+abbrev pub cond_text : Cond → CondText
+cond_text c = record { flags = c.flags; bit = c.bit }
+
+abbrev pub cond_texts : Option Cond → Option CondText
+cond_texts None = None
+cond_texts (Some c) = Some (cond_text c)
 
 abbrev pub field_text : Field → FieldText
-field_text f = record { name = f.name; kind = kind_text f.kind }
+field_text f = record { name = f.name; cond = cond_texts f.cond; kind = kind_text f.kind }
 
 abbrev pub decl_text : Decl → DeclText
-decl_text d = record { name = d.name; number = d.number; fields = map field_text d.fields.items; result = tree_text d.result }
+decl_text d = record {
+  name = d.name;
+  number = d.number;
+  vars = d.vars.items;
+  fields = map field_text d.fields.items;
+  result = view d.result;
+  function = d.function;
+  builtin = d.builtin;
+  text = d.text;
+}
 
 -- the declarations of a program, in order
 abbrev pub program_text : Program → List DeclText
 program_text p = map decl_text p.decls.items
-
--- a field of the plain form holds an `int` or a `long`
-abbrev pub IsPlainKind : KindText → Type 0
-IsPlainKind kind = (kind ≡ of (named (codes "int"))) ⊎ (kind ≡ of (named (codes "long")))
-
-pub record IsPlainDecl (d : DeclText) : Type 0 where
-  pub few : length d.fields ≤ 256
-  pub kinds : All (λ f. IsPlainKind f.kind) d.fields
-
--- at most 256 declarations, each in the plain form
-pub record IsPlainProgram (ds : List DeclText) : Type 0 where
-  pub few : length ds ≤ 256
-  pub decls : All IsPlainDecl ds

@@ -1,94 +1,233 @@
-//! Fields and declarations from tokens.
-ghost use Rattle.std.specs.Prelude.{◌≡◌, ◌≤◌, ◌<◌, ◌+◌, length, drop, map, OnOk, IfOk, true, false};
-ghost use Rattle.tl_lexer.specs.Rule.{Parses};
-ghost use Rattle.tl_combinators.specs.Names.{fault_of, Fits};
-ghost use Rattle.tl_combinators.specs.Program.{field_text, decl_text};
-ghost use Rattle.tl_combinators.specs.Declarations.{field, fields, declaration};
+//! Declarations from tokens.
+ghost use Rattle.std.specs.Prelude.{◌≡◌, Err, ◌≤◌, ◌<◌, ◌+◌, ℕ, List, length, drop, OnOk, IfOk, true, false, None, vec_len};
+ghost use Rattle.tl_lexer.specs.Rule.{Parses, Next};
+ghost use Rattle.tl_combinators.specs.Tokens.{fault_of, Fits};
+ghost use Rattle.tl_combinators.specs.Names.{name_text};
+ghost use Rattle.tl_combinators.specs.Trees.{view};
+ghost use Rattle.tl_combinators.specs.Program.{decl_text};
+ghost use Rattle.tl_combinators.specs.Declarations.{variable, variables, result_type, combinator, declaration, IsLifecycle, where_declaration, declaration_too_many};
+ghost use Rattle.tl_combinators.specs.Sentences.{ProgramText};
 
-use crate::fault::SyntaxFault;
-use crate::names::{field_type_at, name_at, result_at};
-use crate::number::number_at;
-use crate::program::{Decl, Field, FieldKind, TypeTree};
-use crate::reading::{begins, bytes_at, hash_at, take_token};
+use crate::built_in::{built_in, built_in_line_at, sort_at};
+use crate::description::Description;
+use crate::fault::{Form, SyntaxFault};
+use crate::fields::{PART_LIMIT, fields_at};
+use crate::names::{Name, declared_name_at};
+use crate::numbers::number_at;
+use crate::program::Decl;
+use crate::reading::{
+    First, begins, begins_this, begins_word, bytes_at, place_at, take_token, take_word,
+};
+use crate::tree::TypeTree;
+use crate::types::expression_at;
 use std::alloc::Global;
 use tl_base::Bytes;
 use tl_lexer::{Token, TokenKind};
 
-/// So many fields a declaration has at most.
-pub const FIELD_LIMIT: usize = 256;
-
-fn field_at(
+// `{X:Type}`.
+fn variable_at(
     alloc: Global,
     text: &[u8],
     tokens: &[Token],
     at: &mut usize,
-) -> Result<Field, SyntaxFault>
+) -> Result<Bytes, SyntaxFault>
     requires { Fits text.now tokens.now }
-    ensures read { Parses fault_of field_text (field text.now) (drop at.old tokens.now) (drop at.new tokens.now) result }
+    ensures read { Parses fault_of (λ (v : List ℕ). v) (variable text.now) (drop at.old tokens.now) (drop at.new tokens.now) result }
     ensures on { OnOk result (at.old < at.new) }
     ensures inside { OnOk result (at.new ≤ length tokens.now) }
 {
-    let word = name_at(text, tokens, at)?;
+    take_token(text, tokens, at, TokenKind::LBrace)?;
+    let word = take_word(text, tokens, at, First::Letter)?;
     take_token(text, tokens, at, TokenKind::Colon)?;
-    let of = field_type_at(text, tokens, at)?;
-    let name = Bytes::from_slice(alloc, bytes_at(text, word))?;
-    let of_name = Bytes::from_slice(alloc, bytes_at(text, of))?;
-    Ok(Field {
-        name,
-        kind: FieldKind::Of {
-            tree: TypeTree::Named { name: of_name },
-        },
-    })
+    sort_at(text, tokens, at)?;
+    take_token(text, tokens, at, TokenKind::RBrace)?;
+    Ok(Bytes::from_slice(alloc, bytes_at(text, word))?)
 }
 
-// The fields up to `=`.
-fn fields_at(
+// Variables, as long as one begins.
+fn variables_at(
     alloc: Global,
     text: &[u8],
     tokens: &[Token],
     at: &mut usize,
-) -> Result<Vec<Field>, SyntaxFault>
+) -> Result<Vec<Bytes>, SyntaxFault>
     requires { Fits text.now tokens.now }
-    ensures read { Parses fault_of (λ v. map field_text v.items) (fields text.now) (drop at.old tokens.now) (drop at.new tokens.now) result }
+    ensures read { Parses fault_of (λ v. v.items) (variables text.now) (drop at.old tokens.now) (drop at.new tokens.now) result }
     ensures on { OnOk result (at.old ≤ at.new) }
     ensures inside { at.old ≤ length tokens.now → OnOk result (at.new ≤ length tokens.now) }
+    ensures few { IfOk result (λ v. vec_len v ≤ 256) }
 {
-    let mut fields = Vec::new(alloc);
-    while !begins(tokens, *at, TokenKind::Equals) {
-        if fields.len() == FIELD_LIMIT {
-            return Err(SyntaxFault::NotYetBuilt);
+    let mut vars = Vec::new(alloc);
+    while begins(tokens, *at, TokenKind::LBrace) {
+        if vars.len() == PART_LIMIT {
+            return Err(SyntaxFault::TooMany {
+                at: place_at(text, tokens, *at),
+            });
         }
-        let field = field_at(alloc, text, tokens, at)?;
-        fields.push(field)?;
+        let var = variable_at(alloc, text, tokens, at)?;
+        vars.push(var)?;
     }
-    Ok(fields)
+    Ok(vars)
 }
 
-/// A declaration.
-pub fn declaration_at(
+// `= result`.
+fn result_type_at(
     alloc: Global,
     text: &[u8],
     tokens: &[Token],
     at: &mut usize,
-) -> Result<Decl, SyntaxFault>
+) -> Result<TypeTree, SyntaxFault>
     requires { Fits text.now tokens.now }
-    ensures read { Parses fault_of decl_text (declaration text.now) (drop at.old tokens.now) (drop at.new tokens.now) result }
+    ensures read { Parses fault_of view (result_type text.now) (drop at.old tokens.now) (drop at.new tokens.now) result }
     ensures on { OnOk result (at.old < at.new) }
     ensures inside { OnOk result (at.new ≤ length tokens.now) }
 {
-    let word = name_at(text, tokens, at)?;
-    let hash = hash_at(text, tokens, at, word.end)?;
-    let number = number_at(text, tokens, at, hash.end)?;
-    let fields = fields_at(alloc, text, tokens, at)?;
     take_token(text, tokens, at, TokenKind::Equals)?;
-    let of = result_at(text, tokens, at)?;
+    expression_at(alloc, text, tokens, at)
+}
+
+// A constructor or a function, behind its name, which is described.
+fn combinator_at(
+    alloc: Global,
+    text: &[u8],
+    tokens: &[Token],
+    at: &mut usize,
+    function: bool,
+    name: Name,
+    described: Description,
+) -> Result<Decl, SyntaxFault>
+    requires fits { Fits text.now tokens.now }
+    requires inside { at.old ≤ length tokens.now }
+    ensures read { Parses fault_of decl_text (combinator text.now function (name_text name) described) (drop at.old tokens.now) (drop at.new tokens.now) result }
+    ensures on { OnOk result (at.old < at.new) }
+    ensures inside { OnOk result (at.new ≤ length tokens.now) }
+{
+    let mut described = described;
+    let start = *at;
+    let number = number_at(text, tokens, at, name.end)?;
+    described.leave_all_out(tokens, start, *at);
+    let start = *at;
+    let vars = variables_at(alloc, text, tokens, at)?;
+    described.show_all(text, tokens, start, *at)?;
+    let fields = fields_at(
+        alloc,
+        text,
+        tokens,
+        at,
+        function,
+        vars.len(),
+        &mut described,
+    )?;
+    let start = *at;
+    let result = result_type_at(alloc, text, tokens, at)?;
+    described.show_all(text, tokens, start, *at)?;
     take_token(text, tokens, at, TokenKind::Semi)?;
-    let name = Bytes::from_slice(alloc, bytes_at(text, word))?;
-    let result_name = Bytes::from_slice(alloc, bytes_at(text, of))?;
     Ok(Decl {
-        name,
+        name: name.bytes,
         number,
+        vars,
         fields,
-        result: TypeTree::Named { name: result_name },
+        result,
+        function,
+        builtin: false,
+        text: described.into_bytes(),
     })
+}
+
+// A declaration; function says whether it stands in a section of functions.
+fn declaration_at(
+    alloc: Global,
+    text: &[u8],
+    tokens: &[Token],
+    at: &mut usize,
+    function: bool,
+) -> Result<Decl, SyntaxFault>
+    requires { Fits text.now tokens.now }
+    ensures read { Parses fault_of decl_text (declaration text.now function) (drop at.old tokens.now) (drop at.new tokens.now) result }
+    ensures on { OnOk result (at.old < at.new) }
+    ensures inside { OnOk result (at.new ≤ length tokens.now) }
+{
+    let mut described = Description::new(alloc, place_at(text, tokens, *at));
+    let start = *at;
+    let name = declared_name_at(alloc, text, tokens, at)?;
+    described.show_all(text, tokens, start, *at)?;
+    match built_in(name.bytes.as_slice()) {
+        Some(line) => built_in_line_at(alloc, text, tokens, at, line, name),
+        None => combinator_at(alloc, text, tokens, at, function, name, described),
+    }
+}
+
+fn begins_lifecycle(text: &[u8], tokens: &[Token], at: usize) -> bool
+    requires { Fits text.now tokens.now }
+    ensures yes { result ≡ true → Next (IsLifecycle text.now) (drop at tokens.now) }
+    ensures no { result ≡ false → Next (IsLifecycle text.now) (drop at tokens.now) → ⊥ }
+{
+    begins_this(text, tokens, at, b"New".as_slice())
+        || begins_this(text, tokens, at, b"Final".as_slice())
+        || begins_this(text, tokens, at, b"Empty".as_slice())
+}
+
+/// What is expected to be a declaration; function says whether it stands in a section of functions.
+pub fn where_declaration_at(
+    alloc: Global,
+    text: &[u8],
+    tokens: &[Token],
+    at: &mut usize,
+    function: bool,
+) -> Result<Decl, SyntaxFault>
+    requires { Fits text.now tokens.now }
+    ensures read { Parses fault_of decl_text (where_declaration text.now (declaration text.now function)) (drop at.old tokens.now) (drop at.new tokens.now) result }
+    ensures on { OnOk result (at.old < at.new) }
+    ensures inside { OnOk result (at.new ≤ length tokens.now) }
+{
+    let place = place_at(text, tokens, *at);
+    if begins_lifecycle(text, tokens, *at) {
+        return Err(SyntaxFault::NotProfile {
+            at: place,
+            form: Form::Lifecycle,
+        });
+    }
+    if begins_word(text, tokens, *at, First::Upper) {
+        return Err(SyntaxFault::NotProfile {
+            at: place,
+            form: Form::PartialApplication,
+        });
+    }
+    if begins_this(text, tokens, *at, b"_".as_slice()) {
+        return Err(SyntaxFault::NotProfile {
+            at: place,
+            form: Form::Anonymous,
+        });
+    }
+    declaration_at(alloc, text, tokens, at, function)
+}
+
+/// Why no declaration stands behind the last that there may be.
+pub fn declaration_too_many_at(text: &[u8], tokens: &[Token], at: usize) -> SyntaxFault
+    requires { Fits text.now tokens.now }
+    ensures { Parses fault_of (λ (p : ProgramText). p) (declaration_too_many text.now) (drop at tokens.now) (drop at tokens.now) (Err result) }
+{
+    let place = place_at(text, tokens, at);
+    if begins_lifecycle(text, tokens, at) {
+        return SyntaxFault::NotProfile {
+            at: place,
+            form: Form::Lifecycle,
+        };
+    }
+    if begins_word(text, tokens, at, First::Upper) {
+        return SyntaxFault::NotProfile {
+            at: place,
+            form: Form::PartialApplication,
+        };
+    }
+    if begins_this(text, tokens, at, b"_".as_slice()) {
+        return SyntaxFault::NotProfile {
+            at: place,
+            form: Form::Anonymous,
+        };
+    }
+    if begins_word(text, tokens, at, First::Lower) {
+        return SyntaxFault::TooMany { at: place };
+    }
+    SyntaxFault::Unexpected { at: place }
 }

@@ -1,19 +1,28 @@
-//! Programs: the declarations of a schema's text.
+//! Programs and types: what the tokens of a schema's text declare.
 #![tactic(auto)]
 
+mod built_in;
 mod declarations;
+mod description;
 mod fault;
+mod fields;
 mod law;
 mod names;
-mod number;
+mod numbers;
 mod parser;
+#[cfg(test)]
+mod print_tests;
+mod printing;
 mod program;
 mod reading;
 #[cfg(test)]
 mod tests;
+mod tree;
+mod types;
 
-pub use declarations::FIELD_LIMIT;
-pub use fault::SyntaxFault;
+pub use fault::{Form, SyntaxFault};
 pub use law::each_list_of_tokens_is_read_or_refused;
-pub use parser::{DECLARATION_LIMIT, parse};
-pub use program::{Decl, Field, FieldKind, Program, TypeTree};
+pub use parser::{parse, parse_type};
+pub use printing::print;
+pub use program::{Cond, Decl, Field, FieldKind, Program};
+pub use tree::TypeTree;

@@ -1,168 +1,160 @@
-//! Names, and the types of fields and of declarations.
-ghost use Rattle.std.specs.Prelude.{◌≡◌, ◌≤◌, ◌<◌, ◌+◌, length, drop, OnOk, IfOk, true, false, codes};
-ghost use Rattle.tl_lexer.specs.Rule.{Parses, Next};
+//! Names.
+ghost use Rattle.std.specs.Prelude.{◌≡◌, ◌≤◌, ◌<◌, ◌+◌, length, drop, OnOk, IfOk, true, false};
+ghost use Rattle.tl_lexer.specs.Rule.{Parses, Next, one};
 ghost use Rattle.tl_lexer.specs.declared.token.Token.{Token};
-ghost use Rattle.tl_combinators.specs.Names.{bytes_of, fault_of, Fits, first_is, is_lower, is_upper, IsWhole, IsOther, IsWide, IsBuiltIn, IsName, name, IsResult, result_name, IsFieldType, field_type};
+ghost use Rattle.tl_combinators.specs.Tokens.{fault_of, Fits, unexpected, passes};
+ghost use Rattle.tl_combinators.specs.Names.{IsObject, IsSpace, IsLast, name_text, name_from, name, declared_name, type_name};
 
-use crate::fault::SyntaxFault;
-use crate::reading::{bytes_at, same};
+use crate::fault::{Form, SyntaxFault};
+use crate::reading::{
+    First, begins_at, begins_this, bytes_at, is_word, place_at, take_token, take_word,
+    unexpected_at,
+};
+use std::alloc::Global;
+use tl_base::Bytes;
 use tl_lexer::{Token, TokenKind};
 
-fn begins_lower(bytes: &[u8]) -> bool
-    ensures { result ≡ first_is is_lower bytes.now }
-{
-    match bytes {
-        [first, ..] => *first >= b'a' && *first <= b'z',
-        [] => false,
-    }
+/// A name, and the byte behind it.
+#[derive(Drop)]
+pub struct Name {
+    pub bytes: Bytes,
+    pub end: u32,
 }
 
-fn begins_upper(bytes: &[u8]) -> bool
-    ensures { result ≡ first_is is_upper bytes.now }
+// Whether the Word is a namespace: it begins in lower case, and a `.` adjoins it.
+fn is_space(text: &[u8], tokens: &[Token], at: usize, word: Token) -> bool
+    requires order { word.start ≤ word.end }
+    requires within { word.end ≤ length text.now }
+    ensures yes { result ≡ true → IsSpace text.now word (drop at tokens.now) }
+    ensures no { result ≡ false → IsSpace text.now word (drop at tokens.now) → ⊥ }
 {
-    match bytes {
-        [first, ..] => *first >= b'A' && *first <= b'Z',
-        [] => false,
-    }
+    is_word(text, word, First::Lower) && begins_at(tokens, at, TokenKind::Dot, word.end)
 }
 
-// `int` or `long`.
-fn is_whole(bytes: &[u8]) -> bool
-    ensures yes { result ≡ true → IsWhole bytes.now }
-    ensures no { result ≡ false → IsWhole bytes.now → ⊥ }
-{
-    bytes == b"int".as_slice() || bytes == b"long".as_slice()
-}
-
-// `double`, `string` or `bytes`.
-fn is_other(bytes: &[u8]) -> bool
-    ensures yes { result ≡ true → IsOther bytes.now }
-    ensures no { result ≡ false → IsOther bytes.now → ⊥ }
-{
-    bytes == b"double".as_slice() || bytes == b"string".as_slice() || bytes == b"bytes".as_slice()
-}
-
-// `int128`, `int256` or `vector`.
-fn is_wide(bytes: &[u8]) -> bool
-    ensures yes { result ≡ true → IsWide bytes.now }
-    ensures no { result ≡ false → IsWide bytes.now → ⊥ }
-{
-    bytes == b"int128".as_slice() || bytes == b"int256".as_slice() || bytes == b"vector".as_slice()
-}
-
-fn is_built_in(bytes: &[u8]) -> bool
-    ensures yes { result ≡ true → IsBuiltIn bytes.now }
-    ensures no { result ≡ false → IsBuiltIn bytes.now → ⊥ }
-{
-    is_whole(bytes) || is_other(bytes) || is_wide(bytes)
-}
-
-fn is_name(text: &[u8], token: Token) -> bool
-    requires order { token.start ≤ token.end }
-    requires within { token.end ≤ length text.now }
-    ensures yes { result ≡ true → IsName text.now token }
-    ensures no { result ≡ false → IsName text.now token → ⊥ }
-{
-    same(token.kind, TokenKind::Word)
-        && begins_lower(bytes_at(text, token))
-        && !is_built_in(bytes_at(text, token))
-}
-
-fn begins_name(text: &[u8], tokens: &[Token], at: usize) -> bool
+// Whether the next token is a Word with such a first byte that adjoins the `.` before it.
+fn begins_last(text: &[u8], tokens: &[Token], at: usize, first: First, edge: u32) -> bool
     requires { Fits text.now tokens.now }
-    ensures yes { result ≡ true → Next (IsName text.now) (drop at tokens.now) }
-    ensures no { result ≡ false → Next (IsName text.now) (drop at tokens.now) → ⊥ }
+    ensures yes { result ≡ true → Next (IsLast text.now (passes first) edge) (drop at tokens.now) }
+    ensures no { result ≡ false → Next (IsLast text.now (passes first) edge) (drop at tokens.now) → ⊥ }
     ensures within { result ≡ true → at < length tokens.now }
 {
-    at < tokens.len() && is_name(text, tokens[at])
+    at < tokens.len() && is_word(text, tokens[at], first) && tokens[at].start == edge
 }
 
-/// The name of a declaration or a field.
-pub fn name_at(text: &[u8], tokens: &[Token], at: &mut usize) -> Result<Token, SyntaxFault>
+// The Word behind the `.` of a name.
+fn last_at(
+    text: &[u8],
+    tokens: &[Token],
+    at: &mut usize,
+    first: First,
+    edge: u32,
+) -> Result<Token, SyntaxFault>
     requires { Fits text.now tokens.now }
-    ensures read { Parses fault_of (λ (t : Token). t) (name text.now) (drop at.old tokens.now) (drop at.new tokens.now) result }
-    ensures on { OnOk result (at.old < at.new) }
+    ensures read { Parses fault_of (λ (t : Token). t) (one (unexpected text.now) (IsLast text.now (passes first) edge)) (drop at.old tokens.now) (drop at.new tokens.now) result }
+    ensures on { OnOk result (at.new ≡ at.old + 1) }
     ensures inside { OnOk result (at.new ≤ length tokens.now) }
     ensures spans { IfOk result (λ t. (t.start ≤ t.end) × (t.end ≤ length text.now)) }
 {
-    if begins_name(text, tokens, *at) {
+    if begins_last(text, tokens, *at, first, edge) {
         let token = tokens[*at];
         *at += 1;
         Ok(token)
     } else {
-        Err(SyntaxFault::NotYetBuilt)
+        Err(unexpected_at(text, tokens, *at))
     }
 }
 
-fn is_result(text: &[u8], token: Token) -> bool
-    requires order { token.start ≤ token.end }
-    requires within { token.end ≤ length text.now }
-    ensures yes { result ≡ true → IsResult text.now token }
-    ensures no { result ≡ false → IsResult text.now token → ⊥ }
+// The name that the Word is, or begins as its namespace.
+fn name_from_at(
+    alloc: Global,
+    text: &[u8],
+    tokens: &[Token],
+    at: &mut usize,
+    first: First,
+    word: Token,
+) -> Result<Name, SyntaxFault>
+    requires fits { Fits text.now tokens.now }
+    requires order { word.start ≤ word.end }
+    requires within { word.end ≤ length text.now }
+    ensures read { Parses fault_of name_text (name_from text.now (passes first) word) (drop at.old tokens.now) (drop at.new tokens.now) result }
+    ensures on { OnOk result (at.old ≤ at.new) }
+    ensures inside { at.old ≤ length tokens.now → OnOk result (at.new ≤ length tokens.now) }
 {
-    same(token.kind, TokenKind::Word)
-        && begins_upper(bytes_at(text, token))
-        && bytes_at(text, token) != b"Vector".as_slice()
-        && bytes_at(text, token) != b"Object".as_slice()
+    let mut bytes = Vec::from_slice(alloc, bytes_at(text, word))?;
+    if is_space(text, tokens, *at, word) {
+        let dot = take_token(text, tokens, at, TokenKind::Dot)?;
+        let last = last_at(text, tokens, at, first, dot.end)?;
+        bytes.push(b'.')?;
+        bytes.extend_from_slice(bytes_at(text, last))?;
+        return Ok(Name {
+            bytes: Bytes::from_vec(bytes),
+            end: last.end,
+        });
+    }
+    Ok(Name {
+        bytes: Bytes::from_vec(bytes),
+        end: word.end,
+    })
 }
 
-fn begins_result(text: &[u8], tokens: &[Token], at: usize) -> bool
+/// A name: a Word that begins with a letter, or a namespace and one.
+pub fn name_at(
+    alloc: Global,
+    text: &[u8],
+    tokens: &[Token],
+    at: &mut usize,
+) -> Result<Name, SyntaxFault>
     requires { Fits text.now tokens.now }
-    ensures yes { result ≡ true → Next (IsResult text.now) (drop at tokens.now) }
-    ensures no { result ≡ false → Next (IsResult text.now) (drop at tokens.now) → ⊥ }
-    ensures within { result ≡ true → at < length tokens.now }
-{
-    at < tokens.len() && is_result(text, tokens[at])
-}
-
-/// The name of a declaration's type.
-pub fn result_at(text: &[u8], tokens: &[Token], at: &mut usize) -> Result<Token, SyntaxFault>
-    requires { Fits text.now tokens.now }
-    ensures read { Parses fault_of (λ (t : Token). t) (result_name text.now) (drop at.old tokens.now) (drop at.new tokens.now) result }
+    ensures read { Parses fault_of name_text (name text.now) (drop at.old tokens.now) (drop at.new tokens.now) result }
     ensures on { OnOk result (at.old < at.new) }
     ensures inside { OnOk result (at.new ≤ length tokens.now) }
-    ensures spans { IfOk result (λ t. (t.start ≤ t.end) × (t.end ≤ length text.now)) }
 {
-    if begins_result(text, tokens, *at) {
-        let token = tokens[*at];
-        *at += 1;
-        Ok(token)
-    } else {
-        Err(SyntaxFault::NotYetBuilt)
-    }
+    let word = take_word(text, tokens, at, First::Letter)?;
+    name_from_at(alloc, text, tokens, at, First::Letter, word)
 }
 
-fn is_field_type(text: &[u8], token: Token) -> bool
-    requires order { token.start ≤ token.end }
-    requires within { token.end ≤ length text.now }
-    ensures yes { result ≡ true → IsFieldType text.now token }
-    ensures no { result ≡ false → IsFieldType text.now token → ⊥ }
-{
-    same(token.kind, TokenKind::Word) && is_whole(bytes_at(text, token))
-}
-
-fn begins_field_type(text: &[u8], tokens: &[Token], at: usize) -> bool
+/// A name that a declaration may have.
+pub fn declared_name_at(
+    alloc: Global,
+    text: &[u8],
+    tokens: &[Token],
+    at: &mut usize,
+) -> Result<Name, SyntaxFault>
     requires { Fits text.now tokens.now }
-    ensures yes { result ≡ true → Next (IsFieldType text.now) (drop at tokens.now) }
-    ensures no { result ≡ false → Next (IsFieldType text.now) (drop at tokens.now) → ⊥ }
-    ensures within { result ≡ true → at < length tokens.now }
-{
-    at < tokens.len() && is_field_type(text, tokens[at])
-}
-
-/// The type of a field.
-pub fn field_type_at(text: &[u8], tokens: &[Token], at: &mut usize) -> Result<Token, SyntaxFault>
-    requires { Fits text.now tokens.now }
-    ensures read { Parses fault_of (λ (t : Token). t) (field_type text.now) (drop at.old tokens.now) (drop at.new tokens.now) result }
+    ensures read { Parses fault_of name_text (declared_name text.now) (drop at.old tokens.now) (drop at.new tokens.now) result }
     ensures on { OnOk result (at.old < at.new) }
     ensures inside { OnOk result (at.new ≤ length tokens.now) }
-    ensures spans { IfOk result (λ t. (t.start ≤ t.end) × (t.end ≤ length text.now)) }
 {
-    if begins_field_type(text, tokens, *at) {
-        let token = tokens[*at];
-        *at += 1;
-        Ok(token)
-    } else {
-        Err(SyntaxFault::NotYetBuilt)
+    let word = take_word(text, tokens, at, First::Lower)?;
+    name_from_at(alloc, text, tokens, at, First::Lower, word)
+}
+
+/// Whether the next token is the Word `Object`.
+pub fn begins_object(text: &[u8], tokens: &[Token], at: usize) -> bool
+    requires { Fits text.now tokens.now }
+    ensures yes { result ≡ true → Next (IsObject text.now) (drop at tokens.now) }
+    ensures no { result ≡ false → Next (IsObject text.now) (drop at tokens.now) → ⊥ }
+{
+    begins_this(text, tokens, at, b"Object".as_slice())
+}
+
+/// The name of a type or of a constructor.
+pub fn type_name_at(
+    alloc: Global,
+    text: &[u8],
+    tokens: &[Token],
+    at: &mut usize,
+) -> Result<Name, SyntaxFault>
+    requires { Fits text.now tokens.now }
+    ensures read { Parses fault_of name_text (type_name text.now) (drop at.old tokens.now) (drop at.new tokens.now) result }
+    ensures on { OnOk result (at.old < at.new) }
+    ensures inside { OnOk result (at.new ≤ length tokens.now) }
+{
+    if begins_object(text, tokens, *at) {
+        return Err(SyntaxFault::NotProfile {
+            at: place_at(text, tokens, *at),
+            form: Form::ObjectType,
+        });
     }
+    name_at(alloc, text, tokens, at)
 }

@@ -1,15 +1,26 @@
 //! What a text declares.
+ghost use Rattle.std.specs.Prelude.{◌≡◌};
+ghost use Rattle.tl_combinators.specs.Program.{decl_text};
+
+use crate::tree::TypeTree;
 use tl_base::Bytes;
 
-/// A type as it is written.
+/// The condition `F.N?`: the field stands where bit N of the `#` field F is set.
 #[derive(Debug, Drop)]
-pub enum TypeTree {
-    Named { name: Bytes },
+pub struct Cond {
+    pub flags: Bytes,
+    pub bit: u32,
 }
 
 /// What a field holds.
 #[derive(Debug, Drop)]
 pub enum FieldKind {
+    /// `#`.
+    Nat,
+    /// `?true`, behind a condition: a flag of no bytes.
+    Flag,
+    /// `!X`: a call whose result is X.
+    Call { var: Bytes },
     Of { tree: TypeTree },
 }
 
@@ -17,16 +28,32 @@ pub enum FieldKind {
 #[derive(Debug, Drop)]
 pub struct Field {
     pub name: Bytes,
+    pub cond: Option<Cond>,
     pub kind: FieldKind,
 }
 
-/// A declaration of a constructor: `name#number field:type .. = result;`.
+/// A declaration of a constructor or a function, or the line of a built-in type.
 #[derive(Debug, Drop)]
 pub struct Decl {
     pub name: Bytes,
-    pub number: u32,
+    /// The number that is written.
+    pub number: Option<u32>,
+    pub vars: Vec<Bytes>,
     pub fields: Vec<Field>,
     pub result: TypeTree,
+    pub function: bool,
+    pub builtin: bool,
+    /// The description, see [`Decl::description`].
+    pub text: Bytes,
+}
+
+impl Decl {
+    /// The text on which an unwritten number rests: the declaration without its number, braces, `;`, `>` and flags.
+    pub fn description(&self) -> &[u8]
+        ensures { result.now ≡ (decl_text self.now).text }
+    {
+        self.text.as_slice()
+    }
 }
 
 /// The declarations of a text, in its order.

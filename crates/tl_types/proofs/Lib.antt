@@ -5,6 +5,8 @@ mod TypeNames
 mod Fields
 pub mod Declarations
 mod Finding
+pub mod Alls
+pub mod PlainPrograms
 pub mod Deciding
 pub mod Words
 pub mod Members

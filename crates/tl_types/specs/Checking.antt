@@ -1,7 +1,8 @@
 -- Checking: the programs that are schemas, and what such a program declares.
-use Rattle.std.specs.Prelude.{◌≡◌, ◌⊎◌, ℕ, ◌<◌, List, [], ◌∷◌, ◌++◌, map, fold, position, bytes_eq, codes, Option, Some, None, slice_get, Result, Ok, Err, if◌then◌else◌}
+use Rattle.std.specs.Prelude.{◌≡◌, ◌⊎◌, ℕ, ◌<◌, List, [], ◌∷◌, ◌++◌, map, fold, position, bytes_eq, codes, Option, Some, None, slice_get, Result, Ok, Err, true, false, if◌then◌else◌}
 use Rattle.std.specs.List.{list_any, position_or_len}
-use Rattle.tl_combinators.specs.Program.{TypeText, named, KindText, of, FieldText, DeclText}
+use Rattle.tl_combinators.specs.Program.{DeclText}
+use Rattle.tl_types.specs.Plain.{PlainField, PlainDecl, is_plain_program, plain_program}
 use Rattle.tl_types.specs.Types.{Shape, int, long, boxed}
 use Rattle.tl_types.specs.Schemas.{Slot, Declaration, Declared, packed_number, vector_number}
 use Rattle.tl_types.specs.Seen.{shape}
@@ -19,13 +20,13 @@ pub record IsRepeat {X : Type 0} (xs : List X) (k : ℕ) : Type 0 where
   pub there : slice_get xs earlier ≡ Some item
   pub here : slice_get xs k ≡ Some item
 
-abbrev pub names_of : List DeclText → List (List ℕ)
+abbrev pub names_of : List PlainDecl → List (List ℕ)
 names_of ds = map (λ d. d.name) ds
 
-abbrev pub numbers_of : List DeclText → List ℕ
+abbrev pub numbers_of : List PlainDecl → List ℕ
 numbers_of ds = map (λ d. d.number) ds
 
-abbrev pub field_names : List FieldText → List (List ℕ)
+abbrev pub field_names : List PlainField → List (List ℕ)
 field_names fs = map (λ f. f.name) fs
 
 -- a number with a meaning of its own
@@ -33,21 +34,21 @@ abbrev pub IsTaken : ℕ → Type 0
 IsTaken number = (number ≡ packed_number) ⊎ (number ≡ vector_number)
 
 -- declaration k has a fault
-pub data Has (ds : List DeclText) (k : ℕ) : Type 0 where
+pub data Has (ds : List PlainDecl) (k : ℕ) : Type 0 where
   -- an earlier declaration has its name
   same_name : IsRepeat (names_of ds) k → Has ds k
   -- an earlier declaration has its number
   same_number : IsRepeat (numbers_of ds) k → Has ds k
   -- one of its fields has the name of an earlier one
-  same_field : (d : DeclText) (i : ℕ) → slice_get ds k ≡ Some d → IsRepeat (field_names d.fields) i → Has ds k
-  taken_number : (d : DeclText) → slice_get ds k ≡ Some d → IsTaken d.number → Has ds k
+  same_field : (d : PlainDecl) (i : ℕ) → slice_get ds k ≡ Some d → IsRepeat (field_names d.fields) i → Has ds k
+  taken_number : (d : PlainDecl) → slice_get ds k ≡ Some d → IsTaken d.number → Has ds k
 
 -- no declaration has a fault
-abbrev pub Accepted : List DeclText → Type 0
+abbrev pub Accepted : List PlainDecl → Type 0
 Accepted ds = (k : ℕ) → ¬ Has ds k
 
 -- some declaration has a fault
-abbrev pub CheckRefused : List DeclText → Type 0
+abbrev pub CheckRefused : List PlainDecl → Type 0
 CheckRefused ds = (k : ℕ) × Has ds k
 
 -- the names with this one at their end, if it isn't among them
@@ -58,37 +59,52 @@ with_name names name = if list_any (bytes_eq name) names then names else names +
 abbrev pub place : List ℕ → List (List ℕ) → Option ℕ
 place name names = position (bytes_eq name) names
 
-abbrev pub type_name : TypeText → List ℕ
-type_name (named name) = name
-
 -- the name of the type that a declaration constructs
-abbrev pub result_name : DeclText → List ℕ
-result_name d = type_name d.result
+abbrev pub result_name : PlainDecl → List ℕ
+result_name d = d.result
 
 -- the types of a program: the names of the results, each once, in the order of their first declarations
-abbrev pub types_of : List DeclText → List (List ℕ)
+abbrev pub types_of : List PlainDecl → List (List ℕ)
 types_of ds = fold with_name [] (map result_name ds)
 
--- the type of a field of the plain form, an `int` or a `long`
-abbrev pub shape_of : KindText → Shape
-shape_of (of tree) = if bytes_eq (type_name tree) (codes "long") then long else int
+-- the type that a name means, `int` or `long`
+abbrev pub shape_of : List ℕ → Shape
+shape_of name = if bytes_eq name (codes "long") then long else int
 
-abbrev pub slot_of : FieldText → Slot
-slot_of f = record { name = f.name; of = shape_of f.kind }
+abbrev pub slot_of : PlainField → Slot
+slot_of f = record { name = f.name; of = shape_of f.of }
 
 -- what a declaration declares, its type numbered by the place among the types
-abbrev pub declaration_of : List (List ℕ) → DeclText → Declaration
+abbrev pub declaration_of : List (List ℕ) → PlainDecl → Declaration
 declaration_of types d =
     record { name = d.name; number = d.number; head = position_or_len (bytes_eq (result_name d)) types; fields = map slot_of d.fields }
 
 -- what a program declares
-abbrev pub declared : List DeclText → Declared
+abbrev pub declared : List PlainDecl → Declared
 declared ds = record { decls = map (declaration_of (types_of ds)) ds; types = types_of ds }
+
+-- what a check of plain declarations answers
+abbrev pub ChecksPlain : List PlainDecl → Result Declared CheckFault → Type 0
+ChecksPlain ds (Ok schema) = Accepted ds × (schema ≡ declared ds)
+ChecksPlain ds (Err check.NotYetBuilt) = CheckRefused ds
+ChecksPlain ds (Err check.Memory) = Unit {0}
+
+-- the program is a schema's: it is plain, and none of its declarations has a fault
+abbrev pub IsSchemaProgram : List DeclText → Type 0
+IsSchemaProgram ds = (is_plain_program ds ≡ true) × Accepted (plain_program ds)
+
+-- what it declares
+abbrev pub declared_by : List DeclText → Declared
+declared_by ds = declared (plain_program ds)
+
+-- the program is not plain, or one of its declarations has a fault
+abbrev pub NoSchemaProgram : List DeclText → Type 0
+NoSchemaProgram ds = (is_plain_program ds ≡ false) ⊎ ((is_plain_program ds ≡ true) × CheckRefused (plain_program ds))
 
 -- what a check answers
 abbrev pub Checks : List DeclText → Result Declared CheckFault → Type 0
-Checks ds (Ok schema) = Accepted ds × (schema ≡ declared ds)
-Checks ds (Err check.NotYetBuilt) = CheckRefused ds
+Checks ds (Ok schema) = IsSchemaProgram ds × (schema ≡ declared_by ds)
+Checks ds (Err check.NotYetBuilt) = NoSchemaProgram ds
 Checks ds (Err check.Memory) = Unit {0}
 
 -- the type that a text names among the types

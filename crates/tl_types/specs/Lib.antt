@@ -2,6 +2,7 @@ pub mod Types
 pub mod Values
 pub mod Schemas
 pub mod Seen
+pub mod Plain
 pub mod Checking
 pub mod CheckSteps
 pub mod CheckedSchema

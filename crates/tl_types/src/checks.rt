@@ -1,16 +1,18 @@
 //! Checks of a program.
-ghost use Rattle.std.specs.Prelude.{◌≡◌, ◌<◌, ◌^◌, ◌↔◌, IsTrue, length, map, IfOk};
-ghost use Rattle.tl_combinators.specs.Program.{IsPlainProgram, program_text, decl_text, field_text, kind_text, tree_text};
-ghost use Rattle.tl_types.specs.Checking.{Checks, IsTaken, shape_of, type_name};
+ghost use Rattle.std.specs.Prelude.{◌≡◌, ◌<◌, ◌^◌, ◌↔◌, IsTrue, length, map, IfOk, true};
+ghost use Rattle.tl_combinators.specs.Program.{program_text, decl_text, field_text};
+ghost use Rattle.tl_types.specs.Plain.{is_plain_program, plain_program, plain_decl, plain_field};
+ghost use Rattle.tl_types.specs.Checking.{Checks, ChecksPlain, IsTaken, shape_of};
 ghost use Rattle.tl_types.specs.CheckSteps.{ChecksDecl, ChecksFields};
 ghost use Rattle.tl_types.specs.Schemas.{IsSchema};
 ghost use Rattle.tl_types.specs.Seen.{shape};
 
 use crate::names::Names;
+use crate::plain::{is_plain_program, kind_name, type_name};
 use crate::{CheckFault, Entry, Schema, SchemaField, TypeRef};
 use indexmap::IndexSet;
 use std::alloc::Global;
-use tl_combinators::{Decl, Field, FieldKind, Program, TypeTree};
+use tl_combinators::{Decl, Field, Program};
 
 /// The number of a boxed vector.
 const VECTOR: u32 = 0x1cb5c415;
@@ -27,8 +29,19 @@ struct Known {
 
 /// Checks a program, and makes the schema that it declares.
 pub fn check(alloc: Global, program: &Program) -> Result<Schema, CheckFault>
-    requires { IsPlainProgram (program_text program.now) }
     ensures checks { Checks (program_text program.now) result }
+    ensures sound { IfOk result (λ s. IsSchema s.decls) }
+{
+    if !is_plain_program(program) {
+        return Err(CheckFault::NotYetBuilt);
+    }
+    check_plain(alloc, program)
+}
+
+/// Checks a plain program.
+fn check_plain(alloc: Global, program: &Program) -> Result<Schema, CheckFault>
+    requires { is_plain_program (program_text program.now) ≡ true }
+    ensures checks { ChecksPlain (plain_program (program_text program.now)) result }
     ensures sound { IfOk result (λ s. IsSchema s.decls) }
 {
     let mut known = Known {
@@ -48,16 +61,17 @@ pub fn check(alloc: Global, program: &Program) -> Result<Schema, CheckFault>
 /// Checks a declaration against those before it.
 fn check_decl(alloc: Global, known: &mut Known, decl: &Decl) -> Result<Entry, CheckFault>
     requires { length known.old.types < 2 ^ 32 }
-    ensures { ChecksDecl known.old known.new (decl_text decl.now) result }
+    ensures { ChecksDecl known.old known.new (plain_decl (decl_text decl.now)) result }
 {
-    if is_taken(decl.number) {
+    let number = decl.number.unwrap_or(0);
+    if is_taken(number) {
         return Err(CheckFault::NotYetBuilt);
     }
     let (_, new_name) = known.names.add(alloc, decl.name.as_slice())?;
     if !new_name {
         return Err(CheckFault::NotYetBuilt);
     }
-    let new_number = known.numbers.insert(decl.number)?;
+    let new_number = known.numbers.insert(number)?;
     if !new_number {
         return Err(CheckFault::NotYetBuilt);
     }
@@ -65,7 +79,7 @@ fn check_decl(alloc: Global, known: &mut Known, decl: &Decl) -> Result<Entry, Ch
     let (head, _) = known.types.add(alloc, type_name(&decl.result))?;
     Ok(Entry {
         name: decl.name.copy()?,
-        number: decl.number,
+        number,
         head: head as u32,
         fields,
     })
@@ -80,7 +94,7 @@ fn is_taken(number: u32) -> bool
 
 /// Checks the fields of a declaration.
 fn check_fields(alloc: Global, fields: &[Field]) -> Result<Vec<SchemaField>, CheckFault>
-    ensures { ChecksFields (map field_text fields.now) result }
+    ensures { ChecksFields (map plain_field (map field_text fields.now)) result }
 {
     let mut names = Names::new(alloc);
     let mut slots = Vec::new(alloc);
@@ -91,29 +105,19 @@ fn check_fields(alloc: Global, fields: &[Field]) -> Result<Vec<SchemaField>, Che
         }
         slots.push(SchemaField {
             name: field.name.copy()?,
-            of: field_type(&field.kind),
+            of: type_of_name(kind_name(&field.kind)),
         })?;
     }
     Ok(slots)
 }
 
-/// The type of a field.
-fn field_type(kind: &FieldKind) -> TypeRef
-    ensures { shape result ≡ shape_of (kind_text kind.now) }
+/// The type that a name means.
+fn type_of_name(name: &[u8]) -> TypeRef
+    ensures { shape result ≡ shape_of name.now }
 {
-    let FieldKind::Of { tree } = kind;
-    if type_name(tree) == b"long".as_slice() {
+    if name == b"long".as_slice() {
         TypeRef::Long
     } else {
         TypeRef::Int
-    }
-}
-
-/// The name of a type.
-fn type_name(tree: &TypeTree) -> &[u8]
-    ensures { result.now ≡ type_name (tree_text tree.now) }
-{
-    match tree {
-        TypeTree::Named { name } => name.as_slice(),
     }
 }

@@ -5,6 +5,7 @@ mod checks;
 mod fault;
 mod laws;
 mod names;
+mod plain;
 mod schema;
 #[cfg(test)]
 mod tests;

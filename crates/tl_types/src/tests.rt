@@ -1,75 +1,60 @@
-ghost use Rattle.std.specs.Prelude.{◌≡◌, ◌⊎◌, ◌≤◌, All, IfOk, codes, length, map};
-ghost use Rattle.tl_combinators.specs.Program.{IsPlainDecl, IsPlainKind, IsPlainProgram, decl_text, field_text, kind_text, named, program_text, tree_text};
-
 use crate::{CheckFault, Entry, Schema, TypeFault, TypeRef, check, type_of};
 use std::alloc::{AllocError, Global};
 use std::test::Fail;
 use tl_base::Bytes;
 use tl_combinators::{Decl, Field, FieldKind, Program, TypeTree};
 
-// A declaration; a field is a name, and whether it is a `long` and no `int`.
+// A declaration; a field is a name and the name of its type.
 #[derive(Clone, Copy)]
 struct Row {
     name: &'static str,
-    number: u32,
-    fields: &'static [(&'static str, bool)],
+    number: Option<u32>,
+    fields: &'static [(&'static str, &'static str)],
     result: &'static str,
+    function: bool,
 }
 
-fn tree(alloc: Global, name: &str) -> Result<TypeTree, AllocError>
-    ensures { IfOk result (λ t. tree_text t ≡ named name.now) }
-{
+fn tree(alloc: Global, name: &str) -> Result<TypeTree, AllocError> {
     Ok(TypeTree::Named {
         name: Bytes::from_slice(alloc, name.as_bytes())?,
+        args: Vec::new(alloc),
     })
 }
 
-fn kind_name(long: bool) -> &'static str
-    ensures { (result.now ≡ codes "int") ⊎ (result.now ≡ codes "long") }
-{
-    if long { "long" } else { "int" }
-}
-
-fn field(alloc: Global, name: &str, long: bool) -> Result<Field, AllocError>
-    ensures { IfOk result (λ f. IsPlainKind (kind_text f.kind)) }
-{
+fn field(alloc: Global, name: &str, of: &str) -> Result<Field, AllocError> {
     Ok(Field {
         name: Bytes::from_slice(alloc, name.as_bytes())?,
+        cond: None,
         kind: FieldKind::Of {
-            tree: tree(alloc, kind_name(long))?,
+            tree: tree(alloc, of)?,
         },
     })
 }
 
-fn fields(alloc: Global, rows: &[(&'static str, bool)]) -> Result<Vec<Field>, AllocError>
-    requires { length rows.now ≤ 256 }
-    ensures few { IfOk result (λ fields. length fields.items ≤ 256) }
-    ensures plain { IfOk result (λ fields. All (λ f. IsPlainKind f.kind) (map field_text fields.items)) }
-{
+fn fields(alloc: Global, rows: &[(&'static str, &'static str)]) -> Result<Vec<Field>, AllocError> {
     let mut fields = Vec::new(alloc);
-    for (name, long) in rows {
-        fields.push(field(alloc, name, *long)?)?;
+    for (name, of) in rows {
+        fields.push(field(alloc, name, of)?)?;
     }
     Ok(fields)
 }
 
-fn decl(alloc: Global, row: &Row) -> Result<Decl, AllocError>
-    ensures { IfOk result (λ d. IsPlainDecl (decl_text d)) }
-{
-    let few = row.fields.len().min(256);
+fn decl(alloc: Global, row: &Row) -> Result<Decl, AllocError> {
     Ok(Decl {
         name: Bytes::from_slice(alloc, row.name.as_bytes())?,
         number: row.number,
-        fields: fields(alloc, &row.fields[..few])?,
+        vars: Vec::new(alloc),
+        fields: fields(alloc, row.fields)?,
         result: tree(alloc, row.result)?,
+        function: row.function,
+        builtin: false,
+        text: Bytes::new(alloc),
     })
 }
 
-fn program(alloc: Global, rows: &[Row]) -> Result<Program, AllocError>
-    ensures { IfOk result (λ p. IsPlainProgram (program_text p)) }
-{
+fn program(alloc: Global, rows: &[Row]) -> Result<Program, AllocError> {
     let mut decls = Vec::new(alloc);
-    for row in &rows[..rows.len().min(256)] {
+    for row in rows {
         decls.push(decl(alloc, row)?)?;
     }
     Ok(Program { decls })
@@ -86,23 +71,26 @@ fn is_refused(alloc: Global, rows: &[Row]) -> bool {
 
 const POINT: Row = Row {
     name: "point",
-    number: 0x0000_0001,
-    fields: &[("x", false), ("y", true)],
+    number: Some(0x0000_0001),
+    fields: &[("x", "int"), ("y", "long")],
     result: "Point",
+    function: false,
 };
 
 const ORIGIN: Row = Row {
     name: "origin",
-    number: 0x8000_0004,
+    number: Some(0x8000_0004),
     fields: &[],
     result: "Point",
+    function: false,
 };
 
 const CLOCK: Row = Row {
     name: "clock",
-    number: 0x0000_0003,
-    fields: &[("x", false)],
+    number: Some(0x0000_0003),
+    fields: &[("x", "int")],
     result: "Clock",
+    function: false,
 };
 
 fn is_point(entry: &Entry) -> bool {
@@ -183,37 +171,77 @@ fn an_empty_program_is_a_schema(rt: HostRuntime) -> Result<(), Fail> {
 fn refuses_each_fault(rt: HostRuntime) {
     let same_name = Row {
         name: "point",
-        number: 4,
+        number: Some(4),
         fields: &[],
         result: "Clock",
+        function: false,
     };
     let same_number = Row {
         name: "circle",
-        number: 1,
+        number: Some(1),
         fields: &[],
         result: "Clock",
+        function: false,
     };
     let same_field = Row {
         name: "pair",
-        number: 5,
-        fields: &[("x", false), ("y", false), ("x", true)],
+        number: Some(5),
+        fields: &[("x", "int"), ("y", "int"), ("x", "long")],
         result: "Pair",
+        function: false,
     };
     let packed = Row {
         name: "packed",
-        number: 0x3072_cfa1,
+        number: Some(0x3072_cfa1),
         fields: &[],
         result: "Packed",
+        function: false,
     };
     let vector = Row {
         name: "list",
-        number: 0x1cb5_c415,
+        number: Some(0x1cb5_c415),
         fields: &[],
         result: "List",
+        function: false,
     };
     assert!(rt; is_refused(rt.alloc(), [POINT, same_name].as_slice()));
     assert!(rt; is_refused(rt.alloc(), [POINT, same_number].as_slice()));
     assert!(rt; is_refused(rt.alloc(), [POINT, same_field].as_slice()));
     assert!(rt; is_refused(rt.alloc(), [packed].as_slice()));
     assert!(rt; is_refused(rt.alloc(), [vector].as_slice()));
+}
+
+// Each of these is a declaration of the grammar that is not plain.
+#[test]
+fn refuses_what_is_not_plain(rt: HostRuntime) {
+    let function = Row {
+        function: true,
+        ..POINT
+    };
+    let unnumbered = Row {
+        number: None,
+        ..POINT
+    };
+    let two_words = Row {
+        name: "geo.point",
+        ..POINT
+    };
+    let text_field = Row {
+        fields: &[("x", "string")],
+        ..POINT
+    };
+    let vector = Row {
+        result: "Vector",
+        ..POINT
+    };
+    let bare = Row {
+        result: "point",
+        ..POINT
+    };
+    assert!(rt; is_refused(rt.alloc(), [function].as_slice()));
+    assert!(rt; is_refused(rt.alloc(), [unnumbered].as_slice()));
+    assert!(rt; is_refused(rt.alloc(), [two_words].as_slice()));
+    assert!(rt; is_refused(rt.alloc(), [text_field].as_slice()));
+    assert!(rt; is_refused(rt.alloc(), [vector].as_slice()));
+    assert!(rt; is_refused(rt.alloc(), [bare].as_slice()));
 }

@@ -1,8 +1,6 @@
 -- Words and files of bytes have an answer.
-use Rattle.std.proofs.Common.{◌≡◌, ◌≢◌, ◌⊎◌, ℕ, ◌<◌, ◌≤◌, ◌^◌, List, [], ◌∷◌, ◌++◌, append-nil, length, slice_get, Option, Some, None, refl, sym, ap, ◌∙◌, subst, inl, inr, arith, codes, All}
-use Rattle.std.proofs.lemmas.Bool.{cases_eq}
-use Rattle.std.proofs.lemmas.List.Elements.{All-nil, All-push, All-get_or}
-use Rattle.std.proofs.lemmas.Option.{slice_get_within, get_or_from_slice_get}
+use Rattle.std.proofs.Common.{◌≡◌, ◌≢◌, ◌⊎◌, ℕ, ◌<◌, ◌≤◌, ◌^◌, List, [], ◌∷◌, ◌++◌, append-nil, length, slice_get, Option, Some, None, refl, sym, ap, ◌∙◌, subst, inl, inr, arith, codes, All, Bool, true, false}
+use Rattle.std.proofs.lemmas.Bool.{cases_Bool, cases_eq}
 use Rattle.tl_base.specs.Contents.{AreBytes, Files, HoldBytes}
 use Rattle.tl_base.specs.Outside.{HasFile}
 use Rattle.tl_lexer.specs.declared.token.Token.{Token}
@@ -10,86 +8,77 @@ use Rattle.tl_lexer.specs.Tokens.{Tokens, LexRefused}
 use Rattle.tl_lexer.specs.OneAnswer.{HasTokens, IsRefused as TextRefused}
 use Rattle.tl_lexer.proofs.Whole.{Decided}
 use Rattle.tl_lexer.proofs.WholePieces.{one_answer as lexer_law}
-use Rattle.tl_combinators.specs.Names.{number}
+use Rattle.tl_combinators.specs.declared.fault.SyntaxFault.{SyntaxFault}
+use Rattle.tl_combinators.specs.declared.fault.SyntaxFault.TheVariants as syntax
 use Rattle.tl_combinators.specs.Program.{DeclText}
-use Rattle.tl_combinators.specs.Declarations.{declaration, more_declarations, program}
 use Rattle.tl_combinators.specs.Sentences.{Reads, SyntaxRefused}
-use Rattle.tl_combinators.specs.OneReading.{IsSentence, IsRefused as TokensRefused}
-use Rattle.tl_combinators.proofs.DecidedParts.{decided_and, decided_not, text_decided}
-use Rattle.tl_combinators.proofs.Values.{Only, only_gives, only_fails, only_chain, only_choice, only_loop}
-use Rattle.tl_combinators.proofs.WholeProgram.{one_reading}
+use Rattle.tl_combinators.proofs.Decided.{decided_and, decided_not, text_decided}
+use Rattle.tl_combinators.proofs.WrittenNumbers.{IsSmall, numbers_fit}
+use Rattle.tl_combinators.proofs.Causes.{no_memory as no_memory_of_tokens}
+use Rattle.tl_combinators.proofs.OneProgram.{one_program}
 use Rattle.tl_types.specs.Types.{boxed}
 use Rattle.tl_types.specs.Values.{Tree, depth}
 use Rattle.tl_types.specs.Schemas.{Declared}
-use Rattle.tl_types.specs.Checking.{Accepted, CheckRefused, types_of, declared, place}
+use Rattle.tl_types.specs.Plain.{PlainDecl, is_plain_program, plain_program, plain_decl}
+use Rattle.tl_types.specs.Checking.{Accepted, CheckRefused, types_of, declared_by, place}
 use Rattle.tl_types.specs.Spelling.{Spells}
 use Rattle.tl_types.proofs.Declarations.{accepted_schema}
+use Rattle.tl_types.proofs.PlainPrograms.{few_plain, plain_fit}
 use Rattle.tl_types.proofs.Deciding.{each_checked}
 use Rattle.tl_types.proofs.Exactly.{either}
 use Rattle.update_replay.specs.declared.profile.TheConstants.{PROFILE_TEXT}
 use Rattle.update_replay.proofs.Deciding.{each_replayed}
 use Rattle.tl_lexer.specs.declared.fault.LexFault.TheVariants as lex
 use Rattle.tlbox.specs.declared.stop.SchemaCause.{SchemaCause}
-use Rattle.tlbox.specs.declared.stop.SchemaCause.TheVariants.{TextTooLong, BadByte, OpenComment, NotYetBuilt}
+use Rattle.tlbox.specs.declared.stop.SchemaCause.TheVariants.{TextTooLong, BadByte, OpenComment, Unexpected, NotProfile, TooMany, NotYetBuilt}
 use Rattle.tlbox.specs.Answer.{Answer, IsOperand, AskDecode, AskReplay}
-use Rattle.tlbox.specs.DecodeAnswers.{IsSchemaText, SchemaRefused, too_long, bad_byte, open_comment, by_tokens, by_checks, OfInput, whole, longer, faulty, OfType, unknown, named, OfSchema, no_schema, schema_of, DecodeAnswer}
+use Rattle.tlbox.specs.DecodeAnswers.{IsSchemaText, SchemaRefused, too_long, bad_byte, open_comment, unexpected, not_profile, too_many, by_checks, OfInput, whole, longer, faulty, OfType, unknown, named, OfSchema, no_schema, schema_of, DecodeAnswer}
 use Rattle.tlbox.specs.ReplayAnswers.{OfProfile, other_text, profile_text, ReplayAnswer}
 use Rattle.tlbox.specs.Answers.{no_row, decode, replay, Asks, nothing, to_decode, to_replay, IsFile, HasAnAnswer}
 use Rattle.tlbox.proofs.Loading.{file_bytes}
 use Rattle.tlbox.proofs.OneReplay.{answer_of, settled_answer}
-use Rattle.tlbox.proofs.OneFault.{no_memory, tokens_fault}
+use Rattle.tlbox.proofs.OneFault.{no_memory}
 
 -- ---- a schema's text
-
--- a declaration's number has four bytes
-abbrev Fits : DeclText → Type 0
-Fits d = d.number < 2 ^ 32
-
-number_fits : (text : List ℕ) (edge : ℕ) → Only (number text edge) (λ n. n < 2 ^ 32)
-unfolding number
-number_fits text edge = record { each = λ ts rest n h. h.2.digits.fits }
-
-declaration_fits : (text : List ℕ) → Only (declaration text) Fits
-unfolding declaration
-declaration_fits text =
-    only_chain _ _ _ (λ w _ _ _. only_chain _ _ _ (λ h _ _ _. only_chain _ _ _ (λ n ts mid p. only_chain _ _ _ (λ fs _ _ _.
-    only_chain _ _ _ (λ e _ _ _. only_chain _ _ _ (λ r _ _ _. only_chain _ _ _ (λ s _ _ _. only_gives Fits _ ((number_fits text h.end).each ts mid n p))))))))
-
-program_fits : (text : List ℕ) → Only (program text) (All Fits)
-unfolding program more_declarations
-program_fits text =
-    only_loop _ _ _ (λ ds all. only_choice _ _ _ _ (λ _ _. only_fails _ _) (λ ts n. only_chain _ _ _ (λ d us mid h.
-    only_gives (All Fits) _ (All-push Fits ds d all ((declaration_fits text).each us mid d h))))) [] (All-nil Fits)
-
-all_fit : (ds : List DeclText) → All Fits ds → (i : ℕ) (d : DeclText) → slice_get ds i ≡ Some d → Fits d
-all_fit ds all i d at = subst Fits (get_or_from_slice_get ds i d d at) (All-get_or Fits ds i d (slice_get_within ds i d at) all)
 
 module _ (text : List ℕ) where
   -- the schema of the text, or its refusal
   abbrev Read : Type 0
   Read = ((schema : Declared) × IsSchemaText text schema) ⊎ ((cause : SchemaCause) × SchemaRefused text cause)
 
-  checks : (ts : List Token) (ds : List DeclText) → Tokens text ts → Reads text ts ds → Accepted ds ⊎ CheckRefused ds → Read
-  checks ts ds t r (inl accepts) = inl (
-    declared ds,
-    record {
-      tokens = ts;
-      program = ds;
-      lexed = t;
-      parsed = r;
-      checked = accepts;
-      schema_is = refl;
-      sound = accepted_schema (types_of ds) ds accepts ((one_reading text ts).plain ds r).few (all_fit ds ((program_fits text).each ts [] ds r));
-    },
-  )
-  checks ts ds t r (inr refused) = inr (NotYetBuilt, by_checks ts ds t r refused)
+  -- the tokens read as these declarations
+  module _ (ts : List Token) (ds : List DeclText) (t : Tokens text ts) (r : Reads text ts ds) where
+    plain_checks : is_plain_program ds ≡ true → Accepted (plain_program ds) ⊎ CheckRefused (plain_program ds) → Read
+    plain_checks plain (inl accepts) = inl (
+      declared_by ds,
+      record {
+        tokens = ts;
+        program = ds;
+        lexed = t;
+        parsed = r;
+        checked = (plain, accepts);
+        schema_is = refl;
+        sound = accepted_schema (types_of (plain_program ds)) (plain_program ds) accepts (few_plain ds plain) (plain_fit ds (numbers_fit text ts ds r));
+      },
+    )
+    plain_checks plain (inr refused) = inr (NotYetBuilt, by_checks ts ds t r (inr (plain, refused)))
 
-  parses : (ts : List Token) → Tokens text ts → IsSentence text ts ⊎ TokensRefused text ts → Read
-  parses ts t (inl (ds, r)) = checks ts ds t r (each_checked ds)
-  parses ts t (inr (f, r)) = inr (NotYetBuilt, by_tokens ts t (subst (SyntaxRefused text ts) (tokens_fault text ts f r) r))
+    checks : (is_plain_program ds ≡ true) ⊎ (is_plain_program ds ≡ false) → Read
+    checks (inl plain) = plain_checks plain (each_checked (plain_program ds))
+    checks (inr other) = inr (NotYetBuilt, by_checks ts ds t r (inl other))
+
+  faults : (ts : List Token) (f : SyntaxFault) → Tokens text ts → SyntaxRefused text ts f → Read
+  faults ts (syntax.Unexpected at) t r = inr (Unexpected at, unexpected ts at t r)
+  faults ts (syntax.NotProfile at form) t r = inr (NotProfile at form, not_profile ts at form t r)
+  faults ts (syntax.TooMany at) t r = inr (TooMany at, too_many ts at t r)
+  faults ts syntax.Memory t r = absurd (no_memory_of_tokens text ts r)
+
+  parses : (ts : List Token) → Tokens text ts → ((ds : List DeclText) × Reads text ts ds) ⊎ ((f : SyntaxFault) × SyntaxRefused text ts f) → Read
+  parses ts t (inl (ds, r)) = checks ts ds t r (cases_Bool (is_plain_program ds))
+  parses ts t (inr (f, r)) = faults ts f t r
 
   lexes : HasTokens text ⊎ TextRefused text → Read
-  lexes (inl (ts, t)) = parses ts t (one_reading text ts).one
+  lexes (inl (ts, t)) = parses ts t (one_program text ts).either
   lexes (inr (lex.TextTooLong, r)) = inr (TextTooLong, too_long r)
   lexes (inr (lex.BadByte at, r)) = inr (BadByte at, bad_byte at r)
   lexes (inr (lex.OpenComment at, r)) = inr (OpenComment at, open_comment at r)

@@ -15,7 +15,7 @@ use Rattle.tl_lexer.specs.Tokens.{Tokens}
 use Rattle.tl_combinators.specs.declared.fault.SyntaxFault.{SyntaxFault}
 use Rattle.tl_combinators.specs.declared.fault.SyntaxFault.TheVariants as syntax
 use Rattle.tl_combinators.specs.Program.{DeclText}
-use Rattle.tl_combinators.specs.Sentences.{Reads, Parsed}
+use Rattle.tl_combinators.specs.Sentences.{Reads, SyntaxRefused, FaultIs}
 use Rattle.tl_types.specs.Types.{Shape}
 use Rattle.tl_types.specs.Schemas.{Declared, Declaration}
 use Rattle.tl_types.specs.Checking.{Checks}
@@ -33,8 +33,8 @@ use Rattle.tl_lexer.specs.Lexed.{Lexes}
 use Rattle.tlbox.specs.Stops.{of_text, of_lex, of_syntax, of_check}
 use Rattle.tl_lexer.specs.declared.fault.LexFault.TheVariants as lex
 use Rattle.tlbox.specs.declared.stop.SchemaCause.{SchemaCause}
-use Rattle.tlbox.specs.declared.stop.SchemaCause.TheVariants.{TextTooLong, BadByte, OpenComment, NotYetBuilt}
-use Rattle.tlbox.specs.DecodeAnswers.{SchemaRefused, too_long, bad_byte, open_comment, by_tokens, by_checks}
+use Rattle.tlbox.specs.declared.stop.SchemaCause.TheVariants.{TextTooLong, BadByte, OpenComment, Unexpected, NotProfile, TooMany, NotYetBuilt}
+use Rattle.tlbox.specs.DecodeAnswers.{SchemaRefused, too_long, bad_byte, open_comment, unexpected, not_profile, too_many, by_checks}
 use Rattle.tlbox.specs.Steps.{SameBut, ReadsText, TakesValue}
 use Rattle.tlbox.specs.Jobs.{OnlyReads, ReadsSchema, LoadsSchema, LoadsValue}
 
@@ -51,8 +51,10 @@ no_tokens view text (lex.BadByte at) r lexed e = stops text _ r (bad_byte at lex
 no_tokens view text (lex.OpenComment at) r lexed e = stops text _ r (open_comment at lexed) e
 no_tokens view text lex.Memory r lexed e = stops text _ r tt e
 
-pub no_program : (text : List ℕ) (tokens : List Token) (e : SyntaxFault) (r : Result Declared Stop) → Tokens text tokens → Parsed text tokens (Err e) → IsErrAnd r (λ z. z ≡ of_syntax e) → ReadsSchema text r
-no_program text tokens syntax.NotYetBuilt r lexed parsed e = stops text _ r (by_tokens tokens lexed parsed) e
+pub no_program : (text : List ℕ) (tokens : List Token) (e : SyntaxFault) (r : Result Declared Stop) → Tokens text tokens → FaultIs (SyntaxRefused text tokens) e → IsErrAnd r (λ z. z ≡ of_syntax e) → ReadsSchema text r
+no_program text tokens (syntax.Unexpected at) r lexed parsed e = stops text _ r (unexpected tokens at lexed parsed) e
+no_program text tokens (syntax.NotProfile at form) r lexed parsed e = stops text _ r (not_profile tokens at form lexed parsed) e
+no_program text tokens (syntax.TooMany at) r lexed parsed e = stops text _ r (too_many tokens at lexed parsed) e
 no_program text tokens syntax.Memory r lexed parsed e = stops text _ r tt e
 
 pub no_schema : (text : List ℕ) (tokens : List Token) (program : List DeclText) (e : CheckFault) (r : Result Declared Stop) → Tokens text tokens → Reads text tokens program → Checks program (Err e) → IsErrAnd r (λ z. z ≡ of_check e) → ReadsSchema text r
@@ -108,7 +110,9 @@ still_long bytes read rest _ e long (bad_byte at (inl r)) = absurd (let no : lex
 still_long bytes read rest _ e long (bad_byte at (inr r)) = absurd (omega (arith, r.0))
 still_long bytes read rest _ e long (open_comment at (inl r)) = absurd (let no : lex.OpenComment at ≡ lex.TextTooLong = r.1 in cc)
 still_long bytes read rest _ e long (open_comment at (inr r)) = absurd (omega (arith, r.0))
-still_long bytes read rest _ e long (by_tokens ts t r) = absurd (omega (arith, t.0))
+still_long bytes read rest _ e long (unexpected ts at t r) = absurd (omega (arith, t.0))
+still_long bytes read rest _ e long (not_profile ts at form t r) = absurd (omega (arith, t.0))
+still_long bytes read rest _ e long (too_many ts at t r) = absurd (omega (arith, t.0))
 still_long bytes read rest _ e long (by_checks ts ds t r has) = absurd (omega (arith, t.0))
 
 long_file : (bytes read rest : List ℕ) (r : Result Declared Stop) → bytes ≡ read ++ rest → 4194304 < length read → ReadsSchema read r → ReadsSchema bytes r

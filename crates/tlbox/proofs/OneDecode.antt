@@ -1,5 +1,5 @@
 -- What `decode` answers is one.
-use Rattle.std.proofs.Common.{◌≡◌, ℕ, ◌+◌, ◌≤◌, List, [], ◌∷◌, ◌++◌, append-nil, length, Option, Some, None, refl, sym, ap, ◌∙◌, subst, arith, codes}
+use Rattle.std.proofs.Common.{◌≡◌, ℕ, ◌+◌, ◌≤◌, List, [], ◌∷◌, ◌++◌, append-nil, length, Option, Some, None, refl, sym, ap, ◌∙◌, subst, arith, codes, inl, inr, true≢false}
 use Rattle.std.proofs.lemmas.List.{length-append}
 use Rattle.tl_base.specs.Contents.{Files}
 use Rattle.tl_lexer.specs.declared.token.Token.{Token}
@@ -9,11 +9,13 @@ use Rattle.tl_lexer.proofs.WholePieces.{one_answer as lexer_law}
 use Rattle.tl_combinators.specs.Program.{DeclText}
 use Rattle.tl_combinators.specs.Sentences.{Reads, SyntaxRefused}
 use Rattle.tl_combinators.specs.declared.fault.SyntaxFault.TheVariants as syntax
-use Rattle.tl_combinators.proofs.WholeProgram.{one_reading}
+use Rattle.tl_combinators.specs.declared.fault.SyntaxFault.{SyntaxFault}
+use Rattle.tl_combinators.proofs.OneProgram.{one_program}
 use Rattle.tl_types.specs.Types.{boxed}
 use Rattle.tl_types.specs.Values.{Tree, depth}
 use Rattle.tl_types.specs.Schemas.{Declared, IsSchema}
-use Rattle.tl_types.specs.Checking.{declared, Has}
+use Rattle.tl_types.specs.Plain.{plain_program}
+use Rattle.tl_types.specs.Checking.{declared_by, IsSchemaProgram, NoSchemaProgram}
 use Rattle.tl_types.specs.Spelling.{Spells}
 use Rattle.tl_types.specs.Reading.{moved}
 use Rattle.tl_types.specs.declared.fault.Cause.{Cause}
@@ -21,20 +23,20 @@ use Rattle.tl_types.proofs.Exactly.{never_both, one_value, one_fault}
 use Rattle.tl_lexer.specs.declared.fault.LexFault.{LexFault}
 use Rattle.tl_lexer.specs.Tokens.{LexRefused}
 use Rattle.tlbox.specs.declared.stop.SchemaCause.{SchemaCause}
-use Rattle.tlbox.specs.declared.stop.SchemaCause.TheVariants.{TextTooLong, BadByte, OpenComment, NotYetBuilt}
+use Rattle.tlbox.specs.declared.stop.SchemaCause.TheVariants.{TextTooLong, BadByte, OpenComment, Unexpected, NotProfile, TooMany, NotYetBuilt}
 use Rattle.tlbox.specs.Shown.{line_text}
 use Rattle.tlbox.specs.Answer.{Answer, done, refused, input_line, cause_text, schema_line}
-use Rattle.tlbox.specs.DecodeAnswers.{IsSchemaText, SchemaRefused, too_long, bad_byte, open_comment, by_tokens, by_checks, OfInput, whole, longer, faulty, OfType, unknown, named, OfSchema, no_schema, schema_of, DecodeAnswer}
+use Rattle.tlbox.specs.DecodeAnswers.{IsSchemaText, SchemaRefused, too_long, bad_byte, open_comment, unexpected, not_profile, too_many, by_checks, OfInput, whole, longer, faulty, OfType, unknown, named, OfSchema, no_schema, schema_of, DecodeAnswer}
 use Rattle.tlbox.proofs.Loading.{same_file}
 
 same_tokens : (text : List ℕ) (ts us : List Token) → Tokens text ts → Tokens text us → ts ≡ us
 same_tokens text ts us h k = (lexer_law text).same_tokens ts us h k
 
 same_program : (text : List ℕ) (ts us : List Token) (ds es : List DeclText) → Tokens text ts → Tokens text us → Reads text ts ds → Reads text us es → ds ≡ es
-same_program text ts us ds es h k p q = (one_reading text ts).same_parts ds es p (subst (λ (x : List Token). Reads text x es) (sym (same_tokens text ts us h k)) q)
+same_program text ts us ds es h k p q = (one_program text ts).same ds es p (subst (λ (x : List Token). Reads text x es) (sym (same_tokens text ts us h k)) q)
 
 pub same_schema : (text : List ℕ) (s u : Declared) → IsSchemaText text s → IsSchemaText text u → s ≡ u
-same_schema text s u h k = h.schema_is ∙ ap declared (same_program text h.tokens k.tokens h.program k.program h.lexed k.lexed h.parsed k.parsed) ∙ sym k.schema_is
+same_schema text s u h k = h.schema_is ∙ ap declared_by (same_program text h.tokens k.tokens h.program k.program h.lexed k.lexed h.parsed k.parsed) ∙ sym k.schema_is
 
 abbrev cause_of : LexFault → SchemaCause
 cause_of lex.TextTooLong = TextTooLong
@@ -42,37 +44,62 @@ cause_of (lex.BadByte at) = BadByte at
 cause_of (lex.OpenComment at) = OpenComment at
 cause_of lex.Memory = NotYetBuilt
 
--- what refuses a text: its bytes, or what its tokens read as
+abbrev syntax_cause : SyntaxFault → SchemaCause
+syntax_cause (syntax.Unexpected at) = Unexpected at
+syntax_cause (syntax.NotProfile at form) = NotProfile at form
+syntax_cause (syntax.TooMany at) = TooMany at
+syntax_cause syntax.Memory = NotYetBuilt
+
+-- what refuses a text: its bytes, its tokens, or what they declare
 data Fault (text : List ℕ) (cause : SchemaCause) : Type 0 where
   of_bytes : (fault : LexFault) → LexRefused text fault → (cause ≡ cause_of fault) → Fault text cause
-  of_tokens : (tokens : List Token) → Tokens text tokens → cause ≡ NotYetBuilt → Fault text cause
+  of_tokens : (tokens : List Token) (fault : SyntaxFault) → Tokens text tokens → SyntaxRefused text tokens fault → (cause ≡ syntax_cause fault) → Fault text cause
+  of_program : (tokens : List Token) (ds : List DeclText) → Tokens text tokens → Reads text tokens ds → cause ≡ NotYetBuilt → Fault text cause
 
 fault_of : (text : List ℕ) (cause : SchemaCause) → SchemaRefused text cause → Fault text cause
 fault_of text _ (too_long r) = of_bytes lex.TextTooLong r refl
 fault_of text _ (bad_byte at r) = of_bytes (lex.BadByte at) r refl
 fault_of text _ (open_comment at r) = of_bytes (lex.OpenComment at) r refl
-fault_of text _ (by_tokens ts t r) = of_tokens ts t refl
-fault_of text _ (by_checks ts ds t r has) = of_tokens ts t refl
+fault_of text _ (unexpected ts at t r) = of_tokens ts (syntax.Unexpected at) t r refl
+fault_of text _ (not_profile ts at form t r) = of_tokens ts (syntax.NotProfile at form) t r refl
+fault_of text _ (too_many ts at t r) = of_tokens ts (syntax.TooMany at) t r refl
+fault_of text _ (by_checks ts ds t r none) = of_program ts ds t r refl
+
+same_refusal : (text : List ℕ) (ts us : List Token) (f g : SyntaxFault) → Tokens text ts → Tokens text us → SyntaxRefused text ts f → SyntaxRefused text us g → f ≡ g
+same_refusal text ts us f g t u r s = (one_program text ts).same_fault f g r (subst (λ (x : List Token). SyntaxRefused text x g) (same_tokens text us ts u t) s)
+
+never_refused : (text : List ℕ) (ts us : List Token) (f : SyntaxFault) (ds : List DeclText) → Tokens text ts → Tokens text us → SyntaxRefused text ts f → Reads text us ds → ⊥
+never_refused text ts us f ds t u r p = (one_program text us).never_both ds f p (subst (λ (x : List Token). SyntaxRefused text x f) (same_tokens text ts us t u) r)
 
 causes_agree : (text : List ℕ) (c d : SchemaCause) → Fault text c → Fault text d → c ≡ d
 causes_agree text c d (of_bytes f r is) (of_bytes g s at) = is ∙ ap cause_of ((lexer_law text).same_fault f g r s) ∙ sym at
-causes_agree text c d (of_bytes f r is) (of_tokens ts t at) = absurd ((lexer_law text).never_both (ts, t) (f, r))
-causes_agree text c d (of_tokens ts t is) (of_bytes f r at) = absurd ((lexer_law text).never_both (ts, t) (f, r))
-causes_agree text c d (of_tokens ts t is) (of_tokens us u at) = is ∙ sym at
+causes_agree text c d (of_bytes f r is) (of_tokens ts g t s at) = absurd ((lexer_law text).never_both (ts, t) (f, r))
+causes_agree text c d (of_bytes f r is) (of_program ts ds t p at) = absurd ((lexer_law text).never_both (ts, t) (f, r))
+causes_agree text c d (of_tokens ts g t s is) (of_bytes f r at) = absurd ((lexer_law text).never_both (ts, t) (f, r))
+causes_agree text c d (of_tokens ts f t r is) (of_tokens us g u s at) = is ∙ ap syntax_cause (same_refusal text ts us f g t u r s) ∙ sym at
+causes_agree text c d (of_tokens ts f t r is) (of_program us ds u p at) = absurd (never_refused text ts us f ds t u r p)
+causes_agree text c d (of_program ts ds t p is) (of_bytes f r at) = absurd ((lexer_law text).never_both (ts, t) (f, r))
+causes_agree text c d (of_program us ds u p is) (of_tokens ts f t r at) = absurd (never_refused text ts us f ds t u r p)
+causes_agree text c d (of_program ts ds t p is) (of_program us es u q at) = is ∙ sym at
 
 same_cause : (text : List ℕ) (c d : SchemaCause) → SchemaRefused text c → SchemaRefused text d → c ≡ d
 same_cause text c d r s = causes_agree text c d (fault_of text c r) (fault_of text d s)
+
+-- no program is a schema's and none
+never_both_checked : (ds : List DeclText) → IsSchemaProgram ds → NoSchemaProgram ds → ⊥
+never_both_checked ds (plain, accepts) (inl other) = true≢false (sym plain ∙ other)
+never_both_checked ds (plain, accepts) (inr (same, (k, has))) = accepts k has
 
 pub never_schema : (text : List ℕ) (s : Declared) (cause : SchemaCause) → IsSchemaText text s → SchemaRefused text cause → ⊥
 never_schema text s _ h (too_long r) = (lexer_law text).never_both (h.tokens, h.lexed) (lex.TextTooLong, r)
 never_schema text s _ h (bad_byte at r) = (lexer_law text).never_both (h.tokens, h.lexed) (lex.BadByte at, r)
 never_schema text s _ h (open_comment at r) = (lexer_law text).never_both (h.tokens, h.lexed) (lex.OpenComment at, r)
-never_schema text s _ h (by_tokens ts t r) =
-    let same : ts ≡ h.tokens = same_tokens text ts h.tokens t h.lexed in
-    (one_reading text h.tokens).never_both (h.program, h.parsed) (syntax.NotYetBuilt, subst (λ (x : List Token). SyntaxRefused text x syntax.NotYetBuilt) same r)
-never_schema text s _ h (by_checks ts ds t r (k, has)) =
+never_schema text s _ h (unexpected ts at t r) = never_refused text ts h.tokens _ h.program t h.lexed r h.parsed
+never_schema text s _ h (not_profile ts at form t r) = never_refused text ts h.tokens _ h.program t h.lexed r h.parsed
+never_schema text s _ h (too_many ts at t r) = never_refused text ts h.tokens _ h.program t h.lexed r h.parsed
+never_schema text s _ h (by_checks ts ds t r none) =
     let same : ds ≡ h.program = same_program text ts h.tokens ds h.program t h.lexed r h.parsed in
-    h.checked k (subst (λ (x : List DeclText). Has x k) same has)
+    never_both_checked h.program h.checked (subst NoSchemaProgram same none)
 
 -- the whole bytes as a beginning of themselves
 all_of : (bytes : List ℕ) → bytes ≡ bytes ++ []

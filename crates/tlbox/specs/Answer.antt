@@ -5,7 +5,9 @@ use Rattle.hex.specs.Hex.{encode_lower}
 use Rattle.tl_types.specs.declared.fault.Cause.{Cause}
 use Rattle.tl_types.specs.declared.fault.Cause.TheVariants.{TooDeep, Truncated, Packed, UnknownNumber}
 use Rattle.tlbox.specs.declared.stop.SchemaCause.{SchemaCause}
-use Rattle.tlbox.specs.declared.stop.SchemaCause.TheVariants.{TextTooLong, BadByte, OpenComment, NotYetBuilt}
+use Rattle.tl_combinators.specs.declared.fault.Form.{Form}
+use Rattle.tl_combinators.specs.declared.fault.Form.TheVariants as form
+use Rattle.tlbox.specs.declared.stop.SchemaCause.TheVariants.{TextTooLong, BadByte, OpenComment, Unexpected, NotProfile, TooMany, NotYetBuilt}
 use Rattle.tlbox.specs.declared.status.Status.{Status}
 use Rattle.tlbox.specs.declared.status.Status.TheVariants as status
 
@@ -39,14 +41,29 @@ pub record AskReplay (words : List (List ℕ)) (schema journal : List ℕ) : Typ
 abbrev pub usage_line : List ℕ
 usage_line = codes "usage: tlbox check SCHEMA, decode SCHEMA TYPE INPUT, encode SCHEMA TYPE INPUT, replay SCHEMA JOURNAL CLIENTS, make SCHEMA NUMBER STEPS, serve SCHEMA ADDRESS SESSIONS, post SCHEMA ADDRESS INPUT, client SCHEMA ADDRESS STATE [CHANNEL ..]\n"
 
--- a refusal of the schema's text, at a place in bytes
-abbrev pub schema_place : ℕ → List ℕ → List ℕ
-schema_place at why = ((codes "tlbox: schema " ++ decimal at) ++ codes " ") ++ why ++ codes "\n"
+-- what is refused, the place in bytes, and the cause with its values
+abbrev pub placed_line : List ℕ → ℕ → List ℕ → List ℕ
+placed_line what place why = (((((codes "tlbox: " ++ what) ++ codes " ") ++ decimal place) ++ codes " ") ++ why) ++ codes "\n"
 
+abbrev pub form_name : Form → List ℕ
+form_name form.DependentNumber = codes "DependentNumber"
+form_name form.Multiplicity = codes "Multiplicity"
+form_name form.Lifecycle = codes "Lifecycle"
+form_name form.PartialApplication = codes "PartialApplication"
+form_name form.Anonymous = codes "Anonymous"
+form_name form.ObjectType = codes "ObjectType"
+form_name form.UnnamedField = codes "UnnamedField"
+form_name form.CallInConstructor = codes "CallInConstructor"
+form_name form.VectorNumber = codes "VectorNumber"
+
+-- a refusal of the schema's text
 abbrev pub schema_line : SchemaCause → List ℕ
 schema_line TextTooLong = codes "tlbox: schema - TextTooLong\n"
-schema_line (BadByte at) = schema_place at (codes "BadByte")
-schema_line (OpenComment at) = schema_place at (codes "OpenComment")
+schema_line (BadByte at) = placed_line (codes "schema") at (codes "BadByte")
+schema_line (OpenComment at) = placed_line (codes "schema") at (codes "OpenComment")
+schema_line (Unexpected at) = placed_line (codes "schema") at (codes "Unexpected")
+schema_line (NotProfile at f) = placed_line (codes "schema") at (codes "NotProfile " ++ form_name f)
+schema_line (TooMany at) = placed_line (codes "schema") at (codes "TooMany")
 schema_line NotYetBuilt = codes "tlbox: schema - NotYetBuilt\n"
 
 abbrev pub type_line : List ℕ
@@ -62,13 +79,13 @@ cause_text Truncated = codes "Truncated"
 cause_text Packed = codes "NotYetBuilt"
 cause_text (UnknownNumber w) = codes "UnknownNumber " ++ encode_lower (to_be_bytes w32 w)
 
--- a refusal of the input, at a place in bytes
+-- a refusal of the input
 abbrev pub input_line : ℕ → List ℕ → List ℕ
-input_line place why = ((codes "tlbox: input " ++ decimal place) ++ codes " ") ++ why ++ codes "\n"
+input_line place why = placed_line (codes "input") place why
 
--- a refusal of the journal, at the place in bytes where a step begins
+-- a refusal of the journal, at the place where a step begins
 abbrev pub journal_line : ℕ → List ℕ → List ℕ
-journal_line place why = ((codes "tlbox: journal " ++ decimal place) ++ codes " ") ++ why ++ codes "\n"
+journal_line place why = placed_line (codes "journal") place why
 
 abbrev pub done : List ℕ → Answer
 done line = record { status = status.Done; output = line; errors = [] }

@@ -6,19 +6,20 @@ use Rattle.tl_lexer.specs.declared.token.Token.{Token}
 use Rattle.tl_lexer.specs.declared.fault.LexFault.TheVariants as lex
 use Rattle.tl_lexer.specs.Tokens.{Tokens, LexRefused}
 use Rattle.tl_combinators.specs.Program.{DeclText}
+use Rattle.tl_combinators.specs.declared.fault.Form.{Form}
 use Rattle.tl_combinators.specs.declared.fault.SyntaxFault.TheVariants as syntax
 use Rattle.tl_combinators.specs.Sentences.{Reads, SyntaxRefused}
 use Rattle.tl_types.specs.Types.{boxed}
 use Rattle.tl_types.specs.Values.{Tree, depth}
 use Rattle.tl_types.specs.Schemas.{Declared, IsSchema}
-use Rattle.tl_types.specs.Checking.{Accepted, CheckRefused, declared, place}
+use Rattle.tl_types.specs.Checking.{IsSchemaProgram, NoSchemaProgram, declared_by, place}
 use Rattle.tl_types.specs.Spelling.{Spells}
 use Rattle.tl_types.specs.Refusal.{Refused}
 use Rattle.tl_types.specs.Reading.{moved}
 use Rattle.tl_types.specs.declared.fault.Cause.{Cause}
 use Rattle.tlbox.specs.declared.decoder.TheConstants.{MAX_LEVELS}
 use Rattle.tlbox.specs.declared.stop.SchemaCause.{SchemaCause}
-use Rattle.tlbox.specs.declared.stop.SchemaCause.TheVariants.{TextTooLong, BadByte, OpenComment, NotYetBuilt}
+use Rattle.tlbox.specs.declared.stop.SchemaCause.TheVariants.{TextTooLong, BadByte, OpenComment, Unexpected, NotProfile, TooMany, NotYetBuilt}
 use Rattle.tlbox.specs.Shown.{line_text}
 use Rattle.tlbox.specs.Answer.{Answer, done, refused, schema_line, type_line, input_line, cause_text}
 
@@ -30,8 +31,8 @@ pub record IsSchemaText (text : List ℕ) (schema : Declared) : Type 0 where
   pub program : List DeclText
   pub lexed : Tokens text tokens
   pub parsed : Reads text tokens program
-  pub checked : Accepted program
-  pub schema_is : schema ≡ declared program
+  pub checked : IsSchemaProgram program
+  pub schema_is : schema ≡ declared_by program
   pub sound : IsSchema schema.decls
 
 -- the text is refused for this cause: as it is read, as its tokens are, or by the checks
@@ -39,8 +40,10 @@ pub data SchemaRefused (text : List ℕ) : SchemaCause → Type 0 where
   too_long : LexRefused text lex.TextTooLong → SchemaRefused text TextTooLong
   bad_byte : (at : ℕ) → LexRefused text (lex.BadByte at) → SchemaRefused text (BadByte at)
   open_comment : (at : ℕ) → LexRefused text (lex.OpenComment at) → SchemaRefused text (OpenComment at)
-  by_tokens : (tokens : List Token) → Tokens text tokens → SyntaxRefused text tokens syntax.NotYetBuilt → SchemaRefused text NotYetBuilt
-  by_checks : (tokens : List Token) (program : List DeclText) → Tokens text tokens → Reads text tokens program → CheckRefused program → SchemaRefused text NotYetBuilt
+  unexpected : (tokens : List Token) (at : ℕ) → Tokens text tokens → SyntaxRefused text tokens (syntax.Unexpected at) → SchemaRefused text (Unexpected at)
+  not_profile : (tokens : List Token) (at : ℕ) (form : Form) → Tokens text tokens → SyntaxRefused text tokens (syntax.NotProfile at form) → SchemaRefused text (NotProfile at form)
+  too_many : (tokens : List Token) (at : ℕ) → Tokens text tokens → SyntaxRefused text tokens (syntax.TooMany at) → SchemaRefused text (TooMany at)
+  by_checks : (tokens : List Token) (program : List DeclText) → Tokens text tokens → Reads text tokens program → NoSchemaProgram program → SchemaRefused text NotYetBuilt
 
 -- ---- decode
 

@@ -14,7 +14,7 @@ use Rattle.tlbox.specs.declared.whole.InputFault.TheVariants as input
 use Rattle.update_replay.specs.declared.replay.ReplayFault.{ReplayFault}
 use Rattle.update_replay.specs.declared.replay.ReplayFault.TheVariants as replay
 use Rattle.tlbox.specs.declared.stop.SchemaCause.TheVariants as schema
-use Rattle.tlbox.specs.declared.stop.SchemaCause.TheVariants.{TextTooLong, BadByte, OpenComment}
+use Rattle.tlbox.specs.declared.stop.SchemaCause.TheVariants.{TextTooLong, BadByte, OpenComment, Unexpected, NotProfile, TooMany}
 use Rattle.tlbox.specs.declared.stop.JournalCause.TheVariants.{NotYetBuilt, TooLong, NoPacket}
 use Rattle.tlbox.specs.declared.stop.Refusal.TheVariants.{Schema, TypeName, Input, Trailing, Journal}
 use Rattle.tlbox.specs.declared.stop.Stop.{Stop}
@@ -31,7 +31,9 @@ of_lex (lex.OpenComment at) = Refused (Schema (OpenComment at))
 of_lex lex.Memory = Memory
 
 abbrev pub of_syntax : SyntaxFault → Stop
-of_syntax syntax.NotYetBuilt = Refused (Schema schema.NotYetBuilt)
+of_syntax (syntax.Unexpected at) = Refused (Schema (Unexpected at))
+of_syntax (syntax.NotProfile at form) = Refused (Schema (NotProfile at form))
+of_syntax (syntax.TooMany at) = Refused (Schema (TooMany at))
 of_syntax syntax.Memory = Memory
 
 abbrev pub of_check : CheckFault → Stop

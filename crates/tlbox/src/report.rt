@@ -2,7 +2,7 @@
 ghost use Rattle.std.specs.Prelude.{◌≡◌, ◌≤◌, IfOk, string_bytes, codes};
 ghost use Rattle.tl_base.specs.Calls.{Told};
 ghost use Rattle.tl_base.specs.Causes.{Rose};
-ghost use Rattle.tlbox.specs.Answer.{cause_text, schema_place, schema_line, input_line, journal_line};
+ghost use Rattle.tlbox.specs.Answer.{cause_text, placed_line, form_name, schema_line};
 ghost use Rattle.tlbox.specs.Jobs.{journal_cause_text, refusal_line, Reports, TellsLine};
 
 use crate::files::put;
@@ -10,6 +10,7 @@ use crate::status::Status;
 use crate::stop::{JournalCause, Refusal, SchemaCause, Stop};
 use std::alloc::{AllocError, Global};
 use tl_base::{Host, Out};
+use tl_combinators::Form;
 use tl_types::Cause;
 
 // A cause, and its values.
@@ -27,11 +28,28 @@ fn cause_name(alloc: Global, cause: Cause) -> Result<String, AllocError>
     }
 }
 
-// The line of a schema's text that is refused at a place.
-fn schema_place_line(alloc: Global, at: u32, why: &str) -> Result<String, AllocError>
-    ensures { IfOk result (λ s. string_bytes s ≡ schema_place at why.now) }
+// The name of a form that is left out.
+fn form_name(form: Form) -> &'static str
+    ensures { result.now ≡ form_name form }
 {
-    let mut line = format!(in alloc; "tlbox: schema {at} ")?;
+    match form {
+        Form::DependentNumber => "DependentNumber",
+        Form::Multiplicity => "Multiplicity",
+        Form::Lifecycle => "Lifecycle",
+        Form::PartialApplication => "PartialApplication",
+        Form::Anonymous => "Anonymous",
+        Form::ObjectType => "ObjectType",
+        Form::UnnamedField => "UnnamedField",
+        Form::CallInConstructor => "CallInConstructor",
+        Form::VectorNumber => "VectorNumber",
+    }
+}
+
+// The line of what is refused at a place.
+fn placed_line_of(alloc: Global, what: &str, place: u64, why: &str) -> Result<String, AllocError>
+    ensures { IfOk result (λ s. string_bytes s ≡ placed_line what.now place why.now) }
+{
+    let mut line = format!(in alloc; "tlbox: {what} {place} ")?;
     line.push_str(why)?;
     line.push_str("\n")?;
     Ok(line)
@@ -43,20 +61,22 @@ fn schema_line_of(alloc: Global, cause: SchemaCause) -> Result<String, AllocErro
 {
     match cause {
         SchemaCause::TextTooLong => String::from_str(alloc, "tlbox: schema - TextTooLong\n"),
-        SchemaCause::BadByte { at } => schema_place_line(alloc, at, "BadByte"),
-        SchemaCause::OpenComment { at } => schema_place_line(alloc, at, "OpenComment"),
+        SchemaCause::BadByte { at } => placed_line_of(alloc, "schema", at as u64, "BadByte"),
+        SchemaCause::OpenComment { at } => placed_line_of(
+            alloc,
+            "schema",
+            at as u64,
+            "OpenComment",
+        ),
+        SchemaCause::Unexpected { at } => placed_line_of(alloc, "schema", at as u64, "Unexpected"),
+        SchemaCause::NotProfile { at, form } => {
+            let mut why = String::from_str(alloc, "NotProfile ")?;
+            why.push_str(form_name(form))?;
+            placed_line_of(alloc, "schema", at as u64, why.as_str())
+        }
+        SchemaCause::TooMany { at } => placed_line_of(alloc, "schema", at as u64, "TooMany"),
         SchemaCause::NotYetBuilt => String::from_str(alloc, "tlbox: schema - NotYetBuilt\n"),
     }
-}
-
-// The line of an input that is refused at a place.
-fn input_line_of(alloc: Global, place: u64, why: &str) -> Result<String, AllocError>
-    ensures { IfOk result (λ s. string_bytes s ≡ input_line place why.now) }
-{
-    let mut line = format!(in alloc; "tlbox: input {place} ")?;
-    line.push_str(why)?;
-    line.push_str("\n")?;
-    Ok(line)
 }
 
 // Why a journal is refused, and its values.
@@ -70,16 +90,6 @@ fn journal_cause_name(alloc: Global, cause: JournalCause) -> Result<String, Allo
     }
 }
 
-// The line of a journal that is refused at a place.
-fn journal_line_of(alloc: Global, place: u64, why: &str) -> Result<String, AllocError>
-    ensures { IfOk result (λ s. string_bytes s ≡ journal_line place why.now) }
-{
-    let mut line = format!(in alloc; "tlbox: journal {place} ")?;
-    line.push_str(why)?;
-    line.push_str("\n")?;
-    Ok(line)
-}
-
 // The line of a refusal.
 fn line_of(alloc: Global, refusal: Refusal) -> Result<String, AllocError>
     ensures { IfOk result (λ s. string_bytes s ≡ refusal_line refusal) }
@@ -90,12 +100,12 @@ fn line_of(alloc: Global, refusal: Refusal) -> Result<String, AllocError>
         Refusal::Profile => String::from_str(alloc, "tlbox: profile - NotYetBuilt\n"),
         Refusal::Input { place, cause } => {
             let why = cause_name(alloc, cause)?;
-            input_line_of(alloc, place, why.as_str())
+            placed_line_of(alloc, "input", place, why.as_str())
         }
-        Refusal::Trailing { place } => input_line_of(alloc, place, "Trailing"),
+        Refusal::Trailing { place } => placed_line_of(alloc, "input", place, "Trailing"),
         Refusal::Journal { place, cause } => {
             let why = journal_cause_name(alloc, cause)?;
-            journal_line_of(alloc, place, why.as_str())
+            placed_line_of(alloc, "journal", place, why.as_str())
         }
     }
 }

@@ -3,7 +3,7 @@ use crate::whole::InputFault;
 use std::alloc::AllocError;
 use thiserror::Error;
 use tl_base::{TextFault, WriteFault};
-use tl_combinators::SyntaxFault;
+use tl_combinators::{Form, SyntaxFault};
 use tl_lexer::LexFault;
 use tl_types::{Cause, CheckFault, TypeFault};
 use update_replay::ReplayFault;
@@ -37,7 +37,16 @@ pub enum SchemaCause {
     /// The comment that begins at this place is never closed.
     #[error("the comment at {at} is open")]
     OpenComment { at: u32 },
-    /// Its tokens or declarations are not of the plain form.
+    /// No rule of the grammar admits the token at this place, or the end of the text.
+    #[error("unexpected at {at}")]
+    Unexpected { at: u32 },
+    /// A form of the language that is left out stands at this place.
+    #[error("a form that is left out at {at}: {form:?}")]
+    NotProfile { at: u32, form: Form },
+    /// One item more than there may be begins at this place.
+    #[error("one too many at {at}")]
+    TooMany { at: u32 },
+    /// Its declarations are no plain schema.
     #[error("not yet built")]
     NotYetBuilt,
 }
@@ -110,8 +119,14 @@ impl From<SyntaxFault> for Stop {
 
     fn from(fault: SyntaxFault) -> Stop {
         match fault {
-            SyntaxFault::NotYetBuilt => Stop::Refused(Refusal::Schema {
-                cause: SchemaCause::NotYetBuilt,
+            SyntaxFault::Unexpected { at } => Stop::Refused(Refusal::Schema {
+                cause: SchemaCause::Unexpected { at },
+            }),
+            SyntaxFault::NotProfile { at, form } => Stop::Refused(Refusal::Schema {
+                cause: SchemaCause::NotProfile { at, form },
+            }),
+            SyntaxFault::TooMany { at } => Stop::Refused(Refusal::Schema {
+                cause: SchemaCause::TooMany { at },
             }),
             SyntaxFault::Memory => Stop::Memory,
         }

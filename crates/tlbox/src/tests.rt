@@ -186,7 +186,7 @@ type Case = (
     &'static str,
 );
 
-const TABLE: [Case; 43] = [
+const TABLE: [Case; 45] = [
     (
         "a#00000001 x:int = A;",
         "A",
@@ -385,7 +385,27 @@ const TABLE: [Case; 43] = [
     (SHAPES, "Vector", "15c4b51c", Status::Refused, TYPE_LINE),
     ("", "Point", POINT_BYTES, Status::Refused, TYPE_LINE),
     (" \t\r\n", "Point", POINT_BYTES, Status::Refused, TYPE_LINE),
-    (";", "Point", POINT_BYTES, Status::Refused, SCHEMA_LINE),
+    (
+        ";",
+        "Point",
+        POINT_BYTES,
+        Status::Refused,
+        "tlbox: schema 0 Unexpected\n",
+    ),
+    (
+        "a#1 X:int = A; // seven zeros less",
+        "A",
+        "0100000005000000",
+        Status::Done,
+        "{\"X\":5,\"_\":\"a\"}\n",
+    ),
+    (
+        "---types--- a#00000001 x:(int) = (A);",
+        "A",
+        "0100000005000000",
+        Status::Done,
+        "{\"_\":\"a\",\"x\":5}\n",
+    ),
     (
         "a#00000001 x:int = A; // a",
         "A",
@@ -433,43 +453,76 @@ fn table(rt: HostRuntime) -> Result<(), Fail> {
     Ok(())
 }
 
-// Schemas that are refused: each is `a#00000001 x:int = A;` with one fault.
-const REFUSED: [&str; 28] = [
-    "a#00000001 x:int? = A;",
-    "---functions--- a#00000001 x:int = A;",
-    "a#00000001 x:int = A",
-    "a#00000001 x:int = A;;",
-    "a#00000001 x:int A;",
-    "a#00000001 x:int = ;",
-    "a#00000001 x:int = A B;",
-    "a x:int = A;",
-    "a#0000001 x:int = A;",
-    "a#000000001 x:int = A;",
-    "a#0000000A x:int = A;",
-    "a#0000000g x:int = A;",
-    "a #00000001 x:int = A;",
-    "a# 00000001 x:int = A;",
-    "a#00000001 x:string = A;",
-    "a#00000001 x = A;",
-    "a#00000001 int = A;",
-    "A#00000001 x:int = A;",
-    "a#00000001 X:int = A;",
-    "a#00000001 x:int = a;",
-    "a#00000001 x:int = Vector;",
-    "a#00000001 x:int = Object;",
-    "int#00000001 x:int = A;",
-    "a#00000001 x:int = A; a#00000002 x:int = A;",
-    "a#00000001 x:int = A; b#00000001 x:int = A;",
-    "a#00000001 x:int x:long = A;",
-    "a#00000001 x:int = A; b#3072cfa1 = A;",
-    "a#00000001 x:int = A; b#1cb5c415 = A;",
+// Schemas that are refused, and their lines: each is `a#00000001 x:int = A;` with one fault.
+const REFUSED: [(&str, &str); 34] = [
+    ("a#00000001 x:int? = A;", "tlbox: schema 16 Unexpected\n"),
+    ("a#00000001 x:int = A", "tlbox: schema 20 Unexpected\n"),
+    ("a#00000001 x:int = A;;", "tlbox: schema 21 Unexpected\n"),
+    ("a#00000001 x:int = ;", "tlbox: schema 19 Unexpected\n"),
+    ("a#000000001 x:int = A;", "tlbox: schema 2 Unexpected\n"),
+    ("a#0000000A x:int = A;", "tlbox: schema 2 Unexpected\n"),
+    ("a#0000000g x:int = A;", "tlbox: schema 2 Unexpected\n"),
+    ("a# 00000001 x:int = A;", "tlbox: schema 3 Unexpected\n"),
+    ("int#00000001 x:int = A;", "tlbox: schema 13 Unexpected\n"),
+    ("a x:[ int ] = A;", "tlbox: schema 4 Unexpected\n"),
+    (
+        "a {n:#} = A;",
+        "tlbox: schema 5 NotProfile DependentNumber\n",
+    ),
+    (
+        "a [ int ] = A;",
+        "tlbox: schema 2 NotProfile Multiplicity\n",
+    ),
+    ("New = A;", "tlbox: schema 0 NotProfile Lifecycle\n"),
+    (
+        "A#00000001 x:int = A;",
+        "tlbox: schema 0 NotProfile PartialApplication\n",
+    ),
+    ("_ = A;", "tlbox: schema 0 NotProfile Anonymous\n"),
+    (
+        "a#00000001 x:int = Object;",
+        "tlbox: schema 19 NotProfile ObjectType\n",
+    ),
+    (
+        "a #00000001 x:int = A;",
+        "tlbox: schema 2 NotProfile UnnamedField\n",
+    ),
+    (
+        "a#00000001 x = A;",
+        "tlbox: schema 11 NotProfile UnnamedField\n",
+    ),
+    (
+        "a#00000001 x:int A;",
+        "tlbox: schema 17 NotProfile UnnamedField\n",
+    ),
+    (
+        "a x:!X = A;",
+        "tlbox: schema 4 NotProfile CallInConstructor\n",
+    ),
+    (
+        "vector#1 {t:Type} # [ t ] = Vector t;",
+        "tlbox: schema 7 NotProfile VectorNumber\n",
+    ),
+    ("a x:%%%%%%%%%%%%%%%%%A = A;", "tlbox: schema 20 TooMany\n"),
+    ("---functions--- a#00000001 x:int = A;", SCHEMA_LINE),
+    ("int ? = Int;", SCHEMA_LINE),
+    ("a#00000001 {X:Type} x:int = A;", SCHEMA_LINE),
+    ("n.a#00000001 x:int = A;", SCHEMA_LINE),
+    ("a x:int = A;", SCHEMA_LINE),
+    ("a#00000001 x:string = A;", SCHEMA_LINE),
+    ("a#00000001 x:int = A B;", SCHEMA_LINE),
+    ("a#00000001 x:int = Vector;", SCHEMA_LINE),
+    ("a#00000001 x:int = A; a#00000002 x:int = A;", SCHEMA_LINE),
+    ("a#00000001 x:int = A; b#00000001 x:int = A;", SCHEMA_LINE),
+    ("a#00000001 x:int x:long = A;", SCHEMA_LINE),
+    ("a#00000001 x:int = A; b#1cb5c415 = A;", SCHEMA_LINE),
 ];
 
 #[test]
 fn schemas(rt: HostRuntime) -> Result<(), Fail> {
-    for (i, schema) in REFUSED.iter().enumerate() {
+    for (i, (schema, line)) in REFUSED.iter().enumerate() {
         let ended = decode_hex(rt.alloc(), schema, "A", "0100000005000000", None)?;
-        assert_ends(&rt, &ended, Status::Refused, SCHEMA_LINE, i);
+        assert_ends(&rt, &ended, Status::Refused, line, i);
     }
     Ok(())
 }
@@ -575,7 +628,7 @@ fn with_spaces(alloc: Global, size: usize) -> Result<Vec<u8>, AllocError> {
     Ok(text)
 }
 
-// The line has 8 bytes up to the fields, 9 for each field, and 2 behind them.
+// The line has 8 bytes up to the fields, 9 for each field, and 2 behind them. In the text the first field stands at 11.
 #[test]
 fn fields_limit(rt: HostRuntime) -> Result<(), Fail> {
     let mut input = vec![in rt.alloc(); 0u8; 1028]?;
@@ -588,7 +641,13 @@ fn fields_limit(rt: HostRuntime) -> Result<(), Fail> {
     let more = with_fields(rt.alloc(), 257)?;
     let host = host_of(rt.alloc(), more.as_bytes(), &input)?;
     let ended = decode_over(rt.alloc(), "A", host)?;
-    assert_ends(&rt, &ended, Status::Refused, SCHEMA_LINE, 257);
+    assert_ends(
+        &rt,
+        &ended,
+        Status::Refused,
+        "tlbox: schema 2315 TooMany\n",
+        257,
+    );
     Ok(())
 }
 

@@ -1,37 +1,25 @@
-use Rattle.std.proofs.Common.{ℕ, List, map, ap₂, rules}
-use Rattle.tl_combinators.specs.Program.{named, field_text}
+use Rattle.std.proofs.Common.{◌≡◌, ℕ, List, arith, sym, ap, ◌∙◌, Option}
+use Rattle.tl_lexer.proofs.Steps.{then_ok, then_err, as_err, here_ok}
+use Rattle.tl_combinators.specs.declared.built_in.BuiltIn.{BuiltIn}
+use Rattle.tl_combinators.specs.Tokens.{place}
+use Rattle.tl_combinators.specs.Names.{name_text}
+use Rattle.tl_combinators.specs.BuiltIns.{built_in}
 use Rattle.tl_combinators.specs.Declarations.{declaration}
-use Rattle.tl_lexer.proofs.Steps.{then_ok, then_err, as_err, gives_ok}
+use Rattle.tl_combinators.proofs.EqualDescriptions.{combinator_as, named_as, then_shown}
+use Rattle.tl_combinators.proofs.TokenParts.{taken_ok, taken_err}
 use Rattle.tl_combinators.proofs.declarations.declaration_at.Goals as goal
 
-pub returns-in_err-word-clause-read : goal.returns-in_err-word-clause-read
-unfolding declaration
-returns-in_err-word-clause-read c = as_err c.from_residual.ensures.1 (then_err _ c.in_err-word.ensures.read)
+named_by : (bytes name : List ℕ) (o p : Option BuiltIn) → bytes ≡ name → o ≡ built_in bytes → o ≡ p → built_in name ≡ p
+named_by bytes name o p e f g = sym (f ∙ ap built_in e) ∙ g
 
-pub returns-in_err-hash-clause-read : goal.returns-in_err-hash-clause-read
+pub returns-in_err-name-clause-read : goal.returns-in_err-name-clause-read
 unfolding declaration
-returns-in_err-hash-clause-read c = as_err c.from_residual-in_err-hash.ensures.1 (then_ok _ c.in_ok-word.ensures.read (then_err _ c.in_err-hash.ensures.read))
+returns-in_err-name-clause-read c = as_err c.from_residual.ensures.1 (then_ok _ (here_ok (place c.args.text.now) c.place_at.result _ c.place_at.ensures) (then_err _ (taken_err c.in_err-name.ensures.read)))
 
-pub returns-in_err-number-clause-read : goal.returns-in_err-number-clause-read
+pub returns-in-Some-clause-read : goal.returns-in-Some-clause-read
 unfolding declaration
-returns-in_err-number-clause-read c = as_err c.from_residual-in_err-number.ensures.1 (then_ok _ c.in_ok-word.ensures.read (then_ok _ c.in_ok-hash.ensures.read (then_err _ c.in_err-number.ensures.read)))
+returns-in-Some-clause-read c = then_ok _ (here_ok (place c.args.text.now) c.place_at.result _ c.place_at.ensures) (then_ok _ (taken_ok c.args.tokens.now c.args.at.now c.declared_name_at.new.at (omega (arith, c.in_ok-name.ensures.on)) c.in_ok-name.ensures.read) (named_as c.args.text.now c.args.function (name_text c.in_ok-name.name) _ (built_in c.in_ok-name.name.bytes) (named_by _ _ _ _ c.as_slice.ensures.value c.built_in.ensures c.in-Some.is) c.built_in_line_at.ensures.read))
 
-pub returns-in_err-fields-clause-read : goal.returns-in_err-fields-clause-read
+pub returns-in-None-clause-read : goal.returns-in-None-clause-read
 unfolding declaration
-returns-in_err-fields-clause-read c = as_err c.from_residual-in_err-fields.ensures.1 (then_ok _ c.in_ok-word.ensures.read (then_ok _ c.in_ok-hash.ensures.read (then_ok _ c.in_ok-number.ensures.read (then_err _ c.in_err-fields.ensures.read))))
-
-pub returns-in_err-take_token-clause-read : goal.returns-in_err-take_token-clause-read
-unfolding declaration
-returns-in_err-take_token-clause-read c = as_err c.from_residual-in_err-take_token.ensures.1 (then_ok _ c.in_ok-word.ensures.read (then_ok _ c.in_ok-hash.ensures.read (then_ok _ c.in_ok-number.ensures.read (then_ok _ c.in_ok-fields.ensures.read (then_err _ c.in_err-take_token.ensures.read)))))
-
-pub returns-in_err-of-clause-read : goal.returns-in_err-of-clause-read
-unfolding declaration
-returns-in_err-of-clause-read c = as_err c.from_residual-in_err-of.ensures.1 (then_ok _ c.in_ok-word.ensures.read (then_ok _ c.in_ok-hash.ensures.read (then_ok _ c.in_ok-number.ensures.read (then_ok _ c.in_ok-fields.ensures.read (then_ok _ c.in_ok-take_token.ensures.read (then_err _ c.in_err-of.ensures.read))))))
-
-pub returns-in_err-take_token-2-clause-read : goal.returns-in_err-take_token-2-clause-read
-unfolding declaration
-returns-in_err-take_token-2-clause-read c = as_err c.from_residual-in_err-take_token-2.ensures.1 (then_ok _ c.in_ok-word.ensures.read (then_ok _ c.in_ok-hash.ensures.read (then_ok _ c.in_ok-number.ensures.read (then_ok _ c.in_ok-fields.ensures.read (then_ok _ c.in_ok-take_token.ensures.read (then_ok _ c.in_ok-of.ensures.read (then_err _ c.in_err-take_token-2.ensures.read)))))))
-
-pub returns-clause-read : goal.returns-clause-read
-unfolding declaration
-returns-clause-read c = then_ok _ c.in_ok-word.ensures.read (then_ok _ c.in_ok-hash.ensures.read (then_ok _ c.in_ok-number.ensures.read (then_ok _ c.in_ok-fields.ensures.read (then_ok _ c.in_ok-take_token.ensures.read (then_ok _ c.in_ok-of.ensures.read (then_ok _ c.in_ok-take_token-2.ensures.read (gives_ok (ap₂ (λ (v w : List ℕ). record { name = v; number = c.in_ok-number.number; fields = map field_text c.in_ok-fields.fields.items; result = named w }) (search rules) (search rules)))))))))
+returns-in-None-clause-read c = then_ok _ (here_ok (place c.args.text.now) c.place_at.result _ c.place_at.ensures) (then_ok _ (taken_ok c.args.tokens.now c.args.at.now c.declared_name_at.new.at (omega (arith, c.in_ok-name.ensures.on)) c.in_ok-name.ensures.read) (named_as c.args.text.now c.args.function (name_text c.in_ok-name.name) _ (built_in c.in_ok-name.name.bytes) (named_by _ _ _ _ c.as_slice.ensures.value c.built_in.ensures c.in-None.is) (combinator_as c.args.text.now c.args.function (name_text c.in_ok-name.name) (then_shown c.args.text.now c.args.tokens.now c.args.at.now c.declared_name_at.new.at c.new-described.ensures c.in_ok-show_all.ensures) c.combinator_at.ensures.read)))

@@ -1,5 +1,8 @@
-use Rattle.tl_combinators.proofs.WholeProgram.{one_reading}
+use Rattle.tl_combinators.proofs.OneProgram.{one_program, one_type}
 use Rattle.tl_combinators.proofs.law.each_list_of_tokens_is_read_or_refused.Goals as goal
 
-pub returns : goal.returns
-returns c = one_reading
+pub returns-clause-programs : goal.returns-clause-programs
+returns-clause-programs c = one_program
+
+pub returns-clause-types : goal.returns-clause-types
+returns-clause-types c = one_type
