@@ -22,7 +22,7 @@ module _ (P : ℕ → Type 0) (test : (k : ℕ) → Decided (P k)) where
   below_more n (inr m) (inl h) = inl (h.0, omega (arith, h.1), h.2)
   below_more n (inr m) (inr none) = inr (λ h. elim (cases_eq h.0 n) [ inl e ↦ m (subst P e h.2) | inr other ↦ none (h.0, omega (arith, h.1, other), h.2) ])
 
-  below_decided : (n : ℕ) → Decided ((k : ℕ) × (k < n) × P k)
+  pub below_decided : (n : ℕ) → Decided ((k : ℕ) × (k < n) × P k)
   below_decided zero = inr (λ h. omega (arith, h.1))
   below_decided (suc n) = below_more n (test n) (below_decided n)
 
@@ -31,7 +31,7 @@ module _ {X : Type 0} (eq : X → X → Bool) (same : (x y : X) → Decides (eq 
   repeat_at xs k None at = inr (λ r. none-some r.item (sym at ∙ r.here))
   repeat_at xs k (Some x) at = elim (cases_Bool (list_any (eq x) (take k xs))) [ inl h ↦ inl (repeat_found eq same xs k x at h) | inr h ↦ inr (repeat_not_found eq same xs k x at h) ]
 
-  repeat_decided : (xs : List X) (k : ℕ) → Decided (IsRepeat xs k)
+  pub repeat_decided : (xs : List X) (k : ℕ) → Decided (IsRepeat xs k)
   repeat_decided xs k = repeat_at xs k (slice_get xs k) refl
 
 taken_decided : (number : ℕ) → Decided (IsTaken number)

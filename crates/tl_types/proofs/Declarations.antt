@@ -18,7 +18,7 @@ use Rattle.tl_types.specs.Seen.{declaration}
 use Rattle.tl_types.specs.declared.schema.Entry.{Entry}
 use Rattle.tl_types.specs.declared.checks.Known.{Known}
 use Rattle.tl_types.specs.declared.fault.CheckFault.{CheckFault}
-use Rattle.tl_types.specs.declared.fault.CheckFault.TheVariants.{NotYetBuilt, Memory}
+use Rattle.tl_types.specs.declared.fault.CheckFault.TheVariants.{Refused, NotYetBuilt, Memory}
 use Rattle.tl_types.proofs.Maps.{slice_get_made, take_push, map_take_same}
 use Rattle.tl_types.proofs.Repeats.{repeat_found, repeat_not_found, one_place}
 use Rattle.tl_types.proofs.TypeNames.{place_kept, there_kept, there_now, few_more}
@@ -28,6 +28,7 @@ pub same_declaration : {m n : List ℕ} (number : ℕ) {h i : ℕ} {fs gs : List
 same_declaration number names heads fields = λ j. record { name = names j; number = number; head = heads j; fields = fields j }
 
 pub fields_fault : (old : Known) (d : PlainDecl) (fault : CheckFault) → steps.IsFieldsFault d.fields fault → steps.IsDeclFault old d fault
+fields_fault old d (Refused k cause) h = absurd h
 fields_fault old d NotYetBuilt h = steps.old_field h.0 h.1
 fields_fault old d Memory h = tt
 
@@ -54,6 +55,7 @@ module _ (ds : List PlainDecl) (i : ℕ) (d : PlainDecl) (old : Known) (made : L
   faulty (steps.old_field k r) = same_field d k at r
 
   pub refused : (fault : CheckFault) → steps.IsDeclFault old d fault → ChecksPlain ds (Err fault)
+  refused (Refused k cause) h = absurd h
   refused NotYetBuilt h = (i, faulty h)
   refused Memory h = tt
 

@@ -1,10 +1,4 @@
-mod Maps
-mod NameKeys
-mod Repeats
-mod TypeNames
-mod Fields
 pub mod Declarations
-mod Finding
 pub mod Alls
 pub mod PlainPrograms
 pub mod Deciding
@@ -16,3 +10,45 @@ pub mod Refusal
 pub mod Reading
 pub mod Exactly
 pub mod Rows
+pub mod Places
+pub mod NamedEntries
+pub mod IndexSteps
+pub mod LastWords
+pub mod PartsOfOne
+pub mod UnknownParts
+pub mod BareParts
+pub mod AppliedTypes
+pub mod FirstPlaces
+pub mod SameNames
+pub mod Results
+pub mod FieldConditions
+mod Maps
+mod NameKeys
+mod Repeats
+mod TypeNames
+mod Fields
+mod Finding
+mod ArityCases
+mod CountedDeclarations
+mod CountedNames
+mod ListParts
+mod Misapplied
+mod NoneSoFar
+mod WrongDeclarations
+pub mod Calls
+pub mod NamedVariables
+pub mod UnknownVariables
+pub mod Firsts
+pub mod PlacesDecided
+pub mod TypesDecided
+pub mod WritingDecided
+pub mod SameNameFirst
+pub mod UnknownTypeFirst
+pub mod UnknownVariableFirst
+pub mod BadResultFirst
+pub mod NotBareFirst
+pub mod BadFlagFirst
+pub mod OneArity
+pub mod WrongArityFirst
+pub mod CheckSequence
+pub mod CheckOrder

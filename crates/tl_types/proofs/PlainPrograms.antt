@@ -1,5 +1,5 @@
 -- Plain programs.
-use Rattle.std.proofs.Common.{◌≡◌, ℕ, ◌<◌, ◌≤◌, ◌^◌, true, List, length, map, slice_get, Option, None, Some, refl, sym, ap, ◌∙◌, subst, arith, leb-true, All}
+use Rattle.std.proofs.Common.{◌≡◌, ℕ, ◌<◌, ◌≤◌, ◌^◌, true, List, length, slice_get, Option, None, Some, refl, sym, ap, ◌∙◌, subst, arith, leb-true, All}
 use Rattle.std.specs.Option.{option_map, unwrap_or}
 use Rattle.std.proofs.lemmas.Bool.{and_parts}
 use Rattle.std.proofs.lemmas.List.Elements.{All-get_or}

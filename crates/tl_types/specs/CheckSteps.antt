@@ -9,9 +9,10 @@ use Rattle.tl_types.specs.declared.schema.SchemaField.{SchemaField}
 use Rattle.tl_types.specs.declared.schema.Entry.{Entry}
 use Rattle.tl_types.specs.declared.checks.Known.{Known}
 use Rattle.tl_types.specs.declared.fault.CheckFault.{CheckFault}
-use Rattle.tl_types.specs.declared.fault.CheckFault.TheVariants.{NotYetBuilt, Memory}
+use Rattle.tl_types.specs.declared.fault.CheckFault.TheVariants.{Refused, NotYetBuilt, Memory}
 
 abbrev pub IsFieldsFault : List PlainField → CheckFault → Type 0
+IsFieldsFault fs (Refused k cause) = ⊥
 IsFieldsFault fs NotYetBuilt = (k : ℕ) × IsRepeat (field_names fs) k
 IsFieldsFault fs Memory = Unit {0}
 
@@ -46,6 +47,7 @@ pub data IsFaulty (old : Known) (d : PlainDecl) : Type 0 where
   old_field : (k : ℕ) → IsRepeat (field_names d.fields) k → IsFaulty old d
 
 abbrev pub IsDeclFault : Known → PlainDecl → CheckFault → Type 0
+IsDeclFault old d (Refused k cause) = ⊥
 IsDeclFault old d NotYetBuilt = IsFaulty old d
 IsDeclFault old d Memory = Unit {0}
 

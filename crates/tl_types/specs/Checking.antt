@@ -1,8 +1,7 @@
 -- Checking: the programs that are schemas, and what such a program declares.
-use Rattle.std.specs.Prelude.{◌≡◌, ◌⊎◌, ℕ, ◌<◌, List, [], ◌∷◌, ◌++◌, map, fold, position, bytes_eq, codes, Option, Some, None, slice_get, Result, Ok, Err, true, false, if◌then◌else◌}
+use Rattle.std.specs.Prelude.{◌≡◌, ◌⊎◌, ℕ, ◌<◌, List, [], ◌∷◌, ◌++◌, map, fold, position, bytes_eq, codes, Option, Some, None, slice_get, Result, Ok, Err, if◌then◌else◌}
 use Rattle.std.specs.List.{list_any, position_or_len}
-use Rattle.tl_combinators.specs.Program.{DeclText}
-use Rattle.tl_types.specs.Plain.{PlainField, PlainDecl, is_plain_program, plain_program}
+use Rattle.tl_types.specs.Plain.{PlainField, PlainDecl}
 use Rattle.tl_types.specs.Types.{Shape, int, long, boxed}
 use Rattle.tl_types.specs.Schemas.{Slot, Declaration, Declared, packed_number, vector_number}
 use Rattle.tl_types.specs.Seen.{shape}
@@ -86,26 +85,9 @@ declared ds = record { decls = map (declaration_of (types_of ds)) ds; types = ty
 -- what a check of plain declarations answers
 abbrev pub ChecksPlain : List PlainDecl → Result Declared CheckFault → Type 0
 ChecksPlain ds (Ok schema) = Accepted ds × (schema ≡ declared ds)
+ChecksPlain ds (Err (check.Refused k cause)) = ⊥
 ChecksPlain ds (Err check.NotYetBuilt) = CheckRefused ds
 ChecksPlain ds (Err check.Memory) = Unit {0}
-
--- the program is a schema's: it is plain, and none of its declarations has a fault
-abbrev pub IsSchemaProgram : List DeclText → Type 0
-IsSchemaProgram ds = (is_plain_program ds ≡ true) × Accepted (plain_program ds)
-
--- what it declares
-abbrev pub declared_by : List DeclText → Declared
-declared_by ds = declared (plain_program ds)
-
--- the program is not plain, or one of its declarations has a fault
-abbrev pub NoSchemaProgram : List DeclText → Type 0
-NoSchemaProgram ds = (is_plain_program ds ≡ false) ⊎ ((is_plain_program ds ≡ true) × CheckRefused (plain_program ds))
-
--- what a check answers
-abbrev pub Checks : List DeclText → Result Declared CheckFault → Type 0
-Checks ds (Ok schema) = IsSchemaProgram ds × (schema ≡ declared_by ds)
-Checks ds (Err check.NotYetBuilt) = NoSchemaProgram ds
-Checks ds (Err check.Memory) = Unit {0}
 
 -- the type that a text names among the types
 abbrev pub NamesType : List (List ℕ) → List ℕ → Result TypeRef TypeFault → Type 0

@@ -2,12 +2,14 @@
 ghost use Rattle.std.specs.Prelude.{◌≡◌, ◌<◌, ◌^◌, ◌↔◌, IsTrue, length, map, IfOk, true};
 ghost use Rattle.tl_combinators.specs.Program.{program_text, decl_text, field_text};
 ghost use Rattle.tl_types.specs.Plain.{is_plain_program, plain_program, plain_decl, plain_field};
-ghost use Rattle.tl_types.specs.Checking.{Checks, ChecksPlain, IsTaken, shape_of};
+ghost use Rattle.tl_types.specs.Checking.{ChecksPlain, IsTaken, shape_of};
+ghost use Rattle.tl_types.specs.CheckedPrograms.{Checks};
 ghost use Rattle.tl_types.specs.CheckSteps.{ChecksDecl, ChecksFields};
 ghost use Rattle.tl_types.specs.Schemas.{IsSchema};
 ghost use Rattle.tl_types.specs.Seen.{shape};
 
 use crate::names::Names;
+use crate::pass_checks::pass_checks;
 use crate::plain::{is_plain_program, kind_name, type_name};
 use crate::{CheckFault, Entry, Schema, SchemaField, TypeRef};
 use indexmap::IndexSet;
@@ -29,9 +31,11 @@ struct Known {
 
 /// Checks a program, and makes the schema that it declares.
 pub fn check(alloc: Global, program: &Program) -> Result<Schema, CheckFault>
+    requires { length (program_text program.now) < 2 ^ 32 }
     ensures checks { Checks (program_text program.now) result }
     ensures sound { IfOk result (λ s. IsSchema s.decls) }
 {
+    pass_checks(alloc, program)?;
     if !is_plain_program(program) {
         return Err(CheckFault::NotYetBuilt);
     }

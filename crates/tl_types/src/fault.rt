@@ -2,10 +2,32 @@
 use std::alloc::{AllocError, AllocFailed};
 use thiserror::Error;
 
+/// What is wrong with a declaration, in the order of the checks.
+#[derive(Clone, Copy, Debug, PartialEq, Eq)]
+pub enum CheckCause {
+    /// A name that is taken, or a constructor of `Vector`.
+    SameName,
+    /// A type that no constructor makes, or the name of no constructor.
+    UnknownType,
+    /// A function's variable that doesn't stand in exactly one call, a call of no variable, or a variable in another field of a function.
+    UnknownVariable,
+    /// Another number of arguments than there are variables, or constructors of one type with different numbers of them.
+    WrongArity,
+    /// A constructor's result that is not a type's name followed by exactly its variables.
+    BadResult,
+    /// `%` before what has no bare form.
+    NotBare,
+    /// A condition on no earlier `#` field, or on a bit above 31.
+    BadFlag,
+}
+
 /// Why a program is no schema.
 #[derive(Clone, Copy, Debug, PartialEq, Eq, Error)]
 pub enum CheckFault {
-    /// Two constructors have one name or one number, two fields of a declaration have one name, or a number is one with a meaning of its own.
+    /// The first cause, in the order of the checks, that any declaration has; decl is the first declaration that has it, counted from 0.
+    #[error("declaration {decl} is refused: {cause:?}")]
+    Refused { decl: u32, cause: CheckCause },
+    /// The program passes the checks, but it is not plain, or two declarations have one number, or a number is one with a meaning of its own.
     #[error("the program is not yet built")]
     NotYetBuilt,
     #[error("out of memory")]

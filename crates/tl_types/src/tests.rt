@@ -1,4 +1,4 @@
-use crate::{CheckFault, Entry, Schema, TypeFault, TypeRef, check, type_of};
+use crate::{CheckCause, CheckFault, Entry, Schema, TypeFault, TypeRef, check, type_of};
 use std::alloc::{AllocError, Global};
 use std::test::Fail;
 use tl_base::Bytes;
@@ -62,11 +62,22 @@ fn program(alloc: Global, rows: &[Row]) -> Result<Program, AllocError> {
 
 fn checked(alloc: Global, rows: &[Row]) -> Result<Schema, CheckFault> {
     let program = program(alloc, rows)?;
+    if program.decls.len() > 16 {
+        return Err(CheckFault::Memory);
+    }
     check(alloc, &program)
 }
 
 fn is_refused(alloc: Global, rows: &[Row]) -> bool {
     matches!(checked(alloc, rows), Err(CheckFault::NotYetBuilt))
+}
+
+// Whether the declaration is refused for the cause.
+fn is_refused_for(alloc: Global, rows: &[Row], decl: u32, cause: CheckCause) -> bool {
+    match checked(alloc, rows) {
+        Err(fault) => fault == CheckFault::Refused { decl, cause },
+        Ok(_) => false,
+    }
 }
 
 const POINT: Row = Row {
@@ -204,9 +215,23 @@ fn refuses_each_fault(rt: HostRuntime) {
         result: "List",
         function: false,
     };
-    assert!(rt; is_refused(rt.alloc(), [POINT, same_name].as_slice()));
+    assert!(rt;
+        is_refused_for(
+            rt.alloc(),
+            [POINT, same_name].as_slice(),
+            1,
+            CheckCause::SameName
+        )
+    );
     assert!(rt; is_refused(rt.alloc(), [POINT, same_number].as_slice()));
-    assert!(rt; is_refused(rt.alloc(), [POINT, same_field].as_slice()));
+    assert!(rt;
+        is_refused_for(
+            rt.alloc(),
+            [POINT, same_field].as_slice(),
+            1,
+            CheckCause::SameName
+        )
+    );
     assert!(rt; is_refused(rt.alloc(), [packed].as_slice()));
     assert!(rt; is_refused(rt.alloc(), [vector].as_slice()));
 }
@@ -215,6 +240,7 @@ fn refuses_each_fault(rt: HostRuntime) {
 #[test]
 fn refuses_what_is_not_plain(rt: HostRuntime) {
     let function = Row {
+        name: "move",
         function: true,
         ..POINT
     };
@@ -230,18 +256,8 @@ fn refuses_what_is_not_plain(rt: HostRuntime) {
         fields: &[("x", "string")],
         ..POINT
     };
-    let vector = Row {
-        result: "Vector",
-        ..POINT
-    };
-    let bare = Row {
-        result: "point",
-        ..POINT
-    };
-    assert!(rt; is_refused(rt.alloc(), [function].as_slice()));
+    assert!(rt; is_refused(rt.alloc(), [POINT, function].as_slice()));
     assert!(rt; is_refused(rt.alloc(), [unnumbered].as_slice()));
     assert!(rt; is_refused(rt.alloc(), [two_words].as_slice()));
     assert!(rt; is_refused(rt.alloc(), [text_field].as_slice()));
-    assert!(rt; is_refused(rt.alloc(), [vector].as_slice()));
-    assert!(rt; is_refused(rt.alloc(), [bare].as_slice()));
 }

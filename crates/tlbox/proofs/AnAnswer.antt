@@ -20,7 +20,11 @@ use Rattle.tl_types.specs.Types.{boxed}
 use Rattle.tl_types.specs.Values.{Tree, depth}
 use Rattle.tl_types.specs.Schemas.{Declared}
 use Rattle.tl_types.specs.Plain.{PlainDecl, is_plain_program, plain_program, plain_decl}
-use Rattle.tl_types.specs.Checking.{Accepted, CheckRefused, types_of, declared_by, place}
+use Rattle.tl_types.specs.Checking.{Accepted, CheckRefused, types_of, place}
+use Rattle.tl_types.specs.CheckCauses.{Passes, RefusedAt}
+use Rattle.tl_types.specs.CheckedPrograms.{declared_by}
+use Rattle.tl_types.specs.declared.fault.CheckCause.{CheckCause}
+use Rattle.tl_types.proofs.CheckOrder.{passed_or_refused}
 use Rattle.tl_types.specs.Spelling.{Spells}
 use Rattle.tl_types.proofs.Declarations.{accepted_schema}
 use Rattle.tl_types.proofs.PlainPrograms.{few_plain, plain_fit}
@@ -30,9 +34,9 @@ use Rattle.update_replay.specs.declared.profile.TheConstants.{PROFILE_TEXT}
 use Rattle.update_replay.proofs.Deciding.{each_replayed}
 use Rattle.tl_lexer.specs.declared.fault.LexFault.TheVariants as lex
 use Rattle.tlbox.specs.declared.stop.SchemaCause.{SchemaCause}
-use Rattle.tlbox.specs.declared.stop.SchemaCause.TheVariants.{TextTooLong, BadByte, OpenComment, Unexpected, NotProfile, TooMany, NotYetBuilt}
+use Rattle.tlbox.specs.declared.stop.SchemaCause.TheVariants.{TextTooLong, BadByte, OpenComment, Unexpected, NotProfile, TooMany, Checked, NotYetBuilt}
 use Rattle.tlbox.specs.Answer.{Answer, IsOperand, AskDecode, AskReplay}
-use Rattle.tlbox.specs.DecodeAnswers.{IsSchemaText, SchemaRefused, too_long, bad_byte, open_comment, unexpected, not_profile, too_many, by_checks, OfInput, whole, longer, faulty, OfType, unknown, named, OfSchema, no_schema, schema_of, DecodeAnswer}
+use Rattle.tlbox.specs.DecodeAnswers.{IsSchemaText, SchemaRefused, too_long, bad_byte, open_comment, unexpected, not_profile, too_many, checked, by_checks, OfInput, whole, longer, faulty, OfType, unknown, named, OfSchema, no_schema, schema_of, DecodeAnswer}
 use Rattle.tlbox.specs.ReplayAnswers.{OfProfile, other_text, profile_text, ReplayAnswer}
 use Rattle.tlbox.specs.Answers.{no_row, decode, replay, Asks, nothing, to_decode, to_replay, IsFile, HasAnAnswer}
 use Rattle.tlbox.proofs.Loading.{file_bytes}
@@ -48,24 +52,28 @@ module _ (text : List ℕ) where
 
   -- the tokens read as these declarations
   module _ (ts : List Token) (ds : List DeclText) (t : Tokens text ts) (r : Reads text ts ds) where
-    plain_checks : is_plain_program ds ≡ true → Accepted (plain_program ds) ⊎ CheckRefused (plain_program ds) → Read
-    plain_checks plain (inl accepts) = inl (
+    plain_checks : Passes ds → is_plain_program ds ≡ true → Accepted (plain_program ds) ⊎ CheckRefused (plain_program ds) → Read
+    plain_checks passes plain (inl accepts) = inl (
       declared_by ds,
       record {
         tokens = ts;
         program = ds;
         lexed = t;
         parsed = r;
-        checked = (plain, accepts);
+        passed = record { passes = passes; plain = plain; accepted = accepts };
         schema_is = refl;
         sound = accepted_schema (types_of (plain_program ds)) (plain_program ds) accepts (few_plain ds plain) (plain_fit ds (numbers_fit text ts ds r));
       },
     )
-    plain_checks plain (inr refused) = inr (NotYetBuilt, by_checks ts ds t r (inr (plain, refused)))
+    plain_checks passes plain (inr refused) = inr (NotYetBuilt, by_checks ts ds t r (record { passes = passes; other = inr (plain, refused) }))
 
-    checks : (is_plain_program ds ≡ true) ⊎ (is_plain_program ds ≡ false) → Read
-    checks (inl plain) = plain_checks plain (each_checked (plain_program ds))
-    checks (inr other) = inr (NotYetBuilt, by_checks ts ds t r (inl other))
+    passed : Passes ds → (is_plain_program ds ≡ true) ⊎ (is_plain_program ds ≡ false) → Read
+    passed passes (inl plain) = plain_checks passes plain (each_checked (plain_program ds))
+    passed passes (inr other) = inr (NotYetBuilt, by_checks ts ds t r (record { passes = passes; other = inl other }))
+
+    checks : Passes ds ⊎ ((k : ℕ) × (c : CheckCause) × RefusedAt ds k c) → Read
+    checks (inl passes) = passed passes (cases_Bool (is_plain_program ds))
+    checks (inr (k, c, has)) = inr (Checked k c, checked ts ds k c t r has)
 
   faults : (ts : List Token) (f : SyntaxFault) → Tokens text ts → SyntaxRefused text ts f → Read
   faults ts (syntax.Unexpected at) t r = inr (Unexpected at, unexpected ts at t r)
@@ -74,7 +82,7 @@ module _ (text : List ℕ) where
   faults ts syntax.Memory t r = absurd (no_memory_of_tokens text ts r)
 
   parses : (ts : List Token) → Tokens text ts → ((ds : List DeclText) × Reads text ts ds) ⊎ ((f : SyntaxFault) × SyntaxRefused text ts f) → Read
-  parses ts t (inl (ds, r)) = checks ts ds t r (cases_Bool (is_plain_program ds))
+  parses ts t (inl (ds, r)) = checks ts ds t r (passed_or_refused ds)
   parses ts t (inr (f, r)) = faults ts f t r
 
   lexes : HasTokens text ⊎ TextRefused text → Read

@@ -16,3 +16,4 @@ pub mod Lines
 pub mod Endings
 pub mod OneFault
 pub mod AnAnswer
+pub mod FewDeclarations

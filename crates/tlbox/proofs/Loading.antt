@@ -18,7 +18,7 @@ use Rattle.tl_combinators.specs.Program.{DeclText}
 use Rattle.tl_combinators.specs.Sentences.{Reads, SyntaxRefused, FaultIs}
 use Rattle.tl_types.specs.Types.{Shape}
 use Rattle.tl_types.specs.Schemas.{Declared, Declaration}
-use Rattle.tl_types.specs.Checking.{Checks}
+use Rattle.tl_types.specs.CheckedPrograms.{Checks}
 use Rattle.tl_types.specs.declared.fault.CheckFault.{CheckFault}
 use Rattle.tl_types.specs.declared.fault.CheckFault.TheVariants as check
 use Rattle.tl_types.specs.declared.value.Value.{Value}
@@ -33,8 +33,8 @@ use Rattle.tl_lexer.specs.Lexed.{Lexes}
 use Rattle.tlbox.specs.Stops.{of_text, of_lex, of_syntax, of_check}
 use Rattle.tl_lexer.specs.declared.fault.LexFault.TheVariants as lex
 use Rattle.tlbox.specs.declared.stop.SchemaCause.{SchemaCause}
-use Rattle.tlbox.specs.declared.stop.SchemaCause.TheVariants.{TextTooLong, BadByte, OpenComment, Unexpected, NotProfile, TooMany, NotYetBuilt}
-use Rattle.tlbox.specs.DecodeAnswers.{SchemaRefused, too_long, bad_byte, open_comment, unexpected, not_profile, too_many, by_checks}
+use Rattle.tlbox.specs.declared.stop.SchemaCause.TheVariants.{TextTooLong, BadByte, OpenComment, Unexpected, NotProfile, TooMany, Checked, NotYetBuilt}
+use Rattle.tlbox.specs.DecodeAnswers.{SchemaRefused, too_long, bad_byte, open_comment, unexpected, not_profile, too_many, checked, by_checks}
 use Rattle.tlbox.specs.Steps.{SameBut, ReadsText, TakesValue}
 use Rattle.tlbox.specs.Jobs.{OnlyReads, ReadsSchema, LoadsSchema, LoadsValue}
 
@@ -58,8 +58,9 @@ no_program text tokens (syntax.TooMany at) r lexed parsed e = stops text _ r (to
 no_program text tokens syntax.Memory r lexed parsed e = stops text _ r tt e
 
 pub no_schema : (text : List ℕ) (tokens : List Token) (program : List DeclText) (e : CheckFault) (r : Result Declared Stop) → Tokens text tokens → Reads text tokens program → Checks program (Err e) → IsErrAnd r (λ z. z ≡ of_check e) → ReadsSchema text r
-no_schema text tokens program check.NotYetBuilt r lexed parsed checked e = stops text _ r (by_checks tokens program lexed parsed checked) e
-no_schema text tokens program check.Memory r lexed parsed checked e = stops text _ r tt e
+no_schema text tokens program (check.Refused decl cause) r lexed parsed refused e = stops text _ r (checked tokens program decl cause lexed parsed refused) e
+no_schema text tokens program check.NotYetBuilt r lexed parsed none e = stops text _ r (by_checks tokens program lexed parsed none) e
+no_schema text tokens program check.Memory r lexed parsed none e = stops text _ r tt e
 
 -- ---- files
 
@@ -113,6 +114,7 @@ still_long bytes read rest _ e long (open_comment at (inr r)) = absurd (omega (a
 still_long bytes read rest _ e long (unexpected ts at t r) = absurd (omega (arith, t.0))
 still_long bytes read rest _ e long (not_profile ts at form t r) = absurd (omega (arith, t.0))
 still_long bytes read rest _ e long (too_many ts at t r) = absurd (omega (arith, t.0))
+still_long bytes read rest _ e long (checked ts ds k c t r has) = absurd (omega (arith, t.0))
 still_long bytes read rest _ e long (by_checks ts ds t r has) = absurd (omega (arith, t.0))
 
 long_file : (bytes read rest : List ℕ) (r : Result Declared Stop) → bytes ≡ read ++ rest → 4194304 < length read → ReadsSchema read r → ReadsSchema bytes r

@@ -15,7 +15,10 @@ use Rattle.tl_types.specs.Types.{boxed}
 use Rattle.tl_types.specs.Values.{Tree, depth}
 use Rattle.tl_types.specs.Schemas.{Declared, IsSchema}
 use Rattle.tl_types.specs.Plain.{plain_program}
-use Rattle.tl_types.specs.Checking.{declared_by, IsSchemaProgram, NoSchemaProgram}
+use Rattle.tl_types.specs.declared.fault.CheckCause.{CheckCause}
+use Rattle.tl_types.specs.CheckCauses.{RefusedAt}
+use Rattle.tl_types.specs.CheckedPrograms.{declared_by, IsSchemaProgram, NoSchemaProgram}
+use Rattle.tl_types.proofs.CheckOrder.{one_refusal, never_refused_and_passed}
 use Rattle.tl_types.specs.Spelling.{Spells}
 use Rattle.tl_types.specs.Reading.{moved}
 use Rattle.tl_types.specs.declared.fault.Cause.{Cause}
@@ -23,10 +26,10 @@ use Rattle.tl_types.proofs.Exactly.{never_both, one_value, one_fault}
 use Rattle.tl_lexer.specs.declared.fault.LexFault.{LexFault}
 use Rattle.tl_lexer.specs.Tokens.{LexRefused}
 use Rattle.tlbox.specs.declared.stop.SchemaCause.{SchemaCause}
-use Rattle.tlbox.specs.declared.stop.SchemaCause.TheVariants.{TextTooLong, BadByte, OpenComment, Unexpected, NotProfile, TooMany, NotYetBuilt}
+use Rattle.tlbox.specs.declared.stop.SchemaCause.TheVariants.{TextTooLong, BadByte, OpenComment, Unexpected, NotProfile, TooMany, Checked, NotYetBuilt}
 use Rattle.tlbox.specs.Shown.{line_text}
 use Rattle.tlbox.specs.Answer.{Answer, done, refused, input_line, cause_text, schema_line}
-use Rattle.tlbox.specs.DecodeAnswers.{IsSchemaText, SchemaRefused, too_long, bad_byte, open_comment, unexpected, not_profile, too_many, by_checks, OfInput, whole, longer, faulty, OfType, unknown, named, OfSchema, no_schema, schema_of, DecodeAnswer}
+use Rattle.tlbox.specs.DecodeAnswers.{IsSchemaText, SchemaRefused, too_long, bad_byte, open_comment, unexpected, not_profile, too_many, checked, by_checks, OfInput, whole, longer, faulty, OfType, unknown, named, OfSchema, no_schema, schema_of, DecodeAnswer}
 use Rattle.tlbox.proofs.Loading.{same_file}
 
 same_tokens : (text : List ℕ) (ts us : List Token) → Tokens text ts → Tokens text us → ts ≡ us
@@ -50,11 +53,16 @@ syntax_cause (syntax.NotProfile at form) = NotProfile at form
 syntax_cause (syntax.TooMany at) = TooMany at
 syntax_cause syntax.Memory = NotYetBuilt
 
+-- what refuses a program: a declaration, or that it is none of those that are known
+data OfProgram (ds : List DeclText) (cause : SchemaCause) : Type 0 where
+  of_declaration : (k : ℕ) (c : CheckCause) → RefusedAt ds k c → cause ≡ Checked k c → OfProgram ds cause
+  of_none : NoSchemaProgram ds → cause ≡ NotYetBuilt → OfProgram ds cause
+
 -- what refuses a text: its bytes, its tokens, or what they declare
 data Fault (text : List ℕ) (cause : SchemaCause) : Type 0 where
   of_bytes : (fault : LexFault) → LexRefused text fault → (cause ≡ cause_of fault) → Fault text cause
   of_tokens : (tokens : List Token) (fault : SyntaxFault) → Tokens text tokens → SyntaxRefused text tokens fault → (cause ≡ syntax_cause fault) → Fault text cause
-  of_program : (tokens : List Token) (ds : List DeclText) → Tokens text tokens → Reads text tokens ds → cause ≡ NotYetBuilt → Fault text cause
+  of_program : (tokens : List Token) (ds : List DeclText) → Tokens text tokens → Reads text tokens ds → OfProgram ds cause → Fault text cause
 
 fault_of : (text : List ℕ) (cause : SchemaCause) → SchemaRefused text cause → Fault text cause
 fault_of text _ (too_long r) = of_bytes lex.TextTooLong r refl
@@ -63,13 +71,20 @@ fault_of text _ (open_comment at r) = of_bytes (lex.OpenComment at) r refl
 fault_of text _ (unexpected ts at t r) = of_tokens ts (syntax.Unexpected at) t r refl
 fault_of text _ (not_profile ts at form t r) = of_tokens ts (syntax.NotProfile at form) t r refl
 fault_of text _ (too_many ts at t r) = of_tokens ts (syntax.TooMany at) t r refl
-fault_of text _ (by_checks ts ds t r none) = of_program ts ds t r refl
+fault_of text _ (checked ts ds k c t r has) = of_program ts ds t r (of_declaration k c has refl)
+fault_of text _ (by_checks ts ds t r none) = of_program ts ds t r (of_none none refl)
 
 same_refusal : (text : List ℕ) (ts us : List Token) (f g : SyntaxFault) → Tokens text ts → Tokens text us → SyntaxRefused text ts f → SyntaxRefused text us g → f ≡ g
 same_refusal text ts us f g t u r s = (one_program text ts).same_fault f g r (subst (λ (x : List Token). SyntaxRefused text x g) (same_tokens text us ts u t) s)
 
 never_refused : (text : List ℕ) (ts us : List Token) (f : SyntaxFault) (ds : List DeclText) → Tokens text ts → Tokens text us → SyntaxRefused text ts f → Reads text us ds → ⊥
 never_refused text ts us f ds t u r p = (one_program text us).never_both ds f p (subst (λ (x : List Token). SyntaxRefused text x f) (same_tokens text ts us t u) r)
+
+programs_agree : (ds : List DeclText) (c d : SchemaCause) → OfProgram ds c → OfProgram ds d → c ≡ d
+programs_agree ds c d (of_declaration k a r is) (of_declaration j b q at) = let same = one_refusal ds k j a b r q in is ∙ ap (λ (x : ℕ). Checked x a) same.0 ∙ ap (λ (x : CheckCause). Checked j x) same.1 ∙ sym at
+programs_agree ds c d (of_declaration k a r is) (of_none none at) = absurd (never_refused_and_passed ds k a r none.passes)
+programs_agree ds c d (of_none none is) (of_declaration k a r at) = absurd (never_refused_and_passed ds k a r none.passes)
+programs_agree ds c d (of_none none is) (of_none other at) = is ∙ sym at
 
 causes_agree : (text : List ℕ) (c d : SchemaCause) → Fault text c → Fault text d → c ≡ d
 causes_agree text c d (of_bytes f r is) (of_bytes g s at) = is ∙ ap cause_of ((lexer_law text).same_fault f g r s) ∙ sym at
@@ -80,15 +95,17 @@ causes_agree text c d (of_tokens ts f t r is) (of_tokens us g u s at) = is ∙ a
 causes_agree text c d (of_tokens ts f t r is) (of_program us ds u p at) = absurd (never_refused text ts us f ds t u r p)
 causes_agree text c d (of_program ts ds t p is) (of_bytes f r at) = absurd ((lexer_law text).never_both (ts, t) (f, r))
 causes_agree text c d (of_program us ds u p is) (of_tokens ts f t r at) = absurd (never_refused text ts us f ds t u r p)
-causes_agree text c d (of_program ts ds t p is) (of_program us es u q at) = is ∙ sym at
+causes_agree text c d (of_program ts ds t p is) (of_program us es u q at) = programs_agree ds c d is (subst (λ (x : List DeclText). OfProgram x d) (sym (same_program text ts us ds es t u p q)) at)
 
 same_cause : (text : List ℕ) (c d : SchemaCause) → SchemaRefused text c → SchemaRefused text d → c ≡ d
 same_cause text c d r s = causes_agree text c d (fault_of text c r) (fault_of text d s)
 
 -- no program is a schema's and none
 never_both_checked : (ds : List DeclText) → IsSchemaProgram ds → NoSchemaProgram ds → ⊥
-never_both_checked ds (plain, accepts) (inl other) = true≢false (sym plain ∙ other)
-never_both_checked ds (plain, accepts) (inr (same, (k, has))) = accepts k has
+never_both_checked ds is none = elim none.other [
+  | inl other ↦ true≢false (sym is.plain ∙ other)
+  | inr (same, (k, has)) ↦ is.accepted k has
+]
 
 pub never_schema : (text : List ℕ) (s : Declared) (cause : SchemaCause) → IsSchemaText text s → SchemaRefused text cause → ⊥
 never_schema text s _ h (too_long r) = (lexer_law text).never_both (h.tokens, h.lexed) (lex.TextTooLong, r)
@@ -97,9 +114,12 @@ never_schema text s _ h (open_comment at r) = (lexer_law text).never_both (h.tok
 never_schema text s _ h (unexpected ts at t r) = never_refused text ts h.tokens _ h.program t h.lexed r h.parsed
 never_schema text s _ h (not_profile ts at form t r) = never_refused text ts h.tokens _ h.program t h.lexed r h.parsed
 never_schema text s _ h (too_many ts at t r) = never_refused text ts h.tokens _ h.program t h.lexed r h.parsed
+never_schema text s _ h (checked ts ds k c t r has) =
+    let same : ds ≡ h.program = same_program text ts h.tokens ds h.program t h.lexed r h.parsed in
+    never_refused_and_passed h.program k c (subst (λ (x : List DeclText). RefusedAt x k c) same has) h.passed.passes
 never_schema text s _ h (by_checks ts ds t r none) =
     let same : ds ≡ h.program = same_program text ts h.tokens ds h.program t h.lexed r h.parsed in
-    never_both_checked h.program h.checked (subst NoSchemaProgram same none)
+    never_both_checked h.program h.passed (subst NoSchemaProgram same none)
 
 -- the whole bytes as a beginning of themselves
 all_of : (bytes : List ℕ) → bytes ≡ bytes ++ []

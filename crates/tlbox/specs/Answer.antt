@@ -5,9 +5,11 @@ use Rattle.hex.specs.Hex.{encode_lower}
 use Rattle.tl_types.specs.declared.fault.Cause.{Cause}
 use Rattle.tl_types.specs.declared.fault.Cause.TheVariants.{TooDeep, Truncated, Packed, UnknownNumber}
 use Rattle.tlbox.specs.declared.stop.SchemaCause.{SchemaCause}
+use Rattle.tl_types.specs.declared.fault.CheckCause.{CheckCause}
+use Rattle.tl_types.specs.declared.fault.CheckCause.TheVariants as check
 use Rattle.tl_combinators.specs.declared.fault.Form.{Form}
 use Rattle.tl_combinators.specs.declared.fault.Form.TheVariants as form
-use Rattle.tlbox.specs.declared.stop.SchemaCause.TheVariants.{TextTooLong, BadByte, OpenComment, Unexpected, NotProfile, TooMany, NotYetBuilt}
+use Rattle.tlbox.specs.declared.stop.SchemaCause.TheVariants.{TextTooLong, BadByte, OpenComment, Unexpected, NotProfile, TooMany, Checked, NotYetBuilt}
 use Rattle.tlbox.specs.declared.status.Status.{Status}
 use Rattle.tlbox.specs.declared.status.Status.TheVariants as status
 
@@ -56,7 +58,16 @@ form_name form.UnnamedField = codes "UnnamedField"
 form_name form.CallInConstructor = codes "CallInConstructor"
 form_name form.VectorNumber = codes "VectorNumber"
 
--- a refusal of the schema's text
+abbrev pub check_name : CheckCause → List ℕ
+check_name check.SameName = codes "SameName"
+check_name check.UnknownType = codes "UnknownType"
+check_name check.UnknownVariable = codes "UnknownVariable"
+check_name check.WrongArity = codes "WrongArity"
+check_name check.BadResult = codes "BadResult"
+check_name check.NotBare = codes "NotBare"
+check_name check.BadFlag = codes "BadFlag"
+
+-- a refusal of the schema's text; where a declaration is refused its number stands in place of a byte's
 abbrev pub schema_line : SchemaCause → List ℕ
 schema_line TextTooLong = codes "tlbox: schema - TextTooLong\n"
 schema_line (BadByte at) = placed_line (codes "schema") at (codes "BadByte")
@@ -64,6 +75,7 @@ schema_line (OpenComment at) = placed_line (codes "schema") at (codes "OpenComme
 schema_line (Unexpected at) = placed_line (codes "schema") at (codes "Unexpected")
 schema_line (NotProfile at f) = placed_line (codes "schema") at (codes "NotProfile " ++ form_name f)
 schema_line (TooMany at) = placed_line (codes "schema") at (codes "TooMany")
+schema_line (Checked decl c) = placed_line (codes "schema decl") decl (check_name c)
 schema_line NotYetBuilt = codes "tlbox: schema - NotYetBuilt\n"
 
 abbrev pub type_line : List ℕ

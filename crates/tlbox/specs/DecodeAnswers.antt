@@ -12,14 +12,17 @@ use Rattle.tl_combinators.specs.Sentences.{Reads, SyntaxRefused}
 use Rattle.tl_types.specs.Types.{boxed}
 use Rattle.tl_types.specs.Values.{Tree, depth}
 use Rattle.tl_types.specs.Schemas.{Declared, IsSchema}
-use Rattle.tl_types.specs.Checking.{IsSchemaProgram, NoSchemaProgram, declared_by, place}
+use Rattle.tl_types.specs.Checking.{place}
+use Rattle.tl_types.specs.CheckCauses.{RefusedAt}
+use Rattle.tl_types.specs.CheckedPrograms.{IsSchemaProgram, NoSchemaProgram, declared_by}
+use Rattle.tl_types.specs.declared.fault.CheckCause.{CheckCause}
 use Rattle.tl_types.specs.Spelling.{Spells}
 use Rattle.tl_types.specs.Refusal.{Refused}
 use Rattle.tl_types.specs.Reading.{moved}
 use Rattle.tl_types.specs.declared.fault.Cause.{Cause}
 use Rattle.tlbox.specs.declared.decoder.TheConstants.{MAX_LEVELS}
 use Rattle.tlbox.specs.declared.stop.SchemaCause.{SchemaCause}
-use Rattle.tlbox.specs.declared.stop.SchemaCause.TheVariants.{TextTooLong, BadByte, OpenComment, Unexpected, NotProfile, TooMany, NotYetBuilt}
+use Rattle.tlbox.specs.declared.stop.SchemaCause.TheVariants.{TextTooLong, BadByte, OpenComment, Unexpected, NotProfile, TooMany, Checked, NotYetBuilt}
 use Rattle.tlbox.specs.Shown.{line_text}
 use Rattle.tlbox.specs.Answer.{Answer, done, refused, schema_line, type_line, input_line, cause_text}
 
@@ -31,7 +34,7 @@ pub record IsSchemaText (text : List ℕ) (schema : Declared) : Type 0 where
   pub program : List DeclText
   pub lexed : Tokens text tokens
   pub parsed : Reads text tokens program
-  pub checked : IsSchemaProgram program
+  pub passed : IsSchemaProgram program
   pub schema_is : schema ≡ declared_by program
   pub sound : IsSchema schema.decls
 
@@ -43,6 +46,7 @@ pub data SchemaRefused (text : List ℕ) : SchemaCause → Type 0 where
   unexpected : (tokens : List Token) (at : ℕ) → Tokens text tokens → SyntaxRefused text tokens (syntax.Unexpected at) → SchemaRefused text (Unexpected at)
   not_profile : (tokens : List Token) (at : ℕ) (form : Form) → Tokens text tokens → SyntaxRefused text tokens (syntax.NotProfile at form) → SchemaRefused text (NotProfile at form)
   too_many : (tokens : List Token) (at : ℕ) → Tokens text tokens → SyntaxRefused text tokens (syntax.TooMany at) → SchemaRefused text (TooMany at)
+  checked : (tokens : List Token) (program : List DeclText) (decl : ℕ) (cause : CheckCause) → Tokens text tokens → Reads text tokens program → RefusedAt program decl cause → SchemaRefused text (Checked decl cause)
   by_checks : (tokens : List Token) (program : List DeclText) → Tokens text tokens → Reads text tokens program → NoSchemaProgram program → SchemaRefused text NotYetBuilt
 
 -- ---- decode

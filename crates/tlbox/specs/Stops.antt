@@ -14,7 +14,7 @@ use Rattle.tlbox.specs.declared.whole.InputFault.TheVariants as input
 use Rattle.update_replay.specs.declared.replay.ReplayFault.{ReplayFault}
 use Rattle.update_replay.specs.declared.replay.ReplayFault.TheVariants as replay
 use Rattle.tlbox.specs.declared.stop.SchemaCause.TheVariants as schema
-use Rattle.tlbox.specs.declared.stop.SchemaCause.TheVariants.{TextTooLong, BadByte, OpenComment, Unexpected, NotProfile, TooMany}
+use Rattle.tlbox.specs.declared.stop.SchemaCause.TheVariants.{TextTooLong, BadByte, OpenComment, Unexpected, NotProfile, TooMany, Checked}
 use Rattle.tlbox.specs.declared.stop.JournalCause.TheVariants.{NotYetBuilt, TooLong, NoPacket}
 use Rattle.tlbox.specs.declared.stop.Refusal.TheVariants.{Schema, TypeName, Input, Trailing, Journal}
 use Rattle.tlbox.specs.declared.stop.Stop.{Stop}
@@ -37,6 +37,7 @@ of_syntax (syntax.TooMany at) = Refused (Schema (TooMany at))
 of_syntax syntax.Memory = Memory
 
 abbrev pub of_check : CheckFault → Stop
+of_check (check.Refused decl cause) = Refused (Schema (Checked decl cause))
 of_check check.NotYetBuilt = Refused (Schema schema.NotYetBuilt)
 of_check check.Memory = Memory
 

@@ -2,7 +2,7 @@
 ghost use Rattle.std.specs.Prelude.{◌≡◌, ◌≤◌, IfOk, string_bytes, codes};
 ghost use Rattle.tl_base.specs.Calls.{Told};
 ghost use Rattle.tl_base.specs.Causes.{Rose};
-ghost use Rattle.tlbox.specs.Answer.{cause_text, placed_line, form_name, schema_line};
+ghost use Rattle.tlbox.specs.Answer.{cause_text, placed_line, form_name, check_name, schema_line};
 ghost use Rattle.tlbox.specs.Jobs.{journal_cause_text, refusal_line, Reports, TellsLine};
 
 use crate::files::put;
@@ -11,7 +11,7 @@ use crate::stop::{JournalCause, Refusal, SchemaCause, Stop};
 use std::alloc::{AllocError, Global};
 use tl_base::{Host, Out};
 use tl_combinators::Form;
-use tl_types::Cause;
+use tl_types::{Cause, CheckCause};
 
 // A cause, and its values.
 fn cause_name(alloc: Global, cause: Cause) -> Result<String, AllocError>
@@ -45,6 +45,21 @@ fn form_name(form: Form) -> &'static str
     }
 }
 
+// The name of what is wrong with a declaration.
+fn check_name(cause: CheckCause) -> &'static str
+    ensures { result.now ≡ check_name cause }
+{
+    match cause {
+        CheckCause::SameName => "SameName",
+        CheckCause::UnknownType => "UnknownType",
+        CheckCause::UnknownVariable => "UnknownVariable",
+        CheckCause::WrongArity => "WrongArity",
+        CheckCause::BadResult => "BadResult",
+        CheckCause::NotBare => "NotBare",
+        CheckCause::BadFlag => "BadFlag",
+    }
+}
+
 // The line of what is refused at a place.
 fn placed_line_of(alloc: Global, what: &str, place: u64, why: &str) -> Result<String, AllocError>
     ensures { IfOk result (λ s. string_bytes s ≡ placed_line what.now place why.now) }
@@ -75,6 +90,9 @@ fn schema_line_of(alloc: Global, cause: SchemaCause) -> Result<String, AllocErro
             placed_line_of(alloc, "schema", at as u64, why.as_str())
         }
         SchemaCause::TooMany { at } => placed_line_of(alloc, "schema", at as u64, "TooMany"),
+        SchemaCause::Checked { decl, cause } => {
+            placed_line_of(alloc, "schema decl", decl as u64, check_name(cause))
+        }
         SchemaCause::NotYetBuilt => String::from_str(alloc, "tlbox: schema - NotYetBuilt\n"),
     }
 }

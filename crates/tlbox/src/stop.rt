@@ -5,7 +5,7 @@ use thiserror::Error;
 use tl_base::{TextFault, WriteFault};
 use tl_combinators::{Form, SyntaxFault};
 use tl_lexer::LexFault;
-use tl_types::{Cause, CheckFault, TypeFault};
+use tl_types::{Cause, CheckCause, CheckFault, TypeFault};
 use update_replay::ReplayFault;
 
 /// What is refused. A place counts bytes from the front of the input or journal.
@@ -46,7 +46,10 @@ pub enum SchemaCause {
     /// One item more than there may be begins at this place.
     #[error("one too many at {at}")]
     TooMany { at: u32 },
-    /// Its declarations are no plain schema.
+    /// This declaration is the first that has this cause, the first in the order of the checks.
+    #[error("declaration {decl} is refused: {cause:?}")]
+    Checked { decl: u32, cause: CheckCause },
+    /// Its declarations pass the checks, and are no plain schema.
     #[error("not yet built")]
     NotYetBuilt,
 }
@@ -141,6 +144,9 @@ impl From<CheckFault> for Stop {
 
     fn from(fault: CheckFault) -> Stop {
         match fault {
+            CheckFault::Refused { decl, cause } => Stop::Refused(Refusal::Schema {
+                cause: SchemaCause::Checked { decl, cause },
+            }),
             CheckFault::NotYetBuilt => Stop::Refused(Refusal::Schema {
                 cause: SchemaCause::NotYetBuilt,
             }),

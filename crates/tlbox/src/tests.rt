@@ -454,7 +454,7 @@ fn table(rt: HostRuntime) -> Result<(), Fail> {
 }
 
 // Schemas that are refused, and their lines: each is `a#00000001 x:int = A;` with one fault.
-const REFUSED: [(&str, &str); 34] = [
+const REFUSED: [(&str, &str); 44] = [
     ("a#00000001 x:int? = A;", "tlbox: schema 16 Unexpected\n"),
     ("a#00000001 x:int = A", "tlbox: schema 20 Unexpected\n"),
     ("a#00000001 x:int = A;;", "tlbox: schema 21 Unexpected\n"),
@@ -504,17 +504,51 @@ const REFUSED: [(&str, &str); 34] = [
         "tlbox: schema 7 NotProfile VectorNumber\n",
     ),
     ("a x:%%%%%%%%%%%%%%%%%A = A;", "tlbox: schema 20 TooMany\n"),
-    ("---functions--- a#00000001 x:int = A;", SCHEMA_LINE),
+    (
+        "a#00000001 x:int = A; a#00000002 x:int = A;",
+        "tlbox: schema decl 1 SameName\n",
+    ),
+    (
+        "a#00000001 x:int x:long = A;",
+        "tlbox: schema decl 0 SameName\n",
+    ),
+    (
+        "a#00000001 x:int = Vector;",
+        "tlbox: schema decl 0 SameName\n",
+    ),
+    ("a x:B = A; a = A;", "tlbox: schema decl 1 SameName\n"),
+    ("a x:B = A;", "tlbox: schema decl 0 UnknownType\n"),
+    ("a = A; b x:c = B;", "tlbox: schema decl 1 UnknownType\n"),
+    (
+        "a#00000001 x:int = A B;",
+        "tlbox: schema decl 0 UnknownType\n",
+    ),
+    (
+        "---functions--- f {X:Type} x:int = int;",
+        "tlbox: schema decl 0 UnknownVariable\n",
+    ),
+    ("a x:Vector = A;", "tlbox: schema decl 0 WrongArity\n"),
+    (
+        "a = A; b {X:Type} = A X;",
+        "tlbox: schema decl 0 WrongArity\n",
+    ),
+    (
+        "a#00000001 {X:Type} x:int = A;",
+        "tlbox: schema decl 0 WrongArity\n",
+    ),
+    ("a = A; b = int;", "tlbox: schema decl 1 BadResult\n"),
+    (
+        "a = A; b = A; c x:%A = C;",
+        "tlbox: schema decl 2 NotBare\n",
+    ),
+    ("a f:# x:f.32?int = A;", "tlbox: schema decl 0 BadFlag\n"),
+    ("---functions--- a#00000001 x:int = int;", SCHEMA_LINE),
     ("int ? = Int;", SCHEMA_LINE),
-    ("a#00000001 {X:Type} x:int = A;", SCHEMA_LINE),
+    ("a#00000001 {X:Type} x:int = A X;", SCHEMA_LINE),
     ("n.a#00000001 x:int = A;", SCHEMA_LINE),
     ("a x:int = A;", SCHEMA_LINE),
     ("a#00000001 x:string = A;", SCHEMA_LINE),
-    ("a#00000001 x:int = A B;", SCHEMA_LINE),
-    ("a#00000001 x:int = Vector;", SCHEMA_LINE),
-    ("a#00000001 x:int = A; a#00000002 x:int = A;", SCHEMA_LINE),
     ("a#00000001 x:int = A; b#00000001 x:int = A;", SCHEMA_LINE),
-    ("a#00000001 x:int x:long = A;", SCHEMA_LINE),
     ("a#00000001 x:int = A; b#1cb5c415 = A;", SCHEMA_LINE),
 ];
 

@@ -1,0 +1,51 @@
+-- What an index of declarations holds: for each name its first constructor, for each type its first constructor and whether there is another.
+use Rattle.std.specs.Prelude.{◌≡◌, ℕ, List, IsTrue, ◌↔◌, bytes_eq, Vec, Option, None, Some, true, false, if◌then◌else◌}
+use Rattle.indexmap.specs.IndexMap.{IndexMap, get_by}
+use Rattle.tl_combinators.specs.Program.{DeclText}
+use Rattle.tl_types.specs.Writing.{First, IsConstructorOf, IsConstructorNamed}
+use Rattle.tl_types.specs.NotBare.{IsOnlyConstructor}
+use Rattle.tl_types.specs.declared.index.Constructors.{Constructors}
+
+-- the first place of a constructor with this name
+abbrev pub FirstNamed : List DeclText → List ℕ → Option ℕ → Type 0
+FirstNamed ds name = First (λ j. (c : DeclText) × IsConstructorNamed ds name j c)
+
+-- the first place of a constructor of this type
+abbrev pub FirstOf : List DeclText → List ℕ → Option ℕ → Type 0
+FirstOf ds type = First (λ j. (c : DeclText) × IsConstructorOf ds type j c)
+
+-- the type has exactly one constructor
+abbrev pub IsSingle : List DeclText → List ℕ → Type 0
+IsSingle ds type = (j : ℕ) × (c : DeclText) × IsOnlyConstructor ds type j c
+
+-- the first constructor of this type, and whether it is the only one
+abbrev pub IsFamily : List DeclText → List ℕ → Option Constructors → Type 0
+IsFamily ds type None = FirstOf ds type None
+IsFamily ds type (Some c) = FirstOf ds type (Some c.first) × (IsTrue c.only ↔ IsSingle ds type)
+
+-- ---- the two maps
+
+-- what a map has at a name
+abbrev pub at_name : {A X S : Type 0} → IndexMap (Vec ℕ A) X S → List ℕ → Option X
+at_name m name = get_by (λ k. bytes_eq name k.items) m
+
+abbrev pub IndexesNames : {A S : Type 0} → List DeclText → IndexMap (Vec ℕ A) ℕ S → Type 0
+IndexesNames ds names = (name : List ℕ) → FirstNamed ds name (at_name names name)
+
+abbrev pub IndexesTypes : {A S : Type 0} → List DeclText → IndexMap (Vec ℕ A) Constructors S → Type 0
+IndexesTypes ds types = (type : List ℕ) → IsFamily ds type (at_name types type)
+
+pub record IsIndex {A S : Type 0} (ds : List DeclText) (names : IndexMap (Vec ℕ A) ℕ S) (types : IndexMap (Vec ℕ A) Constructors S) : Type 0 where
+  pub named : IndexesNames ds names
+  pub made : IndexesTypes ds types
+
+-- ---- one declaration more
+
+-- the name has what f makes of what it had, and each other name what it had
+abbrev pub Changes : {A X S : Type 0} → IndexMap (Vec ℕ A) X S → IndexMap (Vec ℕ A) X S → List ℕ → (Option X → X) → Type 0
+Changes old new name f = (n : List ℕ) → at_name new n ≡ (if bytes_eq n name then Some (f (at_name old n)) else at_name old n)
+
+-- a constructor at this place, behind those before it
+abbrev pub one_more : ℕ → Option Constructors → Constructors
+one_more at None = record { first = at; only = true }
+one_more at (Some c) = record { first = c.first; only = false }

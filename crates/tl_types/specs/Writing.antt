@@ -1,0 +1,101 @@
+-- What the declarations of a program write: names, variables, types and their parts.
+-- From "TL language" and "Formal description of TL" (core.telegram.org/mtproto/TL, /mtproto/TL-formal).
+use Rattle.std.specs.Prelude.{◌≡◌, ◌⊎◌, ℕ, ◌<◌, List, [], ◌∷◌, Bool, true, false, ◌==◌, ◌&&◌, ◌||◌, not, bytes_eq, codes, slice_get, Option, Some, None, is_some, if◌then◌else◌}
+use Rattle.std.specs.List.{list_any}
+use Rattle.tl_combinators.specs.Tokens.{first_is, is_upper}
+use Rattle.tl_combinators.specs.Trees.{Tree, Trees, named, percent, any_call, no_trees, tree}
+use Rattle.tl_combinators.specs.Program.{KindText, nat, flag, call, of, FieldText, DeclText}
+use Rattle.tl_combinators.specs.BuiltIns.{built_in}
+
+-- ---- names
+
+-- what stands behind the last `.` of a name
+abbrev pub last_word : List ℕ → List ℕ
+last_word [] = []
+last_word (b ∷ bs) = if list_any (λ c. c == 46) bs then last_word bs else if b == 46 then bs else b ∷ bs
+
+-- a name whose last Word begins in upper case is a type's, any other a constructor's
+abbrev pub is_type_name : List ℕ → Bool
+is_type_name name = first_is is_upper (last_word name)
+
+abbrev pub is_vector_name : List ℕ → Bool
+is_vector_name name = (bytes_eq name (codes "vector")) || (bytes_eq name (codes "Vector"))
+
+-- the names that need no declaration
+abbrev pub is_built_in : List ℕ → Bool
+is_built_in name = (is_some (built_in name)) || (bytes_eq name (codes "Vector"))
+
+-- the name is a variable of the declaration, which hides every other meaning
+abbrev pub is_variable : DeclText → List ℕ → Bool
+is_variable d name = list_any (bytes_eq name) d.vars
+
+-- ---- declarations
+
+-- declaration k is d
+abbrev pub At : List DeclText → ℕ → DeclText → Type 0
+At ds k d = slice_get ds k ≡ Some d
+
+-- an own constructor: no function, and no line of a built-in type
+abbrev pub is_constructor : DeclText → Bool
+is_constructor d = not d.function && not d.builtin
+
+-- the name of the type that a result begins with, where it is no variable
+abbrev pub head_in : DeclText → Tree → Option (List ℕ)
+head_in d (named name ts) = if is_variable d name then None else Some name
+head_in d (percent t) = None
+head_in d any_call = None
+
+abbrev pub result_head : DeclText → Option (List ℕ)
+result_head d = head_in d d.result
+
+-- declaration j is c, an own constructor of the type of this name
+pub record IsConstructorOf (ds : List DeclText) (type : List ℕ) (j : ℕ) (c : DeclText) : Type 0 where
+  pub there : At ds j c
+  pub own : is_constructor c ≡ true
+  pub head : result_head c ≡ Some type
+
+-- declaration j is c, an own constructor of this name
+pub record IsConstructorNamed (ds : List DeclText) (name : List ℕ) (j : ℕ) (c : DeclText) : Type 0 where
+  pub there : At ds j c
+  pub own : is_constructor c ≡ true
+  pub named : c.name ≡ name
+
+-- ---- types and their parts
+
+abbrev mutual
+  -- u is the type itself, or a part of it at any depth
+  pub IsPart : Tree → Tree → Type 0
+  IsPart u (named name ts) = (u ≡ named name ts) ⊎ IsPartOfOne u ts
+  IsPart u (percent t) = (u ≡ percent t) ⊎ IsPart u t
+  IsPart u any_call = u ≡ any_call
+
+  -- u is a part of one of them
+  pub IsPartOfOne : Tree → Trees → Type 0
+  IsPartOfOne u no_trees = ⊥
+  IsPartOfOne u (tree t ts) = IsPart u t ⊎ IsPartOfOne u ts
+
+-- u is a part of the type that the field holds
+abbrev pub HeldBy : Tree → KindText → Type 0
+HeldBy u nat = ⊥
+HeldBy u flag = ⊥
+HeldBy u (call var) = ⊥
+HeldBy u (of t) = IsPart u t
+
+abbrev pub FieldAt : DeclText → ℕ → FieldText → Type 0
+FieldAt d i f = slice_get d.fields i ≡ Some f
+
+-- u is a part of a field's type
+abbrev pub InFields : DeclText → Tree → Type 0
+InFields d u = (i : ℕ) × (f : FieldText) × FieldAt d i f × HeldBy u f.kind
+
+-- u is a part of a field's type or of the result; the line of a built-in type writes none
+pub record Writes (d : DeclText) (u : Tree) : Type 0 where
+  pub own : d.builtin ≡ false
+  pub there : InFields d u ⊎ IsPart u d.result
+
+-- ---- the first of the declarations
+
+-- k is the first such place, or there is none
+abbrev pub First : (ℕ → Type 0) → Option ℕ → Type 0
+First P (Some k) = P k × ((j : ℕ) → j < k → P j → ⊥)
+First P None = (k : ℕ) → P k → ⊥

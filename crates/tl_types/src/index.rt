@@ -1,0 +1,172 @@
+//! Own constructors by name and by type.
+ghost use Rattle.std.specs.Prelude.{◌≡◌, ◌∷◌, [], ◌++◌, ◌<◌, ◌^◌, ◌↔◌, IsTrue, List, length, IfOk, OnOk, unwrap_or};
+ghost use Rattle.tl_combinators.specs.Program.{DeclText, decl_text, program_text};
+ghost use Rattle.tl_types.specs.Indexed.{FirstNamed, FirstOf, IsSingle, IndexesNames, IndexesTypes, Changes, at_name, one_more};
+
+use crate::meanings::{is_constructor, result_head};
+use indexmap::IndexMap;
+use std::alloc::{AllocError, Global};
+use std::marker::Model;
+use tl_combinators::{Decl, Program};
+
+/// The constructors of a type: the place of the first, and whether it is the only one.
+#[derive(Clone, Copy, Debug)]
+pub struct Constructors {
+    first: u32,
+    only: bool,
+}
+
+/// The own constructors of a program, to be found by their names and by the types that they make.
+#[derive(Drop)]
+pub struct Index<'a> {
+    program: &'a Program,
+    names: IndexMap<Vec<u8>, u32>,
+    types: IndexMap<Vec<u8>, Constructors>,
+}
+
+impl<'a> Model for Index<'a> {
+    ghost use Rattle.std.specs.Prelude.{List};
+    ghost use Rattle.tl_combinators.specs.Program.{DeclText, program_text};
+    ghost use Rattle.tl_types.specs.DeclCodes.{decls_code};
+
+    ghost Value = { List DeclText };
+
+    ghost coded = { decls_code };
+
+    ghost use Rattle.tl_types.specs.Indexed.{IsIndex};
+
+    ghost view = { λ x. program_text x.program.now };
+
+    ghost invariant = { λ x. IsIndex (program_text x.program.now) x.names x.types };
+}
+
+impl<'a> Index<'a> {
+    /// Goes through a program once.
+    pub fn of(alloc: Global, program: &'a Program) -> Result<Index<'a>, AllocError>
+        requires { length (program_text program.now) < 2 ^ 32 }
+        ensures { IfOk result (λ x. x ≡ program_text program.now) }
+    {
+        let mut names = IndexMap::new(alloc);
+        let mut types = IndexMap::new(alloc);
+        for (at, decl) in program.decls.iter().enumerate() {
+            note_name(alloc, &mut names, decl, at as u32)?;
+            note_type(alloc, &mut types, decl, at as u32)?;
+        }
+        Ok(Index {
+            program,
+            names,
+            types,
+        })
+    }
+
+    /// The place of the first constructor with this name.
+    pub fn constructor(&self, name: &[u8]) -> Option<u32>
+        ensures { FirstNamed self.now name.now result }
+    {
+        self.names.get(name).copied()
+    }
+
+    /// The place of the first constructor of this type.
+    pub fn first_of(&self, type_name: &[u8]) -> Option<u32>
+        ensures { FirstOf self.now type_name.now result }
+    {
+        match find(&self.types, type_name) {
+            Some(constructors) => Some(constructors.first),
+            None => None,
+        }
+    }
+
+    /// Whether the type has exactly one constructor.
+    pub fn is_single(&self, type_name: &[u8]) -> bool
+        ensures { IsTrue result ↔ IsSingle self.now type_name.now }
+    {
+        match find(&self.types, type_name) {
+            Some(constructors) => constructors.only,
+            None => false,
+        }
+    }
+}
+
+// Puts the name of one more declaration, which stands at a place behind the others.
+fn note_name(
+    alloc: Global,
+    names: &mut IndexMap<Vec<u8>, u32>,
+    decl: &Decl,
+    at: u32,
+) -> Result<(), AllocError>
+    ensures { OnOk result ((ds : List DeclText) → length ds ≡ at → IndexesNames ds names.old → IndexesNames (ds ++ decl_text decl.now ∷ []) names.new) }
+{
+    if !is_constructor(decl) {
+        return Ok(());
+    }
+    add_name(alloc, names, decl.name.as_slice(), at)
+}
+
+// Puts the type that one more declaration makes.
+fn note_type(
+    alloc: Global,
+    types: &mut IndexMap<Vec<u8>, Constructors>,
+    decl: &Decl,
+    at: u32,
+) -> Result<(), AllocError>
+    ensures { OnOk result ((ds : List DeclText) → length ds ≡ at → IndexesTypes ds types.old → IndexesTypes (ds ++ decl_text decl.now ∷ []) types.new) }
+{
+    if !is_constructor(decl) {
+        return Ok(());
+    }
+    match result_head(decl) {
+        Some(name) => add_type(alloc, types, name, at),
+        None => Ok(()),
+    }
+}
+
+// The constructors of a type.
+fn find(types: &IndexMap<Vec<u8>, Constructors>, name: &[u8]) -> Option<Constructors>
+    ensures { result ≡ at_name types.now name.now }
+{
+    types.get(name).copied()
+}
+
+// Puts a place for a name that has none.
+fn add_name(
+    alloc: Global,
+    names: &mut IndexMap<Vec<u8>, u32>,
+    name: &[u8],
+    at: u32,
+) -> Result<(), AllocError>
+    ensures { OnOk result (Changes names.old names.new name.now (λ first. unwrap_or first at)) }
+{
+    let first = names.get(name).copied().unwrap_or(at);
+    names.insert(Vec::from_slice(alloc, name)?, first)?;
+    Ok(())
+}
+
+// The constructors of a type with one more, at a place behind the others.
+fn one_more(found: Option<Constructors>, at: u32) -> Constructors
+    ensures { result ≡ one_more at found }
+{
+    match found {
+        Some(constructors) => Constructors {
+            first: constructors.first,
+            only: false,
+        },
+        None => Constructors {
+            first: at,
+            only: true,
+        },
+    }
+}
+
+// Puts one more constructor of a type.
+fn add_type(
+    alloc: Global,
+    types: &mut IndexMap<Vec<u8>, Constructors>,
+    name: &[u8],
+    at: u32,
+) -> Result<(), AllocError>
+    ensures { OnOk result (Changes types.old types.new name.now (one_more at)) }
+{
+    let constructors = one_more(find(types, name), at);
+    types.insert(Vec::from_slice(alloc, name)?, constructors)?;
+    Ok(())
+}

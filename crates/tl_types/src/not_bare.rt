@@ -1,0 +1,77 @@
+//! The sixth check: what stands behind `%`.
+ghost use Rattle.std.specs.Prelude.{◌≡◌, ◌<◌, ◌^◌, ◌↔◌, IsTrue, IfOk, length};
+ghost use Rattle.tl_combinators.specs.Trees.{view};
+ghost use Rattle.tl_combinators.specs.Program.{decl_text, program_text};
+ghost use Rattle.tl_types.specs.Writing.{First};
+ghost use Rattle.tl_types.specs.NotBare.{HasBare, NotBare};
+ghost use Rattle.tl_types.specs.BareForms.{IsBareName};
+
+use crate::index::Index;
+use crate::meanings::{is_type_name, is_variable};
+use crate::parts::{TypeTest, writes};
+use std::alloc::{AllocError, Global};
+use tl_combinators::{Decl, Program, TypeTree};
+
+/// The first declaration that writes `%` before a type with no bare form, which `Vector` and each type with exactly one constructor have.
+/// From "TL language" (core.telegram.org/mtproto/TL), its bare types.
+pub fn first_not_bare(alloc: Global, program: &Program) -> Result<Option<u32>, AllocError>
+    requires { length (program_text program.now) < 2 ^ 32 }
+    ensures { IfOk result (First (NotBare (program_text program.now))) }
+{
+    let index = Index::of(alloc, program)?;
+    Ok(first_in(&index, program))
+}
+
+fn first_in(index: &Index, program: &Program) -> Option<u32>
+    requires same { index.now ≡ program_text program.now }
+    requires few { length (program_text program.now) < 2 ^ 32 }
+    ensures { First (NotBare (program_text program.now)) result }
+{
+    for (at, decl) in program.decls.iter().enumerate() {
+        if writes(decl, &NoBare { index, decl }) {
+            return Some(at as u32);
+        }
+    }
+    None
+}
+
+// Whether a type is `%` before one that has no bare form in a declaration.
+#[derive(Clone, Copy)]
+struct NoBare<'t, 'a> {
+    index: &'t Index<'a>,
+    decl: &'t Decl,
+}
+
+impl<'t, 'a> TypeTest for NoBare<'t, 'a> {
+    ghost use Rattle.tl_combinators.specs.Program.{decl_text};
+    ghost use Rattle.tl_types.specs.BareForms.{HasNoBare};
+
+    ghost holds = { λ s u. HasNoBare s.index.now (decl_text s.decl.now) u };
+
+    fn passes(&self, tree: &TypeTree) -> bool {
+        match tree {
+            TypeTree::Named { .. } => false,
+            TypeTree::Percent { tree } => !has_bare(self.index, self.decl, tree),
+            TypeTree::AnyCall => false,
+        }
+    }
+}
+
+fn has_bare(index: &Index, decl: &Decl, tree: &TypeTree) -> bool
+    ensures { IsTrue result ↔ HasBare index.now (decl_text decl.now) (view tree.now) }
+{
+    match tree {
+        TypeTree::Named { name, .. } => is_bare_name(index, decl, name.as_slice()),
+        TypeTree::Percent { .. } => false,
+        TypeTree::AnyCall => false,
+    }
+}
+
+fn is_bare_name(index: &Index, decl: &Decl, name: &[u8]) -> bool
+    ensures { IsTrue result ↔ IsBareName index.now (decl_text decl.now) name.now }
+{
+    if is_variable(decl, name) {
+        return false;
+    }
+    name == b"Vector".as_slice() || (is_type_name(name) && index.is_single(name))
+}

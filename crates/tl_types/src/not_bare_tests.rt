@@ -1,0 +1,51 @@
+use crate::not_bare::first_not_bare;
+use std::alloc::Global;
+use tl_combinators::parse;
+use tl_lexer::lex;
+
+// All answers are worked out by hand from the rules in specs/NotBare.antt.
+
+fn answers(alloc: Global, text: &str, wanted: Option<u32>) -> bool {
+    let bytes = text.as_bytes();
+    let Ok(tokens) = lex(alloc, bytes) else {
+        return false;
+    };
+    let Ok(program) = parse(alloc, bytes, tokens.as_slice()) else {
+        return false;
+    };
+    if program.decls.len() > 16 {
+        return false;
+    }
+    match first_not_bare(alloc, &program) {
+        Ok(found) => found == wanted,
+        Err(_) => false,
+    }
+}
+
+#[test]
+fn knows_single_constructors_and_vectors(rt: HostRuntime) {
+    let rows: [&str; 4] = [
+        "",
+        "a x:%B = A; b = B; ---functions--- get = B;",
+        "a x:%(Vector int) = A;",
+        "a x:B y:C = A; b = B; c = B;",
+    ];
+    for text in rows {
+        assert!(rt; answers(rt.alloc(), text, None));
+    }
+}
+
+#[test]
+fn finds_the_first_that_writes_no_bare_form(rt: HostRuntime) {
+    let rows: [(&str, u32); 6] = [
+        ("a = A; b = B; c x:%B = C; d x:%A = A;", 3),
+        ("a = A; b = A; c x:(vector %A) = C; d x:%A = D;", 2),
+        ("a x:%C = A;", 0),
+        ("a = A; b x:%a = B;", 1),
+        ("a {X:Type} x:%X = A X;", 0),
+        ("a = A; b x:%(%A) = B;", 1),
+    ];
+    for (text, at) in rows {
+        assert!(rt; answers(rt.alloc(), text, Some(at)));
+    }
+}

@@ -1,0 +1,39 @@
+//! The checks in their order.
+ghost use Rattle.std.specs.Prelude.{◌<◌, ◌^◌, length};
+ghost use Rattle.tl_combinators.specs.Program.{program_text};
+ghost use Rattle.tl_types.specs.CheckedPrograms.{Found, PassesChecks};
+
+use crate::bad_flag::first_bad_flag;
+use crate::bad_result::first_bad_result;
+use crate::not_bare::first_not_bare;
+use crate::same_name::first_same_name;
+use crate::unknown_type::first_unknown_type;
+use crate::unknown_variable::first_unknown_variable;
+use crate::wrong_arity::first_wrong_arity;
+use crate::{CheckCause, CheckFault};
+use std::alloc::Global;
+use tl_combinators::Program;
+
+// The fault of a declaration that was found, if one was.
+fn fault_at(found: Option<u32>, cause: CheckCause) -> Result<(), CheckFault>
+    ensures { Found found cause result }
+{
+    match found {
+        Some(decl) => Err(CheckFault::Refused { decl, cause }),
+        None => Ok(()),
+    }
+}
+
+/// Refuses a program for the first cause that any of its declarations has.
+pub fn pass_checks(alloc: Global, program: &Program) -> Result<(), CheckFault>
+    requires { length (program_text program.now) < 2 ^ 32 }
+    ensures { PassesChecks (program_text program.now) result }
+{
+    fault_at(first_same_name(alloc, program)?, CheckCause::SameName)?;
+    fault_at(first_unknown_type(alloc, program)?, CheckCause::UnknownType)?;
+    fault_at(first_unknown_variable(program), CheckCause::UnknownVariable)?;
+    fault_at(first_wrong_arity(alloc, program)?, CheckCause::WrongArity)?;
+    fault_at(first_bad_result(program), CheckCause::BadResult)?;
+    fault_at(first_not_bare(alloc, program)?, CheckCause::NotBare)?;
+    fault_at(first_bad_flag(program), CheckCause::BadFlag)
+}

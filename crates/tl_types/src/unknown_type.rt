@@ -1,0 +1,77 @@
+//! The second check: each name of a type has a declaration.
+ghost use Rattle.std.specs.Prelude.{◌≡◌, ◌<◌, ◌^◌, ◌↔◌, IsTrue, IfOk, length};
+ghost use Rattle.tl_combinators.specs.Program.{decl_text, program_text};
+ghost use Rattle.tl_types.specs.Writing.{First};
+ghost use Rattle.tl_types.specs.UnknownType.{IsUnknown, UnknownType};
+ghost use Rattle.tl_types.specs.UnknownNames.{IsUnknownIn};
+
+use crate::index::Index;
+use crate::meanings::{is_built_in, is_type_name, is_variable};
+use crate::parts::{TypeTest, writes};
+use std::alloc::{AllocError, Global};
+use tl_combinators::{Decl, Program, TypeTree};
+
+/// The first declaration that writes an unknown name: no variable, not built in, and declared by none.
+/// From "TL language" (core.telegram.org/mtproto/TL): a type has constructors, and a constructor is declared.
+pub fn first_unknown_type(alloc: Global, program: &Program) -> Result<Option<u32>, AllocError>
+    requires { length (program_text program.now) < 2 ^ 32 }
+    ensures { IfOk result (First (UnknownType (program_text program.now))) }
+{
+    let index = Index::of(alloc, program)?;
+    Ok(first_in(&index, program))
+}
+
+fn first_in(index: &Index, program: &Program) -> Option<u32>
+    requires same { index.now ≡ program_text program.now }
+    requires few { length (program_text program.now) < 2 ^ 32 }
+    ensures { First (UnknownType (program_text program.now)) result }
+{
+    for (at, decl) in program.decls.iter().enumerate() {
+        if writes(decl, &UnknownName { index, decl }) {
+            return Some(at as u32);
+        }
+    }
+    None
+}
+
+// Whether a type begins with a name that is unknown in a declaration.
+#[derive(Clone, Copy)]
+struct UnknownName<'t, 'a> {
+    index: &'t Index<'a>,
+    decl: &'t Decl,
+}
+
+impl<'t, 'a> TypeTest for UnknownName<'t, 'a> {
+    ghost use Rattle.tl_combinators.specs.Program.{decl_text};
+    ghost use Rattle.tl_types.specs.UnknownNames.{BeginsUnknown};
+
+    ghost holds = { λ s u. BeginsUnknown s.index.now (decl_text s.decl.now) u };
+
+    fn passes(&self, tree: &TypeTree) -> bool {
+        match tree {
+            TypeTree::Named { name, .. } => is_unknown(self.index, self.decl, name.as_slice()),
+            TypeTree::Percent { .. } => false,
+            TypeTree::AnyCall => false,
+        }
+    }
+}
+
+fn is_unknown(index: &Index, decl: &Decl, name: &[u8]) -> bool
+    ensures { IsTrue result ↔ IsUnknownIn index.now (decl_text decl.now) name.now }
+{
+    if is_variable(decl, name) || is_built_in(name) {
+        return false;
+    }
+    is_undeclared(index, name)
+}
+
+// Whether no constructor makes the type of this name, or none has it.
+fn is_undeclared(index: &Index, name: &[u8]) -> bool
+    ensures { IsTrue result ↔ IsUnknown index.now name.now }
+{
+    if is_type_name(name) {
+        index.first_of(name).is_none()
+    } else {
+        index.constructor(name).is_none()
+    }
+}

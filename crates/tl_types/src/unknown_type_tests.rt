@@ -1,0 +1,56 @@
+use crate::unknown_type::first_unknown_type;
+use std::alloc::Global;
+use tl_combinators::parse;
+use tl_lexer::lex;
+
+// All answers are worked out by hand from the rules in specs/UnknownType.antt.
+
+fn answers(alloc: Global, text: &str, wanted: Option<u32>) -> bool {
+    let bytes = text.as_bytes();
+    let Ok(tokens) = lex(alloc, bytes) else {
+        return false;
+    };
+    let Ok(program) = parse(alloc, bytes, tokens.as_slice()) else {
+        return false;
+    };
+    if program.decls.len() > 16 {
+        return false;
+    }
+    match first_unknown_type(alloc, &program) {
+        Ok(found) => found == wanted,
+        Err(_) => false,
+    }
+}
+
+#[test]
+fn knows_what_is_declared_built_in_or_a_variable(rt: HostRuntime) {
+    let rows: [&str; 5] = [
+        "",
+        "a x:B y:b = A; b z:int = B;",
+        "a x:(vector int) y:(Vector string) = A;",
+        "pair {X:Type} first:X second:X = Pair X;",
+        "geo.point = geo.Point; a x:geo.Point y:geo.point = A;",
+    ];
+    for text in rows {
+        assert!(rt; answers(rt.alloc(), text, None));
+    }
+}
+
+#[test]
+fn finds_the_first_that_writes_an_unknown_name(rt: HostRuntime) {
+    let rows: [(&str, u32); 7] = [
+        ("a x:B = A;", 0),
+        ("a = A; b x:A = B; c x:D = C; d x:E = A;", 2),
+        ("a = A; b x:(vector (vector %C)) = B;", 1),
+        ("pair {X:Type} first:X second:Y = Pair X;", 0),
+        ("geo.point = geo.Point; a x:Point = A;", 1),
+        (
+            "a = A; ---functions--- get = A; ---types--- b x:get = B;",
+            2,
+        ),
+        ("a = A; ---functions--- get = Got;", 1),
+    ];
+    for (text, at) in rows {
+        assert!(rt; answers(rt.alloc(), text, Some(at)));
+    }
+}

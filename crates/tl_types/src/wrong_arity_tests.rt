@@ -1,0 +1,76 @@
+use crate::wrong_arity::first_wrong_arity;
+use std::alloc::Global;
+use tl_combinators::parse;
+use tl_lexer::lex;
+
+// The answers are worked out by hand from the rules in specs/.
+
+// Whether this is the answer for what the text declares.
+fn answers(alloc: Global, text: &str, wanted: Option<u32>) -> bool {
+    let bytes = text.as_bytes();
+    let Ok(tokens) = lex(alloc, bytes) else {
+        return false;
+    };
+    let Ok(program) = parse(alloc, bytes, tokens.as_slice()) else {
+        return false;
+    };
+    if program.decls.len() > 16 {
+        return false;
+    }
+    match first_wrong_arity(alloc, &program) {
+        Ok(found) => found == wanted,
+        Err(_) => false,
+    }
+}
+
+#[test]
+fn finds_a_wrong_number_of_arguments(rt: HostRuntime) {
+    let rows: [(&str, Option<u32>); 6] = [
+        (
+            "pair {X:Type} {Y:Type} x:X y:Y = Pair X Y; use a:(Pair int long) = Use; bad a:(Pair int) = Bad;",
+            Some(2),
+        ),
+        (
+            "cell {X:Type} x:X = Cell X; use a:%(Cell int) b:(cell int) = Use; bad a:Vector<(cell int long)> = Bad;",
+            Some(2),
+        ),
+        (
+            "use {X:Type} a:(vector X) b:Vector<X> = Use X; bad a:Vector = Bad;",
+            Some(1),
+        ),
+        (
+            "a = A; ---functions--- get x:int = Vector A; put = A int;",
+            Some(2),
+        ),
+        ("use {X:Type} a:(X int) = Use X;", Some(0)),
+        ("bad a:(int int) = Bad;", Some(0)),
+    ];
+    for (text, wanted) in rows {
+        assert!(rt; answers(rt.alloc(), text, wanted), "{text}");
+    }
+}
+
+#[test]
+fn finds_a_type_whose_constructors_differ(rt: HostRuntime) {
+    let rows: [(&str, Option<u32>); 2] = [
+        (
+            "use a:(Either int) = Use; left {X:Type} x:X = Either X; right {X:Type} {Y:Type} y:Y = Either X;",
+            Some(1),
+        ),
+        (
+            "a {X:Type} x:X = A X; ---functions--- f {X:Type} {Y:Type} x:!X y:!Y = A X;",
+            None,
+        ),
+    ];
+    for (text, wanted) in rows {
+        assert!(rt; answers(rt.alloc(), text, wanted), "{text}");
+    }
+}
+
+// An unknown name has no number of variables, and the line of a built-in type writes none.
+#[test]
+fn lets_unknown_names_pass(rt: HostRuntime) {
+    let text =
+        "int ? = Int; use a:(Other int long) b:other = Use; vector {t:Type} # [ t ] = Vector t;";
+    assert!(rt; answers(rt.alloc(), text, None));
+}
