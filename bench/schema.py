@@ -2,7 +2,7 @@
 """Times how `tlbox` reads a schema's text: schema.py TLBOX [DECLARATIONS ..]
 
 Each text has so many declarations of about 100 bytes, with conditions, vectors, namespaces and comments. The program reads the
-whole text, then answers what it can't check yet, so that the time is that of reading: tokens, grammar and descriptions. A last
+whole text, makes its checks, then answers that it can't make a schema of it yet. A last
 text has a million parentheses around one type.
 """
 import os
