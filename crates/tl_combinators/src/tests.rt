@@ -179,7 +179,7 @@ fn refuses_fields_that_are_left_out(rt: HostRuntime) {
 
 #[test]
 fn refuses_other_fields(rt: HostRuntime) {
-    let rows: [(&str, SyntaxFault); 11] = [
+    let rows: [(&str, SyntaxFault); 12] = [
         ("a _x:int = A;", unexpected(2)),
         ("a x: = A;", unexpected(5)),
         ("a x:int", unexpected(7)),
@@ -191,6 +191,7 @@ fn refuses_other_fields(rt: HostRuntime) {
         ("a x:f.0 int = A;", unexpected(8)),
         ("a x:f .g = A;", unexpected(6)),
         ("a x:A B = A;", left_out(6, Form::UnnamedField)),
+        ("---functions--- f x:!ns.x = A;", unexpected(23)),
     ];
     for (text, fault) in rows {
         assert!(rt; is_refused(rt.alloc(), text, fault), "{text}");
@@ -1005,7 +1006,7 @@ fn describes(alloc: Global, text: &str, wanted: &str) -> bool {
 
 #[test]
 fn describes_declarations(rt: HostRuntime) {
-    let rows: [(&str, &str); 7] = [
+    let rows: [(&str, &str); 12] = [
         ("a = A;", "a = A"),
         ("a=A;", "a=A"),
         (" ns.a#1 x : int = ns.A ;", "ns.a x : int = ns.A"),
@@ -1013,6 +1014,17 @@ fn describes_declarations(rt: HostRuntime) {
         ("a {X:Type} x:X = A X;", "a X:Type x:X = A X"),
         ("---functions--- a{X:Type}x:!X=X;", "aX:Typex:!X=X"),
         ("a x:%(A B)y:f.0?int = A;", "a x:%(A B)y:f.0?int = A"),
+        (
+            "f flags:# x:Vector<int> b:flags.1?true c:flags.2?bytes = F;",
+            "f flags:# x:Vector int c:flags.2?string = F",
+        ),
+        ("a x:F.1?int = A;", "a x:F.1?int = A"),
+        ("a x:Object.0?int = A;", "a x:Object.0?int = A"),
+        ("a{Object:Type}=A;", "aObject:Type=A"),
+        (
+            "---functions--- f{X:Type}q:!Object=X;",
+            "fX:Typeq:!Object=X",
+        ),
     ];
     for (text, wanted) in rows {
         assert!(rt; describes(rt.alloc(), text, wanted), "{text}");
@@ -1021,13 +1033,14 @@ fn describes_declarations(rt: HostRuntime) {
 
 #[test]
 fn describes_no_flags(rt: HostRuntime) {
-    let rows: [(&str, &str); 6] = [
+    let rows: [(&str, &str); 7] = [
         ("a f:#x:f.0?true=A;", "a f:#=A"),
         ("a f:# x:f.0?true= A;", "a f:# = A"),
         ("a f:# x:f.0?true = A;", "a f:# = A"),
         ("a f:#x:f.0?(true)y:int=A;", "a f:#y:int=A"),
         ("a f:#x:f . 0?true=A;", "a f:# =A"),
         ("a x:true=A;", "a x:true=A"),
+        ("a {true:Type} f:# x:f.0?true = A;", "a true:Type f:# = A"),
     ];
     for (text, wanted) in rows {
         assert!(rt; describes(rt.alloc(), text, wanted), "{text}");
@@ -1050,7 +1063,7 @@ fn describes_angle_brackets_as_spaces(rt: HostRuntime) {
 
 #[test]
 fn describes_bytes_as_string(rt: HostRuntime) {
-    let rows: [(&str, &str); 8] = [
+    let rows: [(&str, &str); 10] = [
         ("a x:bytes = A;", "a x:string = A"),
         ("a x:(bytes) = A;", "a x:(string) = A"),
         ("a x:f.0?bytes = A;", "a x:f.0?string = A"),
@@ -1059,6 +1072,8 @@ fn describes_bytes_as_string(rt: HostRuntime) {
         ("a x:Vector<bytes> = A;", "a x:Vector bytes = A"),
         ("a x:%bytes = A;", "a x:%bytes = A"),
         ("a = bytes;", "a = bytes"),
+        ("a {bytes:Type} x:bytes = A;", "a bytes:Type x:string = A"),
+        ("a x:bytes.y = A;", "a x:bytes.y = A"),
     ];
     for (text, wanted) in rows {
         assert!(rt; describes(rt.alloc(), text, wanted), "{text}");
