@@ -3,7 +3,7 @@ use Rattle.std.proofs.Common.{◌≡◌, inl, inr, ℕ, List, Bool, true, false,
 use Rattle.std.proofs.lemmas.Option.{same_Some}
 use Rattle.tl_combinators.specs.Trees.{Tree, Trees, named, percent, any_call}
 use Rattle.tl_combinators.specs.Program.{DeclText}
-use Rattle.tl_types.specs.Plain.{type_name}
+use Rattle.tl_types.proofs.HeadNames.{type_name}
 use Rattle.tl_types.specs.Writing.{At, Writes, is_variable}
 use Rattle.tl_types.specs.NotBare.{HasBare, vector, single, NotBare}
 use Rattle.tl_types.specs.BareForms.{IsBareName, HasNoBare}

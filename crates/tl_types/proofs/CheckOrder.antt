@@ -5,7 +5,7 @@ use Rattle.tl_combinators.specs.Program.{DeclText}
 use Rattle.tl_types.specs.Writing.{First}
 use Rattle.tl_types.specs.CheckCauses.{HasCause, causes, PassesBy, RefusedBy, Passes, RefusedAt}
 use Rattle.tl_types.specs.declared.fault.CheckCause.{CheckCause}
-use Rattle.tl_types.specs.declared.fault.CheckCause.TheVariants.{SameName, UnknownType, UnknownVariable, WrongArity, BadResult, NotBare, BadFlag}
+use Rattle.tl_types.specs.declared.fault.CheckCause.TheVariants.{SameName, UnknownType, UnknownVariable, WrongArity, BadResult, NotBare, BadFlag, SameNumber, BareCycle, EmptyElement}
 use Rattle.tl_types.proofs.Firsts.{one_first}
 use Rattle.tl_types.proofs.SameNameFirst.{same_name_first}
 use Rattle.tl_types.proofs.UnknownTypeFirst.{unknown_type_first}
@@ -14,6 +14,9 @@ use Rattle.tl_types.proofs.WrongArityFirst.{wrong_arity_first}
 use Rattle.tl_types.proofs.BadResultFirst.{bad_result_first}
 use Rattle.tl_types.proofs.NotBareFirst.{not_bare_first}
 use Rattle.tl_types.proofs.BadFlagFirst.{bad_flag_first}
+use Rattle.tl_types.proofs.SameNumberFirst.{same_number_first}
+use Rattle.tl_types.proofs.BareCycleFirst.{bare_cycle_first}
+use Rattle.tl_types.proofs.EmptyElementFirst.{empty_element_first}
 
 module _ (ds : List DeclText) where
   -- each cause has its first declaration, or none
@@ -25,6 +28,9 @@ module _ (ds : List DeclText) where
   first_with BadResult = bad_result_first ds
   first_with NotBare = not_bare_first ds
   first_with BadFlag = bad_flag_first ds
+  first_with SameNumber = same_number_first ds
+  first_with BareCycle = bare_cycle_first ds
+  first_with EmptyElement = empty_element_first ds
 
   abbrev Decision : List CheckCause → Type 0
   Decision cs = PassesBy ds cs ⊎ ((k : ℕ) × (c : CheckCause) × RefusedBy ds cs k c)

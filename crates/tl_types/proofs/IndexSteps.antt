@@ -1,5 +1,5 @@
 -- One declaration more in an index.
-use Rattle.std.proofs.Common.{◌≡◌, ℕ, List, [], ◌∷◌, ◌++◌, length, Bool, true, false, bytes_eq, Vec, Option, None, Some, refl, ap, sym, ◌∙◌, subst, true≢false, if◌then◌else◌}
+use Rattle.std.proofs.Common.{◌≡◌, ℕ, List, [], ◌∷◌, ◌++◌, length, Bool, true, false, bytes_eq, Vec, Option, None, Some, refl, ap, sym, ◌∙◌, subst, true≢false, arith, if◌then◌else◌}
 use Rattle.std.specs.Option.{unwrap_or}
 use Rattle.std.proofs.lemmas.Option.{none-some, same_Some}
 use Rattle.std.proofs.lemmas.Slice.Eq.{bytes_eq-Decides}
@@ -13,14 +13,14 @@ use Rattle.tl_types.proofs.Places.{IsPlace, HasOne, first_same, first_with, firs
 
 -- ---- names
 
-abbrev IsNamed : List ℕ → DeclText → Type 0
+abbrev pub IsNamed : List ℕ → DeclText → Type 0
 IsNamed name d = (is_constructor d ≡ true) × (d.name ≡ name)
 
 module _ (ds : List DeclText) (name : List ℕ) where
-  named_place : (j : ℕ) → ((c : DeclText) × IsConstructorNamed ds name j c) → IsPlace (IsNamed name) ds j
+  pub named_place : (j : ℕ) → ((c : DeclText) × IsConstructorNamed ds name j c) → IsPlace (IsNamed name) ds j
   named_place j c = record { x = c.0; there = c.1.there; has = (c.1.own, c.1.named) }
 
-  place_named : (j : ℕ) → IsPlace (IsNamed name) ds j → (c : DeclText) × IsConstructorNamed ds name j c
+  pub place_named : (j : ℕ) → IsPlace (IsNamed name) ds j → (c : DeclText) × IsConstructorNamed ds name j c
   place_named j p = (p.x, record { there = p.there; own = p.has.0; named = p.has.1 })
 
 module _ (ds : List DeclText) (d : DeclText) (name : List ℕ) where
@@ -52,14 +52,14 @@ module _ {A S : Type 0} (ds : List DeclText) (d : DeclText) where
 
 -- ---- types
 
-abbrev Makes : List ℕ → DeclText → Type 0
+abbrev pub Makes : List ℕ → DeclText → Type 0
 Makes type d = (is_constructor d ≡ true) × (result_head d ≡ Some type)
 
 module _ (ds : List DeclText) (type : List ℕ) where
-  made_place : (j : ℕ) → ((c : DeclText) × IsConstructorOf ds type j c) → IsPlace (Makes type) ds j
+  pub made_place : (j : ℕ) → ((c : DeclText) × IsConstructorOf ds type j c) → IsPlace (Makes type) ds j
   made_place j c = record { x = c.0; there = c.1.there; has = (c.1.own, c.1.head) }
 
-  place_made : (j : ℕ) → IsPlace (Makes type) ds j → (c : DeclText) × IsConstructorOf ds type j c
+  pub place_made : (j : ℕ) → IsPlace (Makes type) ds j → (c : DeclText) × IsConstructorOf ds type j c
   place_made j p = (p.x, record { there = p.there; own = p.has.0; head = p.has.1 })
 
   one_single : HasOne (Makes type) ds → IsSingle ds type
@@ -118,4 +118,5 @@ pub no_index : {A S : Type 0} (names : IndexMap (Vec ℕ A) ℕ S) (types : Inde
 no_index names types no_names no_types = record {
   named = λ name. subst (FirstNamed [] name) (sym (ap (lookup (λ k. bytes_eq name k.items)) no_names)) (λ k c. none-some c.0 c.1.there);
   made = λ type. subst (IsFamily [] type) (sym (ap (lookup (λ k. bytes_eq type k.items)) no_types)) (λ k c. none-some c.0 c.1.there);
+  few = omega arith;
 }

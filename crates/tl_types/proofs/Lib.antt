@@ -1,6 +1,4 @@
-pub mod Declarations
 pub mod Alls
-pub mod PlainPrograms
 pub mod Deciding
 pub mod Words
 pub mod Members
@@ -26,8 +24,6 @@ mod Maps
 mod NameKeys
 mod Repeats
 mod TypeNames
-mod Fields
-mod Finding
 mod ArityCases
 mod CountedDeclarations
 mod CountedNames
@@ -52,3 +48,39 @@ pub mod OneArity
 pub mod WrongArityFirst
 pub mod CheckSequence
 pub mod CheckOrder
+pub mod GrowingMarks
+pub mod PathsDecided
+pub mod BareDecided
+pub mod TakesNoneDecided
+pub mod SameNumberFirst
+pub mod BareCycleFirst
+pub mod EmptyElementFirst
+pub mod OnlyConstructors
+pub mod BareMeanings
+pub mod Adding
+pub mod AddingParts
+pub mod ReferenceLists
+mod NodeLists
+mod ReachedNodes
+mod GraphPaths
+mod Explored
+mod ReferenceCycles
+mod KnownNumbers
+mod MarkedNodes
+mod OneBare
+mod EmptyNodes
+mod BareFields
+mod MarkedArguments
+mod HeadNames
+mod PlacedNames
+pub mod EntryNumbers
+mod TestedPlaces
+mod DeclaredPlaces
+mod DeclaredTypes
+mod MadeLists
+mod MeantTypes
+mod DeclaredEntries
+mod EmptyArguments
+pub mod OneSchema
+pub mod OneType
+mod TypeSteps

@@ -3,7 +3,7 @@ use Rattle.std.proofs.Common.{◌≡◌, ℕ, Bool, true, false, not, List, [], 
 use Rattle.std.specs.List.{list_any}
 use Rattle.std.proofs.lemmas.List.{map-append}
 use Rattle.indexmap.specs.IndexSet.{insert_key}
-use Rattle.tl_types.specs.Checking.{with_name}
+use Rattle.tl_types.specs.NameLists.{with_name}
 use Rattle.tl_types.specs.NameLists.{lists}
 use Rattle.tl_types.proofs.Maps.{list_any-map}
 

@@ -12,7 +12,7 @@ part_of_item u [] i t at part = absurd (none-some t at)
 part_of_item u (s ∷ ts) zero t at part = inl (subst (IsPart u) (sym (same_Some s t at)) part)
 part_of_item u (s ∷ ts) (suc i) t at part = inr (part_of_item u ts i t at part)
 
-part_of_push : (u : Tree) (ts : List Tree) (t : Tree) → IsPartOfOne u (trees_of (ts ++ t ∷ [])) → IsPartOfOne u (trees_of ts) ⊎ IsPart u t
+pub part_of_push : (u : Tree) (ts : List Tree) (t : Tree) → IsPartOfOne u (trees_of (ts ++ t ∷ [])) → IsPartOfOne u (trees_of ts) ⊎ IsPart u t
 part_of_push u [] t part = elim part [ inl here ↦ inr here | inr none ↦ absurd none ]
 part_of_push u (s ∷ ts) t part =
     elim part [

@@ -1,10 +1,10 @@
 -- Rows of bytes, worked out by hand: the schema is `point#00000001 x:int y:int = Point`.
 use Rattle.std.proofs.Common.{◌≡◌, ℕ, List, [], ◌∷◌, refl, arith, inl, inr, zero, suc, Some, None, ap, sym, ◌∙◌}
 use Rattle.std.specs.Prelude.{slice_get, codes, pos, negsuc}
-use Rattle.tl_types.specs.Types.{int, boxed}
+use Rattle.tl_types.specs.PlainTypes.{int, boxed}
 use Rattle.tl_types.specs.Values.{no_trees, tree, node}
 use Rattle.tl_types.specs.Values as value
-use Rattle.tl_types.specs.Schemas.{Declaration, IsMember, IsSchema}
+use Rattle.tl_types.specs.PlainSchemas.{PlainDeclaration, IsMember, IsPlainSchema}
 use Rattle.tl_types.specs.Words.{word}
 use Rattle.tl_types.specs.Spelling.{Spells}
 use Rattle.tl_types.specs.Spelling as begins
@@ -12,10 +12,10 @@ use Rattle.tl_types.specs.Refusal.{Refused, IsMemberNumber}
 use Rattle.tl_types.specs.Refusal as no_word
 use Rattle.tl_types.specs.declared.fault.Cause.TheVariants.{TooDeep, Truncated, Packed, UnknownNumber}
 
-abbrev point : Declaration
-point = record { name = codes "point"; number = 1; head = 0; fields = record { name = codes "x"; of = int } ∷ record { name = codes "y"; of = int } ∷ [] }
+abbrev point : PlainDeclaration
+point = record { name = codes "point"; number = 1; head = Some 0; fields = record { name = codes "x"; of = int } ∷ record { name = codes "y"; of = int } ∷ [] }
 
-abbrev schema : List Declaration
+abbrev schema : List PlainDeclaration
 schema = point ∷ []
 
 is_point : IsMember schema 0 0 point
@@ -50,28 +50,28 @@ a_point_cut_later =
       inr (value.int (pos 5), word 5, 255 ∷ [], 0, (refl, 5, omega arith, refl, refl), omega arith, refl, refl, inl (record { short = omega arith; at = refl; why = refl })),
     )
 
-none_is_some : (d : Declaration) → None ≡ Some d → ⊥
+none_is_some : (d : PlainDeclaration) → None ≡ Some d → ⊥
 none_is_some d e = cc
 
-same_some : (d e : Declaration) → Some d ≡ Some e → d ≡ e
+same_some : (d e : PlainDeclaration) → Some d ≡ Some e → d ≡ e
 same_some d e is = cc
 
-only_point : (i : ℕ) (d : Declaration) → slice_get schema i ≡ Some d → (i ≡ 0) × (d.number ≡ 1)
-only_point zero d there = (refl, ap (λ (x : Declaration). x.number) (sym (same_some point d there)))
+only_point : (i : ℕ) (d : PlainDeclaration) → slice_get schema i ≡ Some d → (i ≡ 0) × (d.number ≡ 1)
+only_point zero d there = (refl, ap (λ (x : PlainDeclaration). x.number) (sym (same_some point d there)))
 only_point (suc i) d there = absurd (none_is_some d there)
 
 -- there is a schema
-pub point_alone : IsSchema schema
+pub point_alone : IsPlainSchema schema
 point_alone =
     record {
       few = omega arith;
-      distinct = λ i j d e there there_too same. (only_point i d there).0 ∙ sym (only_point j e there_too).0;
+      distinct = λ h i j d e there there_too head head_too same. (only_point i d there).0 ∙ sym (only_point j e there_too).0;
       fits = λ i d there. omega (arith, (only_point i d there).1);
       plain = λ i d there is. absurd (omega (arith, (only_point i d there).1, is));
     }
 
 two_is_none : IsMemberNumber schema 0 2 → ⊥
-two_is_none (zero, d, m, number) = let same : 1 ≡ 2 = ap (λ (x : Declaration). x.number) (same_some point d m.there) ∙ number in absurd (omega (arith, same))
+two_is_none (zero, d, m, number) = let same : 1 ≡ 2 = ap (λ (x : PlainDeclaration). x.number) (same_some point d m.there) ∙ number in absurd (omega (arith, same))
 two_is_none (suc i, d, m, number) = none_is_some d m.there
 
 -- 02000000 is no constructor's number

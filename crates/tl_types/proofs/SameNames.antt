@@ -9,7 +9,7 @@ use Rattle.std.proofs.lemmas.Slice.Eq.{bytes_eq-Decides}
 use Rattle.tl_combinators.specs.Program.{DeclText, FieldText, field_text}
 use Rattle.tl_combinators.specs.declared.program.Field.{Field}
 use Rattle.tl_types.specs.Writing.{At}
-use Rattle.tl_types.specs.Checking.{IsRepeat, with_name}
+use Rattle.tl_types.specs.NameLists.{IsRepeat, with_name}
 use Rattle.tl_types.specs.SameName.{SameName, declared, part, vector, part_names}
 use Rattle.tl_types.specs.SameNameSteps.{names_among, AddsName, MakesVector}
 use Rattle.tl_types.specs.declared.same_name.Known.{Known}

@@ -1,11 +1,11 @@
 -- What is spelled is read.
 use Rattle.std.proofs.Common.{◌≡◌, ℕ, zero, suc, ◌+◌, ◌^◌, ◌≤◌, ◌<◌, List, [], ◌∷◌, ◌++◌, append_assoc, append-nil, length, Option, Some, Ok, refl, sym, ap, ◌∙◌, arith, true, false}
 use Rattle.std.proofs.lemmas.List.{length-append}
-use Rattle.tl_types.specs.Types.{Shape}
-use Rattle.tl_types.specs.Types as shape
+use Rattle.tl_types.specs.PlainTypes.{PlainShape}
+use Rattle.tl_types.specs.PlainTypes as shape
 use Rattle.tl_types.specs.Values.{Tree, Trees, no_trees, tree, trees_of, depth, depth_of}
 use Rattle.tl_types.specs.Values as value
-use Rattle.tl_types.specs.Schemas.{Slot, Declaration, IsSchema}
+use Rattle.tl_types.specs.PlainSchemas.{PlainSlot, PlainDeclaration, IsPlainSchema}
 use Rattle.tl_types.specs.Words.{word}
 use Rattle.tl_types.specs.Spelling.{Begins, Spells, SpellFields}
 use Rattle.tl_types.specs.Spelling as begins
@@ -21,35 +21,35 @@ pub list_again : (ts : Trees) → trees_of (list_of ts) ≡ ts
 list_again no_trees = refl
 list_again (tree t ts) = ap (tree t) (list_again ts)
 
-pub value_is_plain : (ds : List Declaration) (n : ℕ) (T : Shape) (s : Spot) → is_deep T ≡ false → value_at ds n T s ≡ plain_at T s
+pub value_is_plain : (ds : List PlainDeclaration) (n : ℕ) (T : PlainShape) (s : Spot) → is_deep T ≡ false → value_at ds n T s ≡ plain_at T s
 unfolding value_at
 value_is_plain ds zero T s e = rw e refl
 value_is_plain ds (suc n) T s e = rw e refl
 
-pub value_is_deep : (ds : List Declaration) (n : ℕ) (T : Shape) (s : Spot) → is_deep T ≡ true → value_at ds (suc n) T s ≡ deep_at ds (value_at ds n) T s
+pub value_is_deep : (ds : List PlainDeclaration) (n : ℕ) (T : PlainShape) (s : Spot) → is_deep T ≡ true → value_at ds (suc n) T s ≡ deep_at ds (value_at ds n) T s
 unfolding value_at
 value_is_deep ds n T s e = rw e refl
 
-number_step : (f : List Slot → Spot → Read (List Tree)) (make : ℕ → Trees → Tree) (ds : List Declaration) (find : ℕ → Option ℕ) (p w i : ℕ) (rest : List ℕ) (ks : List Slot) (ts : Trees) (r : Spot) → w < 2 ^ 32 → find w ≡ Some i → fields_in ds i ≡ ks → f ks (spot (moved p 4) rest) ≡ Ok (list_of ts, r) → by_number_at f make ds find (spot p (word w ++ rest)) ≡ Ok (make i ts, r)
+number_step : (f : List PlainSlot → Spot → Read (List Tree)) (make : ℕ → Trees → Tree) (ds : List PlainDeclaration) (find : ℕ → Option ℕ) (p w i : ℕ) (rest : List ℕ) (ks : List PlainSlot) (ts : Trees) (r : Spot) → w < 2 ^ 32 → find w ≡ Some i → fields_in ds i ≡ ks → f ks (spot (moved p 4) rest) ≡ Ok (list_of ts, r) → by_number_at f make ds find (spot p (word w ++ rest)) ≡ Ok (make i ts, r)
 unfolding by_number_at numbered_at record_at
 number_step f make ds find p w i rest ks ts r lt some slots fields = rw (word_again w p rest lt, some, slots, fields, list_again ts) refl
 
 -- a record behind its front
-node_whole : (ds : List Declaration) → IsSchema ds → (n : ℕ) (T : Shape) (i p : ℕ) (d : Declaration) (front more : List ℕ) (ts : Trees) (r : Spot) → Begins ds T i d front → fields_at (value_at ds n) [] d.fields (spot (moved p (length front)) more) ≡ Ok (list_of ts, r) → value_at ds (suc n) T (spot p (front ++ more)) ≡ Ok (value.node i ts, r)
+node_whole : (ds : List PlainDeclaration) → IsPlainSchema ds → (n : ℕ) (T : PlainShape) (i p : ℕ) (d : PlainDeclaration) (front more : List ℕ) (ts : Trees) (r : Spot) → Begins ds T i d front → fields_at (value_at ds n) [] d.fields (spot (moved p (length front)) more) ≡ Ok (list_of ts, r) → value_at ds (suc n) T (spot p (front ++ more)) ≡ Ok (value.node i ts, r)
 unfolding deep_at
 node_whole ds good n T i p d front more ts r (begins.boxed h e m is) fields =
     let four : length front ≡ 4 = ap length is in
-    ap (λ (U : Shape). value_at ds (suc n) U (spot p (front ++ more))) e ∙ value_is_deep ds n (shape.boxed h) _ refl ∙ ap (λ (x : List ℕ). deep_at ds (value_at ds n) (shape.boxed h) (spot p (x ++ more))) is
+    ap (λ (U : PlainShape). value_at ds (suc n) U (spot p (front ++ more))) e ∙ value_is_deep ds n (shape.boxed h) _ refl ∙ ap (λ (x : List ℕ). deep_at ds (value_at ds n) (shape.boxed h) (spot p (x ++ more))) is
     ∙ number_step (fields_at (value_at ds n) []) value.node ds (member_from 0 ds h) p d.number i more d.fields ts r (good.fits i d m.there) (member_found ds good h i d m) (fields_there ds i d m.there) (rw four at fields)
 
 mutual
   unfolding plain_at fields_at
 
-  pub spelled : (ds : List Declaration) → IsSchema ds → (x : Tree) (T : Shape) (n : ℕ) (b rest : List ℕ) (p : ℕ) → p < 2 ^ 64 → Spells ds T x b → depth x ≤ n → value_at ds n T (spot p (b ++ rest)) ≡ Ok (x, spot (moved p (length b)) rest)
+  pub spelled : (ds : List PlainDeclaration) → IsPlainSchema ds → (x : Tree) (T : PlainShape) (n : ℕ) (b rest : List ℕ) (p : ℕ) → p < 2 ^ 64 → Spells ds T x b → depth x ≤ n → value_at ds n T (spot p (b ++ rest)) ≡ Ok (x, spot (moved p (length b)) rest)
   spelled ds good (value.int z) T n b rest p lt s deep =
-      rw (ap length s.4, s.3) (ap (λ (U : Shape). value_at ds n U (spot p (b ++ rest))) s.0 ∙ value_is_plain ds n shape.int _ refl ∙ ap (λ (x : List ℕ). plain_at shape.int (spot p (x ++ rest))) s.4 ∙ rw (word_again s.1 p rest s.2) refl)
+      rw (ap length s.4, s.3) (ap (λ (U : PlainShape). value_at ds n U (spot p (b ++ rest))) s.0 ∙ value_is_plain ds n shape.int _ refl ∙ ap (λ (x : List ℕ). plain_at shape.int (spot p (x ++ rest))) s.4 ∙ rw (word_again s.1 p rest s.2) refl)
   spelled ds good (value.long z) T n b rest p lt s deep =
-      rw (ap length s.4, s.3) (ap (λ (U : Shape). value_at ds n U (spot p (b ++ rest))) s.0 ∙ value_is_plain ds n shape.long _ refl ∙ ap (λ (x : List ℕ). plain_at shape.long (spot p (x ++ rest))) s.4 ∙ rw (double_again s.1 p rest s.2) refl)
+      rw (ap length s.4, s.3) (ap (λ (U : PlainShape). value_at ds n U (spot p (b ++ rest))) s.0 ∙ value_is_plain ds n shape.long _ refl ∙ ap (λ (x : List ℕ). plain_at shape.long (spot p (x ++ rest))) s.4 ∙ rw (double_again s.1 p rest s.2) refl)
   spelled ds good (value.node i ts) T zero b rest p lt s deep = absurd (omega arith)
   spelled ds good (value.node i ts) T (suc n) b rest p lt s deep =
       let front = s.1 in
@@ -60,7 +60,7 @@ mutual
       rw (← moved_moved p (length front) (length r) (length b) len)
       (ap (λ (x : List ℕ). value_at ds (suc n) T (spot p x)) split ∙ node_whole ds good n T i p s.0 front (r ++ rest) ts _ s.3 fields)
 
-  spelled_fields : (ds : List Declaration) → IsSchema ds → (ts : Trees) (before : List Tree) (fs : List Slot) (n : ℕ) (b rest : List ℕ) (p : ℕ) → p < 2 ^ 64 → SpellFields ds fs ts b → depth_of ts ≤ n → fields_at (value_at ds n) before fs (spot p (b ++ rest)) ≡ Ok (before ++ list_of ts, spot (moved p (length b)) rest)
+  spelled_fields : (ds : List PlainDeclaration) → IsPlainSchema ds → (ts : Trees) (before : List Tree) (fs : List PlainSlot) (n : ℕ) (b rest : List ℕ) (p : ℕ) → p < 2 ^ 64 → SpellFields ds fs ts b → depth_of ts ≤ n → fields_at (value_at ds n) before fs (spot p (b ++ rest)) ≡ Ok (before ++ list_of ts, spot (moved p (length b)) rest)
   spelled_fields ds good no_trees before [] n b rest p lt s deep = rw s (ap (λ (q : ℕ). Ok (before, spot q rest)) (stays p lt) ∙ ap (λ (l : List Tree). Ok (l, spot (moved p 0) rest)) (sym (append-nil before)))
   spelled_fields ds good (tree x ts) before (f ∷ fs) n b rest p lt s deep =
       let u = s.0 in

@@ -17,7 +17,7 @@ HasNone ds name =
     ((is_type_name name ≡ true) × (((j : ℕ) × (c : DeclText) × IsConstructorOf ds name j c) → ⊥))
     ⊎ ((is_type_name name ≡ false) × (((j : ℕ) × (c : DeclText) × IsConstructorNamed ds name j c) → ⊥))
 
-abbrev UnknownIn : List DeclText → DeclText → List ℕ → Type 0
+abbrev pub UnknownIn : List DeclText → DeclText → List ℕ → Type 0
 UnknownIn ds d name = (is_variable d name ≡ false) × ((is_built_in name ≡ false) × IsUnknown ds name)
 
 abbrev WritesUnknown : List DeclText → ℕ → DeclText → Type 0
@@ -39,7 +39,7 @@ module _ (ds : List DeclText) where
         (decided_or (decided_and (bool_decided (is_type_name name) true) (decided_not (constructor_decided ds name)))
         (decided_and (bool_decided (is_type_name name) false) (decided_not (named_constructor_decided ds name))))
 
-    unknown_in_decided : (d : DeclText) → Decided (UnknownIn ds d name)
+    pub unknown_in_decided : (d : DeclText) → Decided (UnknownIn ds d name)
     unknown_in_decided d = decided_and (bool_decided (is_variable d name) false) (decided_and (bool_decided (is_built_in name) false) unknown_decided)
 
   written : (k : ℕ) (d : DeclText) → At ds k d → WritesUnknown ds k d → UnknownType ds k

@@ -2,21 +2,20 @@
 use Rattle.std.proofs.Common.{◌≡◌, ℕ, ℤ, map, ap, ◌∙◌, rules, Vec, Global}
 use Rattle.tl_types.specs.Seen.{shape, view}
 use Rattle.tl_types.specs.Types as type
+use Rattle.tl_types.specs.PlainTypes as plain
+use Rattle.tl_types.specs.PlainViews.{plain_shape}
 use Rattle.tl_types.specs.Values as tree
 use Rattle.tl_types.specs.Values.{trees_of}
-use Rattle.tl_types.specs.declared.schema.TypeRef.TheVariants as ref
+use Rattle.tl_types.specs.declared.schema.TypeRef as ref
 use Rattle.tl_types.specs.declared.schema.TypeRef.{TypeRef}
 use Rattle.tl_types.specs.declared.value.Value as value
 use Rattle.tl_types.specs.declared.value.Value.{Value}
 
-pub shape-Int : (t : TypeRef) → t ≡ ref.Int → shape t ≡ type.int
-shape-Int t e = ap shape e
-
-pub shape-Long : (t : TypeRef) → t ≡ ref.Long → shape t ≡ type.long
-shape-Long t e = ap shape e
-
-pub shape-Boxed : (t : TypeRef) (h : ℕ) → t ≡ ref.Boxed h → shape t ≡ type.boxed h
-shape-Boxed t h e = ap shape e
+pub plain-Long : (t : TypeRef) → t ≡ ref.Long → plain_shape (shape t) ≡ plain.long
+plain-Long t e = ap (λ (u : TypeRef). plain_shape (shape u)) e ∙ ap plain_shape long_shape
+  where
+    long_shape : shape ref.Long ≡ type.long
+    long_shape = search (rules, ref.the_lemmas)
 
 pub view-Int : (z w : ℤ) → z ≡ w → view (value.Int z) ≡ tree.int w
 view-Int z w e = ap (λ (x : ℤ). view (value.Int x)) e ∙ search (rules, value.the_lemmas)

@@ -1,5 +1,5 @@
 -- The checks in their order: the answer is the first cause that any declaration has, with the first declaration that has it.
-use Rattle.std.specs.Prelude.{◌≡◌, ◌⊎◌, ℕ, List, [], ◌∷◌, Some}
+use Rattle.std.specs.Prelude.{◌≡◌, ◌⊎◌, ℕ, List, [], ◌∷◌, ◌++◌, Some}
 use Rattle.tl_combinators.specs.Program.{DeclText}
 use Rattle.tl_types.specs.Writing.{First}
 use Rattle.tl_types.specs.declared.fault.CheckCause.{CheckCause}
@@ -11,6 +11,9 @@ use Rattle.tl_types.specs.WrongArity.{WrongArity}
 use Rattle.tl_types.specs.BadResult.{BadResult}
 use Rattle.tl_types.specs.NotBare.{NotBare}
 use Rattle.tl_types.specs.BadFlag.{BadFlag}
+use Rattle.tl_types.specs.SameNumber.{SameNumber}
+use Rattle.tl_types.specs.BareCycle.{BareCycle}
+use Rattle.tl_types.specs.EmptyElement.{EmptyElement}
 
 -- declaration k has the cause
 abbrev pub HasCause : List DeclText → CheckCause → ℕ → Type 0
@@ -21,10 +24,19 @@ HasCause ds cause.WrongArity k = WrongArity ds k
 HasCause ds cause.BadResult k = BadResult ds k
 HasCause ds cause.NotBare k = NotBare ds k
 HasCause ds cause.BadFlag k = BadFlag ds k
+HasCause ds cause.SameNumber k = SameNumber ds k
+HasCause ds cause.BareCycle k = BareCycle ds k
+HasCause ds cause.EmptyElement k = EmptyElement ds k
 
--- the causes in the order of the checks
+-- the causes in the order of the checks: those of names and of what these are applied to, then those of what names mean
+abbrev pub name_causes : List CheckCause
+name_causes = cause.SameName ∷ cause.UnknownType ∷ cause.UnknownVariable ∷ cause.WrongArity ∷ cause.BadResult ∷ []
+
+abbrev pub meaning_causes : List CheckCause
+meaning_causes = cause.NotBare ∷ cause.BadFlag ∷ cause.SameNumber ∷ cause.BareCycle ∷ cause.EmptyElement ∷ []
+
 abbrev pub causes : List CheckCause
-causes = cause.SameName ∷ cause.UnknownType ∷ cause.UnknownVariable ∷ cause.WrongArity ∷ cause.BadResult ∷ cause.NotBare ∷ cause.BadFlag ∷ []
+causes = name_causes ++ meaning_causes
 
 abbrev pub NoneHas : List DeclText → CheckCause → Type 0
 NoneHas ds c = (k : ℕ) → HasCause ds c k → ⊥

@@ -58,7 +58,7 @@ mutual
 abbrev tree_code : Coded Tree
 tree_code = code_by Gv itself tree_to tree_from tree_back
 
-abbrev name_code : Coded (List ℕ)
+abbrev pub name_code : Coded (List ℕ)
 name_code = coded_list coded_ℕ
 
 -- `#`, a flag, a call or a type

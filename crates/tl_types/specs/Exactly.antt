@@ -1,18 +1,18 @@
 -- Bytes begin with the spelling of a value, or they are refused: one of the two, and in one way.
 use Rattle.std.specs.Prelude.{◌≡◌, ◌⊎◌, ℕ, ◌≤◌, List, ◌++◌}
 use Rattle.tl_base.specs.Contents.{AreBytes}
-use Rattle.tl_types.specs.Types.{Shape}
+use Rattle.tl_types.specs.PlainTypes.{PlainShape}
 use Rattle.tl_types.specs.Values.{Tree, depth}
-use Rattle.tl_types.specs.Schemas.{Declaration, IsSchema}
+use Rattle.tl_types.specs.PlainSchemas.{PlainDeclaration, IsPlainSchema}
 use Rattle.tl_types.specs.Spelling.{Spells}
 use Rattle.tl_types.specs.Refusal.{Refused}
 use Rattle.tl_types.specs.declared.fault.Cause.{Cause}
 
 -- the bytes b begin with x, which spells the value t, of at most n levels
-abbrev pub BeginsWith : List Declaration → ℕ → Shape → List ℕ → Tree → List ℕ → Type 0
+abbrev pub BeginsWith : List PlainDeclaration → ℕ → PlainShape → List ℕ → Tree → List ℕ → Type 0
 BeginsWith ds n T b t x = (rest : List ℕ) × (b ≡ x ++ rest) × Spells ds T t x × (depth t ≤ n)
 
-pub record ExactlyOne (ds : List Declaration) (n : ℕ) (T : Shape) (b : List ℕ) : Type 0 where
+pub record ExactlyOne (ds : List PlainDeclaration) (n : ℕ) (T : PlainShape) (b : List ℕ) : Type 0 where
   pub either : ((t : Tree) × (x : List ℕ) × BeginsWith ds n T b t x) ⊎ ((place : ℕ) × (cause : Cause) × Refused ds n T b place cause)
   pub never_both : (t : Tree) (x : List ℕ) (place : ℕ) (cause : Cause) → BeginsWith ds n T b t x → Refused ds n T b place cause → ⊥
   pub one_value : (t u : Tree) (x y : List ℕ) → BeginsWith ds n T b t x → BeginsWith ds n T b u y → (t ≡ u) × (x ≡ y)
@@ -20,4 +20,4 @@ pub record ExactlyOne (ds : List Declaration) (n : ℕ) (T : Shape) (b : List �
 
 -- in each schema, at each number of levels, for each type and all bytes
 abbrev pub EachIsSpelledOrRefused : Type 0
-EachIsSpelledOrRefused = (ds : List Declaration) → IsSchema ds → (n : ℕ) (T : Shape) (b : List ℕ) → AreBytes b → ExactlyOne ds n T b
+EachIsSpelledOrRefused = (ds : List PlainDeclaration) → IsPlainSchema ds → (n : ℕ) (T : PlainShape) (b : List ℕ) → AreBytes b → ExactlyOne ds n T b

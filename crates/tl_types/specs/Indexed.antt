@@ -1,5 +1,5 @@
 -- What an index of declarations holds: for each name its first constructor, for each type its first constructor and whether there is another.
-use Rattle.std.specs.Prelude.{◌≡◌, ℕ, List, IsTrue, ◌↔◌, bytes_eq, Vec, Option, None, Some, true, false, if◌then◌else◌}
+use Rattle.std.specs.Prelude.{◌≡◌, ℕ, ◌<◌, ◌^◌, List, length, IsTrue, ◌↔◌, bytes_eq, Vec, Option, None, Some, true, false, if◌then◌else◌}
 use Rattle.indexmap.specs.IndexMap.{IndexMap, get_by}
 use Rattle.tl_combinators.specs.Program.{DeclText}
 use Rattle.tl_types.specs.Writing.{First, IsConstructorOf, IsConstructorNamed}
@@ -35,9 +35,11 @@ IndexesNames ds names = (name : List ℕ) → FirstNamed ds name (at_name names 
 abbrev pub IndexesTypes : {A S : Type 0} → List DeclText → IndexMap (Vec ℕ A) Constructors S → Type 0
 IndexesTypes ds types = (type : List ℕ) → IsFamily ds type (at_name types type)
 
+-- the maps are those of the declarations, whose places can be counted in 32 bits
 pub record IsIndex {A S : Type 0} (ds : List DeclText) (names : IndexMap (Vec ℕ A) ℕ S) (types : IndexMap (Vec ℕ A) Constructors S) : Type 0 where
   pub named : IndexesNames ds names
   pub made : IndexesTypes ds types
+  pub few : length ds < 2 ^ 32
 
 -- ---- one declaration more
 

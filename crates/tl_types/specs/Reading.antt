@@ -1,10 +1,11 @@
 -- Reading from left to right, with the first fault that is met.
 use Rattle.std.specs.Prelude.{ℕ, zero, suc, ◌+◌, ◌-◌, ◌^◌, min, List, [], ◌∷◌, ◌++◌, length, take, drop, Option, Some, None, Result, Ok, Err, ◌&&◌, Bool, true, false, nat_lt, ◌==◌, if◌then◌else◌}
 use Rattle.std.specs.Int.{w32, w64, from_le_bytes, cast_signed}
-use Rattle.tl_types.specs.Types.{Shape, int, long, boxed}
+use Rattle.tl_types.specs.PlainTypes.{PlainShape, int, long, boxed}
 use Rattle.tl_types.specs.Values.{Tree, Trees, trees_of}
 use Rattle.tl_types.specs.Values as value
-use Rattle.tl_types.specs.Schemas.{Slot, Declaration, packed_number}
+use Rattle.tl_types.specs.Schemas.{packed_number}
+use Rattle.tl_types.specs.PlainSchemas.{PlainSlot, PlainDeclaration}
 use Rattle.tl_types.specs.declared.fault.Cause.{Cause}
 use Rattle.tl_types.specs.declared.fault.Cause.TheVariants.{TooDeep, Truncated, Packed, UnknownNumber}
 
@@ -53,13 +54,18 @@ double_at s = do
 
 -- ---- declarations
 
+-- the type that is constructed is h
+abbrev pub is_head : Option ℕ → ℕ → Bool
+is_head None h = false
+is_head (Some g) h = g == h
+
 -- the first constructor of the type h whose number is w, counted from i
-abbrev pub member_from : ℕ → List Declaration → ℕ → ℕ → Option ℕ
+abbrev pub member_from : ℕ → List PlainDeclaration → ℕ → ℕ → Option ℕ
 member_from i [] h w = None
-member_from i (d ∷ ds) h w = if (d.head == h) && (d.number == w) then Some i else member_from (suc i) ds h w
+member_from i (d ∷ ds) h w = if is_head d.head h && (d.number == w) then Some i else member_from (suc i) ds h w
 
 -- the fields of declaration i
-abbrev pub fields_in : List Declaration → ℕ → List Slot
+abbrev pub fields_in : List PlainDeclaration → ℕ → List PlainSlot
 fields_in [] i = []
 fields_in (d ∷ ds) zero = d.fields
 fields_in (d ∷ ds) (suc i) = fields_in ds i
@@ -70,7 +76,7 @@ abbrev pub Reader : Type 0
 Reader = Spot → Read Tree
 
 -- the fields, behind those before
-unfoldable pub fields_at : (Shape → Reader) → List Tree → List Slot → Spot → Read (List Tree)
+unfoldable pub fields_at : (PlainShape → Reader) → List Tree → List PlainSlot → Spot → Read (List Tree)
 fields_at f before [] s = Ok (before, s)
 fields_at f before (k ∷ ks) s = do
   x ← f k.of s
@@ -81,44 +87,44 @@ abbrev pub wrong_number : ℕ → Cause
 wrong_number w = if w == packed_number then Packed else UnknownNumber w
 
 -- the fields of one declaration, seen as a record
-unfoldable pub record_at : (List Slot → Spot → Read (List Tree)) → (Trees → Tree) → List Slot → Reader
+unfoldable pub record_at : (List PlainSlot → Spot → Read (List Tree)) → (Trees → Tree) → List PlainSlot → Reader
 record_at f make ks s = do
   x ← f ks s
   Ok (make (trees_of x.0), x.1)
 
 -- the declaration that was found for the number w, or none
-unfoldable pub numbered_at : (List Slot → Spot → Read (List Tree)) → (ℕ → Trees → Tree) → List Declaration → ℕ → ℕ → Option ℕ → Reader
+unfoldable pub numbered_at : (List PlainSlot → Spot → Read (List Tree)) → (ℕ → Trees → Tree) → List PlainDeclaration → ℕ → ℕ → Option ℕ → Reader
 numbered_at f make ds place w None s = Err (place, wrong_number w)
 numbered_at f make ds place w (Some i) s = record_at f (make i) (fields_in ds i) s
 
 -- a number of a declaration, and the fields of that declaration
-unfoldable pub by_number_at : (List Slot → Spot → Read (List Tree)) → (ℕ → Trees → Tree) → List Declaration → (ℕ → Option ℕ) → Reader
+unfoldable pub by_number_at : (List PlainSlot → Spot → Read (List Tree)) → (ℕ → Trees → Tree) → List PlainDeclaration → (ℕ → Option ℕ) → Reader
 by_number_at f make ds find s = do
   w ← word_at s
   numbered_at f make ds s.place w.0 (find w.0) w.1
 
-abbrev pub boxed_at : List Declaration → (List Slot → Spot → Read (List Tree)) → ℕ → Reader
+abbrev pub boxed_at : List PlainDeclaration → (List PlainSlot → Spot → Read (List Tree)) → ℕ → Reader
 boxed_at ds f h = by_number_at f value.node ds (member_from 0 ds h)
 
 -- ---- values
 
 -- a type whose values have no parts; no other is read so
-unfoldable pub plain_at : Shape → Reader
+unfoldable pub plain_at : PlainShape → Reader
 plain_at int s = word_at s >>= λ w. Ok (value.int (cast_signed w32 w.0), w.1)
 plain_at long s = double_at s >>= λ w. Ok (value.long (cast_signed w64 w.0), w.1)
 plain_at T s = Err (s.place, TooDeep)
 
 -- a record, whose fields f reads
-unfoldable pub deep_at : List Declaration → (Shape → Reader) → Shape → Reader
+unfoldable pub deep_at : List PlainDeclaration → (PlainShape → Reader) → PlainShape → Reader
 deep_at ds f (boxed h) = boxed_at ds (fields_at f []) h
 deep_at ds f T = plain_at T
 
 -- whether values of the type have parts
-abbrev pub is_deep : Shape → Bool
+abbrev pub is_deep : PlainShape → Bool
 is_deep (boxed h) = true
 is_deep T = false
 
 -- a value with n levels left
-unfoldable pub value_at : List Declaration → ℕ → Shape → Reader
+unfoldable pub value_at : List PlainDeclaration → ℕ → PlainShape → Reader
 value_at ds zero T s = if is_deep T then Err (s.place, TooDeep) else plain_at T s
 value_at ds (suc n) T s = if is_deep T then deep_at ds (value_at ds n) T s else plain_at T s

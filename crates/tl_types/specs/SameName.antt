@@ -3,7 +3,7 @@ use Rattle.std.specs.Prelude.{◌≡◌, ℕ, ◌<◌, List, ◌++◌, map, fals
 use Rattle.tl_combinators.specs.Trees.{Trees, named}
 use Rattle.tl_combinators.specs.Program.{DeclText}
 use Rattle.tl_types.specs.Writing.{At, is_variable}
-use Rattle.tl_types.specs.Checking.{IsRepeat}
+use Rattle.tl_types.specs.NameLists.{IsRepeat}
 
 -- the names of a declaration's variables, then those of its fields
 abbrev pub part_names : DeclText → List (List ℕ)

@@ -4,7 +4,7 @@ use Rattle.std.specs.List.{list_any}
 use Rattle.tl_combinators.specs.Trees.{Tree, Trees, named}
 use Rattle.tl_combinators.specs.Program.{DeclText}
 use Rattle.tl_types.specs.Writing.{is_variable}
-use Rattle.tl_types.specs.Checking.{with_name}
+use Rattle.tl_types.specs.NameLists.{with_name}
 use Rattle.tl_types.specs.declared.same_name.Known.{Known}
 
 -- the names of the functions, or those of the constructors

@@ -1,25 +1,25 @@
 -- Which bytes spell a value of a type.
 use Rattle.std.specs.Prelude.{◌≡◌, ℕ, ◌<◌, ◌^◌, List, [], ◌∷◌, ◌++◌}
 use Rattle.std.specs.Int.{w32, w64, cast_signed}
-use Rattle.tl_types.specs.Types.{Shape}
-use Rattle.tl_types.specs.Types as shape
+use Rattle.tl_types.specs.PlainTypes.{PlainShape}
+use Rattle.tl_types.specs.PlainTypes as shape
 use Rattle.tl_types.specs.Values.{Tree, int, long, node, Trees, no_trees, tree}
-use Rattle.tl_types.specs.Schemas.{Slot, Declaration, IsMember}
+use Rattle.tl_types.specs.PlainSchemas.{PlainSlot, PlainDeclaration, IsMember}
 use Rattle.tl_types.specs.Words.{word, double_word}
 
 -- what comes before the fields of a record of declaration i, which is d
-pub data Begins (ds : List Declaration) (T : Shape) (i : ℕ) (d : Declaration) (front : List ℕ) : Type 0 where
+pub data Begins (ds : List PlainDeclaration) (T : PlainShape) (i : ℕ) (d : PlainDeclaration) (front : List ℕ) : Type 0 where
   boxed : (h : ℕ) → T ≡ shape.boxed h → IsMember ds h i d → front ≡ word d.number → Begins ds T i d front
 
 abbrev mutual
   -- the bytes b spell the value of the type T
-  pub Spells : List Declaration → Shape → Tree → List ℕ → Type 0
+  pub Spells : List PlainDeclaration → PlainShape → Tree → List ℕ → Type 0
   Spells ds T (int z) b = (T ≡ shape.int) × (n : ℕ) × (n < 2 ^ 32) × (z ≡ cast_signed w32 n) × (b ≡ word n)
   Spells ds T (long z) b = (T ≡ shape.long) × (n : ℕ) × (n < 2 ^ 64) × (z ≡ cast_signed w64 n) × (b ≡ double_word n)
-  Spells ds T (node i ts) b = (d : Declaration) × (front : List ℕ) × (rest : List ℕ) × Begins ds T i d front × (b ≡ front ++ rest) × SpellFields ds d.fields ts rest
+  Spells ds T (node i ts) b = (d : PlainDeclaration) × (front : List ℕ) × (rest : List ℕ) × Begins ds T i d front × (b ≡ front ++ rest) × SpellFields ds d.fields ts rest
 
   -- the fields of a record, one after the other
-  pub SpellFields : List Declaration → List Slot → Trees → List ℕ → Type 0
+  pub SpellFields : List PlainDeclaration → List PlainSlot → Trees → List ℕ → Type 0
   SpellFields ds [] no_trees b = b ≡ []
   SpellFields ds (f ∷ fs) (tree t ts) b = (x : List ℕ) × (y : List ℕ) × (b ≡ x ++ y) × Spells ds f.of t x × SpellFields ds fs ts y
   SpellFields ds [] (tree t ts) b = ⊥

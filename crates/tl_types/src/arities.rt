@@ -3,14 +3,15 @@ ghost use Rattle.std.specs.Prelude.{◌≡◌, ◌↔◌, [], bytes_eq, length, 
 ghost use Rattle.std.specs.Map.{lookup};
 ghost use Rattle.std.specs.Option.{option_map};
 ghost use Rattle.tl_combinators.specs.Program.{decl_text, program_text};
-ghost use Rattle.tl_types.specs.Writing.{result_head};
 ghost use Rattle.tl_types.specs.Arities.{counted, with_count, with_count_of, own_name, own_type, CountsAll, first_number, arity_in, IsArity, IsUneven};
 
-use crate::meanings::{is_built_in, is_type_name, is_variable, is_vector_name};
+use crate::meanings::{
+    is_built_in, is_constructor, is_type_name, is_variable, is_vector_name, result_head,
+};
 use indexmap::IndexMap;
 use std::alloc::{AllocError, Global};
 use std::marker::Model;
-use tl_combinators::{Decl, Program, TypeTree};
+use tl_combinators::{Decl, Program};
 
 /// The number of variables of the first constructor, and whether all have as many.
 #[derive(Clone, Copy)]
@@ -102,31 +103,14 @@ impl<'a> Model for Arities<'a> {
     ghost invariant = { λ a. CountsAll (program_text a.program.now) a.constructors a.types };
 }
 
-// The name of the type that a declaration constructs, where it is no variable.
-fn result_head(decl: &Decl) -> Option<&[u8]>
-    ensures { option_map (λ name. name.now) result ≡ result_head (decl_text decl.now) }
-{
-    match &decl.result {
-        TypeTree::Named { name, .. } => {
-            if is_variable(decl, name.as_slice()) {
-                None
-            } else {
-                Some(name.as_slice())
-            }
-        }
-        TypeTree::Percent { .. } => None,
-        TypeTree::AnyCall => None,
-    }
-}
-
 /// The type of an own constructor.
 pub fn own_type(decl: &Decl) -> Option<&[u8]>
     ensures { option_map (λ name. name.now) result ≡ own_type (decl_text decl.now) }
 {
-    if decl.function || decl.builtin {
-        None
-    } else {
+    if is_constructor(decl) {
         result_head(decl)
+    } else {
+        None
     }
 }
 
@@ -134,10 +118,10 @@ pub fn own_type(decl: &Decl) -> Option<&[u8]>
 fn own_name(decl: &Decl) -> Option<&[u8]>
     ensures { option_map (λ name. name.now) result ≡ own_name (decl_text decl.now) }
 {
-    if decl.function || decl.builtin {
-        None
-    } else {
+    if is_constructor(decl) {
         Some(decl.name.as_slice())
+    } else {
+        None
     }
 }
 

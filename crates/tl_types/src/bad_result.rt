@@ -3,9 +3,9 @@ ghost use Rattle.std.specs.Prelude.{◌≡◌, ◌<◌, ◌^◌, ◌↔◌, IsTr
 ghost use Rattle.tl_combinators.specs.Program.{decl_text, program_text};
 ghost use Rattle.tl_combinators.specs.Trees.{plain, view, views};
 ghost use Rattle.tl_types.specs.BadResult.{BadResult, IsGoodResult};
-ghost use Rattle.tl_types.specs.Writing.{First, is_constructor};
+ghost use Rattle.tl_types.specs.Writing.{First};
 
-use crate::meanings::{is_type_name, is_variable};
+use crate::meanings::{is_constructor, is_type_name, is_variable};
 use tl_base::Bytes;
 use tl_combinators::{Decl, Program, TypeTree};
 
@@ -20,12 +20,6 @@ pub fn first_bad_result(program: &Program) -> Option<u32>
         }
     }
     None
-}
-
-fn is_constructor(decl: &Decl) -> bool
-    ensures { result ≡ is_constructor (decl_text decl.now) }
-{
-    !decl.function && !decl.builtin
 }
 
 fn is_good_result(decl: &Decl) -> bool

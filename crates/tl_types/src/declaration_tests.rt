@@ -1,29 +1,13 @@
 //! What the checks of single declarations and their names answer, for programs from texts.
-ghost use Rattle.std.specs.Prelude.{◌<◌, ◌^◌, length, IfOk};
-ghost use Rattle.tl_combinators.specs.Program.{program_text};
-
 use crate::bad_flag::first_bad_flag;
 use crate::bad_result::first_bad_result;
 use crate::same_name::first_same_name;
+use crate::texts::program;
 use crate::unknown_variable::first_unknown_variable;
 use std::alloc::Global;
 use std::test::Fail;
-use tl_combinators::{Program, SyntaxFault, parse};
-use tl_lexer::lex;
 
 // All expected places are worked out by hand from the rules in specs/.
-
-fn program(alloc: Global, text: &str) -> Result<Program, Fail>
-    ensures { IfOk result (λ p. length (program_text p) < 2 ^ 32) }
-{
-    let bytes = text.as_bytes();
-    let tokens = lex(alloc, bytes)?;
-    let program = parse(alloc, bytes, tokens.as_slice())?;
-    if program.decls.len() > 16384 {
-        return Err(SyntaxFault::Memory.into());
-    }
-    Ok(program)
-}
 
 fn same_name(alloc: Global, text: &str) -> Result<Option<u32>, Fail> {
     let program = program(alloc, text)?;

@@ -1,6 +1,7 @@
 //! Own constructors by name and by type.
 ghost use Rattle.std.specs.Prelude.{◌≡◌, ◌∷◌, [], ◌++◌, ◌<◌, ◌^◌, ◌↔◌, IsTrue, List, length, IfOk, OnOk, unwrap_or};
 ghost use Rattle.tl_combinators.specs.Program.{DeclText, decl_text, program_text};
+ghost use Rattle.tl_types.specs.BareSteps.{OnlyOf};
 ghost use Rattle.tl_types.specs.Indexed.{FirstNamed, FirstOf, IsSingle, IndexesNames, IndexesTypes, Changes, at_name, one_more};
 
 use crate::meanings::{is_constructor, result_head};
@@ -59,6 +60,13 @@ impl<'a> Index<'a> {
         })
     }
 
+    /// The number of declarations.
+    pub fn count(&self) -> u32
+        ensures { result ≡ length self.now }
+    {
+        self.program.decls.len() as u32
+    }
+
     /// The place of the first constructor with this name.
     pub fn constructor(&self, name: &[u8]) -> Option<u32>
         ensures { FirstNamed self.now name.now result }
@@ -72,6 +80,22 @@ impl<'a> Index<'a> {
     {
         match find(&self.types, type_name) {
             Some(constructors) => Some(constructors.first),
+            None => None,
+        }
+    }
+
+    /// The place of the only constructor of this type.
+    pub fn only_of(&self, type_name: &[u8]) -> Option<u32>
+        ensures { OnlyOf self.now type_name.now result }
+    {
+        match find(&self.types, type_name) {
+            Some(constructors) => {
+                if constructors.only {
+                    Some(constructors.first)
+                } else {
+                    None
+                }
+            }
             None => None,
         }
     }

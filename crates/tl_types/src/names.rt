@@ -1,7 +1,7 @@
 //! Names in the order in which they came, each once.
 ghost use Rattle.std.specs.Prelude.{◌≡◌, [], bytes_eq, not, length, IfOk, OnOk, OnErr};
 ghost use Rattle.std.specs.List.{list_any, position_or_len};
-ghost use Rattle.tl_types.specs.Checking.{place, with_name};
+ghost use Rattle.tl_types.specs.NameLists.{place, with_name};
 
 use indexmap::IndexSet;
 use std::alloc::{AllocError, Global};
@@ -29,6 +29,13 @@ impl Names {
         Names {
             set: IndexSet::new(alloc),
         }
+    }
+
+    /// How many names there are.
+    pub fn len(&self) -> usize
+        ensures { result ≡ length self.now }
+    {
+        self.set.len()
     }
 
     /// The place of the name, if it is there.

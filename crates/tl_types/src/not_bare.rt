@@ -4,11 +4,12 @@ ghost use Rattle.tl_combinators.specs.Trees.{view};
 ghost use Rattle.tl_combinators.specs.Program.{decl_text, program_text};
 ghost use Rattle.tl_types.specs.Writing.{First};
 ghost use Rattle.tl_types.specs.NotBare.{HasBare, NotBare};
-ghost use Rattle.tl_types.specs.BareForms.{IsBareName};
+ghost use Rattle.tl_types.specs.BareForms.{HasNoBare, IsBareName};
+ghost use Rattle.tl_types.specs.Parts.{SomePart};
 
 use crate::index::Index;
 use crate::meanings::{is_type_name, is_variable};
-use crate::parts::{TypeTest, writes};
+use crate::parts::{TypeTest, has_part, writes};
 use std::alloc::{AllocError, Global};
 use tl_combinators::{Decl, Program, TypeTree};
 
@@ -20,6 +21,13 @@ pub fn first_not_bare(alloc: Global, program: &Program) -> Result<Option<u32>, A
 {
     let index = Index::of(alloc, program)?;
     Ok(first_in(&index, program))
+}
+
+/// Whether a type or a part of it is `%` before one that has no bare form where a declaration writes it.
+pub fn writes_no_bare(index: &Index, decl: &Decl, tree: &TypeTree) -> bool
+    ensures { IsTrue result ↔ SomePart (HasNoBare index.now (decl_text decl.now)) (view tree.now) }
+{
+    has_part(tree, &NoBare { index, decl })
 }
 
 fn first_in(index: &Index, program: &Program) -> Option<u32>

@@ -1,29 +1,17 @@
 use crate::not_bare::first_not_bare;
+use crate::texts::program;
 use std::alloc::Global;
-use tl_combinators::parse;
-use tl_lexer::lex;
+use std::test::Fail;
 
 // All answers are worked out by hand from the rules in specs/NotBare.antt.
 
-fn answers(alloc: Global, text: &str, wanted: Option<u32>) -> bool {
-    let bytes = text.as_bytes();
-    let Ok(tokens) = lex(alloc, bytes) else {
-        return false;
-    };
-    let Ok(program) = parse(alloc, bytes, tokens.as_slice()) else {
-        return false;
-    };
-    if program.decls.len() > 16 {
-        return false;
-    }
-    match first_not_bare(alloc, &program) {
-        Ok(found) => found == wanted,
-        Err(_) => false,
-    }
+fn answers(alloc: Global, text: &str, wanted: Option<u32>) -> Result<bool, Fail> {
+    let program = program(alloc, text)?;
+    Ok(first_not_bare(alloc, &program)? == wanted)
 }
 
 #[test]
-fn knows_single_constructors_and_vectors(rt: HostRuntime) {
+fn knows_single_constructors_and_vectors(rt: HostRuntime) -> Result<(), Fail> {
     let rows: [&str; 4] = [
         "",
         "a x:%B = A; b = B; ---functions--- get = B;",
@@ -31,12 +19,13 @@ fn knows_single_constructors_and_vectors(rt: HostRuntime) {
         "a x:B y:C = A; b = B; c = B;",
     ];
     for text in rows {
-        assert!(rt; answers(rt.alloc(), text, None));
+        assert!(rt; answers(rt.alloc(), text, None)?);
     }
+    Ok(())
 }
 
 #[test]
-fn finds_the_first_that_writes_no_bare_form(rt: HostRuntime) {
+fn finds_the_first_that_writes_no_bare_form(rt: HostRuntime) -> Result<(), Fail> {
     let rows: [(&str, u32); 6] = [
         ("a = A; b = B; c x:%B = C; d x:%A = A;", 3),
         ("a = A; b = A; c x:(vector %A) = C; d x:%A = D;", 2),
@@ -46,6 +35,7 @@ fn finds_the_first_that_writes_no_bare_form(rt: HostRuntime) {
         ("a = A; b x:%(%A) = B;", 1),
     ];
     for (text, at) in rows {
-        assert!(rt; answers(rt.alloc(), text, Some(at)));
+        assert!(rt; answers(rt.alloc(), text, Some(at))?);
     }
+    Ok(())
 }

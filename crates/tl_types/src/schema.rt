@@ -1,71 +1,116 @@
 //! Declarations and types of a schema.
 ghost use Rattle.std.specs.Prelude.{◌≡◌, ◌<◌, length, map, slice_get, Some};
-ghost use Rattle.tl_types.specs.Checking.{Finds, place};
-ghost use Rattle.tl_types.specs.Schemas.{IsSchema};
+ghost use Rattle.tl_combinators.specs.Program.{program_text};
 ghost use Rattle.tl_types.specs.Seen.{declaration};
-ghost use Rattle.tl_types.specs.CheckedSchema.{IsCheckedSchema};
+ghost use Rattle.tl_types.specs.CheckedPrograms.{Finds, IsSchema};
+ghost use Rattle.tl_types.specs.Meanings.{types_of};
+ghost use Rattle.tl_types.specs.SchemaParts.{IsSound};
 
-use crate::names::Names;
+use crate::placed::Placed;
 use std::marker::Model;
 use tl_base::Bytes;
+use tl_combinators::Program;
 
-/// A type.
-#[derive(Clone, Copy, Debug, PartialEq, Eq)]
+/// A type. From "TL language" (core.telegram.org/mtproto/TL): its boxed and bare types.
+#[derive(Debug, Drop)]
 pub enum TypeRef {
     /// 32 bits, signed.
     Int,
     /// 64 bits, signed.
     Long,
+    /// `#`: 32 bits, unsigned.
+    Nat,
+    /// Eight bytes.
+    Double,
+    /// Sixteen bytes.
+    Int128,
+    /// Thirty-two bytes.
+    Int256,
+    /// `string`.
+    Str,
+    /// `bytes`.
+    Raw,
+    /// `?true`: a flag, which stands behind a condition and takes no bytes.
+    Flag,
+    /// A call of any function.
+    Call,
+    /// A variable of the declaration, by its place.
+    Var { place: u32 },
+    Vector { boxed: bool, item: Box<TypeRef> },
     /// One of the constructors of the type with this number. Types are numbered from 0, in the order of their first constructors.
-    Boxed { head: u32 },
+    Boxed { head: u32, args: Vec<TypeRef> },
+    /// The constructor at this place among the declarations, without its number.
+    Bare { entry: u32, args: Vec<TypeRef> },
 }
 
 /// A field of a declaration.
 #[derive(Debug, Drop)]
 pub struct SchemaField {
     pub name: Bytes,
+    /// The place of the `#` field and its bit, from 0, where the field has a condition.
+    pub cond: Option<(u32, u32)>,
+    /// The place of the variable that the result of the call is, where the field is a call.
+    pub var: Option<u32>,
     pub of: TypeRef,
 }
 
-/// A declaration: its name, its number, its type's number and its fields.
+/// A declaration: its name, its number, how many variables it has, its fields, and what it constructs or results in.
 #[derive(Debug, Drop)]
 pub struct Entry {
     pub name: Bytes,
+    /// The line of a built-in type has the number 0, but that of `vector` 1cb5c415.
     pub number: u32,
-    pub head: u32,
+    pub vars: u32,
     pub fields: Vec<SchemaField>,
+    pub function: bool,
+    /// The number of the type that it constructs; of a function and of a built-in type's line the number of types.
+    pub head: u32,
+    pub result: TypeRef,
 }
 
-/// A schema: declarations whose names and numbers are apart, and the names of their types.
+/// A schema: a program that passes the checks, and its entries.
 #[derive(Drop)]
 pub struct Schema {
+    program: Program,
     entries: Vec<Entry>,
-    names: Names,
-    types: Names,
+    constructors: Placed,
+    functions: Placed,
+    types: u32,
 }
 
 impl Model for Schema {
     ghost use Rattle.std.specs.Prelude.{map};
+    ghost use Rattle.tl_combinators.specs.Program.{program_text};
     ghost use Rattle.tl_types.specs.Schemas.{Declared};
     ghost use Rattle.tl_types.specs.Seen.{declaration};
-    ghost use Rattle.tl_types.specs.CheckedSchema.{IsCheckedSchema};
+    ghost use Rattle.tl_types.specs.SchemaCodes.{declared_code};
+    ghost use Rattle.tl_types.specs.SchemaParts.{IsSound};
 
     ghost Value = { Declared };
 
-    ghost view = { λ s. record { decls = map declaration s.entries.items; types = s.types } };
+    ghost coded = { declared_code };
 
-    ghost invariant = { λ s. IsCheckedSchema (record { decls = map declaration s.entries.items; types = s.types }) s.names };
+    ghost view = { λ s. record { program = program_text s.program; decls = map declaration s.entries.items } };
+
+    ghost invariant = { λ s. IsSound (record { program = program_text s.program; decls = map declaration s.entries.items }) s.constructors s.functions s.types };
 }
 
 impl Schema {
-    pub(crate) fn new(entries: Vec<Entry>, names: Names, types: Names) -> Schema
-        requires { IsCheckedSchema (record { decls = map declaration entries.items; types = types }) names }
-        ensures value { result ≡ record { decls = map declaration entries.items; types = types } }
-        ensures sound { IsSchema result.decls }
+    pub(crate) fn new(
+        program: Program,
+        entries: Vec<Entry>,
+        constructors: Placed,
+        functions: Placed,
+        types: u32,
+    ) -> Schema
+        requires { IsSound (record { program = program_text program; decls = map declaration entries.items }) constructors functions types }
+        ensures value { result ≡ record { program = program_text program; decls = map declaration entries.items } }
     {
         Schema {
+            program,
             entries,
-            names,
+            constructors,
+            functions,
             types,
         }
     }
@@ -73,12 +118,19 @@ impl Schema {
     /// The number of declarations.
     pub fn count(&self) -> u32
         ensures count { result ≡ length self.now.decls }
-        ensures sound { IsSchema self.now.decls }
+        ensures sound { IsSchema self.now }
     {
         self.entries.len() as u32
     }
 
-    /// The declaration at a place.
+    /// The number of types.
+    pub fn type_count(&self) -> u32
+        ensures { result ≡ length (types_of self.now.program) }
+    {
+        self.types
+    }
+
+    /// The entry of the declaration at a place.
     pub fn entry(&self, i: u32) -> &Entry
         requires { i < length self.now.decls }
         ensures { slice_get self.now.decls i ≡ Some (declaration result.now) }
@@ -86,23 +138,22 @@ impl Schema {
         &self.entries[i as usize]
     }
 
-    /// The place of the declaration with this name.
-    pub fn find(&self, name: &[u8]) -> Option<u32>
-        ensures { Finds self.now.decls name.now result }
+    /// The place of the function with this name, or of the constructor; the line of a built-in type is a constructor.
+    pub fn find(&self, name: &[u8], function: bool) -> Option<u32>
+        ensures { Finds self.now.decls name.now function result }
     {
-        match self.names.place(name) {
-            Some(i) => Some(i as u32),
-            None => None,
+        if function {
+            self.functions.get(name)
+        } else {
+            self.constructors.get(name)
         }
     }
 
-    /// The number of the type with this name.
-    pub(crate) fn head(&self, name: &[u8]) -> Option<u32>
-        ensures { result ≡ place name.now self.now.types }
+    /// The program that it was made of.
+    pub(crate) fn program(&self) -> &Program
+        ensures same { program_text result.now ≡ self.now.program }
+        ensures sound { IsSchema self.now }
     {
-        match self.types.place(name) {
-            Some(head) => Some(head as u32),
-            None => None,
-        }
+        &self.program
     }
 }

@@ -1,14 +1,83 @@
 //! Types by their texts.
-ghost use Rattle.tl_types.specs.Checking.{NamesType};
+ghost use Rattle.std.specs.Prelude.{◌≡◌};
+ghost use Rattle.tl_combinators.specs.Trees.{view};
+ghost use Rattle.tl_combinators.specs.Program.{decl_text, program_text};
+ghost use Rattle.tl_types.specs.Meanings.{IsSmall};
+ghost use Rattle.tl_types.specs.AskedTypes.{ChecksType, NamesType, asker};
 
-use crate::{Schema, TypeFault, TypeRef};
+use crate::arities::Arities;
+use crate::empties::empties;
+use crate::empty_element::has_empty_argument;
+use crate::not_bare::writes_no_bare;
+use crate::scope::Scope;
+use crate::terms::type_term;
+use crate::unknown_type::writes_unknown;
+use crate::wrong_arity::has_misapplied;
+use crate::{Schema, TypeCause, TypeFault, TypeRef};
+use std::alloc::Global;
+use tl_base::Bytes;
+use tl_combinators::{Decl, Program, TypeTree, parse_type};
+use tl_lexer::lex;
 
-/// The type that a text names: a type of the schema, by its name.
-pub fn type_of(schema: &Schema, text: &[u8]) -> Result<TypeRef, TypeFault>
-    ensures { NamesType schema.now.types text.now result }
+/// The type that a text names: a closed type of the schema, or `!` for a call of any of its functions.
+pub fn type_of(alloc: Global, schema: &Schema, text: &[u8]) -> Result<TypeRef, TypeFault>
+    ensures { NamesType schema.now.program text.now result }
 {
-    match schema.head(text) {
-        Some(head) => Ok(TypeRef::Boxed { head }),
-        None => Err(TypeFault::NotYetBuilt),
+    let tokens = lex(alloc, text)?;
+    let tree = parse_type(alloc, text, &tokens)?;
+    checked_type(alloc, schema.program(), &asker(alloc), &tree)
+}
+
+// Who asks for a type: no declaration of the program, and one without variables.
+fn asker(alloc: Global) -> Decl
+    ensures { decl_text result ≡ asker }
+{
+    Decl {
+        name: Bytes::new(alloc),
+        number: None,
+        vars: Vec::new(alloc),
+        fields: Vec::new(alloc),
+        result: TypeTree::AnyCall,
+        function: true,
+        builtin: false,
+        text: Bytes::new(alloc),
     }
+}
+
+// The type, where it has none of the causes that a type alone can have.
+fn checked_type(
+    alloc: Global,
+    program: &Program,
+    decl: &Decl,
+    tree: &TypeTree,
+) -> Result<TypeRef, TypeFault>
+    requires small { IsSmall (program_text program.now) }
+    requires asks { decl_text decl.now ≡ asker }
+    ensures { ChecksType (program_text program.now) (view tree.now) result }
+{
+    let scope = Scope::of(alloc, program)?;
+    let arities = Arities::of(alloc, program)?;
+    let marks = empties(alloc, scope.index(), program)?;
+    if writes_unknown(scope.index(), decl, tree) {
+        return Err(TypeFault::Refused {
+            cause: TypeCause::UnknownType,
+        });
+    }
+    if has_misapplied(tree, &arities, decl) {
+        return Err(TypeFault::Refused {
+            cause: TypeCause::WrongArity,
+        });
+    }
+    if writes_no_bare(scope.index(), decl, tree) {
+        return Err(TypeFault::Refused {
+            cause: TypeCause::NotBare,
+        });
+    }
+    if has_empty_argument(scope.index(), &marks, decl, tree) {
+        return Err(TypeFault::Refused {
+            cause: TypeCause::EmptyElement,
+        });
+    }
+    let term = type_term(alloc, &scope, decl, tree)?;
+    Ok(term)
 }

@@ -1,13 +1,15 @@
 //! The second check: each name of a type has a declaration.
 ghost use Rattle.std.specs.Prelude.{◌≡◌, ◌<◌, ◌^◌, ◌↔◌, IsTrue, IfOk, length};
 ghost use Rattle.tl_combinators.specs.Program.{decl_text, program_text};
+ghost use Rattle.tl_combinators.specs.Trees.{view};
 ghost use Rattle.tl_types.specs.Writing.{First};
 ghost use Rattle.tl_types.specs.UnknownType.{IsUnknown, UnknownType};
-ghost use Rattle.tl_types.specs.UnknownNames.{IsUnknownIn};
+ghost use Rattle.tl_types.specs.UnknownNames.{BeginsUnknown, IsUnknownIn};
+ghost use Rattle.tl_types.specs.Parts.{SomePart};
 
 use crate::index::Index;
 use crate::meanings::{is_built_in, is_type_name, is_variable};
-use crate::parts::{TypeTest, writes};
+use crate::parts::{TypeTest, has_part, writes};
 use std::alloc::{AllocError, Global};
 use tl_combinators::{Decl, Program, TypeTree};
 
@@ -19,6 +21,13 @@ pub fn first_unknown_type(alloc: Global, program: &Program) -> Result<Option<u32
 {
     let index = Index::of(alloc, program)?;
     Ok(first_in(&index, program))
+}
+
+/// Whether a type or a part of it begins with a name that is unknown where a declaration writes it.
+pub fn writes_unknown(index: &Index, decl: &Decl, tree: &TypeTree) -> bool
+    ensures { IsTrue result ↔ SomePart (BeginsUnknown index.now (decl_text decl.now)) (view tree.now) }
+{
+    has_part(tree, &UnknownName { index, decl })
 }
 
 fn first_in(index: &Index, program: &Program) -> Option<u32>

@@ -1,29 +1,17 @@
+use crate::texts::program;
 use crate::unknown_type::first_unknown_type;
 use std::alloc::Global;
-use tl_combinators::parse;
-use tl_lexer::lex;
+use std::test::Fail;
 
 // All answers are worked out by hand from the rules in specs/UnknownType.antt.
 
-fn answers(alloc: Global, text: &str, wanted: Option<u32>) -> bool {
-    let bytes = text.as_bytes();
-    let Ok(tokens) = lex(alloc, bytes) else {
-        return false;
-    };
-    let Ok(program) = parse(alloc, bytes, tokens.as_slice()) else {
-        return false;
-    };
-    if program.decls.len() > 16 {
-        return false;
-    }
-    match first_unknown_type(alloc, &program) {
-        Ok(found) => found == wanted,
-        Err(_) => false,
-    }
+fn answers(alloc: Global, text: &str, wanted: Option<u32>) -> Result<bool, Fail> {
+    let program = program(alloc, text)?;
+    Ok(first_unknown_type(alloc, &program)? == wanted)
 }
 
 #[test]
-fn knows_what_is_declared_built_in_or_a_variable(rt: HostRuntime) {
+fn knows_what_is_declared_built_in_or_a_variable(rt: HostRuntime) -> Result<(), Fail> {
     let rows: [&str; 5] = [
         "",
         "a x:B y:b = A; b z:int = B;",
@@ -32,12 +20,13 @@ fn knows_what_is_declared_built_in_or_a_variable(rt: HostRuntime) {
         "geo.point = geo.Point; a x:geo.Point y:geo.point = A;",
     ];
     for text in rows {
-        assert!(rt; answers(rt.alloc(), text, None));
+        assert!(rt; answers(rt.alloc(), text, None)?);
     }
+    Ok(())
 }
 
 #[test]
-fn finds_the_first_that_writes_an_unknown_name(rt: HostRuntime) {
+fn finds_the_first_that_writes_an_unknown_name(rt: HostRuntime) -> Result<(), Fail> {
     let rows: [(&str, u32); 7] = [
         ("a x:B = A;", 0),
         ("a = A; b x:A = B; c x:D = C; d x:E = A;", 2),
@@ -51,6 +40,7 @@ fn finds_the_first_that_writes_an_unknown_name(rt: HostRuntime) {
         ("a = A; ---functions--- get = Got;", 1),
     ];
     for (text, at) in rows {
-        assert!(rt; answers(rt.alloc(), text, Some(at)));
+        assert!(rt; answers(rt.alloc(), text, Some(at))?);
     }
+    Ok(())
 }

@@ -20,8 +20,8 @@ fn is_misapplied(arities: &Arities, decl: &Decl, name: &[u8], count: usize) -> b
     }
 }
 
-// The same of some part of a type.
-fn has_misapplied(tree: &TypeTree, arities: &Arities, decl: &Decl) -> bool
+/// Whether the declaration applies some name to a wrong number of types in this type.
+pub fn has_misapplied(tree: &TypeTree, arities: &Arities, decl: &Decl) -> bool
     ensures { IsTrue result ↔ Misapplies (program_text arities.now) (decl_text decl.now) (λ u. IsPart u (view tree.now)) }
 {
     match tree {

@@ -1,30 +1,18 @@
+use crate::texts::program;
 use crate::wrong_arity::first_wrong_arity;
 use std::alloc::Global;
-use tl_combinators::parse;
-use tl_lexer::lex;
+use std::test::Fail;
 
 // The answers are worked out by hand from the rules in specs/.
 
 // Whether this is the answer for what the text declares.
-fn answers(alloc: Global, text: &str, wanted: Option<u32>) -> bool {
-    let bytes = text.as_bytes();
-    let Ok(tokens) = lex(alloc, bytes) else {
-        return false;
-    };
-    let Ok(program) = parse(alloc, bytes, tokens.as_slice()) else {
-        return false;
-    };
-    if program.decls.len() > 16 {
-        return false;
-    }
-    match first_wrong_arity(alloc, &program) {
-        Ok(found) => found == wanted,
-        Err(_) => false,
-    }
+fn answers(alloc: Global, text: &str, wanted: Option<u32>) -> Result<bool, Fail> {
+    let program = program(alloc, text)?;
+    Ok(first_wrong_arity(alloc, &program)? == wanted)
 }
 
 #[test]
-fn finds_a_wrong_number_of_arguments(rt: HostRuntime) {
+fn finds_a_wrong_number_of_arguments(rt: HostRuntime) -> Result<(), Fail> {
     let rows: [(&str, Option<u32>); 6] = [
         (
             "pair {X:Type} {Y:Type} x:X y:Y = Pair X Y; use a:(Pair int long) = Use; bad a:(Pair int) = Bad;",
@@ -46,12 +34,13 @@ fn finds_a_wrong_number_of_arguments(rt: HostRuntime) {
         ("bad a:(int int) = Bad;", Some(0)),
     ];
     for (text, wanted) in rows {
-        assert!(rt; answers(rt.alloc(), text, wanted), "{text}");
+        assert!(rt; answers(rt.alloc(), text, wanted)?, "{text}");
     }
+    Ok(())
 }
 
 #[test]
-fn finds_a_type_whose_constructors_differ(rt: HostRuntime) {
+fn finds_a_type_whose_constructors_differ(rt: HostRuntime) -> Result<(), Fail> {
     let rows: [(&str, Option<u32>); 2] = [
         (
             "use a:(Either int) = Use; left {X:Type} x:X = Either X; right {X:Type} {Y:Type} y:Y = Either X;",
@@ -63,14 +52,16 @@ fn finds_a_type_whose_constructors_differ(rt: HostRuntime) {
         ),
     ];
     for (text, wanted) in rows {
-        assert!(rt; answers(rt.alloc(), text, wanted), "{text}");
+        assert!(rt; answers(rt.alloc(), text, wanted)?, "{text}");
     }
+    Ok(())
 }
 
 // An unknown name has no number of variables, and the line of a built-in type writes none.
 #[test]
-fn lets_unknown_names_pass(rt: HostRuntime) {
+fn lets_unknown_names_pass(rt: HostRuntime) -> Result<(), Fail> {
     let text =
         "int ? = Int; use a:(Other int long) b:other = Use; vector {t:Type} # [ t ] = Vector t;";
-    assert!(rt; answers(rt.alloc(), text, None));
+    assert!(rt; answers(rt.alloc(), text, None)?);
+    Ok(())
 }

@@ -1,109 +1,50 @@
 -- Words and files of bytes have an answer.
-use Rattle.std.proofs.Common.{◌≡◌, ◌≢◌, ◌⊎◌, ℕ, ◌<◌, ◌≤◌, ◌^◌, List, [], ◌∷◌, ◌++◌, append-nil, length, slice_get, Option, Some, None, refl, sym, ap, ◌∙◌, subst, inl, inr, arith, codes, All, Bool, true, false}
-use Rattle.std.proofs.lemmas.Bool.{cases_Bool, cases_eq}
+use Rattle.std.proofs.Common.{◌≡◌, ◌≢◌, ℕ, ◌≤◌, List, [], ◌∷◌, ◌++◌, append-nil, length, refl, sym, ap, ◌∙◌, subst, inl, inr, arith, codes}
+use Rattle.std.proofs.lemmas.Bool.{cases_eq}
 use Rattle.tl_base.specs.Contents.{AreBytes, Files, HoldBytes}
 use Rattle.tl_base.specs.Outside.{HasFile}
-use Rattle.tl_lexer.specs.declared.token.Token.{Token}
-use Rattle.tl_lexer.specs.Tokens.{Tokens, LexRefused}
-use Rattle.tl_lexer.specs.OneAnswer.{HasTokens, IsRefused as TextRefused}
 use Rattle.tl_lexer.proofs.Whole.{Decided}
-use Rattle.tl_lexer.proofs.WholePieces.{one_answer as lexer_law}
-use Rattle.tl_combinators.specs.declared.fault.SyntaxFault.{SyntaxFault}
-use Rattle.tl_combinators.specs.declared.fault.SyntaxFault.TheVariants as syntax
-use Rattle.tl_combinators.specs.Program.{DeclText}
-use Rattle.tl_combinators.specs.Sentences.{Reads, SyntaxRefused}
 use Rattle.tl_combinators.proofs.Decided.{decided_and, decided_not, text_decided}
-use Rattle.tl_combinators.proofs.WrittenNumbers.{IsSmall, numbers_fit}
-use Rattle.tl_combinators.proofs.Causes.{no_memory as no_memory_of_tokens}
-use Rattle.tl_combinators.proofs.OneProgram.{one_program}
-use Rattle.tl_types.specs.Types.{boxed}
+use Rattle.tl_types.specs.PlainTypes.{boxed}
+use Rattle.tl_types.specs.PlainViews.{plain_decls}
 use Rattle.tl_types.specs.Values.{Tree, depth}
 use Rattle.tl_types.specs.Schemas.{Declared}
-use Rattle.tl_types.specs.Plain.{PlainDecl, is_plain_program, plain_program, plain_decl}
-use Rattle.tl_types.specs.Checking.{Accepted, CheckRefused, types_of, place}
-use Rattle.tl_types.specs.CheckCauses.{Passes, RefusedAt}
-use Rattle.tl_types.specs.CheckedPrograms.{declared_by}
-use Rattle.tl_types.specs.declared.fault.CheckCause.{CheckCause}
-use Rattle.tl_types.proofs.CheckOrder.{passed_or_refused}
 use Rattle.tl_types.specs.Spelling.{Spells}
-use Rattle.tl_types.proofs.Declarations.{accepted_schema}
-use Rattle.tl_types.proofs.PlainPrograms.{few_plain, plain_fit}
-use Rattle.tl_types.proofs.Deciding.{each_checked}
 use Rattle.tl_types.proofs.Exactly.{either}
 use Rattle.update_replay.specs.declared.profile.TheConstants.{PROFILE_TEXT}
 use Rattle.update_replay.proofs.Deciding.{each_replayed}
-use Rattle.tl_lexer.specs.declared.fault.LexFault.TheVariants as lex
-use Rattle.tlbox.specs.declared.stop.SchemaCause.{SchemaCause}
-use Rattle.tlbox.specs.declared.stop.SchemaCause.TheVariants.{TextTooLong, BadByte, OpenComment, Unexpected, NotProfile, TooMany, Checked, NotYetBuilt}
-use Rattle.tlbox.specs.Answer.{Answer, IsOperand, AskDecode, AskReplay}
-use Rattle.tlbox.specs.DecodeAnswers.{IsSchemaText, SchemaRefused, too_long, bad_byte, open_comment, unexpected, not_profile, too_many, checked, by_checks, OfInput, whole, longer, faulty, OfType, unknown, named, OfSchema, no_schema, schema_of, DecodeAnswer}
+use Rattle.tlbox.specs.declared.decoder.TheConstants.{MAX_LEVELS}
+use Rattle.tlbox.specs.Answer.{Answer, IsOperand, AskCheck, AskDecode, AskReplay}
+use Rattle.tlbox.specs.CheckAnswers.{OfChecked, no_schema, listed, CheckAnswer}
+use Rattle.tlbox.specs.DecodeAnswers.{OfInput, whole, longer, faulty, OfType, no_type, typed, OfSchema, schema_of, DecodeAnswer}
+use Rattle.tlbox.specs.DecodeAnswers as decoded
 use Rattle.tlbox.specs.ReplayAnswers.{OfProfile, other_text, profile_text, ReplayAnswer}
-use Rattle.tlbox.specs.Answers.{no_row, decode, replay, Asks, nothing, to_decode, to_replay, IsFile, HasAnAnswer}
-use Rattle.tlbox.proofs.Loading.{file_bytes}
+use Rattle.tlbox.specs.Answers.{no_row, check, decode, replay, Asks, nothing, to_check, to_decode, to_replay, IsFile, HasAnAnswer}
+use Rattle.tlbox.proofs.SameFiles.{file_bytes}
 use Rattle.tlbox.proofs.OneReplay.{answer_of, settled_answer}
-use Rattle.tlbox.proofs.OneFault.{no_memory}
+use Rattle.tlbox.proofs.OneSchemaText.{schema_or_refused}
+use Rattle.tlbox.proofs.OneTypeName.{type_or_refused}
 
--- ---- a schema's text
+-- ---- check
 
-module _ (text : List ℕ) where
-  -- the schema of the text, or its refusal
-  abbrev Read : Type 0
-  Read = ((schema : Declared) × IsSchemaText text schema) ⊎ ((cause : SchemaCause) × SchemaRefused text cause)
+each_checked : (text : List ℕ) → (a : Answer) × OfChecked text a
+each_checked text = elim (schema_or_refused text) [
+  | inl (schema, is) ↦ (_, listed schema is refl)
+  | inr (cause, r) ↦ (_, no_schema cause r refl)
+]
 
-  -- the tokens read as these declarations
-  module _ (ts : List Token) (ds : List DeclText) (t : Tokens text ts) (r : Reads text ts ds) where
-    plain_checks : Passes ds → is_plain_program ds ≡ true → Accepted (plain_program ds) ⊎ CheckRefused (plain_program ds) → Read
-    plain_checks passes plain (inl accepts) = inl (
-      declared_by ds,
-      record {
-        tokens = ts;
-        program = ds;
-        lexed = t;
-        parsed = r;
-        passed = record { passes = passes; plain = plain; accepted = accepts };
-        schema_is = refl;
-        sound = accepted_schema (types_of (plain_program ds)) (plain_program ds) accepts (few_plain ds plain) (plain_fit ds (numbers_fit text ts ds r));
-      },
-    )
-    plain_checks passes plain (inr refused) = inr (NotYetBuilt, by_checks ts ds t r (record { passes = passes; other = inr (plain, refused) }))
-
-    passed : Passes ds → (is_plain_program ds ≡ true) ⊎ (is_plain_program ds ≡ false) → Read
-    passed passes (inl plain) = plain_checks passes plain (each_checked (plain_program ds))
-    passed passes (inr other) = inr (NotYetBuilt, by_checks ts ds t r (record { passes = passes; other = inl other }))
-
-    checks : Passes ds ⊎ ((k : ℕ) × (c : CheckCause) × RefusedAt ds k c) → Read
-    checks (inl passes) = passed passes (cases_Bool (is_plain_program ds))
-    checks (inr (k, c, has)) = inr (Checked k c, checked ts ds k c t r has)
-
-  faults : (ts : List Token) (f : SyntaxFault) → Tokens text ts → SyntaxRefused text ts f → Read
-  faults ts (syntax.Unexpected at) t r = inr (Unexpected at, unexpected ts at t r)
-  faults ts (syntax.NotProfile at form) t r = inr (NotProfile at form, not_profile ts at form t r)
-  faults ts (syntax.TooMany at) t r = inr (TooMany at, too_many ts at t r)
-  faults ts syntax.Memory t r = absurd (no_memory_of_tokens text ts r)
-
-  parses : (ts : List Token) → Tokens text ts → ((ds : List DeclText) × Reads text ts ds) ⊎ ((f : SyntaxFault) × SyntaxRefused text ts f) → Read
-  parses ts t (inl (ds, r)) = checks ts ds t r (passed_or_refused ds)
-  parses ts t (inr (f, r)) = faults ts f t r
-
-  lexes : HasTokens text ⊎ TextRefused text → Read
-  lexes (inl (ts, t)) = parses ts t (one_program text ts).either
-  lexes (inr (lex.TextTooLong, r)) = inr (TextTooLong, too_long r)
-  lexes (inr (lex.BadByte at, r)) = inr (BadByte at, bad_byte at r)
-  lexes (inr (lex.OpenComment at, r)) = inr (OpenComment at, open_comment at r)
-  lexes (inr (lex.Memory, r)) = absurd (no_memory text r)
-
-  each_text : Read
-  each_text = lexes (lexer_law text).one
+each_check : (files : Files) (schema : List ℕ) → IsFile files schema → (a : Answer) × CheckAnswer files schema a
+each_check files schema (text, has) = let tells = each_checked text in (tells.0, (text, has, tells.1))
 
 -- ---- an input
 
 module _ (schema : Declared) (head : ℕ) (bytes : List ℕ) where
-  spelled : (t : Tree) (x rest : List ℕ) → bytes ≡ x ++ rest → Spells schema.decls (boxed head) t x → depth t ≤ 120 → (a : Answer) × OfInput schema head bytes a
-  spelled t x [] split s d = (_, whole t (subst (Spells schema.decls (boxed head) t) (sym (split ∙ append-nil x)) s) d refl)
+  spelled : (t : Tree) (x rest : List ℕ) → bytes ≡ x ++ rest → Spells (plain_decls schema) (boxed head) t x → depth t ≤ MAX_LEVELS → (a : Answer) × OfInput schema head bytes a
+  spelled t x [] split s d = (_, whole t (subst (Spells (plain_decls schema) (boxed head) t) (sym (split ∙ append-nil x)) s) d refl)
   spelled t x (b ∷ rest) split s d = (_, longer t x rest b split s d refl)
 
   each_input : AreBytes bytes → (a : Answer) × OfInput schema head bytes a
-  each_input are = elim (either schema.decls 120 (boxed head) bytes are) [
+  each_input are = elim (either (plain_decls schema) MAX_LEVELS (boxed head) bytes are) [
     | inl (t, x, (rest, split, s, d)) ↦ spelled t x rest split s d
     | inr (at, why, r) ↦ (_, faulty at why r refl)
   ]
@@ -111,15 +52,16 @@ module _ (schema : Declared) (head : ℕ) (bytes : List ℕ) where
 -- ---- decode
 
 module _ (files : Files) (good : HoldBytes files) where
-  each_type : (schema : Declared) (type input : List ℕ) (found : Option ℕ) → place type schema.types ≡ found → IsFile files input → (a : Answer) × OfType schema type input files a
-  each_type schema type input None at file = (_, unknown at refl)
-  each_type schema type input (Some head) at (bytes, has) =
-      let tells = each_input schema head bytes (file_bytes files input bytes good has) in (tells.0, named head bytes at has tells.1)
+  each_type : (schema : Declared) (type input : List ℕ) → IsFile files input → (a : Answer) × OfType schema type input files a
+  each_type schema type input (bytes, has) = elim (type_or_refused schema type) [
+    | inl (s, head, means, plain) ↦ (let tells = each_input schema head bytes (file_bytes files input bytes good has) in (tells.0, typed s head bytes means plain has tells.1))
+    | inr (cause, r) ↦ (_, no_type cause r refl)
+  ]
 
   each_schema : (text type input : List ℕ) → IsFile files input → (a : Answer) × OfSchema text type input files a
-  each_schema text type input file = elim (each_text text) [
-    | inl (schema, is) ↦ (let tells = each_type schema type input (place type schema.types) refl file in (tells.0, schema_of schema is tells.1))
-    | inr (cause, r) ↦ (_, no_schema cause r refl)
+  each_schema text type input file = elim (schema_or_refused text) [
+    | inl (schema, is) ↦ (let tells = each_type schema type input file in (tells.0, schema_of schema is tells.1))
+    | inr (cause, r) ↦ (_, decoded.no_schema cause r refl)
   ]
 
   each_decode : (schema type input : List ℕ) → IsFile files schema → IsFile files input → (a : Answer) × DecodeAnswer files schema type input a
@@ -139,6 +81,7 @@ module _ (files : Files) (good : HoldBytes files) where
 pub an_answer : HasAnAnswer
 an_answer words files good = record {
   of_none = λ asked. no_row asked refl;
+  of_check = λ schema asked there. (let tells = each_check files schema there in (tells.0, check schema asked tells.1));
   of_decode = λ schema type input asked there also. (let tells = each_decode files good schema type input there also in (tells.0, decode schema type input asked tells.1));
   of_replay = λ schema journal asked there also. (let tells = each_replay files good schema journal there also in (tells.0, replay schema journal asked tells.1));
 }
@@ -150,8 +93,29 @@ operand_decided [] = inr (λ h. h)
 operand_decided (b ∷ bs) = decided_not (cases_eq b 45)
 
 -- the parts of a row
+two_parts : {A : Type 0} (a b s t : A) → a ∷ b ∷ [] ≡ s ∷ t ∷ [] → (a ≡ s) × (b ≡ t)
+two_parts a b s t e = (cc, cc)
+
 parts : {A : Type 0} (a b c d s t u v : A) → a ∷ b ∷ c ∷ d ∷ [] ≡ s ∷ t ∷ u ∷ v ∷ [] → (a ≡ s) × (b ≡ t) × (c ≡ u) × (d ≡ v)
 parts a b c d s t u v e = (cc, cc, cc, cc)
+
+module _ (a b : List ℕ) where
+  abbrev IsCheck : Type 0
+  IsCheck = (a ≡ codes "check") × IsOperand b
+
+  was_check : (schema : List ℕ) → AskCheck (a ∷ b ∷ []) schema → IsCheck
+  was_check schema asked = let p = two_parts a b (codes "check") schema asked.row in (p.0, subst IsOperand (sym p.1) asked.schema_word)
+
+  two_words : Decided IsCheck → Asks (a ∷ b ∷ [])
+  two_words (inl h) = to_check b (record { row = ap (λ (x : List ℕ). x ∷ b ∷ []) h.0; schema_word = h.1 })
+  two_words (inr n) = nothing (record {
+    no_check = λ schema asked. n (was_check schema asked);
+    no_decode = λ schema type input asked. (let e : ◌≡◌ {A = ℕ} 2 4 = ap length asked.row in omega (arith, e));
+    no_replay = λ schema journal asked. (let e : ◌≡◌ {A = ℕ} 2 4 = ap length asked.row in omega (arith, e));
+  })
+
+  two_ask : Asks (a ∷ b ∷ [])
+  two_ask = two_words (decided_and (text_decided a (codes "check")) (operand_decided b))
 
 module _ (a b c d : List ℕ) where
   abbrev IsDecode : Type 0
@@ -178,6 +142,7 @@ module _ (a b c d : List ℕ) where
   row_asks (inr n) (inl h) =
       to_replay b c (record { row = ap (λ (x : List ℕ). x ∷ b ∷ c ∷ d ∷ []) h.0.0 ∙ ap (λ (x : List ℕ). codes "replay" ∷ b ∷ c ∷ x ∷ []) h.0.1; schema_word = h.1.0; journal_word = h.1.1 })
   row_asks (inr n) (inr m) = nothing (record {
+    no_check = λ schema asked. (let e : ◌≡◌ {A = ℕ} 4 2 = ap length asked.row in omega (arith, e));
     no_decode = λ schema type input asked. n (was_decode schema type input asked);
     no_replay = λ schema journal asked. m (was_replay schema journal asked);
   })
@@ -187,16 +152,17 @@ module _ (a b c d : List ℕ) where
       (decided_and (decided_and (text_decided a (codes "decode")) (operand_decided b)) (decided_and (operand_decided c) (operand_decided d)))
       (decided_and (decided_and (text_decided a (codes "replay")) (text_decided d (codes "1"))) (decided_and (operand_decided b) (operand_decided c)))
 
-others_ask : (words : List (List ℕ)) → length words ≢ 4 → Asks words
-others_ask words n = nothing (record {
+others_ask : (words : List (List ℕ)) → length words ≢ 2 → length words ≢ 4 → Asks words
+others_ask words m n = nothing (record {
+  no_check = λ schema asked. m (ap length asked.row);
   no_decode = λ schema type input asked. n (ap length asked.row);
   no_replay = λ schema journal asked. n (ap length asked.row);
 })
 
 pub each_asks : (words : List (List ℕ)) → Asks words
-each_asks [] = others_ask [] (λ e. omega (arith, e))
-each_asks (a ∷ []) = others_ask (a ∷ []) (λ e. omega (arith, e))
-each_asks (a ∷ b ∷ []) = others_ask (a ∷ b ∷ []) (λ e. omega (arith, e))
-each_asks (a ∷ b ∷ c ∷ []) = others_ask (a ∷ b ∷ c ∷ []) (λ e. omega (arith, e))
+each_asks [] = others_ask [] (λ e. omega (arith, e)) (λ e. omega (arith, e))
+each_asks (a ∷ []) = others_ask (a ∷ []) (λ e. omega (arith, e)) (λ e. omega (arith, e))
+each_asks (a ∷ b ∷ []) = two_ask a b
+each_asks (a ∷ b ∷ c ∷ []) = others_ask (a ∷ b ∷ c ∷ []) (λ e. omega (arith, e)) (λ e. omega (arith, e))
 each_asks (a ∷ b ∷ c ∷ d ∷ []) = four_ask a b c d
-each_asks (a ∷ b ∷ c ∷ d ∷ e ∷ more) = others_ask (a ∷ b ∷ c ∷ d ∷ e ∷ more) (λ f. omega (arith, f))
+each_asks (a ∷ b ∷ c ∷ d ∷ e ∷ more) = others_ask (a ∷ b ∷ c ∷ d ∷ e ∷ more) (λ f. omega (arith, f)) (λ f. omega (arith, f))

@@ -7,7 +7,7 @@ use Rattle.serde_json.specs.Data.{Data, Members, no_members, member, put}
 use Rattle.serde_json.specs.Find.{of_integer, is_float}
 use Rattle.serde_json.specs.Written.{has_float, members_have_float}
 use Rattle.tl_types.specs.Values.{Tree, int, long, node, Trees, no_trees, tree}
-use Rattle.tl_types.specs.Schemas.{Slot, Declaration}
+use Rattle.tl_types.specs.PlainSchemas.{PlainSlot, PlainDeclaration}
 use Rattle.tl_types.specs.Reading.{fields_in}
 use Rattle.tlbox.specs.Shown.{shown, with_fields, named, name_in, name_text}
 
@@ -42,29 +42,29 @@ put_no_float k d (member l x ms) e h =
     chosen (slice_cmp nat_cmp k l) (member k d (member l x ms)) (member l d ms) (member l x (put k d ms)) (neither _ _ e h) (neither _ _ e behind) (neither _ _ here (put_no_float k d ms e behind))
 
 mutual
-  pub no_float : (ds : List Declaration) (t : Tree) → has_float (shown ds t) ≡ false
+  pub no_float : (ds : List PlainDeclaration) (t : Tree) → has_float (shown ds t) ≡ false
   no_float ds (int z) = whole z
   no_float ds (long z) = whole z
   no_float ds (node i ts) = no_floats ds (named (name_in ds i)) (fields_in ds i) ts refl
 
-  pub no_floats : (ds : List Declaration) (ms : Members) (fs : List Slot) (ts : Trees) → members_have_float ms ≡ false → members_have_float (with_fields ds ms fs ts) ≡ false
+  pub no_floats : (ds : List PlainDeclaration) (ms : Members) (fs : List PlainSlot) (ts : Trees) → members_have_float ms ≡ false → members_have_float (with_fields ds ms fs ts) ≡ false
   no_floats ds ms fs no_trees h = h
   no_floats ds ms [] (tree t ts) h = h
   no_floats ds ms (f ∷ fs) (tree t ts) h = no_floats ds (put (name_text f.name) (shown ds t) ms) fs ts (put_no_float _ _ ms (no_float ds t) h)
 
 -- ---- the declaration at a place
 
-pub name_there : (ds : List Declaration) (i : ℕ) (d : Declaration) → slice_get ds i ≡ Some d → name_in ds i ≡ d.name
+pub name_there : (ds : List PlainDeclaration) (i : ℕ) (d : PlainDeclaration) → slice_get ds i ≡ Some d → name_in ds i ≡ d.name
 name_there [] i d there = absurd cc
-name_there (e ∷ ds) zero d there = let is : e ≡ d = cc in ap (λ (x : Declaration). x.name) is
+name_there (e ∷ ds) zero d there = let is : e ≡ d = cc in ap (λ (x : PlainDeclaration). x.name) is
 name_there (e ∷ ds) (suc i) d there = name_there ds i d there
 
-pub name_past : (ds : List Declaration) (i : ℕ) → length ds ≤ i → name_in ds i ≡ []
+pub name_past : (ds : List PlainDeclaration) (i : ℕ) → length ds ≤ i → name_in ds i ≡ []
 name_past [] i le = refl
 name_past (e ∷ ds) zero le = absurd (omega arith)
 name_past (e ∷ ds) (suc i) le = name_past ds i (omega arith)
 
-pub fields_past : (ds : List Declaration) (i : ℕ) → length ds ≤ i → fields_in ds i ≡ []
+pub fields_past : (ds : List PlainDeclaration) (i : ℕ) → length ds ≤ i → fields_in ds i ≡ []
 fields_past [] i le = refl
 fields_past (e ∷ ds) zero le = absurd (omega arith)
 fields_past (e ∷ ds) (suc i) le = fields_past ds i (omega arith)

@@ -13,7 +13,8 @@ use Rattle.tlbox.specs.ReplayAnswers.{other_text, profile_text}
 use Rattle.tlbox.specs.Sound.{NeverFails, IsThere, ReplayAnswered}
 use Rattle.tlbox.specs.Steps.{ReadsText}
 use Rattle.tlbox.specs.ReplayJobs.{LoadsJournal}
-use Rattle.tlbox.proofs.Loading.{same_file, only_reads, then_reads}
+use Rattle.tlbox.proofs.Loading.{only_reads, then_reads}
+use Rattle.tlbox.proofs.SameFiles.{same_file}
 use Rattle.tlbox.proofs.Sound.{fails_as, then_fails}
 use Rattle.tlbox.proofs.Views.{told_as, told_then}
 

@@ -1,9 +1,9 @@
 -- A schema from its text and its file, and an input's value from its file.
-use Rattle.std.proofs.Common.{◌≡◌, ℕ, ◌<◌, ◌≤◌, List, [], ◌∷◌, ◌++◌, length, Option, Some, None, Result, Ok, Err, refl, sym, ap, ◌∙◌, subst, arith, inl, inr, append-nil, Vec, Global}
+use Rattle.std.proofs.Common.{◌≡◌, ℕ, ◌<◌, ◌≤◌, List, [], ◌++◌, length, Option, Some, None, Result, Ok, Err, refl, sym, ap, ◌∙◌, subst, arith, inl, inr, append-nil, Vec, Global}
 use Rattle.std.specs.Prelude.{IsErrAnd, IfSome}
 use Rattle.std.proofs.lemmas.List.{length-append}
 use Rattle.std.proofs.lemmas.Bool.{cases_lt}
-use Rattle.tl_base.specs.Contents.{AreBytes, Files, HoldBytes}
+use Rattle.tl_base.specs.Contents.{AreBytes, HoldBytes}
 use Rattle.tl_base.specs.Outside.{View, HasFile, with_left}
 use Rattle.tl_base.specs.Calls.{Told, Opens}
 use Rattle.tl_base.specs.declared.host.Slot.{Slot}
@@ -16,8 +16,9 @@ use Rattle.tl_combinators.specs.declared.fault.SyntaxFault.{SyntaxFault}
 use Rattle.tl_combinators.specs.declared.fault.SyntaxFault.TheVariants as syntax
 use Rattle.tl_combinators.specs.Program.{DeclText}
 use Rattle.tl_combinators.specs.Sentences.{Reads, SyntaxRefused, FaultIs}
-use Rattle.tl_types.specs.Types.{Shape}
-use Rattle.tl_types.specs.Schemas.{Declared, Declaration}
+use Rattle.tl_types.specs.PlainTypes.{PlainShape}
+use Rattle.tl_types.specs.Schemas.{Declared}
+use Rattle.tl_types.specs.PlainSchemas.{PlainDeclaration}
 use Rattle.tl_types.specs.CheckedPrograms.{Checks}
 use Rattle.tl_types.specs.declared.fault.CheckFault.{CheckFault}
 use Rattle.tl_types.specs.declared.fault.CheckFault.TheVariants as check
@@ -33,10 +34,12 @@ use Rattle.tl_lexer.specs.Lexed.{Lexes}
 use Rattle.tlbox.specs.Stops.{of_text, of_lex, of_syntax, of_check}
 use Rattle.tl_lexer.specs.declared.fault.LexFault.TheVariants as lex
 use Rattle.tlbox.specs.declared.stop.SchemaCause.{SchemaCause}
-use Rattle.tlbox.specs.declared.stop.SchemaCause.TheVariants.{TextTooLong, BadByte, OpenComment, Unexpected, NotProfile, TooMany, Checked, NotYetBuilt}
-use Rattle.tlbox.specs.DecodeAnswers.{SchemaRefused, too_long, bad_byte, open_comment, unexpected, not_profile, too_many, checked, by_checks}
+use Rattle.tlbox.specs.declared.stop.TextCause.{TextCause}
+use Rattle.tlbox.specs.declared.stop.TextCause.TheVariants.{TextTooLong, BadByte, OpenComment, Unexpected, NotProfile, TooMany}
+use Rattle.tlbox.specs.Loaded.{TextRefused, too_long, bad_byte, open_comment, unexpected, not_profile, too_many, SchemaRefused, by_text, by_checks}
 use Rattle.tlbox.specs.Steps.{SameBut, ReadsText, TakesValue}
 use Rattle.tlbox.specs.Jobs.{OnlyReads, ReadsSchema, LoadsSchema, LoadsValue}
+use Rattle.tlbox.proofs.SameFiles.{file_bytes}
 
 -- ---- the schema of a text
 
@@ -46,35 +49,22 @@ stops text s (Ok x) h e = absurd e
 stops text s (Err z) h e = subst (λ (y : Stop). ReadsSchema text (Err y)) (sym e) h
 
 pub no_tokens : {X : Type 0} (view : X → List Token) (text : List ℕ) (e : LexFault) (r : Result Declared Stop) → Lexes view text (Err e) → IsErrAnd r (λ z. z ≡ of_lex e) → ReadsSchema text r
-no_tokens view text lex.TextTooLong r lexed e = stops text _ r (too_long lexed) e
-no_tokens view text (lex.BadByte at) r lexed e = stops text _ r (bad_byte at lexed) e
-no_tokens view text (lex.OpenComment at) r lexed e = stops text _ r (open_comment at lexed) e
+no_tokens view text lex.TextTooLong r lexed e = stops text _ r (by_text TextTooLong (too_long lexed)) e
+no_tokens view text (lex.BadByte at) r lexed e = stops text _ r (by_text (BadByte at) (bad_byte at lexed)) e
+no_tokens view text (lex.OpenComment at) r lexed e = stops text _ r (by_text (OpenComment at) (open_comment at lexed)) e
 no_tokens view text lex.Memory r lexed e = stops text _ r tt e
 
 pub no_program : (text : List ℕ) (tokens : List Token) (e : SyntaxFault) (r : Result Declared Stop) → Tokens text tokens → FaultIs (SyntaxRefused text tokens) e → IsErrAnd r (λ z. z ≡ of_syntax e) → ReadsSchema text r
-no_program text tokens (syntax.Unexpected at) r lexed parsed e = stops text _ r (unexpected tokens at lexed parsed) e
-no_program text tokens (syntax.NotProfile at form) r lexed parsed e = stops text _ r (not_profile tokens at form lexed parsed) e
-no_program text tokens (syntax.TooMany at) r lexed parsed e = stops text _ r (too_many tokens at lexed parsed) e
+no_program text tokens (syntax.Unexpected at) r lexed parsed e = stops text _ r (by_text (Unexpected at) (unexpected tokens at lexed parsed)) e
+no_program text tokens (syntax.NotProfile at form) r lexed parsed e = stops text _ r (by_text (NotProfile at form) (not_profile tokens at form lexed parsed)) e
+no_program text tokens (syntax.TooMany at) r lexed parsed e = stops text _ r (by_text (TooMany at) (too_many tokens at lexed parsed)) e
 no_program text tokens syntax.Memory r lexed parsed e = stops text _ r tt e
 
 pub no_schema : (text : List ℕ) (tokens : List Token) (program : List DeclText) (e : CheckFault) (r : Result Declared Stop) → Tokens text tokens → Reads text tokens program → Checks program (Err e) → IsErrAnd r (λ z. z ≡ of_check e) → ReadsSchema text r
-no_schema text tokens program (check.Refused decl cause) r lexed parsed refused e = stops text _ r (checked tokens program decl cause lexed parsed refused) e
-no_schema text tokens program check.NotYetBuilt r lexed parsed none e = stops text _ r (by_checks tokens program lexed parsed none) e
+no_schema text tokens program (check.Refused decl cause) r lexed parsed refused e = stops text _ r (by_checks tokens program decl cause lexed parsed refused) e
 no_schema text tokens program check.Memory r lexed parsed none e = stops text _ r tt e
 
 -- ---- files
-
-pub same_file : (files : Files) (name a b : List ℕ) → HasFile files name a → HasFile files name b → a ≡ b
-same_file [] name a b h k = absurd h
-same_file (f ∷ fs) name a b (inl h) (inl k) = sym h.1 ∙ k.1
-same_file (f ∷ fs) name a b (inl h) (inr k) = absurd (k.0 h.0)
-same_file (f ∷ fs) name a b (inr h) (inl k) = absurd (h.0 k.0)
-same_file (f ∷ fs) name a b (inr h) (inr k) = same_file fs name a b h.1 k.1
-
-pub file_bytes : (files : Files) (name bytes : List ℕ) → HoldBytes files → HasFile files name bytes → AreBytes bytes
-file_bytes [] name bytes all has = absurd has
-file_bytes (f ∷ fs) name bytes all (inl here) = subst AreBytes here.1 all.0
-file_bytes (f ∷ fs) name bytes all (inr later) = file_bytes fs name bytes all.1 later.1
 
 pub only_reads : (slot : Slot) (v w : View) → SameBut slot v w → OnlyReads v w
 only_reads Schema v w e = record { files = ap (λ (x : View). x.files) e; output = ap (λ (x : View). x.output) e; errors = ap (λ (x : View). x.errors) e; room = ap (λ (x : View). x.room) e }
@@ -105,22 +95,24 @@ whole_file : (bytes read rest : List ℕ) (r : Result Declared Stop) → bytes �
 whole_file bytes read rest r e none h = subst (λ (x : List ℕ). ReadsSchema x r) (sym (e ∙ ap (λ (x : List ℕ). read ++ x) none ∙ append-nil read)) h
 
 -- a text that is too long stays so, and is refused for nothing else
+long_text : (bytes read rest : List ℕ) (cause : TextCause) → bytes ≡ read ++ rest → 4194304 < length read → TextRefused read (SyntaxRefused read) cause → TextRefused bytes (SyntaxRefused bytes) cause
+long_text bytes read rest _ e long (too_long r) = too_long (inl (omega (arith, ap length e, length-append read rest), refl))
+long_text bytes read rest _ e long (bad_byte at (inl r)) = absurd (let no : lex.BadByte at ≡ lex.TextTooLong = r.1 in cc)
+long_text bytes read rest _ e long (bad_byte at (inr r)) = absurd (omega (arith, r.0))
+long_text bytes read rest _ e long (open_comment at (inl r)) = absurd (let no : lex.OpenComment at ≡ lex.TextTooLong = r.1 in cc)
+long_text bytes read rest _ e long (open_comment at (inr r)) = absurd (omega (arith, r.0))
+long_text bytes read rest _ e long (unexpected ts at t r) = absurd (omega (arith, t.0))
+long_text bytes read rest _ e long (not_profile ts at form t r) = absurd (omega (arith, t.0))
+long_text bytes read rest _ e long (too_many ts at t r) = absurd (omega (arith, t.0))
+
 still_long : (bytes read rest : List ℕ) (cause : SchemaCause) → bytes ≡ read ++ rest → 4194304 < length read → SchemaRefused read cause → SchemaRefused bytes cause
-still_long bytes read rest _ e long (too_long r) = too_long (inl (omega (arith, ap length e, length-append read rest), refl))
-still_long bytes read rest _ e long (bad_byte at (inl r)) = absurd (let no : lex.BadByte at ≡ lex.TextTooLong = r.1 in cc)
-still_long bytes read rest _ e long (bad_byte at (inr r)) = absurd (omega (arith, r.0))
-still_long bytes read rest _ e long (open_comment at (inl r)) = absurd (let no : lex.OpenComment at ≡ lex.TextTooLong = r.1 in cc)
-still_long bytes read rest _ e long (open_comment at (inr r)) = absurd (omega (arith, r.0))
-still_long bytes read rest _ e long (unexpected ts at t r) = absurd (omega (arith, t.0))
-still_long bytes read rest _ e long (not_profile ts at form t r) = absurd (omega (arith, t.0))
-still_long bytes read rest _ e long (too_many ts at t r) = absurd (omega (arith, t.0))
-still_long bytes read rest _ e long (checked ts ds k c t r has) = absurd (omega (arith, t.0))
-still_long bytes read rest _ e long (by_checks ts ds t r has) = absurd (omega (arith, t.0))
+still_long bytes read rest _ e long (by_text cause r) = by_text cause (long_text bytes read rest cause e long r)
+still_long bytes read rest _ e long (by_checks ts ds k c t r has) = absurd (omega (arith, t.0))
 
 long_file : (bytes read rest : List ℕ) (r : Result Declared Stop) → bytes ≡ read ++ rest → 4194304 < length read → ReadsSchema read r → ReadsSchema bytes r
 long_file bytes read rest (Ok schema) e long h = absurd (omega (arith, h.lexed.0))
 long_file bytes read rest (Err (stop.Refused (OfSchemaText cause))) e long h = still_long bytes read rest cause e long h
-long_file bytes read rest (Err (stop.Refused TypeName)) e long h = h
+long_file bytes read rest (Err (stop.Refused (TypeName cause))) e long h = h
 long_file bytes read rest (Err (stop.Refused Profile)) e long h = h
 long_file bytes read rest (Err (stop.Refused (AtInput at why))) e long h = h
 long_file bytes read rest (Err (stop.Refused (Trailing at))) e long h = h
@@ -149,14 +141,14 @@ text_loaded name read r (Some v) (Some w) ((bytes, rest, has, split, few, end), 
 
 -- ---- the value of a file
 
-value_there : (ds : List Declaration) (T : Shape) (name bytes : List ℕ) (r : Result Value InputFault) (v w : View) → HasFile v.files name bytes → DecodesWhole ds T bytes r → OnlyReads v w → LoadsValue ds T name r v w
+value_there : (ds : List PlainDeclaration) (T : PlainShape) (name bytes : List ℕ) (r : Result Value InputFault) (v w : View) → HasFile v.files name bytes → DecodesWhole ds T bytes r → OnlyReads v w → LoadsValue ds T name r v w
 value_there ds T name bytes (Ok x) v w has h only = ((bytes, has, h), only)
 value_there ds T name bytes (Err (input.Refused at why)) v w has h only = ((bytes, has, h), only)
 value_there ds T name bytes (Err (input.Trailing at)) v w has h only = ((bytes, has, h), only)
 value_there ds T name bytes (Err input.ReadFault) v w has h only = only
 value_there ds T name bytes (Err input.Memory) v w has h only = only
 
-pub value_loaded : (E : Type 0) (ds : List Declaration) (T : Shape) (name : List ℕ) (r : Result Value InputFault) (a m b : Option View) → IfSome a (λ v. HoldBytes v.files) → Told a m (Opens {E = E} Input name (Ok tt)) → Told m b (TakesValue ds T r)
+pub value_loaded : (E : Type 0) (ds : List PlainDeclaration) (T : PlainShape) (name : List ℕ) (r : Result Value InputFault) (a m b : Option View) → IfSome a (λ v. HoldBytes v.files) → Told a m (Opens {E = E} Input name (Ok tt)) → Told m b (TakesValue ds T r)
     → Told a b (LoadsValue ds T name r)
 value_loaded E ds T name r None None None all opened taken = tt
 value_loaded E ds T name r None None (Some w) all opened taken = taken
@@ -169,7 +161,7 @@ value_loaded E ds T name r (Some v) (Some u) (Some w) all (bytes, has, is) taken
     let value : DecodesWhole ds T bytes r = subst (λ (x : List ℕ). DecodesWhole ds T x r) left (taken.0 (subst AreBytes (sym left) good)) in
     value_there ds T name bytes r v w has value (then_reads v u w (opened_reads Input bytes v u is) (only_reads Input u w taken.1))
 
-pub not_opened : {F : Type 0} (ds : List Declaration) (T : Shape) (name : List ℕ) (e : F) (a b : Option View) → Told a b (Opens Input name (Err e)) → Told a b (LoadsValue ds T name (Err input.ReadFault))
+pub not_opened : {F : Type 0} (ds : List PlainDeclaration) (T : PlainShape) (name : List ℕ) (e : F) (a b : Option View) → Told a b (Opens Input name (Err e)) → Told a b (LoadsValue ds T name (Err input.ReadFault))
 not_opened ds T name e None None h = tt
 not_opened ds T name e None (Some w) h = h
 not_opened ds T name e (Some v) None h = h

@@ -10,7 +10,7 @@ use Rattle.update_replay.specs.Settled.{Settled}
 use Rattle.update_replay.proofs.OneWay.{settled_once}
 use Rattle.tlbox.specs.Answer.{Answer, done, refused_after, journal_line}
 use Rattle.tlbox.specs.ReplayAnswers.{OfJournal, reported, no_step, too_long, no_packet, OfProfile, other_text, profile_text, ReplayAnswer}
-use Rattle.tlbox.proofs.Loading.{same_file}
+use Rattle.tlbox.proofs.SameFiles.{same_file}
 
 -- what is answered where a replay that wrote this ended so, if its journal settles it
 abbrev pub answer_of : List ℕ → Result ℕ ReplayFault → Answer

@@ -1,9 +1,9 @@
 -- What decoding answers for bytes that begin with a spelling, and for bytes that are refused.
 use Rattle.std.proofs.Common.{◌≡◌, ℕ, ◌^◌, ◌≤◌, ◌<◌, List, ◌++◌, length, Option, Some, None, Result, Ok, Err, sym, ap, ◌∙◌}
 use Rattle.std.specs.Prelude.{IfSome}
-use Rattle.tl_types.specs.Types.{Shape}
+use Rattle.tl_types.specs.PlainTypes.{PlainShape}
 use Rattle.tl_types.specs.Values.{Tree, depth}
-use Rattle.tl_types.specs.Schemas.{Declaration, IsSchema}
+use Rattle.tl_types.specs.PlainSchemas.{PlainDeclaration, IsPlainSchema}
 use Rattle.tl_types.specs.Seen.{view}
 use Rattle.tl_types.specs.Spelling.{Spells}
 use Rattle.tl_types.specs.Refusal.{Refused}
@@ -18,10 +18,10 @@ use Rattle.tlbox.specs.declared.decoder.DecodeFault.TheVariants as fault
 use Rattle.tlbox.specs.Decoding.{ReadsAs, GivesValue, GivesFault}
 
 -- reading what begins with a spelling
-reads : (ds : List Declaration) → IsSchema ds → (T : Shape) (n p : ℕ) → p < 2 ^ 64 → (bytes : List ℕ) (t : Tree) (x rest : List ℕ) → bytes ≡ x ++ rest → Spells ds T t x → depth t ≤ n → value_at ds n T (spot p bytes) ≡ Ok (t, spot (moved p (length x)) rest)
+reads : (ds : List PlainDeclaration) → IsPlainSchema ds → (T : PlainShape) (n p : ℕ) → p < 2 ^ 64 → (bytes : List ℕ) (t : Tree) (x rest : List ℕ) → bytes ≡ x ++ rest → Spells ds T t x → depth t ≤ n → value_at ds n T (spot p bytes) ≡ Ok (t, spot (moved p (length x)) rest)
 reads ds good T n p lt bytes t x rest split s deep = ap (λ (z : List ℕ). value_at ds n T (spot p z)) split ∙ spelled ds good t T n x rest p lt s deep
 
-pub gives_value : (ds : List Declaration) → IsSchema ds → (T : Shape) (n : ℕ) (a b : Option (List ℕ)) (p q : ℕ) (r : Result Value DecodeFault) → p < 2 ^ 64 → ReadsAs view a b p q r (value_at ds n T)
+pub gives_value : (ds : List PlainDeclaration) → IsPlainSchema ds → (T : PlainShape) (n : ℕ) (a b : Option (List ℕ)) (p q : ℕ) (r : Result Value DecodeFault) → p < 2 ^ 64 → ReadsAs view a b p q r (value_at ds n T)
     → IfSome a (λ bytes. (t : Tree) (x rest : List ℕ) → bytes ≡ x ++ rest → Spells ds T t x → depth t ≤ n → GivesValue r b p q t x rest)
 gives_value ds good T n None b p q r lt h = tt
 gives_value ds good T n (Some bytes) b p q (Ok v) lt h = λ t x rest split s deep.
@@ -32,7 +32,7 @@ gives_value ds good T n (Some bytes) b p q (Err (fault.Refused place cause)) lt 
 gives_value ds good T n (Some bytes) b p q (Err fault.ReadFault) lt h = λ t x rest split s deep. tt
 gives_value ds good T n (Some bytes) b p q (Err fault.Memory) lt h = λ t x rest split s deep. tt
 
-pub gives_fault : (ds : List Declaration) → IsSchema ds → (T : Shape) (n : ℕ) (a b : Option (List ℕ)) (p q : ℕ) (r : Result Value DecodeFault) → p < 2 ^ 64 → ReadsAs view a b p q r (value_at ds n T)
+pub gives_fault : (ds : List PlainDeclaration) → IsPlainSchema ds → (T : PlainShape) (n : ℕ) (a b : Option (List ℕ)) (p q : ℕ) (r : Result Value DecodeFault) → p < 2 ^ 64 → ReadsAs view a b p q r (value_at ds n T)
     → IfSome a (λ bytes. (place : ℕ) (cause : Cause) → Refused ds n T bytes place cause → GivesFault r (moved p place) cause)
 gives_fault ds good T n None b p q r lt h = tt
 gives_fault ds good T n (Some bytes) b p q (Ok v) lt h = λ place cause s. never_err {A = Tree} (sym (refused ds good n T bytes place cause p lt s) ∙ h.2)

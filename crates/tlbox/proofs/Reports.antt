@@ -27,7 +27,7 @@ use Rattle.tlbox.specs.Stops.{of_replay}
 use Rattle.tlbox.specs.Steps.{Puts}
 use Rattle.tlbox.specs.Jobs.{OnlyReads, refusal_line}
 use Rattle.tlbox.specs.ReplayJobs.{ReadsJournal, LoadsJournal, ended_as, WritesReplay, WritesSome, Replays}
-use Rattle.tlbox.proofs.Loading.{same_file, file_bytes}
+use Rattle.tlbox.proofs.SameFiles.{same_file, file_bytes}
 use Rattle.tlbox.proofs.OneReplay.{answer_of, settled_answer, answer_output, one_journal}
 use Rattle.tlbox.proofs.Slots.{over_out, none_is_no_some}
 use Rattle.tlbox.proofs.Sound.{stays_sound}

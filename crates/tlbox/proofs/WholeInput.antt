@@ -4,9 +4,9 @@ use Rattle.std.specs.Prelude.{IfSome}
 use Rattle.tl_base.specs.Contents.{AreBytes}
 use Rattle.tl_base.specs.Taking.{TakesEnd}
 use Rattle.tl_base.specs.declared.fault.Failed.{Failed}
-use Rattle.tl_types.specs.Types.{Shape}
+use Rattle.tl_types.specs.PlainTypes.{PlainShape}
 use Rattle.tl_types.specs.Values.{Tree, depth}
-use Rattle.tl_types.specs.Schemas.{Declaration}
+use Rattle.tl_types.specs.PlainSchemas.{PlainDeclaration}
 use Rattle.tl_types.specs.Seen.{view}
 use Rattle.tl_types.specs.Spelling.{Spells}
 use Rattle.tl_types.specs.Refusal.{Refused}
@@ -20,7 +20,7 @@ use Rattle.tlbox.specs.declared.whole.InputFault.{InputFault}
 use Rattle.tlbox.specs.declared.whole.InputFault.TheVariants as input
 use Rattle.tlbox.specs.Decoding.{GivesValue, GivesFault, input_fault, DecodesWhole}
 
-module _ (ds : List Declaration) (T : Shape) where
+module _ (ds : List PlainDeclaration) (T : PlainShape) where
   -- what is spelled is read, and what is refused is refused
   abbrev pub ReadsSpelled : Option (List ℕ) → Option (List ℕ) → ℕ → Result Value DecodeFault → Type 0
   ReadsSpelled a b q r = IfSome a (λ bytes. (t : Tree) (x rest : List ℕ) → bytes ≡ x ++ rest → Spells ds T t x → depth t ≤ 120 → GivesValue r b 0 q t x rest)
@@ -43,10 +43,6 @@ module _ (ds : List Declaration) (T : Shape) where
       ]
   whole_fails (Some bytes) b q fault.ReadFault spelled refused = λ are. tt
   whole_fails (Some bytes) b q fault.Memory spelled refused = λ are. tt
-
-  pub whole_unread : (a : Option (List ℕ)) → Whole a (Err input.ReadFault)
-  whole_unread None = tt
-  whole_unread (Some bytes) = λ are. tt
 
   ends_there : (bytes x rest : List ℕ) (t : Tree) (v : Value) → bytes ≡ x ++ rest → rest ≡ [] → view v ≡ t → Spells ds T t x → depth t ≤ 120 → DecodesWhole ds T bytes (Ok v)
   ends_there bytes x rest t v is none seen spells deep =

@@ -9,7 +9,13 @@ use Rattle.tl_types.specs.declared.fault.CheckCause.{CheckCause}
 use Rattle.tl_types.specs.declared.fault.CheckCause.TheVariants as check
 use Rattle.tl_combinators.specs.declared.fault.Form.{Form}
 use Rattle.tl_combinators.specs.declared.fault.Form.TheVariants as form
-use Rattle.tlbox.specs.declared.stop.SchemaCause.TheVariants.{TextTooLong, BadByte, OpenComment, Unexpected, NotProfile, TooMany, Checked, NotYetBuilt}
+use Rattle.tl_types.specs.declared.fault.TypeCause.{TypeCause}
+use Rattle.tl_types.specs.declared.fault.TypeCause.TheVariants as type
+use Rattle.tlbox.specs.declared.stop.TextCause.{TextCause}
+use Rattle.tlbox.specs.declared.stop.TextCause.TheVariants.{TextTooLong, BadByte, OpenComment, Unexpected, NotProfile, TooMany}
+use Rattle.tlbox.specs.declared.stop.SchemaCause.TheVariants as schema
+use Rattle.tlbox.specs.declared.stop.TypeNameCause.{TypeNameCause}
+use Rattle.tlbox.specs.declared.stop.TypeNameCause.TheVariants as name
 use Rattle.tlbox.specs.declared.status.Status.{Status}
 use Rattle.tlbox.specs.declared.status.Status.TheVariants as status
 
@@ -24,6 +30,11 @@ pub record Answer : Type 0 where
 abbrev pub IsOperand : List ℕ → Type 0
 IsOperand [] = ⊥
 IsOperand (b ∷ bs) = b ≢ 45
+
+-- the words are `check SCHEMA`
+pub record AskCheck (words : List (List ℕ)) (schema : List ℕ) : Type 0 where
+  pub row : words ≡ codes "check" ∷ schema ∷ []
+  pub schema_word : IsOperand schema
 
 -- the words are `decode SCHEMA TYPE INPUT`
 pub record AskDecode (words : List (List ℕ)) (schema type input : List ℕ) : Type 0 where
@@ -47,6 +58,10 @@ usage_line = codes "usage: tlbox check SCHEMA, decode SCHEMA TYPE INPUT, encode 
 abbrev pub placed_line : List ℕ → ℕ → List ℕ → List ℕ
 placed_line what place why = (((((codes "tlbox: " ++ what) ++ codes " ") ++ decimal place) ++ codes " ") ++ why) ++ codes "\n"
 
+-- likewise, of a cause that has no place
+abbrev pub unplaced_line : List ℕ → List ℕ → List ℕ
+unplaced_line what why = (((codes "tlbox: " ++ what) ++ codes " - ") ++ why) ++ codes "\n"
+
 abbrev pub form_name : Form → List ℕ
 form_name form.DependentNumber = codes "DependentNumber"
 form_name form.Multiplicity = codes "Multiplicity"
@@ -66,20 +81,35 @@ check_name check.WrongArity = codes "WrongArity"
 check_name check.BadResult = codes "BadResult"
 check_name check.NotBare = codes "NotBare"
 check_name check.BadFlag = codes "BadFlag"
+check_name check.SameNumber = codes "SameNumber"
+check_name check.BareCycle = codes "BareCycle"
+check_name check.EmptyElement = codes "EmptyElement"
+
+abbrev pub type_cause_name : TypeCause → List ℕ
+type_cause_name type.UnknownType = codes "UnknownType"
+type_cause_name type.WrongArity = codes "WrongArity"
+type_cause_name type.NotBare = codes "NotBare"
+type_cause_name type.EmptyElement = codes "EmptyElement"
+
+-- a refusal of what a text is read as
+abbrev pub text_line : List ℕ → TextCause → List ℕ
+text_line what TextTooLong = unplaced_line what (codes "TextTooLong")
+text_line what (BadByte at) = placed_line what at (codes "BadByte")
+text_line what (OpenComment at) = placed_line what at (codes "OpenComment")
+text_line what (Unexpected at) = placed_line what at (codes "Unexpected")
+text_line what (NotProfile at f) = placed_line what at (codes "NotProfile " ++ form_name f)
+text_line what (TooMany at) = placed_line what at (codes "TooMany")
 
 -- a refusal of the schema's text; where a declaration is refused its number stands in place of a byte's
 abbrev pub schema_line : SchemaCause → List ℕ
-schema_line TextTooLong = codes "tlbox: schema - TextTooLong\n"
-schema_line (BadByte at) = placed_line (codes "schema") at (codes "BadByte")
-schema_line (OpenComment at) = placed_line (codes "schema") at (codes "OpenComment")
-schema_line (Unexpected at) = placed_line (codes "schema") at (codes "Unexpected")
-schema_line (NotProfile at f) = placed_line (codes "schema") at (codes "NotProfile " ++ form_name f)
-schema_line (TooMany at) = placed_line (codes "schema") at (codes "TooMany")
-schema_line (Checked decl c) = placed_line (codes "schema decl") decl (check_name c)
-schema_line NotYetBuilt = codes "tlbox: schema - NotYetBuilt\n"
+schema_line (schema.Text c) = text_line (codes "schema") c
+schema_line (schema.Checked decl c) = placed_line (codes "schema decl") decl (check_name c)
 
-abbrev pub type_line : List ℕ
-type_line = codes "tlbox: type - NotYetBuilt\n"
+-- a refusal of the word that is a type
+abbrev pub type_line : TypeNameCause → List ℕ
+type_line (name.Text c) = text_line (codes "type") c
+type_line (name.Checked c) = unplaced_line (codes "type") (type_cause_name c)
+type_line name.NotYetBuilt = unplaced_line (codes "type") (codes "NotYetBuilt")
 
 abbrev pub profile_line : List ℕ
 profile_line = codes "tlbox: profile - NotYetBuilt\n"

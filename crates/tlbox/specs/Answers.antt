@@ -2,18 +2,21 @@
 use Rattle.std.specs.Prelude.{◌≡◌, ℕ, List}
 use Rattle.tl_base.specs.Contents.{Files, HoldBytes}
 use Rattle.tl_base.specs.Outside.{HasFile}
-use Rattle.tlbox.specs.Answer.{Answer, AskDecode, AskReplay, usage}
+use Rattle.tlbox.specs.Answer.{Answer, AskCheck, AskDecode, AskReplay, usage}
+use Rattle.tlbox.specs.CheckAnswers.{CheckAnswer}
 use Rattle.tlbox.specs.DecodeAnswers.{DecodeAnswer}
 use Rattle.tlbox.specs.ReplayAnswers.{ReplayAnswer}
 
 -- the words are those of no command
 pub record AskNothing (words : List (List ℕ)) : Type 0 where
+  pub no_check : (schema : List ℕ) → AskCheck words schema → ⊥
   pub no_decode : (schema type input : List ℕ) → AskDecode words schema type input → ⊥
   pub no_replay : (schema journal : List ℕ) → AskReplay words schema journal → ⊥
 
 -- what the program answers to these words, over these files
 pub data Answers (words : List (List ℕ)) (files : Files) (a : Answer) : Type 0 where
   no_row : AskNothing words → a ≡ usage → Answers words files a
+  check : (schema : List ℕ) → AskCheck words schema → CheckAnswer files schema a → Answers words files a
   decode : (schema type input : List ℕ) → AskDecode words schema type input → DecodeAnswer files schema type input a → Answers words files a
   replay : (schema journal : List ℕ) → AskReplay words schema journal → ReplayAnswer files schema journal a → Answers words files a
 
@@ -24,6 +27,7 @@ HasOneAnswer = (words : List (List ℕ)) (files : Files) (a b : Answer) → Answ
 -- what words ask for
 pub data Asks (words : List (List ℕ)) : Type 0 where
   nothing : AskNothing words → Asks words
+  to_check : (schema : List ℕ) → AskCheck words schema → Asks words
   to_decode : (schema type input : List ℕ) → AskDecode words schema type input → Asks words
   to_replay : (schema journal : List ℕ) → AskReplay words schema journal → Asks words
 
@@ -38,6 +42,7 @@ Answered words files = (a : Answer) × Answers words files a
 -- Words of no command have the answer `usage`. Those of a command have an answer where the files that they name are there.
 pub record AreAnswered (words : List (List ℕ)) (files : Files) : Type 0 where
   pub of_none : AskNothing words → Answers words files usage
+  pub of_check : (schema : List ℕ) → AskCheck words schema → IsFile files schema → Answered words files
   pub of_decode : (schema type input : List ℕ) → AskDecode words schema type input → IsFile files schema → IsFile files input → Answered words files
   pub of_replay : (schema journal : List ℕ) → AskReplay words schema journal → IsFile files schema → IsFile files journal → Answered words files
 

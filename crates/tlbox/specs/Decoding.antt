@@ -1,8 +1,8 @@
 -- What decoding answers: the value that bytes spell, or the place and the cause at which they are refused.
 use Rattle.std.specs.Prelude.{◌≡◌, ℕ, ◌≤◌, List, ◌∷◌, ◌++◌, length, Option, Some, None, Result, Ok, Err}
-use Rattle.tl_types.specs.Types.{Shape}
+use Rattle.tl_types.specs.PlainTypes.{PlainShape}
 use Rattle.tl_types.specs.Values.{Tree, depth}
-use Rattle.tl_types.specs.Schemas.{Declaration}
+use Rattle.tl_types.specs.PlainSchemas.{PlainDeclaration}
 use Rattle.tl_types.specs.Seen.{view}
 use Rattle.tl_types.specs.Spelling.{Spells}
 use Rattle.tl_types.specs.Refusal.{Refused}
@@ -52,7 +52,7 @@ input_fault decode.ReadFault = input.ReadFault
 input_fault decode.Memory = input.Memory
 
 -- All the bytes spell the value; or they are refused; or they go on behind a spelling. Want of memory and a failed read are free here.
-abbrev pub DecodesWhole : List Declaration → Shape → List ℕ → Result Value InputFault → Type 0
+abbrev pub DecodesWhole : List PlainDeclaration → PlainShape → List ℕ → Result Value InputFault → Type 0
 DecodesWhole ds T bytes (Ok v) = Spells ds T (view v) bytes × (depth (view v) ≤ MAX_LEVELS)
 DecodesWhole ds T bytes (Err (input.Refused place cause)) = (p : ℕ) × Refused ds MAX_LEVELS T bytes p cause × (place ≡ moved 0 p)
 DecodesWhole ds T bytes (Err (input.Trailing place)) =

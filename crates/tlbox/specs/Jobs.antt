@@ -1,9 +1,13 @@
 -- What the parts of a job answer, and what they do to the outside.
-use Rattle.std.specs.Prelude.{◌≡◌, ◌⊎◌, ℕ, List, ◌++◌, Result, Ok, Err, codes, decimal, String, string_bytes}
-use Rattle.std.specs.declared.alloc.Global.{Global}
+use Rattle.std.specs.Prelude.{◌≡◌, ◌⊎◌, ℕ, List, ◌++◌, Result, Ok, Err, Vec, codes, decimal}
+use Rattle.tl_base.specs.Contents.{Files}
 use Rattle.tl_base.specs.Outside.{View, HasFile}
 use Rattle.tl_types.specs.Types.{Shape}
-use Rattle.tl_types.specs.Schemas.{Declared, Declaration}
+use Rattle.tl_types.specs.PlainTypes.{PlainShape}
+use Rattle.tl_types.specs.Schemas.{Declared}
+use Rattle.tl_types.specs.PlainSchemas.{PlainDeclaration}
+use Rattle.tl_types.specs.AskedTypes.{IsTypeText}
+use Rattle.tl_types.specs.PlainViews.{IsPlainType}
 use Rattle.tl_types.specs.declared.value.Value.{Value}
 use Rattle.tlbox.specs.Decoding.{DecodesWhole}
 use Rattle.tlbox.specs.declared.whole.InputFault.{InputFault}
@@ -16,8 +20,10 @@ use Rattle.tlbox.specs.declared.stop.Stop.{Stop}
 use Rattle.tlbox.specs.declared.stop.Stop.TheVariants as stop
 use Rattle.tlbox.specs.declared.status.Status.{Status}
 use Rattle.tlbox.specs.declared.status.Status.TheVariants as status
-use Rattle.tlbox.specs.DecodeAnswers.{IsSchemaText, SchemaRefused, DecodeAnswer}
-use Rattle.tlbox.specs.Answer.{done, refused, schema_line, type_line, profile_line, input_line, journal_line, cause_text}
+use Rattle.tlbox.specs.Loaded.{IsSchemaText, SchemaRefused, TypeNameRefused}
+use Rattle.tlbox.specs.DecodeAnswers.{DecodeAnswer}
+use Rattle.tlbox.specs.CheckAnswers.{CheckAnswer}
+use Rattle.tlbox.specs.Answer.{Answer, done, refused, schema_line, type_line, profile_line, input_line, journal_line, cause_text}
 use Rattle.tlbox.specs.Runs.{AddsFront, Tells}
 
 -- files, Output and Errors are as before
@@ -31,7 +37,7 @@ pub record OnlyReads (v w : View) : Type 0 where
 abbrev pub ReadsSchema : List ℕ → Result Declared Stop → Type 0
 ReadsSchema text (Ok schema) = IsSchemaText text schema
 ReadsSchema text (Err (stop.Refused (Schema cause))) = SchemaRefused text cause
-ReadsSchema text (Err (stop.Refused TypeName)) = ⊥
+ReadsSchema text (Err (stop.Refused (TypeName cause))) = ⊥
 ReadsSchema text (Err (stop.Refused Profile)) = ⊥
 ReadsSchema text (Err (stop.Refused (Input place cause))) = ⊥
 ReadsSchema text (Err (stop.Refused (Trailing place))) = ⊥
@@ -46,8 +52,21 @@ LoadsSchema name (Err stop.ReadFault) v w = OnlyReads v w
 LoadsSchema name (Err stop.Memory) v w = OnlyReads v w
 LoadsSchema name result v w = ((text : List ℕ) × HasFile v.files name text × ReadsSchema text result) × OnlyReads v w
 
+-- the number of the type that a word names, of which values are read
+abbrev pub NamesPlain : Declared → List ℕ → Result ℕ Stop → Type 0
+NamesPlain schema text (Ok head) = (s : Shape) × IsTypeText schema.program text s × IsPlainType schema s head
+NamesPlain schema text (Err (stop.Refused (Schema cause))) = ⊥
+NamesPlain schema text (Err (stop.Refused (TypeName cause))) = TypeNameRefused schema text cause
+NamesPlain schema text (Err (stop.Refused Profile)) = ⊥
+NamesPlain schema text (Err (stop.Refused (Input place cause))) = ⊥
+NamesPlain schema text (Err (stop.Refused (Trailing place))) = ⊥
+NamesPlain schema text (Err (stop.Refused (Journal place cause))) = ⊥
+NamesPlain schema text (Err stop.ReadFault) = ⊥
+NamesPlain schema text (Err stop.WriteFault) = ⊥
+NamesPlain schema text (Err stop.Memory) = Unit {0}
+
 -- the value that is the whole of a file
-abbrev pub LoadsValue : List Declaration → Shape → List ℕ → Result Value InputFault → View → View → Type 0
+abbrev pub LoadsValue : List PlainDeclaration → PlainShape → List ℕ → Result Value InputFault → View → View → Type 0
 LoadsValue ds T name (Err input.ReadFault) v w = OnlyReads v w
 LoadsValue ds T name (Err input.Memory) v w = OnlyReads v w
 LoadsValue ds T name result v w = ((bytes : List ℕ) × HasFile v.files name bytes × DecodesWhole ds T bytes result) × OnlyReads v w
@@ -61,27 +80,42 @@ journal_cause_text (NoPacket packet) = codes "NoPacket " ++ decimal packet
 -- the line of a refusal
 abbrev pub refusal_line : Refusal → List ℕ
 refusal_line (Schema cause) = schema_line cause
-refusal_line TypeName = type_line
+refusal_line (TypeName cause) = type_line cause
 refusal_line Profile = profile_line
 refusal_line (Input place cause) = input_line place (cause_text cause)
 refusal_line (Trailing place) = input_line place (codes "Trailing")
 refusal_line (Journal place cause) = journal_line place (journal_cause_text cause)
 
--- the line that `decode` writes, before it is written
-abbrev pub DecodesLine : List ℕ → List ℕ → List ℕ → Result (String Global) Stop → View → View → Type 0
-DecodesLine schema type input (Ok line) v w = DecodeAnswer v.files schema type input (done (string_bytes line)) × OnlyReads v w
-DecodesLine schema type input (Err (stop.Refused r)) v w = DecodeAnswer v.files schema type input (refused (refusal_line r)) × OnlyReads v w
-DecodesLine schema type input (Err stop.ReadFault) v w = OnlyReads v w
-DecodesLine schema type input (Err stop.WriteFault) v w = ⊥
-DecodesLine schema type input (Err stop.Memory) v w = OnlyReads v w
+-- which answers a command has, over these files
+abbrev pub Command : Type 1
+Command = Files → Answer → Type 0
 
--- the work of `decode`: its line on Output, or why not
-abbrev pub Works : List ℕ → List ℕ → List ℕ → Result (Unit {0}) Stop → View → View → Type 0
-Works schema type input (Ok u) v w = (line : List ℕ) × DecodeAnswer v.files schema type input (done line) × (w.output ≡ v.output ++ line) × (w.errors ≡ v.errors)
-Works schema type input (Err (stop.Refused r)) v w = DecodeAnswer v.files schema type input (refused (refusal_line r)) × OnlyReads v w
-Works schema type input (Err stop.ReadFault) v w = OnlyReads v w
-Works schema type input (Err stop.WriteFault) v w = (line : List ℕ) × DecodeAnswer v.files schema type input (done line) × AddsFront v.output w.output line × (w.errors ≡ v.errors)
-Works schema type input (Err stop.Memory) v w = OnlyReads v w
+abbrev pub decode_command : List ℕ → List ℕ → List ℕ → Command
+decode_command schema type input = λ files a. DecodeAnswer files schema type input a
+
+abbrev pub check_command : List ℕ → Command
+check_command schema = λ files a. CheckAnswer files schema a
+
+-- the bytes in place of the vector
+abbrev pub bytes_of : {A : Type 0} → Result (Vec ℕ A) Stop → Result (List ℕ) Stop
+bytes_of (Ok text) = Ok text.items
+bytes_of (Err stop) = Err stop
+
+-- what a command writes, before it is written
+abbrev pub MakesOutput : Command → Result (List ℕ) Stop → View → View → Type 0
+MakesOutput command (Ok output) v w = command v.files (done output) × OnlyReads v w
+MakesOutput command (Err (stop.Refused r)) v w = command v.files (refused (refusal_line r)) × OnlyReads v w
+MakesOutput command (Err stop.ReadFault) v w = OnlyReads v w
+MakesOutput command (Err stop.WriteFault) v w = ⊥
+MakesOutput command (Err stop.Memory) v w = OnlyReads v w
+
+-- the work of a command: what it writes on Output, or why not
+abbrev pub Works : Command → Result (Unit {0}) Stop → View → View → Type 0
+Works command (Ok u) v w = (output : List ℕ) × command v.files (done output) × (w.output ≡ v.output ++ output) × (w.errors ≡ v.errors)
+Works command (Err (stop.Refused r)) v w = command v.files (refused (refusal_line r)) × OnlyReads v w
+Works command (Err stop.ReadFault) v w = OnlyReads v w
+Works command (Err stop.WriteFault) v w = (output : List ℕ) × command v.files (done output) × AddsFront v.output w.output output × (w.errors ≡ v.errors)
+Works command (Err stop.Memory) v w = OnlyReads v w
 
 -- a line on Errors, and nothing else
 abbrev pub TellsLine : Type 0 → List ℕ → View → View → Type 0

@@ -10,3 +10,5 @@ pub mod Runs
 pub mod Stops
 pub mod Jobs
 pub mod ReplayJobs
+pub mod Loaded
+pub mod CheckAnswers

@@ -9,7 +9,7 @@ use Rattle.update_replay.specs.Worlds.{World}
 use Rattle.update_replay.specs.Replays.{Replayed}
 use Rattle.update_replay.specs.Settled.{Settled}
 use Rattle.tlbox.specs.Answer.{Answer}
-use Rattle.tlbox.specs.DecodeAnswers.{DecodeAnswer}
+use Rattle.tlbox.specs.Jobs.{Command}
 use Rattle.tlbox.specs.ReplayAnswers.{ReplayAnswer}
 use Rattle.tlbox.specs.Answers.{Answers, IsFile}
 
@@ -26,13 +26,13 @@ IsThere name v = IsFile v.files name
 abbrev pub HasRoom : Out → ℕ → View → Type 0
 HasRoom out bytes v = length (written_of out v) + bytes ≤ v.room
 
--- `decode` has an answer over the files
-abbrev pub DecodeAnswered : List ℕ → List ℕ → List ℕ → View → Type 0
-DecodeAnswered schema type input v = (a : Answer) × DecodeAnswer v.files schema type input a
+-- the command has an answer over the files
+abbrev pub CommandAnswered : Command → View → Type 0
+CommandAnswered command v = (a : Answer) × command v.files a
 
 -- likewise, and there is room for its Output
-abbrev pub DecodeFits : List ℕ → List ℕ → List ℕ → View → Type 0
-DecodeFits schema type input v = (a : Answer) × DecodeAnswer v.files schema type input a × HasRoom Output (length a.output) v
+abbrev pub CommandFits : Command → View → Type 0
+CommandFits command v = (a : Answer) × command v.files a × HasRoom Output (length a.output) v
 
 -- `replay` has an answer over the files
 abbrev pub ReplayAnswered : List ℕ → List ℕ → View → Type 0

@@ -3,8 +3,8 @@ use Rattle.std.specs.Prelude.{◌≡◌, ℕ, ◌+◌, ◌≤◌, List, [], ◌+
 use Rattle.std.specs.declared.alloc.Global.{Global}
 use Rattle.tl_base.specs.Contents.{AreBytes}
 use Rattle.tl_base.specs.declared.host.Slot.TheVariants.{Input}
-use Rattle.tl_types.specs.Types.{Shape}
-use Rattle.tl_types.specs.Schemas.{Declaration}
+use Rattle.tl_types.specs.PlainTypes.{PlainShape}
+use Rattle.tl_types.specs.PlainSchemas.{PlainDeclaration}
 use Rattle.tl_types.specs.declared.value.Value.{Value}
 use Rattle.tlbox.specs.Decoding.{DecodesWhole}
 use Rattle.tlbox.specs.declared.whole.InputFault.{InputFault}
@@ -35,5 +35,5 @@ Puts out piece (Ok u) v w = w ≡ with_written out (written_of out v ++ piece) v
 Puts out piece (Err e) v w = (front : List ℕ) × (rest : List ℕ) × (front ++ rest ≡ piece) × (w ≡ with_written out (written_of out v ++ front) v)
 
 -- what was left of the input was taken as one value of the type, where it was bytes
-abbrev pub TakesValue : List Declaration → Shape → Result Value InputFault → View → View → Type 0
+abbrev pub TakesValue : List PlainDeclaration → PlainShape → Result Value InputFault → View → View → Type 0
 TakesValue ds T result v w = (AreBytes v.input_left → DecodesWhole ds T v.input_left result) × SameBut Input v w

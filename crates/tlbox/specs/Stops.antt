@@ -1,4 +1,5 @@
 -- The stop of a job that a fault of one of its parts makes.
+use Rattle.std.specs.Prelude.{Option, Some, None}
 use Rattle.tl_base.specs.declared.source.TextFault.{TextFault}
 use Rattle.tl_base.specs.declared.source.TextFault.TheVariants as text
 use Rattle.tl_lexer.specs.declared.fault.LexFault.{LexFault}
@@ -13,8 +14,10 @@ use Rattle.tlbox.specs.declared.whole.InputFault.{InputFault}
 use Rattle.tlbox.specs.declared.whole.InputFault.TheVariants as input
 use Rattle.update_replay.specs.declared.replay.ReplayFault.{ReplayFault}
 use Rattle.update_replay.specs.declared.replay.ReplayFault.TheVariants as replay
+use Rattle.tlbox.specs.declared.stop.TextCause.{TextCause}
+use Rattle.tlbox.specs.declared.stop.TextCause.TheVariants.{TextTooLong, BadByte, OpenComment, Unexpected, NotProfile, TooMany}
 use Rattle.tlbox.specs.declared.stop.SchemaCause.TheVariants as schema
-use Rattle.tlbox.specs.declared.stop.SchemaCause.TheVariants.{TextTooLong, BadByte, OpenComment, Unexpected, NotProfile, TooMany, Checked}
+use Rattle.tlbox.specs.declared.stop.TypeNameCause.TheVariants as name
 use Rattle.tlbox.specs.declared.stop.JournalCause.TheVariants.{NotYetBuilt, TooLong, NoPacket}
 use Rattle.tlbox.specs.declared.stop.Refusal.TheVariants.{Schema, TypeName, Input, Trailing, Journal}
 use Rattle.tlbox.specs.declared.stop.Stop.{Stop}
@@ -24,25 +27,42 @@ abbrev pub of_text : TextFault → Stop
 of_text text.ReadFault = ReadFault
 of_text text.Memory = Memory
 
+-- the cause that a lexer's fault is, and a parser's; want of memory is none
+abbrev pub lex_cause : LexFault → Option TextCause
+lex_cause lex.TextTooLong = Some TextTooLong
+lex_cause (lex.BadByte at) = Some (BadByte at)
+lex_cause (lex.OpenComment at) = Some (OpenComment at)
+lex_cause lex.Memory = None
+
+abbrev pub syntax_cause : SyntaxFault → Option TextCause
+syntax_cause (syntax.Unexpected at) = Some (Unexpected at)
+syntax_cause (syntax.NotProfile at form) = Some (NotProfile at form)
+syntax_cause (syntax.TooMany at) = Some (TooMany at)
+syntax_cause syntax.Memory = None
+
+-- a refused text stops the job with its cause, and want of memory stops it as such
+abbrev pub of_schema_text : Option TextCause → Stop
+of_schema_text (Some cause) = Refused (Schema (schema.Text cause))
+of_schema_text None = Memory
+
+abbrev pub of_type_text : Option TextCause → Stop
+of_type_text (Some cause) = Refused (TypeName (name.Text cause))
+of_type_text None = Memory
+
 abbrev pub of_lex : LexFault → Stop
-of_lex lex.TextTooLong = Refused (Schema TextTooLong)
-of_lex (lex.BadByte at) = Refused (Schema (BadByte at))
-of_lex (lex.OpenComment at) = Refused (Schema (OpenComment at))
-of_lex lex.Memory = Memory
+of_lex fault = of_schema_text (lex_cause fault)
 
 abbrev pub of_syntax : SyntaxFault → Stop
-of_syntax (syntax.Unexpected at) = Refused (Schema (Unexpected at))
-of_syntax (syntax.NotProfile at form) = Refused (Schema (NotProfile at form))
-of_syntax (syntax.TooMany at) = Refused (Schema (TooMany at))
-of_syntax syntax.Memory = Memory
+of_syntax fault = of_schema_text (syntax_cause fault)
 
 abbrev pub of_check : CheckFault → Stop
-of_check (check.Refused decl cause) = Refused (Schema (Checked decl cause))
-of_check check.NotYetBuilt = Refused (Schema schema.NotYetBuilt)
+of_check (check.Refused decl cause) = Refused (Schema (schema.Checked decl cause))
 of_check check.Memory = Memory
 
 abbrev pub of_type : TypeFault → Stop
-of_type type.NotYetBuilt = Refused TypeName
+of_type (type.Lex fault) = of_type_text (lex_cause fault)
+of_type (type.Syntax fault) = of_type_text (syntax_cause fault)
+of_type (type.Refused cause) = Refused (TypeName (name.Checked cause))
 of_type type.Memory = Memory
 
 abbrev pub of_input : InputFault → Stop

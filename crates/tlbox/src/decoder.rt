@@ -1,7 +1,9 @@
 //! Values from bytes.
 ghost use Rattle.std.specs.Prelude.{◌≡◌, ◌<◌, ◌≤◌, ◌++◌, ◌==◌, ◌&&◌, [], ℕ, List, IsErrOf, IfSome, length, map};
 ghost use Rattle.tl_base.specs.Using.{Used};
-ghost use Rattle.tl_types.specs.Types.{int, long};
+ghost use Rattle.tl_types.specs.Meanings.{types_of};
+ghost use Rattle.tl_types.specs.PlainTypes.{boxed, int, long};
+ghost use Rattle.tl_types.specs.PlainViews.{plain_decls, plain_shape, plain_slot};
 ghost use Rattle.tl_types.specs.Values.{Tree, depth};
 ghost use Rattle.tl_types.specs.Seen.{view, shape, slot, declaration};
 ghost use Rattle.tl_types.specs.Spelling.{Spells};
@@ -55,56 +57,28 @@ impl<T: Drop> From<AllocFailed<T>> for DecodeFault {
     }
 }
 
-/// Reads the value of a type, and takes exactly its bytes. `at` rises by their number, up to 2^64 - 1.
+/// Reads the value of a plain type, by its number, and takes exactly its bytes. `at` rises by their number, up to 2^64 - 1.
 pub fn decode<S: Source>(
     alloc: Global,
     schema: &Schema,
-    of: TypeRef,
+    head: u32,
     at: &mut u64,
     from: &mut S,
 ) -> Result<Value, DecodeFault>
+    requires { head < length (types_of schema.now.program) }
     // What is spelled is read, and exactly its bytes are taken.
-    ensures spelled { IfSome (S.left from.old) (λ bytes. (t : Tree) (x rest : List ℕ) → bytes ≡ x ++ rest → Spells schema.now.decls (shape of) t x → depth t ≤ MAX_LEVELS → GivesValue result (S.left from.new) at.old at.new t x rest) }
+    ensures spelled { IfSome (S.left from.old) (λ bytes. (t : Tree) (x rest : List ℕ) → bytes ≡ x ++ rest → Spells (plain_decls schema.now) (boxed head) t x → depth t ≤ MAX_LEVELS → GivesValue result (S.left from.new) at.old at.new t x rest) }
     // What is refused is refused at its place, for its cause.
-    ensures refused { IfSome (S.left from.old) (λ bytes. (place : ℕ) (cause : Cause) → Refused schema.now.decls MAX_LEVELS (shape of) bytes place cause → GivesFault result (moved at.old place) cause) }
+    ensures refused { IfSome (S.left from.old) (λ bytes. (place : ℕ) (cause : Cause) → Refused (plain_decls schema.now) MAX_LEVELS (boxed head) bytes place cause → GivesFault result (moved at.old place) cause) }
     ensures used { Used S.left S.faults S.aside S.sound from.old from.new (IsErrOf result DecodeFault.ReadFault) }
 {
     // Read for the proof alone: that the place fits, and that the schema is sound.
     let _start = *at;
     let _count = schema.count();
-    value_of(alloc, schema, MAX_LEVELS, of, at, from)
-}
-
-// The value of a type, with so many levels left.
-#[cycle(decode)]
-fn value_of<S: Source>(
-    alloc: Global,
-    schema: &Schema,
-    levels: u32,
-    of: TypeRef,
-    at: &mut u64,
-    from: &mut S,
-) -> Result<Value, DecodeFault>
-    ensures read { ReadsAs view (S.left from.old) (S.left from.new) at.old at.new result (value_at schema.now.decls levels (shape of)) }
-    ensures used { Used S.left S.faults S.aside S.sound from.old from.new (IsErrOf result DecodeFault.ReadFault) }
-{
-    match of {
-        TypeRef::Int => int_of(at, from),
-        TypeRef::Long => long_of(at, from),
-        TypeRef::Boxed { head } => {
-            if levels == 0 {
-                return Err(DecodeFault::Refused {
-                    place: *at,
-                    cause: Cause::TooDeep,
-                });
-            }
-            record_of(alloc, schema, levels - 1, head, at, from)
-        }
-    }
+    record_of(alloc, schema, MAX_LEVELS - 1, head, at, from)
 }
 
 // A record of one of a type's constructors, with so many levels left for its fields.
-#[cycle(decode)]
 fn record_of<S: Source>(
     alloc: Global,
     schema: &Schema,
@@ -113,7 +87,8 @@ fn record_of<S: Source>(
     at: &mut u64,
     from: &mut S,
 ) -> Result<Value, DecodeFault>
-    ensures read { ReadsAs view (S.left from.old) (S.left from.new) at.old at.new result (boxed_at schema.now.decls (fields_at (value_at schema.now.decls levels) []) head) }
+    requires { head < length (types_of schema.now.program) }
+    ensures read { ReadsAs view (S.left from.old) (S.left from.new) at.old at.new result (boxed_at (plain_decls schema.now) (fields_at (value_at (plain_decls schema.now) levels) []) head) }
     ensures used { Used S.left S.faults S.aside S.sound from.old from.new (IsErrOf result DecodeFault.ReadFault) }
 {
     let place = *at;
@@ -131,7 +106,6 @@ fn record_of<S: Source>(
 }
 
 // The values of fields, one after the other.
-#[cycle(decode)]
 fn fields_of<S: Source>(
     alloc: Global,
     schema: &Schema,
@@ -140,20 +114,38 @@ fn fields_of<S: Source>(
     at: &mut u64,
     from: &mut S,
 ) -> Result<Vec<Value>, DecodeFault>
-    ensures read { ReadsAs (λ v. map view v.items) (S.left from.old) (S.left from.new) at.old at.new result (fields_at (value_at schema.now.decls levels) [] (map slot slots.now)) }
+    ensures read { ReadsAs (λ v. map view v.items) (S.left from.old) (S.left from.new) at.old at.new result (fields_at (value_at (plain_decls schema.now) levels) [] (map (λ f. plain_slot (slot f)) slots.now)) }
     ensures used { Used S.left S.faults S.aside S.sound from.old from.new (IsErrOf result DecodeFault.ReadFault) }
 {
     let mut fields = Vec::new(alloc);
     for field in slots {
-        let value = value_of(alloc, schema, levels, field.of, at, from)?;
+        let value = whole_of(schema, levels, &field.of, at, from)?;
         fields.push(value)?;
     }
     Ok(fields)
 }
 
+// The value of a field: 64 bits of a `long`, 32 bits of anything else that a plain constructor has.
+fn whole_of<S: Source>(
+    schema: &Schema,
+    levels: u32,
+    of: &TypeRef,
+    at: &mut u64,
+    from: &mut S,
+) -> Result<Value, DecodeFault>
+    ensures read { ReadsAs view (S.left from.old) (S.left from.new) at.old at.new result (value_at (plain_decls schema.now) levels (plain_shape (shape of.now))) }
+    ensures used { Used S.left S.faults S.aside S.sound from.old from.new (IsErrOf result DecodeFault.ReadFault) }
+{
+    match of {
+        TypeRef::Long => long_of(at, from),
+        _ => int_of(at, from),
+    }
+}
+
 // The constructor of a type with this number.
 fn member(schema: &Schema, head: u32, number: u32) -> Option<u32>
-    ensures found { result ≡ member_from 0 schema.now.decls head number }
+    requires { head < length (types_of schema.now.program) }
+    ensures found { result ≡ member_from 0 (plain_decls schema.now) head number }
     ensures within { IfSome result (λ i. i < length schema.now.decls) }
 {
     for i in 0..schema.count() {

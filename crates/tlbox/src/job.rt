@@ -1,21 +1,25 @@
-//! The job of `decode`.
-ghost use Rattle.std.specs.Prelude.{◌≡◌, ◌≤◌, ◌⊎◌, IsErrOf};
+//! The jobs of `check` and `decode`.
+ghost use Rattle.std.specs.Prelude.{◌≡◌, ◌<◌, ◌≤◌, ◌⊎◌, IsErrOf, length};
 ghost use Rattle.tl_base.specs.Calls.{Told};
 ghost use Rattle.tl_base.specs.Causes.{Rose};
-ghost use Rattle.tl_types.specs.Seen.{shape};
-ghost use Rattle.tlbox.specs.Jobs.{ReadsSchema, LoadsSchema, LoadsValue, DecodesLine, Works};
+ghost use Rattle.tl_types.specs.Meanings.{types_of};
+ghost use Rattle.tl_types.specs.PlainTypes.{boxed};
+ghost use Rattle.tl_types.specs.PlainViews.{plain_decls};
+ghost use Rattle.tlbox.specs.Jobs.{LoadsSchema, LoadsValue, MakesOutput, NamesPlain, ReadsSchema, Works, bytes_of, check_command, decode_command};
 ghost use Rattle.tlbox.specs.Steps.{TakesValue};
-ghost use Rattle.tlbox.specs.Sound.{NeverFails, IsThere, DecodeAnswered, DecodeFits};
+ghost use Rattle.tlbox.specs.Sound.{CommandAnswered, CommandFits, IsThere, NeverFails};
 
 use crate::files::{put, text_of};
+use crate::listing::listing;
+use crate::plain_types::plain_head;
 use crate::shown::line_of;
-use crate::stop::Stop;
+use crate::stop::{Refusal, Stop, TypeNameCause};
 use crate::whole::{InputFault, decode_whole};
 use std::alloc::Global;
 use tl_base::{Host, Out, Slot, SourceOf};
 use tl_combinators::parse;
 use tl_lexer::{TEXT_LIMIT, lex};
-use tl_types::{Schema, TypeRef, Value, check, type_of};
+use tl_types::{Schema, Value, check, type_of};
 
 /// The most bytes that a schema's text may have.
 const SCHEMA_BYTES: u32 = 4_194_304;
@@ -47,21 +51,35 @@ fn load_schema<H: Host>(alloc: Global, host: &mut H, name: &str) -> Result<Schem
     schema_of(alloc, &text)
 }
 
+// The number of the type that a word names.
+fn plain_type(alloc: Global, schema: &Schema, text: &str) -> Result<u32, Stop>
+    ensures { NamesPlain schema.now text.now result }
+{
+    let of = type_of(alloc, schema, text.as_bytes())?;
+    match plain_head(schema, &of) {
+        Some(head) => Ok(head),
+        None => Err(Stop::Refused(Refusal::TypeName {
+            cause: TypeNameCause::NotYetBuilt,
+        })),
+    }
+}
+
 // The value that is what is left of the input.
 fn slot_value<H: Host>(
     alloc: Global,
     host: &mut H,
     schema: &Schema,
-    of: TypeRef,
+    head: u32,
 ) -> Result<Value, InputFault>
-    ensures value { Told (H.view host.old) (H.view host.new) (TakesValue schema.now.decls (shape of) result) }
+    requires { head < length (types_of schema.now.program) }
+    ensures value { Told (H.view host.old) (H.view host.new) (TakesValue (plain_decls schema.now) (boxed head) result) }
     ensures later { H.read_faults host.old ≤ H.read_faults host.new }
     ensures cause { IsErrOf result InputFault.ReadFault → Rose (H.read_faults host.old) (H.read_faults host.new) }
     ensures others { H.write_faults host.new ≡ H.write_faults host.old }
     ensures sound { NeverFails (H.view host.old) (H.sound host.old) (H.sound host.new) (IsErrOf result InputFault.ReadFault) (λ _. Unit {0}) }
 {
     let mut source = SourceOf::new(host, Slot::Input);
-    decode_whole(alloc, schema, of, &mut source)
+    decode_whole(alloc, schema, head, &mut source)
 }
 
 // The value that is the whole of a file.
@@ -69,17 +87,18 @@ fn load_value<H: Host>(
     alloc: Global,
     host: &mut H,
     schema: &Schema,
-    of: TypeRef,
+    head: u32,
     name: &str,
 ) -> Result<Value, InputFault>
-    ensures loads { Told (H.view host.old) (H.view host.new) (LoadsValue schema.now.decls (shape of) name.now result) }
+    requires { head < length (types_of schema.now.program) }
+    ensures loads { Told (H.view host.old) (H.view host.new) (LoadsValue (plain_decls schema.now) (boxed head) name.now result) }
     ensures later { H.read_faults host.old ≤ H.read_faults host.new }
     ensures cause { IsErrOf result InputFault.ReadFault → Rose (H.read_faults host.old) (H.read_faults host.new) }
     ensures others { H.write_faults host.new ≡ H.write_faults host.old }
     ensures sound { NeverFails (H.view host.old) (H.sound host.old) (H.sound host.new) (IsErrOf result InputFault.ReadFault) (IsThere name.now) }
 {
     match host.open_slot(Slot::Input, name) {
-        Ok(()) => slot_value(alloc, host, schema, of),
+        Ok(()) => slot_value(alloc, host, schema, head),
         Err(_) => Err(InputFault::ReadFault),
     }
 }
@@ -91,19 +110,47 @@ fn decoded_line<H: Host>(
     schema: &str,
     of: &str,
     input: &str,
-) -> Result<String, Stop>
-    ensures line { Told (H.view host.old) (H.view host.new) (DecodesLine schema.now of.now input.now result) }
+) -> Result<Vec<u8>, Stop>
+    ensures line { Told (H.view host.old) (H.view host.new) (MakesOutput (decode_command schema.now of.now input.now) (bytes_of result)) }
     ensures no_write { IsErrOf result Stop.WriteFault → ⊥ }
     ensures later { H.read_faults host.old ≤ H.read_faults host.new }
     ensures cause { IsErrOf result Stop.ReadFault → Rose (H.read_faults host.old) (H.read_faults host.new) }
     ensures others { H.write_faults host.new ≡ H.write_faults host.old }
-    ensures sound { NeverFails (H.view host.old) (H.sound host.old) (H.sound host.new) (IsErrOf result Stop.ReadFault) (DecodeAnswered schema.now of.now input.now) }
+    ensures sound { NeverFails (H.view host.old) (H.sound host.old) (H.sound host.new) (IsErrOf result Stop.ReadFault) (CommandAnswered (decode_command schema.now of.now input.now)) }
 {
     let schema = load_schema(alloc, host, schema)?;
-    let of = type_of(&schema, of.as_bytes())?;
-    let value = load_value(alloc, host, &schema, of, input)?;
+    let head = plain_type(alloc, &schema, of)?;
+    let value = load_value(alloc, host, &schema, head, input)?;
     let line = line_of(alloc, &schema, &value)?;
-    Ok(line)
+    Ok(line.into_bytes())
+}
+
+// The list of the schema's declarations.
+fn checked_listing<H: Host>(alloc: Global, host: &mut H, schema: &str) -> Result<Vec<u8>, Stop>
+    ensures list { Told (H.view host.old) (H.view host.new) (MakesOutput (check_command schema.now) (bytes_of result)) }
+    ensures no_write { IsErrOf result Stop.WriteFault → ⊥ }
+    ensures later { H.read_faults host.old ≤ H.read_faults host.new }
+    ensures cause { IsErrOf result Stop.ReadFault → Rose (H.read_faults host.old) (H.read_faults host.new) }
+    ensures others { H.write_faults host.new ≡ H.write_faults host.old }
+    ensures sound { NeverFails (H.view host.old) (H.sound host.old) (H.sound host.new) (IsErrOf result Stop.ReadFault) (CommandAnswered (check_command schema.now)) }
+{
+    let schema = load_schema(alloc, host, schema)?;
+    let text = listing(alloc, &schema)?;
+    Ok(text)
+}
+
+/// Checks a schema, and writes the list of its declarations.
+pub fn check_schema<H: Host>(alloc: Global, host: &mut H, schema: &str) -> Result<(), Stop>
+    ensures works { Told (H.view host.old) (H.view host.new) (Works (check_command schema.now) result) }
+    ensures reads_later { H.read_faults host.old ≤ H.read_faults host.new }
+    ensures writes_later { H.write_faults host.old ≤ H.write_faults host.new }
+    ensures read { IsErrOf result Stop.ReadFault → Rose (H.read_faults host.old) (H.read_faults host.new) }
+    ensures write { IsErrOf result Stop.WriteFault → Rose (H.write_faults host.old) (H.write_faults host.new) }
+    ensures sound { NeverFails (H.view host.old) (H.sound host.old) (H.sound host.new) (IsErrOf result Stop.ReadFault ⊎ IsErrOf result Stop.WriteFault) (CommandFits (check_command schema.now)) }
+{
+    let text = checked_listing(alloc, host, schema)?;
+    put(host, Out::Output, &text)?;
+    Ok(())
 }
 
 /// Decodes the input's one value, and writes its line.
@@ -114,14 +161,14 @@ pub fn decode<H: Host>(
     of: &str,
     input: &str,
 ) -> Result<(), Stop>
-    ensures works { Told (H.view host.old) (H.view host.new) (Works schema.now of.now input.now result) }
+    ensures works { Told (H.view host.old) (H.view host.new) (Works (decode_command schema.now of.now input.now) result) }
     ensures reads_later { H.read_faults host.old ≤ H.read_faults host.new }
     ensures writes_later { H.write_faults host.old ≤ H.write_faults host.new }
     ensures read { IsErrOf result Stop.ReadFault → Rose (H.read_faults host.old) (H.read_faults host.new) }
     ensures write { IsErrOf result Stop.WriteFault → Rose (H.write_faults host.old) (H.write_faults host.new) }
-    ensures sound { NeverFails (H.view host.old) (H.sound host.old) (H.sound host.new) (IsErrOf result Stop.ReadFault ⊎ IsErrOf result Stop.WriteFault) (DecodeFits schema.now of.now input.now) }
+    ensures sound { NeverFails (H.view host.old) (H.sound host.old) (H.sound host.new) (IsErrOf result Stop.ReadFault ⊎ IsErrOf result Stop.WriteFault) (CommandFits (decode_command schema.now of.now input.now)) }
 {
     let line = decoded_line(alloc, host, schema, of, input)?;
-    put(host, Out::Output, line.as_bytes())?;
+    put(host, Out::Output, &line)?;
     Ok(())
 }

@@ -1,10 +1,14 @@
 //! tlbox: reads schemas of Telegram's TL language and values that are spelled in them.
 #![tactic(auto)]
 
+#[cfg(test)]
+mod check_tests;
 mod decoder;
 mod files;
 mod job;
 mod laws;
+mod listing;
+mod plain_types;
 mod program;
 mod real;
 #[cfg(test)]

@@ -5,11 +5,11 @@ ghost use Rattle.tl_base.specs.Causes.{Rose};
 ghost use Rattle.tlbox.specs.Runs.{Ends};
 ghost use Rattle.tlbox.specs.Sound.{AnswerFits};
 
-use crate::job::decode;
+use crate::job::{check_schema, decode};
 use crate::replaying::replay;
 use crate::report::{report, tell};
 use crate::status::Status;
-use crate::words::{decode_words, replay_words};
+use crate::words::{check_words, decode_words, replay_words};
 use std::alloc::Global;
 use tl_base::Host;
 
@@ -27,6 +27,12 @@ pub fn run<H: Host>(alloc: Global, words: &[String], host: &mut H) -> Status
     // Over a sound host with the files that the words take and room enough, no fault's status comes.
     ensures sound { IfSome (H.view host.old) (λ v. IsTrue (H.sound host.old) → AnswerFits (map string_bytes words.now) v → (result ≡ Status.ReadFault) ⊎ (result ≡ Status.WriteFault) → ⊥) }
 {
+    if let Some(schema) = check_words(words) {
+        return match check_schema(alloc, host, schema) {
+            Ok(()) => Status::Done,
+            Err(stop) => report(alloc, host, stop),
+        };
+    }
     if let Some(asked) = decode_words(words) {
         return match decode(alloc, host, asked.schema, asked.of, asked.input) {
             Ok(()) => Status::Done,

@@ -2,16 +2,16 @@
 ghost use Rattle.std.specs.Prelude.{◌≡◌, ◌≤◌, IfOk, string_bytes, codes};
 ghost use Rattle.tl_base.specs.Calls.{Told};
 ghost use Rattle.tl_base.specs.Causes.{Rose};
-ghost use Rattle.tlbox.specs.Answer.{cause_text, placed_line, form_name, check_name, schema_line};
+ghost use Rattle.tlbox.specs.Answer.{cause_text, check_name, form_name, placed_line, schema_line, text_line, type_cause_name, type_line, unplaced_line};
 ghost use Rattle.tlbox.specs.Jobs.{journal_cause_text, refusal_line, Reports, TellsLine};
 
 use crate::files::put;
 use crate::status::Status;
-use crate::stop::{JournalCause, Refusal, SchemaCause, Stop};
+use crate::stop::{JournalCause, Refusal, SchemaCause, Stop, TextCause, TypeNameCause};
 use std::alloc::{AllocError, Global};
 use tl_base::{Host, Out};
 use tl_combinators::Form;
-use tl_types::{Cause, CheckCause};
+use tl_types::{Cause, CheckCause, TypeCause};
 
 // A cause, and its values.
 fn cause_name(alloc: Global, cause: Cause) -> Result<String, AllocError>
@@ -57,6 +57,21 @@ fn check_name(cause: CheckCause) -> &'static str
         CheckCause::BadResult => "BadResult",
         CheckCause::NotBare => "NotBare",
         CheckCause::BadFlag => "BadFlag",
+        CheckCause::SameNumber => "SameNumber",
+        CheckCause::BareCycle => "BareCycle",
+        CheckCause::EmptyElement => "EmptyElement",
+    }
+}
+
+// The name of what is wrong with a type.
+fn type_cause_name(cause: TypeCause) -> &'static str
+    ensures { result.now ≡ type_cause_name cause }
+{
+    match cause {
+        TypeCause::UnknownType => "UnknownType",
+        TypeCause::WrongArity => "WrongArity",
+        TypeCause::NotBare => "NotBare",
+        TypeCause::EmptyElement => "EmptyElement",
     }
 }
 
@@ -70,30 +85,54 @@ fn placed_line_of(alloc: Global, what: &str, place: u64, why: &str) -> Result<St
     Ok(line)
 }
 
+// The line of what is refused for a cause without a place.
+fn unplaced_line_of(alloc: Global, what: &str, why: &str) -> Result<String, AllocError>
+    ensures { IfOk result (λ s. string_bytes s ≡ unplaced_line what.now why.now) }
+{
+    let line = format!(in alloc; "tlbox: {what} - {why}\n")?;
+    Ok(line)
+}
+
+// The line of a text that is refused.
+fn text_line_of(alloc: Global, what: &str, cause: TextCause) -> Result<String, AllocError>
+    ensures { IfOk result (λ s. string_bytes s ≡ text_line what.now cause) }
+{
+    match cause {
+        TextCause::TextTooLong => unplaced_line_of(alloc, what, "TextTooLong"),
+        TextCause::BadByte { at } => placed_line_of(alloc, what, at as u64, "BadByte"),
+        TextCause::OpenComment { at } => placed_line_of(alloc, what, at as u64, "OpenComment"),
+        TextCause::Unexpected { at } => placed_line_of(alloc, what, at as u64, "Unexpected"),
+        TextCause::NotProfile { at, form } => {
+            let mut why = String::from_str(alloc, "NotProfile ")?;
+            why.push_str(form_name(form))?;
+            placed_line_of(alloc, what, at as u64, why.as_str())
+        }
+        TextCause::TooMany { at } => placed_line_of(alloc, what, at as u64, "TooMany"),
+    }
+}
+
 // The line of a schema's text that is refused.
 fn schema_line_of(alloc: Global, cause: SchemaCause) -> Result<String, AllocError>
     ensures { IfOk result (λ s. string_bytes s ≡ schema_line cause) }
 {
     match cause {
-        SchemaCause::TextTooLong => String::from_str(alloc, "tlbox: schema - TextTooLong\n"),
-        SchemaCause::BadByte { at } => placed_line_of(alloc, "schema", at as u64, "BadByte"),
-        SchemaCause::OpenComment { at } => placed_line_of(
-            alloc,
-            "schema",
-            at as u64,
-            "OpenComment",
-        ),
-        SchemaCause::Unexpected { at } => placed_line_of(alloc, "schema", at as u64, "Unexpected"),
-        SchemaCause::NotProfile { at, form } => {
-            let mut why = String::from_str(alloc, "NotProfile ")?;
-            why.push_str(form_name(form))?;
-            placed_line_of(alloc, "schema", at as u64, why.as_str())
-        }
-        SchemaCause::TooMany { at } => placed_line_of(alloc, "schema", at as u64, "TooMany"),
+        SchemaCause::Text { cause } => text_line_of(alloc, "schema", cause),
         SchemaCause::Checked { decl, cause } => {
             placed_line_of(alloc, "schema decl", decl as u64, check_name(cause))
         }
-        SchemaCause::NotYetBuilt => String::from_str(alloc, "tlbox: schema - NotYetBuilt\n"),
+    }
+}
+
+// The line of a word that is refused as a type.
+fn type_line_of(alloc: Global, cause: TypeNameCause) -> Result<String, AllocError>
+    ensures { IfOk result (λ s. string_bytes s ≡ type_line cause) }
+{
+    match cause {
+        TypeNameCause::Text { cause } => text_line_of(alloc, "type", cause),
+        TypeNameCause::Checked { cause } => {
+            unplaced_line_of(alloc, "type", type_cause_name(cause))
+        }
+        TypeNameCause::NotYetBuilt => unplaced_line_of(alloc, "type", "NotYetBuilt"),
     }
 }
 
@@ -114,7 +153,7 @@ fn line_of(alloc: Global, refusal: Refusal) -> Result<String, AllocError>
 {
     match refusal {
         Refusal::Schema { cause } => schema_line_of(alloc, cause),
-        Refusal::TypeName => String::from_str(alloc, "tlbox: type - NotYetBuilt\n"),
+        Refusal::TypeName { cause } => type_line_of(alloc, cause),
         Refusal::Profile => String::from_str(alloc, "tlbox: profile - NotYetBuilt\n"),
         Refusal::Input { place, cause } => {
             let why = cause_name(alloc, cause)?;

@@ -2,6 +2,7 @@
 ghost use Rattle.std.specs.Prelude.{◌≡◌, ◌++◌, IfOk, OnOk, string_bytes, map};
 ghost use Rattle.serde_json.specs.Data.{object, put};
 ghost use Rattle.serde_json.specs.View.{view as data_of, members_view};
+ghost use Rattle.tl_types.specs.PlainViews.{plain_decls, plain_slot};
 ghost use Rattle.tl_types.specs.Reading.{fields_in};
 ghost use Rattle.tl_types.specs.Seen.{view, views, slot};
 ghost use Rattle.tlbox.specs.Shown.{shown, named, name_text, name_in, with_fields, line_text};
@@ -12,7 +13,7 @@ use tl_types::{Schema, SchemaField, Value};
 
 /// The JSON text of a value, and a line feed.
 pub fn line_of(alloc: Global, schema: &Schema, value: &Value) -> Result<String, AllocError>
-    ensures { IfOk result (λ s. string_bytes s ≡ line_text schema.now.decls (view value.now)) }
+    ensures { IfOk result (λ s. string_bytes s ≡ line_text (plain_decls schema.now) (view value.now)) }
 {
     let json = json_of(alloc, value, schema)?;
     let mut text = json.to_string(alloc)?;
@@ -23,7 +24,7 @@ pub fn line_of(alloc: Global, schema: &Schema, value: &Value) -> Result<String, 
 // A value as JSON.
 #[cycle(show)]
 fn json_of(alloc: Global, value: &Value, schema: &Schema) -> Result<serde_json::Value, AllocError>
-    ensures { IfOk result (λ json. data_of json ≡ shown schema.now.decls (view value.now)) }
+    ensures { IfOk result (λ json. data_of json ≡ shown (plain_decls schema.now) (view value.now)) }
 {
     match value {
         Value::Int(n) => Ok(serde_json::Value::from(*n)),
@@ -43,7 +44,7 @@ fn members_of(
     schema: &Schema,
     entry: u32,
 ) -> Result<Map<String, serde_json::Value>, AllocError>
-    ensures { IfOk result (λ m. members_view m.entries ≡ with_fields schema.now.decls (named (name_in schema.now.decls entry)) (fields_in schema.now.decls entry) (views values.now.items)) }
+    ensures { IfOk result (λ m. members_view m.entries ≡ with_fields (plain_decls schema.now) (named (name_in (plain_decls schema.now) entry)) (fields_in (plain_decls schema.now) entry) (views values.now.items)) }
 {
     let slots = slots_of(schema, entry);
     let mut members = start_of(alloc, name_of(schema, entry))?;
@@ -59,7 +60,7 @@ fn members_of(
 
 // The name of a declaration; none past the end of the schema.
 fn name_of(schema: &Schema, entry: u32) -> &[u8]
-    ensures { result.now ≡ name_in schema.now.decls entry }
+    ensures { result.now ≡ name_in (plain_decls schema.now) entry }
 {
     if entry < schema.count() {
         schema.entry(entry).name.as_slice()
@@ -70,7 +71,7 @@ fn name_of(schema: &Schema, entry: u32) -> &[u8]
 
 // The fields of a declaration; none past the end of the schema.
 fn slots_of(schema: &Schema, entry: u32) -> &[SchemaField]
-    ensures { map slot result.now ≡ fields_in schema.now.decls entry }
+    ensures { map (λ f. plain_slot (slot f)) result.now ≡ fields_in (plain_decls schema.now) entry }
 {
     if entry < schema.count() {
         &schema.entry(entry).fields

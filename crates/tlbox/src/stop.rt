@@ -1,11 +1,14 @@
 //! Why a job ends before its work is done.
+ghost use Rattle.std.specs.Prelude.{◌≡◌};
+ghost use Rattle.tlbox.specs.Stops.{lex_cause, of_schema_text, of_type_text, syntax_cause};
+
 use crate::whole::InputFault;
 use std::alloc::AllocError;
 use thiserror::Error;
 use tl_base::{TextFault, WriteFault};
 use tl_combinators::{Form, SyntaxFault};
 use tl_lexer::LexFault;
-use tl_types::{Cause, CheckCause, CheckFault, TypeFault};
+use tl_types::{Cause, CheckCause, CheckFault, TypeCause, TypeFault};
 use update_replay::ReplayFault;
 
 /// What is refused. A place counts bytes from the front of the input or journal.
@@ -13,8 +16,8 @@ use update_replay::ReplayFault;
 pub enum Refusal {
     #[error("the schema is refused: {cause}")]
     Schema { cause: SchemaCause },
-    #[error("the type is not yet built")]
-    TypeName,
+    #[error("the type is refused: {cause}")]
+    TypeName { cause: TypeNameCause },
     #[error("the profile is not yet built")]
     Profile,
     #[error("the input is refused at {place}: {cause}")]
@@ -25,9 +28,9 @@ pub enum Refusal {
     Journal { place: u64, cause: JournalCause },
 }
 
-/// Why a schema's text is refused.
+/// Why a text is refused, that of a schema or of a type.
 #[derive(Clone, Copy, Debug, PartialEq, Eq, Error)]
-pub enum SchemaCause {
+pub enum TextCause {
     /// It has more than 4,194,304 bytes.
     #[error("the text is too long")]
     TextTooLong,
@@ -46,10 +49,27 @@ pub enum SchemaCause {
     /// One item more than there may be begins at this place.
     #[error("one too many at {at}")]
     TooMany { at: u32 },
+}
+
+/// Why a schema's text is refused.
+#[derive(Clone, Copy, Debug, PartialEq, Eq, Error)]
+pub enum SchemaCause {
+    #[error("{cause}")]
+    Text { cause: TextCause },
     /// This declaration is the first that has this cause, the first in the order of the checks.
     #[error("declaration {decl} is refused: {cause:?}")]
     Checked { decl: u32, cause: CheckCause },
-    /// Its declarations pass the checks, and are no plain schema.
+}
+
+/// Why a word that is a type is refused.
+#[derive(Clone, Copy, Debug, PartialEq, Eq, Error)]
+pub enum TypeNameCause {
+    #[error("{cause}")]
+    Text { cause: TextCause },
+    /// The type has this cause, the first in the order of the checks.
+    #[error("the type is refused: {cause:?}")]
+    Checked { cause: TypeCause },
+    /// It is a type, and values of it are not read yet.
     #[error("not yet built")]
     NotYetBuilt,
 }
@@ -92,6 +112,52 @@ impl From<TextFault> for Stop {
     }
 }
 
+// The cause that a lexer's fault is; want of memory is none.
+fn lex_cause(fault: LexFault) -> Option<TextCause>
+    ensures { result ≡ lex_cause fault }
+{
+    match fault {
+        LexFault::TextTooLong => Some(TextCause::TextTooLong),
+        LexFault::BadByte { at } => Some(TextCause::BadByte { at }),
+        LexFault::OpenComment { at } => Some(TextCause::OpenComment { at }),
+        LexFault::Memory => None,
+    }
+}
+
+// The cause that a parser's fault is; want of memory is none.
+fn syntax_cause(fault: SyntaxFault) -> Option<TextCause>
+    ensures { result ≡ syntax_cause fault }
+{
+    match fault {
+        SyntaxFault::Unexpected { at } => Some(TextCause::Unexpected { at }),
+        SyntaxFault::NotProfile { at, form } => Some(TextCause::NotProfile { at, form }),
+        SyntaxFault::TooMany { at } => Some(TextCause::TooMany { at }),
+        SyntaxFault::Memory => None,
+    }
+}
+
+fn schema_stop(cause: Option<TextCause>) -> Stop
+    ensures { result ≡ of_schema_text cause }
+{
+    match cause {
+        Some(cause) => Stop::Refused(Refusal::Schema {
+            cause: SchemaCause::Text { cause },
+        }),
+        None => Stop::Memory,
+    }
+}
+
+fn type_stop(cause: Option<TextCause>) -> Stop
+    ensures { result ≡ of_type_text cause }
+{
+    match cause {
+        Some(cause) => Stop::Refused(Refusal::TypeName {
+            cause: TypeNameCause::Text { cause },
+        }),
+        None => Stop::Memory,
+    }
+}
+
 impl From<LexFault> for Stop {
     ghost use Rattle.std.specs.Prelude.{◌≡◌};
     ghost use Rattle.tlbox.specs.Stops.{of_lex};
@@ -99,18 +165,7 @@ impl From<LexFault> for Stop {
     ghost from_gives = { λ e stop. stop ≡ of_lex e };
 
     fn from(fault: LexFault) -> Stop {
-        match fault {
-            LexFault::TextTooLong => Stop::Refused(Refusal::Schema {
-                cause: SchemaCause::TextTooLong,
-            }),
-            LexFault::BadByte { at } => Stop::Refused(Refusal::Schema {
-                cause: SchemaCause::BadByte { at },
-            }),
-            LexFault::OpenComment { at } => Stop::Refused(Refusal::Schema {
-                cause: SchemaCause::OpenComment { at },
-            }),
-            LexFault::Memory => Stop::Memory,
-        }
+        schema_stop(lex_cause(fault))
     }
 }
 
@@ -121,18 +176,7 @@ impl From<SyntaxFault> for Stop {
     ghost from_gives = { λ e stop. stop ≡ of_syntax e };
 
     fn from(fault: SyntaxFault) -> Stop {
-        match fault {
-            SyntaxFault::Unexpected { at } => Stop::Refused(Refusal::Schema {
-                cause: SchemaCause::Unexpected { at },
-            }),
-            SyntaxFault::NotProfile { at, form } => Stop::Refused(Refusal::Schema {
-                cause: SchemaCause::NotProfile { at, form },
-            }),
-            SyntaxFault::TooMany { at } => Stop::Refused(Refusal::Schema {
-                cause: SchemaCause::TooMany { at },
-            }),
-            SyntaxFault::Memory => Stop::Memory,
-        }
+        schema_stop(syntax_cause(fault))
     }
 }
 
@@ -147,9 +191,6 @@ impl From<CheckFault> for Stop {
             CheckFault::Refused { decl, cause } => Stop::Refused(Refusal::Schema {
                 cause: SchemaCause::Checked { decl, cause },
             }),
-            CheckFault::NotYetBuilt => Stop::Refused(Refusal::Schema {
-                cause: SchemaCause::NotYetBuilt,
-            }),
             CheckFault::Memory => Stop::Memory,
         }
     }
@@ -163,7 +204,11 @@ impl From<TypeFault> for Stop {
 
     fn from(fault: TypeFault) -> Stop {
         match fault {
-            TypeFault::NotYetBuilt => Stop::Refused(Refusal::TypeName),
+            TypeFault::Lex(fault) => type_stop(lex_cause(fault)),
+            TypeFault::Syntax(fault) => type_stop(syntax_cause(fault)),
+            TypeFault::Refused { cause } => Stop::Refused(Refusal::TypeName {
+                cause: TypeNameCause::Checked { cause },
+            }),
             TypeFault::Memory => Stop::Memory,
         }
     }

@@ -70,9 +70,11 @@ type Row = (
     &'static str,
 );
 
-const SCHEMA_LINE: &str = "tlbox: schema - NotYetBuilt\n";
-
 const TYPE_LINE: &str = "tlbox: type - NotYetBuilt\n";
+
+const UNKNOWN_LINE: &str = "tlbox: type - UnknownType\n";
+
+const ARITY_LINE: &str = "tlbox: type - WrongArity\n";
 
 const ROWS: [Row; 8] = [
     (POINT, "Point", POINT_BYTES, None, Status::Done, POINT_LINE),
@@ -125,12 +127,12 @@ const ROWS: [Row; 8] = [
         "tlbox: input 0 NotYetBuilt\n",
     ),
     (
-        "a x:int = A;",
+        "a x:string = A;",
         "A",
         POINT_BYTES,
         None,
         Status::Refused,
-        SCHEMA_LINE,
+        TYPE_LINE,
     ),
 ];
 
@@ -186,7 +188,7 @@ type Case = (
     &'static str,
 );
 
-const TABLE: [Case; 45] = [
+const TABLE: [Case; 63] = [
     (
         "a#00000001 x:int = A;",
         "A",
@@ -377,14 +379,122 @@ const TABLE: [Case; 45] = [
         Status::Refused,
         "tlbox: input 0 UnknownNumber 1cb5c415\n",
     ),
-    (SHAPES, "Line", POINT_BYTES, Status::Refused, TYPE_LINE),
+    (SHAPES, "Line", POINT_BYTES, Status::Refused, UNKNOWN_LINE),
     (SHAPES, "point", POINT_BYTES, Status::Refused, TYPE_LINE),
-    (SHAPES, "Poin", POINT_BYTES, Status::Refused, TYPE_LINE),
-    (SHAPES, "Points", POINT_BYTES, Status::Refused, TYPE_LINE),
+    (SHAPES, "Poin", POINT_BYTES, Status::Refused, UNKNOWN_LINE),
+    (SHAPES, "points", POINT_BYTES, Status::Refused, UNKNOWN_LINE),
     (SHAPES, "int", "05000000", Status::Refused, TYPE_LINE),
-    (SHAPES, "Vector", "15c4b51c", Status::Refused, TYPE_LINE),
-    ("", "Point", POINT_BYTES, Status::Refused, TYPE_LINE),
-    (" \t\r\n", "Point", POINT_BYTES, Status::Refused, TYPE_LINE),
+    (SHAPES, "Vector", "15c4b51c", Status::Refused, ARITY_LINE),
+    (
+        SHAPES,
+        "Vector<int>",
+        "15c4b51c",
+        Status::Refused,
+        TYPE_LINE,
+    ),
+    (SHAPES, "!", "15c4b51c", Status::Refused, TYPE_LINE),
+    (
+        SHAPES,
+        "Point int",
+        POINT_BYTES,
+        Status::Refused,
+        ARITY_LINE,
+    ),
+    (SHAPES, "%Clock", "", Status::Refused, TYPE_LINE),
+    (
+        SHAPES,
+        "%Point",
+        "",
+        Status::Refused,
+        "tlbox: type - NotBare\n",
+    ),
+    (
+        SHAPES,
+        "Vector<clock>",
+        "",
+        Status::Refused,
+        "tlbox: type - EmptyElement\n",
+    ),
+    (
+        SHAPES,
+        "(Vector clock) Line",
+        "",
+        Status::Refused,
+        "tlbox: type 15 Unexpected\n",
+    ),
+    (
+        SHAPES,
+        "a..b",
+        "",
+        Status::Refused,
+        "tlbox: type 2 Unexpected\n",
+    ),
+    (
+        SHAPES,
+        "Vector<Object>",
+        "",
+        Status::Refused,
+        "tlbox: type 7 NotProfile ObjectType\n",
+    ),
+    (SHAPES, "a@", "", Status::Refused, "tlbox: type 1 BadByte\n"),
+    (
+        SHAPES,
+        "a /*",
+        "",
+        Status::Refused,
+        "tlbox: type 2 OpenComment\n",
+    ),
+    ("", "Point", POINT_BYTES, Status::Refused, UNKNOWN_LINE),
+    (
+        " \t\r\n",
+        "Point",
+        POINT_BYTES,
+        Status::Refused,
+        UNKNOWN_LINE,
+    ),
+    (
+        "a x:int = A;",
+        "A",
+        "0100000005000000",
+        Status::Refused,
+        "tlbox: input 0 UnknownNumber 00000001\n",
+    ),
+    (
+        "---functions--- a#00000001 x:int = int;",
+        "A",
+        "0100000005000000",
+        Status::Refused,
+        UNKNOWN_LINE,
+    ),
+    ("int ? = Int;", "Int", "", Status::Refused, UNKNOWN_LINE),
+    (
+        "a#00000001 {X:Type} x:int = A X;",
+        "A",
+        "",
+        Status::Refused,
+        ARITY_LINE,
+    ),
+    (
+        "a#00000001 {X:Type} x:int = A X;",
+        "A int",
+        "",
+        Status::Refused,
+        TYPE_LINE,
+    ),
+    (
+        "n.a#00000001 x:int = n.A; f#00000002 x:string = F;",
+        "n.A",
+        "0100000005000000",
+        Status::Done,
+        "{\"_\":\"n.a\",\"x\":5}\n",
+    ),
+    (
+        "a#00000001 x:int = A; b#00000002 f:# x:f.0?int = A;",
+        "A",
+        "0100000005000000",
+        Status::Refused,
+        TYPE_LINE,
+    ),
     (
         ";",
         "Point",
@@ -454,7 +564,7 @@ fn table(rt: HostRuntime) -> Result<(), Fail> {
 }
 
 // Schemas that are refused, and their lines: each is `a#00000001 x:int = A;` with one fault.
-const REFUSED: [(&str, &str); 44] = [
+const REFUSED: [(&str, &str); 41] = [
     ("a#00000001 x:int? = A;", "tlbox: schema 16 Unexpected\n"),
     ("a#00000001 x:int = A", "tlbox: schema 20 Unexpected\n"),
     ("a#00000001 x:int = A;;", "tlbox: schema 21 Unexpected\n"),
@@ -542,14 +652,20 @@ const REFUSED: [(&str, &str); 44] = [
         "tlbox: schema decl 2 NotBare\n",
     ),
     ("a f:# x:f.32?int = A;", "tlbox: schema decl 0 BadFlag\n"),
-    ("---functions--- a#00000001 x:int = int;", SCHEMA_LINE),
-    ("int ? = Int;", SCHEMA_LINE),
-    ("a#00000001 {X:Type} x:int = A X;", SCHEMA_LINE),
-    ("n.a#00000001 x:int = A;", SCHEMA_LINE),
-    ("a x:int = A;", SCHEMA_LINE),
-    ("a#00000001 x:string = A;", SCHEMA_LINE),
-    ("a#00000001 x:int = A; b#00000001 x:int = A;", SCHEMA_LINE),
-    ("a#00000001 x:int = A; b#1cb5c415 = A;", SCHEMA_LINE),
+    (
+        "a#00000001 x:int = A; b#00000001 x:int = A;",
+        "tlbox: schema decl 1 SameNumber\n",
+    ),
+    (
+        "a#00000001 x:int = A; b#1cb5c415 = A;",
+        "tlbox: schema decl 1 SameNumber\n",
+    ),
+    ("a#1 = A; b#1 = B;", "tlbox: schema decl 1 SameNumber\n"),
+    ("a x:%A = A;", "tlbox: schema decl 0 BareCycle\n"),
+    (
+        "true = True; a x:Vector<true> = A;",
+        "tlbox: schema decl 1 EmptyElement\n",
+    ),
 ];
 
 #[test]
@@ -574,7 +690,7 @@ const FILES: [Case; 6] = [
         Status::Refused,
         "tlbox: schema 0 BadByte\n",
     ),
-    ("schema", "Line", "none", Status::Refused, TYPE_LINE),
+    ("schema", "Line", "none", Status::Refused, UNKNOWN_LINE),
 ];
 
 #[test]
@@ -685,14 +801,17 @@ fn fields_limit(rt: HostRuntime) -> Result<(), Fail> {
     Ok(())
 }
 
+// A declaration has 24 bytes: the 16,385th begins at 393,216.
 #[test]
 fn declarations_limit(rt: HostRuntime) -> Result<(), Fail> {
-    let text = with_declarations(rt.alloc(), 256)?;
-    let ended = decode_hex(rt.alloc(), text.as_str(), "A", "ff000000", None)?;
-    assert_ends(&rt, &ended, Status::Done, "{\"_\":\"d000000ff\"}\n", 256);
-    let more = with_declarations(rt.alloc(), 257)?;
-    let ended = decode_hex(rt.alloc(), more.as_str(), "A", "ff000000", None)?;
-    assert_ends(&rt, &ended, Status::Refused, SCHEMA_LINE, 257);
+    for (count, status, line) in [
+        (16_384, Status::Done, "{\"_\":\"d00003fff\"}\n"),
+        (16_385, Status::Refused, "tlbox: schema 393216 TooMany\n"),
+    ] {
+        let text = with_declarations(rt.alloc(), count)?;
+        let ended = decode_hex(rt.alloc(), text.as_str(), "A", "ff3f0000", None)?;
+        assert_ends(&rt, &ended, status, line, count as usize);
+    }
     Ok(())
 }
 

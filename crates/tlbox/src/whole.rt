@@ -1,15 +1,17 @@
 //! Values that are whole inputs.
-ghost use Rattle.std.specs.Prelude.{IsErrOf, IfSome};
+ghost use Rattle.std.specs.Prelude.{◌<◌, IsErrOf, IfSome, length};
 ghost use Rattle.tl_base.specs.Contents.{AreBytes};
 ghost use Rattle.tl_base.specs.Using.{Used};
-ghost use Rattle.tl_types.specs.Seen.{shape};
+ghost use Rattle.tl_types.specs.Meanings.{types_of};
+ghost use Rattle.tl_types.specs.PlainTypes.{boxed};
+ghost use Rattle.tl_types.specs.PlainViews.{plain_decls};
 ghost use Rattle.tlbox.specs.Decoding.{DecodesWhole};
 
 use crate::decoder::{DecodeFault, decode};
 use std::alloc::Global;
 use thiserror::Error;
 use tl_base::{Failed, Source, take_end};
-use tl_types::{Cause, Schema, TypeRef, Value};
+use tl_types::{Cause, Schema, Value};
 
 /// Why an input is no value of a type.
 #[derive(Clone, Copy, Debug, PartialEq, Eq, Error)]
@@ -56,14 +58,15 @@ impl From<Failed> for InputFault {
 pub fn decode_whole<S: Source>(
     alloc: Global,
     schema: &Schema,
-    of: TypeRef,
+    head: u32,
     from: &mut S,
 ) -> Result<Value, InputFault>
-    ensures whole { IfSome (S.left from.old) (λ bytes. AreBytes bytes → DecodesWhole schema.now.decls (shape of) bytes result) }
+    requires { head < length (types_of schema.now.program) }
+    ensures whole { IfSome (S.left from.old) (λ bytes. AreBytes bytes → DecodesWhole (plain_decls schema.now) (boxed head) bytes result) }
     ensures used { Used S.left S.faults S.aside S.sound from.old from.new (IsErrOf result InputFault.ReadFault) }
 {
     let mut at = 0;
-    let value = decode(alloc, schema, of, &mut at, from)?;
+    let value = decode(alloc, schema, head, &mut at, from)?;
     if !take_end(from)? {
         return Err(InputFault::Trailing { place: at });
     }

@@ -1,6 +1,6 @@
 //! The words that the program is started with.
 ghost use Rattle.std.specs.Prelude.{◌≡◌, IfSome, IfNone, IsTrue, ◌↔◌, map, string_bytes, List, ℕ};
-ghost use Rattle.tlbox.specs.Answer.{IsOperand, AskDecode, AskReplay};
+ghost use Rattle.tlbox.specs.Answer.{IsOperand, AskCheck, AskDecode, AskReplay};
 
 /// What the words of `decode` ask for.
 #[derive(Clone, Copy)]
@@ -25,6 +25,20 @@ fn is_operand(word: &str) -> bool
         [] => false,
         [first, ..] => *first != b'-',
     }
+}
+
+/// The operand of `check SCHEMA`.
+pub fn check_words(words: &[String]) -> Option<&str>
+    ensures found { IfSome result (λ schema. AskCheck (map string_bytes words.now) schema.now) }
+    ensures none { IfNone result ((schema : List ℕ) → AskCheck (map string_bytes words.now) schema → ⊥) }
+{
+    let [command, schema] = words else {
+        return None;
+    };
+    if command.as_str() != "check" || !is_operand(schema.as_str()) {
+        return None;
+    }
+    Some(schema.as_str())
 }
 
 /// The operands of `decode SCHEMA TYPE INPUT`.

@@ -1,6 +1,6 @@
 use Rattle.std.proofs.Common.{◌≡◌, ◌<◌, ℕ, take}
 use Rattle.tl_combinators.specs.Program.{decl_text}
-use Rattle.tl_types.specs.Checking.{IsRepeat}
+use Rattle.tl_types.specs.NameLists.{IsRepeat}
 use Rattle.tl_types.specs.SameName.{part_names}
 use Rattle.tl_types.proofs.same_name.repeats_part.Given as goal
 

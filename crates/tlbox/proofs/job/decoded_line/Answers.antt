@@ -1,32 +1,32 @@
 use Rattle.std.proofs.Common.{Ok, rules}
-use Rattle.tlbox.specs.Jobs.{LoadsSchema}
+use Rattle.tlbox.specs.Jobs.{LoadsSchema, decode_command}
+use Rattle.tlbox.proofs.Commands.{no_schema_made}
 use Rattle.tlbox.proofs.Sound.{none_failed, stays_sound}
-use Rattle.tlbox.proofs.Lines.{no_schema_line, no_type_line, no_value_line, value_line, no_value_sound}
+use Rattle.tlbox.proofs.Lines.{decode_refuses, no_type_line, no_value_line, value_line, no_value_sound}
 use Rattle.tlbox.proofs.job.decoded_line.Goals as goal
 
 pub returns-in_err-schema-clause-line : goal.returns-in_err-schema-clause-line
 returns-in_err-schema-clause-line g c =
-    no_schema_line c.args.schema.now c.args.of.now c.args.input.now c.in_err-schema.field-0.0 c.from_residual.result _ _ c.in_err-schema.ensures.loads c.from_residual.ensures.1
+    no_schema_made (decode_command c.args.schema.now c.args.of.now c.args.input.now) c.args.schema.now (decode_refuses c.args.schema.now c.args.of.now c.args.input.now) c.in_err-schema.field-0.0 c.from_residual.result _ _
+    c.in_err-schema.ensures.loads c.from_residual.ensures.1
 
-pub returns-in_err-of-clause-line : goal.returns-in_err-of-clause-line
-returns-in_err-of-clause-line g c =
-    no_type_line c.args.schema.now c.args.of.now c.args.input.now c.as_bytes.result.now c.in_ok-schema.schema c.in_err-of.field-0.0 c.from_residual-in_err-of.result _ _ c.as_bytes.ensures.value c.in_ok-schema.ensures.loads
-    c.in_err-of.ensures c.from_residual-in_err-of.ensures.1
+pub returns-in_err-head-clause-line : goal.returns-in_err-head-clause-line
+returns-in_err-head-clause-line g c =
+    no_type_line c.args.schema.now c.args.of.now c.args.input.now c.in_ok-schema.schema c.in_err-head.field-0.0 c.from_residual-in_err-head.result _ _ c.in_ok-schema.ensures.loads c.in_err-head.ensures c.from_residual-in_err-head.ensures.1
 
 pub returns-in_err-value-clause-line : goal.returns-in_err-value-clause-line
 returns-in_err-value-clause-line g c =
-    no_value_line c.args.schema.now c.args.of.now c.args.input.now c.in_ok-schema.schema c.in_ok-of.of c.in_err-value.field-0.0 c.from_residual-in_err-value.result _ _ _ c.in_ok-schema.ensures.loads
-    (rw c.as_bytes.ensures.value at c.in_ok-of.ensures) c.in_err-value.ensures.loads c.from_residual-in_err-value.ensures.1
+    no_value_line c.args.schema.now c.args.of.now c.args.input.now c.in_ok-schema.schema c.in_ok-head.head c.in_ok-head.ensures c.in_err-value.field-0.0 c.from_residual-in_err-value.result _ _ _
+    c.in_ok-schema.ensures.loads c.in_err-value.ensures.loads c.from_residual-in_err-value.ensures.1
 
 pub returns-clause-line : goal.returns-clause-line
 returns-clause-line g c =
-    value_line c.args.schema.now c.args.of.now c.args.input.now c.in_ok-schema.schema c.in_ok-of.of c.in_ok-value.value c.in_ok-line.line _ _ _ c.in_ok-schema.ensures.loads
-    (rw c.as_bytes.ensures.value at c.in_ok-of.ensures) c.in_ok-value.ensures.loads c.in_ok-line.ensures
+    value_line c.args.schema.now c.args.of.now c.args.input.now c.in_ok-schema.schema c.in_ok-head.head c.in_ok-head.ensures c.in_ok-value.value _ _ _ _ c.in_ok-schema.ensures.loads c.in_ok-value.ensures.loads (search rules)
 
 pub returns-in_err-value-clause-sound : goal.returns-in_err-value-clause-sound
 returns-in_err-value-clause-sound g c =
-    no_value_sound c.args.schema.now c.args.of.now c.args.input.now c.in_ok-schema.schema c.in_ok-of.of c.in_err-value.field-0.0 c.from_residual-in_err-value.result _ _ _ _ _ c.in_ok-schema.ensures.loads
-    (rw c.as_bytes.ensures.value at c.in_ok-of.ensures) c.in_ok-schema.ensures.sound.stays c.in_err-value.ensures.sound c.from_residual-in_err-value.ensures.1
+    no_value_sound c.args.schema.now c.args.of.now c.args.input.now c.in_ok-schema.schema c.in_ok-head.head c.in_ok-head.ensures c.in_err-value.field-0.0 c.from_residual-in_err-value.result _ _ _ _ _
+    c.in_ok-schema.ensures.loads c.in_ok-schema.ensures.sound.stays c.in_err-value.ensures.sound c.from_residual-in_err-value.ensures.1
 
 pub returns-in_err-line-clause-sound : goal.returns-in_err-line-clause-sound
 returns-in_err-line-clause-sound g c =

@@ -1,4 +1,4 @@
-use Rattle.tlbox.proofs.Endings.{one_answer}
+use Rattle.tlbox.proofs.OneAnswer.{one_answer}
 use Rattle.tlbox.proofs.laws.words_and_files_have_one_answer.Goals as goal
 
 pub returns : goal.returns

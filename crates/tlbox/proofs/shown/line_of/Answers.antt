@@ -1,9 +1,10 @@
 use Rattle.std.proofs.Common.{refl, ap, ◌∙◌}
 use Rattle.serde_json.specs.Written.{has_float}
+use Rattle.tl_types.specs.PlainViews.{plain_decls}
 use Rattle.tl_types.specs.Seen.{view}
 use Rattle.tlbox.proofs.Forms.{no_float}
 use Rattle.tlbox.proofs.shown.line_of.Goals as goal
 
 pub returns : goal.returns
 returns c =
-    rw (c.in_ok-push_str.ensures.bytes, c.in_ok-text.ensures.text (ap has_float c.in_ok-json.ensures ∙ no_float c.args.schema.now.decls (view c.args.value.now)), c.in_ok-json.ensures) refl
+    rw (c.in_ok-push_str.ensures.bytes, c.in_ok-text.ensures.text (ap has_float c.in_ok-json.ensures ∙ no_float (plain_decls c.args.schema.now) (view c.args.value.now)), c.in_ok-json.ensures) refl

@@ -1,11 +1,9 @@
-use Rattle.std.proofs.Common.{map, ◌∙◌, ap, sym, arith}
-use Rattle.tl_types.specs.Seen.{slot}
-use Rattle.tl_types.proofs.Members.{fields_there}
-use Rattle.tlbox.proofs.Forms.{fields_past}
+use Rattle.std.proofs.Common.{◌∙◌, ap, sym, arith}
+use Rattle.tlbox.proofs.PlainEntries.{plain_slots, plain_fields, plain_fields_past}
 use Rattle.tlbox.proofs.shown.slots_of.Goals as goal
 
 pub returns-then-entry-count : goal.returns-then-entry-count
-returns-then-entry-count c = ap (map slot) c.deref.ensures.value ∙ sym (fields_there c.args.schema.now.decls c.args.entry _ c.entry.ensures)
+returns-then-entry-count c = ap plain_slots c.deref.ensures.value ∙ sym (plain_fields c.args.schema.now c.args.entry c.entry.result.now c.entry.ensures)
 
 pub returns-else-entry-count : goal.returns-else-entry-count
-returns-else-entry-count c = sym (fields_past c.args.schema.now.decls c.args.entry (omega arith))
+returns-else-entry-count c = sym (plain_fields_past c.args.schema.now c.args.entry (omega arith))

@@ -1,5 +1,5 @@
 use Rattle.std.proofs.Common.{rules, codes, ◌≡◌, string_bytes, ◌∷◌, [], map}
-use Rattle.tlbox.proofs.Endings.{four_words, asked_replay}
+use Rattle.tlbox.proofs.Rows.{four_words, asked_replay}
 use Rattle.tlbox.proofs.words.replay_words.Goals as goal
 
 pub returns-clause-found : goal.returns-clause-found

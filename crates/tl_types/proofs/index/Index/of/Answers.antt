@@ -1,5 +1,5 @@
 use Rattle.std.proofs.Common.{◌≤◌, length, take, subst, arith}
-use Rattle.std.proofs.lemmas.List.{length-map, length-take-le, take_all}
+use Rattle.std.proofs.lemmas.List.{length-map, length-take-le, length_push, take_all}
 use Rattle.tl_combinators.specs.Program.{decl_text, program_text}
 use Rattle.tl_types.specs.Indexed.{IsIndex}
 use Rattle.tl_types.proofs.Maps.{slice_get_item, take_push}
@@ -18,6 +18,7 @@ loop-at-preserved c =
     rw (take_push (program_text c.args.program.now) c.loop-at.at (decl_text c.decl-item.result) at) (record {
       named = c.in_ok-note_name.ensures (take c.loop-at.at (program_text c.args.program.now)) before c.loop-at.invariant.named;
       made = c.in_ok-note_type.ensures (take c.loop-at.at (program_text c.args.program.now)) before c.loop-at.invariant.made;
+      few = omega (arith, length_push (take c.loop-at.at (program_text c.args.program.now)) (decl_text c.decl-item.result), before, within, length-map c.args.program.now.decls.items decl_text, c.requires);
     })
 
 pub invariant_of-result : goal.invariant_of-result

@@ -1,5 +1,5 @@
 use Rattle.std.proofs.Common.{◌∙◌, ap, sym, bytes_eq}
-use Rattle.tl_types.specs.Checking.{place}
+use Rattle.tl_types.specs.NameLists.{place}
 use Rattle.tl_types.proofs.Maps.{position-map}
 use Rattle.tl_types.proofs.names.Names.place.Goals as goal
 

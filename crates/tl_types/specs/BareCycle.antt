@@ -1,0 +1,9 @@
+-- The ninth check: cycles of bare references, whose values would have no end.
+use Rattle.std.specs.Prelude.{ℕ, List}
+use Rattle.tl_combinators.specs.Program.{DeclText}
+use Rattle.tl_types.specs.Paths.{IsOnCycle}
+use Rattle.tl_types.specs.BareReferences.{PointsTo}
+
+-- declaration k stands on a cycle of constructors of which each refers to the next
+abbrev pub BareCycle : List DeclText → ℕ → Type 0
+BareCycle ds k = IsOnCycle (PointsTo ds) k

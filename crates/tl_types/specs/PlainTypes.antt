@@ -1,0 +1,7 @@
+-- The types of values that are read so far: numbers, and records of a type without arguments.
+use Rattle.std.specs.Prelude.{ℕ}
+
+pub data PlainShape : Type 0 where
+  int : PlainShape
+  long : PlainShape
+  boxed : ℕ → PlainShape

@@ -1,0 +1,11 @@
+-- The eighth check: numbers.
+use Rattle.std.specs.Prelude.{ℕ, ◌<◌, List}
+use Rattle.tl_combinators.specs.Program.{DeclText}
+use Rattle.tl_types.specs.Schemas.{packed_number, vector_number}
+use Rattle.tl_types.specs.Numbers.{IsNumbered}
+
+-- declaration k has a number that is taken: an earlier declaration's, or one with a meaning of its own
+pub data SameNumber (ds : List DeclText) (k : ℕ) : Type 0 where
+  earlier : (j n : ℕ) → j < k → IsNumbered ds j n → IsNumbered ds k n → SameNumber ds k
+  packed : IsNumbered ds k packed_number → SameNumber ds k
+  vector : IsNumbered ds k vector_number → SameNumber ds k

@@ -1,0 +1,91 @@
+//! The tenth check: arguments that take no bytes.
+ghost use Rattle.std.specs.Prelude.{◌≡◌, ◌<◌, ◌^◌, ◌↔◌, IsTrue, IfOk, length};
+ghost use Rattle.tl_combinators.specs.Trees.{Trees, named, trees_of, view, views};
+ghost use Rattle.tl_combinators.specs.Program.{decl_text, program_text};
+ghost use Rattle.tl_types.specs.EmptyElement.{AppliesToEmpty, EmptyElement};
+ghost use Rattle.tl_types.specs.Parts.{SomePart};
+ghost use Rattle.tl_types.specs.BareSteps.{HasMarkedArg, IsMarkedBare, MarksEmpty};
+ghost use Rattle.tl_types.specs.Writing.{First};
+
+use crate::empties::{empties, is_marked};
+use crate::index::Index;
+use crate::parts::{TypeTest, has_part, writes};
+use crate::references::bare_of;
+use std::alloc::{AllocError, Global};
+use tl_combinators::{Decl, Program, TypeTree};
+
+/// The first declaration that applies a name to a bare constructor that takes no bytes.
+pub fn first_empty_element(alloc: Global, program: &Program) -> Result<Option<u32>, AllocError>
+    requires { length (program_text program.now) < 2 ^ 32 }
+    ensures { IfOk result (First (EmptyElement (program_text program.now))) }
+{
+    let index = Index::of(alloc, program)?;
+    let marks = empties(alloc, &index, program)?;
+    Ok(first_in(&index, &marks, program))
+}
+
+/// Whether a type or a part of it applies a name to a bare constructor that takes no bytes, where a declaration writes it.
+pub fn has_empty_argument(index: &Index, marks: &[bool], decl: &Decl, tree: &TypeTree) -> bool
+    requires { MarksEmpty index.now marks.now }
+    ensures { IsTrue result ↔ SomePart (AppliesToEmpty index.now (decl_text decl.now)) (view tree.now) }
+{
+    has_part(tree, &EmptyArgument { index, marks, decl })
+}
+
+fn first_in(index: &Index, marks: &[bool], program: &Program) -> Option<u32>
+    requires same { index.now ≡ program_text program.now }
+    requires marked { MarksEmpty (program_text program.now) marks.now }
+    requires few { length (program_text program.now) < 2 ^ 32 }
+    ensures { First (EmptyElement (program_text program.now)) result }
+{
+    for (at, decl) in program.decls.iter().enumerate() {
+        if writes(decl, &EmptyArgument { index, marks, decl }) {
+            return Some(at as u32);
+        }
+    }
+    None
+}
+
+// Whether a type applies a name to a bare constructor that is marked.
+#[derive(Clone, Copy)]
+struct EmptyArgument<'t, 'a> {
+    index: &'t Index<'a>,
+    marks: &'t [bool],
+    decl: &'t Decl,
+}
+
+impl<'t, 'a> TypeTest for EmptyArgument<'t, 'a> {
+    ghost use Rattle.tl_combinators.specs.Program.{decl_text};
+    ghost use Rattle.tl_types.specs.BareSteps.{AppliesToMarked};
+
+    ghost holds = { λ s u. AppliesToMarked s.index.now s.marks.now (decl_text s.decl.now) u };
+
+    fn passes(&self, tree: &TypeTree) -> bool {
+        match tree {
+            TypeTree::Named { args, .. } => has_marked(self.index, self.marks, self.decl, args),
+            TypeTree::Percent { .. } => false,
+            TypeTree::AnyCall => false,
+        }
+    }
+}
+
+// Whether one of the types is a bare constructor that is marked.
+fn has_marked(index: &Index, marks: &[bool], decl: &Decl, trees: &[TypeTree]) -> bool
+    ensures { IsTrue result ↔ HasMarkedArg index.now marks.now (decl_text decl.now) (trees_of (views trees.now)) }
+{
+    for tree in trees {
+        if is_marked_bare(index, marks, decl, tree) {
+            return true;
+        }
+    }
+    false
+}
+
+fn is_marked_bare(index: &Index, marks: &[bool], decl: &Decl, tree: &TypeTree) -> bool
+    ensures { IsTrue result ↔ IsMarkedBare index.now marks.now (decl_text decl.now) (view tree.now) }
+{
+    match bare_of(index, decl, tree) {
+        Some(j) => is_marked(marks, j),
+        None => false,
+    }
+}

@@ -1,0 +1,114 @@
+//! Where the names of a program are declared.
+ghost use Rattle.std.specs.Prelude.{◌≡◌, ◌<◌, ◌^◌, List, length, IfOk, OnOk};
+ghost use Rattle.tl_combinators.specs.Program.{DeclText, decl_text, program_text};
+ghost use Rattle.tl_types.specs.Arities.{own_type};
+ghost use Rattle.tl_types.specs.Meanings.{first_of, head_of, place_of, types_of, with_type_of};
+
+use crate::arities::own_type;
+use crate::index::Index;
+use crate::names::Names;
+use std::alloc::{AllocError, Global};
+use std::marker::Model;
+use tl_combinators::{Decl, Program};
+
+/// The own constructors and the types of a program, by their names.
+#[derive(Drop)]
+pub struct Scope<'a> {
+    index: Index<'a>,
+    types: Names,
+}
+
+impl<'a> Model for Scope<'a> {
+    ghost use Rattle.std.specs.Prelude.{List};
+    ghost use Rattle.tl_combinators.specs.Program.{DeclText};
+    ghost use Rattle.tl_types.specs.DeclCodes.{decls_code};
+    ghost use Rattle.tl_types.specs.SchemaParts.{IsScope};
+
+    ghost Value = { List DeclText };
+
+    ghost coded = { decls_code };
+
+    ghost view = { λ s. s.index };
+
+    ghost invariant = { λ s. IsScope s.index s.types };
+}
+
+impl<'a> Scope<'a> {
+    /// Goes through a program.
+    pub fn of(alloc: Global, program: &'a Program) -> Result<Scope<'a>, AllocError>
+        requires { length (program_text program.now) < 2 ^ 32 }
+        ensures { IfOk result (λ s. s ≡ program_text program.now) }
+    {
+        let index = Index::of(alloc, program)?;
+        let types = types_of(alloc, program)?;
+        Ok(Scope { index, types })
+    }
+
+    /// The constructors.
+    pub fn index(&self) -> &Index<'a>
+        ensures { result.now ≡ self.now }
+    {
+        &self.index
+    }
+
+    /// The number of types.
+    pub fn type_count(&self) -> u32
+        ensures { result ≡ length (types_of self.now) }
+    {
+        self.types.len() as u32
+    }
+
+    /// The number of a type.
+    pub fn head(&self, type_name: &[u8]) -> u32
+        ensures { result ≡ head_of self.now type_name.now }
+    {
+        match self.types.place(type_name) {
+            Some(head) => head as u32,
+            None => self.type_count(),
+        }
+    }
+
+    /// The place of the constructor with this name.
+    pub fn place(&self, name: &[u8]) -> u32
+        ensures { result ≡ place_of self.now name.now }
+    {
+        match self.index.constructor(name) {
+            Some(place) => place,
+            None => self.index.count(),
+        }
+    }
+
+    /// The place of the first constructor of this type.
+    pub fn first(&self, type_name: &[u8]) -> u32
+        ensures { result ≡ first_of self.now type_name.now }
+    {
+        match self.index.first_of(type_name) {
+            Some(place) => place,
+            None => self.index.count(),
+        }
+    }
+}
+
+// The types in the order of their first constructors.
+fn types_of(alloc: Global, program: &Program) -> Result<Names, AllocError>
+    ensures { IfOk result (λ types. types ≡ types_of (program_text program.now)) }
+{
+    let mut types = Names::new(alloc);
+    for decl in &program.decls {
+        add_type_of(alloc, &mut types, decl)?;
+    }
+    Ok(types)
+}
+
+// Adds the type that a declaration constructs.
+fn add_type_of(alloc: Global, types: &mut Names, decl: &Decl) -> Result<(), AllocError>
+    ensures { OnOk result (types.new ≡ with_type_of types.old (own_type (decl_text decl.now))) }
+{
+    match own_type(decl) {
+        Some(name) => {
+            types.add(alloc, name)?;
+            Ok(())
+        }
+        None => Ok(()),
+    }
+}
