@@ -1,5 +1,5 @@
 #!/bin/sh
-# Builds the program, and times how it reads schemas of growing length. README.md tells what it prints.
+# Builds the program, and times how it checks schemas of growing length. README.md tells what it prints.
 set -eu
 
 bench=$(cd "$(dirname "$0")" && pwd)
