@@ -4,3 +4,4 @@ pub mod Gives
 pub mod Uses
 pub mod FileBytes
 pub mod Named
+pub mod TextFaults

@@ -1,5 +1,5 @@
 -- What a host in memory shows, and what it was told of its calls.
-use Rattle.std.specs.Prelude.{◌≡◌, ◌≢◌, ◌⊎◌, ℕ, ◌+◌, ◌-◌, ◌<◌, ◌≤◌, ◌^◌, min, List, [], ◌∷◌, ◌++◌, Bool, true, false, ◌&&◌, Option, Some, None, Result, Ok, Err, length, map, ◌==◌, if◌then◌else◌}
+use Rattle.std.specs.Prelude.{◌≡◌, ◌≢◌, ◌⊎◌, ℕ, ◌+◌, ◌-◌, ◌≤◌, ◌^◌, min, List, [], ◌∷◌, ◌++◌, Bool, true, false, ◌&&◌, Option, Some, None, Result, Ok, Err, length, map, ◌==◌, if◌then◌else◌}
 use Rattle.tl_base.specs.Outside.{View, HasFile, left_of, written_of}
 use Rattle.tl_base.specs.Numbers.{is_among, cut_at}
 use Rattle.tl_base.specs.declared.host.Slot.{Slot}
@@ -77,9 +77,18 @@ pub record KeepsOuts (old new : MemHost) : Type 0 where
   pub errors : new.errors ≡ old.errors
   pub room : new.room ≡ old.room
 
+-- which file each slot reads, and from where, is kept
+pub record KeepsSlots (old new : MemHost) : Type 0 where
+  pub schema : new.schema ≡ old.schema
+  pub input : new.input ≡ old.input
+
 -- the calls of each kind are kept
 abbrev pub KeepsCalls : MemHost → MemHost → Type 0
 KeepsCalls old new = (call : HostCall) → calls_of call new ≡ calls_of call old
+
+-- how many calls of each kind there were, and which fail, is kept
+abbrev pub KeepsScript : MemHost → MemHost → Type 0
+KeepsScript old new = (call : HostCall) → ((calls_of call new).made ≡ (calls_of call old).made) × ((calls_of call new).failing.items ≡ (calls_of call old).failing.items)
 
 -- the call of this kind with this number fails too, and the other kinds are kept
 pub record FailsToo (call : HostCall) (number : ℕ) (old new : MemHost) : Type 0 where

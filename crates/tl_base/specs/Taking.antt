@@ -18,15 +18,16 @@ TakesInto into bytes after (Ok u) = Consumes (Some bytes) after into
 TakesInto into bytes after (Err (Ended had)) = (length bytes ≡ had) × (had < length into) × (after ≡ Some [])
 TakesInto into bytes after (Err ReadFault) = (front : List ℕ) × Consumes (Some bytes) after front × (length front < length into)
 
--- A piece is taken and stands behind the text.
-abbrev pub TakesPiece : List ℕ → List ℕ → List ℕ → Option (List ℕ) → Result ℕ TextFault → Type 0
-TakesPiece old new bytes after (Ok n) = (piece : List ℕ) × (new ≡ old ++ piece) × Consumes (Some bytes) after piece
-TakesPiece old new bytes after (Err e) = Unit {0}
+-- A piece is taken and stands behind the text. At a fault a piece of at most so many bytes was taken.
+abbrev pub TakesPiece : ℕ → List ℕ → List ℕ → List ℕ → Option (List ℕ) → Result ℕ TextFault → Type 0
+TakesPiece most old new bytes after (Ok n) = (piece : List ℕ) × (new ≡ old ++ piece) × Consumes (Some bytes) after piece
+TakesPiece most old new bytes after (Err e) = (piece : List ℕ) × Consumes (Some bytes) after piece × (length piece ≤ most)
 
--- All the bytes, where they are no more than the limit; one more than the limit, where there are more.
+-- All the bytes, where they are no more than the limit; one more than the limit, where there are more. At a fault no more than
+-- that were taken.
 abbrev pub TakesText : ℕ → List ℕ → Option (List ℕ) → Result (Vec ℕ Global) TextFault → Type 0
 TakesText limit bytes after (Ok text) = (rest : List ℕ) × (after ≡ Some rest) × (bytes ≡ text.items ++ rest) × (length text.items ≤ limit + 1) × (length text.items ≤ limit → rest ≡ [])
-TakesText limit bytes after (Err e) = Unit {0}
+TakesText limit bytes after (Err e) = (front : List ℕ) × Consumes (Some bytes) after front × (length front ≤ limit + 1)
 
 -- Whether no byte is left; a byte that is left is taken.
 abbrev pub TakesEnd : {E : Type 0} → List ℕ → Option (List ℕ) → Result Bool E → Type 0

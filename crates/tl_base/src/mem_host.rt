@@ -1,5 +1,5 @@
 //! An outside in memory.
-ghost use Rattle.std.specs.Prelude.{◌≡◌, ◌<◌, ◌≤◌, ◌+◌, ◌==◌, IfOk, OnOk, OnErr, length, take, min, Some, true, false, map, List, ℕ, [], ◌∷◌, ◌++◌, Ok, vec_capacity};
+ghost use Rattle.std.specs.Prelude.{◌≡◌, ◌<◌, ◌≤◌, ◌+◌, ◌-◌, ◌^◌, ◌==◌, IfOk, OnOk, OnErr, length, take, min, Some, true, false, map, List, ℕ, [], ◌∷◌, ◌++◌, Ok, vec_capacity};
 
 use crate::bytes::Bytes;
 use crate::fault::{Failed, Memory};
@@ -79,7 +79,7 @@ impl Calls {
 
 impl MemHost {
     ghost use Rattle.tl_base.specs.Outside.{View, written_of};
-    ghost use Rattle.tl_base.specs.MemoryHost.{host_view, host_cuts, calls_of, is_sound_host, IsUnfailed, IsUnscripted, KeepsCounts, KeepsOuts, KeepsCalls, FailsToo};
+    ghost use Rattle.tl_base.specs.MemoryHost.{host_view, host_cuts, calls_of, is_sound_host, IsUnfailed, IsUnscripted, KeepsCounts, KeepsOuts, KeepsSlots, KeepsCalls, KeepsScript, FailsToo};
     ghost use Rattle.tl_base.specs.Causes.{Rose};
 
     /// An outside without files, whose outs take `room` bytes each. It takes their memory.
@@ -116,6 +116,8 @@ impl MemHost {
     /// Adds a file behind the others. Before the run.
     pub fn file(&mut self, alloc: Global, name: &str, bytes: Bytes) -> Result<(), Memory>
         ensures ok { OnOk result ((host_view self.new).files ≡ (host_view self.old).files ++ (name.now, bytes) ∷ []) }
+        ensures err { OnErr result (host_view self.new ≡ host_view self.old) }
+        ensures slots { KeepsSlots self.old self.new }
         ensures outs { KeepsOuts self.old self.new }
         ensures counts { KeepsCounts self.old self.new }
         ensures sound { is_sound_host self.new ≡ is_sound_host self.old }
@@ -130,6 +132,7 @@ impl MemHost {
     /// Adds a cut: the next read of each slot that has no cut yet gives at most so many bytes, where that is above 0.
     pub fn cut(&mut self, most: u32) -> Result<(), Memory>
         ensures ok { OnOk result (host_cuts self.new ≡ host_cuts self.old ++ most ∷ []) }
+        ensures err { OnErr result (host_cuts self.new ≡ host_cuts self.old) }
         ensures calls { KeepsCalls self.old self.new }
         ensures view { host_view self.new ≡ host_view self.old }
         ensures counts { KeepsCounts self.old self.new }
@@ -142,6 +145,7 @@ impl MemHost {
     /// Lets call number `number` of this kind, from 0, fail.
     pub fn fail(&mut self, call: HostCall, number: u64) -> Result<(), Memory>
         ensures ok { OnOk result (FailsToo call number self.old self.new) }
+        ensures err { OnErr result (KeepsScript self.old self.new) }
         ensures cuts { host_cuts self.new ≡ host_cuts self.old }
         ensures view { host_view self.new ≡ host_view self.old }
         ensures counts { KeepsCounts self.old self.new }
@@ -170,6 +174,7 @@ impl MemHost {
     fn read_failed(&mut self) -> Failed
         ensures rose { Rose self.old.read_faults self.new.read_faults }
         ensures later { self.old.read_faults ≤ self.new.read_faults }
+        ensures once { self.new.read_faults ≡ min (self.old.read_faults + 1) (2 ^ 64 - 1) }
         ensures rest { self.new ≡ record self.old { read_faults = self.new.read_faults } }
     {
         self.read_faults = self.read_faults.saturating_add(1);
@@ -180,6 +185,7 @@ impl MemHost {
     fn write_failed(&mut self) -> Failed
         ensures rose { Rose self.old.write_faults self.new.write_faults }
         ensures later { self.old.write_faults ≤ self.new.write_faults }
+        ensures once { self.new.write_faults ≡ min (self.old.write_faults + 1) (2 ^ 64 - 1) }
         ensures rest { self.new ≡ record self.old { write_faults = self.new.write_faults } }
     {
         self.write_faults = self.write_faults.saturating_add(1);
@@ -192,7 +198,7 @@ impl Host for MemHost {
     ghost use Rattle.tl_base.specs.MemoryFiles.{files-HoldBytes};
     ghost use Rattle.tl_base.specs.MemoryHost.{host_view, is_sound_host, OpensAsTold, ReadsAsTold, WritesAsTold, Counts};
     ghost use Rattle.tl_base.specs.Outside.{HasFile, written_of};
-    ghost use Rattle.tl_base.specs.Causes.{HasCause};
+    ghost use Rattle.tl_base.specs.Causes.{HasCause, count_after};
     ghost use Rattle.tl_base.specs.Calls.{Told, Opens, ReadsSlot, WritesOut, FailsOnly};
     ghost use Rattle.std.specs.Io.{ReadsAtMost, WritesAtMost};
 
@@ -213,6 +219,7 @@ impl Host for MemHost {
         ensures sound { FailsOnly (Some (host_view self.old)) (is_sound_host self.old) (is_sound_host self.new) result (λ v. (bytes : List ℕ) × HasFile v.files name.now bytes) }
         ensures script { OpensAsTold self.old name.now result }
         ensures counts { Counts HostCall.Open self.old self.new }
+        ensures exact { self.new.read_faults ≡ count_after self.old.read_faults result }
     {
         let Some(_) = self.opens.next() else {
             return Err(self.read_failed());
@@ -239,6 +246,8 @@ impl Host for MemHost {
         ensures sound { FailsOnly (Some (host_view self.old)) (is_sound_host self.old) (is_sound_host self.new) result (λ v. Unit {0}) }
         ensures script { 0 < length into.old → ReadsAsTold slot self.old (length into.old) result }
         ensures counts { 0 < length into.old → Counts (HostCall.Read slot) self.old self.new }
+        ensures exact { self.new.read_faults ≡ count_after self.old.read_faults result }
+        ensures still { length into.old ≡ 0 → self.new ≡ self.old }
     {
         if into.is_empty() {
             return Ok(0);
@@ -267,6 +276,8 @@ impl Host for MemHost {
         ensures sound { 0 < length piece.now → FailsOnly (Some (host_view self.old)) (is_sound_host self.old) (is_sound_host self.new) result (λ v. length (written_of out v) < v.room) }
         ensures script { 0 < length piece.now → WritesAsTold out self.old (length piece.now) result }
         ensures counts { 0 < length piece.now → Counts (HostCall.Write out) self.old self.new }
+        ensures exact { self.new.write_faults ≡ count_after self.old.write_faults result }
+        ensures still { length piece.now ≡ 0 → self.new ≡ self.old }
     {
         if piece.is_empty() {
             return Ok(0);

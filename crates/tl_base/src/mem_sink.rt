@@ -2,7 +2,7 @@
 ghost use Rattle.std.specs.Prelude.{◌≡◌, ◌==◌, ◌+◌, ◌-◌, ◌<◌, ◌≤◌, [], ◌++◌, length, take, min, Ok, IfSome, IfNone, IfOk, vec_capacity};
 ghost use Rattle.std.specs.Io.{WritesAtMost};
 ghost use Rattle.std.specs.Io.KnownBytes.{WriteAppends};
-ghost use Rattle.tl_base.specs.Causes.{HasCause};
+ghost use Rattle.tl_base.specs.Causes.{HasCause, count_after};
 ghost use Rattle.tl_base.specs.Using.{WritesSound};
 
 use crate::fault::{Failed, Memory};
@@ -93,6 +93,8 @@ impl Sink for MemSink {
         ensures sound { 0 < length piece.now → WritesSound (Some (sink_bytes self.old)) (sink_room self.old) (is_sound_sink self.old) (is_sound_sink self.new) result }
         ensures fits { 0 < length piece.now → TakesWhatFits self.old (length piece.now) result }
         ensures counts { 0 < length piece.now → CountsWrite self.old self.new }
+        ensures exact { sink_faults self.new ≡ count_after (sink_faults self.old) result }
+        ensures still { length piece.now ≡ 0 → self.new ≡ self.old }
     {
         if piece.is_empty() {
             return Ok(0);

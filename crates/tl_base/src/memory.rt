@@ -2,7 +2,7 @@
 ghost use Rattle.std.specs.Prelude.{◌≡◌, ◌==◌, ◌+◌, ◌<◌, ◌≤◌, [], ◌++◌, length, drop, take, min, Some, List, ℕ, slice_index, Ok};
 ghost use Rattle.std.specs.Io.{ReadsAtMost};
 ghost use Rattle.std.specs.Io.KnownBytes.{ReadConsumes};
-ghost use Rattle.tl_base.specs.Causes.{HasCause};
+ghost use Rattle.tl_base.specs.Causes.{HasCause, count_after};
 ghost use Rattle.tl_base.specs.Outside.{nothing_aside};
 ghost use Rattle.tl_base.specs.Using.{StaysSound};
 ghost use Rattle.tl_base.specs.Numbers.{cut_at};
@@ -88,6 +88,8 @@ impl Source for MemSource {
         ensures sound { StaysSound (Some (source_bytes self.old)) (is_sound_source self.old) (is_sound_source self.new) result }
         ensures piece { 0 < length into.old → ReadsPiece self.old (length into.old) result }
         ensures counts { 0 < length into.old → CountsRead self.old self.new }
+        ensures exact { source_faults self.new ≡ count_after (source_faults self.old) result }
+        ensures still { length into.old ≡ 0 → self.new ≡ self.old }
     {
         if into.is_empty() {
             return Ok(0);

@@ -107,7 +107,7 @@ const PIECE_BYTES: usize = 4096;
 
 // Reads a piece of at most so many bytes, and appends it to the text.
 fn take_piece<S: Source>(from: &mut S, most: usize, text: &mut Vec<u8>) -> Result<usize, TextFault>
-    ensures bytes { IfSome (S.left from.old) (λ bytes. TakesPiece text.old.items text.new.items bytes (S.left from.new) result) }
+    ensures bytes { IfSome (S.left from.old) (λ bytes. TakesPiece most text.old.items text.new.items bytes (S.left from.new) result) }
     ensures bound { IfOk result (λ n. (n ≤ most) × (vec_len text.new ≡ vec_len text.old + n)) }
     ensures end { 0 < most → result ≡ Ok 0 → IfSome (S.left from.old) (λ bytes. bytes ≡ []) }
     ensures used { Used S.left S.faults S.aside S.sound from.old from.new (IsErrOf result TextFault.ReadFault) }

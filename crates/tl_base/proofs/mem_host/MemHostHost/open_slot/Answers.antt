@@ -1,4 +1,4 @@
-use Rattle.std.proofs.Common.{rules, sym, refl, ap, ◌∙◌, inr}
+use Rattle.std.proofs.Common.{sym, refl, ap, ◌∙◌, inr}
 use Rattle.tl_base.specs.MemoryFiles.{bytes_at}
 use Rattle.tl_base.specs.MemoryHost.{is_sound_host, none_fails}
 use Rattle.tl_base.specs.declared.mem_host.Calls.{Calls}
