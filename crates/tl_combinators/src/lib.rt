@@ -2,11 +2,23 @@
 #![tactic(auto)]
 
 mod built_in;
+#[cfg(test)]
+mod built_in_tests;
+#[cfg(test)]
+mod declaration_tests;
 mod declarations;
 mod description;
+#[cfg(test)]
+mod description_tests;
 mod fault;
+#[cfg(test)]
+mod field_tests;
 mod fields;
 mod law;
+#[cfg(test)]
+mod limit_tests;
+#[cfg(test)]
+mod name_tests;
 mod names;
 mod numbers;
 mod parser;
@@ -16,8 +28,10 @@ mod printing;
 mod program;
 mod reading;
 #[cfg(test)]
-mod tests;
+mod texts;
 mod tree;
+#[cfg(test)]
+mod type_tests;
 mod types;
 
 pub use fault::{Form, SyntaxFault};

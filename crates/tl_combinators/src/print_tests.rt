@@ -1,27 +1,22 @@
+//! What is printed, and that it reads back.
 use crate::fault::SyntaxFault;
 use crate::parser::parse;
 use crate::printing::print;
-use crate::program::{Decl, FieldKind, Program};
+use crate::program::{Decl, FieldKind};
+use crate::texts::read_bytes;
 use crate::tree::TypeTree;
 use std::alloc::Global;
 use std::test::Fail;
 use tl_base::Bytes;
 use tl_lexer::lex;
 
-// What is printed of the program that a text declares.
+// What is printed of the program that a text declares. `print` asks that some text reads as the program, so it stands behind `parse`.
 fn printed(alloc: Global, text: &[u8]) -> Result<Bytes, SyntaxFault> {
     match lex(alloc, text) {
         Ok(tokens) => {
             let program = parse(alloc, text, tokens.as_slice())?;
             Ok(print(alloc, &program)?)
         }
-        Err(_) => Err(SyntaxFault::Memory),
-    }
-}
-
-fn read(alloc: Global, text: &[u8]) -> Result<Program, SyntaxFault> {
-    match lex(alloc, text) {
-        Ok(tokens) => parse(alloc, text, tokens.as_slice()),
         Err(_) => Err(SyntaxFault::Memory),
     }
 }
@@ -81,7 +76,7 @@ fn has_bits(decl: &Decl) -> bool {
 #[test]
 fn reads_what_was_printed(rt: HostRuntime) -> Result<(), Fail> {
     let text = printed(rt.alloc(), written())?;
-    let program = read(rt.alloc(), text.as_slice())?;
+    let program = read_bytes(rt.alloc(), text.as_slice())?;
     match program.decls.as_slice() {
         [int, f, vector, g] => {
             assert!(rt; int.builtin && vector.builtin && vector.number == Some(481_674_261));
