@@ -12,7 +12,7 @@ use Rattle.tl_combinators.specs.Trees.{Tree, view}
 use Rattle.tl_combinators.specs.Types.{whole_type}
 use Rattle.tl_combinators.specs.Program.{DeclText, program_text}
 use Rattle.tl_combinators.specs.Sentences.{ProgramText, program_so_far, program, Reads, SyntaxRefused, ReadsType, TypeRefused, Accepts, Refuses}
-use Rattle.tl_combinators.proofs.SureProgram.{sure_program, sure_whole_type}
+use Rattle.tl_combinators.proofs.LawfulProgram.{lawful_program, lawful_whole_type}
 
 -- ---- of a rule that is sure
 
@@ -35,10 +35,10 @@ module _ {X A : Type 0} (look : X → A) (r : Rule Token SyntaxFault A) (sure : 
 
 module _ (text : List ℕ) (tokens : List Token) where
   pub type_accepts : (x : Result TypeTree SyntaxFault) → Parses fault_of view (whole_type text) tokens [] x → (t : Tree) → ReadsType text tokens t → Accepts view t x
-  type_accepts x h = accepts view (whole_type text) (sure_whole_type text) tokens x h
+  type_accepts x h = accepts view (whole_type text) (lawful_whole_type text).sure tokens x h
 
   pub type_refuses : (x : Result TypeTree SyntaxFault) → Parses fault_of view (whole_type text) tokens [] x → (fault : SyntaxFault) → TypeRefused text tokens fault → Refuses fault x
-  type_refuses x h = refuses view (whole_type text) (sure_whole_type text) tokens x h
+  type_refuses x h = refuses view (whole_type text) (lawful_whole_type text).sure tokens x h
 
 -- ---- programs, whose last section the answer doesn't say
 
@@ -51,7 +51,7 @@ module _ (text : List ℕ) (tokens : List Token) (function : Bool) where
   same_program (Err f) ds other e = e
 
   pub program_accepts : (x : Result Program SyntaxFault) → Parses fault_of (last_in function) (program text) tokens [] x → (ds : List DeclText) → Reads text tokens ds → Accepts program_text ds x
-  program_accepts x h ds p = same_program x ds p.0 (accepts (last_in function) (program text) (sure_program text) tokens x h (program_so_far ds p.0) p.1)
+  program_accepts x h ds p = same_program x ds p.0 (accepts (last_in function) (program text) (lawful_program text).sure tokens x h (program_so_far ds p.0) p.1)
 
   pub program_refuses : (x : Result Program SyntaxFault) → Parses fault_of (last_in function) (program text) tokens [] x → (fault : SyntaxFault) → SyntaxRefused text tokens fault → Refuses fault x
-  program_refuses x h = refuses (last_in function) (program text) (sure_program text) tokens x h
+  program_refuses x h = refuses (last_in function) (program text) (lawful_program text).sure tokens x h

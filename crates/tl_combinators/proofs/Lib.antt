@@ -12,10 +12,9 @@ pub mod Counts
 pub mod EqualDescriptions
 pub mod Rows
 pub mod TakenRows
-pub mod SureProgram
-pub mod RowsProgram
+pub mod Lawful
 pub mod DecidedTokens
-pub mod WholeProgram
+pub mod LawfulProgram
 pub mod OneProgram
 pub mod Spanned
 pub mod Exact

@@ -11,8 +11,7 @@ use Rattle.tl_combinators.specs.Program.{DeclText}
 use Rattle.tl_combinators.specs.Sentences.{ProgramText, program, Reads, SyntaxRefused, ReadsType, TypeRefused}
 use Rattle.tl_combinators.specs.OneReading.{HasOneProgram, HasOneType}
 use Rattle.tl_combinators.proofs.DecidedTokens.{cell_left}
-use Rattle.tl_combinators.proofs.SureProgram.{sure_program, sure_whole_type}
-use Rattle.tl_combinators.proofs.WholeProgram.{whole_program, whole_whole_type}
+use Rattle.tl_combinators.proofs.LawfulProgram.{lawful_program, lawful_whole_type}
 
 -- ---- what is read goes on to the end
 
@@ -43,10 +42,10 @@ some_program text tokens (inr (f, h)) = inr (f, h)
 pub one_program : (text : List ℕ) (tokens : List Token) → HasOneProgram text tokens
 one_program text tokens =
     record {
-      either = some_program text tokens ((whole_program text).given tokens);
-      never_both = λ ds f p q. (sure_program text).apart tokens [] _ f p.1 q;
-      same = λ ds es p q. ap (λ (r : ProgramText). r.decls) ((sure_program text).same tokens [] [] _ _ p.1 q.1).0;
-      same_fault = λ f g p q. (sure_program text).fault tokens f g p q;
+      either = some_program text tokens ((lawful_program text).whole.given tokens);
+      never_both = λ ds f p q. (lawful_program text).sure.apart tokens [] _ f p.1 q;
+      same = λ ds es p q. ap (λ (r : ProgramText). r.decls) ((lawful_program text).sure.same tokens [] [] _ _ p.1 q.1).0;
+      same_fault = λ f g p q. (lawful_program text).sure.fault tokens f g p q;
     }
 
 some_type : (text : List ℕ) (tokens : List Token) → Outcome (whole_type text) tokens → ((t : Tree) × ReadsType text tokens t) ⊎ ((fault : SyntaxFault) × TypeRefused text tokens fault)
@@ -56,8 +55,8 @@ some_type text tokens (inr (f, h)) = inr (f, h)
 pub one_type : (text : List ℕ) (tokens : List Token) → HasOneType text tokens
 one_type text tokens =
     record {
-      either = some_type text tokens ((whole_whole_type text).given tokens);
-      never_both = λ t f p q. (sure_whole_type text).apart tokens [] t f p q;
-      same = λ t u p q. ((sure_whole_type text).same tokens [] [] t u p q).0;
-      same_fault = λ f g p q. (sure_whole_type text).fault tokens f g p q;
+      either = some_type text tokens ((lawful_whole_type text).whole.given tokens);
+      never_both = λ t f p q. (lawful_whole_type text).sure.apart tokens [] t f p q;
+      same = λ t u p q. ((lawful_whole_type text).sure.same tokens [] [] t u p q).0;
+      same_fault = λ f g p q. (lawful_whole_type text).sure.fault tokens f g p q;
     }

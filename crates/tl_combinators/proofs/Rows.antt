@@ -66,11 +66,11 @@ pub shorter_choice : {T F A : Type 0} (P : List T → Type 0) (r s : Rule T F A)
 shorter_choice P r s p q = record { given = leads_choice (λ ts rest. length rest < length ts) P r s p.given q.given }
 
 -- a row has a token in its first part, or in what follows
-pub shorter_first : {T F A B : Type 0} (r : Rule T F A) (s : A → Rule T F B) → Shorter r → ((x : A) → Rows (s x)) → Shorter (chain r s)
-shorter_first r s p q = record { given = shortens_first r s p.given (λ x. shrinks_rows (s x) (q x)) }
+pub shorter_before : {T F A B : Type 0} (r : Rule T F A) (s : A → Rule T F B) → Shorter r → ((x : A) → Rows (s x)) → Shorter (chain r s)
+shorter_before r s p q = record { given = shortens_first r s p.given (λ x. shrinks_rows (s x) (q x)) }
 
-pub shorter_then : {T F A B : Type 0} (r : Rule T F A) (s : A → Rule T F B) → Rows r → ((x : A) → Shorter (s x)) → Shorter (chain r s)
-shorter_then r s p q = record { given = shortens_then r s (shrinks_rows r p) (λ x. (q x).given) }
+pub shorter_behind : {T F A B : Type 0} (r : Rule T F A) (s : A → Rule T F B) → Rows r → ((x : A) → Shorter (s x)) → Shorter (chain r s)
+shorter_behind r s p q = record { given = shortens_then r s (shrinks_rows r p) (λ x. (q x).given) }
 
 pub shorter_taken : {T F A : Type 0} (r : Rule T F A) → Shorter r → Shorter (taken r)
 unfolding taken
