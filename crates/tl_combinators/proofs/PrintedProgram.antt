@@ -18,12 +18,12 @@ use Rattle.tl_combinators.specs.Trees.{Tree}
 use Rattle.tl_combinators.specs.Types.{expression}
 use Rattle.tl_combinators.specs.Program.{FieldText, DeclText}
 use Rattle.tl_combinators.specs.Description.{Described, all_shown, all_left_out}
-use Rattle.tl_combinators.specs.Description.{undescribed as nothing_described}
+use Rattle.tl_combinators.specs.Description.{undescribed}
 use Rattle.tl_combinators.specs.Fields.{FieldsText, fields_text, fields}
 use Rattle.tl_combinators.specs.BuiltIns.{own_name, built_in, this_type, sort, boxed, opaque, bracketed, repeated, element, vector_result, vector, line_form, line_number, line_text, built_in_line}
 use Rattle.tl_combinators.specs.Declarations.{variable, one_variable, variables, result_type, combinator, named_declaration, declaration, IsLifecycle, where_declaration}
 use Rattle.tl_combinators.specs.Sentences.{ProgramText, program_so_far, section, mark, one_declaration, item, program}
-use Rattle.tl_combinators.specs.Printed.{CanBeRead, ReadsBack, undescribed}
+use Rattle.tl_combinators.specs.Printed.{CanBeRead, ReadsBack, without_description}
 use Rattle.tl_combinators.specs.Written.{written_tree, written_fields, written_number, written_variable, written_variables, written_line, written_rest, written_declaration, section_behind, written_mark, written_program}
 use Rattle.tl_combinators.proofs.Givens.{EachIs, Behind, rest_of}
 use Rattle.tl_combinators.proofs.PrintedPieces.{Piece, word, sign, dashes, white, bytes_in, is_run, Good, first_kind, Front, Stands, tokens_at, pieces_spell, pieces_stand}
@@ -321,7 +321,7 @@ line_number_printed Int256 i k h n = number_printed i k h n
 -- a declaration that is read, its description aside
 pub record DeclarationLeft (text : List ℕ) (r : Rule Token SyntaxFault DeclText) (ts : List Token) (d : DeclText) (k : List Piece) : Type 0 where
   pub value : DeclText
-  pub same : undescribed value ≡ undescribed d
+  pub same : without_description value ≡ without_description d
   pub at : ℕ
   pub rest : List Token
   pub reads : r.reads ts value rest
@@ -371,7 +371,7 @@ declaration_reads : (text : List ℕ) (function : Bool) (d : DeclText) (k more :
 unfolding declaration chain here taken
 declaration_reads text function d k more ts a l f =
     let b = (declared_given text).behind ts l.rest (record { bytes = d.name; end = l.at }) a l.reads in
-    let r = f l.at l.rest (all_shown text b.front (nothing_described (place text ts))) (rest_of (IsSpelt text) ts l.rest b a) l.stands in
+    let r = f l.at l.rest (all_shown text b.front (undescribed (place text ts))) (rest_of (IsSpelt text) ts l.rest b a) l.stands in
     record {
       value = r.value;
       same = r.same;
@@ -551,7 +551,7 @@ pub record ItemsLeft (text : List ℕ) (s : ProgramText) (ts : List Token) (ds :
   pub state : ProgramText
   pub more : List DeclText
   pub decls_are : state.decls ≡ s.decls ++ more
-  pub same : map undescribed more ≡ map undescribed ds
+  pub same : map without_description more ≡ map without_description ds
   pub reads : (loop (λ us. us ≡ [] → ⊥) (item text) s).reads ts state []
 
 -- declarations in a section, to the end of the text
@@ -585,7 +585,7 @@ module _ (text : List ℕ) (s : ProgramText) where
         state = m.state;
         more = l.value ∷ m.more;
         decls_are = m.decls_are ∙ append_assoc s.decls (l.value ∷ []) m.more;
-        same = ap (λ (c : DeclText). c ∷ map undescribed m.more) l.same ∙ ap (λ (cs : List DeclText). undescribed d ∷ cs) m.same;
+        same = ap (λ (c : DeclText). c ∷ map without_description m.more) l.same ∙ ap (λ (cs : List DeclText). without_description d ∷ cs) m.same;
         reads = loop_turn (λ us. us ≡ [] → ⊥) (item text) s next m.state ts l.rest [] (not_empty ts Word b) turn m.reads;
       }
 

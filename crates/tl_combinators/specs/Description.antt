@@ -12,7 +12,7 @@ use Rattle.tl_combinators.specs.declared.description.Showing.TheVariants.{Itself
 use Rattle.tl_combinators.specs.declared.description.FieldShowing.{FieldShowing}
 use Rattle.tl_combinators.specs.declared.description.FieldShowing.TheVariants.{Hidden, WithString, Written}
 use Rattle.tl_combinators.specs.Tokens.{bytes_of}
-use Rattle.tl_combinators.specs.Trees.{Tree, named, percent, any_call, no_trees, tree}
+use Rattle.tl_combinators.specs.Trees.{is_plain}
 use Rattle.tl_combinators.specs.Program.{KindText, nat, flag, call, of, CondText, FieldText}
 
 -- the description so far: its bytes, where its last token ends, and whether a space is due before the next one that is shown
@@ -29,6 +29,7 @@ undescribed edge = record { bytes = []; edge = edge; gap = false }
 abbrev pub gap_before : Described → Token → Bool
 gap_before d t = d.gap || nat_lt d.edge t.start
 
+-- one space, where one is due
 abbrev pub space : Bool → List ℕ
 space gap = if gap then 32 ∷ [] else []
 
@@ -68,6 +69,7 @@ showing Star = Itself
 showing Comma = Itself
 showing Plus = Itself
 
+-- what is described behind a token of which this becomes
 abbrev pub shown_by : Showing → List ℕ → Described → Token → Described
 shown_by Itself text d t = shown_as (bytes_of text t) d t
 shown_by Nothing text d t = left_out d t
@@ -85,27 +87,22 @@ shown_as_string text d t = if bytes_eq (bytes_of text t) (codes "bytes") then sh
 abbrev pub all_shown : List ℕ → List Token → Described → Described
 all_shown text ts d = fold (shown text) d ts
 
+-- those of a field's type that is `bytes` alone
 abbrev pub all_as_string : List ℕ → List Token → Described → Described
 all_as_string text ts d = fold (shown_as_string text) d ts
 
+-- none of them is shown
 abbrev pub all_left_out : List Token → Described → Described
 all_left_out ts d = fold left_out d ts
 
 -- ---- fields
-
--- the type is the name `bytes` alone
-abbrev pub is_bytes : Tree → Bool
-is_bytes (named name no_trees) = bytes_eq name (codes "bytes")
-is_bytes (named name (tree t ts)) = false
-is_bytes (percent t) = false
-is_bytes any_call = false
 
 -- how a field that holds this is shown: not at all, with `bytes` as `string`, or as it is written
 abbrev pub field_showing : KindText → FieldShowing
 field_showing nat = Written
 field_showing flag = Hidden
 field_showing (call var) = Written
-field_showing (of t) = if is_bytes t then WithString else Written
+field_showing (of t) = if is_plain (codes "bytes") t then WithString else Written
 
 -- so many tokens of a field stand before its type: the name and `:`, and `F.N?`
 abbrev pub before_type : Option CondText → ℕ

@@ -1,6 +1,6 @@
 -- Program text: fields.
 -- From "TL language" (core.telegram.org/mtproto/TL) and "Formal description of TL" (core.telegram.org/mtproto/TL-formal), its arguments.
-use Rattle.std.specs.Prelude.{◌≡◌, ◌⊎◌, ℕ, ◌+◌, ◌*◌, ◌-◌, List, [], ◌∷◌, ◌++◌, length, Bool, IsTrue, Option, Some, None, bytes_eq, if◌then◌else◌, codes}
+use Rattle.std.specs.Prelude.{◌≡◌, ◌⊎◌, ℕ, ◌+◌, ◌*◌, ◌-◌, List, [], ◌∷◌, ◌++◌, length, Bool, IsTrue, Option, Some, None, if◌then◌else◌, codes}
 use Rattle.tl_lexer.specs.Rule.{Rule, gives, fails, chain, choice, loop, Next}
 use Rattle.tl_lexer.specs.declared.token.Token.{Token}
 use Rattle.tl_lexer.specs.declared.token.TokenKind.TheVariants.{Word, Hash, Colon, Equals, Query, Dot, Bang, Percent, LBracket, LParen, Star}
@@ -8,7 +8,7 @@ use Rattle.tl_combinators.specs.declared.fault.SyntaxFault.{SyntaxFault}
 use Rattle.tl_combinators.specs.declared.fault.Form.TheVariants.{Multiplicity, UnnamedField, CallInConstructor}
 use Rattle.tl_combinators.specs.Taken.{taken}
 use Rattle.tl_combinators.specs.Tokens.{bytes_of, unexpected, not_profile, too_many, Begins, token, IsWord, is_letter, is_digit, letter_word}
-use Rattle.tl_combinators.specs.Trees.{Tree, named, percent, any_call, no_trees, tree}
+use Rattle.tl_combinators.specs.Trees.{Tree, is_plain}
 use Rattle.tl_combinators.specs.Types.{term}
 use Rattle.tl_combinators.specs.declared.fields.Held.{Held}
 use Rattle.tl_combinators.specs.Program.{KindText, nat, flag, call, of, CondText, FieldText, cond_texts, kind_text}
@@ -16,9 +16,11 @@ use Rattle.tl_combinators.specs.Description.{Described, field_shown}
 
 -- ---- conditions
 
+-- a decimal digit
 abbrev pub digit : ℕ → Option ℕ
 digit b = if is_digit b then Some (b - 48) else None
 
+-- two digits, where both are ones
 abbrev pub two_digits : Option ℕ → Option ℕ → Option ℕ
 two_digits (Some a) (Some b) = Some (a * 10 + b)
 two_digits (Some a) None = None
@@ -36,6 +38,7 @@ pub record IsBit (text : List ℕ) (n : ℕ) (t : Token) : Type 0 where
   pub word : t.kind ≡ Word
   pub digits : bit_value (bytes_of text t) ≡ Some n
 
+-- a Word of one or two digits
 abbrev pub HasBit : List ℕ → Token → Type 0
 HasBit text t = (n : ℕ) × IsBit text n t
 
@@ -66,16 +69,14 @@ condition text =
 
 -- behind a condition the type `true` is a flag
 abbrev pub conditional : Tree → KindText
-conditional (named name no_trees) = if bytes_eq name (codes "true") then flag else of (named name no_trees)
-conditional (named name (tree t ts)) = of (named name (tree t ts))
-conditional (percent t) = of (percent t)
-conditional any_call = of any_call
+conditional t = if is_plain (codes "true") t then flag else of t
 
 -- a condition or none, and what the field holds
 pub record HeldText : Type 0 where
   pub cond : Option CondText
   pub kind : KindText
 
+-- what the code keeps of it, as its text
 abbrev pub held_text : Held → HeldText
 held_text h = record { cond = cond_texts h.cond; kind = kind_text h.kind }
 
@@ -138,6 +139,7 @@ pub record FieldsText : Type 0 where
   pub fields : List FieldText
   pub described : Described
 
+-- these fields, with this description
 abbrev pub fields_text : List FieldText → Described → FieldsText
 fields_text fs d = record { fields = fs; described = d }
 

@@ -17,6 +17,7 @@ pub record NameText : Type 0 where
   pub bytes : List ℕ
   pub end : ℕ
 
+-- a name that the code keeps, as its text
 abbrev pub name_text : Name → NameText
 name_text n = record { bytes = n.bytes; end = n.end }
 
@@ -65,12 +66,13 @@ pub record IsHex (text : List ℕ) (edge : ℕ) (t : Token) : Type 0 where
   pub at : IsAt edge Word t
   pub digits : IsHexText (bytes_of text t)
 
+-- the digits of a number, which adjoin what ends at this byte
 unfoldable pub hex : List ℕ → ℕ → Rule Token SyntaxFault ℕ
 hex text edge = chain (one (unexpected text) (IsHex text edge)) (λ t. gives (hex_value (bytes_of text t)))
 
 -- the number of a boxed vector
 abbrev pub vector_number : ℕ
-vector_number = 481674261
+vector_number = 0x1cb5c415
 
 -- a Word of digits that is another number than a boxed vector's
 pub record IsOtherNumber (text : List ℕ) (edge : ℕ) (t : Token) : Type 0 where
@@ -86,8 +88,10 @@ unfoldable pub number_by : List ℕ → (ℕ → Rule Token SyntaxFault ℕ) →
 number_by text digits edge =
     choice (Next (IsAt edge Hash)) (chain (token text Hash) (λ h. chain (digits h.end) (λ n. gives (Some n)))) (gives None)
 
+-- a number, or none
 unfoldable pub number : List ℕ → ℕ → Rule Token SyntaxFault (Option ℕ)
 number text edge = number_by text (hex text) edge
 
+-- that of the vector line
 unfoldable pub vector_line_number : List ℕ → ℕ → Rule Token SyntaxFault (Option ℕ)
 vector_line_number text edge = number_by text (vector_hex text) edge

@@ -1,4 +1,4 @@
--- Each list of tokens has its reading or its fault.
+-- Each list of tokens has its reading or its fault: what the rules of `Sentences` are together. This project's own.
 use Rattle.std.specs.Prelude.{◌≡◌, ◌⊎◌, ℕ, List}
 use Rattle.tl_lexer.specs.declared.token.Token.{Token}
 use Rattle.tl_combinators.specs.declared.fault.SyntaxFault.{SyntaxFault}

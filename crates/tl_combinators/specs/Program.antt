@@ -1,4 +1,4 @@
--- Program text: what a text declares, as lists of names and numbers.
+-- Program text: what a text declares, as lists of names and numbers. These are the parts of the grammar's declarations.
 use Rattle.std.specs.Prelude.{ℕ, List, map, Bool, Option, Some, None}
 use Rattle.tl_combinators.specs.declared.program.FieldKind.{FieldKind}
 use Rattle.tl_combinators.specs.declared.program.FieldKind.TheVariants.{Nat, Flag, Call, Of}
@@ -20,12 +20,13 @@ pub record CondText : Type 0 where
   pub flags : List ℕ
   pub bit : ℕ
 
+-- a name, `F.N?` or none, and what the field holds
 pub record FieldText : Type 0 where
   pub name : List ℕ
   pub cond : Option CondText
   pub kind : KindText
 
--- text is the description, on which an unwritten number rests
+-- a declaration; text is the description, on which an unwritten number rests
 pub record DeclText : Type 0 where
   pub name : List ℕ
   pub number : Option ℕ
@@ -36,6 +37,7 @@ pub record DeclText : Type 0 where
   pub builtin : Bool
   pub text : List ℕ
 
+-- what the code keeps, as its text
 abbrev pub kind_text : FieldKind → KindText
 kind_text Nat = nat
 kind_text Flag = flag

@@ -19,6 +19,7 @@ pub record ProgramText : Type 0 where
   pub decls : List DeclText
   pub function : Bool
 
+-- these declarations, and whether functions follow
 abbrev pub program_so_far : List DeclText → Bool → ProgramText
 program_so_far ds function = record { decls = ds; function = function }
 

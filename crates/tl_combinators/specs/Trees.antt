@@ -1,5 +1,6 @@
 -- Types as they are written, parentheses aside.
-use Rattle.std.specs.Prelude.{ℕ, List, [], ◌∷◌, map}
+-- From "Formal description of TL" (core.telegram.org/mtproto/TL-formal), its terms and expressions.
+use Rattle.std.specs.Prelude.{ℕ, List, [], ◌∷◌, map, Bool, false, bytes_eq}
 use Rattle.std.specs.Box.{box_value}
 use Rattle.tl_combinators.specs.declared.tree.TypeTree.{TypeTree, fold-TypeTree}
 use Rattle.tl_combinators.specs.declared.tree.TypeTree.TheOpen.{TypeTree-F}
@@ -15,6 +16,7 @@ mutual
     no_trees : Trees
     tree : Tree → Trees → Trees
 
+-- a list of types, as the types that a name is applied to
 abbrev pub trees_of : List Tree → Trees
 trees_of [] = no_trees
 trees_of (t ∷ ts) = tree t (trees_of ts)
@@ -23,12 +25,20 @@ trees_of (t ∷ ts) = tree t (trees_of ts)
 abbrev pub plain : List ℕ → Tree
 plain name = named name no_trees
 
+-- the type is this name, applied to nothing
+abbrev pub is_plain : List ℕ → Tree → Bool
+is_plain name (named own no_trees) = bytes_eq own name
+is_plain name (named own (tree t ts)) = false
+is_plain name (percent t) = false
+is_plain name any_call = false
+
 -- one level, with each type inside already seen as its tree
 abbrev pub view_step : TypeTree-F Tree → Tree
 view_step (TypeTree-F.Named name args) = named name (trees_of args.items)
 view_step (TypeTree-F.Percent t) = percent (box_value t)
 view_step (TypeTree-F.AnyCall) = any_call
 
+-- a type that is kept, as its tree
 abbrev pub view : TypeTree → Tree
 view = fold-TypeTree Tree view_step
 

@@ -1,4 +1,4 @@
--- The form of a printed program: a line for each declaration, with one space between its parts.
+-- The form of a printed program, this project's own: a line for each declaration, with one space between its parts.
 use Rattle.std.specs.Prelude.{ℕ, ◌+◌, ◌/◌, ◌%◌, List, [], ◌∷◌, ◌++◌, nat_lt, Bool, true, false, Option, Some, None, if◌then◌else◌, codes}
 use Rattle.std.specs.Int.{w32, to_be_bytes}
 use Rattle.hex.specs.Hex.{encode_lower}
@@ -43,6 +43,7 @@ abbrev pub written_condition : Option CondText → List ℕ
 written_condition None = []
 written_condition (Some c) = (c.flags ++ (46 ∷ [])) ++ (written_bit c.bit ++ (63 ∷ []))
 
+-- what a field holds
 abbrev pub written_kind : KindText → List ℕ
 written_kind nat = 35 ∷ []
 written_kind flag = codes "true"
@@ -53,6 +54,7 @@ written_kind (of t) = written_tree t
 abbrev pub written_field : FieldText → List ℕ
 written_field f = (f.name ++ (58 ∷ [])) ++ (written_condition f.cond ++ (written_kind f.kind ++ (32 ∷ [])))
 
+-- fields, one behind the other
 abbrev pub written_fields : List FieldText → List ℕ
 written_fields [] = []
 written_fields (f ∷ fs) = written_field f ++ written_fields fs
@@ -68,6 +70,7 @@ written_number (Some n) = 35 ∷ encode_lower (to_be_bytes w32 n)
 abbrev pub written_variable : List ℕ → List ℕ
 written_variable v = (123 ∷ v) ++ codes ":Type} "
 
+-- variables, one behind the other
 abbrev pub written_variables : List (List ℕ) → List ℕ
 written_variables [] = []
 written_variables (v ∷ vs) = written_variable v ++ written_variables vs
@@ -92,6 +95,7 @@ abbrev pub written_rest : Option BuiltIn → DeclText → List ℕ
 written_rest None d = written_parts d
 written_rest (Some b) d = written_line b
 
+-- a line: the name, the number, and the rest
 abbrev pub written_declaration : DeclText → List ℕ
 written_declaration d = d.name ++ (written_number d.number ++ (32 ∷ written_rest (built_in d.name) d))
 

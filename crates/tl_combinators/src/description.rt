@@ -2,13 +2,12 @@
 ghost use Rattle.std.specs.Prelude.{◌≡◌, ◌≤◌, ◌+◌, ◌-◌, length, take, drop, OnOk, Option, None, Some};
 ghost use Rattle.std.specs.List.{fold};
 ghost use Rattle.tl_combinators.specs.Tokens.{bytes_of, Fits};
-ghost use Rattle.tl_combinators.specs.Trees.{view};
 ghost use Rattle.tl_combinators.specs.Program.{field_text, kind_text, cond_texts};
-ghost use Rattle.tl_combinators.specs.Description.{undescribed, shown_as, left_out, as_space, showing, shown, shown_as_string, all_shown, all_as_string, all_left_out, is_bytes, field_showing, before_type, field_shown};
+ghost use Rattle.tl_combinators.specs.Description.{undescribed, shown_as, left_out, as_space, showing, shown, shown_as_string, all_shown, all_as_string, all_left_out, field_showing, before_type, field_shown};
 
 use crate::program::{Cond, Field, FieldKind};
 use crate::reading::bytes_at;
-use crate::tree::TypeTree;
+use crate::tree::is_plain;
 use std::alloc::{AllocError, Global};
 use std::marker::Model;
 use tl_base::Bytes;
@@ -217,17 +216,6 @@ fn showing_of(kind: TokenKind) -> Showing
     }
 }
 
-// Whether a type is the name `bytes` alone.
-fn is_bytes(tree: &TypeTree) -> bool
-    ensures { result ≡ is_bytes (view tree.now) }
-{
-    match tree {
-        TypeTree::Named { name, args } => args.is_empty() && name.as_slice() == b"bytes".as_slice(),
-        TypeTree::Percent { .. } => false,
-        TypeTree::AnyCall => false,
-    }
-}
-
 // How a field that holds this is described.
 fn field_showing(kind: &FieldKind) -> FieldShowing
     ensures { result ≡ field_showing (kind_text kind.now) }
@@ -235,7 +223,7 @@ fn field_showing(kind: &FieldKind) -> FieldShowing
     match kind {
         FieldKind::Flag => FieldShowing::Hidden,
         FieldKind::Of { tree } => {
-            if is_bytes(tree) {
+            if is_plain(tree, b"bytes".as_slice()) {
                 FieldShowing::WithString
             } else {
                 FieldShowing::Written

@@ -3,7 +3,7 @@ ghost use Rattle.std.specs.Prelude.{◌≡◌, Err, ◌≤◌, ◌<◌, ◌+◌,
 ghost use Rattle.tl_lexer.specs.Rule.{Parses, Next};
 ghost use Rattle.tl_combinators.specs.Tokens.{fault_of, Fits};
 ghost use Rattle.tl_combinators.specs.Trees.{view};
-ghost use Rattle.tl_combinators.specs.Program.{FieldText, flag, of, cond_text, cond_texts, kind_text, field_text};
+ghost use Rattle.tl_combinators.specs.Program.{FieldText, cond_text, cond_texts, kind_text, field_text};
 ghost use Rattle.tl_combinators.specs.Description.{before_type};
 ghost use Rattle.tl_combinators.specs.Fields.{digit, bit_value, IsBit, HasBit, bit, BeginsCondition, condition, conditional, held_text, called, in_condition, held, BeginsMultiplicity, IsLone, BeginsUnnamed, field, field_too_many, fields, FieldsText, fields_text};
 
@@ -13,7 +13,7 @@ use crate::program::{Cond, Field, FieldKind};
 use crate::reading::{
     First, begins, begins_word, bytes_at, place_at, same, take_token, take_word, unexpected_at,
 };
-use crate::tree::TypeTree;
+use crate::tree::{TypeTree, is_plain};
 use crate::types::term_at;
 use std::alloc::Global;
 use tl_base::Bytes;
@@ -117,23 +117,11 @@ pub struct Held {
     pub kind: FieldKind,
 }
 
-// Whether a type is the name `true` alone.
-fn is_true(tree: &TypeTree) -> bool
-    ensures yes { result ≡ true → conditional (view tree.now) ≡ flag }
-    ensures no { result ≡ false → conditional (view tree.now) ≡ of (view tree.now) }
-{
-    match tree {
-        TypeTree::Named { name, args } => args.is_empty() && name.as_slice() == b"true".as_slice(),
-        TypeTree::Percent { .. } => false,
-        TypeTree::AnyCall => false,
-    }
-}
-
-// What a field holds behind a condition.
+// What a field holds behind a condition: the type `true` alone is a flag.
 fn conditional_kind(tree: TypeTree) -> FieldKind
     ensures { kind_text result ≡ conditional (view tree) }
 {
-    if is_true(&tree) {
+    if is_plain(&tree, b"true".as_slice()) {
         return FieldKind::Flag;
     }
     FieldKind::Of { tree }
