@@ -11,7 +11,7 @@ use crate::fault::{Form, SyntaxFault};
 use crate::names::{Name, begins_object};
 use crate::numbers::{number_at, vector_line_number_at};
 use crate::program::Decl;
-use crate::reading::{begins, place_at, take_this, take_token};
+use crate::reading::{begins, not_profile_at, take_this, take_token};
 use crate::tree::TypeTree;
 use std::alloc::Global;
 use tl_base::Bytes;
@@ -84,10 +84,7 @@ fn this_type_at(
     ensures inside { OnOk result (at.new ≤ length tokens.now) }
 {
     if begins_object(text, tokens, *at) {
-        return Err(SyntaxFault::NotProfile {
-            at: place_at(text, tokens, *at),
-            form: Form::ObjectType,
-        });
+        return Err(not_profile_at(text, tokens, *at, Form::ObjectType));
     }
     take_this(text, tokens, at, name)
 }
@@ -100,10 +97,7 @@ pub fn sort_at(text: &[u8], tokens: &[Token], at: &mut usize) -> Result<Token, S
     ensures inside { OnOk result (at.new ≤ length tokens.now) }
 {
     if begins(tokens, *at, TokenKind::Hash) {
-        return Err(SyntaxFault::NotProfile {
-            at: place_at(text, tokens, *at),
-            form: Form::DependentNumber,
-        });
+        return Err(not_profile_at(text, tokens, *at, Form::DependentNumber));
     }
     take_this(text, tokens, at, b"Type".as_slice())
 }

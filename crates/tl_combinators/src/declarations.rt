@@ -16,7 +16,8 @@ use crate::names::{Name, declared_name_at};
 use crate::numbers::number_at;
 use crate::program::Decl;
 use crate::reading::{
-    First, begins, begins_this, begins_word, bytes_at, place_at, take_token, take_word,
+    First, begins, begins_this, begins_word, bytes_at, not_profile_at, place_at, take_token,
+    take_word, too_many_at, unexpected_at,
 };
 use crate::tree::TypeTree;
 use crate::types::expression_at;
@@ -60,9 +61,7 @@ fn variables_at(
     let mut vars = Vec::new(alloc);
     while begins(tokens, *at, TokenKind::LBrace) {
         if vars.len() == PART_LIMIT {
-            return Err(SyntaxFault::TooMany {
-                at: place_at(text, tokens, *at),
-            });
+            return Err(too_many_at(text, tokens, *at));
         }
         let var = variable_at(alloc, text, tokens, at)?;
         vars.push(var)?;
@@ -180,24 +179,14 @@ pub fn where_declaration_at(
     ensures on { OnOk result (at.old < at.new) }
     ensures inside { OnOk result (at.new ≤ length tokens.now) }
 {
-    let place = place_at(text, tokens, *at);
     if begins_lifecycle(text, tokens, *at) {
-        return Err(SyntaxFault::NotProfile {
-            at: place,
-            form: Form::Lifecycle,
-        });
+        return Err(not_profile_at(text, tokens, *at, Form::Lifecycle));
     }
     if begins_word(text, tokens, *at, First::Upper) {
-        return Err(SyntaxFault::NotProfile {
-            at: place,
-            form: Form::PartialApplication,
-        });
+        return Err(not_profile_at(text, tokens, *at, Form::PartialApplication));
     }
     if begins_this(text, tokens, *at, b"_".as_slice()) {
-        return Err(SyntaxFault::NotProfile {
-            at: place,
-            form: Form::Anonymous,
-        });
+        return Err(not_profile_at(text, tokens, *at, Form::Anonymous));
     }
     declaration_at(alloc, text, tokens, at, function)
 }
@@ -207,27 +196,17 @@ pub fn declaration_too_many_at(text: &[u8], tokens: &[Token], at: usize) -> Synt
     requires { Fits text.now tokens.now }
     ensures { Parses fault_of (λ (p : ProgramText). p) (declaration_too_many text.now) (drop at tokens.now) (drop at tokens.now) (Err result) }
 {
-    let place = place_at(text, tokens, at);
     if begins_lifecycle(text, tokens, at) {
-        return SyntaxFault::NotProfile {
-            at: place,
-            form: Form::Lifecycle,
-        };
+        return not_profile_at(text, tokens, at, Form::Lifecycle);
     }
     if begins_word(text, tokens, at, First::Upper) {
-        return SyntaxFault::NotProfile {
-            at: place,
-            form: Form::PartialApplication,
-        };
+        return not_profile_at(text, tokens, at, Form::PartialApplication);
     }
     if begins_this(text, tokens, at, b"_".as_slice()) {
-        return SyntaxFault::NotProfile {
-            at: place,
-            form: Form::Anonymous,
-        };
+        return not_profile_at(text, tokens, at, Form::Anonymous);
     }
     if begins_word(text, tokens, at, First::Lower) {
-        return SyntaxFault::TooMany { at: place };
+        return too_many_at(text, tokens, at);
     }
-    SyntaxFault::Unexpected { at: place }
+    unexpected_at(text, tokens, at)
 }

@@ -11,7 +11,8 @@ use crate::description::Description;
 use crate::fault::{Form, SyntaxFault};
 use crate::program::{Cond, Field, FieldKind};
 use crate::reading::{
-    First, begins, begins_word, bytes_at, place_at, same, take_token, take_word, unexpected_at,
+    First, begins, begins_word, bytes_at, not_profile_at, same, take_token, take_word, too_many_at,
+    unexpected_at,
 };
 use crate::tree::{TypeTree, is_plain};
 use crate::types::term_at;
@@ -142,10 +143,7 @@ fn called_at(
     ensures free { IfOk result (λ h. cond_texts h.cond ≡ None) }
 {
     if !function {
-        return Err(SyntaxFault::NotProfile {
-            at: place_at(text, tokens, *at),
-            form: Form::CallInConstructor,
-        });
+        return Err(not_profile_at(text, tokens, *at, Form::CallInConstructor));
     }
     take_token(text, tokens, at, TokenKind::Bang)?;
     let word = take_word(text, tokens, at, First::Letter)?;
@@ -258,16 +256,10 @@ fn field_at(
     ensures inside { OnOk result (at.new ≤ length tokens.now) }
 {
     if begins_multiplicity(text, tokens, *at) {
-        return Err(SyntaxFault::NotProfile {
-            at: place_at(text, tokens, *at),
-            form: Form::Multiplicity,
-        });
+        return Err(not_profile_at(text, tokens, *at, Form::Multiplicity));
     }
     if begins_unnamed(text, tokens, *at) {
-        return Err(SyntaxFault::NotProfile {
-            at: place_at(text, tokens, *at),
-            form: Form::UnnamedField,
-        });
+        return Err(not_profile_at(text, tokens, *at, Form::UnnamedField));
     }
     let word = take_word(text, tokens, at, First::Letter)?;
     take_token(text, tokens, at, TokenKind::Colon)?;
@@ -281,23 +273,16 @@ fn field_too_many_at(text: &[u8], tokens: &[Token], at: usize) -> SyntaxFault
     requires { Fits text.now tokens.now }
     ensures { Parses fault_of (λ (s : FieldsText). s) (field_too_many text.now) (drop at tokens.now) (drop at tokens.now) (Err result) }
 {
-    let place = place_at(text, tokens, at);
     if begins_multiplicity(text, tokens, at) {
-        return SyntaxFault::NotProfile {
-            at: place,
-            form: Form::Multiplicity,
-        };
+        return not_profile_at(text, tokens, at, Form::Multiplicity);
     }
     if begins_unnamed(text, tokens, at) {
-        return SyntaxFault::NotProfile {
-            at: place,
-            form: Form::UnnamedField,
-        };
+        return not_profile_at(text, tokens, at, Form::UnnamedField);
     }
     if begins_word(text, tokens, at, First::Letter) {
-        return SyntaxFault::TooMany { at: place };
+        return too_many_at(text, tokens, at);
     }
-    SyntaxFault::Unexpected { at: place }
+    unexpected_at(text, tokens, at)
 }
 
 /// The fields up to `=`, with so many variables before them. They are described.

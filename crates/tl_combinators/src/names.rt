@@ -7,7 +7,7 @@ ghost use Rattle.tl_combinators.specs.Names.{IsObject, IsSpace, IsLast, name_tex
 
 use crate::fault::{Form, SyntaxFault};
 use crate::reading::{
-    First, begins_at, begins_this, bytes_at, is_word, place_at, take_token, take_word,
+    First, begins_at, begins_this, bytes_at, is_word, not_profile_at, take_token, take_word,
     unexpected_at,
 };
 use std::alloc::Global;
@@ -151,10 +151,7 @@ pub fn type_name_at(
     ensures inside { OnOk result (at.new ≤ length tokens.now) }
 {
     if begins_object(text, tokens, *at) {
-        return Err(SyntaxFault::NotProfile {
-            at: place_at(text, tokens, *at),
-            form: Form::ObjectType,
-        });
+        return Err(not_profile_at(text, tokens, *at, Form::ObjectType));
     }
     name_at(alloc, text, tokens, at)
 }

@@ -6,7 +6,7 @@ ghost use Rattle.tl_combinators.specs.Tokens.{bytes_of, fault_of, Fits};
 ghost use Rattle.tl_combinators.specs.Names.{IsHex, hex, IsOtherNumber, vector_hex, number, vector_line_number};
 
 use crate::fault::{Form, SyntaxFault};
-use crate::reading::{begins_at, bytes_at, place_at, same, take_token, unexpected_at};
+use crate::reading::{begins_at, bytes_at, not_profile_at, same, take_token, unexpected_at};
 use tl_lexer::{Token, TokenKind};
 use tl_numbers::read_hex;
 
@@ -81,10 +81,7 @@ fn vector_hex_at(
     ensures inside { OnOk result (at.new ≤ length tokens.now) }
 {
     if begins_other_number(text, tokens, *at, edge) {
-        return Err(SyntaxFault::NotProfile {
-            at: place_at(text, tokens, *at),
-            form: Form::VectorNumber,
-        });
+        return Err(not_profile_at(text, tokens, *at, Form::VectorNumber));
     }
     hex_at(text, tokens, at, edge)
 }

@@ -2,9 +2,9 @@
 ghost use Rattle.std.specs.Prelude.{◌≡◌, ◌≤◌, ◌<◌, ◌+◌, ◌^◌, length, drop, OnOk, IfOk, IsTrue, ◌↔◌, true, false};
 ghost use Rattle.tl_lexer.specs.Rule.{Parses, Next, one};
 ghost use Rattle.tl_lexer.specs.declared.token.Token.{Token};
-ghost use Rattle.tl_combinators.specs.Tokens.{bytes_of, fault_of, Fits, place, unexpected, Begins, token, IsAt, first_is, passes, IsWord, IsThis, this_word};
+ghost use Rattle.tl_combinators.specs.Tokens.{bytes_of, fault_of, Fits, place, unexpected, not_profile, too_many, Begins, token, IsAt, first_is, passes, IsWord, IsThis, this_word};
 
-use crate::fault::SyntaxFault;
+use crate::fault::{Form, SyntaxFault};
 use tl_lexer::{Token, TokenKind};
 
 /// Which first byte a Word is to have.
@@ -52,6 +52,27 @@ pub fn unexpected_at(text: &[u8], tokens: &[Token], at: usize) -> SyntaxFault
     ensures { result ≡ unexpected text.now (drop at tokens.now) }
 {
     SyntaxFault::Unexpected {
+        at: place_at(text, tokens, at),
+    }
+}
+
+/// A form that is left out begins here.
+pub fn not_profile_at(text: &[u8], tokens: &[Token], at: usize, form: Form) -> SyntaxFault
+    requires { length text.now < 2 ^ 32 }
+    ensures { result ≡ not_profile text.now form (drop at tokens.now) }
+{
+    SyntaxFault::NotProfile {
+        at: place_at(text, tokens, at),
+        form,
+    }
+}
+
+/// One item more than there may be begins here.
+pub fn too_many_at(text: &[u8], tokens: &[Token], at: usize) -> SyntaxFault
+    requires { length text.now < 2 ^ 32 }
+    ensures { result ≡ too_many text.now (drop at tokens.now) }
+{
+    SyntaxFault::TooMany {
         at: place_at(text, tokens, at),
     }
 }

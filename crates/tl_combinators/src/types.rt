@@ -7,7 +7,9 @@ ghost use Rattle.tl_combinators.specs.Types.{opens, closes, BeginsTerm, BeginsTy
 
 use crate::fault::{Form, SyntaxFault};
 use crate::names::{begins_object, type_name_at};
-use crate::reading::{First, begins, begins_word, place_at, take_token, unexpected_at};
+use crate::reading::{
+    First, begins, begins_word, not_profile_at, take_token, too_many_at, unexpected_at,
+};
 use crate::tree::TypeTree;
 use std::alloc::Global;
 use tl_base::Bytes;
@@ -66,17 +68,13 @@ fn no_level_at(text: &[u8], tokens: &[Token], at: usize) -> Result<TypeTree, Syn
     ensures read { Parses fault_of view (no_level text.now) (drop at tokens.now) (drop at tokens.now) result }
     ensures on { OnOk result ⊥ }
 {
-    let place = place_at(text, tokens, at);
     if begins_object(text, tokens, at) {
-        return Err(SyntaxFault::NotProfile {
-            at: place,
-            form: Form::ObjectType,
-        });
+        return Err(not_profile_at(text, tokens, at, Form::ObjectType));
     }
     if begins_type(text, tokens, at) {
-        return Err(SyntaxFault::TooMany { at: place });
+        return Err(too_many_at(text, tokens, at));
     }
-    Err(SyntaxFault::Unexpected { at: place })
+    Err(unexpected_at(text, tokens, at))
 }
 
 // Inside parentheses a name may always be a head.
