@@ -1,4 +1,5 @@
 -- Held items that follow one another.
+-- From "Working with Updates" (core.telegram.org/api/updates): what comes before its turn waits until the gap closes.
 use Rattle.std.specs.Prelude.{◌≡◌, ℕ, zero, suc, ◌<◌, List, [], ◌∷◌, Some, None}
 use Rattle.std.specs.Option.{option_map_or}
 use Rattle.std.specs.FinMap as map

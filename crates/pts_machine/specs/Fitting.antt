@@ -1,4 +1,4 @@
--- A lane that fits a box.
+-- A lane that fits a box. This project's own.
 use Rattle.std.specs.Prelude.{◌≡◌, ℕ, List, [], ◌∷◌, Some}
 use Rattle.std.specs.FinMap as map
 use Rattle.box_events.specs.Happenings.{Happening}

@@ -1,10 +1,11 @@
--- What came of an item, by how it was held.
+-- What came of an item, by how it was held. This project's own.
 use Rattle.std.specs.Prelude.{ℕ}
 use Rattle.gap_buffer.specs.declared.held.Held.{Held as HowHeld}
 use Rattle.gap_buffer.specs.declared.held.Held.TheVariants.{Kept, Already as Known, Full}
 use Rattle.pts_machine.specs.declared.seen.Seen.{Seen}
 use Rattle.pts_machine.specs.declared.seen.Seen.TheVariants.{Already, Held, Dropped}
 
+-- it is held, or was held already, or found no place
 abbrev pub seen_by : {E : Type 0} → HowHeld E → Seen
 seen_by Kept = Held
 seen_by (Known x) = Already

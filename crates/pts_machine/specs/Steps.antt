@@ -1,4 +1,6 @@
 -- The steps of a lane.
+-- From "Working with Updates" (core.telegram.org/api/updates): an update below the position is known, one at it is applied, one past
+-- it waits, and a difference comes in parts. How many items wait, and that a lane can forget, is this project's own.
 use Rattle.std.specs.Prelude.{◌≡◌, ◌≢◌, ◌⊎◌, ◌<◌, ◌≤◌, None, ℕ, ◌+◌, ◌++◌, List, [], ◌∷◌, Bool, true, ltb, eqb, is_some, ◌&&◌, ◌||◌, if◌then◌else◌}
 use Rattle.std.specs.List.{sum_by}
 use Rattle.std.specs.FinMap as map

@@ -1,4 +1,4 @@
--- What takes held items: one item, and items in turn.
+-- What takes held items: one item, and items in turn. This project's own.
 use Rattle.std.specs.Prelude.{◌≡◌, ℕ, ◌+◌, ◌≤◌, List, [], ◌∷◌, ◌++◌, Some, Vec, vec_len, vec_capacity}
 use Rattle.std.specs.FinMap as map
 use Rattle.gap_buffer.specs.Holding.{Items}
@@ -12,9 +12,10 @@ pub data InTurn {S E : Type 0} (took : S → E → S → Type 0) : S → List E 
   none : (x : S) → InTurn took x [] x
   one_more : (x y z : S) (item : E) (items : List E) → took x item y → InTurn took y items z → InTurn took x (item ∷ items) z
 
--- a vector has room for held items, and takes an item behind the others
+-- a vector has room for held items
 abbrev pub HasRoom : {E A : Type 0} → Vec E A → Items E → Type 0
 HasRoom v m = vec_len v + map.len m ≤ vec_capacity v
 
+-- an item stands behind the others of a vector
 abbrev pub Pushed : {E A : Type 0} → Vec E A → E → Vec E A → Type 0
 Pushed v item w = (w.items ≡ v.items ++ item ∷ []) × (vec_len w ≡ vec_len v + 1) × (vec_capacity v ≤ vec_capacity w)

@@ -1,4 +1,5 @@
 -- What a lane is, apart from the code.
+-- From "Working with Updates" (core.telegram.org/api/updates); the modes and the limit of 1,000,000 are this project's own.
 use Rattle.std.specs.Prelude.{◌≡◌, ℕ, zero, suc, ◌+◌, ◌≤◌, ◌<◌, List, Some, Bool, true, false, refl}
 use Rattle.std.specs.Coded.{Coded, code_by, coded×, coded_ℕ, coded_list}
 use Rattle.std.specs.List.{sum_by}
@@ -26,6 +27,7 @@ mode_of zero = Live
 mode_of (suc zero) = Again
 mode_of (suc (suc n)) = Asking n
 
+-- a number tells its mode
 pub mode_back : (m : Mode) → mode_of (mode_number m) ≡ m
 mode_back Live = refl
 mode_back Again = refl
@@ -66,5 +68,6 @@ pub record LaneView (E : Type 0) : Type 0 where
   pub track : Track E
   pub spare : ℕ
 
+-- what callers see as a pair of its parts
 abbrev pub lane_code : {E : Type 0} → Coded E → Coded (LaneView E)
 lane_code {E} e = code_by (Track E × ℕ) (coded× (track_code e) coded_ℕ) (λ l. (l.track, l.spare)) (λ p. record { track = p.0; spare = p.1 }) (λ _. refl)

@@ -1,4 +1,4 @@
--- A lane's fields as a lane.
+-- A lane's fields as a lane. This project's own.
 use Rattle.std.specs.Prelude.{ℕ, ◌+◌, ◌≤◌, vec_len, vec_capacity}
 use Rattle.std.specs.FinMap as map
 use Rattle.pts_machine.specs.declared.lane.Lane.TheInside.{Inside}
