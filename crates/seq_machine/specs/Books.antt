@@ -1,4 +1,6 @@
 -- The settings of a client, apart from the code: a lane of packs, with a date and a table.
+-- From "Working with Updates" (core.telegram.org/api/updates), "seq", in that a pack below the seq is known, one in turn is applied and
+-- one past it waits; settings under a seq are this project's own.
 use Rattle.std.specs.Prelude.{◌≡◌, ◌≤◌, ℕ, List, [], refl}
 use Rattle.std.specs.Coded.{Coded, code_by, coded×, coded_ℕ}
 use Rattle.std.specs.FinMap as map
@@ -49,12 +51,15 @@ overlaid b settings seq date =
     let put : Book = record b { at = seq; date = date; table = puts b.table settings; mode = Live } in
     applied put (settle (lane_of put))
 
+-- the book waits for the answer to the request of this number
 abbrev pub asked : Book → ℕ → Book
 asked b number = record b { mode = Asking number }
 
+-- it is to ask again
 abbrev pub asks_again : Book → Book
 asks_again b = record b { mode = Again }
 
+-- nothing is held, and no answer waited for
 abbrev pub forgotten : Book → Book
 forgotten b = record b { held = map.empty; mode = Live }
 

@@ -1,4 +1,4 @@
--- The latest settings of a list.
+-- The latest settings of a list. This project's own.
 use Rattle.std.specs.Prelude.{◌≡◌, ℕ, ◌≤◌, List, [], ◌∷◌, Option, Some, None, cond, take, drop, leb, map as each}
 use Rattle.std.specs.List.{All}
 use Rattle.std.specs.FinMap as map
@@ -12,6 +12,7 @@ pub record Dated : Type 0 where
   pub setting : Setting
   pub date : ℕ
 
+-- the first, or where there is none the other
 abbrev pub or_else : {A : Type 0} → Option A → Option A → Option A
 or_else None o = o
 or_else (Some x) o = Some x
@@ -21,6 +22,7 @@ abbrev pub last_of : List Dated → List ℕ → Option Dated
 last_of [] q = None
 last_of (e ∷ es) q = or_else (last_of es q) (cond (same_key q e.setting.key) (Some e) None)
 
+-- an entry's value
 abbrev pub value_of : Option Dated → Option (List ℕ)
 value_of None = None
 value_of (Some e) = Some e.setting.value

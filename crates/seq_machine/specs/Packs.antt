@@ -1,4 +1,4 @@
--- Settings that came together, and values by their keys.
+-- Settings that came together, and values by their keys. This project's own.
 use Rattle.std.specs.Prelude.{ℕ, List, [], ◌∷◌, Bool, length, refl}
 use Rattle.std.specs.Coded.{Coded, code_by, coded×, coded_ℕ, coded_list}
 use Rattle.std.specs.Ordering.{nat_cmp, eq_by_cmp}
@@ -10,6 +10,7 @@ use Rattle.seq_machine.specs.declared.setting.Setting.{Setting}
 abbrev pub Values : Type 0
 Values = map.FinMap (slice_cmp nat_cmp) (List ℕ)
 
+-- two keys are one
 abbrev pub same_key : List ℕ → List ℕ → Bool
 same_key q k = eq_by_cmp (slice_cmp nat_cmp) q k
 
@@ -18,6 +19,7 @@ pub record Pack : Type 0 where
   pub date : ℕ
   pub settings : List Setting
 
+-- how many settings a pack has
 abbrev pub size : Pack → ℕ
 size p = length p.settings
 

@@ -1,4 +1,4 @@
--- Values as a list of settings in byte order of keys.
+-- Values as a list of settings in byte order of keys. This project's own.
 use Rattle.std.specs.Prelude.{ℕ, ◌+◌, List, [], ◌∷◌, T}
 use Rattle.std.specs.Ordering.{nat_cmp}
 use Rattle.std.specs.Cmp.Lexicographic.{slice_cmp}

@@ -1,4 +1,4 @@
--- What applying a held pack does to the settings that were applied.
+-- What applying a held pack does to the settings that were applied. This project's own.
 use Rattle.std.specs.Prelude.{◌≡◌, ◌+◌, ◌≤◌}
 use Rattle.gap_buffer.specs.Holding.{Items}
 use Rattle.seq_machine.specs.declared.store.Store.{Store}

@@ -1,4 +1,4 @@
--- What callers see of a table.
+-- What callers see of a table. This project's own.
 use Rattle.std.specs.Prelude.{ℕ, refl}
 use Rattle.std.specs.Coded.{Coded, code_by, coded×, coded_ℕ, coded_list}
 use Rattle.std.specs.FinMap as map
@@ -9,6 +9,7 @@ pub record TableView : Type 0 where
   pub values : Values
   pub spare : ℕ
 
+-- values, and a table, as rows of their parts
 abbrev pub values_code : Coded Values
 values_code = map.code (coded_list coded_ℕ) (coded_list coded_ℕ)
 

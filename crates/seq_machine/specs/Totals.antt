@@ -1,4 +1,4 @@
--- How many settings are held.
+-- How many settings are held. This project's own.
 use Rattle.std.specs.Prelude.{ℕ}
 use Rattle.std.specs.List.{sum_by}
 use Rattle.std.specs.FinMap as map

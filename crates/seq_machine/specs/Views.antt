@@ -1,9 +1,10 @@
--- The fields of the settings as a book.
+-- The fields of the settings as a book. This project's own.
 use Rattle.std.specs.Prelude.{◌≡◌, ◌+◌, ◌^◌, ◌<◌, ◌≤◌}
 use Rattle.seq_machine.specs.declared.settings.Settings.TheInside.{Inside}
 use Rattle.seq_machine.specs.Totals.{total}
 use Rattle.seq_machine.specs.Books.{Book, BookView, IsSoundBook}
 
+-- the fields as a book, and as what callers see
 abbrev pub book_of : Inside → Book
 book_of a = record { at = a.at; date = a.store.date; table = a.store.table.values; held = a.gap.held; mode = a.mode }
 

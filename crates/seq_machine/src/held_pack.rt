@@ -1,5 +1,5 @@
 //! Packs that are held.
-ghost use Rattle.std.specs.Prelude.{◌≡◌, length};
+ghost use Rattle.std.specs.Prelude.{◌≡◌};
 
 use crate::setting::Setting;
 use std::marker::Model;

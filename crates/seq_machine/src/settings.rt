@@ -1,8 +1,7 @@
 //! The settings of a client.
-ghost use Rattle.std.specs.Prelude.{◌≡◌, ◌<◌, ◌≤◌, ◌+◌, ◌-◌, ◌^◌, ℕ, List, OnOk, OnErr, MatchOption, None, Some, vec_len};
+ghost use Rattle.std.specs.Prelude.{◌≡◌, ◌<◌, ◌≤◌, ◌+◌, ◌-◌, ◌^◌, List, OnOk, OnErr, MatchOption, None, Some, vec_len};
 ghost use Rattle.std.specs.FinMap as map;
 ghost use Rattle.pts_machine.specs.Chains.{AreChained};
-ghost use Rattle.seq_machine.specs.Packs.{puts};
 ghost use Rattle.seq_machine.specs.Rows.{pairs, values_of, AreSorted};
 ghost use Rattle.seq_machine.specs.Totals.{total};
 ghost use Rattle.seq_machine.specs.Books.{IsSoundBook, new_book, hear_pack, overlaid, asked, asks_again, forgotten};

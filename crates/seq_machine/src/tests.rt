@@ -4,6 +4,7 @@ ghost use Rattle.seq_machine.specs.Rows.{AreSorted};
 use crate::{Setting, Settings};
 use pts_machine::{Mode, Seen};
 use std::alloc::Global;
+use std::process::Abort;
 use std::test::Fail;
 use tl_base::Bytes;
 
@@ -82,6 +83,32 @@ fn are_answered(
     Ok(settings.push_pack(seq_start, seq_start + 1, date, pack) == wanted)
 }
 
+// An overlay of two settings comes, that is not to stand below the seq.
+fn overlay(
+    rt: &impl Abort,
+    settings: &mut Settings,
+    alloc: Global,
+    rows: (Row, Row),
+    seq: u16,
+    date: u32,
+) -> Result<(), Fail> {
+    settings.reserve(2)?;
+    let seq = seq as u32;
+    assert!(rt; settings.at() <= seq);
+    settings.overlay(two(alloc, rows.0, rows.1)?, seq, date);
+    Ok(())
+}
+
+// The seq, the date, how many packs are held, and the mode.
+fn state(settings: &Settings) -> (u32, u32, u32, Mode) {
+    (
+        settings.at(),
+        settings.date(),
+        settings.held(),
+        settings.mode(),
+    )
+}
+
 // Whether the keys stand in this order.
 fn has_keys(settings: &Settings, keys: &[u8]) -> bool {
     let all = settings.all();
@@ -116,14 +143,11 @@ fn a_pack_waits_for_the_one_before(rt: HostRuntime) -> Result<(), Fail> {
         Seen::Held,
     )?;
     assert!(rt; held);
-    assert_eq!(rt; settings.held(), 1);
-    assert_eq!(rt; settings.date(), 100);
+    assert_eq!(rt; state(&settings), (2, 100, 1, Mode::Live));
     assert!(rt; has_keys(&settings, [b'b', b'm'].as_slice()));
     let applied = is_answered(&mut settings, alloc, 3, (b'm', 3), Seen::Applied { to: 5 })?;
     assert!(rt; applied);
-    assert_eq!(rt; settings.held(), 0);
-    assert_eq!(rt; settings.at(), 5);
-    assert_eq!(rt; settings.date(), 300);
+    assert_eq!(rt; state(&settings), (5, 300, 0, Mode::Live));
     let rows = [
         (b'a', None),
         (b'b', Some(2)),
@@ -165,7 +189,7 @@ fn a_thousand_and_twenty_four_packs_are_held(rt: HostRuntime) -> Result<(), Fail
             wanted,
         )?;
         assert!(rt; as_told, "row {i}");
-        assert_eq!(rt; settings.held(), held, "row {i}");
+        assert_eq!(rt; state(&settings).2, held, "row {i}");
     }
     Ok(())
 }
@@ -185,22 +209,15 @@ fn an_overlay_keeps_other_keys(rt: HostRuntime) -> Result<(), Fail> {
     )?;
     assert!(rt; applied);
     settings.ask(7);
-    assert_eq!(rt; settings.mode(), Mode::Asking(7));
+    assert_eq!(rt; state(&settings), (2, 100, 0, Mode::Asking(7)));
     for seq in 3_u16..6 {
         let held = is_answered(&mut settings, alloc, seq, (b'`' + seq as u8, 6), Seen::Held)?;
         assert!(rt; held, "seq {seq}");
     }
     settings.again();
-    assert_eq!(rt; settings.mode(), Mode::Again);
-    settings.reserve(2)?;
-    // no overlay is to stand below the seq
-    if settings.at() < 3 {
-        settings.overlay(two(alloc, (b'b', 8), (b'f', 9))?, 3, 150);
-    }
-    assert_eq!(rt; settings.at(), 5);
-    assert_eq!(rt; settings.date(), 5);
-    assert_eq!(rt; settings.held(), 0);
-    assert_eq!(rt; settings.mode(), Mode::Live);
+    assert_eq!(rt; state(&settings), (2, 100, 3, Mode::Again));
+    overlay(&rt, &mut settings, alloc, ((b'b', 8), (b'f', 9)), 3, 150)?;
+    assert_eq!(rt; state(&settings), (5, 5, 0, Mode::Live));
     let rows = [
         (b'a', Some(1)),
         (b'b', Some(8)),
@@ -218,23 +235,15 @@ fn an_overlay_keeps_other_keys(rt: HostRuntime) -> Result<(), Fail> {
 fn settings_are_loaded(rt: HostRuntime) -> Result<(), Fail> {
     let alloc = rt.alloc();
     let mut settings = Settings::load(alloc, 7, 100, one(alloc, (b'a', 1))?);
-    assert_eq!(rt;
-        (settings.at(), settings.date(), settings.mode()),
-        (7, 100, Mode::Live)
-    );
+    assert_eq!(rt; state(&settings), (7, 100, 0, Mode::Live));
     assert_eq!(rt; value(&settings, b'a'), Some(1));
-    settings.reserve(2)?;
-    assert_eq!(rt;
-        settings.push_pack(9, 9, 200, one(alloc, (b'b', 2))?),
-        Seen::Held
-    );
+    let held = is_answered(&mut settings, alloc, 9, (b'b', 2), Seen::Held)?;
+    assert!(rt; held);
     settings.ask(1);
     settings.forget();
-    assert_eq!(rt; (settings.held(), settings.mode()), (0, Mode::Live));
-    assert_eq!(rt;
-        settings.push_pack(8, 8, 300, one(alloc, (b'c', 3))?),
-        Seen::Applied { to: 8 }
-    );
+    assert_eq!(rt; state(&settings), (7, 100, 0, Mode::Live));
+    let applied = is_answered(&mut settings, alloc, 8, (b'c', 3), Seen::Applied { to: 8 })?;
+    assert!(rt; applied);
     assert_eq!(rt; value(&settings, b'b'), None);
     assert_eq!(rt; value(&settings, b'c'), Some(3));
     Ok(())
