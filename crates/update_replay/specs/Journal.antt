@@ -1,4 +1,6 @@
 -- A journal: the spellings of steps, one after the other.
+-- From "Binary data serialization" (core.telegram.org/mtproto/serialize), as are a boxed vector and its number; the other numbers
+-- are this project's own.
 use Rattle.std.specs.Prelude.{◌≡◌, ◌≢◌, ℕ, ◌<◌, ◌≤◌, ◌^◌, List, [], ◌++◌, length}
 use Rattle.std.specs.Int.{w64, cast_signed}
 use Rattle.update_replay.specs.Words.{word, double_word, short_text}

@@ -1,8 +1,8 @@
--- What making one step of a journal writes, and how it ends.
-use Rattle.std.specs.Prelude.{◌≡◌, ℕ, ◌+◌, ◌-◌, ◌<◌, ◌≤◌, ◌^◌, min, List, [], ◌++◌, length, ◌⊎◌, Option, Some, None, Result, Ok, Err}
+-- What making one step of a journal writes, and how it ends. This project's own.
+use Rattle.std.specs.Prelude.{◌≡◌, ℕ, ◌<◌, ◌≤◌, List, [], ◌++◌, length, ◌⊎◌, Option, Some, None, Result, Ok, Err}
 use Rattle.std.specs.Io.KnownBytes.{Appends}
 use Rattle.update_replay.specs.Journal.{BeginsStep, NoStep}
-use Rattle.update_replay.specs.Reading.{step_of}
+use Rattle.update_replay.specs.Reading.{step_of, moved}
 use Rattle.update_replay.specs.declared.journal.Step.{Step as DeclaredStep}
 use Rattle.update_replay.specs.declared.lines.LineFault.{LineFault}
 use Rattle.update_replay.specs.declared.lines.LineFault.TheVariants as line
@@ -20,7 +20,7 @@ of_line line.Memory = Memory
 -- Want of memory and a failed read are free here.
 abbrev pub NextRead : List ℕ → Option (List ℕ) → ℕ → ℕ → Result (Option DeclaredStep) ReplayFault → Type 0
 NextRead bytes after p q (Ok None) = (bytes ≡ []) × (after ≡ Some []) × (q ≡ p)
-NextRead bytes after p q (Ok (Some step)) = (x rest : List ℕ) × BeginsStep bytes (step_of step) x rest × (after ≡ Some rest) × (q ≡ min (p + length x) (2 ^ 64 - 1))
+NextRead bytes after p q (Ok (Some step)) = (x rest : List ℕ) × BeginsStep bytes (step_of step) x rest × (after ≡ Some rest) × (q ≡ moved p (length x))
 NextRead bytes after p q (Err (NotYetBuilt at)) = (at ≡ p) × NoStep bytes
 NextRead bytes after p q (Err (NoPacket at k)) = ⊥
 NextRead bytes after p q (Err (TooLong at)) = ⊥
@@ -42,5 +42,6 @@ StepMade at count w step after output (Err ReadFault) = ⊥
 StepMade at count w step after output (Err WriteFault) = (count < 100000) × Possible w step × (rest : List ℕ) × (output ++ rest ≡ step_lines count w step)
 StepMade at count w step after output (Err Memory) = (count < 100000) × FrontOfLines count w step output
 
+-- likewise, where what was written is told
 abbrev pub Makes : ℕ → ℕ → World → Step → World → Option (List ℕ) → Option (List ℕ) → Result (Unit {0}) ReplayFault → Type 0
 Makes at count w step after old new result = (output : List ℕ) × Appends old new output × StepMade at count w step after output result

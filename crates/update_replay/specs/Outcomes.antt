@@ -1,9 +1,9 @@
--- What came of a step, and its lines.
-use Rattle.std.specs.Prelude.{ℕ, ◌+◌, ◌<◌, List, [], ◌++◌, length, Bool, true, false, Option, Some, None, slice_get, codes, decimal}
+-- What came of a step, and its lines. This project's own.
+use Rattle.std.specs.Prelude.{ℕ, ◌+◌, ◌<◌, List, [], length, Bool, true, false, Option, Some, None, slice_get}
 use Rattle.box_events.specs.Happenings.{body_of}
 use Rattle.box_events.specs.Boxes.{ending}
 use Rattle.update_replay.specs.Worlds.{World, Push, Step, post, hears, is_known, happens}
-use Rattle.update_replay.specs.Report.{post_lines}
+use Rattle.update_replay.specs.Report.{heard_line, post_lines}
 use Rattle.update_replay.specs.declared.outcome.Outcome.{Outcome}
 use Rattle.update_replay.specs.declared.outcome.Outcome.TheVariants.{Again, Posted, Heard}
 
@@ -27,7 +27,7 @@ Stands w (Heard pts) = Unit {0}
 abbrev pub told_lines : ℕ → Outcome → List ℕ → List ℕ
 told_lines step Again body = post_lines true step 0 0 body
 told_lines step (Posted pts packet) body = post_lines false step pts packet body
-told_lines step (Heard pts) body = codes "step " ++ decimal step ++ codes " hear 0 push pts " ++ decimal pts ++ codes " qts 0 seq 0\n"
+told_lines step (Heard pts) body = heard_line step pts
 
 -- the body of a push's event
 abbrev pub push_body : Option Push → List ℕ

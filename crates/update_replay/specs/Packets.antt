@@ -1,4 +1,6 @@
 -- A push as a packet: `peer.push` of `updates` with one `updateNewMessage`, on date 0 and without a seq.
+-- From "Working with Updates" (core.telegram.org/api/updates) and "Binary data serialization" (core.telegram.org/mtproto/serialize);
+-- the numbers are this project's own.
 use Rattle.std.specs.Prelude.{ℕ, List, ◌++◌}
 use Rattle.update_replay.specs.Words.{word, short_text}
 use Rattle.update_replay.specs.Journal.{vector_number}

@@ -1,4 +1,4 @@
--- The worlds that runs lead to.
+-- The worlds that runs lead to. This project's own.
 use Rattle.std.specs.Prelude.{◌≡◌, ◌≤◌, List, [], ◌∷◌, length}
 use Rattle.update_replay.specs.Worlds.{World, Step, post, hears, run}
 
@@ -7,6 +7,7 @@ abbrev pub IsShort : Step → Type 0
 IsShort (post id body) = length body ≤ 253
 IsShort (hears k) = Unit {0}
 
+-- so do all of them
 abbrev pub AllShort : List Step → Type 0
 AllShort [] = Unit {0}
 AllShort (s ∷ ss) = IsShort s × AllShort ss

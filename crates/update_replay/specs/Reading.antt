@@ -1,4 +1,5 @@
 -- How a journal is read: the next step, and the parts of its spelling.
+-- From "Binary data serialization" (core.telegram.org/mtproto/serialize); which steps there are is this project's own.
 use Rattle.std.specs.Prelude.{◌≡◌, ◌≢◌, ℕ, ℤ, ◌+◌, ◌-◌, ◌<◌, ◌≤◌, ◌^◌, min, List, [], ◌∷◌, ◌++◌, length, replicate, Option, Some, None, IfSome, Result, Ok, Err}
 use Rattle.std.specs.Int.{w64, cast_signed}
 use Rattle.tl_base.specs.Contents.{AreBytes}
@@ -23,16 +24,18 @@ step_of (Hear k) = hears k
 -- Want of memory and a failed read are free here.
 abbrev pub StepRead : List ℕ → Option (List ℕ) → ℕ → ℕ → Result (Option DeclaredStep) JournalFault → Type 0
 StepRead bytes after p q (Ok None) = (bytes ≡ []) × (after ≡ Some []) × (q ≡ p)
-StepRead bytes after p q (Ok (Some step)) = (x rest : List ℕ) × BeginsStep bytes (step_of step) x rest × (after ≡ Some rest) × (q ≡ min (p + length x) (2 ^ 64 - 1))
+StepRead bytes after p q (Ok (Some step)) = (x rest : List ℕ) × BeginsStep bytes (step_of step) x rest × (after ≡ Some rest) × (q ≡ moved p (length x))
 StepRead bytes after p q (Err NotYetBuilt) = NoStep bytes
 StepRead bytes after p q (Err ReadFault) = Unit {0}
 StepRead bytes after p q (Err Memory) = Unit {0}
 
 -- ---- the parts of a spelling: each a relation between what is said and the bytes that say it
 
+-- these bytes alone
 abbrev pub IsThis : List ℕ → Unit {0} → List ℕ → Type 0
 IsThis these u x = x ≡ these
 
+-- one byte, four bytes and eight bytes that are a number
 abbrev pub IsByte : ℕ → List ℕ → Type 0
 IsByte n x = x ≡ n ∷ []
 
@@ -46,6 +49,7 @@ IsDouble n x = (n < 2 ^ 64) × (x ≡ double_word n)
 abbrev pub IsPadded : ℕ → List ℕ → List ℕ → Type 0
 IsPadded n s x = (length s ≡ n) × (x ≡ s ++ replicate (missing (1 + n)) 0)
 
+-- a short text
 abbrev pub IsText : List ℕ → List ℕ → Type 0
 IsText s x = (length s ≤ 253) × (x ≡ short_text s)
 
@@ -63,6 +67,7 @@ IsMessage = Behind (word vector_number) (Behind (word 1) (Behind (word message_n
 abbrev pub IsPost : ℤ × List ℕ → List ℕ → Type 0
 IsPost said x = (n : ℕ) × (n < 2 ^ 64) × (said.0 ≡ cast_signed w64 n) × Behind (double_word n) IsMessage said.1 x
 
+-- the number of a packet
 abbrev pub IsPacketNumber : ℕ → List ℕ → Type 0
 IsPacketNumber k x = (k < 2 ^ 31) × (x ≡ word k)
 

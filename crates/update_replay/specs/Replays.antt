@@ -1,4 +1,4 @@
--- A replay of a journal: what it writes, and how it ends.
+-- A replay of a journal: what it writes, and how it ends. This project's own.
 use Rattle.std.specs.Prelude.{◌≡◌, ℕ, ◌+◌, ◌<◌, ◌≤◌, List, [], ◌∷◌, ◌++◌, length, Option, Result, Ok, Err}
 use Rattle.std.specs.Io.KnownBytes.{Appends}
 use Rattle.update_replay.specs.Worlds.{World, Step, hears, run, Possible}

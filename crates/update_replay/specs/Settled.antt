@@ -1,4 +1,4 @@
--- How a replay ends by its journal alone.
+-- How a replay ends by its journal alone. This project's own.
 use Rattle.std.specs.Prelude.{ℕ, ◌+◌, ◌≤◌, List, length, Bool, IsTrue, Option, IfSome, Result, Ok, Err}
 use Rattle.update_replay.specs.Worlds.{World}
 use Rattle.update_replay.specs.Replays.{Replayed}

@@ -1,5 +1,6 @@
 -- The world of a replay: a server's box and the random ids that it knows, the pushes that it sent, and a client's lane.
--- From "Working with Updates" (core.telegram.org/api/updates).
+-- From "Working with Updates" (core.telegram.org/api/updates): boxes, their numbers, and updates that come late or twice. That a
+-- post has a random id, and that a post under a known one changes nothing, is this project's own.
 use Rattle.std.specs.Prelude.{ℕ, ℤ, ◌+◌, ◌<◌, List, [], ◌∷◌, ◌++◌, length, Bool, true, false, Option, Some, None, slice_get}
 use Rattle.std.specs.List.{list_any}
 use Rattle.std.specs.Ordering.{int_eq}
@@ -19,12 +20,14 @@ pub data Step : Type 0 where
   post : ℤ → List ℕ → Step
   hears : ℕ → Step
 
+-- the box, the random ids that are known, the pushes that were sent, and the lane
 pub record World : Type 0 where
   pub box : List Happening
   pub ids : List ℤ
   pub pool : List Push
   pub lane : Track Happening
 
+-- nothing was posted or heard
 abbrev pub start : World
 start = record { box = []; ids = []; pool = []; lane = new_track }
 
@@ -47,6 +50,7 @@ heard w (Some p) = record w { lane = (hear w.lane p.start p.end p.event).track }
 abbrev pub is_known : List ℤ → ℤ → Bool
 is_known ids id = list_any (int_eq id) ids
 
+-- the world after a step
 abbrev pub happens : World → Step → World
 happens w (post id body) = posted (is_known w.ids id) w id (added body)
 happens w (hears k) = heard w (slice_get w.pool k)
@@ -56,6 +60,7 @@ abbrev pub Possible : World → Step → Type 0
 Possible w (post id body) = Unit {0}
 Possible w (hears k) = k < length w.pool
 
+-- the world after these steps, from the world w
 abbrev pub run_from : World → List Step → World
 run_from w [] = w
 run_from w (s ∷ ss) = run_from (happens w s) ss
@@ -63,7 +68,3 @@ run_from w (s ∷ ss) = run_from (happens w s) ss
 -- the world after these steps, from the empty one
 abbrev pub run : List Step → World
 run steps = run_from start steps
-
-abbrev pub AllPossible : World → List Step → Type 0
-AllPossible w [] = Unit {0}
-AllPossible w (s ∷ ss) = Possible w s × AllPossible (happens w s) ss

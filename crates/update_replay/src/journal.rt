@@ -1,5 +1,5 @@
 //! Journals: steps, one after the other.
-ghost use Rattle.std.specs.Prelude.{◌≡◌, ◌<◌, ◌≤◌, ◌^◌, List, ℕ, ◌↔◌, IsErrOf, IsTrue, IfOk, IfSome, length, replicate};
+ghost use Rattle.std.specs.Prelude.{◌≡◌, ◌<◌, ◌≤◌, ◌^◌, ◌↔◌, IsErrOf, IsTrue, IfOk, IfSome, length, replicate};
 ghost use Rattle.tl_base.specs.Contents.{AreBytes};
 ghost use Rattle.tl_base.specs.Using.{Used};
 ghost use Rattle.update_replay.specs.Words.{word};
@@ -7,7 +7,7 @@ ghost use Rattle.update_replay.specs.Reached.{IsShort};
 ghost use Rattle.update_replay.specs.Reading.{step_of, StepRead, Reads, Filled, FirstRead, IsThis, IsByte, IsWord, IsDouble, IsPadded, IsText, IsMessage, IsPost, IsPacketNumber, IsHear};
 
 use crate::profile::VECTOR;
-use std::alloc::{AllocError, AllocFailed, Global};
+use std::alloc::{AllocError, Global};
 use thiserror::Error;
 use tl_base::{Bytes, Source, TakeFault, take_bytes};
 
@@ -39,17 +39,6 @@ impl From<AllocError> for JournalFault {
     ghost from_gives = { λ _ e. e ≡ Memory };
 
     fn from(_e: AllocError) -> JournalFault {
-        JournalFault::Memory
-    }
-}
-
-impl<T: Drop> From<AllocFailed<T>> for JournalFault {
-    ghost use Rattle.std.specs.Prelude.{◌≡◌};
-    ghost use Rattle.update_replay.specs.declared.journal.JournalFault.TheVariants.{Memory};
-
-    ghost from_gives = { λ _ e. e ≡ Memory };
-
-    fn from(_e: AllocFailed<T>) -> JournalFault {
         JournalFault::Memory
     }
 }

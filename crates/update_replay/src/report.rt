@@ -1,10 +1,9 @@
 //! Reports: the lines of each step, and the closing lines.
-ghost use Rattle.std.specs.Prelude.{◌≡◌, ◌+◌, ◌≤◌, ◌++◌, IfOk, OnOk, codes, decimal, false, length, true};
-ghost use Rattle.hex.specs.Hex.{encode_lower};
+ghost use Rattle.std.specs.Prelude.{◌≡◌, ◌+◌, ◌≤◌, ◌++◌, IfOk, OnOk, length};
 ghost use Rattle.box_events.specs.Boxes.{ending};
 ghost use Rattle.update_replay.specs.Outcomes.{told_lines};
 ghost use Rattle.update_replay.specs.Packets.{packet};
-ghost use Rattle.update_replay.specs.Report.{packet_line, id_bytes, event_line, event_lines, closing_of};
+ghost use Rattle.update_replay.specs.Report.{again_line, posted_line, heard_line, packet_line, server_line, client_line, change_line, id_bytes, event_line, event_lines, closing_of};
 
 use crate::outcome::Outcome;
 use crate::packets::packet_of;
@@ -35,7 +34,7 @@ pub fn put_outcome(
 
 // Puts the line of a post under an id that was known.
 fn put_again(alloc: Global, lines: &mut Vec<u8>, number: u32) -> Result<(), Memory>
-    ensures { OnOk result (lines.new.items ≡ lines.old.items ++ (codes "step " ++ decimal number ++ codes " post again\n")) }
+    ensures { OnOk result (lines.new.items ≡ lines.old.items ++ again_line number) }
 {
     let line = format!(in alloc; "step {number} post again\n")?;
     put_text(lines, line.as_str())
@@ -49,7 +48,7 @@ fn put_posted(
     pts: u32,
     packet: u32,
 ) -> Result<(), Memory>
-    ensures { OnOk result (lines.new.items ≡ lines.old.items ++ (codes "step " ++ decimal number ++ codes " post pts " ++ decimal pts ++ codes " qts 0 seq 0 packet " ++ decimal packet ++ codes "\n")) }
+    ensures { OnOk result (lines.new.items ≡ lines.old.items ++ posted_line number pts packet) }
 {
     let line = format!(in alloc; "step {number} post pts {pts} qts 0 seq 0 packet {packet}\n")?;
     put_text(lines, line.as_str())
@@ -74,7 +73,7 @@ fn put_packet(
 
 // Puts the line of a hear.
 fn put_heard(alloc: Global, lines: &mut Vec<u8>, number: u32, pts: u32) -> Result<(), Memory>
-    ensures { OnOk result (lines.new.items ≡ lines.old.items ++ (codes "step " ++ decimal number ++ codes " hear 0 push pts " ++ decimal pts ++ codes " qts 0 seq 0\n")) }
+    ensures { OnOk result (lines.new.items ≡ lines.old.items ++ heard_line number pts) }
 {
     let line = format!(in alloc; "step {number} hear 0 push pts {pts} qts 0 seq 0\n")?;
     put_text(lines, line.as_str())
@@ -103,7 +102,7 @@ pub fn put_closing(
 
 // Puts the line of the server's positions.
 fn put_server(alloc: Global, lines: &mut Vec<u8>, end: u32) -> Result<(), Memory>
-    ensures { OnOk result (lines.new.items ≡ lines.old.items ++ (codes "server pts " ++ decimal end ++ codes " qts 0 seq 0 date 0\n")) }
+    ensures { OnOk result (lines.new.items ≡ lines.old.items ++ server_line end) }
 {
     let line = format!(in alloc; "server pts {end} qts 0 seq 0 date 0\n")?;
     put_text(lines, line.as_str())
@@ -111,7 +110,7 @@ fn put_server(alloc: Global, lines: &mut Vec<u8>, end: u32) -> Result<(), Memory
 
 // Puts the line of the client's box, without its events.
 fn put_client(alloc: Global, lines: &mut Vec<u8>, restart: u32, at: u32) -> Result<(), Memory>
-    ensures { OnOk result (lines.new.items ≡ lines.old.items ++ (codes "client 0 common from " ++ decimal restart ++ codes " to " ++ decimal at ++ codes "\n")) }
+    ensures { OnOk result (lines.new.items ≡ lines.old.items ++ client_line restart at) }
 {
     let line = format!(in alloc; "client 0 common from {restart} to {at}\n")?;
     put_text(lines, line.as_str())
@@ -157,7 +156,7 @@ fn put_change(
     end: u32,
     bytes: &[u8],
 ) -> Result<(), Memory>
-    ensures { OnOk result (lines.new.items ≡ lines.old.items ++ (kind.now ++ codes " " ++ decimal end ++ codes " " ++ encode_lower bytes.now ++ codes "\n")) }
+    ensures { OnOk result (lines.new.items ≡ lines.old.items ++ change_line kind.now end bytes.now) }
 {
     let digits = hex::encode(alloc, bytes)?;
     let line = format!(in alloc; "{kind} {end} {digits}\n")?;

@@ -1,3 +1,6 @@
+ghost use Rattle.update_replay.specs.Reached.{IsShort};
+ghost use Rattle.update_replay.specs.Reading.{step_of};
+
 use crate::{JournalFault, Outcome, Step, StepFault, World, packet_of, read_step};
 use std::alloc::Global;
 use std::process::Abort;
@@ -25,6 +28,11 @@ fn source(alloc: Global, bytes: &[u8]) -> Result<MemSource, Fail> {
     Ok(MemSource::new(Bytes::from_slice(alloc, bytes)?, cuts, Vec::new(alloc)))
 }
 
+// The next step. It promises nothing, so that each use of it is proved in short.
+fn next(alloc: Global, at: &mut u64, from: &mut MemSource) -> Result<Option<Step>, JournalFault> {
+    read_step(alloc, at, from)
+}
+
 // POST is read, up to the place behind it.
 fn assert_post(
     rt: &impl Abort,
@@ -32,7 +40,7 @@ fn assert_post(
     at: &mut u64,
     from: &mut MemSource,
 ) -> Result<(), Fail> {
-    match read_step(alloc, at, from)? {
+    match next(alloc, at, from)? {
         Some(Step::Post { random_id, body }) => {
             assert_eq!(rt; random_id, 1);
             assert_eq!(rt; body.as_slice(), [0x61].as_slice());
@@ -50,7 +58,7 @@ fn assert_hear(
     at: &mut u64,
     from: &mut MemSource,
 ) -> Result<(), Fail> {
-    match read_step(alloc, at, from)? {
+    match next(alloc, at, from)? {
         Some(Step::Hear { packet }) => assert_eq!(rt; packet, 1),
         _ => assert!(rt; false, "the hear"),
     }
@@ -60,7 +68,7 @@ fn assert_hear(
 
 // Behind both nothing is left.
 fn assert_end(rt: &impl Abort, alloc: Global, at: &mut u64, from: &mut MemSource) {
-    assert!(rt; matches!(read_step(alloc, at, from), Ok(None)));
+    assert!(rt; matches!(next(alloc, at, from), Ok(None)));
     assert_eq!(rt; *at, 40);
 }
 
@@ -69,7 +77,7 @@ fn is_refused(alloc: Global, bytes: &[u8]) -> Result<bool, Fail> {
     let mut at = 0;
     let mut from = source(alloc, bytes)?;
     Ok(matches!(
-        read_step(alloc, &mut at, &mut from),
+        next(alloc, &mut at, &mut from),
         Err(JournalFault::NotYetBuilt)
     ))
 }
@@ -146,6 +154,14 @@ fn a_packet_is_spelled(rt: HostRuntime) -> Result<(), Fail> {
     Ok(())
 }
 
+// What comes of a step. Beyond that it promises nothing, as `next`.
+fn make(rt: &impl Abort, world: &mut World, step: Step) -> Result<Outcome, StepFault>
+    requires { IsShort (step_of step) }
+{
+    assert!(rt; world.server_end() < 1_000_000);
+    world.step(step)
+}
+
 // A message of one byte is posted.
 fn assert_posts(
     rt: &impl Abort,
@@ -155,16 +171,17 @@ fn assert_posts(
     byte: u8,
     outcome: Outcome,
 ) -> Result<(), Fail> {
-    assert!(rt; world.server_end() < 1_000_000);
     let body = Bytes::from_slice(alloc, [byte].as_slice())?;
-    assert_eq!(rt; world.step(Step::Post { random_id, body })?, outcome);
+    assert_eq!(rt; make(rt, world, Step::Post { random_id, body })?, outcome);
     Ok(())
 }
 
 // The client hears a packet, and its events reach up to `pts`.
 fn assert_hears(rt: &impl Abort, world: &mut World, packet: u32, pts: u32) -> Result<(), Fail> {
-    assert!(rt; world.server_end() < 1_000_000);
-    assert_eq!(rt; world.step(Step::Hear { packet })?, Outcome::Heard { pts });
+    assert_eq!(rt;
+        make(rt, world, Step::Hear { packet })?,
+        Outcome::Heard { pts }
+    );
     Ok(())
 }
 
@@ -214,9 +231,8 @@ fn hear_backwards(rt: &impl Abort, world: &mut World) -> Result<(), Fail> {
 
 // A push that was not sent changes nothing.
 fn assert_not_sent(rt: &impl Abort, world: &mut World) {
-    assert!(rt; world.server_end() < 1_000_000);
     assert_eq!(rt;
-        world.step(Step::Hear { packet: 7 }),
+        make(rt, world, Step::Hear { packet: 7 }),
         Err(StepFault::NoPacket { packet: 7 })
     );
     assert_eq!(rt; world.restart(), 0);

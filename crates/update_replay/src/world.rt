@@ -12,7 +12,7 @@ use crate::outcome::Outcome;
 use box_events::{BoxFault, Event, EventBox};
 use indexmap::IndexSet;
 use pts_machine::Lane;
-use std::alloc::{AllocError, AllocFailed, Global};
+use std::alloc::{AllocError, Global};
 use std::marker::Model;
 use thiserror::Error;
 use tl_base::Bytes;
@@ -34,17 +34,6 @@ impl From<AllocError> for StepFault {
     ghost from_gives = { λ _ e. e ≡ Memory };
 
     fn from(_e: AllocError) -> StepFault {
-        StepFault::Memory
-    }
-}
-
-impl<T: Drop> From<AllocFailed<T>> for StepFault {
-    ghost use Rattle.std.specs.Prelude.{◌≡◌};
-    ghost use Rattle.update_replay.specs.declared.world.StepFault.TheVariants.{Memory};
-
-    ghost from_gives = { λ _ e. e ≡ Memory };
-
-    fn from(_e: AllocFailed<T>) -> StepFault {
         StepFault::Memory
     }
 }
