@@ -5,11 +5,11 @@ use Rattle.std.proofs.lemmas.Bool.{cases_Bool, cases_order, or_cases, both_ways}
 use Rattle.std.proofs.lemmas.Option.{same_Some, none-some, slice_get_within}
 use Rattle.std.proofs.lemmas.Slice.Eq.{bytes_eq-Decides}
 use Rattle.tl_combinators.specs.Program.{DeclText}
-use Rattle.tl_types.specs.Writing.{is_constructor, result_head, is_type_name, is_vector_name, is_built_in, is_variable, IsConstructorOf, IsConstructorNamed}
+use Rattle.tl_types.specs.Writing.{is_constructor, result_head, own_type, is_type_name, is_vector_name, is_built_in, is_variable, IsConstructorOf, IsConstructorNamed}
 use Rattle.tl_types.specs.WrongArity.{HasArity}
 use Rattle.tl_types.specs.WrongArity as has
 use Rattle.tl_types.specs.declared.arities.Count.{Count}
-use Rattle.tl_types.specs.Arities.{own_name, own_type, IsNamed, CountIs, CountsAll, first_number, arity_in, IsArity}
+use Rattle.tl_types.specs.Arities.{own_name, IsNamed, CountIs, CountsAll, first_number, arity_in, IsArity}
 
 -- ---- own constructors
 

@@ -1,12 +1,12 @@
--- Types with a bare form, and declarations that write `%` before one that has none.
+-- Types with a bare form, and `%` before one that has none.
 use Rattle.std.proofs.Common.{◌≡◌, inl, inr, ℕ, List, Bool, true, false, not, IsTrue, ◌↔◌, codes, refl, ap, sym, ◌∙◌, subst, true≢false}
 use Rattle.std.proofs.lemmas.Option.{same_Some}
 use Rattle.tl_combinators.specs.Trees.{Tree, Trees, named, percent, any_call}
 use Rattle.tl_combinators.specs.Program.{DeclText}
 use Rattle.tl_types.proofs.HeadNames.{type_name}
 use Rattle.tl_types.specs.Writing.{At, Writes, is_variable}
-use Rattle.tl_types.specs.NotBare.{HasBare, vector, single, NotBare}
-use Rattle.tl_types.specs.BareForms.{IsBareName, HasNoBare}
+use Rattle.tl_types.specs.NotBare.{HasBare, vector, single, HasNoBare}
+use Rattle.tl_types.specs.BareForms.{IsBareName}
 use Rattle.tl_types.specs.Parts.{SomeWritten}
 
 module _ (ds : List DeclText) (d : DeclText) where
@@ -32,17 +32,3 @@ module _ (ds : List DeclText) (d : DeclText) where
   pub no_bare : (t : Tree) (b : Bool) → IsTrue b ↔ HasBare ds d t → IsTrue (not b) ↔ HasNoBare ds d (percent t)
   no_bare t true told = (λ h. absurd (true≢false (sym h)), λ none. absurd (none (told.0 refl)))
   no_bare t false told = (λ h bare. true≢false (sym (told.1 bare)), λ none. refl)
-
-module _ (ds : List DeclText) (k : ℕ) (d : DeclText) (at : At ds k d) where
-  pub not_bare_here : SomeWritten (HasNoBare ds d) d → NotBare ds k
-  not_bare_here some = by some.0 some.1 some.2
-    where
-      by : (u : Tree) → Writes d u → HasNoBare ds d u → NotBare ds k
-      by (named name args) writes bad = absurd bad
-      by (percent t) writes bad = record { d = d; t = t; here = at; writes = writes; none = bad }
-      by any_call writes bad = absurd bad
-
-  pub not_bare_there : NotBare ds k → SomeWritten (HasNoBare ds d) d
-  not_bare_there bad =
-      let is : bad.d ≡ d = same_Some bad.d d (sym bad.here ∙ at) in
-      subst (λ (x : DeclText). SomeWritten (HasNoBare ds x) x) is (percent bad.t, bad.writes, bad.none)

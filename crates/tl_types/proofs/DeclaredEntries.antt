@@ -10,7 +10,7 @@ use Rattle.tl_types.specs.Meanings.{IsEntry, IsSmall, types_of}
 use Rattle.tl_types.specs.CheckCauses.{Passes}
 use Rattle.tl_types.specs.CheckedPrograms.{HasName, Finds}
 use Rattle.tl_types.specs.NamePlaces.{Notes, place_in}
-use Rattle.tl_types.specs.NamesNoted.{NotesOne, among}
+use Rattle.tl_types.specs.NamesNoted.{NotesOne, among, Enters}
 use Rattle.tl_types.specs.SchemaParts.{ArePlaces, IsSound}
 use Rattle.tl_types.specs.declared.checks.Known.{Known}
 use Rattle.tl_types.proofs.Places.{IsPlace, first_same, first_with, first_without, get_cases}
@@ -79,13 +79,6 @@ known_more es e d old new at named kind count notes before function =
     ]
 
 -- ---- the entries so far
-
--- the entries are those of the first declarations, as many as there are
-pub record Enters (ds : List DeclText) (at : ℕ) (es : List Declaration) (known : Known) : Type 0 where
-  pub count : length es ≡ at
-  pub entries : (k : ℕ) (d : DeclText) (e : Declaration) → At ds k d → slice_get es k ≡ Some e → IsEntry ds d e
-  pub fits : (k : ℕ) (e : Declaration) → slice_get es k ≡ Some e → e.number < 2 ^ 32
-  pub places : (function : Bool) → ArePlaces es function (among function known)
 
 pub none_yet : (ds : List DeclText) (known : Known) → known.constructors ≡ [] → known.functions ≡ [] → Enters ds 0 [] known
 none_yet ds known no_constructors no_functions = record {

@@ -5,7 +5,7 @@ use Rattle.std.proofs.lemmas.Bool.Decides.{Decides-and, Decides-like}
 use Rattle.std.proofs.lemmas.Option.{none-some, same_Some}
 use Rattle.std.proofs.lemmas.Slice.Eq.{bytes_eq-Decides}
 use Rattle.tl_combinators.specs.Program.{DeclText}
-use Rattle.tl_types.specs.Arities.{own_type}
+use Rattle.tl_types.specs.Writing.{own_type}
 use Rattle.tl_types.specs.Indexed.{FirstNamed, FirstOf}
 use Rattle.tl_types.specs.Meanings.{first_of, is_type, place_of}
 use Rattle.tl_types.specs.Writing.{is_constructor, result_head}

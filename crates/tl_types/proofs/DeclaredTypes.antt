@@ -3,7 +3,7 @@ use Rattle.std.proofs.Common.{◌≡◌, ℕ, ◌+◌, ◌≤◌, List, [], ◌�
 use Rattle.std.specs.List.{fold}
 use Rattle.std.proofs.lemmas.List.Sums.{fold_push}
 use Rattle.tl_combinators.specs.Program.{DeclText}
-use Rattle.tl_types.specs.Arities.{own_type}
+use Rattle.tl_types.specs.Writing.{own_type}
 use Rattle.tl_types.specs.Meanings.{types_of, with_type_of}
 use Rattle.tl_types.proofs.Maps.{take_push}
 use Rattle.tl_types.proofs.TypeNames.{few_more}

@@ -6,7 +6,7 @@ use Rattle.std.proofs.lemmas.List.{length-map}
 use Rattle.std.proofs.lemmas.Option.{cond_some, none-some, same_Some, slice_get-map, slice_get_cases, slice_get_within}
 use Rattle.tl_combinators.specs.Program.{DeclText}
 use Rattle.tl_types.specs.Writing.{At, is_constructor, result_head}
-use Rattle.tl_types.specs.Arities.{own_type}
+use Rattle.tl_types.specs.Writing.{own_type}
 use Rattle.tl_types.specs.Numbers.{IsNumbered}
 use Rattle.tl_types.specs.Schemas.{Declaration, Declared, vector_number, packed_number}
 use Rattle.tl_types.specs.Meanings.{types_of, head_in, IsNumberWhere, IsEntry, line_number}

@@ -3,9 +3,9 @@ use Rattle.std.proofs.Common.{◌≡◌, inl, inr, ℕ, ◌+◌, ◌<◌, ◌≤
 use Rattle.std.proofs.lemmas.Bool.{cases_eq}
 use Rattle.std.proofs.lemmas.Option.{slice_get_within, same_Some}
 use Rattle.tl_combinators.specs.Program.{FieldText, CondText, DeclText}
-use Rattle.tl_types.specs.Writing.{At, FieldAt}
-use Rattle.tl_types.specs.BadFlag.{IsFlagsBefore, BadFlag}
-use Rattle.tl_types.specs.ConditionSteps.{IsFlags, IsBadCondition, HasBadCondition}
+use Rattle.tl_types.specs.Writing.{FieldAt}
+use Rattle.tl_types.specs.BadFlag.{IsFlagsBefore, IsBadCondition, HasBadCondition}
+use Rattle.tl_types.specs.ConditionSteps.{IsFlags}
 
 -- ---- the `#` fields before one more
 
@@ -37,22 +37,3 @@ none_bad_more d i f at none other h below = elim (cases_eq h.i i) [
 
 pub none_bad : (d : DeclText) (i : ℕ) → length d.fields ≤ i → NoneBefore d i → ¬ HasBadCondition d
 none_bad d i all none h = none h (let within = slice_get_within d.fields h.i h.f h.field in omega arith)
-
--- ---- declarations
-
-module _ (ds : List DeclText) (k : ℕ) (d : DeclText) (at : At ds k d) where
-  pub bad_flag : HasBadCondition d → BadFlag ds k
-  bad_flag h = by h.f.cond refl h.bad
-    where
-      by : (o : Option CondText) → h.f.cond ≡ o → IsBadCondition d h.i o → BadFlag ds k
-      by None e bad = absurd bad
-      by (Some c) e bad = record { d = d; i = h.i; f = h.f; c = c; here = at; field = h.field; conditional = e; bad = bad }
-
-  pub no_bad_flag : ¬ HasBadCondition d → ¬ BadFlag ds k
-  no_bad_flag none b =
-      let same : b.d ≡ d = same_Some b.d d (sym b.here ∙ at) in
-      let bad : IsBadCondition b.d b.i b.f.cond = subst (IsBadCondition b.d b.i) (sym b.conditional) b.bad in
-      let has : HasBadCondition b.d = record { i = b.i; f = b.f; field = b.field; bad = bad } in none (subst HasBadCondition same has)
-
-pub bad_flag_within : (ds : List DeclText) (k : ℕ) → BadFlag ds k → k < length ds
-bad_flag_within ds k b = slice_get_within ds k b.d b.here

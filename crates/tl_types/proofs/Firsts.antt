@@ -5,7 +5,7 @@ use Rattle.std.proofs.lemmas.Option.{slice_get_within}
 use Rattle.tl_lexer.proofs.Whole.{Decided}
 use Rattle.tl_combinators.specs.Program.{DeclText}
 use Rattle.tl_combinators.proofs.Decided.{decided_as}
-use Rattle.tl_types.specs.Writing.{At, First}
+use Rattle.tl_types.specs.Writing.{At, DeclarationHas, First}
 use Rattle.tl_types.proofs.PlacesDecided.{option_decided}
 
 -- no place below n has it
@@ -52,3 +52,8 @@ module _ (ds : List DeclText) (P : ℕ → Type 0) (Q : ℕ → DeclText → Typ
   pub first_declaration : ((k : ℕ) (d : DeclText) → Decided (Q k d)) → (o : Option ℕ) × First P o
   first_declaration test =
       first_of P (length ds) (λ k. decided_as (λ h. made k h.0 h.1 h.2) (of k) (option_decided (slice_get ds k) (Q k) (test k))) (λ k p. let h = of k p in slice_get_within ds k h.0 h.1)
+
+-- the first declaration with a property that is decided
+pub first_that : (ds : List DeclText) (P : DeclText → Type 0) → ((d : DeclText) → Decided (P d)) → (o : Option ℕ) × First (DeclarationHas P ds) o
+first_that ds P test =
+    first_declaration ds (DeclarationHas P ds) (λ k. P) (λ k d here has. record { d = d; here = here; has = has }) (λ k r. (r.d, r.here, r.has)) (λ k. test)

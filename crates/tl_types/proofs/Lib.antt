@@ -29,10 +29,7 @@ mod CountedDeclarations
 mod CountedNames
 mod ListParts
 mod Misapplied
-mod NoneSoFar
-mod WrongDeclarations
 pub mod Calls
-pub mod NamedVariables
 pub mod UnknownVariables
 pub mod Firsts
 pub mod PlacesDecided

@@ -7,7 +7,7 @@ use Rattle.tl_combinators.specs.Trees.{Tree, named, percent, any_call, trees_of}
 use Rattle.tl_combinators.specs.Program.{DeclText}
 use Rattle.tl_types.specs.Writing.{At, Writes}
 use Rattle.tl_types.specs.Parts.{SomeWritten}
-use Rattle.tl_types.specs.EmptyElement.{IsOneOf, EmptyElement}
+use Rattle.tl_types.specs.EmptyElement.{IsOneOf}
 use Rattle.tl_types.specs.BareSteps.{IsMarked, BareIs, MarksEmpty, IsMarkedBare, HasMarkedArg, AppliesToMarked}
 use Rattle.tl_types.proofs.Maps.{take_push}
 
@@ -47,23 +47,3 @@ module _ (ds : List DeclText) (marks : List Bool) (d : DeclText) where
     -- none of them is one
     pub none_marked : length ts ≤ i → (HasMarkedArg ds marks d (trees_of (take i ts)) → ⊥) → HasMarkedArg ds marks d (trees_of ts) → ⊥
     none_marked all none m = none (subst (λ us. HasMarkedArg ds marks d (trees_of us)) (sym (take_all i ts all)) m)
-
--- ---- of a declaration
-
-module _ (ds : List DeclText) (marks : List Bool) (empty : MarksEmpty ds marks) (k : ℕ) (d : DeclText) (at : At ds k d) where
-  pub empty_here : SomeWritten (AppliesToMarked ds marks d) d → EmptyElement ds k
-  empty_here some = by some.0 some.1 some.2
-    where
-      by : (u : Tree) → Writes d u → AppliesToMarked ds marks d u → EmptyElement ds k
-      by (named name args) writes (t, one, (j, bare, marked)) =
-          record { d = d; name = name; args = args; t = t; j = j; here = at; writes = writes; arg = one; bare = bare; none = (empty j).0 marked }
-      by (percent t) writes bad = absurd bad
-      by any_call writes bad = absurd bad
-
-  pub empty_there : EmptyElement ds k → SomeWritten (AppliesToMarked ds marks d) d
-  empty_there bad =
-      let is : bad.d ≡ d = same_Some bad.d d (sym bad.here ∙ at) in
-      subst (λ (x : DeclText). SomeWritten (AppliesToMarked ds marks x) x) is (named bad.name bad.args, bad.writes, (bad.t, bad.arg, (bad.j, bad.bare, (empty bad.j).1 bad.none)))
-
-pub empty_within : (ds : List DeclText) (k : ℕ) → EmptyElement ds k → k < length ds
-empty_within ds k bad = slice_get_within ds k bad.d bad.here

@@ -3,14 +3,15 @@ use Rattle.std.proofs.Common.{◌≡◌, ◌⊎◌, inl, inr, ℕ, true, false, 
 use Rattle.std.specs.Prelude.{codes}
 use Rattle.tl_lexer.proofs.Whole.{Decided}
 use Rattle.tl_combinators.proofs.Decided.{decided_as, decided_not, decided_and, decided_or}
-use Rattle.tl_combinators.specs.Trees.{Tree, Trees, named, percent}
+use Rattle.tl_combinators.specs.Trees.{Tree, Trees, named, percent, any_call}
 use Rattle.tl_combinators.specs.Program.{DeclText}
-use Rattle.tl_types.specs.Writing.{At, is_type_name, is_variable, Writes, First}
-use Rattle.tl_types.specs.NotBare.{IsOnlyConstructor, HasBare, vector, single, NotBare}
+use Rattle.tl_types.specs.Writing.{is_type_name, is_variable, First}
+use Rattle.tl_types.specs.Parts.{SomeWritten}
+use Rattle.tl_types.specs.NotBare.{IsOnlyConstructor, HasBare, vector, single, HasNoBare, NotBare}
 use Rattle.tl_types.proofs.PlacesDecided.{bool_decided}
-use Rattle.tl_types.proofs.TypesDecided.{named_decided, this_name_decided, percent_decided}
+use Rattle.tl_types.proofs.TypesDecided.{named_decided, this_name_decided}
 use Rattle.tl_types.proofs.WritingDecided.{only_constructor_decided, writes_decided}
-use Rattle.tl_types.proofs.Firsts.{first_declaration}
+use Rattle.tl_types.proofs.Firsts.{first_that}
 
 abbrev IsVector : DeclText → Tree → Type 0
 IsVector d t = (is_variable d (codes "Vector") ≡ false) × ((args : Trees) × (t ≡ named (codes "Vector") args))
@@ -20,9 +21,6 @@ abbrev IsSingle : List DeclText → DeclText → Tree → Type 0
 IsSingle ds d t =
     (type : List ℕ) × (args : Trees) × (t ≡ named type args)
     × ((is_variable d type ≡ false) × ((is_type_name type ≡ true) × ((j : ℕ) × (c : DeclText) × IsOnlyConstructor ds type j c)))
-
-abbrev WritesNotBare : List DeclText → ℕ → DeclText → Type 0
-WritesNotBare ds k d = (u : Tree) × Writes d u × ((t : Tree) × (u ≡ percent t) × (HasBare ds d t → ⊥))
 
 module _ (ds : List DeclText) where
   module _ (d : DeclText) (t : Tree) where
@@ -34,15 +32,15 @@ module _ (ds : List DeclText) where
     of_bare (vector args free is) = inl (free, (args, is))
     of_bare (single type args j c free upper is only) = inr (type, args, is, (free, (upper, (j, c, only))))
 
-    pub bare_decided : Decided (HasBare ds d t)
+    bare_decided : Decided (HasBare ds d t)
     bare_decided =
         decided_as bare of_bare (decided_or (decided_and (bool_decided (is_variable d (codes "Vector")) false) (this_name_decided (codes "Vector") t))
         (named_decided _ (λ type args. decided_and (bool_decided (is_variable d type) false) (decided_and (bool_decided (is_type_name type) true) (only_constructor_decided ds type))) t))
 
-  written : (k : ℕ) (d : DeclText) → At ds k d → WritesNotBare ds k d → NotBare ds k
-  written k d here (u, writes, (t, is, none)) = record { d = d; t = t; here = here; writes = subst (Writes d) is writes; none = none }
+  pub no_bare_decided : (d : DeclText) (u : Tree) → Decided (HasNoBare ds d u)
+  no_bare_decided d (named name args) = inr (λ h. h)
+  no_bare_decided d (percent t) = decided_not (bare_decided d t)
+  no_bare_decided d any_call = inr (λ h. h)
 
   pub not_bare_first : (o : Option ℕ) × First (NotBare ds) o
-  not_bare_first =
-      first_declaration ds (NotBare ds) (WritesNotBare ds) written (λ k r. (r.d, r.here, (percent r.t, r.writes, (r.t, refl, r.none))))
-      (λ k d. writes_decided _ (percent_decided (λ t. HasBare ds d t → ⊥) (λ t. decided_not (bare_decided d t))) d)
+  not_bare_first = first_that ds (SomeWritten (HasNoBare ds)) (λ d. writes_decided (HasNoBare ds d) (no_bare_decided d) d)

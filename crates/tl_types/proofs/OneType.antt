@@ -11,11 +11,9 @@ use Rattle.tl_combinators.specs.Program.{DeclText}
 use Rattle.tl_combinators.specs.Sentences.{ReadsType, TypeRefused}
 use Rattle.tl_combinators.proofs.Decided.{decided_as, decided_not}
 use Rattle.tl_combinators.proofs.OneProgram.{one_type}
-use Rattle.tl_types.specs.Writing.{IsPart}
-use Rattle.tl_types.specs.WrongArity.{HasArity, count_of}
-use Rattle.tl_types.specs.Arities.{Misapplies}
-use Rattle.tl_types.specs.UnknownNames.{BeginsUnknown}
-use Rattle.tl_types.specs.BareForms.{HasNoBare}
+use Rattle.tl_types.specs.UnknownType.{BeginsUnknown}
+use Rattle.tl_types.specs.WrongArity.{Misapplies}
+use Rattle.tl_types.specs.NotBare.{HasNoBare}
 use Rattle.tl_types.specs.EmptyElement.{AppliesToEmpty}
 use Rattle.tl_types.specs.Types.{Shape}
 use Rattle.tl_types.specs.Meanings.{meaning}
@@ -24,11 +22,11 @@ use Rattle.tl_types.specs.declared.fault.TypeCause.{TypeCause}
 use Rattle.tl_types.specs.declared.fault.TypeCause.TheVariants.{UnknownType, WrongArity, NotBare, EmptyElement}
 use Rattle.tl_types.specs.declared.fault.TypeFault.{TypeFault}
 use Rattle.tl_types.specs.declared.fault.TypeFault.TheVariants.{Lex, Syntax, Refused, Memory}
-use Rattle.tl_types.proofs.TypesDecided.{named_decided, part_decided}
-use Rattle.tl_types.proofs.OneArity.{other_arity_decided}
-use Rattle.tl_types.proofs.UnknownTypeFirst.{unknown_in_decided}
-use Rattle.tl_types.proofs.NotBareFirst.{bare_decided}
-use Rattle.tl_types.proofs.EmptyElementFirst.{IsEmpty, one_that_decided, empty_decided}
+use Rattle.tl_types.proofs.TypesDecided.{part_decided}
+use Rattle.tl_types.proofs.UnknownTypeFirst.{begins_unknown_decided}
+use Rattle.tl_types.proofs.WrongArityFirst.{misapplies_decided}
+use Rattle.tl_types.proofs.NotBareFirst.{no_bare_decided}
+use Rattle.tl_types.proofs.EmptyElementFirst.{applies_to_empty_decided}
 
 -- why a text is no type, want of memory aside: it has no tokens, these are no type, or the type has a cause
 abbrev pub RefusesType : List DeclText → List ℕ → TypeFault → Type 0
@@ -39,48 +37,10 @@ RefusesType ds text Memory = ⊥
 
 -- ---- each cause is decided
 
-module _ (ds : List DeclText) (d : DeclText) where
-  begins_unknown_decided : (u : Tree) → Decided (BeginsUnknown ds d u)
-  begins_unknown_decided (named name args) =
-      decided_as (λ h. record { no_variable = h.0; no_built_in = h.1.0; unknown = h.1.1 }) (λ r. (r.no_variable, (r.no_built_in, r.unknown))) (unknown_in_decided ds name d)
-  begins_unknown_decided (percent u) = inr (λ h. h)
-  begins_unknown_decided any_call = inr (λ h. h)
-
-  no_bare_decided : (u : Tree) → Decided (HasNoBare ds d u)
-  no_bare_decided (named name args) = inr (λ h. h)
-  no_bare_decided (percent u) = decided_not (bare_decided ds d u)
-  no_bare_decided any_call = inr (λ h. h)
-
-  applies_to_empty_decided : (u : Tree) → Decided (AppliesToEmpty ds d u)
-  applies_to_empty_decided (named name args) =
-      decided_as (λ h. (h.0, h.2.0, h.1, h.2.1.0, h.2.1.1)) (λ h. (h.0, h.2, (h.1, (h.3, h.4)))) (one_that_decided (IsEmpty ds d) (empty_decided ds d) args)
-  applies_to_empty_decided (percent u) = inr (λ h. h)
-  applies_to_empty_decided any_call = inr (λ h. h)
-
-  -- a name that is applied to another number of types than it has variables
-  abbrev IsWrong : Tree → Type 0
-  IsWrong u = (name : List ℕ) × (args : Trees) × (u ≡ named name args) × ((n : ℕ) × HasArity ds d name n × (count_of args ≢ n))
-
-  wrong_decided : (u : Tree) → Decided (IsWrong u)
-  wrong_decided = named_decided _ (λ name args. other_arity_decided ds d name (count_of args))
-
-  misapplies : (t u : Tree) → IsPart u t → IsWrong u → Misapplies ds d (λ v. IsPart v t)
-  misapplies t u part (name, args, is, (n, arity, other)) = record {
-    name = name;
-    args = args;
-    such = subst (λ v. IsPart v t) is part;
-    wrong = record { n = n; arity = arity; other = other };
-  }
-
-  misapplies_decided : (t : Tree) → Decided (Misapplies ds d (λ u. IsPart u t))
-  misapplies_decided t =
-      decided_as (λ h. misapplies t h.0 h.1 h.2) (λ m. (named m.name m.args, m.such, (m.name, m.args, refl, (m.wrong.n, m.wrong.arity, m.wrong.other))))
-      (part_decided IsWrong wrong_decided t)
-
 module _ (ds : List DeclText) where
   cause_decided : (c : TypeCause) (t : Tree) → Decided (TypeHas ds c t)
   cause_decided UnknownType t = part_decided (BeginsUnknown ds asker) (begins_unknown_decided ds asker) t
-  cause_decided WrongArity t = misapplies_decided ds asker t
+  cause_decided WrongArity t = part_decided (Misapplies ds asker) (misapplies_decided ds asker) t
   cause_decided NotBare t = part_decided (HasNoBare ds asker) (no_bare_decided ds asker) t
   cause_decided EmptyElement t = part_decided (AppliesToEmpty ds asker) (applies_to_empty_decided ds asker) t
 

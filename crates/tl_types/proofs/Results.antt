@@ -1,5 +1,5 @@
 -- Results that are a type applied to the declaration's variables.
-use Rattle.std.proofs.Common.{◌≡◌, ◌≢◌, ℕ, ◌+◌, ◌<◌, ◌==◌, List, [], ◌∷◌, ◌++◌, map, take, length, slice_get, Some, Vec, Global, true, false, refl, ap, ap₂, sym, ◌∙◌, subst, true≢false}
+use Rattle.std.proofs.Common.{◌≡◌, ◌≢◌, ℕ, ◌+◌, ◌<◌, ◌==◌, List, [], ◌∷◌, ◌++◌, map, take, length, slice_get, Some, Vec, Global, Bool, true, false, not, IsTrue, ◌↔◌, refl, ap, ap₂, sym, ◌∙◌, subst, true≢false}
 use Rattle.std.specs.Vec.{vec_len}
 use Rattle.std.proofs.lemmas.Option.{slice_get_within, same_Some}
 use Rattle.tl_combinators.specs.declared.tree.TypeTree.{TypeTree, Named}
@@ -8,8 +8,8 @@ use Rattle.tl_combinators.specs.Trees.{Tree, Trees, named, tree, plain, trees_of
 use Rattle.tl_combinators.specs.Program.{DeclText, decl_text}
 use Rattle.tl_combinators.proofs.AppliedNames.{holds_of_applied}
 use Rattle.tl_combinators.proofs.TreeViews.{view-Named}
-use Rattle.tl_types.specs.Writing.{At, is_type_name, is_variable, is_constructor}
-use Rattle.tl_types.specs.BadResult.{IsGoodResult, BadResult}
+use Rattle.tl_types.specs.Writing.{is_type_name, is_variable, is_constructor}
+use Rattle.tl_types.specs.BadResult.{IsGoodResult, HasBadResult}
 use Rattle.tl_types.proofs.Maps.{take_push}
 
 -- ---- types in order
@@ -58,17 +58,12 @@ module _ (d : Decl) (name : List ℕ) (args : Vec TypeTree Global) (is : d.resul
       let inside : trees_of (views args.items) ≡ trees_of (map plain d.vars.items) = cc in
       trees_same _ _ inside
 
--- ---- declarations
+-- ---- own constructors
 
-module _ (ds : List DeclText) (i : ℕ) (d : DeclText) (at : At ds i d) where
-  pub bad_result : is_constructor d ≡ true → ¬ IsGoodResult d → BadResult ds i
-  bad_result own bad = record { d = d; here = at; own = own; bad = bad }
+module _ (d : DeclText) where
+  pub bad_result : (b : Bool) → is_constructor d ≡ true → IsTrue b ↔ IsGoodResult d → IsTrue (not b) ↔ HasBadResult d
+  bad_result true own told = (λ h. absurd (true≢false (sym h)), λ r. absurd (r.bad (told.0 refl)))
+  bad_result false own told = (λ h. record { own = own; bad = λ good. true≢false (sym (told.1 good)) }, λ r. refl)
 
-  pub no_constructor : is_constructor d ≡ false → ¬ BadResult ds i
-  no_constructor other b = let same : b.d ≡ d = same_Some b.d d (sym b.here ∙ at) in true≢false (sym b.own ∙ ap is_constructor same ∙ other)
-
-  pub good_result : IsGoodResult d → ¬ BadResult ds i
-  good_result g b = let same : b.d ≡ d = same_Some b.d d (sym b.here ∙ at) in b.bad (subst IsGoodResult (sym same) g)
-
-pub bad_result_within : (ds : List DeclText) (k : ℕ) → BadResult ds k → k < length ds
-bad_result_within ds k b = slice_get_within ds k b.d b.here
+  pub no_bad_result : is_constructor d ≡ false → IsTrue false ↔ HasBadResult d
+  no_bad_result other = (λ h. absurd (true≢false (sym h)), λ r. absurd (true≢false (sym r.own ∙ other)))

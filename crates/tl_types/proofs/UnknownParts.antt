@@ -1,12 +1,8 @@
--- Unknown names, and declarations that write one.
-use Rattle.std.proofs.Common.{◌≡◌, ℕ, List, Bool, true, false, not, is_some, IsTrue, ◌↔◌, Option, None, Some, refl, sym, ◌∙◌, subst, true≢false}
-use Rattle.std.proofs.lemmas.Option.{same_Some}
-use Rattle.tl_combinators.specs.Trees.{Tree, named, percent, any_call}
+-- Unknown names.
+use Rattle.std.proofs.Common.{◌≡◌, ℕ, List, Bool, true, false, not, is_some, IsTrue, ◌↔◌, Option, None, Some, refl, sym, ◌∙◌, true≢false}
 use Rattle.tl_combinators.specs.Program.{DeclText}
-use Rattle.tl_types.specs.Writing.{At, Writes, is_type_name}
-use Rattle.tl_types.specs.UnknownType.{IsUnknown, no_type, no_constructor, UnknownType}
-use Rattle.tl_types.specs.UnknownNames.{BeginsUnknown}
-use Rattle.tl_types.specs.Parts.{SomeWritten}
+use Rattle.tl_types.specs.Writing.{is_type_name}
+use Rattle.tl_types.specs.UnknownType.{IsUnknown, no_type, no_constructor}
 use Rattle.tl_types.specs.Indexed.{FirstNamed, FirstOf}
 
 module _ (ds : List DeclText) (name : List ℕ) where
@@ -36,28 +32,3 @@ module _ (ds : List DeclText) (name : List ℕ) where
           | no_constructor _ none ↦ absurd (none k first.0.0 first.0.1)
         ],
   )
-
-module _ (ds : List DeclText) (k : ℕ) (d : DeclText) (at : At ds k d) where
-  -- declaration k writes an unknown name
-  pub unknown_here : SomeWritten (BeginsUnknown ds d) d → UnknownType ds k
-  unknown_here some = by some.0 some.1 some.2
-    where
-      by : (u : Tree) → Writes d u → BeginsUnknown ds d u → UnknownType ds k
-      by (named name args) writes begins = record {
-        d = d;
-        name = name;
-        args = args;
-        here = at;
-        writes = writes;
-        no_variable = begins.no_variable;
-        no_built_in = begins.no_built_in;
-        unknown = begins.unknown;
-      }
-      by (percent t) writes begins = absurd begins
-      by any_call writes begins = absurd begins
-
-  pub unknown_there : UnknownType ds k → SomeWritten (BeginsUnknown ds d) d
-  unknown_there unknown =
-      let is : unknown.d ≡ d = same_Some unknown.d d (sym unknown.here ∙ at) in
-      subst (λ (x : DeclText). SomeWritten (BeginsUnknown ds x) x) is
-      (named unknown.name unknown.args, unknown.writes, record { no_variable = unknown.no_variable; no_built_in = unknown.no_built_in; unknown = unknown.unknown })

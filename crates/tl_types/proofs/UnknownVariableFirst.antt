@@ -1,17 +1,17 @@
 -- The first declaration with a variable or a call that is wrong.
-use Rattle.std.proofs.Common.{◌≡◌, ◌≢◌, ◌⊎◌, inl, inr, ℕ, true, false, List, slice_get, Option, Some, bytes_eq, refl, subst}
+use Rattle.std.proofs.Common.{◌≡◌, ◌≢◌, ◌⊎◌, inl, inr, ℕ, true, false, List, slice_get, Option, Some, bytes_eq}
 use Rattle.std.specs.List.{count_by}
 use Rattle.std.proofs.lemmas.Bool.{cases_eq}
 use Rattle.tl_lexer.proofs.Whole.{Decided}
-use Rattle.tl_combinators.proofs.Decided.{decided_not, decided_and, decided_or}
-use Rattle.tl_combinators.specs.Trees.{Tree, Trees, named}
+use Rattle.tl_combinators.proofs.Decided.{decided_as, decided_not, decided_and, decided_or}
+use Rattle.tl_combinators.specs.Trees.{Tree, named, percent, any_call}
 use Rattle.tl_combinators.specs.Program.{DeclText}
-use Rattle.tl_types.specs.Writing.{At, is_variable, InFields, First}
-use Rattle.tl_types.specs.UnknownVariable.{UnknownVariable, uncalled, no_variable, in_field, calls}
+use Rattle.tl_types.specs.Writing.{is_variable, First}
+use Rattle.tl_types.specs.Parts.{SomeInFields}
+use Rattle.tl_types.specs.UnknownVariable.{NamesVariable, MisusesVariable, UnknownVariable, uncalled, no_variable, in_field, calls}
 use Rattle.tl_types.proofs.PlacesDecided.{bool_decided, some_decided}
-use Rattle.tl_types.proofs.TypesDecided.{named_decided}
-use Rattle.tl_types.proofs.WritingDecided.{in_fields_decided}
-use Rattle.tl_types.proofs.Firsts.{first_declaration}
+use Rattle.tl_types.proofs.WritingDecided.{held_decided}
+use Rattle.tl_types.proofs.Firsts.{first_that}
 
 abbrev HasUncalled : DeclText → Type 0
 HasUncalled d = (d.function ≡ true) × ((i : ℕ) × (var : List ℕ) × (slice_get d.vars i ≡ Some var) × (count_by (bytes_eq var) (calls d) ≢ 1))
@@ -19,29 +19,31 @@ HasUncalled d = (d.function ≡ true) × ((i : ℕ) × (var : List ℕ) × (slic
 abbrev CallsNone : DeclText → Type 0
 CallsNone d = (i : ℕ) × (name : List ℕ) × (slice_get (calls d) i ≡ Some name) × (is_variable d name ≡ false)
 
-abbrev NamesVariable : DeclText → Type 0
-NamesVariable d =
-    (d.function ≡ true) × ((u : Tree) × InFields d u × ((name : List ℕ) × (args : Trees) × (u ≡ named name args) × (is_variable d name ≡ true)))
+abbrev HoldsVariable : DeclText → Type 0
+HoldsVariable d = (d.function ≡ true) × SomeInFields (NamesVariable d) d.fields
 
-abbrev WrongIn : ℕ → DeclText → Type 0
-WrongIn k d = HasUncalled d ⊎ (CallsNone d ⊎ NamesVariable d)
+module _ (d : DeclText) where
+  names_variable_decided : (u : Tree) → Decided (NamesVariable d u)
+  names_variable_decided (named name args) = bool_decided (is_variable d name) true
+  names_variable_decided (percent u) = inr (λ h. h)
+  names_variable_decided any_call = inr (λ h. h)
 
-wrong_in_decided : (k : ℕ) (d : DeclText) → Decided (WrongIn k d)
-wrong_in_decided k d =
-    decided_or (decided_and (bool_decided d.function true) (some_decided d.vars (λ i var. count_by (bytes_eq var) (calls d) ≢ 1) (λ i var. decided_not (cases_eq (count_by (bytes_eq var) (calls d)) 1))))
-    (decided_or (some_decided (calls d) (λ i name. is_variable d name ≡ false) (λ i name. bool_decided (is_variable d name) false))
-    (decided_and (bool_decided d.function true) (in_fields_decided _ (named_decided (λ name args. is_variable d name ≡ true) (λ name args. bool_decided (is_variable d name) true)) d)))
+  misuses : HasUncalled d ⊎ (CallsNone d ⊎ HoldsVariable d) → MisusesVariable d
+  misuses (inl (function, (i, var, there, count))) = uncalled i var function there count
+  misuses (inr (inl (i, name, there, free))) = no_variable i name there free
+  misuses (inr (inr (function, held))) = in_field function held
 
-module _ (ds : List DeclText) where
-  wrong : (k : ℕ) (d : DeclText) → At ds k d → WrongIn k d → UnknownVariable ds k
-  wrong k d here (inl (function, (i, var, there, count))) = uncalled d i var here function there count
-  wrong k d here (inr (inl (i, name, there, free))) = no_variable d i name here there free
-  wrong k d here (inr (inr (function, (u, part, (name, args, is, var))))) = in_field d name args here function (subst (InFields d) is part) var
+  of_misuses : MisusesVariable d → HasUncalled d ⊎ (CallsNone d ⊎ HoldsVariable d)
+  of_misuses (uncalled i var function there count) = inl (function, (i, var, there, count))
+  of_misuses (no_variable i name there free) = inr (inl (i, name, there, free))
+  of_misuses (in_field function held) = inr (inr (function, held))
 
-  of_wrong : (k : ℕ) → UnknownVariable ds k → (d : DeclText) × At ds k d × WrongIn k d
-  of_wrong k (uncalled d i var here function there count) = (d, here, inl (function, (i, var, there, count)))
-  of_wrong k (no_variable d i name here there free) = (d, here, inr (inl (i, name, there, free)))
-  of_wrong k (in_field d name args here function part var) = (d, here, inr (inr (function, (named name args, part, (name, args, refl, var)))))
+  misuses_decided : Decided (MisusesVariable d)
+  misuses_decided =
+      decided_as misuses of_misuses
+      (decided_or (decided_and (bool_decided d.function true) (some_decided d.vars (λ i var. count_by (bytes_eq var) (calls d) ≢ 1) (λ i var. decided_not (cases_eq (count_by (bytes_eq var) (calls d)) 1))))
+      (decided_or (some_decided (calls d) (λ i name. is_variable d name ≡ false) (λ i name. bool_decided (is_variable d name) false))
+      (decided_and (bool_decided d.function true) (some_decided d.fields _ (λ i f. held_decided (NamesVariable d) names_variable_decided f.kind)))))
 
-  pub unknown_variable_first : (o : Option ℕ) × First (UnknownVariable ds) o
-  unknown_variable_first = first_declaration ds (UnknownVariable ds) WrongIn wrong of_wrong wrong_in_decided
+pub unknown_variable_first : (ds : List DeclText) → (o : Option ℕ) × First (UnknownVariable ds) o
+unknown_variable_first ds = first_that ds MisusesVariable misuses_decided

@@ -1,12 +1,11 @@
 -- How many variables the own constructors of one name, or of one type, have.
-use Rattle.std.specs.Prelude.{◌≡◌, ◌≢◌, ℕ, ◌<◌, ◌↔◌, ◌⊎◌, List, length, map, true, false, ◌==◌, ◌&&◌, bytes_eq, Option, Some, None, Vec, if◌then◌else◌}
+use Rattle.std.specs.Prelude.{◌≡◌, ◌≢◌, ℕ, ◌<◌, ◌↔◌, List, length, map, true, false, ◌==◌, ◌&&◌, bytes_eq, Option, Some, None, Vec, if◌then◌else◌}
 use Rattle.std.specs.Map.{lookup}
 use Rattle.std.specs.Option.{option_map}
 use Rattle.indexmap.specs.IndexMap.{insert_entry}
-use Rattle.tl_combinators.specs.Trees.{Tree, Trees, named}
 use Rattle.tl_combinators.specs.Program.{DeclText}
-use Rattle.tl_types.specs.Writing.{At, is_constructor, result_head, is_type_name, is_vector_name, is_built_in, is_variable, IsConstructorOf, Writes}
-use Rattle.tl_types.specs.WrongArity.{count_of, HasArity}
+use Rattle.tl_types.specs.Writing.{At, is_constructor, own_type, is_type_name, is_vector_name, is_built_in, is_variable}
+use Rattle.tl_types.specs.WrongArity.{HasArity}
 use Rattle.tl_types.specs.declared.arities.Count.{Count}
 
 -- ---- counts by name
@@ -33,10 +32,6 @@ with_count_of counts (Some name) n = with_count counts name n
 -- the name of an own constructor
 abbrev pub own_name : DeclText → Option (List ℕ)
 own_name d = if is_constructor d then Some d.name else None
-
--- the type of an own constructor
-abbrev pub own_type : DeclText → Option (List ℕ)
-own_type d = if is_constructor d then result_head d else None
 
 -- declaration j is c, one of the first i, and has this name, by its own name or by its type
 pub record IsNamed (name_of : DeclText → Option (List ℕ)) (ds : List DeclText) (i : ℕ) (name : List ℕ) (j : ℕ) (c : DeclText) : Type 0 where
@@ -82,36 +77,3 @@ arity_in constructors types d name =
 -- the name has exactly this number of variables where d writes it, or none is known
 abbrev pub IsArity : List DeclText → DeclText → List ℕ → Option ℕ → Type 0
 IsArity ds d name arity = (n : ℕ) → HasArity ds d name n ↔ (arity ≡ Some n)
-
--- the name has another number of variables where d writes it
-pub record IsMisapplied (ds : List DeclText) (d : DeclText) (name : List ℕ) (count : ℕ) : Type 0 where
-  pub n : ℕ
-  pub arity : HasArity ds d name n
-  pub other : count ≢ n
-
--- d applies a name to another number of types than it has variables, in a type that is such
-pub record Misapplies (ds : List DeclText) (d : DeclText) (Such : Tree → Type 0) : Type 0 where
-  pub name : List ℕ
-  pub args : Trees
-  pub such : Such (named name args)
-  pub wrong : IsMisapplied ds d name (count_of args)
-
--- two own constructors of the type have different numbers of variables
-pub record IsUneven (ds : List DeclText) (type : List ℕ) : Type 0 where
-  pub i : ℕ
-  pub b : DeclText
-  pub j : ℕ
-  pub c : DeclText
-  pub one : IsConstructorOf ds type i b
-  pub other : IsConstructorOf ds type j c
-  pub apart : length b.vars ≢ length c.vars
-
--- d is an own constructor of such a type
-pub record ConstructsUneven (ds : List DeclText) (d : DeclText) : Type 0 where
-  pub type : List ℕ
-  pub own : own_type d ≡ Some type
-  pub uneven : IsUneven ds type
-
--- d has a wrong number of arguments or variables
-abbrev pub IsWrong : List DeclText → DeclText → Type 0
-IsWrong ds d = Misapplies ds d (Writes d) ⊎ ConstructsUneven ds d

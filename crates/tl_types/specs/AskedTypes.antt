@@ -5,11 +5,10 @@ use Rattle.tl_lexer.specs.Tokens.{Tokens, LexRefused}
 use Rattle.tl_combinators.specs.Trees.{Tree, any_call}
 use Rattle.tl_combinators.specs.Program.{DeclText}
 use Rattle.tl_combinators.specs.Sentences.{ReadsType, TypeRefused}
-use Rattle.tl_types.specs.Writing.{IsPart}
 use Rattle.tl_types.specs.Parts.{SomePart}
-use Rattle.tl_types.specs.UnknownNames.{BeginsUnknown}
-use Rattle.tl_types.specs.Arities.{Misapplies}
-use Rattle.tl_types.specs.BareForms.{HasNoBare}
+use Rattle.tl_types.specs.UnknownType.{BeginsUnknown}
+use Rattle.tl_types.specs.WrongArity.{Misapplies}
+use Rattle.tl_types.specs.NotBare.{HasNoBare}
 use Rattle.tl_types.specs.EmptyElement.{AppliesToEmpty}
 use Rattle.tl_types.specs.Types.{Shape}
 use Rattle.tl_types.specs.Seen.{shape}
@@ -27,7 +26,7 @@ asker = record { name = []; number = None; vars = []; fields = []; result = any_
 -- the type has the cause
 abbrev pub TypeHas : List DeclText → TypeCause → Tree → Type 0
 TypeHas ds UnknownType t = SomePart (BeginsUnknown ds asker) t
-TypeHas ds WrongArity t = Misapplies ds asker (λ u. IsPart u t)
+TypeHas ds WrongArity t = SomePart (Misapplies ds asker) t
 TypeHas ds NotBare t = SomePart (HasNoBare ds asker) t
 TypeHas ds EmptyElement t = SomePart (AppliesToEmpty ds asker) t
 
@@ -57,6 +56,14 @@ pub record IsTypeText (ds : List DeclText) (text : List ℕ) (s : Shape) : Type 
   pub asks : AsksFor text t
   pub passes : PassesTypeBy ds type_causes t
   pub means : s ≡ meaning ds asker t
+
+-- what the checks of a type answer
+abbrev pub PassesType : List DeclText → Tree → Result (Unit {0}) TypeFault → Type 0
+PassesType ds t (Ok u) = PassesTypeBy ds type_causes t
+PassesType ds t (Err (type.Lex fault)) = ⊥
+PassesType ds t (Err (type.Syntax fault)) = ⊥
+PassesType ds t (Err (type.Refused cause)) = RefusedTypeBy ds type_causes t cause
+PassesType ds t (Err type.Memory) = Unit {0}
 
 -- what a type is, where a text asks for it
 abbrev pub ChecksType : List DeclText → Tree → Result TypeRef TypeFault → Type 0

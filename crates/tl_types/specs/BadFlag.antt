@@ -1,7 +1,7 @@
 -- The seventh check: conditions.
-use Rattle.std.specs.Prelude.{◌≡◌, ◌⊎◌, ℕ, ◌<◌, List, Some}
+use Rattle.std.specs.Prelude.{◌≡◌, ◌⊎◌, ℕ, ◌<◌, List, Option, Some, None}
 use Rattle.tl_combinators.specs.Program.{nat, CondText, FieldText, DeclText}
-use Rattle.tl_types.specs.Writing.{At, FieldAt}
+use Rattle.tl_types.specs.Writing.{FieldAt, DeclarationHas}
 
 -- a field before the place i is `#`, and has this name
 pub record IsFlagsBefore (d : DeclText) (i : ℕ) (flags : List ℕ) : Type 0 where
@@ -12,13 +12,18 @@ pub record IsFlagsBefore (d : DeclText) (i : ℕ) (flags : List ℕ) : Type 0 wh
   pub number : f.kind ≡ nat
   pub name : f.name ≡ flags
 
--- declaration k has a condition on no earlier `#` field, or on a bit above 31
-pub record BadFlag (ds : List DeclText) (k : ℕ) : Type 0 where
-  pub d : DeclText
+-- what field i has is a condition, on no earlier `#` field or on a bit above 31
+abbrev pub IsBadCondition : DeclText → ℕ → Option CondText → Type 0
+IsBadCondition d i None = ⊥
+IsBadCondition d i (Some c) = (31 < c.bit) ⊎ (IsFlagsBefore d i c.flags → ⊥)
+
+-- a field of d has such a condition
+pub record HasBadCondition (d : DeclText) : Type 0 where
   pub i : ℕ
   pub f : FieldText
-  pub c : CondText
-  pub here : At ds k d
   pub field : FieldAt d i f
-  pub conditional : f.cond ≡ Some c
-  pub bad : (31 < c.bit) ⊎ (IsFlagsBefore d i c.flags → ⊥)
+  pub bad : IsBadCondition d i f.cond
+
+-- declaration k has one
+abbrev pub BadFlag : List DeclText → ℕ → Type 0
+BadFlag ds = DeclarationHas HasBadCondition ds

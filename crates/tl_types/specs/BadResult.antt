@@ -2,7 +2,7 @@
 use Rattle.std.specs.Prelude.{◌≡◌, ℕ, List, map, true, false}
 use Rattle.tl_combinators.specs.Trees.{named, plain, trees_of}
 use Rattle.tl_combinators.specs.Program.{DeclText}
-use Rattle.tl_types.specs.Writing.{At, is_type_name, is_variable, is_constructor}
+use Rattle.tl_types.specs.Writing.{is_type_name, is_variable, is_constructor, DeclarationHas}
 
 -- the result is the name of a type, applied to exactly the declaration's variables in order
 pub record IsGoodResult (d : DeclText) : Type 0 where
@@ -11,9 +11,11 @@ pub record IsGoodResult (d : DeclText) : Type 0 where
   pub no_variable : is_variable d type ≡ false
   pub applied : d.result ≡ named type (trees_of (map plain d.vars))
 
--- declaration k is an own constructor with another result
-pub record BadResult (ds : List DeclText) (k : ℕ) : Type 0 where
-  pub d : DeclText
-  pub here : At ds k d
+-- d is an own constructor with another result
+pub record HasBadResult (d : DeclText) : Type 0 where
   pub own : is_constructor d ≡ true
   pub bad : IsGoodResult d → ⊥
+
+-- declaration k is one
+abbrev pub BadResult : List DeclText → ℕ → Type 0
+BadResult ds = DeclarationHas HasBadResult ds

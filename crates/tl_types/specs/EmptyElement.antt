@@ -2,7 +2,8 @@
 use Rattle.std.specs.Prelude.{◌≡◌, ◌⊎◌, ℕ, List, length, slice_get, Some, true}
 use Rattle.tl_combinators.specs.Trees.{Tree, Trees, named, percent, any_call, no_trees, tree}
 use Rattle.tl_combinators.specs.Program.{KindText, nat, flag, call, of, FieldText, DeclText}
-use Rattle.tl_types.specs.Writing.{At, is_constructor, FieldAt, Writes}
+use Rattle.tl_types.specs.Writing.{At, is_constructor, FieldAt, DeclarationHas}
+use Rattle.tl_types.specs.Parts.{SomeWritten}
 use Rattle.tl_types.specs.Paths.{IsIn}
 use Rattle.tl_types.specs.BareReferences.{IsBareOf}
 
@@ -35,14 +36,5 @@ AppliesToEmpty ds d (percent t) = ⊥
 AppliesToEmpty ds d any_call = ⊥
 
 -- declaration k writes such a type
-pub record EmptyElement (ds : List DeclText) (k : ℕ) : Type 0 where
-  pub d : DeclText
-  pub name : List ℕ
-  pub args : Trees
-  pub t : Tree
-  pub j : ℕ
-  pub here : At ds k d
-  pub writes : Writes d (named name args)
-  pub arg : IsOneOf t args
-  pub bare : IsBareOf ds d t j
-  pub none : TakesNone ds j
+abbrev pub EmptyElement : List DeclText → ℕ → Type 0
+EmptyElement ds = DeclarationHas (SomeWritten (AppliesToEmpty ds)) ds

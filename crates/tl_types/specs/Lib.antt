@@ -29,7 +29,6 @@ pub mod BareSteps
 pub mod DeclCodes
 pub mod Indexed
 pub mod Parts
-pub mod UnknownNames
 pub mod BareForms
 pub mod Arities
 pub mod SameNameSteps

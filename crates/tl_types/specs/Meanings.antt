@@ -8,8 +8,7 @@ use Rattle.std.specs.Option.{option_map}
 use Rattle.std.specs.List.{position_or_len}
 use Rattle.tl_combinators.specs.Trees.{Tree, Trees, named, percent, any_call, no_trees, tree}
 use Rattle.tl_combinators.specs.Program.{KindText, nat, flag, call, of, CondText, FieldText, DeclText}
-use Rattle.tl_types.specs.Writing.{At, is_constructor, is_type_name, is_variable}
-use Rattle.tl_types.specs.Arities.{own_type}
+use Rattle.tl_types.specs.Writing.{At, is_constructor, is_type_name, is_variable, own_type}
 use Rattle.tl_types.specs.NameLists.{with_name}
 use Rattle.tl_types.specs.Numbers.{IsNumberOf}
 use Rattle.tl_types.specs.Types.{Shape, Shapes, no_shapes, shape}

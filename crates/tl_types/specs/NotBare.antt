@@ -1,8 +1,9 @@
 -- The sixth check: what stands behind `%`.
 use Rattle.std.specs.Prelude.{◌≡◌, ℕ, List, true, false, codes}
-use Rattle.tl_combinators.specs.Trees.{Tree, Trees, named, percent}
+use Rattle.tl_combinators.specs.Trees.{Tree, Trees, named, percent, any_call}
 use Rattle.tl_combinators.specs.Program.{DeclText}
-use Rattle.tl_types.specs.Writing.{At, is_type_name, is_variable, IsConstructorOf, Writes}
+use Rattle.tl_types.specs.Writing.{is_type_name, is_variable, IsConstructorOf, DeclarationHas}
+use Rattle.tl_types.specs.Parts.{SomeWritten}
 
 -- declaration j is c, and the type of this name has no other constructor
 pub record IsOnlyConstructor (ds : List DeclText) (type : List ℕ) (j : ℕ) (c : DeclText) : Type 0 where
@@ -14,10 +15,12 @@ pub data HasBare (ds : List DeclText) (d : DeclText) (t : Tree) : Type 0 where
   vector : (args : Trees) → is_variable d (codes "Vector") ≡ false → t ≡ named (codes "Vector") args → HasBare ds d t
   single : (type : List ℕ) (args : Trees) (j : ℕ) (c : DeclText) → is_variable d type ≡ false → is_type_name type ≡ true → t ≡ named type args → IsOnlyConstructor ds type j c → HasBare ds d t
 
--- declaration k writes `%` before a type that has none
-pub record NotBare (ds : List DeclText) (k : ℕ) : Type 0 where
-  pub d : DeclText
-  pub t : Tree
-  pub here : At ds k d
-  pub writes : Writes d (percent t)
-  pub none : HasBare ds d t → ⊥
+-- `%` before a type that has none
+abbrev pub HasNoBare : List DeclText → DeclText → Tree → Type 0
+HasNoBare ds d (named name args) = ⊥
+HasNoBare ds d (percent t) = HasBare ds d t → ⊥
+HasNoBare ds d any_call = ⊥
+
+-- declaration k writes such a type
+abbrev pub NotBare : List DeclText → ℕ → Type 0
+NotBare ds = DeclarationHas (SomeWritten (HasNoBare ds)) ds

@@ -17,6 +17,6 @@ SomeHeld P k = (u : Tree) × HeldBy u k × P u
 abbrev pub SomeInFields : (Tree → Type 0) → List FieldText → Type 0
 SomeInFields P fs = (i : ℕ) × (f : FieldText) × (slice_get fs i ≡ Some f) × SomeHeld P f.kind
 
--- the declaration writes a type that has it
-abbrev pub SomeWritten : (Tree → Type 0) → DeclText → Type 0
-SomeWritten P d = (u : Tree) × Writes d u × P u
+-- the declaration writes a type that has the property there
+abbrev pub SomeWritten : (DeclText → Tree → Type 0) → DeclText → Type 0
+SomeWritten P d = (u : Tree) × Writes d u × P d u

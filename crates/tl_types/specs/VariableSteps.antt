@@ -1,7 +1,6 @@
--- Steps of the third check: calls, and types that name a variable.
-use Rattle.std.specs.Prelude.{◌≡◌, ◌==◌, List, ℕ, Bool, true, not, bytes_eq}
+-- Steps of the third check: the tests of calls.
+use Rattle.std.specs.Prelude.{◌==◌, Bool, not, bytes_eq}
 use Rattle.std.specs.List.{count_by, list_any}
-use Rattle.tl_combinators.specs.Trees.{Tree, Trees, named}
 use Rattle.tl_combinators.specs.Program.{DeclText}
 use Rattle.tl_types.specs.Writing.{is_variable}
 use Rattle.tl_types.specs.UnknownVariable.{calls}
@@ -13,10 +12,3 @@ calls_another d = list_any (λ name. not (is_variable d name)) (calls d)
 -- a variable doesn't stand in exactly one field `!X`
 abbrev pub leaves_uncalled : DeclText → Bool
 leaves_uncalled d = list_any (λ var. not (count_by (bytes_eq var) (calls d) == 1)) d.vars
-
--- a type within is a variable of the declaration, applied to some types or none
-pub record NamesVariable (d : DeclText) (Within : Tree → Type 0) : Type 0 where
-  pub name : List ℕ
-  pub args : Trees
-  pub there : Within (named name args)
-  pub variable : is_variable d name ≡ true

@@ -60,6 +60,10 @@ pub record IsConstructorNamed (ds : List DeclText) (name : List ℕ) (j : ℕ) (
   pub own : is_constructor c ≡ true
   pub named : c.name ≡ name
 
+-- the type of an own constructor
+abbrev pub own_type : DeclText → Option (List ℕ)
+own_type d = if is_constructor d then result_head d else None
+
 -- ---- types and their parts
 
 abbrev mutual
@@ -94,6 +98,12 @@ pub record Writes (d : DeclText) (u : Tree) : Type 0 where
   pub there : InFields d u ⊎ IsPart u d.result
 
 -- ---- the first of the declarations
+
+-- declaration k has the property
+pub record DeclarationHas (P : DeclText → Type 0) (ds : List DeclText) (k : ℕ) : Type 0 where
+  pub d : DeclText
+  pub here : At ds k d
+  pub has : P d
 
 -- k is the first such place, or there is none
 abbrev pub First : (ℕ → Type 0) → Option ℕ → Type 0

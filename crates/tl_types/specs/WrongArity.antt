@@ -1,8 +1,9 @@
 -- The fourth check: numbers of arguments.
-use Rattle.std.specs.Prelude.{◌≡◌, ◌≢◌, ℕ, suc, ◌<◌, List, length, true, false}
-use Rattle.tl_combinators.specs.Trees.{Trees, named, no_trees, tree}
+use Rattle.std.specs.Prelude.{◌≡◌, ◌≢◌, ◌⊎◌, ℕ, suc, ◌<◌, List, length, true, false, Some}
+use Rattle.tl_combinators.specs.Trees.{Tree, Trees, named, percent, any_call, no_trees, tree}
 use Rattle.tl_combinators.specs.Program.{DeclText}
-use Rattle.tl_types.specs.Writing.{At, is_type_name, is_vector_name, is_built_in, is_variable, IsConstructorOf, IsConstructorNamed, Writes}
+use Rattle.tl_types.specs.Writing.{is_type_name, is_vector_name, is_built_in, is_variable, own_type, IsConstructorOf, IsConstructorNamed, DeclarationHas}
+use Rattle.tl_types.specs.Parts.{SomeWritten}
 
 abbrev pub count_of : Trees → ℕ
 count_of no_trees = 0
@@ -18,9 +19,38 @@ pub data HasArity (ds : List DeclText) (d : DeclText) (name : List ℕ) : ℕ �
   constructor : (j : ℕ) (c : DeclText) → is_variable d name ≡ false → is_built_in name ≡ false → is_type_name name ≡ false → IsConstructorNamed ds name j c
       → ((i : ℕ) (b : DeclText) → i < j → IsConstructorNamed ds name i b → ⊥) → HasArity ds d name (length c.vars)
 
--- declaration k has a wrong number of arguments or variables
-pub data WrongArity (ds : List DeclText) (k : ℕ) : Type 0 where
-  -- it applies a name to another number of types than the name has variables
-  applied : (d : DeclText) (name : List ℕ) (args : Trees) (n : ℕ) → At ds k d → Writes d (named name args) → HasArity ds d name n → count_of args ≢ n → WrongArity ds k
-  -- it constructs a type of which two constructors have different numbers of variables
-  constructed : (type : List ℕ) (d b c : DeclText) (i j : ℕ) → IsConstructorOf ds type k d → IsConstructorOf ds type i b → IsConstructorOf ds type j c → length b.vars ≢ length c.vars → WrongArity ds k
+-- the name has another number of variables where d writes it
+pub record IsMisapplied (ds : List DeclText) (d : DeclText) (name : List ℕ) (count : ℕ) : Type 0 where
+  pub n : ℕ
+  pub arity : HasArity ds d name n
+  pub other : count ≢ n
+
+-- the type is a name, applied to another number of types than it has variables
+abbrev pub Misapplies : List DeclText → DeclText → Tree → Type 0
+Misapplies ds d (named name args) = IsMisapplied ds d name (count_of args)
+Misapplies ds d (percent t) = ⊥
+Misapplies ds d any_call = ⊥
+
+-- two own constructors of the type have different numbers of variables
+pub record IsUneven (ds : List DeclText) (type : List ℕ) : Type 0 where
+  pub i : ℕ
+  pub b : DeclText
+  pub j : ℕ
+  pub c : DeclText
+  pub one : IsConstructorOf ds type i b
+  pub other : IsConstructorOf ds type j c
+  pub apart : length b.vars ≢ length c.vars
+
+-- d is an own constructor of such a type
+pub record ConstructsUneven (ds : List DeclText) (d : DeclText) : Type 0 where
+  pub type : List ℕ
+  pub own : own_type d ≡ Some type
+  pub uneven : IsUneven ds type
+
+-- d has a wrong number of arguments or variables
+abbrev pub IsWrong : List DeclText → DeclText → Type 0
+IsWrong ds d = SomeWritten (Misapplies ds) d ⊎ ConstructsUneven ds d
+
+-- declaration k has one
+abbrev pub WrongArity : List DeclText → ℕ → Type 0
+WrongArity ds = DeclarationHas (IsWrong ds) ds

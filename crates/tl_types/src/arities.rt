@@ -3,7 +3,9 @@ ghost use Rattle.std.specs.Prelude.{◌≡◌, ◌↔◌, [], bytes_eq, length, 
 ghost use Rattle.std.specs.Map.{lookup};
 ghost use Rattle.std.specs.Option.{option_map};
 ghost use Rattle.tl_combinators.specs.Program.{decl_text, program_text};
-ghost use Rattle.tl_types.specs.Arities.{counted, with_count, with_count_of, own_name, own_type, CountsAll, first_number, arity_in, IsArity, IsUneven};
+ghost use Rattle.tl_types.specs.Arities.{counted, with_count, with_count_of, own_name, CountsAll, first_number, arity_in, IsArity};
+ghost use Rattle.tl_types.specs.WrongArity.{IsUneven};
+ghost use Rattle.tl_types.specs.Writing.{own_type};
 
 use crate::meanings::{
     is_built_in, is_constructor, is_type_name, is_variable, is_vector_name, result_head,
@@ -88,17 +90,16 @@ pub struct Arities<'a> {
 }
 
 impl<'a> Model for Arities<'a> {
-    ghost use Rattle.tl_combinators.specs.declared.program.Program.{Program};
-    ghost use Rattle.tl_combinators.specs.Program.{program_text};
-    ghost use Rattle.tl_combinators.specs.contracts.tree.TypeTree as tree;
-    ghost use Rattle.std.specs.Coded.{codes};
+    ghost use Rattle.std.specs.Prelude.{List};
+    ghost use Rattle.tl_combinators.specs.Program.{DeclText, program_text};
+    ghost use Rattle.tl_types.specs.DeclCodes.{decls_code};
     ghost use Rattle.tl_types.specs.Arities.{CountsAll};
 
-    ghost Value = { Program };
+    ghost Value = { List DeclText };
 
-    ghost coded = { Prim.hlevel (codes, tree.the_row.coded) };
+    ghost coded = { decls_code };
 
-    ghost view = { λ a. a.program.now };
+    ghost view = { λ a. program_text a.program.now };
 
     ghost invariant = { λ a. CountsAll (program_text a.program.now) a.constructors a.types };
 }
@@ -170,7 +171,7 @@ fn arity_in(constructors: &Counts, types: &Counts, decl: &Decl, name: &[u8]) -> 
 impl<'a> Arities<'a> {
     /// Counts the variables of the program's constructors.
     pub fn of(alloc: Global, program: &'a Program) -> Result<Arities<'a>, AllocError>
-        ensures { IfOk result (λ arities. arities ≡ program.now) }
+        ensures { IfOk result (λ arities. arities ≡ program_text program.now) }
     {
         let mut constructors = Counts::new(alloc);
         let mut types = Counts::new(alloc);
@@ -188,14 +189,14 @@ impl<'a> Arities<'a> {
 
     /// The number of variables of a name where the declaration writes it.
     pub fn arity(&self, decl: &Decl, name: &[u8]) -> Option<usize>
-        ensures { IsArity (program_text self.now) (decl_text decl.now) name.now result }
+        ensures { IsArity self.now (decl_text decl.now) name.now result }
     {
         arity_in(&self.constructors, &self.types, decl, name)
     }
 
     /// Whether two constructors of the type have different numbers of variables.
     pub fn is_uneven(&self, type_name: &[u8]) -> bool
-        ensures { IsTrue result ↔ IsUneven (program_text self.now) type_name.now }
+        ensures { IsTrue result ↔ IsUneven self.now type_name.now }
     {
         match self.types.get(type_name) {
             Some(count) => !count.same,

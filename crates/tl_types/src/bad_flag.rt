@@ -1,10 +1,11 @@
 //! The seventh check: conditions.
 ghost use Rattle.std.specs.Prelude.{◌≡◌, ◌<◌, ◌≤◌, ◌^◌, ◌↔◌, IsTrue, length};
 ghost use Rattle.tl_combinators.specs.Program.{cond_texts, decl_text, field_text, program_text};
-ghost use Rattle.tl_types.specs.BadFlag.{BadFlag, IsFlagsBefore};
-ghost use Rattle.tl_types.specs.ConditionSteps.{HasBadCondition, IsBadCondition, IsFlags};
+ghost use Rattle.tl_types.specs.BadFlag.{BadFlag, HasBadCondition, IsBadCondition, IsFlagsBefore};
+ghost use Rattle.tl_types.specs.ConditionSteps.{IsFlags};
 ghost use Rattle.tl_types.specs.Writing.{First};
 
+use crate::declarations::{DeclTest, first_that};
 use tl_combinators::{Cond, Decl, Field, FieldKind, Program};
 
 /// The highest bit of a `#` field.
@@ -15,12 +16,21 @@ pub fn first_bad_flag(program: &Program) -> Option<u32>
     requires { length (program_text program.now) < 2 ^ 32 }
     ensures { First (BadFlag (program_text program.now)) result }
 {
-    for (k, decl) in program.decls.iter().enumerate() {
-        if has_bad_condition(decl) {
-            return Some(k as u32);
-        }
+    first_that(program, &BadCondition)
+}
+
+// Whether a declaration has such a condition.
+#[derive(Clone, Copy)]
+struct BadCondition;
+
+impl DeclTest for BadCondition {
+    ghost use Rattle.tl_types.specs.BadFlag.{HasBadCondition};
+
+    ghost holds = { λ s. HasBadCondition };
+
+    fn passes(&self, decl: &Decl) -> bool {
+        has_bad_condition(decl)
     }
-    None
 }
 
 fn has_bad_condition(decl: &Decl) -> bool

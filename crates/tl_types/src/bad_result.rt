@@ -5,6 +5,7 @@ ghost use Rattle.tl_combinators.specs.Trees.{plain, view, views};
 ghost use Rattle.tl_types.specs.BadResult.{BadResult, IsGoodResult};
 ghost use Rattle.tl_types.specs.Writing.{First};
 
+use crate::declarations::{DeclTest, first_that};
 use crate::meanings::{is_constructor, is_type_name, is_variable};
 use tl_base::Bytes;
 use tl_combinators::{Decl, Program, TypeTree};
@@ -14,12 +15,24 @@ pub fn first_bad_result(program: &Program) -> Option<u32>
     requires { length (program_text program.now) < 2 ^ 32 }
     ensures { First (BadResult (program_text program.now)) result }
 {
-    for (k, decl) in program.decls.iter().enumerate() {
-        if is_constructor(decl) && !is_good_result(decl) {
-            return Some(k as u32);
+    first_that(program, &OtherResult)
+}
+
+// Whether a declaration is an own constructor with another result.
+#[derive(Clone, Copy)]
+struct OtherResult;
+
+impl DeclTest for OtherResult {
+    ghost use Rattle.tl_types.specs.BadResult.{HasBadResult};
+
+    ghost holds = { λ s. HasBadResult };
+
+    fn passes(&self, decl: &Decl) -> bool {
+        if !is_constructor(decl) {
+            return false;
         }
+        !is_good_result(decl)
     }
-    None
 }
 
 fn is_good_result(decl: &Decl) -> bool

@@ -13,27 +13,32 @@ pub struct Components {
     pub order: Vec<u32>,
 }
 
-// The search: when each node was first seen, counted from 1, and the earliest node of its component that it is known to reach;
-// how many of its edges were gone along; the nodes without a component yet, and those on the path to where the search stands.
+// What is known of a node: when it was first seen, counted from 1, the earliest node of its component that it is known to reach,
+// how many of its edges were gone along, and its component.
+#[derive(Clone, Copy)]
+struct Node {
+    seen: u32,
+    low: u32,
+    gone: u32,
+    rank: u32,
+}
+
+const UNSEEN: Node = Node {
+    seen: 0,
+    low: 0,
+    gone: 0,
+    rank: UNKNOWN,
+};
+
+// The search: the nodes, those without a component yet, those on the path to where the search stands, how many were seen,
+// and those of the components so far.
 #[derive(Drop)]
 struct Search {
-    seen: Vec<u32>,
-    low: Vec<u32>,
-    gone: Vec<u32>,
+    nodes: Vec<Node>,
     open: Vec<u32>,
     path: Vec<u32>,
     count: u32,
-    found: Components,
-}
-
-fn get(numbers: &[u32], i: u32) -> u32 {
-    numbers.get(i as usize).copied().unwrap_or(0)
-}
-
-fn set(numbers: &mut Vec<u32>, i: u32, to: u32) {
-    if let Some(number) = numbers.get_mut(i as usize) {
-        *number = to;
-    }
+    order: Vec<u32>,
 }
 
 // A count of nodes. No caller has more than fit; of such the rest would be left out.
@@ -41,103 +46,115 @@ fn number_of(count: usize) -> u32 {
     u32::try_from(count).unwrap_or(u32::MAX)
 }
 
-fn filled(alloc: Global, count: usize, with: u32) -> Result<Vec<u32>, AllocError> {
-    let mut numbers = Vec::new(alloc);
+fn unseen(alloc: Global, count: usize) -> Result<Vec<Node>, AllocError> {
+    let mut nodes = Vec::new(alloc);
     for _ in 0..count {
-        numbers.push(with)?;
+        nodes.push(UNSEEN)?;
     }
-    Ok(numbers)
+    Ok(nodes)
 }
 
 impl Search {
     fn new(alloc: Global, count: usize) -> Result<Search, AllocError> {
+        let nodes = unseen(alloc, count)?;
         Ok(Search {
-            seen: filled(alloc, count, 0)?,
-            low: filled(alloc, count, 0)?,
-            gone: filled(alloc, count, 0)?,
+            nodes,
             open: Vec::new(alloc),
             path: Vec::new(alloc),
             count: 0,
-            found: Components {
-                ranks: filled(alloc, count, UNKNOWN)?,
-                order: Vec::new(alloc),
-            },
+            order: Vec::new(alloc),
         })
     }
 
+    fn node(&self, i: u32) -> Node {
+        match self.nodes.get(i as usize) {
+            Some(node) => *node,
+            None => UNSEEN,
+        }
+    }
+
     // Goes to a node that wasn't seen before.
-    fn enter(&mut self, node: u32) -> Result<(), AllocError> {
+    fn enter(&mut self, i: u32) -> Result<(), AllocError> {
         self.count = self.count.saturating_add(1);
-        set(&mut self.seen, node, self.count);
-        set(&mut self.low, node, self.count);
-        self.open.push(node)?;
-        self.path.push(node)?;
+        if let Some(node) = self.nodes.get_mut(i as usize) {
+            node.seen = self.count;
+            node.low = self.count;
+        }
+        self.open.push(i)?;
+        self.path.push(i)?;
         Ok(())
+    }
+
+    // A node is known to reach one that was seen so early.
+    fn lower(&mut self, i: u32, seen: u32) {
+        if let Some(node) = self.nodes.get_mut(i as usize) {
+            node.low = node.low.min(seen);
+        }
     }
 
     // Goes along an edge, from a node of the path to another.
     fn follow(&mut self, from: u32, to: u32) -> Result<(), AllocError> {
-        if get(&self.seen, to) == 0 {
+        let node = self.node(to);
+        if node.seen == 0 {
             return self.enter(to);
         }
-        if get(&self.found.ranks, to) == UNKNOWN {
-            let low = get(&self.low, from).min(get(&self.seen, to));
-            set(&mut self.low, from, low);
+        if node.rank == UNKNOWN {
+            self.lower(from, node.seen);
         }
         Ok(())
     }
 
     // Goes back from a node, all of whose edges were gone along.
-    fn leave(&mut self, node: u32) -> Result<(), AllocError> {
+    fn leave(&mut self, i: u32) -> Result<(), AllocError> {
         self.path.pop();
-        let low = get(&self.low, node);
+        let node = self.node(i);
         if let Some(before) = self.path.last().copied() {
-            let lowest = get(&self.low, before).min(low);
-            set(&mut self.low, before, lowest);
+            self.lower(before, node.low);
         }
-        if low == get(&self.seen, node) {
-            self.close(node)?;
+        if node.low == node.seen {
+            self.close(i)?;
         }
         Ok(())
     }
 
     // Takes the component whose earliest node this is.
     fn close(&mut self, first: u32) -> Result<(), AllocError> {
-        let rank = number_of(self.found.order.len());
-        while let Some(node) = self.open.pop() {
-            set(&mut self.found.ranks, node, rank);
-            self.found.order.push(node)?;
-            if node == first {
+        let rank = number_of(self.order.len());
+        while let Some(i) = self.open.pop() {
+            if let Some(node) = self.nodes.get_mut(i as usize) {
+                node.rank = rank;
+            }
+            self.order.push(i)?;
+            if i == first {
                 return Ok(());
             }
         }
         Ok(())
     }
 
+    // The edge of a node that the search goes along next, if one is left.
+    fn next(&mut self, edges: &[Vec<u32>], i: u32) -> Option<u32> {
+        let node = self.nodes.get_mut(i as usize)?;
+        let at = node.gone;
+        node.gone = at.saturating_add(1);
+        edges.get(i as usize)?.get(at as usize).copied()
+    }
+
     // One step from the end of the path.
-    fn step(&mut self, edges: &[Vec<u32>], node: u32) -> Result<(), AllocError> {
-        let at = get(&self.gone, node);
-        match next_of(edges, node, at) {
-            Some(to) => {
-                set(&mut self.gone, node, at.saturating_add(1));
-                self.follow(node, to)
-            }
-            None => self.leave(node),
+    fn step(&mut self, edges: &[Vec<u32>], i: u32) -> Result<(), AllocError> {
+        match self.next(edges, i) {
+            Some(to) => self.follow(i, to),
+            None => self.leave(i),
         }
     }
 
-    // Searches from a node, in so many steps at most.
-    fn search_from(
-        &mut self,
-        edges: &[Vec<u32>],
-        node: u32,
-        steps: usize,
-    ) -> Result<(), AllocError> {
-        if get(&self.seen, node) != 0 {
+    // Searches from a node.
+    fn search_from(&mut self, edges: &[Vec<u32>], i: u32) -> Result<(), AllocError> {
+        if self.node(i).seen != 0 {
             return Ok(());
         }
-        self.enter(node)?;
-        for _ in 0..steps {
+        self.enter(i)?;
+        for _ in 0..usize::MAX {
             match self.path.last().copied() {
                 Some(last) => self.step(edges, last)?,
                 None => return Ok(()),
@@ -147,19 +164,23 @@ impl Search {
     }
 }
 
-// Where the edge with this number leads from a node.
-fn next_of(edges: &[Vec<u32>], node: u32, at: u32) -> Option<u32> {
-    match edges.get(node as usize) {
-        Some(nodes) => nodes.get(at as usize).copied(),
-        None => None,
+fn ranks_of(alloc: Global, nodes: &[Node]) -> Result<Vec<u32>, AllocError> {
+    let mut ranks = Vec::new(alloc);
+    for node in nodes {
+        ranks.push(node.rank)?;
     }
+    Ok(ranks)
 }
 
 /// The components of a graph.
 pub fn components_of(alloc: Global, edges: &[Vec<u32>]) -> Result<Components, AllocError> {
     let mut search = Search::new(alloc, edges.len())?;
-    for node in 0..number_of(edges.len()) {
-        search.search_from(edges, node, usize::MAX)?;
+    for i in 0..number_of(edges.len()) {
+        search.search_from(edges, i)?;
     }
-    Ok(search.found)
+    let ranks = ranks_of(alloc, &search.nodes)?;
+    Ok(Components {
+        ranks,
+        order: search.order,
+    })
 }

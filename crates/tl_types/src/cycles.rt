@@ -5,6 +5,7 @@ ghost use Rattle.tl_types.specs.Paths.{Edge, IsIn, IsOnCycle};
 ghost use Rattle.tl_types.specs.BareSteps.{Falls, IsGraph, Reached, Rises, Stays, rank};
 ghost use Rattle.tl_types.specs.Writing.{First};
 
+use crate::empties::no_marks;
 use std::alloc::{AllocError, Global};
 
 /// The first node on a cycle. The ranks may be any: where they are those of the graph's components, this takes time in proportion to the graph.
@@ -73,10 +74,7 @@ fn returns(alloc: Global, edges: &[Vec<u32>], k: u32) -> Result<bool, AllocError
     requires node { k < length edges.now }
     ensures { IfOk result (λ b. IsTrue b ↔ IsOnCycle (Edge (lists edges.now)) k) }
 {
-    let mut reached = Vec::new(alloc);
-    for _ in 0..edges.len() {
-        reached.push(false)?;
-    }
+    let mut reached = no_marks(alloc, edges.len())?;
     let mut pending = Vec::new(alloc);
     reach(&mut reached, &mut pending, &edges[k as usize])?;
     while let Some(i) = pending.pop() {

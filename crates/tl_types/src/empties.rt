@@ -17,17 +17,42 @@ pub fn empties(alloc: Global, index: &Index, program: &Program) -> Result<Vec<bo
     requires few { length (program_text program.now) < 2 ^ 32 }
     ensures { IfOk result (λ marks. MarksEmpty (program_text program.now) marks.items) }
 {
+    let order = components_in(alloc, index, program)?;
     let needs = needs_of(alloc, index, program)?;
+    let mut marks = no_marks(alloc, needs.len())?;
+    mark_all(&mut marks, &needs, &order);
+    Ok(marks)
+}
+
+// The declarations in the order of the components of their references: there one pass marks them all where there is no cycle.
+fn components_in(alloc: Global, index: &Index, program: &Program) -> Result<Vec<u32>, AllocError>
+    requires { index.now ≡ program_text program.now }
+{
     let edges = references(alloc, index, program)?;
-    let order = components_of(alloc, &edges)?.order;
+    Ok(components_of(alloc, &edges)?.order)
+}
+
+/// So many nodes, none of which is marked.
+pub fn no_marks(alloc: Global, count: usize) -> Result<Vec<bool>, AllocError>
+    ensures count { IfOk result (λ marks. length marks.items ≡ count) }
+    ensures none { IfOk result (λ marks. (k : ℕ) → IsMarked marks.items k → ⊥) }
+{
     let mut marks = Vec::new(alloc);
-    for _ in 0..needs.len() {
+    for _ in 0..count {
         marks.push(false)?;
     }
-    // In the order of the components one pass marks them all where there is no cycle.
-    mark_these(&mut marks, &needs, &order);
-    while mark_more(&mut marks, &needs) {}
     Ok(marks)
+}
+
+// Marks all nodes whose needs can be met, in this order first.
+fn mark_all(marks: &mut Vec<bool>, needs: &[Option<Vec<u32>>], order: &[u32])
+    requires same { length marks.old.items ≡ length needs.now }
+    requires few { length needs.now < 2 ^ 32 }
+    ensures more { MarksMore (needs_in needs.now) marks.old.items marks.new.items }
+    ensures all { (k : ℕ) → IsMet (needs_in needs.now) marks.new.items k → IsMarked marks.new.items k }
+{
+    mark_these(marks, needs, order);
+    while mark_more(marks, needs) {}
 }
 
 // For each declaration its fields as bare constructors, where each is one.

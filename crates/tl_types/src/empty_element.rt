@@ -4,12 +4,13 @@ ghost use Rattle.tl_combinators.specs.Trees.{Trees, named, trees_of, view, views
 ghost use Rattle.tl_combinators.specs.Program.{decl_text, program_text};
 ghost use Rattle.tl_types.specs.EmptyElement.{AppliesToEmpty, EmptyElement};
 ghost use Rattle.tl_types.specs.Parts.{SomePart};
-ghost use Rattle.tl_types.specs.BareSteps.{HasMarkedArg, IsMarkedBare, MarksEmpty};
+ghost use Rattle.tl_types.specs.BareSteps.{HasMarkedArg, IsMarkedBare};
 ghost use Rattle.tl_types.specs.Writing.{First};
 
+use crate::declarations::first_that_writes;
 use crate::empties::{empties, is_marked};
 use crate::index::Index;
-use crate::parts::{TypeTest, has_part, writes};
+use crate::parts::{TypeTest, has_part};
 use crate::references::bare_of;
 use std::alloc::{AllocError, Global};
 use tl_combinators::{Decl, Program, TypeTree};
@@ -21,29 +22,31 @@ pub fn first_empty_element(alloc: Global, program: &Program) -> Result<Option<u3
 {
     let index = Index::of(alloc, program)?;
     let marks = empties(alloc, &index, program)?;
-    Ok(first_in(&index, &marks, program))
+    let test = EmptyArgument {
+        index: &index,
+        marks: marks.as_slice(),
+    };
+    Ok(first_that_writes(program, &test))
 }
 
 /// Whether a type or a part of it applies a name to a bare constructor that takes no bytes, where a declaration writes it.
-pub fn has_empty_argument(index: &Index, marks: &[bool], decl: &Decl, tree: &TypeTree) -> bool
-    requires { MarksEmpty index.now marks.now }
-    ensures { IsTrue result ↔ SomePart (AppliesToEmpty index.now (decl_text decl.now)) (view tree.now) }
-{
-    has_part(tree, &EmptyArgument { index, marks, decl })
-}
-
-fn first_in(index: &Index, marks: &[bool], program: &Program) -> Option<u32>
+pub fn has_empty_argument(
+    alloc: Global,
+    index: &Index,
+    program: &Program,
+    decl: &Decl,
+    tree: &TypeTree,
+) -> Result<bool, AllocError>
     requires same { index.now ≡ program_text program.now }
-    requires marked { MarksEmpty (program_text program.now) marks.now }
     requires few { length (program_text program.now) < 2 ^ 32 }
-    ensures { First (EmptyElement (program_text program.now)) result }
+    ensures { IfOk result (λ b. IsTrue b ↔ SomePart (AppliesToEmpty (program_text program.now) (decl_text decl.now)) (view tree.now)) }
 {
-    for (at, decl) in program.decls.iter().enumerate() {
-        if writes(decl, &EmptyArgument { index, marks, decl }) {
-            return Some(at as u32);
-        }
-    }
-    None
+    let marks = empties(alloc, index, program)?;
+    let test = EmptyArgument {
+        index,
+        marks: marks.as_slice(),
+    };
+    Ok(has_part(tree, decl, &test))
 }
 
 // Whether a type applies a name to a bare constructor that is marked.
@@ -51,18 +54,16 @@ fn first_in(index: &Index, marks: &[bool], program: &Program) -> Option<u32>
 struct EmptyArgument<'t, 'a> {
     index: &'t Index<'a>,
     marks: &'t [bool],
-    decl: &'t Decl,
 }
 
 impl<'t, 'a> TypeTest for EmptyArgument<'t, 'a> {
-    ghost use Rattle.tl_combinators.specs.Program.{decl_text};
     ghost use Rattle.tl_types.specs.BareSteps.{AppliesToMarked};
 
-    ghost holds = { λ s u. AppliesToMarked s.index.now s.marks.now (decl_text s.decl.now) u };
+    ghost holds = { λ s. AppliesToMarked s.index.now s.marks.now };
 
-    fn passes(&self, tree: &TypeTree) -> bool {
+    fn passes(&self, decl: &Decl, tree: &TypeTree) -> bool {
         match tree {
-            TypeTree::Named { args, .. } => has_marked(self.index, self.marks, self.decl, args),
+            TypeTree::Named { args, .. } => has_marked(self.index, self.marks, decl, args),
             TypeTree::Percent { .. } => false,
             TypeTree::AnyCall => false,
         }

@@ -11,7 +11,7 @@ use std::marker::Model;
 use tl_combinators::{Decl, Program};
 
 /// The constructors of a type: the place of the first, and whether it is the only one.
-#[derive(Clone, Copy, Debug)]
+#[derive(Clone, Copy)]
 pub struct Constructors {
     first: u32,
     only: bool,

@@ -13,6 +13,7 @@ mod cycles;
 mod cycles_tests;
 #[cfg(test)]
 mod declaration_tests;
+mod declarations;
 mod empties;
 mod empty_element;
 #[cfg(test)]

@@ -1,15 +1,16 @@
 //! The sixth check: what stands behind `%`.
-ghost use Rattle.std.specs.Prelude.{◌≡◌, ◌<◌, ◌^◌, ◌↔◌, IsTrue, IfOk, length};
+ghost use Rattle.std.specs.Prelude.{◌<◌, ◌^◌, ◌↔◌, IsTrue, IfOk, length};
 ghost use Rattle.tl_combinators.specs.Trees.{view};
 ghost use Rattle.tl_combinators.specs.Program.{decl_text, program_text};
 ghost use Rattle.tl_types.specs.Writing.{First};
-ghost use Rattle.tl_types.specs.NotBare.{HasBare, NotBare};
-ghost use Rattle.tl_types.specs.BareForms.{HasNoBare, IsBareName};
+ghost use Rattle.tl_types.specs.NotBare.{HasBare, HasNoBare, NotBare};
+ghost use Rattle.tl_types.specs.BareForms.{IsBareName};
 ghost use Rattle.tl_types.specs.Parts.{SomePart};
 
+use crate::declarations::first_that_writes;
 use crate::index::Index;
 use crate::meanings::{is_type_name, is_variable};
-use crate::parts::{TypeTest, has_part, writes};
+use crate::parts::{TypeTest, has_part};
 use std::alloc::{AllocError, Global};
 use tl_combinators::{Decl, Program, TypeTree};
 
@@ -20,46 +21,31 @@ pub fn first_not_bare(alloc: Global, program: &Program) -> Result<Option<u32>, A
     ensures { IfOk result (First (NotBare (program_text program.now))) }
 {
     let index = Index::of(alloc, program)?;
-    Ok(first_in(&index, program))
+    Ok(first_that_writes(program, &NoBare { index: &index }))
 }
 
 /// Whether a type or a part of it is `%` before one that has no bare form where a declaration writes it.
 pub fn writes_no_bare(index: &Index, decl: &Decl, tree: &TypeTree) -> bool
     ensures { IsTrue result ↔ SomePart (HasNoBare index.now (decl_text decl.now)) (view tree.now) }
 {
-    has_part(tree, &NoBare { index, decl })
+    has_part(tree, decl, &NoBare { index })
 }
 
-fn first_in(index: &Index, program: &Program) -> Option<u32>
-    requires same { index.now ≡ program_text program.now }
-    requires few { length (program_text program.now) < 2 ^ 32 }
-    ensures { First (NotBare (program_text program.now)) result }
-{
-    for (at, decl) in program.decls.iter().enumerate() {
-        if writes(decl, &NoBare { index, decl }) {
-            return Some(at as u32);
-        }
-    }
-    None
-}
-
-// Whether a type is `%` before one that has no bare form in a declaration.
+// Whether a type is `%` before one that has no bare form where a declaration writes it.
 #[derive(Clone, Copy)]
 struct NoBare<'t, 'a> {
     index: &'t Index<'a>,
-    decl: &'t Decl,
 }
 
 impl<'t, 'a> TypeTest for NoBare<'t, 'a> {
-    ghost use Rattle.tl_combinators.specs.Program.{decl_text};
-    ghost use Rattle.tl_types.specs.BareForms.{HasNoBare};
+    ghost use Rattle.tl_types.specs.NotBare.{HasNoBare};
 
-    ghost holds = { λ s u. HasNoBare s.index.now (decl_text s.decl.now) u };
+    ghost holds = { λ s. HasNoBare s.index.now };
 
-    fn passes(&self, tree: &TypeTree) -> bool {
+    fn passes(&self, decl: &Decl, tree: &TypeTree) -> bool {
         match tree {
             TypeTree::Named { .. } => false,
-            TypeTree::Percent { tree } => !has_bare(self.index, self.decl, tree),
+            TypeTree::Percent { tree } => !has_bare(self.index, decl, tree),
             TypeTree::AnyCall => false,
         }
     }

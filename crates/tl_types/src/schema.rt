@@ -44,7 +44,7 @@ pub enum TypeRef {
 }
 
 /// A field of a declaration.
-#[derive(Debug, Drop)]
+#[derive(Drop)]
 pub struct SchemaField {
     pub name: Bytes,
     /// The place of the `#` field and its bit, from 0, where the field has a condition.
@@ -55,7 +55,7 @@ pub struct SchemaField {
 }
 
 /// A declaration: its name, its number, how many variables it has, its fields, and what it constructs or results in.
-#[derive(Debug, Drop)]
+#[derive(Drop)]
 pub struct Entry {
     pub name: Bytes,
     /// The line of a built-in type has the number 0, but that of `vector` 1cb5c415.

@@ -1,7 +1,7 @@
 //! Where the names of a program are declared.
 ghost use Rattle.std.specs.Prelude.{◌≡◌, ◌<◌, ◌^◌, List, length, IfOk, OnOk};
 ghost use Rattle.tl_combinators.specs.Program.{DeclText, decl_text, program_text};
-ghost use Rattle.tl_types.specs.Arities.{own_type};
+ghost use Rattle.tl_types.specs.Writing.{own_type};
 ghost use Rattle.tl_types.specs.Meanings.{first_of, head_of, place_of, types_of, with_type_of};
 
 use crate::arities::own_type;

@@ -1,9 +1,10 @@
-//! Programs from texts, for the tests.
+//! Programs from texts, and texts of types, for the tests.
 ghost use Rattle.std.specs.Prelude.{◌<◌, ◌^◌, IfOk, IsTrue, length};
 ghost use Rattle.tl_combinators.specs.Program.{program_text};
 ghost use Rattle.tl_types.specs.Meanings.{IsSmall};
 
-use std::alloc::Global;
+use crate::TypeRef;
+use std::alloc::{AllocError, Global};
 use std::test::Fail;
 use tl_combinators::{Program, SyntaxFault, parse};
 use tl_lexer::lex;
@@ -35,4 +36,9 @@ pub fn program(alloc: Global, text: &str) -> Result<Program, Fail>
         return Err(SyntaxFault::Memory.into());
     }
     Ok(program)
+}
+
+/// A type as text.
+pub fn shown(alloc: Global, of: &TypeRef) -> Result<String, AllocError> {
+    format!(in alloc; "{of:?}")
 }

@@ -1,13 +1,12 @@
 //! Types by their texts.
-ghost use Rattle.std.specs.Prelude.{◌≡◌};
+ghost use Rattle.std.specs.Prelude.{◌≡◌, ◌<◌, ◌^◌, length};
 ghost use Rattle.tl_combinators.specs.Trees.{view};
 ghost use Rattle.tl_combinators.specs.Program.{decl_text, program_text};
 ghost use Rattle.tl_types.specs.Meanings.{IsSmall};
-ghost use Rattle.tl_types.specs.AskedTypes.{ChecksType, NamesType, asker};
+ghost use Rattle.tl_types.specs.AskedTypes.{ChecksType, NamesType, PassesType, asker};
 
-use crate::arities::Arities;
-use crate::empties::empties;
 use crate::empty_element::has_empty_argument;
+use crate::index::Index;
 use crate::not_bare::writes_no_bare;
 use crate::scope::Scope;
 use crate::terms::type_term;
@@ -56,28 +55,45 @@ fn checked_type(
     ensures { ChecksType (program_text program.now) (view tree.now) result }
 {
     let scope = Scope::of(alloc, program)?;
-    let arities = Arities::of(alloc, program)?;
-    let marks = empties(alloc, scope.index(), program)?;
-    if writes_unknown(scope.index(), decl, tree) {
+    pass_type(alloc, scope.index(), program, decl, tree)?;
+    let term = type_term(alloc, &scope, decl, tree)?;
+    Ok(term)
+}
+
+// Refuses a type for the first cause that it has.
+fn pass_type(
+    alloc: Global,
+    index: &Index,
+    program: &Program,
+    decl: &Decl,
+    tree: &TypeTree,
+) -> Result<(), TypeFault>
+    requires same { index.now ≡ program_text program.now }
+    requires few { length (program_text program.now) < 2 ^ 32 }
+    requires asks { decl_text decl.now ≡ asker }
+    ensures { PassesType (program_text program.now) (view tree.now) result }
+{
+    if writes_unknown(index, decl, tree) {
         return Err(TypeFault::Refused {
             cause: TypeCause::UnknownType,
         });
     }
-    if has_misapplied(tree, &arities, decl) {
+    let is_misapplied = has_misapplied(alloc, program, decl, tree)?;
+    if is_misapplied {
         return Err(TypeFault::Refused {
             cause: TypeCause::WrongArity,
         });
     }
-    if writes_no_bare(scope.index(), decl, tree) {
+    if writes_no_bare(index, decl, tree) {
         return Err(TypeFault::Refused {
             cause: TypeCause::NotBare,
         });
     }
-    if has_empty_argument(scope.index(), &marks, decl, tree) {
+    let is_empty = has_empty_argument(alloc, index, program, decl, tree)?;
+    if is_empty {
         return Err(TypeFault::Refused {
             cause: TypeCause::EmptyElement,
         });
     }
-    let term = type_term(alloc, &scope, decl, tree)?;
-    Ok(term)
+    Ok(())
 }

@@ -1,15 +1,15 @@
 //! The second check: each name of a type has a declaration.
-ghost use Rattle.std.specs.Prelude.{◌≡◌, ◌<◌, ◌^◌, ◌↔◌, IsTrue, IfOk, length};
+ghost use Rattle.std.specs.Prelude.{◌<◌, ◌^◌, ◌↔◌, IsTrue, IfOk, length};
 ghost use Rattle.tl_combinators.specs.Program.{decl_text, program_text};
 ghost use Rattle.tl_combinators.specs.Trees.{view};
 ghost use Rattle.tl_types.specs.Writing.{First};
-ghost use Rattle.tl_types.specs.UnknownType.{IsUnknown, UnknownType};
-ghost use Rattle.tl_types.specs.UnknownNames.{BeginsUnknown, IsUnknownIn};
+ghost use Rattle.tl_types.specs.UnknownType.{BeginsUnknown, IsUnknown, IsUnknownIn, UnknownType};
 ghost use Rattle.tl_types.specs.Parts.{SomePart};
 
+use crate::declarations::first_that_writes;
 use crate::index::Index;
 use crate::meanings::{is_built_in, is_type_name, is_variable};
-use crate::parts::{TypeTest, has_part, writes};
+use crate::parts::{TypeTest, has_part};
 use std::alloc::{AllocError, Global};
 use tl_combinators::{Decl, Program, TypeTree};
 
@@ -20,45 +20,30 @@ pub fn first_unknown_type(alloc: Global, program: &Program) -> Result<Option<u32
     ensures { IfOk result (First (UnknownType (program_text program.now))) }
 {
     let index = Index::of(alloc, program)?;
-    Ok(first_in(&index, program))
+    Ok(first_that_writes(program, &UnknownName { index: &index }))
 }
 
 /// Whether a type or a part of it begins with a name that is unknown where a declaration writes it.
 pub fn writes_unknown(index: &Index, decl: &Decl, tree: &TypeTree) -> bool
     ensures { IsTrue result ↔ SomePart (BeginsUnknown index.now (decl_text decl.now)) (view tree.now) }
 {
-    has_part(tree, &UnknownName { index, decl })
+    has_part(tree, decl, &UnknownName { index })
 }
 
-fn first_in(index: &Index, program: &Program) -> Option<u32>
-    requires same { index.now ≡ program_text program.now }
-    requires few { length (program_text program.now) < 2 ^ 32 }
-    ensures { First (UnknownType (program_text program.now)) result }
-{
-    for (at, decl) in program.decls.iter().enumerate() {
-        if writes(decl, &UnknownName { index, decl }) {
-            return Some(at as u32);
-        }
-    }
-    None
-}
-
-// Whether a type begins with a name that is unknown in a declaration.
+// Whether a type begins with a name that is unknown where a declaration writes it.
 #[derive(Clone, Copy)]
 struct UnknownName<'t, 'a> {
     index: &'t Index<'a>,
-    decl: &'t Decl,
 }
 
 impl<'t, 'a> TypeTest for UnknownName<'t, 'a> {
-    ghost use Rattle.tl_combinators.specs.Program.{decl_text};
-    ghost use Rattle.tl_types.specs.UnknownNames.{BeginsUnknown};
+    ghost use Rattle.tl_types.specs.UnknownType.{BeginsUnknown};
 
-    ghost holds = { λ s u. BeginsUnknown s.index.now (decl_text s.decl.now) u };
+    ghost holds = { λ s. BeginsUnknown s.index.now };
 
-    fn passes(&self, tree: &TypeTree) -> bool {
+    fn passes(&self, decl: &Decl, tree: &TypeTree) -> bool {
         match tree {
-            TypeTree::Named { name, .. } => is_unknown(self.index, self.decl, name.as_slice()),
+            TypeTree::Named { name, .. } => is_unknown(self.index, decl, name.as_slice()),
             TypeTree::Percent { .. } => false,
             TypeTree::AnyCall => false,
         }

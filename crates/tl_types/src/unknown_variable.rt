@@ -1,13 +1,14 @@
 //! The third check: variables of functions, and calls.
-ghost use Rattle.std.specs.Prelude.{◌≡◌, ◌<◌, ◌^◌, ◌↔◌, IsTrue, bytes_eq, flat_map, length, map, not};
+ghost use Rattle.std.specs.Prelude.{◌≡◌, ◌<◌, ◌^◌, bytes_eq, flat_map, length, map, not};
 ghost use Rattle.std.specs.List.{count_by, list_any};
 ghost use Rattle.tl_combinators.specs.Program.{decl_text, field_text, kind_text, program_text};
-ghost use Rattle.tl_combinators.specs.Trees.{trees_of, view, views};
 ghost use Rattle.tl_types.specs.UnknownVariable.{UnknownVariable, called_by};
-ghost use Rattle.tl_types.specs.VariableSteps.{NamesVariable, calls_another, leaves_uncalled};
-ghost use Rattle.tl_types.specs.Writing.{First, HeldBy, InFields, IsPart, IsPartOfOne, is_variable};
+ghost use Rattle.tl_types.specs.VariableSteps.{calls_another, leaves_uncalled};
+ghost use Rattle.tl_types.specs.Writing.{First, is_variable};
 
+use crate::declarations::{DeclTest, first_that};
 use crate::meanings::is_variable;
+use crate::parts::{TypeTest, is_in_fields};
 use tl_combinators::{Decl, Field, FieldKind, Program, TypeTree};
 
 /// The first declaration that calls a name that is no variable, or a function with a variable that doesn't stand in
@@ -16,15 +17,49 @@ pub fn first_unknown_variable(program: &Program) -> Option<u32>
     requires { length (program_text program.now) < 2 ^ 32 }
     ensures { First (UnknownVariable (program_text program.now)) result }
 {
-    for (k, decl) in program.decls.iter().enumerate() {
-        if calls_another(decl) || decl.function && (leaves_uncalled(decl) || holds_variable(decl)) {
-            return Some(k as u32);
-        }
-    }
-    None
+    first_that(program, &Misuse)
 }
 
-// ---- calls
+// Whether a declaration has a variable or a call that is wrong.
+#[derive(Clone, Copy)]
+struct Misuse;
+
+impl DeclTest for Misuse {
+    ghost use Rattle.tl_types.specs.UnknownVariable.{MisusesVariable};
+
+    ghost holds = { λ s. MisusesVariable };
+
+    fn passes(&self, decl: &Decl) -> bool {
+        if calls_another(decl) {
+            return true;
+        }
+        if !decl.function {
+            return false;
+        }
+        if leaves_uncalled(decl) {
+            return true;
+        }
+        is_in_fields(&decl.fields, decl, &VariableName)
+    }
+}
+
+// Whether a type is a variable, applied to some types or none.
+#[derive(Clone, Copy)]
+struct VariableName;
+
+impl TypeTest for VariableName {
+    ghost use Rattle.tl_types.specs.UnknownVariable.{NamesVariable};
+
+    ghost holds = { λ s. NamesVariable };
+
+    fn passes(&self, decl: &Decl, tree: &TypeTree) -> bool {
+        match tree {
+            TypeTree::Named { name, .. } => is_variable(decl, name.as_slice()),
+            TypeTree::Percent { .. } => false,
+            TypeTree::AnyCall => false,
+        }
+    }
+}
 
 // Whether `!` stands before a name that is no variable.
 fn calls_another(decl: &Decl) -> bool
@@ -74,54 +109,4 @@ fn calls_name(kind: &FieldKind, name: &[u8]) -> bool
         FieldKind::Call { var } => name == var.as_slice(),
         FieldKind::Of { .. } => false,
     }
-}
-
-// ---- types
-
-// Whether a field's type names a variable.
-fn holds_variable(decl: &Decl) -> bool
-    ensures { IsTrue result ↔ NamesVariable (decl_text decl.now) (InFields (decl_text decl.now)) }
-{
-    for field in &decl.fields {
-        if kind_names_variable(&field.kind, decl) {
-            return true;
-        }
-    }
-    false
-}
-
-fn kind_names_variable(kind: &FieldKind, decl: &Decl) -> bool
-    ensures { IsTrue result ↔ NamesVariable (decl_text decl.now) (λ u. HeldBy u (kind_text kind.now)) }
-{
-    match kind {
-        FieldKind::Nat => false,
-        FieldKind::Flag => false,
-        FieldKind::Call { .. } => false,
-        FieldKind::Of { tree } => names_variable(tree, decl),
-    }
-}
-
-// Whether some part of a type is a variable.
-#[cycle(parts)]
-fn names_variable(tree: &TypeTree, decl: &Decl) -> bool
-    ensures { IsTrue result ↔ NamesVariable (decl_text decl.now) (λ u. IsPart u (view tree.now)) }
-{
-    match tree {
-        TypeTree::Named { name, args } => is_variable(decl, name.as_slice())
-            || one_names_variable(args, decl),
-        TypeTree::Percent { tree } => names_variable(tree, decl),
-        TypeTree::AnyCall => false,
-    }
-}
-
-#[cycle(parts)]
-fn one_names_variable(trees: &Vec<TypeTree>, decl: &Decl) -> bool
-    ensures { IsTrue result ↔ NamesVariable (decl_text decl.now) (λ u. IsPartOfOne u (trees_of (views trees.now.items))) }
-{
-    for tree in trees {
-        if names_variable(tree, decl) {
-            return true;
-        }
-    }
-    false
 }

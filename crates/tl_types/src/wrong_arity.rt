@@ -1,18 +1,85 @@
-//! Numbers of arguments and of variables.
-ghost use Rattle.std.specs.Prelude.{◌≡◌, ◌<◌, ◌^◌, ◌↔◌, length, IsTrue, IfOk};
+//! The fourth check: numbers of arguments and of variables.
+ghost use Rattle.std.specs.Prelude.{◌<◌, ◌^◌, ◌↔◌, length, IsTrue, IfOk};
 ghost use Rattle.tl_combinators.specs.Trees.{view};
-ghost use Rattle.tl_combinators.specs.Program.{decl_text, kind_text, program_text};
-ghost use Rattle.tl_types.specs.Writing.{First, InFields, IsPart, HeldBy, Writes};
-ghost use Rattle.tl_types.specs.WrongArity.{WrongArity};
-ghost use Rattle.tl_types.specs.Arities.{IsMisapplied, Misapplies, ConstructsUneven, IsWrong};
+ghost use Rattle.tl_combinators.specs.Program.{decl_text, program_text};
+ghost use Rattle.tl_types.specs.Parts.{SomePart};
+ghost use Rattle.tl_types.specs.Writing.{First};
+ghost use Rattle.tl_types.specs.WrongArity.{ConstructsUneven, IsMisapplied, Misapplies, WrongArity};
 
 use crate::arities::{Arities, own_type};
+use crate::declarations::{DeclTest, first_that};
+use crate::parts::{TypeTest, has_part, writes};
 use std::alloc::{AllocError, Global};
-use tl_combinators::{Decl, FieldKind, Program, TypeTree};
+use tl_combinators::{Decl, Program, TypeTree};
+
+/// The first declaration that applies a name to another number of types than the name has variables, or is a constructor of a type
+/// whose constructors have different numbers of variables ("TL language", core.telegram.org/mtproto/TL).
+pub fn first_wrong_arity(alloc: Global, program: &Program) -> Result<Option<u32>, AllocError>
+    requires { length (program_text program.now) < 2 ^ 32 }
+    ensures { IfOk result (First (WrongArity (program_text program.now))) }
+{
+    let arities = Arities::of(alloc, program)?;
+    Ok(first_that(program, &WrongDecl { arities: &arities }))
+}
+
+/// Whether a type or a part of it applies a name to a wrong number of types, where a declaration writes it.
+pub fn has_misapplied(
+    alloc: Global,
+    program: &Program,
+    decl: &Decl,
+    tree: &TypeTree,
+) -> Result<bool, AllocError>
+    ensures { IfOk result (λ b. IsTrue b ↔ SomePart (Misapplies (program_text program.now) (decl_text decl.now)) (view tree.now)) }
+{
+    let arities = Arities::of(alloc, program)?;
+    Ok(has_part(tree, decl, &Application { arities: &arities }))
+}
+
+// Whether a declaration has a wrong number of arguments or variables.
+#[derive(Clone, Copy)]
+struct WrongDecl<'t, 'a> {
+    arities: &'t Arities<'a>,
+}
+
+impl<'t, 'a> DeclTest for WrongDecl<'t, 'a> {
+    ghost use Rattle.tl_types.specs.WrongArity.{IsWrong};
+
+    ghost holds = { λ s. IsWrong s.arities.now };
+
+    fn passes(&self, decl: &Decl) -> bool {
+        let arities = self.arities;
+        writes(decl, &Application { arities }) || constructs_uneven(arities, decl)
+    }
+}
+
+// Whether a type is a name, applied to a wrong number of types.
+#[derive(Clone, Copy)]
+struct Application<'t, 'a> {
+    arities: &'t Arities<'a>,
+}
+
+impl<'t, 'a> TypeTest for Application<'t, 'a> {
+    ghost use Rattle.tl_types.specs.WrongArity.{Misapplies};
+
+    ghost holds = { λ s. Misapplies s.arities.now };
+
+    fn passes(&self, decl: &Decl, tree: &TypeTree) -> bool {
+        match tree {
+            TypeTree::Named { name, args } => is_misapplied(
+                self.arities,
+                decl,
+                name.as_slice(),
+                args.len(),
+            ),
+            TypeTree::Percent { .. } => false,
+            TypeTree::AnyCall => false,
+        }
+    }
+}
 
 // Whether the declaration applies the name to a wrong number of types.
 fn is_misapplied(arities: &Arities, decl: &Decl, name: &[u8], count: usize) -> bool
-    ensures { IsTrue result ↔ IsMisapplied (program_text arities.now) (decl_text decl.now) name.now count }
+    ensures { IsTrue result ↔ IsMisapplied arities.now (decl_text decl.now) name.now count }
 {
     match arities.arity(decl, name) {
         Some(arity) => count != arity,
@@ -20,84 +87,12 @@ fn is_misapplied(arities: &Arities, decl: &Decl, name: &[u8], count: usize) -> b
     }
 }
 
-/// Whether the declaration applies some name to a wrong number of types in this type.
-pub fn has_misapplied(tree: &TypeTree, arities: &Arities, decl: &Decl) -> bool
-    ensures { IsTrue result ↔ Misapplies (program_text arities.now) (decl_text decl.now) (λ u. IsPart u (view tree.now)) }
-{
-    match tree {
-        TypeTree::Named { name, args } => {
-            if is_misapplied(arities, decl, name.as_slice(), args.len()) {
-                return true;
-            }
-            for arg in args {
-                if has_misapplied(arg, arities, decl) {
-                    return true;
-                }
-            }
-            false
-        }
-        TypeTree::Percent { tree } => has_misapplied(tree, arities, decl),
-        TypeTree::AnyCall => false,
-    }
-}
-
-// The same of what a field holds.
-fn holds_misapplied(kind: &FieldKind, arities: &Arities, decl: &Decl) -> bool
-    ensures { IsTrue result ↔ Misapplies (program_text arities.now) (decl_text decl.now) (λ u. HeldBy u (kind_text kind.now)) }
-{
-    match kind {
-        FieldKind::Of { tree } => has_misapplied(tree, arities, decl),
-        FieldKind::Nat => false,
-        FieldKind::Flag => false,
-        FieldKind::Call { .. } => false,
-    }
-}
-
-// The same of some field.
-fn fields_misapply(arities: &Arities, decl: &Decl) -> bool
-    ensures { IsTrue result ↔ Misapplies (program_text arities.now) (decl_text decl.now) (InFields (decl_text decl.now)) }
-{
-    for field in &decl.fields {
-        if holds_misapplied(&field.kind, arities, decl) {
-            return true;
-        }
-    }
-    false
-}
-
-// Whether the declaration applies some name to a wrong number of types.
-fn misapplies(arities: &Arities, decl: &Decl) -> bool
-    ensures { IsTrue result ↔ Misapplies (program_text arities.now) (decl_text decl.now) (Writes (decl_text decl.now)) }
-{
-    !decl.builtin && (fields_misapply(arities, decl) || has_misapplied(&decl.result, arities, decl))
-}
-
 // Whether two constructors of the declaration's type have different numbers of variables.
 fn constructs_uneven(arities: &Arities, decl: &Decl) -> bool
-    ensures { IsTrue result ↔ ConstructsUneven (program_text arities.now) (decl_text decl.now) }
+    ensures { IsTrue result ↔ ConstructsUneven arities.now (decl_text decl.now) }
 {
     match own_type(decl) {
         Some(name) => arities.is_uneven(name),
         None => false,
     }
-}
-
-fn is_wrong(arities: &Arities, decl: &Decl) -> bool
-    ensures { IsTrue result ↔ IsWrong (program_text arities.now) (decl_text decl.now) }
-{
-    misapplies(arities, decl) || constructs_uneven(arities, decl)
-}
-
-/// The first declaration that applies a name to another number of types than the name has variables, or is a constructor of a type whose constructors have different numbers of variables ("TL language", core.telegram.org/mtproto/TL).
-pub fn first_wrong_arity(alloc: Global, program: &Program) -> Result<Option<u32>, AllocError>
-    requires { length (program_text program.now) < 2 ^ 32 }
-    ensures { IfOk result (First (WrongArity (program_text program.now))) }
-{
-    let arities = Arities::of(alloc, program)?;
-    for (k, decl) in program.decls.iter().enumerate() {
-        if is_wrong(&arities, decl) {
-            return Ok(Some(k as u32));
-        }
-    }
-    Ok(None)
 }

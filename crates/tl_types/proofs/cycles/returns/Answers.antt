@@ -7,15 +7,15 @@ use Rattle.tl_types.proofs.cycles.returns.Goals as goal
 
 pub reach-requires : goal.reach-requires
 reach-requires c =
-    let count : length c.loop.reached.items ≡ length (lists c.args.edges.now) = omega (arith, c.loop.invariant.count, length_lists c.args.edges.now) in
+    let count : length c.in_ok-reached.reached.items ≡ length (lists c.args.edges.now) = omega (arith, c.in_ok-reached.ensures.count, length_lists c.args.edges.now) in
     let at = list_at c.args.edges.now c.args.k c.index-edges-k.result c.deref.result.now c.requires.node c.index-edges-k.is c.deref.ensures.value in
     leads_within (lists c.args.edges.now) _ c.args.k _ c.requires.graph count at
 
 pub loop-i-init : goal.loop-i-init
 loop-i-init c =
-    let count : length c.loop.reached.items ≡ length (lists c.args.edges.now) = omega (arith, c.loop.invariant.count, length_lists c.args.edges.now) in
+    let count : length c.in_ok-reached.reached.items ≡ length (lists c.args.edges.now) = omega (arith, c.in_ok-reached.ensures.count, length_lists c.args.edges.now) in
     let at = list_at c.args.edges.now c.args.k c.index-edges-k.result c.deref.result.now c.requires.node c.index-edges-k.is c.deref.ensures.value in
-    explored_first (lists c.args.edges.now) c.args.k _ _ _ _ count c.loop.invariant.none at (rw c.new-pending.ensures.items at c.in_ok-reach.ensures)
+    explored_first (lists c.args.edges.now) c.args.k _ _ _ _ count c.in_ok-reached.ensures.none at (rw c.new-pending.ensures.items at c.in_ok-reach.ensures)
 
 pub bounds-edges-i : goal.bounds-edges-i
 bounds-edges-i c =

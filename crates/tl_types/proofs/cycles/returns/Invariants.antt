@@ -1,14 +1,8 @@
-use Rattle.std.proofs.Common.{◌≡◌, ◌+◌, ℕ, length}
-use Rattle.tl_types.specs.BareSteps.{IsMarked, unmarked}
+use Rattle.std.proofs.Common.{◌+◌, length}
+use Rattle.tl_types.specs.BareSteps.{unmarked}
 use Rattle.tl_types.specs.NameLists.{lists}
 use Rattle.tl_types.proofs.Explored.{Explored}
 use Rattle.tl_types.proofs.cycles.returns.Given as goal
-
-abbrev pub invariant-loop : goal.invariant-loop
-invariant-loop l = record {
-  count : length l.reached.items ≡ l.counter;
-  none : (j : ℕ) → IsMarked l.reached.items j → ⊥;
-}
 
 abbrev pub invariant-loop-i : goal.invariant-loop-i
 invariant-loop-i l = Explored (lists l.edges) l.k l.reached.items l.pending.items

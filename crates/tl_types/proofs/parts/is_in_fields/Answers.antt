@@ -1,7 +1,7 @@
 use Rattle.std.proofs.Common.{◌<◌, ◌∙◌, map, refl, sym, subst, true≢false, below_more, arith}
 use Rattle.std.proofs.lemmas.List.{length-map}
 use Rattle.std.proofs.lemmas.Option.{same_Some, slice_get_within}
-use Rattle.tl_combinators.specs.Program.{FieldText, field_text}
+use Rattle.tl_combinators.specs.Program.{FieldText, decl_text, field_text}
 use Rattle.tl_types.specs.Parts.{SomeHeld}
 use Rattle.tl_types.proofs.Maps.{slice_get_item}
 use Rattle.tl_types.proofs.parts.is_in_fields.Goals as goal
@@ -16,7 +16,7 @@ loop-field-preserved g c =
     let at = slice_get_item field_text c.args.fields.now c.loop-field.field-index c.field-item.result c.loop-field-test.true c.field-item.is in
     below_more _ _ c.loop-field.invariant (λ f there some.
     let is = same_Some f (field_text c.field-item.result) (sym there ∙ at) in
-    true≢false (sym (c.if-is_held.ensures.1 (subst (λ (x : FieldText). SomeHeld (g.T.TypeTest.holds c.args.test.now) x.kind) is some))))
+    true≢false (sym (c.if-is_held.ensures.1 (subst (λ (x : FieldText). SomeHeld (g.T.TypeTest.holds c.args.test.now (decl_text c.args.decl.now)) x.kind) is some))))
 
 pub returns : goal.returns
 returns g c = (

@@ -1,7 +1,7 @@
 use Rattle.std.proofs.Common.{◌≤◌, ◌∙◌, length, ap, sym, arith}
 use Rattle.std.proofs.lemmas.List.{length-map, take_all}
 use Rattle.tl_combinators.specs.Program.{decl_text, program_text}
-use Rattle.tl_types.specs.Arities.{own_type}
+use Rattle.tl_types.specs.Writing.{own_type}
 use Rattle.tl_types.specs.Meanings.{types_of, with_type_of}
 use Rattle.tl_types.proofs.Maps.{slice_get_item}
 use Rattle.tl_types.proofs.DeclaredTypes.{types_of-push}

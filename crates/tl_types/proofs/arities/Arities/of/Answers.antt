@@ -1,7 +1,8 @@
 use Rattle.std.proofs.Common.{◌≡◌, length, subst, sym, ap₂, ◌+◌, ◌∙◌, arith, ℕ}
 use Rattle.std.proofs.lemmas.List.{length-map}
 use Rattle.tl_combinators.specs.Program.{decl_text, program_text}
-use Rattle.tl_types.specs.Arities.{own_name, own_type, CountsFirst, with_count_of}
+use Rattle.tl_types.specs.Writing.{own_type}
+use Rattle.tl_types.specs.Arities.{own_name, CountsFirst, with_count_of}
 use Rattle.tl_types.proofs.Maps.{slice_get_item}
 use Rattle.tl_types.proofs.CountedDeclarations.{none_counted, counted_more}
 use Rattle.tl_types.proofs.arities.Arities.of.Goals as goal

@@ -1,5 +1,6 @@
 use Rattle.tl_combinators.specs.Program.{program_text}
-use Rattle.tl_types.specs.Arities.{own_name, own_type, CountsFirst}
+use Rattle.tl_types.specs.Writing.{own_type}
+use Rattle.tl_types.specs.Arities.{own_name, CountsFirst}
 use Rattle.tl_types.proofs.arities.Arities.of.Given as goal
 
 abbrev pub invariant-loop-decl : goal.invariant-loop-decl

@@ -1,7 +1,0 @@
-use Rattle.std.proofs.Common.{ℕ, ◌<◌}
-use Rattle.tl_combinators.specs.Program.{program_text}
-use Rattle.tl_types.specs.NotBare.{NotBare}
-use Rattle.tl_types.proofs.not_bare.first_in.Given as goal
-
-abbrev pub invariant-loop-at : goal.invariant-loop-at
-invariant-loop-at l = (k : ℕ) → k < l.at → NotBare (program_text l.program) k → ⊥
