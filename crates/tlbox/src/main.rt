@@ -3,10 +3,18 @@
 
 #[cfg(test)]
 mod check_tests;
+#[cfg(test)]
+mod decode_tests;
 mod decoder;
+#[cfg(test)]
+mod decodes;
 mod files;
+#[cfg(test)]
+mod host_tests;
 mod job;
 mod laws;
+#[cfg(test)]
+mod limit_tests;
 mod listing;
 mod plain_types;
 mod program;
@@ -21,9 +29,13 @@ mod shown;
 mod status;
 mod stop;
 #[cfg(test)]
-mod tests;
+mod text_tests;
+#[cfg(test)]
+mod type_tests;
 mod whole;
 mod words;
+#[cfg(test)]
+mod words_tests;
 
 use program::run;
 use real::RealHost;
