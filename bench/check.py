@@ -1,17 +1,15 @@
 #!/usr/bin/env python3
-"""Times how `tlbox check` reads and checks a schema: schema.py TLBOX [DECLARATIONS ..]
+"""Times how `tlbox check` reads and checks a schema.
 
 Each text has so many declarations of about 120 bytes, with conditions, vectors, namespaces and comments. Then come texts that are
 hard in one way each: a million parentheses around one type, and constructors of which each holds the next bare, in both orders, in
 one cycle, between two cycles, and without bytes.
 """
 import os
-import subprocess
 import sys
 import tempfile
-import time
 
-RUNS = 3
+import runs
 
 
 def declaration(number):
@@ -57,42 +55,39 @@ def empty(count):
     return links + "c%d = C;\nv x:Vector<c0> = V;\n" % count
 
 
-def least_time(tlbox, text, line):
-    """The least time of some runs, in seconds; the last line of the answer has to be this one."""
-    with tempfile.TemporaryDirectory() as folder:
-        schema = os.path.join(folder, "schema.tl")
-        with open(schema, "w", encoding="ascii") as file:
-            file.write(text)
-        times = []
-        for _ in range(RUNS):
-            start = time.perf_counter()
-            run = subprocess.run([tlbox, "check", schema], capture_output=True, check=False)
-            times.append(time.perf_counter() - start)
-            told = (run.stdout + run.stderr).decode().splitlines()[-1]
-            if told != line:
-                sys.exit("the program says %r" % told)
-    return min(times)
+def listed(count):
+    return "constructors %d functions 0" % count
 
 
-def measure(tlbox, name, text, line):
-    seconds = least_time(tlbox, text, line)
-    print("%12s %9d %8.3f %8.1f" % (name, len(text), seconds, seconds * 1e9 / len(text)))
+def refused(decl, cause):
+    return "tlbox: schema decl %d %s" % (decl, cause)
+
+
+def texts(counts):
+    """A name for each text, the text, and the last line of the answer."""
+    for count in counts:
+        yield str(count), declarations(count), listed(count)
+    most = max(counts)
+    yield "nested", nested(1_000_000), listed(1)
+    yield "chain", chain(list(range(most))), listed(most)
+    yield "backwards", chain(list(range(most))[::-1]), listed(most)
+    yield "cycle", cycle(most), refused(0, "BareCycle")
+    yield "between", between_cycles(most), refused(most, "BareCycle")
+    yield "empty", empty(most), refused(most + 1, "EmptyElement")
 
 
 def main():
-    tlbox = sys.argv[1]
-    counts = [int(word) for word in sys.argv[2:]] or [100, 1000, 5000, 15000]
-    print("%12s %9s %8s %8s" % ("declarations", "bytes", "seconds", "ns/byte"))
-    for count in counts:
-        measure(tlbox, str(count), declarations(count), "constructors %d functions 0" % count)
-    most = max(counts)
-    listed = "constructors %d functions 0" % most
-    measure(tlbox, "nested", nested(1000000), "constructors 1 functions 0")
-    measure(tlbox, "chain", chain(list(range(most))), listed)
-    measure(tlbox, "backwards", chain(list(range(most))[::-1]), listed)
-    measure(tlbox, "cycle", cycle(most), "tlbox: schema decl 0 BareCycle")
-    measure(tlbox, "between", between_cycles(most), "tlbox: schema decl %d BareCycle" % most)
-    measure(tlbox, "empty", empty(most), "tlbox: schema decl %d EmptyElement" % (most + 1))
+    tlbox, _, numbers = runs.arguments()
+    print(f"{'declarations':>12} {'bytes':>9} {'seconds':>8} {'ns/byte':>8}")
+    with tempfile.TemporaryDirectory() as folder:
+        schema, answer = (os.path.join(folder, name) for name in ("schema", "answer"))
+        for name, text, line in texts(numbers or [100, 1_000, 5_000, 15_000]):
+            runs.write(schema, text.encode())
+            took = runs.least_time([tlbox, "check", schema], answer, 0 if line.startswith("constructors") else 1)
+            told = runs.last_line(answer)
+            if told != line:
+                sys.exit(f"{name}: the program says {told!r}")
+            print(f"{name:>12} {len(text):>9} {took:>8.3f} {took * 1e9 / len(text):>8.1f}")
 
 
 main()

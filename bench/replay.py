@@ -1,27 +1,16 @@
 #!/usr/bin/env python3
-"""Times `tlbox replay` on journals of growing length: replay.py TLBOX PROFILE_SOURCE [STEPS ..]
+"""Times `tlbox replay` on journals of growing length.
 
 Posts come in windows of 300. Each window is heard twice: backwards, so that 299 pushes are held until the first one comes, and
 then in order, when each is known already.
 """
 import os
-import re
 import struct
-import subprocess
-import sys
 import tempfile
-import time
+
+import runs
 
 WINDOW = 300
-RUNS = 3
-
-
-def profile_text(source):
-    """The profile's text, out of the source in which it stands as one literal."""
-    with open(source, encoding="ascii") as file:
-        literal = re.search(r'PROFILE_TEXT: &str = "(.*?)";', file.read(), re.S).group(1)
-    # A backslash at a line's end takes the line's end away.
-    return literal.replace("\\\n", "").replace("\\n", "\n")
 
 
 def spelled_bytes(body):
@@ -53,29 +42,15 @@ def journal(count):
     return b"".join(steps[:count])
 
 
-def seconds(command, output):
-    """The least time of some runs, which write to a file."""
-    least = None
-    for _ in range(RUNS):
-        with open(output, "wb") as file:
-            begin = time.perf_counter()
-            subprocess.run(command, stdout=file, check=True)
-            took = time.perf_counter() - begin
-        least = took if least is None else min(least, took)
-    return least
-
-
 def main():
-    tlbox, source, *counts = sys.argv[1:]
+    tlbox, data, numbers = runs.arguments()
+    profile = os.path.join(data, "profile.tl")
+    print(f"{'steps':>8} {'journal':>9} {'report':>9} {'seconds':>8} {'us/step':>8}")
     with tempfile.TemporaryDirectory() as folder:
-        schema, steps, report = (os.path.join(folder, name) for name in ("schema", "journal", "report"))
-        with open(schema, "w", encoding="ascii", newline="\n") as file:
-            file.write(profile_text(source))
-        print(f"{'steps':>8} {'journal':>9} {'report':>9} {'seconds':>8} {'us/step':>8}")
-        for count in [int(count) for count in counts] or [1_000, 10_000, 50_000, 100_000]:
-            with open(steps, "wb") as file:
-                file.write(journal(count))
-            took = seconds([tlbox, "replay", schema, steps, "1"], report)
+        steps, report = (os.path.join(folder, name) for name in ("journal", "report"))
+        for count in numbers or [1_000, 10_000, 50_000, 100_000]:
+            runs.write(steps, journal(count))
+            took = runs.least_time([tlbox, "replay", profile, steps, "1"], report)
             sizes = f"{os.path.getsize(steps):>9} {os.path.getsize(report):>9}"
             print(f"{count:>8} {sizes} {took:>8.3f} {took / count * 1e6:>8.2f}")
 
