@@ -1,4 +1,5 @@
 -- What an event put behind a box makes of it.
+-- From "Working with Updates" (core.telegram.org/api/updates): each event raises a box's number by its count. The limit is this project's own.
 use Rattle.std.specs.Prelude.{◌≡◌, ◌+◌, ◌<◌, ◌≤◌, List, [], ◌∷◌, ◌++◌, Result, Ok, Err}
 use Rattle.box_events.specs.declared.fault.BoxFault.{BoxFault}
 use Rattle.box_events.specs.declared.fault.BoxFault.TheVariants.{BoxFull, Memory}

@@ -1,4 +1,6 @@
 -- Boxes: lists of events, their ends, boundaries and stretches.
+-- From "Working with Updates" (core.telegram.org/api/updates): a box's number is the sum of the counts of its events. Stretches and
+-- boundaries, as words for what a difference holds, are this project's own.
 use Rattle.std.specs.Prelude.{◌≡◌, ℕ, ◌+◌, ◌≤◌, List, [], ◌∷◌, ◌++◌}
 use Rattle.box_events.specs.Happenings.{Happening, count_of}
 

@@ -1,4 +1,5 @@
 -- What an event is, apart from the code.
+-- From "Working with Updates" (core.telegram.org/api/updates): messages, edits and deletes, with the count that each takes of a box.
 use Rattle.std.specs.Prelude.{ℕ, ℤ, List, [], length}
 
 -- a message with its body, an edit with its body, or a delete of ids

@@ -1,4 +1,4 @@
--- An event's fields as what happened.
+-- An event's fields as what happened. This project's own.
 use Rattle.std.specs.Prelude.{◌≤◌}
 use Rattle.box_events.specs.declared.event.Change.{Change}
 use Rattle.box_events.specs.declared.event.Change.TheVariants.{New as NewChange, Edit as EditChange, Delete as DeleteChange}

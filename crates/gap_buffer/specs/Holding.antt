@@ -1,4 +1,5 @@
 -- Held items by their starts, each with its end; and what the calls of a gap do to them and to its room.
+-- From "Working with Updates" (core.telegram.org/api/updates): updates past a gap are held until it closes. The limit is this project's own.
 use Rattle.std.specs.Prelude.{◌≡◌, ◌≢◌, ℕ, ◌+◌, ◌<◌, ◌≤◌, Option, Some, None, leb, refl}
 use Rattle.std.specs.Coded.{Coded, code_by, coded×, coded_ℕ}
 use Rattle.std.specs.Ordering.{nat_cmp}

@@ -1,4 +1,4 @@
--- A gap's fields as a gap.
+-- A gap's fields as a gap. This project's own.
 use Rattle.std.specs.Prelude.{◌≤◌, ◌-◌, length, vec_len, vec_capacity}
 use Rattle.std.specs.FinMap as map
 use Rattle.gap_buffer.specs.declared.gap.Gap.TheInside.{Inside}

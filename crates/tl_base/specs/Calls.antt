@@ -1,4 +1,4 @@
--- What the calls of an outside do to what it shows. Where nothing is told nothing is said, and nothing is told afterwards.
+-- What the calls of an outside do to what it shows. Where nothing is told nothing is said, and nothing is told afterwards. This project's own.
 use Rattle.std.specs.Prelude.{◌≡◌, ℕ, ◌<◌, List, [], ◌++◌, length, take, Bool, IsTrue, Option, Some, None, Result, Ok, Err, IsOk, IfSome, IsSome}
 use Rattle.tl_base.specs.declared.host.Slot.{Slot}
 use Rattle.tl_base.specs.declared.host.Out.{Out}

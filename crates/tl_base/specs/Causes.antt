@@ -1,4 +1,4 @@
--- A failure may be answered only where a count of faults rose in the call.
+-- A failure may be answered only where a count of faults rose in the call. This project's own.
 use Rattle.std.specs.Prelude.{ℕ, ◌+◌, ◌-◌, ◌^◌, ◌≤◌, min, Result, Ok, Err, OnErr}
 
 -- the count rose, or stands at its end

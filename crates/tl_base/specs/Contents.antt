@@ -1,4 +1,4 @@
--- Lists of bytes.
+-- Lists of bytes. This project's own.
 use Rattle.std.specs.Prelude.{ℕ, ◌<◌, List, [], ◌∷◌, get_or}
 
 -- each number of the list is a byte

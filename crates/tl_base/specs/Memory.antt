@@ -1,4 +1,4 @@
--- What a source in memory shows.
+-- What a source in memory shows. This project's own.
 use Rattle.std.specs.Prelude.{◌≡◌, ℕ, ◌+◌, ◌-◌, ◌^◌, ◌≤◌, ◌<◌, ◌⊎◌, min, List, Bool, true, false, length, drop, ◌==◌, Result, Ok, Err, Vec}
 use Rattle.std.specs.declared.alloc.Global.{Global}
 use Rattle.tl_base.specs.Numbers.{is_among, cut_at}

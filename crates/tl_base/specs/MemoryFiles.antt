@@ -1,4 +1,4 @@
--- Files in memory, as a host's view shows them.
+-- Files in memory, as a host's view shows them. This project's own.
 use Rattle.std.specs.Prelude.{◌≡◌, ℕ, suc, zero, List, [], ◌∷◌, drop, take, ◌++◌, ◌<◌, ◌≤◌, length, Option, Some, None, if◌then◌else◌, map}
 use Rattle.std.specs.Str.{bytes_eq}
 use Rattle.tl_base.specs.Contents.{HoldBytes}

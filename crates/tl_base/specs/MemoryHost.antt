@@ -1,4 +1,4 @@
--- What a host in memory shows, and what it was told of its calls.
+-- What a host in memory shows, and what it was told of its calls. This project's own.
 use Rattle.std.specs.Prelude.{◌≡◌, ◌≢◌, ◌⊎◌, ℕ, ◌+◌, ◌-◌, ◌≤◌, ◌^◌, min, List, [], ◌∷◌, ◌++◌, Bool, true, false, ◌&&◌, Option, Some, None, Result, Ok, Err, length, map, ◌==◌, if◌then◌else◌}
 use Rattle.tl_base.specs.Outside.{View, HasFile, left_of, written_of}
 use Rattle.tl_base.specs.Numbers.{is_among, cut_at}

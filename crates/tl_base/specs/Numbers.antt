@@ -1,4 +1,4 @@
--- Calls by their numbers: which fail, and how much is given.
+-- Calls by their numbers: which fail, and how much is given. This project's own.
 use Rattle.std.specs.Prelude.{ℕ, ◌-◌, ◌^◌, List, Bool, get_or, ◌==◌, if◌then◌else◌}
 use Rattle.std.specs.List.{list_any}
 

@@ -1,4 +1,4 @@
--- What an outside shows where it tells its contents: files, what is left of each slot, what was written to each out.
+-- What an outside shows where it tells its contents: files, what is left of each slot, what was written to each out. This project's own.
 use Rattle.std.specs.Prelude.{◌≡◌, ℕ, List, [], ◌∷◌, Option, Some, None, option_map, ◌⊎◌}
 use Rattle.tl_base.specs.Contents.{Files}
 use Rattle.tl_base.specs.declared.host.Slot.{Slot}

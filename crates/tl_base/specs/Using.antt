@@ -1,4 +1,4 @@
--- What calls do to a source or a sink, beside the bytes that they take or write.
+-- What calls do to a source or a sink, beside the bytes that they take or write. This project's own.
 use Rattle.std.specs.Prelude.{◌≡◌, ℕ, ◌+◌, ◌<◌, ◌≤◌, List, length, Bool, IsTrue, Option, IsSome, IfSome, Result, IsOk}
 use Rattle.tl_base.specs.Outside.{Aside}
 use Rattle.tl_base.specs.Causes.{Rose}

@@ -1,4 +1,4 @@
--- What is written to a sink.
+-- What is written to a sink. This project's own.
 use Rattle.std.specs.Prelude.{◌≡◌, ℕ, List, ◌++◌, Option, Result, Ok, Err}
 use Rattle.std.specs.Io.KnownBytes.{Appends}
 

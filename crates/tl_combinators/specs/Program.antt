@@ -1,4 +1,5 @@
 -- Program text: what a text declares, as lists of names and numbers. These are the parts of the grammar's declarations.
+-- From "TL language" (core.telegram.org/mtproto/TL) and "Formal description of TL" (core.telegram.org/mtproto/TL-formal), its combinator declarations.
 use Rattle.std.specs.Prelude.{ℕ, List, map, Bool, Option, Some, None}
 use Rattle.tl_combinators.specs.declared.program.FieldKind.{FieldKind}
 use Rattle.tl_combinators.specs.declared.program.FieldKind.TheVariants.{Nat, Flag, Call, Of}

@@ -1,4 +1,4 @@
--- The tokens that a rule takes, beside what it reads. Descriptions are made of them.
+-- The tokens that a rule takes, beside what it reads. Descriptions are made of them. This project's own.
 use Rattle.std.specs.Prelude.{◌≡◌, List, ◌++◌}
 use Rattle.tl_lexer.specs.Rule.{Rule}
 

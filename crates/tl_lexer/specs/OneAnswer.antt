@@ -1,4 +1,4 @@
--- Each text has its tokens or its fault.
+-- Each text has its tokens or its fault. This project's own.
 use Rattle.std.specs.Prelude.{◌≡◌, ◌⊎◌, ℕ, List}
 use Rattle.tl_lexer.specs.declared.token.Token.{Token}
 use Rattle.tl_lexer.specs.declared.fault.LexFault.{LexFault}

@@ -1,4 +1,4 @@
--- Rules of a grammar: which rows of tokens a rule reads as what, and which it refuses, and why.
+-- Rules of a grammar: which rows of tokens a rule reads as what, and which it refuses, and why. This project's own.
 use Rattle.std.specs.Prelude.{◌≡◌, ◌⊎◌, ℕ, List, [], ◌∷◌, Option, Some, None, Result, Ok, Err}
 
 -- reads ts x rest: at the front of ts stands a row that reads as x, and rest stands behind it

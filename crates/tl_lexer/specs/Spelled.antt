@@ -1,4 +1,5 @@
 -- The tokens of a text by their places: which bytes each token has, and what stands between them. Also its faults by their places.
+-- From "Formal description of TL" (core.telegram.org/mtproto/TL-formal), its lexical part. That tokens go by their places is this project's own.
 use Rattle.std.specs.Prelude.{◌≡◌, ◌⊎◌, ℕ, ◌+◌, ◌<◌, ◌≤◌, List, [], ◌∷◌, length, drop}
 use Rattle.tl_lexer.specs.Rule.{Next}
 use Rattle.tl_lexer.specs.declared.token.Token.{Token}

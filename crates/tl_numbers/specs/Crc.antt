@@ -1,5 +1,6 @@
 -- The CRC32 that zip, gzip and PNG describe: what the division of a text's bits by a polynomial leaves.
 -- A polynomial has the coefficients 0 and 1, and is the list of these, `true` for 1, the highest power first.
+-- From "TL language" (core.telegram.org/mtproto/TL), its combinator names, in that a number is a CRC32.
 use Rattle.std.specs.Prelude.{◌≡◌, ℕ, zero, suc, ◌+◌, ◌/◌, ◌%◌, ◌^◌, ◌<◌, Bool, true, false, not, ◌==◌, if◌then◌else◌, List, [], ◌∷◌, ◌++◌, length, map, replicate}
 use Rattle.std.specs.List.{flat_map}
 

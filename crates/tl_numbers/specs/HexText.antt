@@ -1,4 +1,5 @@
 -- A number as lower-case hexadecimal text, the highest digit first.
+-- From "TL language" (core.telegram.org/mtproto/TL), its combinator names. That fewer than eight digits will do is this project's own.
 use Rattle.std.specs.Prelude.{ℕ, ◌+◌, ◌-◌, ◌*◌, ◌<◌, ◌≤◌, List, length, Bool, nat_le, ◌&&◌, ◌||◌, if◌then◌else◌}
 use Rattle.std.specs.List.{AllPass, fold}
 

@@ -1,4 +1,4 @@
--- How many variables the own constructors of one name, or of one type, have.
+-- How many variables the own constructors of one name, or of one type, have. This project's own.
 use Rattle.std.specs.Prelude.{◌≡◌, ◌≢◌, ℕ, ◌<◌, ◌↔◌, List, length, map, true, false, ◌==◌, ◌&&◌, bytes_eq, Option, Some, None, Vec, if◌then◌else◌}
 use Rattle.std.specs.Map.{lookup}
 use Rattle.std.specs.Option.{option_map}

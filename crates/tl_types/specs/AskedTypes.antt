@@ -1,4 +1,4 @@
--- What a text asks for as a type: a closed type of a schema, a call, or why it is none.
+-- What a text asks for as a type: a closed type of a schema, a call, or why it is none. This project's own.
 use Rattle.std.specs.Prelude.{◌≡◌, ◌⊎◌, ℕ, List, [], ◌∷◌, true, false, None, Result, Ok, Err}
 use Rattle.tl_lexer.specs.declared.token.Token.{Token}
 use Rattle.tl_lexer.specs.Tokens.{Tokens, LexRefused}

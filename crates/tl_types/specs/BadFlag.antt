@@ -1,4 +1,5 @@
 -- The seventh check: conditions.
+-- From "Formal description of TL" (core.telegram.org/mtproto/TL-formal), its conditional fields.
 use Rattle.std.specs.Prelude.{◌≡◌, ◌⊎◌, ℕ, ◌<◌, List, Option, Some, None}
 use Rattle.tl_combinators.specs.Program.{nat, CondText, FieldText, DeclText}
 use Rattle.tl_types.specs.Writing.{FieldAt, DeclarationHas}

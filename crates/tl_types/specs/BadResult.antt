@@ -1,4 +1,5 @@
 -- The fifth check: results of constructors.
+-- From "Formal description of TL" (core.telegram.org/mtproto/TL-formal), its combinator declarations.
 use Rattle.std.specs.Prelude.{◌≡◌, ℕ, List, map, true, false}
 use Rattle.tl_combinators.specs.Trees.{named, plain, trees_of}
 use Rattle.tl_combinators.specs.Program.{DeclText}

@@ -1,4 +1,5 @@
 -- The ninth check: cycles of bare references, whose values would have no end.
+-- This project's own, over the bare types of "TL language" (core.telegram.org/mtproto/TL).
 use Rattle.std.specs.Prelude.{ℕ, List}
 use Rattle.tl_combinators.specs.Program.{DeclText}
 use Rattle.tl_types.specs.Paths.{IsOnCycle}

@@ -1,4 +1,4 @@
--- Steps of the ninth and the tenth check: the graph of bare references, and the constructors that take no bytes.
+-- Steps of the ninth and the tenth check: the graph of bare references, and the constructors that take no bytes. This project's own.
 use Rattle.std.specs.Prelude.{◌≡◌, ◌↔◌, ◌⊎◌, ℕ, ◌+◌, ◌<◌, ◌≤◌, List, length, map, Vec, Option, Some, None, Bool, true, not, slice_get, get_or}
 use Rattle.std.specs.Option.{option_map}
 use Rattle.std.specs.List.{count_by}

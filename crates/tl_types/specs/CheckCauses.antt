@@ -1,4 +1,4 @@
--- The checks in their order: the answer is the first cause that any declaration has, with the first declaration that has it.
+-- The checks in their order: the answer is the first cause that any declaration has, with the first declaration that has it. This project's own.
 use Rattle.std.specs.Prelude.{◌≡◌, ◌⊎◌, ℕ, List, [], ◌∷◌, ◌++◌, Some}
 use Rattle.tl_combinators.specs.Program.{DeclText}
 use Rattle.tl_types.specs.Writing.{First}

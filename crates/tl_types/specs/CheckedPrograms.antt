@@ -1,4 +1,4 @@
--- The programs that are schemas, and what a check answers.
+-- The programs that are schemas, and what a check answers. This project's own.
 use Rattle.std.specs.Prelude.{◌≡◌, ℕ, ◌<◌, ◌^◌, List, length, Bool, Option, Some, None, Result, Ok, Err, slice_get}
 use Rattle.tl_combinators.specs.Program.{DeclText}
 use Rattle.tl_types.specs.Writing.{At, First}

@@ -1,4 +1,4 @@
--- A step of the seventh check: one field.
+-- A step of the seventh check: one field. This project's own.
 use Rattle.std.specs.Prelude.{◌≡◌, ℕ, List}
 use Rattle.tl_combinators.specs.Program.{nat, FieldText}
 

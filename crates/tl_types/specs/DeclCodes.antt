@@ -1,4 +1,4 @@
--- How the logic stores declarations: types as nested pairs, everything else by the codes of its parts.
+-- How the logic stores declarations: types as nested pairs, everything else by the codes of its parts. This project's own.
 use Rattle.std.specs.Prelude.{◌≡◌, ◌⊎◌, ℕ, List, [], ◌∷◌, Bool, Option, Some, None, refl}
 use Rattle.std.proofs.Common.{ap, ap₂, inl, inr}
 use Rattle.std.specs.Coded.{Coded, code_by, coded×, coded⊎, coded_ℕ, coded_bool, coded_list, coded_option}

@@ -1,4 +1,5 @@
 -- The tenth check: arguments that take no bytes, of which a vector could hold any number in no space.
+-- This project's own, over the vectors and bare types of "TL language" (core.telegram.org/mtproto/TL).
 use Rattle.std.specs.Prelude.{◌≡◌, ◌⊎◌, ℕ, List, length, slice_get, Some, true}
 use Rattle.tl_combinators.specs.Trees.{Tree, Trees, named, percent, any_call, no_trees, tree}
 use Rattle.tl_combinators.specs.Program.{KindText, nat, flag, call, of, FieldText, DeclText}

@@ -1,4 +1,4 @@
--- Bytes begin with the spelling of a value, or they are refused: one of the two, and in one way.
+-- Bytes begin with the spelling of a value, or they are refused: one of the two, and in one way. This project's own.
 use Rattle.std.specs.Prelude.{◌≡◌, ◌⊎◌, ℕ, ◌≤◌, List, ◌++◌}
 use Rattle.tl_base.specs.Contents.{AreBytes}
 use Rattle.tl_types.specs.PlainTypes.{PlainShape}

@@ -1,4 +1,5 @@
 -- What an index of declarations holds: for each name its first constructor, for each type its first constructor and whether there is another.
+-- This project's own.
 use Rattle.std.specs.Prelude.{◌≡◌, ℕ, ◌<◌, ◌^◌, List, length, IsTrue, ◌↔◌, bytes_eq, Vec, Option, None, Some, true, false, if◌then◌else◌}
 use Rattle.indexmap.specs.IndexMap.{IndexMap, get_by}
 use Rattle.tl_combinators.specs.Program.{DeclText}

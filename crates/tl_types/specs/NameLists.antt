@@ -1,4 +1,4 @@
--- Lists of names.
+-- Lists of names. This project's own.
 use Rattle.std.specs.Prelude.{◌≡◌, ℕ, ◌<◌, List, [], ◌∷◌, ◌++◌, map, position, bytes_eq, slice_get, Option, Some, Vec, if◌then◌else◌}
 use Rattle.std.specs.List.{list_any}
 

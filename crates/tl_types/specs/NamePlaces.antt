@@ -1,4 +1,4 @@
--- Places by name.
+-- Places by name. This project's own.
 use Rattle.std.specs.Prelude.{◌≡◌, ℕ, List, map, bytes_eq, Option, Some, Vec, unwrap_or, if◌then◌else◌}
 use Rattle.std.specs.Map.{lookup}
 

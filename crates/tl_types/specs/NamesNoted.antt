@@ -1,4 +1,4 @@
--- What is kept of the declarations so far: their entries, and the places of their names.
+-- What is kept of the declarations so far: their entries, and the places of their names. This project's own.
 use Rattle.std.specs.Prelude.{◌≡◌, ℕ, ◌<◌, ◌^◌, List, [], ◌∷◌, ◌++◌, length, map, Bool, true, false, not, slice_get, Some}
 use Rattle.tl_combinators.specs.Program.{DeclText}
 use Rattle.tl_types.specs.Writing.{At}

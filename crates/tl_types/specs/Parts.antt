@@ -1,4 +1,4 @@
--- Parts of types, and of what a declaration writes, that have a property.
+-- Parts of types, and of what a declaration writes, that have a property. This project's own.
 use Rattle.std.specs.Prelude.{◌≡◌, ℕ, List, slice_get, Some}
 use Rattle.tl_combinators.specs.Trees.{Tree, Trees}
 use Rattle.tl_combinators.specs.Program.{KindText, FieldText, DeclText}

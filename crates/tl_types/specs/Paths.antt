@@ -1,4 +1,4 @@
--- Paths along a relation of places.
+-- Paths along a relation of places. This project's own.
 use Rattle.std.specs.Prelude.{◌≡◌, ℕ, List, slice_get, Some}
 
 -- from k one gets to j, by one step or by more

@@ -1,4 +1,5 @@
 -- Of which types values are read so far: a boxed type without arguments all of whose constructors have unconditional `int` and `long` fields alone.
+-- This project's own.
 use Rattle.std.specs.Prelude.{◌≡◌, ◌⊎◌, ℕ, ◌<◌, List, length, map, nat_lt, slice_get, Option, Some, None, if◌then◌else◌}
 use Rattle.tl_types.specs.Types.{Shape, int, long, boxed, no_shapes}
 use Rattle.tl_types.specs.PlainTypes.{PlainShape}

@@ -1,4 +1,5 @@
 -- Which bytes begin no spelling, where and why.
+-- What is refused follows from "Binary data serialization" (core.telegram.org/mtproto/serialize); places and causes are this project's own.
 use Rattle.std.specs.Prelude.{◌≡◌, ◌≢◌, ◌⊎◌, ℕ, zero, suc, ◌+◌, ◌<◌, ◌≤◌, ◌^◌, List, [], ◌∷◌, ◌++◌, length}
 use Rattle.tl_types.specs.PlainTypes.{PlainShape, int, long, boxed}
 use Rattle.tl_types.specs.Values.{Tree, depth}

@@ -1,4 +1,4 @@
--- Steps of the first check: the names that are known, and what one declaration adds.
+-- Steps of the first check: the names that are known, and what one declaration adds. This project's own.
 use Rattle.std.specs.Prelude.{◌≡◌, ℕ, List, Bool, true, false, not, bytes_eq, codes}
 use Rattle.std.specs.List.{list_any}
 use Rattle.tl_combinators.specs.Trees.{Tree, Trees, named}

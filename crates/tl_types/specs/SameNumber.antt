@@ -1,4 +1,6 @@
 -- The eighth check: numbers.
+-- From "TL language" (core.telegram.org/mtproto/TL): a combinator goes by its number. The number of packed values is that of "Optional
+-- combinator parameters and packed types" (core.telegram.org/mtproto/TL-optargs).
 use Rattle.std.specs.Prelude.{ℕ, ◌<◌, List}
 use Rattle.tl_combinators.specs.Program.{DeclText}
 use Rattle.tl_types.specs.Schemas.{packed_number, vector_number}

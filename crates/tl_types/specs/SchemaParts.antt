@@ -1,4 +1,4 @@
--- What stands behind a schema: beside its entries the places of their names.
+-- What stands behind a schema: beside its entries the places of their names. This project's own.
 use Rattle.std.specs.Prelude.{◌≡◌, ℕ, ◌<◌, ◌^◌, List, length, Bool, true, false}
 use Rattle.tl_combinators.specs.Program.{DeclText}
 use Rattle.tl_types.specs.Schemas.{Declaration, Declared}

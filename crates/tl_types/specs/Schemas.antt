@@ -1,4 +1,4 @@
--- What a schema holds: its program, and for each declaration of this an entry.
+-- What a schema holds: its program, and for each declaration of this an entry. This project's own.
 use Rattle.std.specs.Prelude.{ℕ, Bool, List, Option}
 use Rattle.tl_combinators.specs.Program.{DeclText}
 use Rattle.tl_types.specs.Types.{Shape}

@@ -1,4 +1,4 @@
--- The type, the declaration and the value that the code's own stand for.
+-- The type, the declaration and the value that the code's own stand for. This project's own.
 use Rattle.std.specs.Prelude.{List, map}
 use Rattle.std.specs.Box.{box_value}
 use Rattle.tl_types.specs.Types.{Shape, shapes_of}

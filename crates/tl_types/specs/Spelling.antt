@@ -1,4 +1,5 @@
 -- Which bytes spell a value of a type.
+-- From "Binary data serialization" (core.telegram.org/mtproto/serialize).
 use Rattle.std.specs.Prelude.{◌≡◌, ℕ, ◌<◌, ◌^◌, List, [], ◌∷◌, ◌++◌}
 use Rattle.std.specs.Int.{w32, w64, cast_signed}
 use Rattle.tl_types.specs.PlainTypes.{PlainShape}

@@ -1,4 +1,4 @@
--- The fault of a type that a fault of its text makes.
+-- The fault of a type that a fault of its text makes. This project's own.
 use Rattle.tl_lexer.specs.declared.fault.LexFault.{LexFault}
 use Rattle.tl_lexer.specs.declared.fault.LexFault.TheVariants as lex
 use Rattle.tl_combinators.specs.declared.fault.SyntaxFault.{SyntaxFault}

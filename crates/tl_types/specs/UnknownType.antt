@@ -1,4 +1,5 @@
 -- The second check: each name of a type has a declaration.
+-- From "TL language" (core.telegram.org/mtproto/TL): a type is what its constructors make.
 use Rattle.std.specs.Prelude.{◌≡◌, ℕ, List, true, false}
 use Rattle.tl_combinators.specs.Trees.{Tree, named, percent, any_call}
 use Rattle.tl_combinators.specs.Program.{DeclText}

@@ -1,4 +1,5 @@
 -- The third check: variables of functions, and calls.
+-- From "Formal description of TL" (core.telegram.org/mtproto/TL-formal), its optional arguments and its functions.
 use Rattle.std.specs.Prelude.{◌≡◌, ◌≢◌, ℕ, List, [], ◌∷◌, true, false, bytes_eq, slice_get, Some, flat_map}
 use Rattle.std.specs.List.{count_by}
 use Rattle.tl_combinators.specs.Trees.{Tree, named, percent, any_call}

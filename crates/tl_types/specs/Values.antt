@@ -1,4 +1,4 @@
--- Values: numbers, and records of a declaration with the values of its fields.
+-- Values: numbers, and records of a declaration with the values of its fields. This project's own.
 use Rattle.std.specs.Prelude.{ℕ, suc, max, ℤ, List, [], ◌∷◌}
 
 mutual

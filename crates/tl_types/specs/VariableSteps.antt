@@ -1,4 +1,4 @@
--- Steps of the third check: the tests of calls.
+-- Steps of the third check: the tests of calls. This project's own.
 use Rattle.std.specs.Prelude.{◌==◌, Bool, not, bytes_eq}
 use Rattle.std.specs.List.{count_by, list_any}
 use Rattle.tl_combinators.specs.Program.{DeclText}

@@ -1,4 +1,5 @@
 -- Numbers as bytes.
+-- From "Binary data serialization" (core.telegram.org/mtproto/serialize): `int` and `long` are little-endian.
 use Rattle.std.specs.Prelude.{ℕ, List}
 use Rattle.std.specs.Int.{w32, w64, to_le_bytes}
 

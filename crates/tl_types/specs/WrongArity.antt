@@ -1,4 +1,5 @@
 -- The fourth check: numbers of arguments.
+-- From "Formal description of TL" (core.telegram.org/mtproto/TL-formal), its type expressions.
 use Rattle.std.specs.Prelude.{◌≡◌, ◌≢◌, ◌⊎◌, ℕ, suc, ◌<◌, List, length, true, false, Some}
 use Rattle.tl_combinators.specs.Trees.{Tree, Trees, named, percent, any_call, no_trees, tree}
 use Rattle.tl_combinators.specs.Program.{DeclText}

@@ -1,4 +1,4 @@
--- The parts of an answer: the rows of words, and the lines of Output and Errors.
+-- The parts of an answer: the rows of words, and the lines of Output and Errors. This project's own.
 use Rattle.std.specs.Prelude.{◌≡◌, ◌≢◌, ℕ, List, [], ◌∷◌, ◌++◌, codes, decimal}
 use Rattle.std.specs.Int.{w32, to_be_bytes}
 use Rattle.hex.specs.Hex.{encode_lower}

@@ -1,4 +1,4 @@
--- What the program answers: its status, what it writes to Output, and what it tells on Errors.
+-- What the program answers: its status, what it writes to Output, and what it tells on Errors. This project's own.
 use Rattle.std.specs.Prelude.{◌≡◌, ℕ, List}
 use Rattle.tl_base.specs.Contents.{Files, HoldBytes}
 use Rattle.tl_base.specs.Outside.{HasFile}

@@ -1,4 +1,4 @@
--- What `check` answers: the list of the schema's declarations, or where and why its text is refused.
+-- What `check` answers: the list of the schema's declarations, or where and why its text is refused. This project's own.
 use Rattle.std.specs.Prelude.{◌≡◌, ℕ, List, [], ◌++◌, codes, decimal, flat_map, Bool, not, ◌&&◌, is_some, if◌then◌else◌}
 use Rattle.std.specs.List.{count_by}
 use Rattle.std.specs.Int.{w32, to_be_bytes}

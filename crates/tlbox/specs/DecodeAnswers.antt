@@ -1,4 +1,4 @@
--- What `decode` answers: the line of the value that its input is, or where and why schema, type or input is refused.
+-- What `decode` answers: the line of the value that its input is, or where and why schema, type or input is refused. This project's own.
 use Rattle.std.specs.Prelude.{◌≡◌, ℕ, ◌≤◌, List, ◌∷◌, ◌++◌, length, codes}
 use Rattle.tl_base.specs.Contents.{Files}
 use Rattle.tl_base.specs.Outside.{HasFile}

@@ -1,4 +1,4 @@
--- What decoding answers: the value that bytes spell, or the place and the cause at which they are refused.
+-- What decoding answers: the value that bytes spell, or the place and the cause at which they are refused. This project's own.
 use Rattle.std.specs.Prelude.{◌≡◌, ℕ, ◌≤◌, List, ◌∷◌, ◌++◌, length, Option, Some, None, Result, Ok, Err}
 use Rattle.tl_types.specs.PlainTypes.{PlainShape}
 use Rattle.tl_types.specs.Values.{Tree, depth}

@@ -1,4 +1,4 @@
--- What the parts of a job answer, and what they do to the outside.
+-- What the parts of a job answer, and what they do to the outside. This project's own.
 use Rattle.std.specs.Prelude.{◌≡◌, ◌⊎◌, ℕ, List, ◌++◌, Result, Ok, Err, Vec, codes, decimal}
 use Rattle.tl_base.specs.Contents.{Files}
 use Rattle.tl_base.specs.Outside.{View, HasFile}

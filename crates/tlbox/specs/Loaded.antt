@@ -1,4 +1,4 @@
--- What a schema's text is, and a word that is a type: a schema, a type of it, or why it is none.
+-- What a schema's text is, and a word that is a type: a schema, a type of it, or why it is none. This project's own.
 use Rattle.std.specs.Prelude.{ℕ, List}
 use Rattle.tl_lexer.specs.declared.token.Token.{Token}
 use Rattle.tl_lexer.specs.declared.fault.LexFault.TheVariants as lex

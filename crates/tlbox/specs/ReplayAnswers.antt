@@ -1,4 +1,4 @@
--- What `replay` answers: the report of its journal, or where and why profile or journal is refused.
+-- What `replay` answers: the report of its journal, or where and why profile or journal is refused. This project's own.
 use Rattle.std.specs.Prelude.{◌≡◌, ◌≢◌, ℕ, List, ◌++◌, Ok, Err, codes, decimal}
 use Rattle.tl_base.specs.Contents.{Files}
 use Rattle.tl_base.specs.Outside.{HasFile}

@@ -1,4 +1,4 @@
--- What the parts of `replay` answer, and what they do to the outside.
+-- What the parts of `replay` answer, and what they do to the outside. This project's own.
 use Rattle.std.specs.Prelude.{◌≡◌, ◌⊎◌, ℕ, ◌≤◌, List, [], ◌++◌, length, Result, Ok, Err}
 use Rattle.tl_base.specs.Outside.{View, HasFile, with_written}
 use Rattle.tl_base.specs.declared.host.Out.TheVariants.{Output}

@@ -1,4 +1,4 @@
--- How a run ends.
+-- How a run ends. This project's own.
 use Rattle.std.specs.Prelude.{◌≡◌, ℕ, List, ◌++◌, codes, ◌⊎◌}
 use Rattle.tl_base.specs.Outside.{View}
 use Rattle.tlbox.specs.declared.status.Status.{Status}

@@ -1,4 +1,4 @@
--- Values as JSON.
+-- Values as JSON. This project's own.
 use Rattle.std.specs.Prelude.{ℕ, zero, suc, List, [], ◌∷◌, ◌++◌, codes, encode_utf8_all}
 use Rattle.serde_json.specs.Data.{Data, number, string, object, Members, no_members, put}
 use Rattle.serde_json.specs.Find.{of_integer}

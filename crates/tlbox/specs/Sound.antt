@@ -1,4 +1,4 @@
--- Where a run can't fail: over a sound outside that tells its view, has the files that the words take, and has room.
+-- Where a run can't fail: over a sound outside that tells its view, has the files that the words take, and has room. This project's own.
 use Rattle.std.specs.Prelude.{ℕ, ◌+◌, ◌≤◌, List, length, Bool, IsTrue, Option, IsSome, IfSome, Result}
 use Rattle.tl_base.specs.Contents.{AreBytes}
 use Rattle.tl_base.specs.Outside.{View, written_of}

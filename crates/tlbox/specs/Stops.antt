@@ -1,4 +1,4 @@
--- The stop of a job that a fault of one of its parts makes.
+-- The stop of a job that a fault of one of its parts makes. This project's own.
 use Rattle.std.specs.Prelude.{Option, Some, None}
 use Rattle.tl_base.specs.declared.source.TextFault.{TextFault}
 use Rattle.tl_base.specs.declared.source.TextFault.TheVariants as text

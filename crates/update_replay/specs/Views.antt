@@ -1,4 +1,4 @@
--- A world's fields as a world.
+-- A world's fields as a world. This project's own.
 use Rattle.std.specs.Prelude.{◌≡◌, ℕ, zero, suc, ℤ, ◌+◌, List, map, refl}
 use Rattle.std.specs.Coded.{Coded, code_by, coded×, coded_ℕ, coded_ℤ, coded_list}
 use Rattle.box_events.specs.Happenings.{Happening, added, edited, deleted, count_of, body_of, ids_of}
