@@ -24,9 +24,8 @@ mod Maps
 mod NameKeys
 mod Repeats
 mod TypeNames
+mod UnevenTypes
 mod ArityCases
-mod CountedDeclarations
-mod CountedNames
 mod ListParts
 mod Misapplied
 pub mod Calls

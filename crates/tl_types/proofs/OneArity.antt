@@ -1,5 +1,5 @@
 -- The number of variables of a name: there is one or none, and which is decided.
-use Rattle.std.proofs.Common.{◌≡◌, ◌≢◌, ◌⊎◌, inl, inr, ℕ, ◌<◌, Bool, true, false, ◌||◌, List, length, slice_get, Option, Some, None, bytes_eq, refl, sym, ap, ◌∙◌}
+use Rattle.std.proofs.Common.{◌≡◌, ◌≢◌, ◌⊎◌, inl, inr, ℕ, Bool, true, false, ◌||◌, List, length, slice_get, Option, Some, None, bytes_eq, refl, sym, ap, ◌∙◌}
 use Rattle.std.specs.Prelude.{codes}
 use Rattle.std.proofs.lemmas.Bool.{both_ways, cases_Bool, cases_eq, cases_order}
 use Rattle.std.proofs.lemmas.Option.{same_Some, slice_get_within}
@@ -9,14 +9,11 @@ use Rattle.tl_combinators.proofs.Decided.{decided_as, decided_not}
 use Rattle.tl_combinators.specs.Program.{DeclText}
 use Rattle.tl_types.specs.Writing.{At, is_type_name, is_vector_name, is_built_in, is_variable, IsConstructorOf, IsConstructorNamed, First}
 use Rattle.tl_types.specs.WrongArity.{HasArity, variable, vector, built_in, type, constructor}
+use Rattle.tl_types.specs.Arities.{FirstAt}
 use Rattle.tl_types.proofs.WritingDecided.{constructor_at_decided, named_at_decided}
 use Rattle.tl_types.proofs.Firsts.{first_of}
 
 -- ---- the first declaration that is such
-
--- declaration j is the first that is such
-abbrev FirstAt : (ℕ → DeclText → Type 0) → ℕ → DeclText → Type 0
-FirstAt Q j c = Q j c × ((i : ℕ) (b : DeclText) → i < j → Q i b → ⊥)
 
 module _ (ds : List DeclText) (Q : ℕ → DeclText → Type 0) (at : (j : ℕ) (c : DeclText) → Q j c → At ds j c) where
   -- the first of them is one declaration
@@ -83,7 +80,7 @@ module _ (ds : List DeclText) (d : DeclText) (name : List ℕ) where
 
     module _ (b : is_built_in name ≡ false) where
       -- a type has the number of its first constructor
-      type_has : is_type_name name ≡ true → (m : ℕ) → HasArity ds d name m → (j : ℕ) × (c : DeclText) × FirstOf ds name j c × (m ≡ length c.vars)
+      pub type_has : is_type_name name ≡ true → (m : ℕ) → HasArity ds d name m → (j : ℕ) × (c : DeclText) × FirstOf ds name j c × (m ≡ length c.vars)
       type_has u _ (variable w) = absurd (both_ways _ v w)
       type_has u _ (vector w x) = absurd (both_ways _ b (vector_built_in name x))
       type_has u _ (built_in w x y) = absurd (both_ways _ b y)
@@ -96,7 +93,7 @@ module _ (ds : List DeclText) (d : DeclText) (name : List ℕ) where
       type_arity u (inr none) = inr (λ h. let g = type_has u h.0 h.1 in none (g.0, g.1, g.2))
 
       -- and any other name that of the first constructor of this name
-      name_has : is_type_name name ≡ false → (m : ℕ) → HasArity ds d name m → (j : ℕ) × (c : DeclText) × FirstNamed ds name j c × (m ≡ length c.vars)
+      pub name_has : is_type_name name ≡ false → (m : ℕ) → HasArity ds d name m → (j : ℕ) × (c : DeclText) × FirstNamed ds name j c × (m ≡ length c.vars)
       name_has u _ (variable w) = absurd (both_ways _ v w)
       name_has u _ (vector w x) = absurd (both_ways _ b (vector_built_in name x))
       name_has u _ (built_in w x y) = absurd (both_ways _ b y)

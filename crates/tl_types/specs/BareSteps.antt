@@ -97,14 +97,18 @@ pub record AreNeeds (ds : List DeclText) (needs : List (Option (List ℕ))) : Ty
 abbrev pub needs_in : {A : Type 0} → List (Option (Vec ℕ A)) → List (Option (List ℕ))
 needs_in needs = map (λ o. option_map (λ js. js.items) o) needs
 
--- all nodes that are needed are marked
+-- all of these nodes are marked
+abbrev pub AreMarked : List ℕ → List Bool → Type 0
+AreMarked js marks = (j : ℕ) → IsIn j js → IsMarked marks j
+
+-- nodes are needed, and all of them are marked
 abbrev pub IsMetBy : Option (List ℕ) → List Bool → Type 0
 IsMetBy None marks = ⊥
-IsMetBy (Some js) marks = (j : ℕ) → IsIn j js → IsMarked marks j
+IsMetBy (Some js) marks = AreMarked js marks
 
 -- node k needs nodes, and all of them are marked
 abbrev pub IsMet : List (Option (List ℕ)) → List Bool → ℕ → Type 0
-IsMet needs marks k = (js : List ℕ) × (slice_get needs k ≡ Some (Some js)) × ((j : ℕ) → IsIn j js → IsMarked marks j)
+IsMet needs marks k = (js : List ℕ) × (slice_get needs k ≡ Some (Some js)) × AreMarked js marks
 
 -- node k needs nodes whose needs can be met, or it needs none
 pub data CanBeMet (needs : List (Option (List ℕ))) : ℕ → Type 0 where

@@ -10,6 +10,7 @@ ghost use Rattle.tl_types.specs.Seen.{declaration};
 
 use crate::copies::copy_program;
 use crate::entries::entry_of;
+use crate::index::Index;
 use crate::pass_checks::pass_checks;
 use crate::placed::Placed;
 use crate::scope::Scope;
@@ -37,19 +38,21 @@ pub fn check(alloc: Global, program: &Program) -> Result<Schema, CheckFault>
     requires { IsSmall (program_text program.now) }
     ensures { Checks (program_text program.now) result }
 {
-    pass_checks(alloc, program)?;
-    let schema = declare(alloc, program)?;
+    let index = Index::of(alloc, program)?;
+    pass_checks(alloc, &index, program)?;
+    let schema = declare(alloc, &index, program)?;
     Ok(schema)
 }
 
 // The schema that a program declares which passes the checks.
-fn declare(alloc: Global, program: &Program) -> Result<Schema, AllocError>
+fn declare(alloc: Global, index: &Index, program: &Program) -> Result<Schema, AllocError>
+    requires same { index.now ≡ program_text program.now }
     requires small { IsSmall (program_text program.now) }
     requires passes { Passes (program_text program.now) }
     ensures { IfOk result (λ s. IsSchema s × (s.program ≡ program_text program.now)) }
 {
     let program_copy = copy_program(alloc, program)?;
-    let entered = entered_of(alloc, program)?;
+    let entered = entered_of(alloc, index, program)?;
     Ok(schema_of(program_copy, entered))
 }
 
@@ -66,11 +69,12 @@ fn schema_of(program: Program, entered: Entered) -> Schema
 }
 
 // The entries of all declarations.
-fn entered_of(alloc: Global, program: &Program) -> Result<Entered, AllocError>
-    requires { IsSmall (program_text program.now) }
+fn entered_of(alloc: Global, index: &Index, program: &Program) -> Result<Entered, AllocError>
+    requires same { index.now ≡ program_text program.now }
+    requires small { IsSmall (program_text program.now) }
     ensures { IfOk result (AreEntered (program_text program.now)) }
 {
-    let scope = Scope::of(alloc, program)?;
+    let scope = Scope::of(alloc, index, program)?;
     let mut entered = Entered {
         entries: Vec::new(alloc),
         known: Known {

@@ -1,6 +1,6 @@
 //! The tenth check: arguments that take no bytes.
 ghost use Rattle.std.specs.Prelude.{◌≡◌, ◌<◌, ◌^◌, ◌↔◌, IsTrue, IfOk, length};
-ghost use Rattle.tl_combinators.specs.Trees.{Trees, named, trees_of, view, views};
+ghost use Rattle.tl_combinators.specs.Trees.{trees_of, view, views};
 ghost use Rattle.tl_combinators.specs.Program.{decl_text, program_text};
 ghost use Rattle.tl_types.specs.EmptyElement.{AppliesToEmpty, EmptyElement};
 ghost use Rattle.tl_types.specs.Parts.{SomePart};
@@ -16,14 +16,18 @@ use std::alloc::{AllocError, Global};
 use tl_combinators::{Decl, Program, TypeTree};
 
 /// The first declaration that applies a name to a bare constructor that takes no bytes.
-pub fn first_empty_element(alloc: Global, program: &Program) -> Result<Option<u32>, AllocError>
-    requires { length (program_text program.now) < 2 ^ 32 }
+pub fn first_empty_element(
+    alloc: Global,
+    index: &Index,
+    program: &Program,
+) -> Result<Option<u32>, AllocError>
+    requires same { index.now ≡ program_text program.now }
+    requires few { length (program_text program.now) < 2 ^ 32 }
     ensures { IfOk result (First (EmptyElement (program_text program.now))) }
 {
-    let index = Index::of(alloc, program)?;
-    let marks = empties(alloc, &index, program)?;
+    let marks = empties(alloc, index, program)?;
     let test = EmptyArgument {
-        index: &index,
+        index,
         marks: marks.as_slice(),
     };
     Ok(first_that_writes(program, &test))

@@ -1,4 +1,5 @@
 use crate::empty_element::first_empty_element;
+use crate::index::Index;
 use crate::texts::program;
 use std::alloc::Global;
 use std::test::Fail;
@@ -7,7 +8,8 @@ use std::test::Fail;
 
 fn answers(alloc: Global, text: &str, wanted: Option<u32>) -> Result<bool, Fail> {
     let program = program(alloc, text)?;
-    Ok(first_empty_element(alloc, &program)? == wanted)
+    let index = Index::of(alloc, &program)?;
+    Ok(first_empty_element(alloc, &index, &program)? == wanted)
 }
 
 #[test]

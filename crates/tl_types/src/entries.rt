@@ -6,7 +6,7 @@ ghost use Rattle.tl_types.specs.Writing.{own_type};
 ghost use Rattle.tl_types.specs.Seen.{declaration, shape, slot};
 ghost use Rattle.tl_types.specs.Meanings.{IsEntry, IsEntryNumber, condition_of, field_place, head_in, kind_shape, kind_variable, line_shape, result_shape, slot_of};
 
-use crate::arities::own_type;
+use crate::meanings::own_type;
 use crate::same_number::{VECTOR, number_of};
 use crate::schema::{Entry, SchemaField, TypeRef};
 use crate::scope::Scope;

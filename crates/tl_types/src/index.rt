@@ -1,27 +1,33 @@
 //! Own constructors by name and by type.
-ghost use Rattle.std.specs.Prelude.{◌≡◌, ◌∷◌, [], ◌++◌, ◌<◌, ◌^◌, ◌↔◌, IsTrue, List, length, IfOk, OnOk, unwrap_or};
+ghost use Rattle.std.specs.Prelude.{◌≡◌, ◌∷◌, [], ◌++◌, ◌<◌, ◌^◌, ◌↔◌, IsTrue, List, length, IfOk, OnOk};
 ghost use Rattle.tl_combinators.specs.Program.{DeclText, decl_text, program_text};
 ghost use Rattle.tl_types.specs.BareSteps.{OnlyOf};
 ghost use Rattle.tl_types.specs.Indexed.{FirstNamed, FirstOf, IsSingle, IndexesNames, IndexesTypes, Changes, at_name, one_more};
+ghost use Rattle.tl_types.specs.WrongArity.{IsUneven};
+ghost use Rattle.tl_types.specs.Writing.{At};
 
 use crate::meanings::{is_constructor, result_head};
+use crate::placed::Placed;
 use indexmap::IndexMap;
 use std::alloc::{AllocError, Global};
 use std::marker::Model;
 use tl_combinators::{Decl, Program};
 
-/// The constructors of a type: the place of the first, and whether it is the only one.
+/// The constructors of a type: the place of the first and how many variables it has, whether it is the only one, and whether
+/// another has another number of variables.
 #[derive(Clone, Copy)]
 pub struct Constructors {
     first: u32,
+    vars: usize,
     only: bool,
+    uneven: bool,
 }
 
 /// The own constructors of a program, to be found by their names and by the types that they make.
 #[derive(Drop)]
 pub struct Index<'a> {
     program: &'a Program,
-    names: IndexMap<Vec<u8>, u32>,
+    names: Placed,
     types: IndexMap<Vec<u8>, Constructors>,
 }
 
@@ -47,7 +53,7 @@ impl<'a> Index<'a> {
         requires { length (program_text program.now) < 2 ^ 32 }
         ensures { IfOk result (λ x. x ≡ program_text program.now) }
     {
-        let mut names = IndexMap::new(alloc);
+        let mut names = Placed::new(alloc);
         let mut types = IndexMap::new(alloc);
         for (at, decl) in program.decls.iter().enumerate() {
             note_name(alloc, &mut names, decl, at as u32)?;
@@ -71,7 +77,7 @@ impl<'a> Index<'a> {
     pub fn constructor(&self, name: &[u8]) -> Option<u32>
         ensures { FirstNamed self.now name.now result }
     {
-        self.names.get(name).copied()
+        self.names.get(name)
     }
 
     /// The place of the first constructor of this type.
@@ -109,21 +115,34 @@ impl<'a> Index<'a> {
             None => false,
         }
     }
+
+    /// Whether two constructors of the type have different numbers of variables.
+    pub fn is_uneven(&self, type_name: &[u8]) -> bool
+        ensures { IsTrue result ↔ IsUneven self.now type_name.now }
+    {
+        match find(&self.types, type_name) {
+            Some(constructors) => constructors.uneven,
+            None => false,
+        }
+    }
+
+    /// The number of variables of the declaration at a place.
+    pub fn var_count(&self, at: u32) -> usize
+        requires { at < length self.now }
+        ensures { (decl : DeclText) → At self.now at decl → length decl.vars ≡ result }
+    {
+        self.program.decls[at as usize].vars.len()
+    }
 }
 
 // Puts the name of one more declaration, which stands at a place behind the others.
-fn note_name(
-    alloc: Global,
-    names: &mut IndexMap<Vec<u8>, u32>,
-    decl: &Decl,
-    at: u32,
-) -> Result<(), AllocError>
+fn note_name(alloc: Global, names: &mut Placed, decl: &Decl, at: u32) -> Result<(), AllocError>
     ensures { OnOk result ((ds : List DeclText) → length ds ≡ at → IndexesNames ds names.old → IndexesNames (ds ++ decl_text decl.now ∷ []) names.new) }
 {
     if !is_constructor(decl) {
         return Ok(());
     }
-    add_name(alloc, names, decl.name.as_slice(), at)
+    names.note(alloc, decl.name.as_slice(), at)
 }
 
 // Puts the type that one more declaration makes.
@@ -139,7 +158,7 @@ fn note_type(
         return Ok(());
     }
     match result_head(decl) {
-        Some(name) => add_type(alloc, types, name, at),
+        Some(name) => add_type(alloc, types, name, at, decl.vars.len()),
         None => Ok(()),
     }
 }
@@ -151,32 +170,22 @@ fn find(types: &IndexMap<Vec<u8>, Constructors>, name: &[u8]) -> Option<Construc
     types.get(name).copied()
 }
 
-// Puts a place for a name that has none.
-fn add_name(
-    alloc: Global,
-    names: &mut IndexMap<Vec<u8>, u32>,
-    name: &[u8],
-    at: u32,
-) -> Result<(), AllocError>
-    ensures { OnOk result (Changes names.old names.new name.now (λ first. unwrap_or first at)) }
-{
-    let first = names.get(name).copied().unwrap_or(at);
-    names.insert(Vec::from_slice(alloc, name)?, first)?;
-    Ok(())
-}
-
-// The constructors of a type with one more, at a place behind the others.
-fn one_more(found: Option<Constructors>, at: u32) -> Constructors
-    ensures { result ≡ one_more at found }
+// The constructors of a type with one more, which has so many variables, at a place behind the others.
+fn one_more(found: Option<Constructors>, at: u32, vars: usize) -> Constructors
+    ensures { result ≡ one_more at vars found }
 {
     match found {
         Some(constructors) => Constructors {
             first: constructors.first,
+            vars: constructors.vars,
             only: false,
+            uneven: constructors.uneven || constructors.vars != vars,
         },
         None => Constructors {
             first: at,
+            vars,
             only: true,
+            uneven: false,
         },
     }
 }
@@ -187,10 +196,11 @@ fn add_type(
     types: &mut IndexMap<Vec<u8>, Constructors>,
     name: &[u8],
     at: u32,
+    vars: usize,
 ) -> Result<(), AllocError>
-    ensures { OnOk result (Changes types.old types.new name.now (one_more at)) }
+    ensures { OnOk result (Changes types.old types.new name.now (one_more at vars)) }
 {
-    let constructors = one_more(find(types, name), at);
+    let constructors = one_more(find(types, name), at, vars);
     types.insert(Vec::from_slice(alloc, name)?, constructors)?;
     Ok(())
 }

@@ -1,7 +1,6 @@
 //! Schemas, their types and their values.
 #![tactic(auto)]
 
-mod arities;
 mod bad_flag;
 mod bad_result;
 mod bare_cycle;

@@ -2,7 +2,7 @@
 ghost use Rattle.std.specs.Prelude.{◌≡◌, ◌==◌, ◌+◌, ◌<◌, drop, length, position};
 ghost use Rattle.std.specs.Option.{option_map};
 ghost use Rattle.tl_combinators.specs.Program.{decl_text};
-ghost use Rattle.tl_types.specs.Writing.{is_built_in, is_constructor, is_type_name, is_variable, is_vector_name, last_word, result_head};
+ghost use Rattle.tl_types.specs.Writing.{is_built_in, is_constructor, is_type_name, is_variable, is_vector_name, last_word, own_type, result_head};
 
 use tl_combinators::{Decl, TypeTree};
 
@@ -34,6 +34,17 @@ pub fn result_head(decl: &Decl) -> Option<&[u8]>
         }
         TypeTree::Percent { .. } => None,
         TypeTree::AnyCall => None,
+    }
+}
+
+/// The name of the type that a declaration makes, where it is a constructor and no line of a built-in type.
+pub fn own_type(decl: &Decl) -> Option<&[u8]>
+    ensures { option_map (λ name. name.now) result ≡ own_type (decl_text decl.now) }
+{
+    if is_constructor(decl) {
+        result_head(decl)
+    } else {
+        None
     }
 }
 

@@ -1,5 +1,5 @@
 //! The sixth check: what stands behind `%`.
-ghost use Rattle.std.specs.Prelude.{◌<◌, ◌^◌, ◌↔◌, IsTrue, IfOk, length};
+ghost use Rattle.std.specs.Prelude.{◌≡◌, ◌<◌, ◌^◌, ◌↔◌, IsTrue, length};
 ghost use Rattle.tl_combinators.specs.Trees.{view};
 ghost use Rattle.tl_combinators.specs.Program.{decl_text, program_text};
 ghost use Rattle.tl_types.specs.Writing.{First};
@@ -11,17 +11,16 @@ use crate::declarations::first_that_writes;
 use crate::index::Index;
 use crate::meanings::{is_type_name, is_variable};
 use crate::parts::{TypeTest, has_part};
-use std::alloc::{AllocError, Global};
 use tl_combinators::{Decl, Program, TypeTree};
 
 /// The first declaration that writes `%` before a type with no bare form, which `Vector` and each type with exactly one constructor have.
 /// From "TL language" (core.telegram.org/mtproto/TL), its bare types.
-pub fn first_not_bare(alloc: Global, program: &Program) -> Result<Option<u32>, AllocError>
-    requires { length (program_text program.now) < 2 ^ 32 }
-    ensures { IfOk result (First (NotBare (program_text program.now))) }
+pub fn first_not_bare(index: &Index, program: &Program) -> Option<u32>
+    requires same { index.now ≡ program_text program.now }
+    requires few { length (program_text program.now) < 2 ^ 32 }
+    ensures { First (NotBare (program_text program.now)) result }
 {
-    let index = Index::of(alloc, program)?;
-    Ok(first_that_writes(program, &NoBare { index: &index }))
+    first_that_writes(program, &NoBare { index })
 }
 
 /// Whether a type or a part of it is `%` before one that has no bare form where a declaration writes it.

@@ -1,3 +1,4 @@
+use crate::index::Index;
 use crate::not_bare::first_not_bare;
 use crate::texts::program;
 use std::alloc::Global;
@@ -7,7 +8,8 @@ use std::test::Fail;
 
 fn answers(alloc: Global, text: &str, wanted: Option<u32>) -> Result<bool, Fail> {
     let program = program(alloc, text)?;
-    Ok(first_not_bare(alloc, &program)? == wanted)
+    let index = Index::of(alloc, &program)?;
+    Ok(first_not_bare(&index, &program) == wanted)
 }
 
 #[test]

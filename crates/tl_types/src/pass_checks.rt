@@ -1,5 +1,5 @@
 //! The checks in their order.
-ghost use Rattle.std.specs.Prelude.{◌<◌, ◌^◌, length};
+ghost use Rattle.std.specs.Prelude.{◌≡◌, ◌<◌, ◌^◌, length};
 ghost use Rattle.tl_combinators.specs.Program.{program_text};
 ghost use Rattle.tl_types.specs.CheckCauses.{meaning_causes, name_causes};
 ghost use Rattle.tl_types.specs.CheckedPrograms.{ChecksBy, Found, PassesChecks};
@@ -8,6 +8,7 @@ use crate::bad_flag::first_bad_flag;
 use crate::bad_result::first_bad_result;
 use crate::bare_cycle::first_bare_cycle;
 use crate::empty_element::first_empty_element;
+use crate::index::Index;
 use crate::not_bare::first_not_bare;
 use crate::same_name::first_same_name;
 use crate::same_number::first_same_number;
@@ -29,37 +30,43 @@ fn fault_at(found: Option<u32>, cause: CheckCause) -> Result<(), CheckFault>
 }
 
 /// Refuses a program for the first cause that any of its declarations has.
-pub fn pass_checks(alloc: Global, program: &Program) -> Result<(), CheckFault>
-    requires { length (program_text program.now) < 2 ^ 32 }
+pub fn pass_checks(alloc: Global, index: &Index, program: &Program) -> Result<(), CheckFault>
+    requires same { index.now ≡ program_text program.now }
+    requires few { length (program_text program.now) < 2 ^ 32 }
     ensures { PassesChecks (program_text program.now) result }
 {
-    pass_names(alloc, program)?;
-    pass_meanings(alloc, program)
+    pass_names(alloc, index, program)?;
+    pass_meanings(alloc, index, program)
 }
 
 // The checks of names, and of what they are applied to.
-fn pass_names(alloc: Global, program: &Program) -> Result<(), CheckFault>
-    requires { length (program_text program.now) < 2 ^ 32 }
+fn pass_names(alloc: Global, index: &Index, program: &Program) -> Result<(), CheckFault>
+    requires same { index.now ≡ program_text program.now }
+    requires few { length (program_text program.now) < 2 ^ 32 }
     ensures { ChecksBy (program_text program.now) name_causes result }
 {
     fault_at(first_same_name(alloc, program)?, CheckCause::SameName)?;
-    fault_at(first_unknown_type(alloc, program)?, CheckCause::UnknownType)?;
+    fault_at(first_unknown_type(index, program), CheckCause::UnknownType)?;
     fault_at(first_unknown_variable(program), CheckCause::UnknownVariable)?;
-    fault_at(first_wrong_arity(alloc, program)?, CheckCause::WrongArity)?;
+    fault_at(first_wrong_arity(index, program), CheckCause::WrongArity)?;
     fault_at(first_bad_result(program), CheckCause::BadResult)
 }
 
 // The checks of what names mean.
-fn pass_meanings(alloc: Global, program: &Program) -> Result<(), CheckFault>
-    requires { length (program_text program.now) < 2 ^ 32 }
+fn pass_meanings(alloc: Global, index: &Index, program: &Program) -> Result<(), CheckFault>
+    requires same { index.now ≡ program_text program.now }
+    requires few { length (program_text program.now) < 2 ^ 32 }
     ensures { ChecksBy (program_text program.now) meaning_causes result }
 {
-    fault_at(first_not_bare(alloc, program)?, CheckCause::NotBare)?;
+    fault_at(first_not_bare(index, program), CheckCause::NotBare)?;
     fault_at(first_bad_flag(program), CheckCause::BadFlag)?;
     fault_at(first_same_number(alloc, program)?, CheckCause::SameNumber)?;
-    fault_at(first_bare_cycle(alloc, program)?, CheckCause::BareCycle)?;
     fault_at(
-        first_empty_element(alloc, program)?,
+        first_bare_cycle(alloc, index, program)?,
+        CheckCause::BareCycle,
+    )?;
+    fault_at(
+        first_empty_element(alloc, index, program)?,
         CheckCause::EmptyElement,
     )
 }

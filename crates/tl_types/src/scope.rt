@@ -4,8 +4,8 @@ ghost use Rattle.tl_combinators.specs.Program.{DeclText, decl_text, program_text
 ghost use Rattle.tl_types.specs.Writing.{own_type};
 ghost use Rattle.tl_types.specs.Meanings.{first_of, head_of, place_of, types_of, with_type_of};
 
-use crate::arities::own_type;
 use crate::index::Index;
+use crate::meanings::own_type;
 use crate::names::Names;
 use std::alloc::{AllocError, Global};
 use std::marker::Model;
@@ -13,12 +13,12 @@ use tl_combinators::{Decl, Program};
 
 /// The own constructors and the types of a program, by their names.
 #[derive(Drop)]
-pub struct Scope<'a> {
-    index: Index<'a>,
+pub struct Scope<'t, 'a> {
+    index: &'t Index<'a>,
     types: Names,
 }
 
-impl<'a> Model for Scope<'a> {
+impl<'t, 'a> Model for Scope<'t, 'a> {
     ghost use Rattle.std.specs.Prelude.{List};
     ghost use Rattle.tl_combinators.specs.Program.{DeclText};
     ghost use Rattle.tl_types.specs.DeclCodes.{decls_code};
@@ -28,27 +28,24 @@ impl<'a> Model for Scope<'a> {
 
     ghost coded = { decls_code };
 
-    ghost view = { λ s. s.index };
+    ghost view = { λ s. s.index.now };
 
-    ghost invariant = { λ s. IsScope s.index s.types };
+    ghost invariant = { λ s. IsScope s.index.now s.types };
 }
 
-impl<'a> Scope<'a> {
+impl<'t, 'a> Scope<'t, 'a> {
     /// Goes through a program.
-    pub fn of(alloc: Global, program: &'a Program) -> Result<Scope<'a>, AllocError>
-        requires { length (program_text program.now) < 2 ^ 32 }
+    pub fn of(
+        alloc: Global,
+        index: &'t Index<'a>,
+        program: &Program,
+    ) -> Result<Scope<'t, 'a>, AllocError>
+        requires same { index.now ≡ program_text program.now }
+        requires few { length (program_text program.now) < 2 ^ 32 }
         ensures { IfOk result (λ s. s ≡ program_text program.now) }
     {
-        let index = Index::of(alloc, program)?;
         let types = types_of(alloc, program)?;
         Ok(Scope { index, types })
-    }
-
-    /// The constructors.
-    pub fn index(&self) -> &Index<'a>
-        ensures { result.now ≡ self.now }
-    {
-        &self.index
     }
 
     /// The number of types.

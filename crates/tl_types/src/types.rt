@@ -11,7 +11,7 @@ use crate::not_bare::writes_no_bare;
 use crate::scope::Scope;
 use crate::terms::type_term;
 use crate::unknown_type::writes_unknown;
-use crate::wrong_arity::has_misapplied;
+use crate::wrong_arity::writes_misapplied;
 use crate::{Schema, TypeCause, TypeFault, TypeRef};
 use std::alloc::Global;
 use tl_base::Bytes;
@@ -54,8 +54,9 @@ fn checked_type(
     requires asks { decl_text decl.now ≡ asker }
     ensures { ChecksType (program_text program.now) (view tree.now) result }
 {
-    let scope = Scope::of(alloc, program)?;
-    pass_type(alloc, scope.index(), program, decl, tree)?;
+    let index = Index::of(alloc, program)?;
+    pass_type(alloc, &index, program, decl, tree)?;
+    let scope = Scope::of(alloc, &index, program)?;
     let term = type_term(alloc, &scope, decl, tree)?;
     Ok(term)
 }
@@ -78,8 +79,7 @@ fn pass_type(
             cause: TypeCause::UnknownType,
         });
     }
-    let is_misapplied = has_misapplied(alloc, program, decl, tree)?;
-    if is_misapplied {
+    if writes_misapplied(index, decl, tree) {
         return Err(TypeFault::Refused {
             cause: TypeCause::WrongArity,
         });

@@ -1,5 +1,5 @@
 //! The second check: each name of a type has a declaration.
-ghost use Rattle.std.specs.Prelude.{◌<◌, ◌^◌, ◌↔◌, IsTrue, IfOk, length};
+ghost use Rattle.std.specs.Prelude.{◌≡◌, ◌<◌, ◌^◌, ◌↔◌, IsTrue, length};
 ghost use Rattle.tl_combinators.specs.Program.{decl_text, program_text};
 ghost use Rattle.tl_combinators.specs.Trees.{view};
 ghost use Rattle.tl_types.specs.Writing.{First};
@@ -10,17 +10,16 @@ use crate::declarations::first_that_writes;
 use crate::index::Index;
 use crate::meanings::{is_built_in, is_type_name, is_variable};
 use crate::parts::{TypeTest, has_part};
-use std::alloc::{AllocError, Global};
 use tl_combinators::{Decl, Program, TypeTree};
 
 /// The first declaration that writes an unknown name: no variable, not built in, and declared by none.
 /// From "TL language" (core.telegram.org/mtproto/TL): a type has constructors, and a constructor is declared.
-pub fn first_unknown_type(alloc: Global, program: &Program) -> Result<Option<u32>, AllocError>
-    requires { length (program_text program.now) < 2 ^ 32 }
-    ensures { IfOk result (First (UnknownType (program_text program.now))) }
+pub fn first_unknown_type(index: &Index, program: &Program) -> Option<u32>
+    requires same { index.now ≡ program_text program.now }
+    requires few { length (program_text program.now) < 2 ^ 32 }
+    ensures { First (UnknownType (program_text program.now)) result }
 {
-    let index = Index::of(alloc, program)?;
-    Ok(first_that_writes(program, &UnknownName { index: &index }))
+    first_that_writes(program, &UnknownName { index })
 }
 
 /// Whether a type or a part of it begins with a name that is unknown where a declaration writes it.

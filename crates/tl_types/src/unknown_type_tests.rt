@@ -1,3 +1,4 @@
+use crate::index::Index;
 use crate::texts::program;
 use crate::unknown_type::first_unknown_type;
 use std::alloc::Global;
@@ -7,7 +8,8 @@ use std::test::Fail;
 
 fn answers(alloc: Global, text: &str, wanted: Option<u32>) -> Result<bool, Fail> {
     let program = program(alloc, text)?;
-    Ok(first_unknown_type(alloc, &program)? == wanted)
+    let index = Index::of(alloc, &program)?;
+    Ok(first_unknown_type(&index, &program) == wanted)
 }
 
 #[test]

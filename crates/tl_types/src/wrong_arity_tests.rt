@@ -1,3 +1,4 @@
+use crate::index::Index;
 use crate::texts::program;
 use crate::wrong_arity::first_wrong_arity;
 use std::alloc::Global;
@@ -8,7 +9,8 @@ use std::test::Fail;
 // Whether this is the answer for what the text declares.
 fn answers(alloc: Global, text: &str, wanted: Option<u32>) -> Result<bool, Fail> {
     let program = program(alloc, text)?;
-    Ok(first_wrong_arity(alloc, &program)? == wanted)
+    let index = Index::of(alloc, &program)?;
+    Ok(first_wrong_arity(&index, &program) == wanted)
 }
 
 #[test]

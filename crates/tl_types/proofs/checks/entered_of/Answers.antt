@@ -16,11 +16,11 @@ loop-at-init c = record {
 
 pub enter-requires-clause-vars : goal.enter-requires-clause-vars
 enter-requires-clause-vars c =
-    c.requires.variables c.loop-at.at (decl_text c.decl-item.result) (slice_get_item decl_text c.args.program.now.decls.items c.loop-at.at c.decl-item.result (rw c.deref-decl-items.ensures.value at c.loop-at-test.true) (rw c.deref-decl-items.ensures.value at c.decl-item.is))
+    c.requires.small.variables c.loop-at.at (decl_text c.decl-item.result) (slice_get_item decl_text c.args.program.now.decls.items c.loop-at.at c.decl-item.result (rw c.deref-decl-items.ensures.value at c.loop-at-test.true) (rw c.deref-decl-items.ensures.value at c.decl-item.is))
 
 pub enter-requires-clause-fields : goal.enter-requires-clause-fields
 enter-requires-clause-fields c =
-    c.requires.fields c.loop-at.at (decl_text c.decl-item.result) (slice_get_item decl_text c.args.program.now.decls.items c.loop-at.at c.decl-item.result (rw c.deref-decl-items.ensures.value at c.loop-at-test.true) (rw c.deref-decl-items.ensures.value at c.decl-item.is))
+    c.requires.small.fields c.loop-at.at (decl_text c.decl-item.result) (slice_get_item decl_text c.args.program.now.decls.items c.loop-at.at c.decl-item.result (rw c.deref-decl-items.ensures.value at c.loop-at-test.true) (rw c.deref-decl-items.ensures.value at c.decl-item.is))
 
 pub loop-at-preserved : goal.loop-at-preserved
 loop-at-preserved c =

@@ -10,6 +10,6 @@ returns-then-not-is_constructor c =
 
 pub returns : goal.returns
 returns c =
-    on_ok_weaker c.add_name.result
-    (λ changes ds e old. names_more ds (decl_text c.args.decl.now) c.args.names.now c.add_name.new.names c.args.at (sym c.is_constructor.ensures ∙ c.if-not-is_constructor.false) e (rw c.as_slice.ensures.value at changes) old)
-    c.add_name.ensures
+    on_ok_weaker c.note.result
+    (λ changes ds e old. names_more ds (decl_text c.args.decl.now) c.args.names.now c.note.new.self c.args.at (sym c.is_constructor.ensures ∙ c.if-not-is_constructor.false) e (rw c.as_slice.ensures.value at changes) old)
+    c.note.ensures

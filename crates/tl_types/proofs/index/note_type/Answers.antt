@@ -1,4 +1,4 @@
-use Rattle.std.proofs.Common.{true≢false, sym, ◌∙◌}
+use Rattle.std.proofs.Common.{◌≡◌, length, true≢false, sym, ◌∙◌, arith}
 use Rattle.std.proofs.lemmas.Result.{on_ok_weaker}
 use Rattle.std.proofs.lemmas.Option.{none-some}
 use Rattle.tl_combinators.specs.Program.{decl_text}
@@ -11,8 +11,9 @@ returns-then-not-is_constructor c =
 
 pub returns-in-Some : goal.returns-in-Some
 returns-in-Some c =
+    let number : length (decl_text c.args.decl.now).vars ≡ c.len.result = omega (arith, c.len.ensures, c.args.decl.now.vars.ok.0) in
     on_ok_weaker c.add_type.result
-    (λ changes ds e old. types_more ds (decl_text c.args.decl.now) c.args.types.now c.add_type.new.types c.in-Some.name.now c.args.at (sym c.is_constructor.ensures ∙ c.if-not-is_constructor.false) c.in-Some.ensures e changes old)
+    (λ changes ds e old. types_more ds (decl_text c.args.decl.now) c.args.types.now c.add_type.new.types c.in-Some.name.now c.args.at c.len.result (sym c.is_constructor.ensures ∙ c.if-not-is_constructor.false) c.in-Some.ensures e number changes old)
     c.add_type.ensures
 
 pub returns-in-None : goal.returns-in-None

@@ -1,4 +1,3 @@
-use Rattle.std.proofs.Common.{◌∙◌}
 use Rattle.tl_combinators.specs.Trees.{view}
 use Rattle.tl_combinators.specs.Program.{program_text}
 use Rattle.tl_types.proofs.TypeSteps.{stops, no_memory}
@@ -10,9 +9,6 @@ returns-in_err-pass_type c =
 
 pub returns-in_err-term : goal.returns-in_err-term
 returns-in_err-term c = no_memory (program_text c.args.program.now) (view c.args.tree.now) c.from_residual-in_err-term.result c.from_residual-in_err-term.ensures.1
-
-pub pass_type-requires-clause-same : goal.pass_type-requires-clause-same
-pass_type-requires-clause-same c = c.index.ensures ∙ c.in_ok-scope.ensures
 
 pub returns : goal.returns
 returns c = (c.in_ok-pass_type.ensures, rw (c.in_ok-scope.ensures, c.requires.asks) at c.in_ok-term.ensures)

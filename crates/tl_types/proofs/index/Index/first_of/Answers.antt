@@ -5,7 +5,7 @@ use Rattle.tl_types.proofs.index.Index.first_of.Goals as goal
 pub returns-in-Some : goal.returns-in-Some
 returns-in-Some c =
     let family = subst (IsFamily _ c.args.type_name.now) (sym c.find.ensures ∙ c.in-Some.is) (c.self.invariant.made c.args.type_name.now) in
-    rw (← c.self.view_is) family.0
+    rw (← c.self.view_is) family.first
 
 pub returns-in-None : goal.returns-in-None
 returns-in-None c =

@@ -7,7 +7,7 @@ use Rattle.tl_types.proofs.IndexSteps.{no_index}
 use Rattle.tl_types.proofs.index.Index.of.Goals as goal
 
 pub loop-at-init : goal.loop-at-init
-loop-at-init c = no_index c.new-names.result c.new-types.result c.new-names.ensures.empty c.new-types.ensures.empty
+loop-at-init c = no_index c.new-names.result c.new-types.result c.new-names.ensures c.new-types.ensures.empty
 
 pub loop-at-preserved : goal.loop-at-preserved
 loop-at-preserved c =

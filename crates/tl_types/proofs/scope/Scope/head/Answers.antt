@@ -7,7 +7,7 @@ use Rattle.tl_types.proofs.scope.Scope.head.Goals as goal
 pub overflow_cast-result : goal.overflow_cast-result
 overflow_cast-result c =
     let found = position_some (bytes_eq c.args.type_name.now) c.self.inside.types c.in-Some.head (sym c.place.ensures ∙ c.in-Some.is) in
-    omega (arith, found.1, ap length c.self.invariant.types_are, few_types c.self.inside.index, c.self.invariant.few)
+    omega (arith, found.1, ap length c.self.invariant.types_are, few_types c.self.inside.index.now, c.self.invariant.few)
 
 pub returns-in-Some : goal.returns-in-Some
 returns-in-Some c =

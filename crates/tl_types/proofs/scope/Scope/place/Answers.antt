@@ -4,8 +4,8 @@ use Rattle.tl_types.proofs.scope.Scope.place.Goals as goal
 
 pub returns-in-Some : goal.returns-in-Some
 returns-in-Some c =
-    rw (← c.self.view_is) (place_found c.self.inside.index c.args.name.now c.in-Some.place (rw c.in-Some.is at c.constructor.ensures))
+    rw (← c.self.view_is) (place_found c.self.inside.index.now c.args.name.now c.in-Some.place (rw c.in-Some.is at c.constructor.ensures))
 
 pub returns-in-None : goal.returns-in-None
 returns-in-None c =
-    rw (← c.self.view_is) (c.count.ensures ∙ no_place_found c.self.inside.index c.args.name.now (rw c.in-None.is at c.constructor.ensures))
+    rw (← c.self.view_is) (c.count.ensures ∙ no_place_found c.self.inside.index.now c.args.name.now (rw c.in-None.is at c.constructor.ensures))
