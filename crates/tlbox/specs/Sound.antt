@@ -1,5 +1,7 @@
--- Where a run can't fail: over a sound outside that tells its view, has the files that the words take, and has room. This project's own.
-use Rattle.std.specs.Prelude.{ℕ, ◌+◌, ◌≤◌, List, length, Bool, IsTrue, Option, IsSome, IfSome, Result}
+-- Where a call may fail, and where it can't: over a sound outside that tells its view, has the files that the words take, and has room.
+-- This project's own.
+use Rattle.std.specs.Prelude.{◌≡◌, ◌⊎◌, ℕ, ◌+◌, ◌≤◌, List, length, Bool, IsTrue, Option, IsSome, IfSome, Result}
+use Rattle.tl_base.specs.Causes.{Rose}
 use Rattle.tl_base.specs.Contents.{AreBytes}
 use Rattle.tl_base.specs.Outside.{View, written_of}
 use Rattle.tl_base.specs.declared.host.Out.{Out}
@@ -17,6 +19,22 @@ use Rattle.tlbox.specs.Answers.{Answers, IsFile}
 pub record NeverFails (told : Option View) (before now : Bool) (failed : Type 0) (P : View → Type 0) : Type 0 where
   pub stays : IsSome told → IsTrue before → IsTrue now
   pub never : IfSome told (λ v. IsTrue before → P v → failed → ⊥)
+
+-- A call that meets faults of one kind alone: their count doesn't fall and the other kind's stays, the call failed only where theirs rose, and
+-- over a sound host that tells its view it doesn't fail where P.
+pub record MeetsFaults {H : Type 0} (view : H → Option View) (faults others : H → ℕ) (sound : H → Bool) (old new : H) (failed : Type 0) (P : View → Type 0) : Type 0 where
+  pub later : faults old ≤ faults new
+  pub cause : failed → Rose (faults old) (faults new)
+  pub kept : others new ≡ others old
+  pub safe : NeverFails (view old) (sound old) (sound new) failed P
+
+-- A call that may meet faults of both kinds: likewise of each.
+pub record MeetsBothFaults {H : Type 0} (view : H → Option View) (read_faults write_faults : H → ℕ) (sound : H → Bool) (old new : H) (read_failed write_failed : Type 0) (P : View → Type 0) : Type 0 where
+  pub reads_later : read_faults old ≤ read_faults new
+  pub writes_later : write_faults old ≤ write_faults new
+  pub read : read_failed → Rose (read_faults old) (read_faults new)
+  pub write : write_failed → Rose (write_faults old) (write_faults new)
+  pub safe : NeverFails (view old) (sound old) (sound new) (read_failed ⊎ write_failed) P
 
 -- there is a file with this name
 abbrev pub IsThere : List ℕ → View → Type 0

@@ -1,9 +1,8 @@
 //! Reading the slots of a host, and writing to its outs.
-ghost use Rattle.std.specs.Prelude.{◌≡◌, ◌≤◌, IsErr, IsErrOf, length};
+ghost use Rattle.std.specs.Prelude.{IsErr, IsErrOf, length};
 ghost use Rattle.tl_base.specs.Calls.{Told};
-ghost use Rattle.tl_base.specs.Causes.{HasCause, Rose};
 ghost use Rattle.tlbox.specs.Steps.{ReadsText, TakesSlot, Puts};
-ghost use Rattle.tlbox.specs.Sound.{NeverFails, IsThere, HasRoom};
+ghost use Rattle.tlbox.specs.Sound.{MeetsFaults, IsThere, HasRoom};
 
 use std::alloc::Global;
 use tl_base::{Host, Out, SinkOf, Slot, SourceOf, TextFault, WriteFault, take_text, write_all};
@@ -17,10 +16,7 @@ pub fn text_of<H: Host>(
     limit: u32,
 ) -> Result<Vec<u8>, TextFault>
     ensures text { Told (H.view host.old) (H.view host.new) (ReadsText slot name.now limit result) }
-    ensures later { H.read_faults host.old ≤ H.read_faults host.new }
-    ensures cause { IsErrOf result TextFault.ReadFault → Rose (H.read_faults host.old) (H.read_faults host.new) }
-    ensures others { H.write_faults host.new ≡ H.write_faults host.old }
-    ensures sound { NeverFails (H.view host.old) (H.sound host.old) (H.sound host.new) (IsErrOf result TextFault.ReadFault) (IsThere name.now) }
+    ensures faults { MeetsFaults H.view H.read_faults H.write_faults H.sound host.old host.new (IsErrOf result TextFault.ReadFault) (IsThere name.now) }
 {
     match host.open_slot(slot, name) {
         Ok(()) => slot_text(alloc, host, slot, limit),
@@ -36,10 +32,7 @@ fn slot_text<H: Host>(
     limit: u32,
 ) -> Result<Vec<u8>, TextFault>
     ensures text { Told (H.view host.old) (H.view host.new) (TakesSlot slot limit result) }
-    ensures later { H.read_faults host.old ≤ H.read_faults host.new }
-    ensures cause { IsErrOf result TextFault.ReadFault → Rose (H.read_faults host.old) (H.read_faults host.new) }
-    ensures others { H.write_faults host.new ≡ H.write_faults host.old }
-    ensures sound { NeverFails (H.view host.old) (H.sound host.old) (H.sound host.new) (IsErrOf result TextFault.ReadFault) (λ _. Unit {0}) }
+    ensures faults { MeetsFaults H.view H.read_faults H.write_faults H.sound host.old host.new (IsErrOf result TextFault.ReadFault) (λ _. Unit {0}) }
 {
     let mut source = SourceOf::new(host, slot);
     take_text(alloc, &mut source, limit)
@@ -48,9 +41,7 @@ fn slot_text<H: Host>(
 /// Writes a piece to an out.
 pub fn put<H: Host>(host: &mut H, out: Out, piece: &[u8]) -> Result<(), WriteFault>
     ensures put { Told (H.view host.old) (H.view host.new) (Puts out piece.now result) }
-    ensures cause { HasCause (H.write_faults host.old) (H.write_faults host.new) result }
-    ensures others { H.read_faults host.new ≡ H.read_faults host.old }
-    ensures sound { NeverFails (H.view host.old) (H.sound host.old) (H.sound host.new) (IsErr result) (HasRoom out (length piece.now)) }
+    ensures faults { MeetsFaults H.view H.write_faults H.read_faults H.sound host.old host.new (IsErr result) (HasRoom out (length piece.now)) }
 {
     let mut sink = SinkOf::new(host, out);
     write_all(&mut sink, piece)

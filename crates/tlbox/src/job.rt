@@ -1,13 +1,12 @@
 //! The jobs of `check` and `decode`.
-ghost use Rattle.std.specs.Prelude.{◌≡◌, ◌<◌, ◌≤◌, ◌⊎◌, IsErrOf, length};
+ghost use Rattle.std.specs.Prelude.{◌<◌, IsErrOf, length};
 ghost use Rattle.tl_base.specs.Calls.{Told};
-ghost use Rattle.tl_base.specs.Causes.{Rose};
 ghost use Rattle.tl_types.specs.Meanings.{types_of};
 ghost use Rattle.tl_types.specs.PlainTypes.{boxed};
 ghost use Rattle.tl_types.specs.PlainViews.{plain_decls};
 ghost use Rattle.tlbox.specs.Jobs.{LoadsSchema, LoadsValue, MakesOutput, NamesPlain, ReadsSchema, Works, bytes_of, check_command, decode_command};
 ghost use Rattle.tlbox.specs.Steps.{TakesValue};
-ghost use Rattle.tlbox.specs.Sound.{CommandAnswered, CommandFits, IsThere, NeverFails};
+ghost use Rattle.tlbox.specs.Sound.{CommandAnswered, CommandFits, IsThere, MeetsBothFaults, MeetsFaults};
 
 use crate::files::{put, text_of};
 use crate::listing::listing;
@@ -42,10 +41,7 @@ fn schema_of(alloc: Global, text: &[u8]) -> Result<Schema, Stop>
 fn load_schema<H: Host>(alloc: Global, host: &mut H, name: &str) -> Result<Schema, Stop>
     ensures loads { Told (H.view host.old) (H.view host.new) (LoadsSchema name.now result) }
     ensures no_write { IsErrOf result Stop.WriteFault → ⊥ }
-    ensures later { H.read_faults host.old ≤ H.read_faults host.new }
-    ensures cause { IsErrOf result Stop.ReadFault → Rose (H.read_faults host.old) (H.read_faults host.new) }
-    ensures others { H.write_faults host.new ≡ H.write_faults host.old }
-    ensures sound { NeverFails (H.view host.old) (H.sound host.old) (H.sound host.new) (IsErrOf result Stop.ReadFault) (IsThere name.now) }
+    ensures faults { MeetsFaults H.view H.read_faults H.write_faults H.sound host.old host.new (IsErrOf result Stop.ReadFault) (IsThere name.now) }
 {
     let text = text_of(alloc, host, Slot::Schema, name, SCHEMA_BYTES)?;
     schema_of(alloc, &text)
@@ -73,10 +69,7 @@ fn slot_value<H: Host>(
 ) -> Result<Value, InputFault>
     requires { head < length (types_of schema.now.program) }
     ensures value { Told (H.view host.old) (H.view host.new) (TakesValue (plain_decls schema.now) (boxed head) result) }
-    ensures later { H.read_faults host.old ≤ H.read_faults host.new }
-    ensures cause { IsErrOf result InputFault.ReadFault → Rose (H.read_faults host.old) (H.read_faults host.new) }
-    ensures others { H.write_faults host.new ≡ H.write_faults host.old }
-    ensures sound { NeverFails (H.view host.old) (H.sound host.old) (H.sound host.new) (IsErrOf result InputFault.ReadFault) (λ _. Unit {0}) }
+    ensures faults { MeetsFaults H.view H.read_faults H.write_faults H.sound host.old host.new (IsErrOf result InputFault.ReadFault) (λ _. Unit {0}) }
 {
     let mut source = SourceOf::new(host, Slot::Input);
     decode_whole(alloc, schema, head, &mut source)
@@ -92,10 +85,7 @@ fn load_value<H: Host>(
 ) -> Result<Value, InputFault>
     requires { head < length (types_of schema.now.program) }
     ensures loads { Told (H.view host.old) (H.view host.new) (LoadsValue (plain_decls schema.now) (boxed head) name.now result) }
-    ensures later { H.read_faults host.old ≤ H.read_faults host.new }
-    ensures cause { IsErrOf result InputFault.ReadFault → Rose (H.read_faults host.old) (H.read_faults host.new) }
-    ensures others { H.write_faults host.new ≡ H.write_faults host.old }
-    ensures sound { NeverFails (H.view host.old) (H.sound host.old) (H.sound host.new) (IsErrOf result InputFault.ReadFault) (IsThere name.now) }
+    ensures faults { MeetsFaults H.view H.read_faults H.write_faults H.sound host.old host.new (IsErrOf result InputFault.ReadFault) (IsThere name.now) }
 {
     match host.open_slot(Slot::Input, name) {
         Ok(()) => slot_value(alloc, host, schema, head),
@@ -113,10 +103,7 @@ fn decoded_line<H: Host>(
 ) -> Result<Vec<u8>, Stop>
     ensures line { Told (H.view host.old) (H.view host.new) (MakesOutput (decode_command schema.now of.now input.now) (bytes_of result)) }
     ensures no_write { IsErrOf result Stop.WriteFault → ⊥ }
-    ensures later { H.read_faults host.old ≤ H.read_faults host.new }
-    ensures cause { IsErrOf result Stop.ReadFault → Rose (H.read_faults host.old) (H.read_faults host.new) }
-    ensures others { H.write_faults host.new ≡ H.write_faults host.old }
-    ensures sound { NeverFails (H.view host.old) (H.sound host.old) (H.sound host.new) (IsErrOf result Stop.ReadFault) (CommandAnswered (decode_command schema.now of.now input.now)) }
+    ensures faults { MeetsFaults H.view H.read_faults H.write_faults H.sound host.old host.new (IsErrOf result Stop.ReadFault) (CommandAnswered (decode_command schema.now of.now input.now)) }
 {
     let schema = load_schema(alloc, host, schema)?;
     let head = plain_type(alloc, &schema, of)?;
@@ -129,10 +116,7 @@ fn decoded_line<H: Host>(
 fn checked_listing<H: Host>(alloc: Global, host: &mut H, schema: &str) -> Result<Vec<u8>, Stop>
     ensures list { Told (H.view host.old) (H.view host.new) (MakesOutput (check_command schema.now) (bytes_of result)) }
     ensures no_write { IsErrOf result Stop.WriteFault → ⊥ }
-    ensures later { H.read_faults host.old ≤ H.read_faults host.new }
-    ensures cause { IsErrOf result Stop.ReadFault → Rose (H.read_faults host.old) (H.read_faults host.new) }
-    ensures others { H.write_faults host.new ≡ H.write_faults host.old }
-    ensures sound { NeverFails (H.view host.old) (H.sound host.old) (H.sound host.new) (IsErrOf result Stop.ReadFault) (CommandAnswered (check_command schema.now)) }
+    ensures faults { MeetsFaults H.view H.read_faults H.write_faults H.sound host.old host.new (IsErrOf result Stop.ReadFault) (CommandAnswered (check_command schema.now)) }
 {
     let schema = load_schema(alloc, host, schema)?;
     let text = listing(alloc, &schema)?;
@@ -142,11 +126,7 @@ fn checked_listing<H: Host>(alloc: Global, host: &mut H, schema: &str) -> Result
 /// Checks a schema, and writes the list of its declarations.
 pub fn check_schema<H: Host>(alloc: Global, host: &mut H, schema: &str) -> Result<(), Stop>
     ensures works { Told (H.view host.old) (H.view host.new) (Works (check_command schema.now) result) }
-    ensures reads_later { H.read_faults host.old ≤ H.read_faults host.new }
-    ensures writes_later { H.write_faults host.old ≤ H.write_faults host.new }
-    ensures read { IsErrOf result Stop.ReadFault → Rose (H.read_faults host.old) (H.read_faults host.new) }
-    ensures write { IsErrOf result Stop.WriteFault → Rose (H.write_faults host.old) (H.write_faults host.new) }
-    ensures sound { NeverFails (H.view host.old) (H.sound host.old) (H.sound host.new) (IsErrOf result Stop.ReadFault ⊎ IsErrOf result Stop.WriteFault) (CommandFits (check_command schema.now)) }
+    ensures faults { MeetsBothFaults H.view H.read_faults H.write_faults H.sound host.old host.new (IsErrOf result Stop.ReadFault) (IsErrOf result Stop.WriteFault) (CommandFits (check_command schema.now)) }
 {
     let text = checked_listing(alloc, host, schema)?;
     put(host, Out::Output, &text)?;
@@ -162,11 +142,7 @@ pub fn decode<H: Host>(
     input: &str,
 ) -> Result<(), Stop>
     ensures works { Told (H.view host.old) (H.view host.new) (Works (decode_command schema.now of.now input.now) result) }
-    ensures reads_later { H.read_faults host.old ≤ H.read_faults host.new }
-    ensures writes_later { H.write_faults host.old ≤ H.write_faults host.new }
-    ensures read { IsErrOf result Stop.ReadFault → Rose (H.read_faults host.old) (H.read_faults host.new) }
-    ensures write { IsErrOf result Stop.WriteFault → Rose (H.write_faults host.old) (H.write_faults host.new) }
-    ensures sound { NeverFails (H.view host.old) (H.sound host.old) (H.sound host.new) (IsErrOf result Stop.ReadFault ⊎ IsErrOf result Stop.WriteFault) (CommandFits (decode_command schema.now of.now input.now)) }
+    ensures faults { MeetsBothFaults H.view H.read_faults H.write_faults H.sound host.old host.new (IsErrOf result Stop.ReadFault) (IsErrOf result Stop.WriteFault) (CommandFits (decode_command schema.now of.now input.now)) }
 {
     let line = decoded_line(alloc, host, schema, of, input)?;
     put(host, Out::Output, &line)?;

@@ -23,15 +23,30 @@ pub returns-clause-line : goal.returns-clause-line
 returns-clause-line g c =
     value_line c.args.schema.now c.args.of.now c.args.input.now c.in_ok-schema.schema c.in_ok-head.head c.in_ok-head.ensures c.in_ok-value.value _ _ _ _ c.in_ok-schema.ensures.loads c.in_ok-value.ensures.loads (search rules)
 
-pub returns-in_err-value-clause-sound : goal.returns-in_err-value-clause-sound
-returns-in_err-value-clause-sound g c =
-    no_value_sound c.args.schema.now c.args.of.now c.args.input.now c.in_ok-schema.schema c.in_ok-head.head c.in_ok-head.ensures c.in_err-value.field-0.0 c.from_residual-in_err-value.result _ _ _ _ _
-    c.in_ok-schema.ensures.loads c.in_ok-schema.ensures.sound.stays c.in_err-value.ensures.sound c.from_residual-in_err-value.ensures.1
+pub returns-in_err-value-clause-faults : goal.returns-in_err-value-clause-faults
+returns-in_err-value-clause-faults g c = record {
+  later = search rules;
+  cause = search rules;
+  kept = search rules;
+  safe =
+      no_value_sound c.args.schema.now c.args.of.now c.args.input.now c.in_ok-schema.schema c.in_ok-head.head c.in_ok-head.ensures c.in_err-value.field-0.0 c.from_residual-in_err-value.result _ _ _ _ _
+      c.in_ok-schema.ensures.loads c.in_ok-schema.ensures.faults.safe.stays c.in_err-value.ensures.faults.safe c.from_residual-in_err-value.ensures.1;
+}
 
-pub returns-in_err-line-clause-sound : goal.returns-in_err-line-clause-sound
-returns-in_err-line-clause-sound g c =
-    none_failed _ _ _ _ _ (stays_sound _ _ _ _ _ (LoadsSchema c.args.schema.now (Ok c.in_ok-schema.schema)) c.in_ok-schema.ensures.loads c.in_ok-schema.ensures.sound.stays c.in_ok-value.ensures.sound.stays) (λ failed. search rules)
+pub returns-in_err-line-clause-faults : goal.returns-in_err-line-clause-faults
+returns-in_err-line-clause-faults g c = record {
+  later = search rules;
+  cause = search rules;
+  kept = search rules;
+  safe =
+      none_failed _ _ _ _ _ (stays_sound _ _ _ _ _ (LoadsSchema c.args.schema.now (Ok c.in_ok-schema.schema)) c.in_ok-schema.ensures.loads c.in_ok-schema.ensures.faults.safe.stays c.in_ok-value.ensures.faults.safe.stays) (λ failed. search rules);
+}
 
-pub returns-clause-sound : goal.returns-clause-sound
-returns-clause-sound g c =
-    none_failed _ _ _ _ _ (stays_sound _ _ _ _ _ (LoadsSchema c.args.schema.now (Ok c.in_ok-schema.schema)) c.in_ok-schema.ensures.loads c.in_ok-schema.ensures.sound.stays c.in_ok-value.ensures.sound.stays) (λ failed. search rules)
+pub returns-clause-faults : goal.returns-clause-faults
+returns-clause-faults g c = record {
+  later = search rules;
+  cause = search rules;
+  kept = search rules;
+  safe =
+      none_failed _ _ _ _ _ (stays_sound _ _ _ _ _ (LoadsSchema c.args.schema.now (Ok c.in_ok-schema.schema)) c.in_ok-schema.ensures.loads c.in_ok-schema.ensures.faults.safe.stays c.in_ok-value.ensures.faults.safe.stays) (λ failed. search rules);
+}
