@@ -1,4 +1,5 @@
 pub mod RowSteps
+mod SortedRows
 pub mod LatestValues
 pub mod Stays
 pub mod Growing

@@ -10,7 +10,6 @@ ghost use Rattle.seq_machine.specs.Spots.{IsWithin};
 
 use crate::setting::Setting;
 use std::alloc::Global;
-use std::cmp::Ordering;
 use std::marker::Model;
 use tl_base::Memory;
 
@@ -42,22 +41,21 @@ impl Model for Table {
     ghost invariant = { λ t. AreSorted t.rows.items };
 }
 
+// Where a key stands among sorted rows, or belongs.
 fn spot_of(rows: &[Setting], key: &[u8]) -> Spot
+    requires sorted { AreSorted rows.now }
     ensures place { result ≡ spot_from 0 rows.now key.now }
     ensures within { IsWithin result (length rows.now) }
 {
-    for (i, setting) in rows.iter().enumerate() {
-        match key.cmp(setting.key.as_slice()) {
-            Ordering::Less => return Spot::Before(i),
-            Ordering::Equal => return Spot::At(i),
-            Ordering::Greater => {}
-        }
+    match rows.binary_search_by(|row| row.key.as_slice().cmp(key)) {
+        Ok(i) => Spot::At(i),
+        Err(i) => Spot::Before(i),
     }
-    Spot::Before(rows.len())
 }
 
 // Puts a value under its key.
 fn put_row(rows: &mut Vec<Setting>, setting: Setting)
+    requires sorted { AreSorted rows.old.items }
     requires room { vec_len rows.old < vec_capacity rows.old }
     ensures rows { pairs rows.new.items ≡ put (slice_cmp nat_cmp) setting.key setting.value (pairs rows.old.items) }
     ensures len { vec_len rows.new ≤ vec_len rows.old + 1 }
@@ -74,14 +72,13 @@ fn put_row(rows: &mut Vec<Setting>, setting: Setting)
 
 // The value of a key.
 fn value_in<'a>(rows: &'a [Setting], key: &[u8]) -> Option<&'a [u8]>
+    requires sorted { AreSorted rows.now }
     ensures { MatchOption result (find (slice_cmp nat_cmp) key.now (pairs rows.now) ≡ None) (λ v. find (slice_cmp nat_cmp) key.now (pairs rows.now) ≡ Some v.now) }
 {
-    for setting in rows {
-        if key.cmp(setting.key.as_slice()).is_eq() {
-            return Some(setting.value.as_slice());
-        }
+    match spot_of(rows, key) {
+        Spot::At(i) => Some(rows[i].value.as_slice()),
+        Spot::Before(_) => None,
     }
-    None
 }
 
 impl Table {
