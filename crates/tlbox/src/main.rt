@@ -1,45 +1,10 @@
-//! tlbox: reads schemas of Telegram's TL language and values that are spelled in them.
+//! tlbox: reads schemas of Telegram's TL language, values that are spelled in them, and journals of updates.
 #![tactic(auto)]
 
-#[cfg(test)]
-mod check_tests;
-#[cfg(test)]
-mod decode_tests;
-mod decoder;
-#[cfg(test)]
-mod decodes;
-mod files;
-#[cfg(test)]
-mod host_tests;
-mod job;
-mod laws;
-#[cfg(test)]
-mod limit_tests;
-mod listing;
-mod plain_types;
-mod program;
 mod real;
-#[cfg(test)]
-mod replay_tests;
-mod replaying;
-mod report;
-#[cfg(test)]
-mod runs;
-mod shown;
-mod status;
-mod stop;
-#[cfg(test)]
-mod text_tests;
-#[cfg(test)]
-mod type_tests;
-mod whole;
-mod words;
-#[cfg(test)]
-mod words_tests;
 
-use program::run;
+use commands::{Status, run};
 use real::RealHost;
-use status::Status;
 use std::process::ExitCode;
 
 fn main(rt: HostRuntime) -> ExitCode {

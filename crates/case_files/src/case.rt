@@ -1,0 +1,156 @@
+//! A run, and how it is to end.
+use crate::ending::{Ending, put_line};
+use crate::fault::CaseFault;
+use crate::setting::Setting;
+use crate::words::{cut_word, number_of, words_of};
+use std::alloc::{AllocError, Global};
+use tl_base::MemHost;
+
+// So many bytes of what differs are shown.
+const SHOWN_BYTES: usize = 160;
+
+/// A run, and how it is to end.
+#[derive(Drop)]
+pub struct Case {
+    alloc: Global,
+    title: String,
+    words: Vec<String>,
+    setting: Setting,
+    wanted: Ending,
+}
+
+impl Case {
+    /// A run that is to end with status 0 and write nothing, until lines say more.
+    pub fn new(title: String, words: &str, setting: Setting) -> Result<Case, CaseFault> {
+        let alloc = setting.alloc();
+        Ok(Case {
+            alloc,
+            title,
+            words: words_of(alloc, words)?,
+            setting,
+            wanted: Ending::new(alloc),
+        })
+    }
+
+    /// How the run is to end.
+    pub fn wanted(&self) -> &Ending {
+        &self.wanted
+    }
+
+    /// Wants this end.
+    pub fn want(&mut self, ending: Ending) {
+        self.wanted = ending;
+    }
+
+    // A status, or a status and the line on Errors.
+    fn want_status(&mut self, text: &str) -> Result<(), CaseFault> {
+        let (number, line) = cut_word(text);
+        self.wanted.put_status(number)?;
+        if !line.is_empty() {
+            put_line(&mut self.wanted.errors, line)?;
+        }
+        Ok(())
+    }
+
+    /// Takes a line that says how the run is to end.
+    pub fn take(&mut self, word: &str, rest: &str) -> Result<(), CaseFault> {
+        match word {
+            "status" => self.want_status(rest),
+            "output" => Ok(put_line(&mut self.wanted.output, rest)?),
+            "errors" => Ok(put_line(&mut self.wanted.errors, rest)?),
+            "output-text" => Ok(self.wanted.output.extend_from_slice(rest.as_bytes())?),
+            "front" => {
+                self.wanted.keep_front(number_of(rest)? as usize);
+                Ok(())
+            }
+            _ => Err(CaseFault::NoWord),
+        }
+    }
+
+    /// The words that the program is started with.
+    pub fn words(&self) -> &[String] {
+        self.words.as_slice()
+    }
+
+    /// The outside that it finds.
+    pub fn host(&self) -> Result<MemHost, AllocError> {
+        self.setting.host()
+    }
+
+    /// Tells where the run came to another end, with the place of the case.
+    pub fn difference(&self, got: &Ending) -> Result<String, AllocError> {
+        let alloc = self.alloc;
+        let mut text = self.title.clone()?;
+        let (wanted, status) = (self.wanted.status, got.status);
+        if wanted != status {
+            text.push_str(&format!(in alloc; "; status wanted {wanted}, got {status}")?)?;
+        }
+        put_difference(
+            alloc,
+            &mut text,
+            "Output",
+            &self.wanted.output,
+            &got.output,
+        )?;
+        put_difference(
+            alloc,
+            &mut text,
+            "Errors",
+            &self.wanted.errors,
+            &got.errors,
+        )?;
+        Ok(text)
+    }
+}
+
+// The first index at which two lists of bytes differ, or the shorter one ends.
+fn first_difference(wanted: &[u8], got: &[u8]) -> usize {
+    let mut at = 0usize;
+    for (one, other) in wanted.iter().zip(got.iter()) {
+        if *one != *other {
+            return at;
+        }
+        at = at.saturating_add(1);
+    }
+    at
+}
+
+// The index at which the line with this index begins.
+fn line_start(bytes: &[u8], at: usize) -> usize {
+    let mut start = 0usize;
+    for (i, byte) in bytes.iter().take(at).enumerate() {
+        if *byte == b'\n' {
+            start = i.saturating_add(1);
+        }
+    }
+    start
+}
+
+// Some bytes from an index on, as they can be read: as a text where they are one, else as digits.
+fn shown(alloc: Global, bytes: &[u8], start: usize) -> Result<String, AllocError> {
+    let mut piece = Vec::new(alloc);
+    for byte in bytes.iter().skip(start).take(SHOWN_BYTES) {
+        piece.push(*byte)?;
+    }
+    match std::str::from_utf8(&piece) {
+        Ok(text) => format!(in alloc; "{text:?}"),
+        Err(_) => hex::encode(alloc, &piece),
+    }
+}
+
+// Tells what an out was to have and what it got, from the line on in which they differ.
+fn put_difference(
+    alloc: Global,
+    text: &mut String,
+    out: &str,
+    wanted: &[u8],
+    got: &[u8],
+) -> Result<(), AllocError> {
+    if wanted == got {
+        return Ok(());
+    }
+    let start = line_start(wanted, first_difference(wanted, got));
+    let wanted = shown(alloc, wanted, start)?;
+    let got = shown(alloc, got, start)?;
+    text.push_str(&format!(in alloc; "; {out} from byte {start} wanted {wanted}, got {got}")?)
+}

@@ -1,0 +1,111 @@
+//! cases: runs tlbox over files in memory as case files say, and tells which runs end otherwise.
+#![tactic(auto)]
+
+use case_files::{BadLine, Case, Ending, read_cases};
+use commands::run;
+use std::alloc::{AllocError, Global};
+use std::process::ExitCode;
+use std::{env, fs, io};
+use tl_base::{MemHost, Out};
+
+/// How many runs there were, and how many of them ended otherwise than wanted.
+#[derive(Clone, Copy)]
+struct Counts {
+    runs: u64,
+    differ: u64,
+}
+
+impl Counts {
+    fn with(self, more: Counts) -> Counts {
+        Counts {
+            runs: self.runs.saturating_add(more.runs),
+            differ: self.differ.saturating_add(more.differ),
+        }
+    }
+}
+
+// Runs the program, and tells its status.
+fn status_of(alloc: Global, words: &[String], host: &mut MemHost) -> u8 {
+    run(alloc, words, host).code()
+}
+
+// How a run ends.
+fn ending_of(alloc: Global, case: &Case) -> Result<Ending, AllocError> {
+    let mut host = case.host()?;
+    let status = status_of(alloc, case.words(), &mut host);
+    Ok(Ending {
+        status,
+        output: Vec::from_slice(alloc, host.written(Out::Output))?,
+        errors: Vec::from_slice(alloc, host.written(Out::Errors))?,
+    })
+}
+
+// Makes a run, and prints a line where it ends otherwise.
+fn run_case(rt: &HostRuntime, case: &Case) -> io::Result<Counts> {
+    let got = ending_of(rt.alloc(), case)?;
+    if got.ends_as(case.wanted()) {
+        return Ok(Counts { runs: 1, differ: 0 });
+    }
+    let line = case.difference(&got)?;
+    println!(rt; "{line}")?;
+    Ok(Counts { runs: 1, differ: 1 })
+}
+
+// Makes the runs.
+fn run_cases(rt: &HostRuntime, cases: &[Case]) -> io::Result<Counts> {
+    let mut counts = Counts { runs: 0, differ: 0 };
+    for case in cases {
+        counts = counts.with(run_case(rt, case)?);
+    }
+    Ok(counts)
+}
+
+// Prints what can't be used of a file. It counts as a run that ends otherwise.
+fn refuse(rt: &HostRuntime, name: &str, bad: BadLine) -> io::Result<Counts> {
+    let (number, fault) = (bad.line, bad.fault);
+    println!(rt; "{name}:{number} {fault}")?;
+    Ok(Counts { runs: 0, differ: 1 })
+}
+
+// Makes the runs of a case file of this text.
+fn run_text(rt: &HostRuntime, name: &str, text: &str) -> io::Result<Counts> {
+    match read_cases(rt, name, text) {
+        Ok(cases) => {
+            let counts = run_cases(rt, &cases)?;
+            let (runs, differ) = (counts.runs, counts.differ);
+            println!(rt; "{name}: {runs} runs, {differ} differ")?;
+            Ok(counts)
+        }
+        Err(bad) => refuse(rt, name, bad),
+    }
+}
+
+// Makes the runs of a case file.
+fn run_file(rt: &HostRuntime, name: &str) -> io::Result<Counts> {
+    match fs::read_to_string(rt, name) {
+        Ok(text) => run_text(rt, name, text.as_str()),
+        Err(_) => {
+            println!(rt; "{name}: can't be read")?;
+            Ok(Counts { runs: 0, differ: 1 })
+        }
+    }
+}
+
+// Makes the runs of the files that the words name.
+fn run_files(rt: &HostRuntime) -> io::Result<bool> {
+    let mut counts = Counts { runs: 0, differ: 0 };
+    for name in env::args(rt)?.skip(1) {
+        counts = counts.with(run_file(rt, name.as_str())?);
+    }
+    let (runs, differ) = (counts.runs, counts.differ);
+    println!(rt; "{runs} runs, {differ} differ")?;
+    Ok(differ == 0)
+}
+
+fn main(rt: HostRuntime) -> ExitCode {
+    match run_files(&rt) {
+        Ok(true) => ExitCode::SUCCESS,
+        Ok(false) => ExitCode::from(1),
+        Err(_) => ExitCode::from(2),
+    }
+}

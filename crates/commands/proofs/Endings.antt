@@ -1,0 +1,126 @@
+-- How a run ends, from how its job ended and what was told.
+use Rattle.std.proofs.Common.{◌≡◌, ℕ, List, [], ◌++◌, append-nil, Option, Some, None, Bool, Ok, Err, refl, sym, ap, ◌∙◌, subst, codes, inl, inr}
+use Rattle.std.specs.Prelude.{IfSome, IsTrue, IsErrOf, ◌⊎◌}
+use Rattle.tl_base.specs.Contents.{Files}
+use Rattle.tl_base.specs.Outside.{View}
+use Rattle.tl_base.specs.Calls.{Told}
+use Rattle.commands.specs.declared.stop.Refusal.{Refusal}
+use Rattle.commands.specs.declared.stop.Stop.{Stop}
+use Rattle.commands.specs.declared.stop.Stop.TheVariants as stop
+use Rattle.commands.specs.declared.status.Status.{Status}
+use Rattle.commands.specs.declared.status.Status.TheVariants as status
+use Rattle.commands.specs.Answer.{Answer, AskReplay, usage, usage_line, done, refused, refused_after}
+use Rattle.commands.specs.Answers.{AskNothing, Answers, no_row, replay}
+use Rattle.commands.specs.ReplayJobs.{WritesSome, Replays}
+use Rattle.commands.specs.Sound.{NeverFails, CommandFits, ReplayFits, AnswerFits}
+use Rattle.commands.specs.Runs.{WritesFront, Tells, Ends, answered, read_failed, write_failed, out_of_memory}
+use Rattle.commands.specs.Jobs.{Command, Works, TellsLine, Reports, refusal_line}
+use Rattle.commands.proofs.OneAnswer.{replays}
+use Rattle.commands.proofs.Views.{told_as, told_then}
+
+-- ---- endings
+
+tells_on : {W : Type 0} (V : Type 0) (line : List ℕ) (v u w : View) → u.errors ≡ v.errors → (V → W) → Tells V line u w → Tells W line v w
+tells_on V line v u w e rose (inl h) = inl (h ∙ ap (λ (x : List ℕ). x ++ line) e)
+tells_on V line v u w e rose (inr (r, (front, rest, split, h))) = inr (rose r, (front, rest, split, h ∙ ap (λ (x : List ℕ). x ++ front) e))
+
+tells_none : {W : Type 0} (v w : View) → w.errors ≡ v.errors → Tells W [] v w
+tells_none v w e = inl (e ∙ sym (append-nil v.errors))
+
+-- words that ask for this command
+module _ (words : List (List ℕ)) (command : Command) (answers : (files : Files) (a : Answer) → command files a → Answers words files a) (R W V : Type 0) where
+  pub ends_done : (a b : Option View) (k : Status) → k ≡ status.Done → Told a b (Works command (Ok tt)) → Told a b (Ends words R W k)
+  ends_done a b k is = told_as a b (Works command (Ok tt)) (Ends words R W k) (λ v w h. answered (done h.0) (answers v.files (done h.0) h.1) is h.2 (tells_none v w h.3))
+
+  ended : (e : Stop) (k : Status) → (V → W) → (e ≡ stop.ReadFault → R) → (e ≡ stop.WriteFault → W) → (v u w : View) → Works command (Err e) v u → Reports V e k u w → Ends words R W k v w
+  ended (stop.Refused r) k rose read write v u w (answer, only) (inl (is, (same, told))) =
+      answered (refused (refusal_line r)) (answers v.files _ answer) is (same ∙ only.output ∙ sym (append-nil v.output)) (tells_on V (refusal_line r) v u w only.errors rose told)
+  ended (stop.Refused r) k rose read write v u w (answer, only) (inr (is, (same, told))) =
+      out_of_memory is (inl (same ∙ only.output)) (tells_on V _ v u w only.errors rose told)
+  ended stop.ReadFault k rose read write v u w only (is, (same, told)) =
+      read_failed (read refl) is (same ∙ only.output) (tells_on V _ v u w only.errors rose told)
+  ended stop.WriteFault k rose read write v u w (line, answer, (front, rest, split, put), errors) (is, (same, told)) =
+      write_failed (write refl) is (done line, answers v.files (done line) answer, (front, rest, split, same ∙ put)) (tells_on V _ v u w errors rose told)
+  ended stop.Memory k rose read write v u w only (is, (same, told)) =
+      out_of_memory is (inl (same ∙ only.output)) (tells_on V _ v u w only.errors rose told)
+
+  pub ends_stopped : (e : Stop) (k : Status) (a m b : Option View) → (V → W) → (e ≡ stop.ReadFault → R) → (e ≡ stop.WriteFault → W) → Told a m (Works command (Err e)) → Told m b (Reports V e k) → Told a b (Ends words R W k)
+  ends_stopped e k a m b rose read write = told_then a m b (Works command (Err e)) (Reports V e k) (Ends words R W k) (ended e k rose read write)
+
+module _ (words : List (List ℕ)) (s j : List ℕ) (asked : AskReplay words s j) (R W V : Type 0) where
+  pub ends_replayed : (a b : Option View) (k : Status) → k ≡ status.Done → Told a b (Replays s j (Ok tt)) → Told a b (Ends words R W k)
+  ends_replayed a b k is = told_as a b (Replays s j (Ok tt)) (Ends words R W k) (λ v w h. answered (done h.0) (replay s j asked h.1) is h.2 (tells_none v w h.3))
+
+  front_of : (v u w : View) → w.output ≡ u.output → WritesSome s j v u → WritesFront words v w
+  front_of v u w same (a, answer, (front, rest, split, put)) = (a, replay s j asked answer, (front, rest, split, same ∙ put))
+
+  replay_ended : (e : Stop) (k : Status) → (V → W) → (e ≡ stop.ReadFault → R) → (e ≡ stop.WriteFault → W) → (v u w : View) → Replays s j (Err e) v u → Reports V e k u w → Ends words R W k v w
+  replay_ended (stop.Refused r) k rose read write v u w (output, answer, put, errors) (inl (is, (same, told))) =
+      answered (refused_after output (refusal_line r)) (replay s j asked answer) is (same ∙ put) (tells_on V (refusal_line r) v u w errors rose told)
+  replay_ended (stop.Refused r) k rose read write v u w (output, answer, put, errors) (inr (is, (same, told))) =
+      let all = front_of v u w same (refused_after output (refusal_line r), answer, (output, [], append-nil output, put)) in
+      out_of_memory is (inr (s, j, asked, all)) (tells_on V _ v u w errors rose told)
+  replay_ended stop.ReadFault k rose read write v u w only (is, (same, told)) =
+      read_failed (read refl) is (same ∙ only.output) (tells_on V _ v u w only.errors rose told)
+  replay_ended stop.WriteFault k rose read write v u w (some, errors) (is, (same, told)) =
+      write_failed (write refl) is (front_of v u w same some) (tells_on V _ v u w errors rose told)
+  replay_ended stop.Memory k rose read write v u w (inl e, errors) (is, (same, told)) =
+      out_of_memory is (inl (same ∙ e)) (tells_on V _ v u w errors rose told)
+  replay_ended stop.Memory k rose read write v u w (inr some, errors) (is, (same, told)) =
+      out_of_memory is (inr (s, j, asked, front_of v u w same some)) (tells_on V _ v u w errors rose told)
+
+  pub ends_replay_stopped : (e : Stop) (k : Status) (a m b : Option View) → (V → W) → (e ≡ stop.ReadFault → R) → (e ≡ stop.WriteFault → W) → Told a m (Replays s j (Err e)) → Told m b (Reports V e k) → Told a b (Ends words R W k)
+  ends_replay_stopped e k a m b rose read write = told_then a m b (Replays s j (Err e)) (Reports V e k) (Ends words R W k) (replay_ended e k rose read write)
+
+pub ends_usage : (words : List (List ℕ)) (R W : Type 0) (a b : Option View) (k : Status) → AskNothing words → k ≡ status.Usage → Told a b (TellsLine W usage_line) → Told a b (Ends words R W k)
+ends_usage words R W None None k none is h = tt
+ends_usage words R W None (Some w) k none is h = h
+ends_usage words R W (Some v) None k none is h = h
+ends_usage words R W (Some v) (Some w) k none is (same, told) = answered usage (no_row none refl) is (same ∙ sym (append-nil v.output)) told
+
+-- ---- what is told
+
+-- the status is this, and the line was told
+line_told : (W : Type 0) (line : List ℕ) (e : Stop) (k : Status) (a b : Option View) → ((v w : View) → TellsLine W line v w → Reports W e k v w) → Told a b (TellsLine W line) → Told a b (Reports W e k)
+line_told W line e k None None f h = tt
+line_told W line e k None (Some w) f h = h
+line_told W line e k (Some v) None f h = h
+line_told W line e k (Some v) (Some w) f h = f v w h
+
+at_stop : (W : Type 0) (e x : Stop) (k : Status) (v w : View) → e ≡ x → Reports W x k v w → Reports W e k v w
+at_stop W e x k v w is h = subst (λ (y : Stop). Reports W y k v w) (sym is) h
+
+module _ (W : Type 0) (e : Stop) (k : Status) (a b : Option View) where
+  pub told_refusal : (r : Refusal) (line : List ℕ) → e ≡ stop.Refused r → k ≡ status.Refused → line ≡ refusal_line r → Told a b (TellsLine W line) → Told a b (Reports W e k)
+  told_refusal r line is kind same = line_told W line e k a b (λ v w h. at_stop W e (stop.Refused r) k v w is (inl (kind, subst (λ (x : List ℕ). TellsLine W x v w) same h)))
+
+  pub told_no_line : (r : Refusal) → e ≡ stop.Refused r → k ≡ status.Memory → Told a b (TellsLine W (codes "tlbox: memory\n")) → Told a b (Reports W e k)
+  told_no_line r is kind = line_told W (codes "tlbox: memory\n") e k a b (λ v w h. at_stop W e (stop.Refused r) k v w is (inr (kind, h)))
+
+  pub told_read : e ≡ stop.ReadFault → k ≡ status.ReadFault → Told a b (TellsLine W (codes "tlbox: read fault\n")) → Told a b (Reports W e k)
+  told_read is kind = line_told W (codes "tlbox: read fault\n") e k a b (λ v w h. at_stop W e stop.ReadFault k v w is (kind, h))
+
+  pub told_write : e ≡ stop.WriteFault → k ≡ status.WriteFault → Told a b (TellsLine W (codes "tlbox: write fault\n")) → Told a b (Reports W e k)
+  told_write is kind = line_told W (codes "tlbox: write fault\n") e k a b (λ v w h. at_stop W e stop.WriteFault k v w is (kind, h))
+
+  pub told_memory : e ≡ stop.Memory → k ≡ status.Memory → Told a b (TellsLine W (codes "tlbox: memory\n")) → Told a b (Reports W e k)
+  told_memory is kind = line_told W (codes "tlbox: memory\n") e k a b (λ v w h. at_stop W e stop.Memory k v w is (kind, h))
+
+-- ---- where no fault ends a run
+
+-- a status of a fault is the stop's
+stop_failed : (e : Stop) (k : Status) → (k ≡ status.ReadFault → e ≡ stop.ReadFault) → (k ≡ status.WriteFault → e ≡ stop.WriteFault) → k ≡ status.ReadFault ⊎ k ≡ status.WriteFault
+    → IsErrOf {T = Unit {0}} (Err e) stop.ReadFault ⊎ IsErrOf {T = Unit {0}} (Err e) stop.WriteFault
+stop_failed e k read write (inl is) = inl (ap Err (read is))
+stop_failed e k read write (inr is) = inr (ap Err (write is))
+
+pub command_never : (words : List (List ℕ)) (command : Command) → ((files : Files) (a : Answer) → Answers words files a → command files a) → (a : Option View) (before after : Bool) (e : Stop) (k : Status)
+    → NeverFails a before after (IsErrOf {T = Unit {0}} (Err e) stop.ReadFault ⊎ IsErrOf {T = Unit {0}} (Err e) stop.WriteFault) (CommandFits command)
+    → (k ≡ status.ReadFault → e ≡ stop.ReadFault) → (k ≡ status.WriteFault → e ≡ stop.WriteFault) → IfSome a (λ v. IsTrue before → AnswerFits words v → k ≡ status.ReadFault ⊎ k ≡ status.WriteFault → ⊥)
+command_never words command finds None before after e k p read write = tt
+command_never words command finds (Some v) before after e k p read write = λ sound fits failed. p.never sound (fits.0, finds v.files fits.0 fits.1, fits.2) (stop_failed e k read write failed)
+
+pub replay_never : (words : List (List ℕ)) (s j : List ℕ) → AskReplay words s j → (a : Option View) (before after : Bool) (e : Stop) (k : Status) → NeverFails a before after (IsErrOf {T = Unit {0}} (Err e) stop.ReadFault ⊎ IsErrOf {T = Unit {0}} (Err e) stop.WriteFault) (ReplayFits s j)
+    → (k ≡ status.ReadFault → e ≡ stop.ReadFault) → (k ≡ status.WriteFault → e ≡ stop.WriteFault) → IfSome a (λ v. IsTrue before → AnswerFits words v → k ≡ status.ReadFault ⊎ k ≡ status.WriteFault → ⊥)
+replay_never words s j asked None before after e k p read write = tt
+replay_never words s j asked (Some v) before after e k p read write = λ sound fits failed. p.never sound (fits.0, replays words v.files s j fits.0 asked fits.1, fits.2) (stop_failed e k read write failed)

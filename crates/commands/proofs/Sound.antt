@@ -1,0 +1,29 @@
+-- Where a run can't fail, from where its calls can't.
+use Rattle.std.proofs.Common.{Bool, Option, Some, None, IsSome, IsTrue, refl}
+use Rattle.std.proofs.lemmas.Bool.{false≢true}
+use Rattle.tl_base.specs.Outside.{View}
+use Rattle.tl_base.specs.Calls.{Told}
+use Rattle.commands.specs.Sound.{NeverFails}
+
+-- nothing failed
+pub none_failed : (told : Option View) (x y : Bool) (F : Type 0) (P : View → Type 0) → (IsSome told → IsTrue x → IsTrue y) → (F → ⊥) → NeverFails told x y F P
+none_failed None x y F P stays never = record { stays = stays; never = tt }
+none_failed (Some v) x y F P stays never = record { stays = stays; never = λ sound p failed. never failed }
+
+-- a failure that is another call's, where more is known of the view
+pub fails_as : (told : Option View) (x y : Bool) (F G : Type 0) (P R : View → Type 0) → NeverFails told x y F P → (G → F) → ((v : View) → R v → P v) → NeverFails told x y G R
+fails_as None x y F G P R call cause known = record { stays = call.stays; never = tt }
+fails_as (Some v) x y F G P R call cause known = record { stays = call.stays; never = λ sound r failed. call.never sound (known v r) (cause failed) }
+
+-- what is sound stays so in one call after another
+pub stays_sound : (a b : Option View) (x y z : Bool) (Q : View → View → Type 0) → Told a b Q → (IsSome a → IsTrue x → IsTrue y) → (IsSome b → IsTrue y → IsTrue z) → IsSome a → IsTrue x → IsTrue z
+stays_sound None b x y z Q between first second told sound = absurd (false≢true told)
+stays_sound (Some v) None x y z Q between first second told sound = absurd between
+stays_sound (Some v) (Some w) x y z Q between first second told sound = second refl (first told sound)
+
+-- a call failed after one that did not: what holds between the two views tells what is known of the later one
+pub then_fails : (a b : Option View) (x y z : Bool) (F : Type 0) (P R : View → Type 0) (Q : View → View → Type 0) → Told a b Q → (IsSome a → IsTrue x → IsTrue y) → NeverFails b y z F R → ((v w : View) → Q v w → P v → R w) → NeverFails a x z F P
+then_fails None b x y z F P R Q between first second known = record { stays = stays_sound None b x y z Q between first second.stays; never = tt }
+then_fails (Some v) None x y z F P R Q between first second known = absurd between
+then_fails (Some v) (Some w) x y z F P R Q between first second known =
+    record { stays = stays_sound (Some v) (Some w) x y z Q between first second.stays; never = λ sound p failed. second.never (first refl sound) (known v w between p) failed }

@@ -1,0 +1,8 @@
+use Rattle.commands.proofs.AnAnswer.{an_answer, each_asks}
+use Rattle.commands.proofs.laws.words_and_files_have_an_answer.Goals as goal
+
+pub returns-clause-answered : goal.returns-clause-answered
+returns-clause-answered c = an_answer
+
+pub returns-clause-asked : goal.returns-clause-asked
+returns-clause-asked c = each_asks

@@ -1,0 +1,14 @@
+//! Laws over the definitions.
+ghost use Rattle.std.specs.Prelude.{ℕ, List};
+ghost use Rattle.commands.specs.Answers.{Asks, HasAnAnswer, HasOneAnswer};
+
+/// Words and files have one answer at most, so that a run which ends with an answer ends with theirs.
+pub fn words_and_files_have_one_answer()
+    ensures { HasOneAnswer }
+{}
+
+/// Words and files of bytes have an answer, where the files that the words name are there; and words ask for nothing, for a decode or for a replay.
+pub fn words_and_files_have_an_answer()
+    ensures answered { HasAnAnswer }
+    ensures asked { (words : List (List ℕ)) → Asks words }
+{}

@@ -1,0 +1,49 @@
+//! The top call.
+ghost use Rattle.std.specs.Prelude.{◌≡◌, ◌⊎◌, IfSome, IsTrue, map, string_bytes};
+ghost use Rattle.tl_base.specs.Calls.{Told};
+ghost use Rattle.tl_base.specs.Causes.{Rose};
+ghost use Rattle.commands.specs.Runs.{Ends};
+ghost use Rattle.commands.specs.Sound.{AnswerFits};
+
+use crate::job::{check_schema, decode};
+use crate::replaying::replay;
+use crate::report::{report, tell};
+use crate::status::Status;
+use crate::words::{check_words, decode_words, replay_words};
+use std::alloc::Global;
+use tl_base::Host;
+
+/// What is told where the words are no row.
+const USAGE: &[u8] =
+    b"usage: tlbox check SCHEMA, decode SCHEMA TYPE INPUT, encode SCHEMA TYPE INPUT, replay SCHEMA JOURNAL CLIENTS, make SCHEMA NUMBER STEPS, serve SCHEMA ADDRESS SESSIONS, post SCHEMA ADDRESS INPUT, client SCHEMA ADDRESS STATE [CHANNEL ..]\n";
+
+/// Runs the program over an outside: the words without the program's name, and the status that it ends with.
+pub fn run<H: Host>(alloc: Global, words: &[String], host: &mut H) -> Status
+    // Status, Output and Errors are those of the definition, or a fault's whose count rose, or memory's.
+    ensures ends { Told (H.view host.old) (H.view host.new) (Ends (map string_bytes words.now) (Rose (H.read_faults host.old) (H.read_faults host.new)) (Rose (H.write_faults host.old) (H.write_faults host.new)) result) }
+    // A fault's status comes only where its count rose, told or not.
+    ensures read { result ≡ Status.ReadFault → Rose (H.read_faults host.old) (H.read_faults host.new) }
+    ensures write { result ≡ Status.WriteFault → Rose (H.write_faults host.old) (H.write_faults host.new) }
+    // Over a sound host with the files that the words take and room enough, no fault's status comes.
+    ensures sound { IfSome (H.view host.old) (λ v. IsTrue (H.sound host.old) → AnswerFits (map string_bytes words.now) v → (result ≡ Status.ReadFault) ⊎ (result ≡ Status.WriteFault) → ⊥) }
+{
+    if let Some(schema) = check_words(words) {
+        return match check_schema(alloc, host, schema) {
+            Ok(()) => Status::Done,
+            Err(stop) => report(alloc, host, stop),
+        };
+    }
+    if let Some(asked) = decode_words(words) {
+        return match decode(alloc, host, asked.schema, asked.of, asked.input) {
+            Ok(()) => Status::Done,
+            Err(stop) => report(alloc, host, stop),
+        };
+    }
+    if let Some(asked) = replay_words(words) {
+        return match replay(alloc, host, asked.schema, asked.journal) {
+            Ok(()) => Status::Done,
+            Err(stop) => report(alloc, host, stop),
+        };
+    }
+    tell(host, Status::Usage, USAGE)
+}

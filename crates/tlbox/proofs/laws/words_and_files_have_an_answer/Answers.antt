@@ -1,8 +1,0 @@
-use Rattle.tlbox.proofs.AnAnswer.{an_answer, each_asks}
-use Rattle.tlbox.proofs.laws.words_and_files_have_an_answer.Goals as goal
-
-pub returns-clause-answered : goal.returns-clause-answered
-returns-clause-answered c = an_answer
-
-pub returns-clause-asked : goal.returns-clause-asked
-returns-clause-asked c = each_asks

@@ -1,5 +1,0 @@
-use Rattle.tlbox.proofs.OneAnswer.{one_answer}
-use Rattle.tlbox.proofs.laws.words_and_files_have_one_answer.Goals as goal
-
-pub returns : goal.returns
-returns c = one_answer
