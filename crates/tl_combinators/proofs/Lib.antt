@@ -1,33 +1,24 @@
-pub mod OneToken
-pub mod Digits
-pub mod Parentheses
-pub mod Levels
+mod OneToken
+mod Digits
+mod Parentheses
+mod Levels
 pub mod TreeViews
-pub mod Arguments
-pub mod BuiltInLines
-pub mod TokenParts
+mod Arguments
+mod BuiltInLines
+mod TokenParts
 pub mod AppliedNames
-pub mod Conditions
-pub mod Counts
-pub mod EqualDescriptions
-pub mod Rows
-pub mod TakenRows
-pub mod Lawful
-pub mod DecidedTokens
-pub mod LawfulProgram
+mod Conditions
+mod Counts
+mod EqualDescriptions
+mod Rows
+mod TakenRows
+mod Lawful
+mod DecidedTokens
+mod LawfulProgram
 pub mod OneProgram
-pub mod Spanned
-pub mod Exact
+mod Spanned
+mod Exact
 pub mod Decided
 pub mod Values
 pub mod WrittenNumbers
 pub mod Causes
-pub mod PrintedPieces
-pub mod Givens
-pub mod PrintableForm
-pub mod PrintableParts
-pub mod PrintableProgram
-pub mod PrintedParts
-pub mod PrintedTypes
-pub mod PrintedFields
-pub mod PrintedProgram

@@ -10,5 +10,3 @@ pub mod BuiltIns
 pub mod Declarations
 pub mod Sentences
 pub mod OneReading
-pub mod Printed
-pub mod Written

@@ -30,32 +30,34 @@ pub enum BuiltIn {
     Int256,
 }
 
-/// The line that a name begins.
-pub fn built_in(name: &[u8]) -> Option<BuiltIn>
-    ensures { result ≡ built_in name.now }
-{
-    if name == b"int".as_slice() {
-        Some(BuiltIn::Int)
-    } else if name == b"long".as_slice() {
-        Some(BuiltIn::Long)
-    } else if name == b"double".as_slice() {
-        Some(BuiltIn::Double)
-    } else if name == b"string".as_slice() {
-        Some(BuiltIn::Str)
-    } else if name == b"bytes".as_slice() {
-        Some(BuiltIn::Bytes)
-    } else if name == b"vector".as_slice() {
-        Some(BuiltIn::Vector)
-    } else if name == b"int128".as_slice() {
-        Some(BuiltIn::Int128)
-    } else if name == b"int256".as_slice() {
-        Some(BuiltIn::Int256)
-    } else {
-        None
+impl BuiltIn {
+    /// The line that a name begins.
+    pub fn of_name(name: &[u8]) -> Option<BuiltIn>
+        ensures { result ≡ built_in name.now }
+    {
+        if name == b"int".as_slice() {
+            Some(BuiltIn::Int)
+        } else if name == b"long".as_slice() {
+            Some(BuiltIn::Long)
+        } else if name == b"double".as_slice() {
+            Some(BuiltIn::Double)
+        } else if name == b"string".as_slice() {
+            Some(BuiltIn::Str)
+        } else if name == b"bytes".as_slice() {
+            Some(BuiltIn::Bytes)
+        } else if name == b"vector".as_slice() {
+            Some(BuiltIn::Vector)
+        } else if name == b"int128".as_slice() {
+            Some(BuiltIn::Int128)
+        } else if name == b"int256".as_slice() {
+            Some(BuiltIn::Int256)
+        } else {
+            None
+        }
     }
 }
 
-/// The boxed type of a line, which stands behind its `=`.
+/// The boxed type of a line, which stands after its `=`.
 pub fn boxed_name(line: BuiltIn) -> &'static [u8]
     ensures { result.now ≡ boxed_name line }
 {
@@ -89,7 +91,7 @@ fn this_type_at(
     take_this(text, tokens, at, name)
 }
 
-/// The Word `Type`, behind the colon in braces.
+/// The Word `Type`, after the colon in braces.
 pub fn sort_at(text: &[u8], tokens: &[Token], at: &mut usize) -> Result<Token, SyntaxFault>
     requires { Fits text.now tokens.now }
     ensures read { Parses fault_of (λ (t : Token). t) (sort text.now) (drop at.old tokens.now) (drop at.new tokens.now) result }
@@ -205,7 +207,7 @@ fn vector_at(text: &[u8], tokens: &[Token], at: &mut usize) -> Result<(), Syntax
     vector_result_at(text, tokens, at)
 }
 
-// What stands behind the name and the number of a line.
+// What stands after the name and the number of a line.
 fn line_at(text: &[u8], tokens: &[Token], at: &mut usize, line: BuiltIn) -> Result<(), SyntaxFault>
     requires { Fits text.now tokens.now }
     ensures read { Parses fault_of (λ (u : Unit {0}). u) (line_form text.now line) (drop at.old tokens.now) (drop at.new tokens.now) result }
@@ -224,7 +226,7 @@ fn line_at(text: &[u8], tokens: &[Token], at: &mut usize, line: BuiltIn) -> Resu
     }
 }
 
-// The number behind the name of a line.
+// The number after the name of a line.
 fn line_number_at(
     text: &[u8],
     tokens: &[Token],
@@ -243,7 +245,7 @@ fn line_number_at(
     }
 }
 
-/// A line, behind its name.
+/// A line, after its name.
 pub fn built_in_line_at(
     alloc: Global,
     text: &[u8],

@@ -8,7 +8,7 @@ ghost use Rattle.tl_combinators.specs.Program.{decl_text};
 ghost use Rattle.tl_combinators.specs.Declarations.{variable, variables, result_type, combinator, declaration, IsLifecycle, where_declaration, declaration_too_many};
 ghost use Rattle.tl_combinators.specs.Sentences.{ProgramText};
 
-use crate::built_in::{built_in, built_in_line_at, sort_at};
+use crate::built_in::{BuiltIn, built_in_line_at, sort_at};
 use crate::description::Description;
 use crate::fault::{Form, SyntaxFault};
 use crate::fields::{PART_LIMIT, fields_at};
@@ -150,7 +150,7 @@ fn declaration_at(
     let start = *at;
     let name = declared_name_at(alloc, text, tokens, at)?;
     described.show_all(text, tokens, start, *at)?;
-    match built_in(name.bytes.as_slice()) {
+    match BuiltIn::of_name(name.bytes.as_slice()) {
         Some(line) => built_in_line_at(alloc, text, tokens, at, line, name),
         None => combinator_at(alloc, text, tokens, at, function, name, described),
     }

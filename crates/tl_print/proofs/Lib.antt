@@ -1,0 +1,9 @@
+mod Givens
+mod PrintedPieces
+mod PrintableForm
+mod PrintableParts
+mod PrintableProgram
+mod PrintedParts
+mod PrintedTypes
+mod PrintedFields
+mod PrintedProgram
