@@ -50,12 +50,7 @@ fn moved(number: u32, by: &str) -> Result<u32, CaseFault> {
 }
 
 // Appends a number in a form, as it stands between `{n` and `}`.
-fn put_number(
-    alloc: Global,
-    text: &mut String,
-    number: u32,
-    form: &str,
-) -> Result<(), CaseFault> {
+fn put_number(alloc: Global, text: &mut String, number: u32, form: &str) -> Result<(), CaseFault> {
     let (by, how) = match form.split_once(':') {
         Some(parts) => parts,
         None => (form, ""),

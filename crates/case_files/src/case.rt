@@ -85,20 +85,8 @@ impl Case {
         if wanted != status {
             text.push_str(&format!(in alloc; "; status wanted {wanted}, got {status}")?)?;
         }
-        put_difference(
-            alloc,
-            &mut text,
-            "Output",
-            &self.wanted.output,
-            &got.output,
-        )?;
-        put_difference(
-            alloc,
-            &mut text,
-            "Errors",
-            &self.wanted.errors,
-            &got.errors,
-        )?;
+        put_difference(alloc, &mut text, "Output", &self.wanted.output, &got.output)?;
+        put_difference(alloc, &mut text, "Errors", &self.wanted.errors, &got.errors)?;
         Ok(text)
     }
 }

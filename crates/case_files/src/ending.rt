@@ -1,6 +1,5 @@
 //! How runs end.
 ghost use Rattle.std.specs.Prelude.{◌≡◌, ◌↔◌, IfOk, IsTrue};
-ghost use Rattle.std.specs.List.{take};
 ghost use Rattle.case_files.specs.Endings.{EndsAs};
 
 use crate::fault::CaseFault;

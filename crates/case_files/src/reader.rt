@@ -218,7 +218,10 @@ impl Reader {
             number = number.saturating_add(1);
             match line_at(self.alloc, line.as_str(), turn) {
                 Ok(line) => self.take(rt, number, line.as_str())?,
-                Err(fault) => return Err(BadLine { line: number, fault }),
+                Err(fault) => return Err(BadLine {
+                    line: number,
+                    fault,
+                }),
             }
         }
         Ok(())
