@@ -6,8 +6,6 @@ mod event_box;
 mod fault;
 mod ids;
 mod laws;
-#[cfg(test)]
-mod tests;
 
 pub use event::{Event, Kind};
 pub use event_box::EventBox;

@@ -3,8 +3,6 @@
 
 mod gap;
 mod held;
-#[cfg(test)]
-mod tests;
 
 pub use gap::Gap;
 pub use held::Held;

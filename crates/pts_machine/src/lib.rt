@@ -9,8 +9,6 @@ mod mode;
 mod seen;
 mod stretches;
 mod takes;
-#[cfg(test)]
-mod tests;
 
 pub use chains::follow;
 pub use counted::Counted;

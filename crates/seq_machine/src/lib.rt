@@ -8,8 +8,6 @@ mod setting;
 mod settings;
 mod store;
 mod table;
-#[cfg(test)]
-mod tests;
 
 pub use laws::settings_stay_latest;
 pub use setting::Setting;

@@ -12,8 +12,6 @@ mod mem_sink;
 mod memory;
 mod sink;
 mod source;
-#[cfg(test)]
-mod tests;
 
 pub use bytes::Bytes;
 pub use fault::{Failed, Memory};

@@ -4,8 +4,6 @@
 mod fault;
 mod law;
 mod lexer;
-#[cfg(test)]
-mod tests;
 mod token;
 
 pub use fault::LexFault;

@@ -5,8 +5,6 @@ mod crc;
 mod law;
 mod printing;
 mod reading;
-#[cfg(test)]
-mod tests;
 
 pub use crc::crc32;
 pub use law::{a_text_has_one_crc, numbers_are_read_back};

@@ -9,13 +9,7 @@ mod outcome;
 mod packets;
 mod profile;
 mod replay;
-#[cfg(test)]
-mod replay_tests;
 mod report;
-#[cfg(test)]
-mod report_tests;
-#[cfg(test)]
-mod tests;
 mod world;
 
 pub use journal::{JournalFault, Step, read_step};
