@@ -3,7 +3,7 @@ use Rattle.std.proofs.Common.{◌≡◌, ◌⊎◌, inl, inr, ℕ, List, [], ◌
 use Rattle.std.proofs.lemmas.Option.{none-some, same_Some}
 use Rattle.tl_combinators.specs.Trees.{Tree}
 use Rattle.tl_combinators.specs.Program.{DeclText}
-use Rattle.tl_types.specs.Paths.{IsIn}
+use Rattle.tl_graph.specs.Paths.{IsIn}
 use Rattle.tl_types.specs.BareReferences.{IsBareOf}
 use Rattle.tl_types.specs.BareSteps.{BareIs, RefersIn, Adds}
 use Rattle.tl_types.proofs.Places.{get_kept, get_last, get_cases}

@@ -2,7 +2,8 @@
 use Rattle.std.proofs.Common.{◌≡◌, ℕ, true, false, List, length, Option, Some, None, ap, subst}
 use Rattle.std.proofs.lemmas.Option.{same_Some, none-some}
 use Rattle.tl_combinators.specs.Program.{DeclText}
-use Rattle.tl_types.specs.Writing.{is_type_name, is_built_in, is_variable, First, IsConstructorOf, IsConstructorNamed}
+use Rattle.tl_graph.specs.Firsts.{First}
+use Rattle.tl_types.specs.Writing.{is_type_name, is_built_in, is_variable, IsConstructorOf, IsConstructorNamed}
 use Rattle.tl_types.specs.WrongArity.{HasArity}
 use Rattle.tl_types.specs.WrongArity as has
 use Rattle.tl_types.specs.Arities.{VarsOfFirst, IsArity}

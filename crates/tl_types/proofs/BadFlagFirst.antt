@@ -3,7 +3,7 @@ use Rattle.std.proofs.Common.{◌≡◌, inl, inr, ℕ, ◌<◌, List, Option, S
 use Rattle.tl_lexer.proofs.Whole.{Decided}
 use Rattle.tl_combinators.proofs.Decided.{decided_as, decided_not, decided_and, decided_or, text_decided}
 use Rattle.tl_combinators.specs.Program.{KindText, nat, flag, call, of, CondText, DeclText}
-use Rattle.tl_types.specs.Writing.{First}
+use Rattle.tl_graph.specs.Firsts.{First}
 use Rattle.tl_types.specs.BadFlag.{IsFlagsBefore, IsBadCondition, HasBadCondition, BadFlag}
 use Rattle.tl_types.proofs.PlacesDecided.{less_decided, some_decided}
 use Rattle.tl_types.proofs.Firsts.{first_that}

@@ -4,7 +4,8 @@ use Rattle.tl_lexer.proofs.Whole.{Decided}
 use Rattle.tl_combinators.proofs.Decided.{decided_as, decided_not, decided_and}
 use Rattle.tl_combinators.specs.Trees.{named, plain, trees_of}
 use Rattle.tl_combinators.specs.Program.{DeclText}
-use Rattle.tl_types.specs.Writing.{is_type_name, is_variable, is_constructor, First}
+use Rattle.tl_graph.specs.Firsts.{First}
+use Rattle.tl_types.specs.Writing.{is_type_name, is_variable, is_constructor}
 use Rattle.tl_types.specs.BadResult.{IsGoodResult, HasBadResult, BadResult}
 use Rattle.tl_types.proofs.PlacesDecided.{bool_decided}
 use Rattle.tl_types.proofs.TypesDecided.{named_decided, types_decided}

@@ -1,11 +1,11 @@
 -- The first declaration that stands on a cycle of bare references.
 use Rattle.std.proofs.Common.{ℕ, ◌<◌, List, length, Option}
 use Rattle.tl_combinators.specs.Program.{DeclText}
-use Rattle.tl_types.specs.Writing.{First}
+use Rattle.tl_graph.specs.Firsts.{First}
+use Rattle.tl_graph.proofs.PathsDecided.{first_step, path_decided}
 use Rattle.tl_types.specs.BareReferences.{PointsTo}
 use Rattle.tl_types.specs.BareCycle.{BareCycle}
 use Rattle.tl_types.proofs.BareDecided.{points_decided, source_within, target_within}
-use Rattle.tl_types.proofs.PathsDecided.{first_step, path_decided}
 use Rattle.tl_types.proofs.Firsts.{first_of}
 
 module _ (ds : List DeclText) where

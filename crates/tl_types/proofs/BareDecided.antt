@@ -6,7 +6,8 @@ use Rattle.tl_lexer.proofs.Whole.{Decided}
 use Rattle.tl_combinators.proofs.Decided.{decided_as, decided_and, decided_or}
 use Rattle.tl_combinators.specs.Trees.{Tree, Trees, named, percent}
 use Rattle.tl_combinators.specs.Program.{DeclText}
-use Rattle.tl_types.specs.Writing.{First, is_constructor, is_type_name, is_built_in, is_variable, IsConstructorNamed, InFields}
+use Rattle.tl_graph.specs.Firsts.{First}
+use Rattle.tl_types.specs.Writing.{is_constructor, is_type_name, is_built_in, is_variable, IsConstructorNamed, InFields}
 use Rattle.tl_types.specs.NotBare.{IsOnlyConstructor}
 use Rattle.tl_types.specs.BareReferences.{IsBareOf, by_name, by_type, PointsTo}
 use Rattle.tl_types.proofs.PlacesDecided.{bool_decided}

@@ -1,13 +1,11 @@
 -- Types with a bare form, and `%` before one that has none.
 use Rattle.std.proofs.Common.{◌≡◌, inl, inr, ℕ, List, Bool, true, false, not, IsTrue, ◌↔◌, codes, refl, ap, sym, ◌∙◌, subst, true≢false}
-use Rattle.std.proofs.lemmas.Option.{same_Some}
-use Rattle.tl_combinators.specs.Trees.{Tree, Trees, named, percent, any_call}
+use Rattle.tl_combinators.specs.Trees.{Tree, Trees, named, percent}
 use Rattle.tl_combinators.specs.Program.{DeclText}
 use Rattle.tl_types.proofs.HeadNames.{type_name}
-use Rattle.tl_types.specs.Writing.{At, Writes, is_variable}
+use Rattle.tl_types.specs.Writing.{is_variable}
 use Rattle.tl_types.specs.NotBare.{HasBare, vector, single, HasNoBare}
 use Rattle.tl_types.specs.BareForms.{IsBareName}
-use Rattle.tl_types.specs.Parts.{SomeWritten}
 
 module _ (ds : List DeclText) (d : DeclText) where
   -- a name that is applied has the bare form of its type

@@ -2,7 +2,7 @@
 use Rattle.std.proofs.Common.{◌≡◌, ◌⊎◌, ℕ, List, [], ◌∷◌, Option, Some, None, refl, sym, ◌∙◌, inl, inr}
 use Rattle.std.proofs.lemmas.Option.{same_Some}
 use Rattle.tl_combinators.specs.Program.{DeclText}
-use Rattle.tl_types.specs.Writing.{First}
+use Rattle.tl_graph.specs.Firsts.{First}
 use Rattle.tl_types.specs.CheckCauses.{HasCause, causes, PassesBy, RefusedBy, Passes, RefusedAt}
 use Rattle.tl_types.specs.declared.fault.CheckCause.{CheckCause}
 use Rattle.tl_types.specs.declared.fault.CheckCause.TheVariants.{SameName, UnknownType, UnknownVariable, WrongArity, BadResult, NotBare, BadFlag, SameNumber, BareCycle, EmptyElement}

@@ -2,7 +2,7 @@
 use Rattle.std.proofs.Common.{◌≡◌, ℕ, List, [], ◌∷◌, ◌++◌, Option, Some, None, Result, Ok, Err, refl, sym, subst, inl, inr}
 use Rattle.std.specs.Prelude.{IsErrAnd}
 use Rattle.tl_combinators.specs.Program.{DeclText}
-use Rattle.tl_types.specs.Writing.{First}
+use Rattle.tl_graph.specs.Firsts.{First}
 use Rattle.tl_types.specs.CheckCauses.{HasCause, NoneHas, PassesBy, RefusedBy}
 use Rattle.tl_types.specs.CheckedPrograms.{ChecksBy, Found}
 use Rattle.tl_types.specs.declared.fault.CheckCause.{CheckCause}

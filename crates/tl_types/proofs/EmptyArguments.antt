@@ -2,7 +2,8 @@
 use Rattle.std.proofs.Common.{◌↔◌, ℕ, Bool, List, Option}
 use Rattle.tl_combinators.specs.Trees.{Tree, named, percent, any_call}
 use Rattle.tl_combinators.specs.Program.{DeclText}
-use Rattle.tl_types.specs.Writing.{DeclarationHas, First}
+use Rattle.tl_graph.specs.Firsts.{First}
+use Rattle.tl_types.specs.Writing.{DeclarationHas}
 use Rattle.tl_types.specs.Parts.{SomePart, SomeWritten}
 use Rattle.tl_types.specs.EmptyElement.{AppliesToEmpty, EmptyElement}
 use Rattle.tl_types.specs.BareSteps.{MarksEmpty, AppliesToMarked}

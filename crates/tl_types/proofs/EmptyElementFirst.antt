@@ -1,14 +1,14 @@
 -- The first declaration that applies a name to a bare constructor without bytes.
-use Rattle.std.proofs.Common.{◌≡◌, ◌⊎◌, inl, inr, ℕ, List, length, Option, refl, subst}
+use Rattle.std.proofs.Common.{◌⊎◌, inl, inr, ℕ, List, length, Option, refl, subst}
 use Rattle.tl_lexer.proofs.Whole.{Decided}
 use Rattle.tl_combinators.proofs.Decided.{decided_as, decided_and, decided_or}
 use Rattle.tl_combinators.specs.Trees.{Tree, Trees, named, percent, any_call, no_trees, tree}
 use Rattle.tl_combinators.specs.Program.{DeclText}
-use Rattle.tl_types.specs.Writing.{First}
+use Rattle.tl_graph.specs.Firsts.{First}
+use Rattle.tl_graph.proofs.Deciding.{below_decided}
 use Rattle.tl_types.specs.Parts.{SomeWritten}
 use Rattle.tl_types.specs.BareReferences.{IsBareOf}
 use Rattle.tl_types.specs.EmptyElement.{TakesNone, IsOneOf, AppliesToEmpty, EmptyElement}
-use Rattle.tl_types.proofs.Deciding.{below_decided}
 use Rattle.tl_types.proofs.WritingDecided.{writes_decided}
 use Rattle.tl_types.proofs.BareDecided.{bare_of_decided, bare_within}
 use Rattle.tl_types.proofs.TakesNoneDecided.{takes_none_decided}

@@ -1,8 +1,8 @@
 -- Conditions of fields.
-use Rattle.std.proofs.Common.{◌≡◌, inl, inr, ℕ, ◌+◌, ◌<◌, ◌≤◌, List, length, slice_get, Option, Some, None, refl, ap, sym, ◌∙◌, subst, arith}
+use Rattle.std.proofs.Common.{◌≡◌, inl, inr, ℕ, ◌+◌, ◌<◌, ◌≤◌, List, length, slice_get, ap, sym, ◌∙◌, subst, arith}
 use Rattle.std.proofs.lemmas.Bool.{cases_eq}
 use Rattle.std.proofs.lemmas.Option.{slice_get_within, same_Some}
-use Rattle.tl_combinators.specs.Program.{FieldText, CondText, DeclText}
+use Rattle.tl_combinators.specs.Program.{FieldText, DeclText}
 use Rattle.tl_types.specs.Writing.{FieldAt}
 use Rattle.tl_types.specs.BadFlag.{IsFlagsBefore, IsBadCondition, HasBadCondition}
 use Rattle.tl_types.specs.ConditionSteps.{IsFlags}

@@ -5,7 +5,8 @@ use Rattle.std.proofs.lemmas.Option.{slice_get_within}
 use Rattle.tl_lexer.proofs.Whole.{Decided}
 use Rattle.tl_combinators.specs.Program.{DeclText}
 use Rattle.tl_combinators.proofs.Decided.{decided_as}
-use Rattle.tl_types.specs.Writing.{At, DeclarationHas, First}
+use Rattle.tl_graph.specs.Firsts.{First}
+use Rattle.tl_types.specs.Writing.{At, DeclarationHas}
 use Rattle.tl_types.proofs.PlacesDecided.{option_decided}
 
 -- no place below n has it

@@ -16,7 +16,6 @@ pub mod PartsOfOne
 pub mod UnknownParts
 pub mod BareParts
 pub mod AppliedTypes
-pub mod FirstPlaces
 pub mod SameNames
 pub mod Results
 pub mod FieldConditions
@@ -44,8 +43,6 @@ pub mod OneArity
 pub mod WrongArityFirst
 pub mod CheckSequence
 pub mod CheckOrder
-pub mod GrowingMarks
-pub mod PathsDecided
 pub mod BareDecided
 pub mod TakesNoneDecided
 pub mod SameNumberFirst
@@ -56,13 +53,8 @@ pub mod BareMeanings
 pub mod Adding
 pub mod AddingParts
 pub mod ReferenceLists
-mod NodeLists
-mod ReachedNodes
-mod GraphPaths
-mod Explored
 mod ReferenceCycles
 mod KnownNumbers
-mod MarkedNodes
 mod OneBare
 mod EmptyNodes
 mod BareFields

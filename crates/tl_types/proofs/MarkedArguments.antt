@@ -1,14 +1,13 @@
 -- Arguments that are bare constructors with a mark.
-use Rattle.std.proofs.Common.{◌≡◌, ◌⊎◌, inl, inr, ℕ, zero, suc, ◌+◌, ◌≤◌, ◌<◌, ◌↔◌, Bool, List, [], ◌∷◌, ◌++◌, length, take, slice_get, Some, None, refl, sym, subst, ◌∙◌}
+use Rattle.std.proofs.Common.{◌≡◌, ◌⊎◌, inl, inr, ℕ, zero, suc, ◌+◌, ◌≤◌, ◌↔◌, Bool, List, [], ◌∷◌, ◌++◌, length, take, slice_get, Some, None, refl, sym, subst}
 use Rattle.std.specs.Prelude.{IsTrue}
 use Rattle.std.proofs.lemmas.List.{take_all}
-use Rattle.std.proofs.lemmas.Option.{none-some, same_Some, slice_get_within}
-use Rattle.tl_combinators.specs.Trees.{Tree, named, percent, any_call, trees_of}
+use Rattle.std.proofs.lemmas.Option.{none-some, same_Some}
+use Rattle.tl_combinators.specs.Trees.{Tree, trees_of}
 use Rattle.tl_combinators.specs.Program.{DeclText}
-use Rattle.tl_types.specs.Writing.{At, Writes}
-use Rattle.tl_types.specs.Parts.{SomeWritten}
+use Rattle.tl_graph.specs.Needs.{IsMarked}
 use Rattle.tl_types.specs.EmptyElement.{IsOneOf}
-use Rattle.tl_types.specs.BareSteps.{IsMarked, BareIs, MarksEmpty, IsMarkedBare, HasMarkedArg, AppliesToMarked}
+use Rattle.tl_types.specs.BareSteps.{BareIs, IsMarkedBare, HasMarkedArg}
 use Rattle.tl_types.proofs.Maps.{take_push}
 
 -- ---- one of several types

@@ -1,11 +1,12 @@
 -- The first declaration with `%` before a type that has no bare form.
-use Rattle.std.proofs.Common.{◌≡◌, ◌⊎◌, inl, inr, ℕ, true, false, List, Option, refl, subst}
+use Rattle.std.proofs.Common.{◌≡◌, ◌⊎◌, inl, inr, ℕ, true, false, List, Option}
 use Rattle.std.specs.Prelude.{codes}
 use Rattle.tl_lexer.proofs.Whole.{Decided}
 use Rattle.tl_combinators.proofs.Decided.{decided_as, decided_not, decided_and, decided_or}
 use Rattle.tl_combinators.specs.Trees.{Tree, Trees, named, percent, any_call}
 use Rattle.tl_combinators.specs.Program.{DeclText}
-use Rattle.tl_types.specs.Writing.{is_type_name, is_variable, First}
+use Rattle.tl_graph.specs.Firsts.{First}
+use Rattle.tl_types.specs.Writing.{is_type_name, is_variable}
 use Rattle.tl_types.specs.Parts.{SomeWritten}
 use Rattle.tl_types.specs.NotBare.{IsOnlyConstructor, HasBare, vector, single, HasNoBare, NotBare}
 use Rattle.tl_types.proofs.PlacesDecided.{bool_decided}

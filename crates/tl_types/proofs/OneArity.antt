@@ -7,7 +7,8 @@ use Rattle.std.proofs.lemmas.Slice.Eq.{bytes_eq-Decides}
 use Rattle.tl_lexer.proofs.Whole.{Decided}
 use Rattle.tl_combinators.proofs.Decided.{decided_as, decided_not}
 use Rattle.tl_combinators.specs.Program.{DeclText}
-use Rattle.tl_types.specs.Writing.{At, is_type_name, is_vector_name, is_built_in, is_variable, IsConstructorOf, IsConstructorNamed, First}
+use Rattle.tl_graph.specs.Firsts.{First}
+use Rattle.tl_types.specs.Writing.{At, is_type_name, is_vector_name, is_built_in, is_variable, IsConstructorOf, IsConstructorNamed}
 use Rattle.tl_types.specs.WrongArity.{HasArity, variable, vector, built_in, type, constructor}
 use Rattle.tl_types.specs.Arities.{FirstAt}
 use Rattle.tl_types.proofs.WritingDecided.{constructor_at_decided, named_at_decided}

@@ -3,8 +3,9 @@ use Rattle.std.proofs.Common.{◌≡◌, inl, inr, ℕ, List, slice_get, Some, a
 use Rattle.std.proofs.lemmas.Option.{same_Some, slice_get_cases, slice_get_within}
 use Rattle.tl_combinators.specs.Trees.{Tree}
 use Rattle.tl_combinators.specs.Program.{KindText, nat, flag, call, of, FieldText, DeclText}
-use Rattle.tl_types.specs.Writing.{FieldAt, IsConstructorNamed, First}
-use Rattle.tl_types.specs.Paths.{IsIn}
+use Rattle.tl_graph.specs.Firsts.{First}
+use Rattle.tl_graph.specs.Paths.{IsIn}
+use Rattle.tl_types.specs.Writing.{FieldAt, IsConstructorNamed}
 use Rattle.tl_types.specs.BareReferences.{IsBareOf, by_name, by_type}
 use Rattle.tl_types.specs.EmptyElement.{HoldsBare, HasBareFields}
 use Rattle.tl_types.specs.NotBare.{IsOnlyConstructor}

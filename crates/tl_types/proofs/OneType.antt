@@ -1,15 +1,14 @@
 -- A text is a type of a program or is refused: one of the two, and in one way.
-use Rattle.std.proofs.Common.{◌≡◌, ◌≢◌, ◌⊎◌, inl, inr, ℕ, List, [], ◌∷◌, refl, sym, ap, ◌∙◌, subst}
+use Rattle.std.proofs.Common.{◌≡◌, ◌⊎◌, inl, inr, ℕ, List, [], ◌∷◌, refl, sym, ap, ◌∙◌, subst}
 use Rattle.tl_lexer.specs.declared.token.Token.{Token}
 use Rattle.tl_lexer.specs.Tokens.{Tokens, LexRefused}
 use Rattle.tl_lexer.specs.OneAnswer.{HasTokens, IsRefused}
 use Rattle.tl_lexer.proofs.Whole.{Decided}
 use Rattle.tl_lexer.proofs.WholePieces.{one_answer as lexer_law}
 use Rattle.tl_combinators.specs.declared.fault.SyntaxFault.{SyntaxFault}
-use Rattle.tl_combinators.specs.Trees.{Tree, Trees, named, percent, any_call}
+use Rattle.tl_combinators.specs.Trees.{Tree}
 use Rattle.tl_combinators.specs.Program.{DeclText}
 use Rattle.tl_combinators.specs.Sentences.{ReadsType, TypeRefused}
-use Rattle.tl_combinators.proofs.Decided.{decided_as, decided_not}
 use Rattle.tl_combinators.proofs.OneProgram.{one_type}
 use Rattle.tl_types.specs.UnknownType.{BeginsUnknown}
 use Rattle.tl_types.specs.WrongArity.{Misapplies}

@@ -5,8 +5,9 @@ use Rattle.std.proofs.lemmas.Option.{none-some, same_Some, slice_get_within}
 use Rattle.std.proofs.lemmas.Slice.Eq.{bytes_eq-Decides}
 use Rattle.tl_lexer.proofs.Whole.{Decided}
 use Rattle.tl_combinators.proofs.Decided.{decided_as}
+use Rattle.tl_graph.proofs.Deciding.{below_decided}
 use Rattle.tl_types.specs.NameLists.{IsRepeat}
-use Rattle.tl_types.proofs.Deciding.{below_decided, repeat_decided}
+use Rattle.tl_types.proofs.Deciding.{repeat_decided}
 
 -- ---- numbers and tests
 

@@ -3,13 +3,13 @@ use Rattle.std.proofs.Common.{ℕ, ◌<◌, List, length, Option, arith}
 use Rattle.std.proofs.lemmas.Option.{slice_get_within}
 use Rattle.tl_combinators.specs.Trees.{Tree}
 use Rattle.tl_combinators.specs.Program.{DeclText}
-use Rattle.tl_types.specs.Writing.{First}
-use Rattle.tl_types.specs.Paths.{Edge, IsOnCycle}
+use Rattle.tl_graph.specs.Firsts.{First}
+use Rattle.tl_graph.specs.Paths.{Edge, IsGraph, IsOnCycle}
+use Rattle.tl_graph.proofs.GraphPaths.{along}
 use Rattle.tl_types.specs.BareReferences.{IsBareOf, by_name, by_type, PointsTo}
 use Rattle.tl_types.specs.BareCycle.{BareCycle}
-use Rattle.tl_types.specs.BareSteps.{AreReferences, IsGraph}
+use Rattle.tl_types.specs.BareSteps.{AreReferences}
 use Rattle.tl_types.proofs.Places.{first_same}
-use Rattle.tl_types.proofs.GraphPaths.{along}
 
 -- a constructor that is referred to stands in the list
 bare_within : (ds : List DeclText) (d : DeclText) (t : Tree) (j : ℕ) → IsBareOf ds d t j → j < length ds

@@ -3,8 +3,8 @@ use Rattle.std.proofs.Common.{◌≡◌, inl, inr, ℕ, ◌+◌, ◌<◌, List, 
 use Rattle.std.proofs.lemmas.List.{length_push}
 use Rattle.std.proofs.lemmas.Option.{none-some, same_Some, slice_get_cases, slice_get_within}
 use Rattle.tl_combinators.specs.Program.{DeclText}
+use Rattle.tl_graph.specs.Paths.{Edge}
 use Rattle.tl_types.specs.Writing.{At}
-use Rattle.tl_types.specs.Paths.{Edge}
 use Rattle.tl_types.specs.BareReferences.{PointsTo}
 use Rattle.tl_types.specs.BareSteps.{Refers, AreReferences}
 use Rattle.tl_types.proofs.Places.{get_cases}

@@ -1,7 +1,7 @@
 -- Results that are a type applied to the declaration's variables.
-use Rattle.std.proofs.Common.{◌≡◌, ◌≢◌, ℕ, ◌+◌, ◌<◌, ◌==◌, List, [], ◌∷◌, ◌++◌, map, take, length, slice_get, Some, Vec, Global, Bool, true, false, not, IsTrue, ◌↔◌, refl, ap, ap₂, sym, ◌∙◌, subst, true≢false}
+use Rattle.std.proofs.Common.{◌≡◌, ◌≢◌, ℕ, ◌+◌, ◌==◌, List, [], ◌∷◌, ◌++◌, map, take, slice_get, Some, Vec, Global, Bool, true, false, not, IsTrue, ◌↔◌, refl, ap, ap₂, sym, ◌∙◌, true≢false}
 use Rattle.std.specs.Vec.{vec_len}
-use Rattle.std.proofs.lemmas.Option.{slice_get_within, same_Some}
+use Rattle.std.proofs.lemmas.Option.{same_Some}
 use Rattle.tl_combinators.specs.declared.tree.TypeTree.{TypeTree, Named}
 use Rattle.tl_combinators.specs.declared.program.Decl.{Decl}
 use Rattle.tl_combinators.specs.Trees.{Tree, Trees, named, tree, plain, trees_of, view, views}

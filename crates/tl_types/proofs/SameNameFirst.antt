@@ -5,7 +5,8 @@ use Rattle.tl_lexer.proofs.Whole.{Decided}
 use Rattle.tl_combinators.proofs.Decided.{decided_and, decided_or, text_decided}
 use Rattle.tl_combinators.specs.Trees.{Trees, named}
 use Rattle.tl_combinators.specs.Program.{DeclText}
-use Rattle.tl_types.specs.Writing.{At, is_variable, First}
+use Rattle.tl_graph.specs.Firsts.{First}
+use Rattle.tl_types.specs.Writing.{At, is_variable}
 use Rattle.tl_types.specs.NameLists.{IsRepeat}
 use Rattle.tl_types.specs.SameName.{SameName, declared, part, vector, part_names}
 use Rattle.tl_types.proofs.PlacesDecided.{bool_decided, less_decided, names_repeat_decided}

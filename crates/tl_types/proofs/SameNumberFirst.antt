@@ -5,7 +5,8 @@ use Rattle.tl_lexer.proofs.Whole.{Decided}
 use Rattle.tl_numbers.proofs.Division.{some_crc, one_crc}
 use Rattle.tl_combinators.proofs.Decided.{decided_as, decided_and, decided_or}
 use Rattle.tl_combinators.specs.Program.{DeclText}
-use Rattle.tl_types.specs.Writing.{At, First}
+use Rattle.tl_graph.specs.Firsts.{First}
+use Rattle.tl_types.specs.Writing.{At}
 use Rattle.tl_types.specs.Schemas.{packed_number, vector_number}
 use Rattle.tl_types.specs.Numbers.{IsWrittenOrCrc, IsNumberOf}
 use Rattle.tl_types.specs.SameNumber.{SameNumber, earlier, packed, vector}

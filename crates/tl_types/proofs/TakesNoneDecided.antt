@@ -4,15 +4,16 @@ use Rattle.std.proofs.lemmas.Option.{none-some, same_Some, slice_get_within, sli
 use Rattle.tl_lexer.proofs.Whole.{Decided}
 use Rattle.tl_combinators.proofs.Decided.{decided_as, decided_not, decided_and}
 use Rattle.tl_combinators.specs.Program.{KindText, nat, flag, call, of, FieldText, DeclText}
+use Rattle.tl_graph.specs.Paths.{IsIn}
+use Rattle.tl_graph.specs.Needs.{IsMarked}
+use Rattle.tl_graph.proofs.Deciding.{below_decided}
+use Rattle.tl_graph.proofs.MarkLists.{marked_decided}
+use Rattle.tl_graph.proofs.GrowingMarks.{AreSound, Grows, marks_decide}
 use Rattle.tl_types.specs.Writing.{At, is_constructor, FieldAt}
-use Rattle.tl_types.specs.Paths.{IsIn}
 use Rattle.tl_types.specs.EmptyElement.{HoldsBare, HasBareFields, TakesNone, takes_none}
-use Rattle.tl_types.specs.BareSteps.{IsMarked}
 use Rattle.tl_types.proofs.PlacesDecided.{bool_decided, some_decided}
-use Rattle.tl_types.proofs.Deciding.{below_decided}
 use Rattle.tl_types.proofs.WritingDecided.{at_decided}
 use Rattle.tl_types.proofs.BareDecided.{bare_of_decided}
-use Rattle.tl_types.proofs.GrowingMarks.{marked_decided, AreSound, Grows, marks_decide}
 
 -- ---- each element of a list
 

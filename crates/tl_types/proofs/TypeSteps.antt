@@ -3,7 +3,7 @@ use Rattle.std.proofs.Common.{◌≡◌, inl, inr, ℕ, List, Result, Ok, Err, r
 use Rattle.std.specs.Prelude.{IsErrAnd}
 use Rattle.tl_combinators.specs.Trees.{Tree}
 use Rattle.tl_combinators.specs.Program.{DeclText}
-use Rattle.tl_types.specs.AskedTypes.{TypeHas, type_causes, PassesTypeBy, RefusedTypeBy, AsksFor, PassesType, ChecksType, NamesType}
+use Rattle.tl_types.specs.AskedTypes.{TypeHas, type_causes, RefusedTypeBy, AsksFor, PassesType, ChecksType, NamesType}
 use Rattle.tl_types.specs.declared.schema.TypeRef.{TypeRef}
 use Rattle.tl_types.specs.declared.fault.TypeCause.TheVariants.{UnknownType, WrongArity, NotBare, EmptyElement}
 use Rattle.tl_types.specs.declared.fault.TypeFault.{TypeFault}

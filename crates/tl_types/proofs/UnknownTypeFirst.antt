@@ -1,10 +1,11 @@
 -- The first declaration with a name of a type that has no declaration.
-use Rattle.std.proofs.Common.{◌≡◌, ◌⊎◌, inl, inr, ℕ, true, false, List, Option, refl, subst}
+use Rattle.std.proofs.Common.{◌≡◌, ◌⊎◌, inl, inr, ℕ, true, false, List, Option}
 use Rattle.tl_lexer.proofs.Whole.{Decided}
 use Rattle.tl_combinators.proofs.Decided.{decided_as, decided_not, decided_and, decided_or}
 use Rattle.tl_combinators.specs.Trees.{Tree, named, percent, any_call}
 use Rattle.tl_combinators.specs.Program.{DeclText}
-use Rattle.tl_types.specs.Writing.{is_type_name, is_built_in, is_variable, IsConstructorOf, IsConstructorNamed, First}
+use Rattle.tl_graph.specs.Firsts.{First}
+use Rattle.tl_types.specs.Writing.{is_type_name, is_built_in, is_variable, IsConstructorOf, IsConstructorNamed}
 use Rattle.tl_types.specs.Parts.{SomeWritten}
 use Rattle.tl_types.specs.UnknownType.{IsUnknown, no_type, no_constructor, BeginsUnknown, UnknownType}
 use Rattle.tl_types.proofs.PlacesDecided.{bool_decided}

@@ -6,7 +6,8 @@ use Rattle.tl_lexer.proofs.Whole.{Decided}
 use Rattle.tl_combinators.proofs.Decided.{decided_as, decided_not, decided_and, decided_or}
 use Rattle.tl_combinators.specs.Trees.{Tree, named, percent, any_call}
 use Rattle.tl_combinators.specs.Program.{DeclText}
-use Rattle.tl_types.specs.Writing.{is_variable, First}
+use Rattle.tl_graph.specs.Firsts.{First}
+use Rattle.tl_types.specs.Writing.{is_variable}
 use Rattle.tl_types.specs.Parts.{SomeInFields}
 use Rattle.tl_types.specs.UnknownVariable.{NamesVariable, MisusesVariable, UnknownVariable, uncalled, no_variable, in_field, calls}
 use Rattle.tl_types.proofs.PlacesDecided.{bool_decided, some_decided}

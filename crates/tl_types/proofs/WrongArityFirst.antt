@@ -1,11 +1,12 @@
 -- The first declaration with a wrong number of arguments or variables.
-use Rattle.std.proofs.Common.{◌≡◌, ◌≢◌, inr, ℕ, List, length, Option, Some}
+use Rattle.std.proofs.Common.{◌≢◌, inr, ℕ, List, length, Option}
 use Rattle.std.proofs.lemmas.Bool.{cases_eq}
 use Rattle.tl_lexer.proofs.Whole.{Decided}
 use Rattle.tl_combinators.proofs.Decided.{decided_as, decided_not, decided_or}
 use Rattle.tl_combinators.specs.Trees.{Tree, named, percent, any_call}
 use Rattle.tl_combinators.specs.Program.{DeclText}
-use Rattle.tl_types.specs.Writing.{own_type, IsConstructorOf, First}
+use Rattle.tl_graph.specs.Firsts.{First}
+use Rattle.tl_types.specs.Writing.{own_type, IsConstructorOf}
 use Rattle.tl_types.specs.WrongArity.{count_of, Misapplies, IsUneven, ConstructsUneven, IsWrong, WrongArity}
 use Rattle.tl_types.proofs.PlacesDecided.{option_decided}
 use Rattle.tl_types.proofs.WritingDecided.{constructor_that_decided, writes_decided}

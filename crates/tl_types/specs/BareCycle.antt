@@ -2,7 +2,7 @@
 -- This project's own, over the bare types of "TL language" (core.telegram.org/mtproto/TL).
 use Rattle.std.specs.Prelude.{ℕ, List}
 use Rattle.tl_combinators.specs.Program.{DeclText}
-use Rattle.tl_types.specs.Paths.{IsOnCycle}
+use Rattle.tl_graph.specs.Paths.{IsOnCycle}
 use Rattle.tl_types.specs.BareReferences.{PointsTo}
 
 -- declaration k stands on a cycle of constructors of which each refers to the next

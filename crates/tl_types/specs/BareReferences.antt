@@ -3,7 +3,8 @@
 use Rattle.std.specs.Prelude.{◌≡◌, ℕ, List, Some, true, false}
 use Rattle.tl_combinators.specs.Trees.{Tree, Trees, named, percent}
 use Rattle.tl_combinators.specs.Program.{DeclText}
-use Rattle.tl_types.specs.Writing.{At, First, is_constructor, is_type_name, is_built_in, is_variable, IsConstructorNamed, InFields}
+use Rattle.tl_graph.specs.Firsts.{First}
+use Rattle.tl_types.specs.Writing.{At, is_constructor, is_type_name, is_built_in, is_variable, IsConstructorNamed, InFields}
 use Rattle.tl_types.specs.NotBare.{IsOnlyConstructor}
 
 -- where d writes it, the type is the bare constructor j

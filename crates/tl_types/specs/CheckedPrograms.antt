@@ -1,7 +1,8 @@
 -- The programs that are schemas, and what a check answers. This project's own.
 use Rattle.std.specs.Prelude.{◌≡◌, ℕ, ◌<◌, ◌^◌, List, length, Bool, Option, Some, None, Result, Ok, Err, slice_get}
 use Rattle.tl_combinators.specs.Program.{DeclText}
-use Rattle.tl_types.specs.Writing.{At, First}
+use Rattle.tl_graph.specs.Firsts.{First}
+use Rattle.tl_types.specs.Writing.{At}
 use Rattle.tl_types.specs.Schemas.{Declaration, Declared}
 use Rattle.tl_types.specs.Meanings.{IsEntry, IsSmall}
 use Rattle.tl_types.specs.CheckCauses.{causes, PassesBy, RefusedBy, Passes, RefusedAt}

@@ -3,9 +3,9 @@
 use Rattle.std.specs.Prelude.{◌≡◌, ◌⊎◌, ℕ, List, length, slice_get, Some, true}
 use Rattle.tl_combinators.specs.Trees.{Tree, Trees, named, percent, any_call, no_trees, tree}
 use Rattle.tl_combinators.specs.Program.{KindText, nat, flag, call, of, FieldText, DeclText}
+use Rattle.tl_graph.specs.Paths.{IsIn}
 use Rattle.tl_types.specs.Writing.{At, is_constructor, FieldAt, DeclarationHas}
 use Rattle.tl_types.specs.Parts.{SomeWritten}
-use Rattle.tl_types.specs.Paths.{IsIn}
 use Rattle.tl_types.specs.BareReferences.{IsBareOf}
 
 -- what a field of d holds is the bare constructor j

@@ -4,7 +4,8 @@
 use Rattle.std.specs.Prelude.{◌≡◌, ℕ, ◌<◌, ◌^◌, List, length, IsTrue, ◌↔◌, bytes_eq, Vec, Option, None, Some, true, false, not, ◌||◌, ◌==◌, if◌then◌else◌}
 use Rattle.indexmap.specs.IndexMap.{IndexMap, get_by}
 use Rattle.tl_combinators.specs.Program.{DeclText}
-use Rattle.tl_types.specs.Writing.{At, First, IsConstructorOf, IsConstructorNamed}
+use Rattle.tl_graph.specs.Firsts.{First}
+use Rattle.tl_types.specs.Writing.{At, IsConstructorOf, IsConstructorNamed}
 use Rattle.tl_types.specs.NotBare.{IsOnlyConstructor}
 use Rattle.tl_types.specs.WrongArity.{IsUneven}
 use Rattle.tl_types.specs.NamePlaces.{place_in}

@@ -21,7 +21,6 @@ pub mod NotBare
 pub mod BadFlag
 pub mod Numbers
 pub mod SameNumber
-pub mod Paths
 pub mod BareReferences
 pub mod BareCycle
 pub mod EmptyElement

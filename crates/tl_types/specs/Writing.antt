@@ -1,6 +1,6 @@
 -- What the declarations of a program write: names, variables, types and their parts.
 -- From "TL language" and "Formal description of TL" (core.telegram.org/mtproto/TL, /mtproto/TL-formal).
-use Rattle.std.specs.Prelude.{◌≡◌, ◌⊎◌, ℕ, ◌<◌, List, [], ◌∷◌, Bool, true, false, ◌==◌, ◌&&◌, ◌||◌, not, bytes_eq, codes, slice_get, Option, Some, None, is_some, if◌then◌else◌}
+use Rattle.std.specs.Prelude.{◌≡◌, ◌⊎◌, ℕ, List, [], ◌∷◌, Bool, true, false, ◌==◌, ◌&&◌, ◌||◌, not, bytes_eq, codes, slice_get, Option, Some, None, is_some, if◌then◌else◌}
 use Rattle.std.specs.List.{list_any}
 use Rattle.tl_combinators.specs.Tokens.{first_is, is_upper}
 use Rattle.tl_combinators.specs.Trees.{Tree, Trees, named, percent, any_call, no_trees, tree}
@@ -97,15 +97,10 @@ pub record Writes (d : DeclText) (u : Tree) : Type 0 where
   pub own : d.builtin ≡ false
   pub there : InFields d u ⊎ IsPart u d.result
 
--- ---- the first of the declarations
+-- ---- declarations with a property
 
 -- declaration k has the property
 pub record DeclarationHas (P : DeclText → Type 0) (ds : List DeclText) (k : ℕ) : Type 0 where
   pub d : DeclText
   pub here : At ds k d
   pub has : P d
-
--- k is the first such place, or there is none
-abbrev pub First : (ℕ → Type 0) → Option ℕ → Type 0
-First P (Some k) = P k × ((j : ℕ) → j < k → P j → ⊥)
-First P None = (k : ℕ) → P k → ⊥

@@ -1,9 +1,9 @@
 //! The seventh check: conditions.
 ghost use Rattle.std.specs.Prelude.{◌≡◌, ◌<◌, ◌≤◌, ◌^◌, ◌↔◌, IsTrue, length};
 ghost use Rattle.tl_combinators.specs.Program.{cond_texts, decl_text, field_text, program_text};
+ghost use Rattle.tl_graph.specs.Firsts.{First};
 ghost use Rattle.tl_types.specs.BadFlag.{BadFlag, HasBadCondition, IsBadCondition, IsFlagsBefore};
 ghost use Rattle.tl_types.specs.ConditionSteps.{IsFlags};
-ghost use Rattle.tl_types.specs.Writing.{First};
 
 use crate::declarations::{DeclTest, first_that};
 use tl_combinators::{Cond, Decl, Field, FieldKind, Program};

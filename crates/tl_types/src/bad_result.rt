@@ -2,8 +2,8 @@
 ghost use Rattle.std.specs.Prelude.{◌≡◌, ◌<◌, ◌^◌, ◌↔◌, IsTrue, length, map};
 ghost use Rattle.tl_combinators.specs.Program.{decl_text, program_text};
 ghost use Rattle.tl_combinators.specs.Trees.{plain, view, views};
+ghost use Rattle.tl_graph.specs.Firsts.{First};
 ghost use Rattle.tl_types.specs.BadResult.{BadResult, IsGoodResult};
-ghost use Rattle.tl_types.specs.Writing.{First};
 
 use crate::declarations::{DeclTest, first_that};
 use crate::meanings::{is_constructor, is_type_name, is_variable};

@@ -1,15 +1,14 @@
 //! The ninth check: cycles of bare references.
 ghost use Rattle.std.specs.Prelude.{◌≡◌, ◌<◌, ◌^◌, IfOk, length};
 ghost use Rattle.tl_combinators.specs.Program.{program_text};
+ghost use Rattle.tl_graph.specs.Firsts.{First};
 ghost use Rattle.tl_types.specs.BareCycle.{BareCycle};
-ghost use Rattle.tl_types.specs.Writing.{First};
 
-use crate::components::components_of;
-use crate::cycles::first_on_cycle;
 use crate::index::Index;
 use crate::references::references;
 use std::alloc::{AllocError, Global};
 use tl_combinators::Program;
+use tl_graph::{components_of, first_on_cycle};
 
 /// The first declaration on a cycle of constructors of which each refers to the next, bare.
 pub fn first_bare_cycle(

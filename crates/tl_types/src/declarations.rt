@@ -1,8 +1,9 @@
 //! The first declaration that passes a test.
 ghost use Rattle.std.specs.Prelude.{◌<◌, ◌^◌, ◌↔◌, IsTrue, length};
 ghost use Rattle.tl_combinators.specs.Program.{DeclText, decl_text, program_text};
+ghost use Rattle.tl_graph.specs.Firsts.{First};
 ghost use Rattle.tl_types.specs.Parts.{SomeWritten};
-ghost use Rattle.tl_types.specs.Writing.{DeclarationHas, First};
+ghost use Rattle.tl_types.specs.Writing.{DeclarationHas};
 
 use crate::parts::{TypeTest, writes};
 use tl_combinators::{Decl, Program};

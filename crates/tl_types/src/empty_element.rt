@@ -2,18 +2,19 @@
 ghost use Rattle.std.specs.Prelude.{◌≡◌, ◌<◌, ◌^◌, ◌↔◌, IsTrue, IfOk, length};
 ghost use Rattle.tl_combinators.specs.Trees.{trees_of, view, views};
 ghost use Rattle.tl_combinators.specs.Program.{decl_text, program_text};
+ghost use Rattle.tl_graph.specs.Firsts.{First};
 ghost use Rattle.tl_types.specs.EmptyElement.{AppliesToEmpty, EmptyElement};
 ghost use Rattle.tl_types.specs.Parts.{SomePart};
 ghost use Rattle.tl_types.specs.BareSteps.{HasMarkedArg, IsMarkedBare};
-ghost use Rattle.tl_types.specs.Writing.{First};
 
 use crate::declarations::first_that_writes;
-use crate::empties::{empties, is_marked};
+use crate::empties::empties;
 use crate::index::Index;
 use crate::parts::{TypeTest, has_part};
 use crate::references::bare_of;
 use std::alloc::{AllocError, Global};
 use tl_combinators::{Decl, Program, TypeTree};
+use tl_graph::is_marked;
 
 /// The first declaration that applies a name to a bare constructor that takes no bytes.
 pub fn first_empty_element(

@@ -2,7 +2,7 @@
 ghost use Rattle.std.specs.Prelude.{◌≡◌, ◌<◌, ◌^◌, ◌↔◌, IsTrue, length};
 ghost use Rattle.tl_combinators.specs.Trees.{view};
 ghost use Rattle.tl_combinators.specs.Program.{decl_text, program_text};
-ghost use Rattle.tl_types.specs.Writing.{First};
+ghost use Rattle.tl_graph.specs.Firsts.{First};
 ghost use Rattle.tl_types.specs.NotBare.{HasBare, HasNoBare, NotBare};
 ghost use Rattle.tl_types.specs.BareForms.{IsBareName};
 ghost use Rattle.tl_types.specs.Parts.{SomePart};

@@ -2,8 +2,8 @@
 ghost use Rattle.std.specs.Prelude.{◌≡◌, IfOk, OnOk};
 ghost use Rattle.tl_combinators.specs.Trees.{Trees, named, percent, trees_of, view, views};
 ghost use Rattle.tl_combinators.specs.Program.{decl_text, kind_text, program_text};
+ghost use Rattle.tl_graph.specs.Paths.{edges_in};
 ghost use Rattle.tl_types.specs.Writing.{HeldBy, IsPart, IsPartOfOne};
-ghost use Rattle.tl_types.specs.NameLists.{lists};
 ghost use Rattle.tl_types.specs.BareSteps.{Adds, AreReferences, BareIs, Refers};
 
 use crate::index::Index;
@@ -60,7 +60,7 @@ pub fn references(
     program: &Program,
 ) -> Result<Vec<Vec<u32>>, AllocError>
     requires same { index.now ≡ program_text program.now }
-    ensures { IfOk result (λ edges. AreReferences (program_text program.now) (lists edges.items)) }
+    ensures { IfOk result (λ edges. AreReferences (program_text program.now) (edges_in edges.items)) }
 {
     let mut edges = Vec::new(alloc);
     for decl in &program.decls {

@@ -2,10 +2,10 @@
 ghost use Rattle.std.specs.Prelude.{◌≡◌, ◌<◌, ◌^◌, ◌+◌, ◌↔◌, ℕ, IsTrue, IfOk, Some, length, slice_get};
 ghost use Rattle.tl_combinators.specs.Program.{decl_text, program_text};
 ghost use Rattle.tl_combinators.specs.Trees.{view};
+ghost use Rattle.tl_graph.specs.Firsts.{First};
 ghost use Rattle.tl_types.specs.NameLists.{IsRepeat};
 ghost use Rattle.tl_types.specs.SameName.{SameName, part_names};
 ghost use Rattle.tl_types.specs.SameNameSteps.{AddsName, MakesVector, IsOf};
-ghost use Rattle.tl_types.specs.Writing.{First};
 
 use crate::meanings::is_variable;
 use crate::names::Names;

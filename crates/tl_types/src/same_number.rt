@@ -1,10 +1,10 @@
 //! The eighth check: numbers.
 ghost use Rattle.std.specs.Prelude.{◌<◌, ◌^◌, ◌↔◌, IsTrue, IfOk, length};
 ghost use Rattle.tl_combinators.specs.Program.{decl_text, program_text};
+ghost use Rattle.tl_graph.specs.Firsts.{First};
 ghost use Rattle.tl_types.specs.Numbers.{IsTaken};
 ghost use Rattle.tl_types.specs.Numbers.{IsNumberOf};
 ghost use Rattle.tl_types.specs.SameNumber.{SameNumber};
-ghost use Rattle.tl_types.specs.Writing.{First};
 
 use indexmap::IndexSet;
 use std::alloc::{AllocError, Global};

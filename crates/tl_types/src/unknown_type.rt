@@ -2,7 +2,7 @@
 ghost use Rattle.std.specs.Prelude.{◌≡◌, ◌<◌, ◌^◌, ◌↔◌, IsTrue, length};
 ghost use Rattle.tl_combinators.specs.Program.{decl_text, program_text};
 ghost use Rattle.tl_combinators.specs.Trees.{view};
-ghost use Rattle.tl_types.specs.Writing.{First};
+ghost use Rattle.tl_graph.specs.Firsts.{First};
 ghost use Rattle.tl_types.specs.UnknownType.{BeginsUnknown, IsUnknown, IsUnknownIn, UnknownType};
 ghost use Rattle.tl_types.specs.Parts.{SomePart};
 

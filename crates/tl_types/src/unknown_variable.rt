@@ -2,9 +2,10 @@
 ghost use Rattle.std.specs.Prelude.{◌≡◌, ◌<◌, ◌^◌, bytes_eq, flat_map, length, map, not};
 ghost use Rattle.std.specs.List.{count_by, list_any};
 ghost use Rattle.tl_combinators.specs.Program.{decl_text, field_text, kind_text, program_text};
+ghost use Rattle.tl_graph.specs.Firsts.{First};
 ghost use Rattle.tl_types.specs.UnknownVariable.{UnknownVariable, called_by};
 ghost use Rattle.tl_types.specs.VariableSteps.{calls_another, leaves_uncalled};
-ghost use Rattle.tl_types.specs.Writing.{First, is_variable};
+ghost use Rattle.tl_types.specs.Writing.{is_variable};
 
 use crate::declarations::{DeclTest, first_that};
 use crate::meanings::is_variable;

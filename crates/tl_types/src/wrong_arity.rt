@@ -2,9 +2,10 @@
 ghost use Rattle.std.specs.Prelude.{◌≡◌, ◌<◌, ◌^◌, ◌↔◌, length, IsTrue};
 ghost use Rattle.tl_combinators.specs.Trees.{view};
 ghost use Rattle.tl_combinators.specs.Program.{decl_text, program_text};
+ghost use Rattle.tl_graph.specs.Firsts.{First};
 ghost use Rattle.tl_types.specs.Arities.{IsArity, VarsOfFirst};
 ghost use Rattle.tl_types.specs.Parts.{SomePart};
-ghost use Rattle.tl_types.specs.Writing.{First, IsConstructorNamed, IsConstructorOf};
+ghost use Rattle.tl_types.specs.Writing.{IsConstructorNamed, IsConstructorOf};
 ghost use Rattle.tl_types.specs.WrongArity.{ConstructsUneven, IsMisapplied, Misapplies, WrongArity};
 
 use crate::declarations::{DeclTest, first_that};

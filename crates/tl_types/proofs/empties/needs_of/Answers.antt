@@ -1,7 +1,7 @@
 use Rattle.std.proofs.Common.{◌≡◌, length, arith}
 use Rattle.std.proofs.lemmas.List.{length-map, map_push}
 use Rattle.tl_combinators.specs.Program.{decl_text, program_text}
-use Rattle.tl_types.specs.BareSteps.{needs_in}
+use Rattle.tl_graph.specs.Needs.{needs_in}
 use Rattle.tl_types.proofs.Maps.{slice_get_item}
 use Rattle.tl_types.proofs.BareFields.{needs_none, needs_more, needs_all}
 use Rattle.tl_types.proofs.empties.needs_of.Goals as goal

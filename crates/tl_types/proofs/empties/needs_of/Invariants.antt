@@ -1,5 +1,5 @@
 use Rattle.tl_combinators.specs.Program.{program_text}
-use Rattle.tl_types.specs.BareSteps.{needs_in}
+use Rattle.tl_graph.specs.Needs.{needs_in}
 use Rattle.tl_types.proofs.BareFields.{NeedsFirst}
 use Rattle.tl_types.proofs.empties.needs_of.Given as goal
 

@@ -2,9 +2,9 @@ use Rattle.std.proofs.Common.{◌≤◌, length, below_more, arith}
 use Rattle.std.proofs.lemmas.Bool.{iff_false}
 use Rattle.std.proofs.lemmas.List.{length-map}
 use Rattle.tl_combinators.specs.Program.{decl_text, program_text}
+use Rattle.tl_graph.proofs.FirstNodes.{first_none}
 use Rattle.tl_types.specs.SameName.{SameName, part}
 use Rattle.tl_types.proofs.Maps.{slice_get_item}
-use Rattle.tl_types.proofs.FirstPlaces.{first_none}
 use Rattle.tl_types.proofs.SameNames.{knows_more, taken, free, makes_vector, same_name_within}
 use Rattle.tl_types.proofs.same_name.first_same_name.Goals as goal
 use Rattle.tl_types.proofs.same_name.first_same_name.Goals.{then-is_old-via-then-is_old, then-is_old-via-else-is_old+then-is_repeated, then-is_old-via-else-is_old+else-is_repeated+then-makes_vector}

@@ -1,0 +1,10 @@
+pub mod Deciding
+pub mod FirstNodes
+pub mod NodeLists
+pub mod MarkLists
+pub mod MarkedNodes
+pub mod GrowingMarks
+pub mod ReachedNodes
+pub mod Explored
+pub mod GraphPaths
+pub mod PathsDecided

@@ -1,0 +1,4 @@
+pub mod Firsts
+pub mod Paths
+pub mod Needs
+pub mod Steps

@@ -1,6 +1,0 @@
-use Rattle.tl_types.specs.BareSteps.{needs_in}
-use Rattle.tl_types.proofs.MarkedNodes.{Pass}
-use Rattle.tl_types.proofs.empties.mark_more.Given as goal
-
-abbrev pub invariant-loop-k : goal.invariant-loop-k
-invariant-loop-k l = Pass (needs_in l.needs) l.fn.marks.items l.k l.marks.items l.is_more
