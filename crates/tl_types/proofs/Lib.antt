@@ -1,4 +1,3 @@
-pub mod Alls
 pub mod Deciding
 pub mod Words
 pub mod Members
