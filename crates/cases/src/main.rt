@@ -91,21 +91,26 @@ fn run_file(rt: &HostRuntime, name: &str) -> io::Result<Counts> {
     }
 }
 
-// Makes the runs of the files that the words name.
-fn run_files(rt: &HostRuntime) -> io::Result<bool> {
+// Makes the runs of the files that the words name, and answers the exit status.
+fn run_files(rt: &HostRuntime) -> io::Result<u8> {
     let mut counts = Counts { runs: 0, differ: 0 };
+    let mut is_asked = false;
     for name in env::args(rt)?.skip(1) {
+        is_asked = true;
         counts = counts.with(run_file(rt, name.as_str())?);
+    }
+    if !is_asked {
+        println!(rt; "usage: cases FILE ..")?;
+        return Ok(2);
     }
     let (runs, differ) = (counts.runs, counts.differ);
     println!(rt; "{runs} runs, {differ} differ")?;
-    Ok(differ == 0)
+    Ok(if differ == 0 { 0 } else { 1 })
 }
 
 fn main(rt: HostRuntime) -> ExitCode {
     match run_files(&rt) {
-        Ok(true) => ExitCode::SUCCESS,
-        Ok(false) => ExitCode::from(1),
+        Ok(status) => ExitCode::from(status),
         Err(_) => ExitCode::from(2),
     }
 }
