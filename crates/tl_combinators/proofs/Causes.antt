@@ -250,7 +250,7 @@ module _ (text : List ℕ) where
 
   at_bracketed : (n : List ℕ) → Placed (bracketed text n)
   unfolding bracketed
-  at_bracketed n = at_chain _ _ (at_token _) (λ _. at_chain _ _ (at_this_type n) (λ _. at_chain _ _ (at_token _) (λ _. at_gives _)))
+  at_bracketed n = at_chain _ _ (at_token _) (λ _. at_chain _ _ (at_this_word n) (λ _. at_chain _ _ (at_token _) (λ _. at_gives _)))
 
   at_repeated : (count n : List ℕ) → Placed (repeated text count n)
   unfolding repeated
@@ -265,7 +265,7 @@ module _ (text : List ℕ) where
   at_vector_result : Placed (vector_result text)
   unfolding vector_result
   at_vector_result =
-      at_chain _ _ (at_token _) (λ _. at_chain _ _ (at_this_type _) (λ _. at_chain _ _ (at_this_type _) (λ _. at_chain _ _ (at_token _) (λ _. at_gives _))))
+      at_chain _ _ (at_token _) (λ _. at_chain _ _ (at_this_type _) (λ _. at_chain _ _ (at_this_word _) (λ _. at_chain _ _ (at_token _) (λ _. at_gives _))))
 
   at_vector : Placed (vector text)
   unfolding vector

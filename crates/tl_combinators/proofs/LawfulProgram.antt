@@ -337,7 +337,7 @@ lawful_opaque text name = lawful_chain _ _ (lawful_token _ _) (λ q. lawful_boxe
 
 lawful_bracketed : (text item : List ℕ) → Lawful (bracketed text item)
 unfolding bracketed
-lawful_bracketed text item = lawful_chain _ _ (lawful_token _ _) (λ l. lawful_chain _ _ (lawful_this_type _ _) (λ t. lawful_chain _ _ (lawful_token _ _) (λ r. lawful_gives _)))
+lawful_bracketed text item = lawful_chain _ _ (lawful_token _ _) (λ l. lawful_chain _ _ (lawful_this_word _ _) (λ t. lawful_chain _ _ (lawful_token _ _) (λ r. lawful_gives _)))
 
 lawful_repeated : (text count name : List ℕ) → Lawful (repeated text count name)
 unfolding repeated
@@ -352,7 +352,7 @@ lawful_element text =
 lawful_vector_result : (text : List ℕ) → Lawful (vector_result text)
 unfolding vector_result
 lawful_vector_result text =
-    lawful_chain _ _ (lawful_token _ _) (λ e. lawful_chain _ _ (lawful_this_type _ _) (λ v. lawful_chain _ _ (lawful_this_type _ _) (λ t. lawful_chain _ _ (lawful_token _ _) (λ s. lawful_gives _))))
+    lawful_chain _ _ (lawful_token _ _) (λ e. lawful_chain _ _ (lawful_this_type _ _) (λ v. lawful_chain _ _ (lawful_this_word _ _) (λ t. lawful_chain _ _ (lawful_token _ _) (λ s. lawful_gives _))))
 
 lawful_vector : (text : List ℕ) → Lawful (vector text)
 unfolding vector

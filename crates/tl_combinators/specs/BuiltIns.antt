@@ -43,7 +43,7 @@ built_in name =
     else if bytes_eq name (own_name Bytes) then Some Bytes else if bytes_eq name (own_name Vector) then Some Vector
     else if bytes_eq name (own_name Int128) then Some Int128 else if bytes_eq name (own_name Int256) then Some Int256 else None
 
--- this name, in the place of a type
+-- this name, in the place of the result's type
 unfoldable pub this_type : List ℕ → List ℕ → Rule Token SyntaxFault Token
 this_type text bytes = choice (Next (IsObject text)) (fails (not_profile text ObjectType)) (this_word text bytes)
 
@@ -61,7 +61,7 @@ opaque text name = chain (token text Query) (λ q. boxed text name)
 
 -- `[ item ]`
 unfoldable pub bracketed : List ℕ → List ℕ → Rule Token SyntaxFault (Unit {0})
-bracketed text item = chain (token text LBracket) (λ l. chain (this_type text item) (λ t. chain (token text RBracket) (λ r. gives tt)))
+bracketed text item = chain (token text LBracket) (λ l. chain (this_word text item) (λ t. chain (token text RBracket) (λ r. gives tt)))
 
 -- `4*[ int ] = Name;`, or with another number of them
 unfoldable pub repeated : List ℕ → List ℕ → List ℕ → Rule Token SyntaxFault (Unit {0})
@@ -77,7 +77,7 @@ element text =
 -- `= Vector t;`
 unfoldable pub vector_result : List ℕ → Rule Token SyntaxFault (Unit {0})
 vector_result text =
-    chain (token text Equals) (λ e. chain (this_type text (codes "Vector")) (λ v. chain (this_type text (codes "t")) (λ t.
+    chain (token text Equals) (λ e. chain (this_type text (codes "Vector")) (λ v. chain (this_word text (codes "t")) (λ t.
     chain (token text Semi) (λ s. gives tt))))
 
 -- `{t:Type} # [ t ] = Vector t;`

@@ -73,7 +73,7 @@ pub fn boxed_name(line: BuiltIn) -> &'static [u8]
     }
 }
 
-// This name, in the place of a type.
+// This name, in the place of the result's type.
 fn this_type_at(
     text: &[u8],
     tokens: &[Token],
@@ -141,7 +141,7 @@ fn bracketed_at(
     ensures inside { OnOk result (at.new ≤ length tokens.now) }
 {
     take_token(text, tokens, at, TokenKind::LBracket)?;
-    this_type_at(text, tokens, at, item)?;
+    take_this(text, tokens, at, item)?;
     take_token(text, tokens, at, TokenKind::RBracket)?;
     Ok(())
 }
@@ -189,7 +189,7 @@ fn vector_result_at(text: &[u8], tokens: &[Token], at: &mut usize) -> Result<(),
 {
     take_token(text, tokens, at, TokenKind::Equals)?;
     this_type_at(text, tokens, at, b"Vector".as_slice())?;
-    this_type_at(text, tokens, at, b"t".as_slice())?;
+    take_this(text, tokens, at, b"t".as_slice())?;
     take_token(text, tokens, at, TokenKind::Semi)?;
     Ok(())
 }

@@ -166,7 +166,7 @@ module _ (text : List ℕ) where
 
   bracketed_any : (bytes : List ℕ) → Gives (IsSpelt text) (bracketed text bytes) (λ u. Unit {0})
   unfolding bracketed
-  bracketed_any bytes = gives_chain _ _ (any_token text _) (λ e u. gives_chain _ _ (this_any _) (λ t v. gives_chain _ _ (any_token text _) (λ s w. gives_gives _ _ _ tt)))
+  bracketed_any bytes = gives_chain _ _ (any_token text _) (λ e u. gives_chain _ _ (any_this text _) (λ t v. gives_chain _ _ (any_token text _) (λ s w. gives_gives _ _ _ tt)))
 
   repeated_any : (count bytes : List ℕ) → Gives (IsSpelt text) (repeated text count bytes) (λ u. Unit {0})
   unfolding repeated
@@ -182,7 +182,7 @@ module _ (text : List ℕ) where
   unfolding vector vector_result
   vector_any =
       gives_chain _ _ element_any (λ e u. gives_chain _ _ (any_token text _) (λ h v. gives_chain _ _ (bracketed_any _) (λ b w.
-      gives_chain _ _ (any_token text _) (λ q x. gives_chain _ _ (this_any _) (λ t y. gives_chain _ _ (this_any _) (λ s z. gives_chain _ _ (any_token text _) (λ r k. gives_gives _ _ _ tt)))))))
+      gives_chain _ _ (any_token text _) (λ q x. gives_chain _ _ (this_any _) (λ t y. gives_chain _ _ (any_this text _) (λ s z. gives_chain _ _ (any_token text _) (λ r k. gives_gives _ _ _ tt)))))))
 
   form_any : (b : BuiltIn) → Gives (IsSpelt text) (line_form text b) (λ u. Unit {0})
   form_any Int = opaque_any _

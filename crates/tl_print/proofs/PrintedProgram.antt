@@ -140,20 +140,20 @@ opaque_reads text bytes k n p ts (q, a, e, f, st) =
 abbrev bracket_pieces : List ℕ → List Piece → List Piece
 bracket_pieces bytes k = sign LBracket ∷ white 32 ∷ word bytes ∷ white 32 ∷ sign RBracket ∷ white 32 ∷ k
 
-bracket_reads : (text : List ℕ) (bytes : List ℕ) (k : List Piece) → bytes_eq bytes (codes "Object") ≡ false → (p : ℕ) (ts : List Token) → Stands text p (bracket_pieces bytes k) ts → Left text (bracketed text bytes) ts tt k
+bracket_reads : (text : List ℕ) (bytes : List ℕ) (k : List Piece) → (p : ℕ) (ts : List Token) → Stands text p (bracket_pieces bytes k) ts → Left text (bracketed text bytes) ts tt k
 unfolding bracketed chain gives
-bracket_reads text bytes k n p ts (q, a, e, f, (t, b, e1, f1, (s, rest, e2, f2, st))) = record {
+bracket_reads text bytes k p ts (q, a, e, f, (t, b, e1, f1, (s, rest, e2, f2, st))) = record {
   at = s.end + 1;
   rest = rest;
   stands = st;
-  reads = (q, a, token_reads text LBracket ts a q e f.kind_is, (t, b, this_type_reads text (q.end + 1) bytes a b t n e1 f1, (s, rest, token_reads text RBracket b rest s e2 f2.kind_is, (refl, refl))));
+  reads = (q, a, token_reads text LBracket ts a q e f.kind_is, (t, b, this_reads text (q.end + 1) bytes a b t e1 f1, (s, rest, token_reads text RBracket b rest s e2 f2.kind_is, (refl, refl))));
 }
 
 repeated_reads : (text : List ℕ) (count bytes : List ℕ) (k : List Piece) → bytes_eq bytes (codes "Object") ≡ false → (p : ℕ) (ts : List Token)
     → Stands text p (word count ∷ sign Star ∷ bracket_pieces (codes "int") (boxed_pieces bytes k)) ts → Left text (repeated text count bytes) ts tt k
 unfolding repeated chain
 repeated_reads text count bytes k n p ts (w, a, e, f, (s, b, e1, f1, st)) =
-    let l = bracket_reads text (codes "int") (boxed_pieces bytes k) refl s.end b st in
+    let l = bracket_reads text (codes "int") (boxed_pieces bytes k) s.end b st in
     let m = boxed_reads text bytes k n l.at l.rest l.stands in
     record {
       at = m.at;
@@ -203,7 +203,7 @@ vector_end_reads text k p ts (q, a, e, f, (v, b, e1, f1, (t, d, e2, f2, (s, rest
       v,
       b,
       this_type_reads text (q.end + 1) (codes "Vector") a b v refl e1 f1,
-      (t, d, this_type_reads text (v.end + 1) (codes "t") b d t refl e2 f2, (s, rest, token_reads text Semi d rest s e3 f3.kind_is, (refl, refl))),
+      (t, d, this_reads text (v.end + 1) (codes "t") b d t e2 f2, (s, rest, token_reads text Semi d rest s e3 f3.kind_is, (refl, refl))),
     ),
   );
 }
@@ -213,7 +213,7 @@ unfolding vector chain
 vector_reads text k p ts st =
     let x = element_reads text (sign Hash ∷ white 32 ∷ bracket_pieces (codes "t") (vector_end k)) p ts st in
     let h = x.stands in
-    let b = bracket_reads text (codes "t") (vector_end k) refl (h.0.end + 1) h.1 h.4 in
+    let b = bracket_reads text (codes "t") (vector_end k) (h.0.end + 1) h.1 h.4 in
     let v = vector_end_reads text k b.at b.rest b.stands in
     record {
       at = v.at;

@@ -20,16 +20,16 @@ pub fn is_variable(decl: &Decl, name: &[u8]) -> bool
     decl.vars.iter().any(|var| name == var.as_slice())
 }
 
-/// The name of the type that a declaration makes.
+/// The name of the type that a declaration's result begins with.
 pub fn result_head(decl: &Decl) -> Option<&[u8]>
     ensures { option_map (λ name. name.now) result ≡ result_head (decl_text decl.now) }
 {
     match &decl.result {
         TypeTree::Named { name, .. } => {
-            if is_variable(decl, name.as_slice()) {
-                None
-            } else {
+            if is_type_name(name.as_slice()) && !is_variable(decl, name.as_slice()) {
                 Some(name.as_slice())
+            } else {
+                None
             }
         }
         TypeTree::Percent { .. } => None,
