@@ -175,15 +175,15 @@ slot_view slot (Some v) None P h e = none_is_no_some _ e
 slot_view slot (Some v) (Some w) P h e = (h, left_alone slot v w (some_is _ _ e))
 
 -- what a call over a `SourceOf` says of the bytes, as what it says of the host's view
-pub over_slot : (slot s t : Slot) (a b a' b' : HostState) (m n : ℕ) (P : List ℕ → Option (List ℕ) → Type 0) → s ≡ slot → a' ≡ a → IfSome (slot_left s a'.view) (λ bytes. P bytes (slot_left t b'.view))
-    → slot_aside t b' n ≡ slot_aside s a' m → b' ≡ b → Told a.view b.view (λ v w. P (left_of slot v) (Some (left_of slot w)) × (w ≡ with_left slot (left_of slot w) v))
+pub over_slot : (slot s t : Slot) (a b : Option View) (a' b' : HostState) (m n : ℕ) (P : List ℕ → Option (List ℕ) → Type 0) → s ≡ slot → a'.view ≡ a → IfSome (slot_left s a'.view) (λ bytes. P bytes (slot_left t b'.view))
+    → slot_aside t b' n ≡ slot_aside s a' m → b'.view ≡ b → Told a b (λ v w. P (left_of slot v) (Some (left_of slot w)) × (w ≡ with_left slot (left_of slot w) v))
 over_slot slot s t a b a' b' m n P is ea h aside eb =
     let same : t ≡ s = slot_held t s b' a' n m aside in
     let views : option_map (with_left t []) b'.view ≡ option_map (with_left s []) a'.view = ap (λ (x : Aside). x.view) aside in
     let fact : IfSome (slot_left slot a'.view) (λ bytes. P bytes (slot_left slot b'.view)) = subst (λ (k : Slot). IfSome (slot_left k a'.view) (λ bytes. P bytes (slot_left k b'.view))) is (subst (λ (k : Slot). IfSome (slot_left s a'.view) (λ bytes. P bytes (slot_left k b'.view))) same h) in
     let kept : option_map (with_left slot []) b'.view ≡ option_map (with_left slot []) a'.view = ap (λ (k : Slot). option_map (with_left k []) b'.view) (sym (same ∙ is)) ∙ (views ∙ ap (λ (k : Slot). option_map (with_left k []) a'.view) is) in
     let Q : View → View → Type 0 = λ v w. P (left_of slot v) (Some (left_of slot w)) × (w ≡ with_left slot (left_of slot w) v) in
-    subst (λ (x : HostState). Told x.view b.view Q) ea (subst (λ (x : HostState). Told a'.view x.view Q) eb (slot_view slot a'.view b'.view P fact kept))
+    subst (λ (x : Option View). Told x b Q) ea (subst (λ (x : Option View). Told a'.view x Q) eb (slot_view slot a'.view b'.view P fact kept))
 
 slot_never : (slot : Slot) (a : Option View) (sound F : Type 0) → (IsSome (slot_left slot a) → sound → F → ⊥) → IfSome a (λ v. sound → Unit {0} → F → ⊥)
 slot_never slot None sound F h = tt
@@ -222,15 +222,15 @@ out_view out (Some v) None P h e = none_is_no_some _ e
 out_view out (Some v) (Some w) P h e = (h, written_alone out v w (some_is _ _ e))
 
 -- what a call over a `SinkOf` says of the bytes, as what it says of the host's view
-pub over_out : (out s t : Out) (a b a' b' : HostState) (m n : ℕ) (P : Option (List ℕ) → Option (List ℕ) → Type 0) → s ≡ out → a' ≡ a → P (out_written s a'.view) (out_written t b'.view)
-    → out_aside t b' n ≡ out_aside s a' m → b' ≡ b → Told a.view b.view (λ v w. P (Some (written_of out v)) (Some (written_of out w)) × (w ≡ with_written out (written_of out w) v))
+pub over_out : (out s t : Out) (a b : Option View) (a' b' : HostState) (m n : ℕ) (P : Option (List ℕ) → Option (List ℕ) → Type 0) → s ≡ out → a'.view ≡ a → P (out_written s a'.view) (out_written t b'.view)
+    → out_aside t b' n ≡ out_aside s a' m → b'.view ≡ b → Told a b (λ v w. P (Some (written_of out v)) (Some (written_of out w)) × (w ≡ with_written out (written_of out w) v))
 over_out out s t a b a' b' m n P is ea h aside eb =
     let same : t ≡ s = out_held t s b' a' n m aside in
     let views : option_map (with_written t []) b'.view ≡ option_map (with_written s []) a'.view = ap (λ (x : Aside). x.view) aside in
     let fact : P (out_written out a'.view) (out_written out b'.view) = subst (λ (k : Out). P (out_written k a'.view) (out_written k b'.view)) is (subst (λ (k : Out). P (out_written s a'.view) (out_written k b'.view)) same h) in
     let kept : option_map (with_written out []) b'.view ≡ option_map (with_written out []) a'.view = ap (λ (k : Out). option_map (with_written k []) b'.view) (sym (same ∙ is)) ∙ (views ∙ ap (λ (k : Out). option_map (with_written k []) a'.view) is) in
     let Q : View → View → Type 0 = λ v w. P (Some (written_of out v)) (Some (written_of out w)) × (w ≡ with_written out (written_of out w) v) in
-    subst (λ (x : HostState). Told x.view b.view Q) ea (subst (λ (x : HostState). Told a'.view x.view Q) eb (out_view out a'.view b'.view P fact kept))
+    subst (λ (x : Option View). Told x b Q) ea (subst (λ (x : Option View). Told a'.view x Q) eb (out_view out a'.view b'.view P fact kept))
 
 out_never : (out : Out) (a : Option View) (n : ℕ) (sound F : Type 0) → IfSome (out_written out a) (λ before. sound → length before + n ≤ room_of a → F → ⊥) → IfSome a (λ v. sound → HasRoom out n v → F → ⊥)
 out_never out None n sound F h = tt

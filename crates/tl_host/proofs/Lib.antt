@@ -11,3 +11,4 @@ pub mod Linked
 pub mod Spelled
 pub mod Sending
 pub mod Showing
+pub mod Hosting

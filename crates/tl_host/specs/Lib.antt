@@ -7,6 +7,7 @@ pub mod Using
 pub mod Lending
 pub mod Taking
 pub mod Writing
+pub mod Hosted
 pub mod Limits
 pub mod Numbers
 pub mod Packets

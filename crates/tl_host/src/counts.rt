@@ -6,7 +6,7 @@ ghost use Rattle.tl_host.specs.Kinds.{no_faults, count_of, with_count};
 use crate::fault::Failed;
 
 /// What a call to the outside is for: reading a file, writing to one, or a link.
-#[derive(Clone, Copy, Debug, PartialEq, Eq)]
+#[derive(Clone, Copy)]
 pub enum Kind {
     Reads,
     Writes,
@@ -14,7 +14,7 @@ pub enum Kind {
 }
 
 /// How often the calls of each kind have failed. A count stops at 2^64 - 1.
-#[derive(Clone, Copy, Debug, PartialEq, Eq)]
+#[derive(Clone, Copy)]
 pub struct Counts {
     pub reads: u64,
     pub writes: u64,

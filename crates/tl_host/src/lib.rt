@@ -4,6 +4,7 @@
 mod bytes;
 mod counts;
 mod fault;
+mod files;
 mod host;
 mod lent;
 mod limited;
@@ -24,6 +25,7 @@ mod source;
 pub use bytes::Bytes;
 pub use counts::{Counts, Kind};
 pub use fault::{Failed, Memory};
+pub use files::{read_file, write_out};
 pub use host::{Host, Out, Slot};
 pub use lent::{LinkOf, SinkOf, SourceOf};
 pub use limited::Limited;

@@ -22,7 +22,7 @@ pub enum HostCall {
 }
 
 /// A call that is to fail: the one of its kind with this number, from 0.
-#[derive(Clone, Copy, Debug, PartialEq, Eq)]
+#[derive(Clone, Copy, PartialEq, Eq)]
 pub struct Failing {
     pub call: HostCall,
     pub number: u64,
