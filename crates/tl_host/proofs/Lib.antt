@@ -1,0 +1,14 @@
+pub mod Filling
+pub mod Appending
+pub mod Uses
+pub mod Texts
+pub mod Framing
+pub mod Limiting
+pub mod Parts
+pub mod Lends
+pub mod Opened
+pub mod Linked
+pub mod Spelled
+pub mod Sending
+pub mod Showing
+pub mod Hosting
