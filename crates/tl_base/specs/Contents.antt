@@ -1,9 +1,14 @@
 -- Lists of bytes. This project's own.
-use Rattle.std.specs.Prelude.{ℕ, ◌<◌, List, [], ◌∷◌, get_or}
+use Rattle.std.specs.Prelude.{ℕ, ◌<◌, List, get_or}
+use Rattle.std.specs.List.{AllByRecursion}
 
 -- each number of the list is a byte
 abbrev pub AreBytes : List ℕ → Type 0
 AreBytes bytes = (k : ℕ) → get_or bytes k 0 < 256
+
+-- each of these lists holds bytes
+abbrev pub ListsOfBytes : List (List ℕ) → Type 0
+ListsOfBytes lists = AllByRecursion AreBytes lists
 
 -- files, each with its name and its contents
 abbrev pub Files : Type 0
@@ -11,5 +16,4 @@ Files = List (List ℕ × List ℕ)
 
 -- each file holds bytes
 abbrev pub HoldBytes : Files → Type 0
-HoldBytes [] = Unit {0}
-HoldBytes (f ∷ fs) = AreBytes f.1 × HoldBytes fs
+HoldBytes files = AllByRecursion (λ f. AreBytes f.1) files

@@ -1,8 +1,10 @@
--- What a source in memory shows. This project's own.
-use Rattle.std.specs.Prelude.{◌≡◌, ℕ, ◌+◌, ◌-◌, ◌^◌, ◌≤◌, ◌<◌, ◌⊎◌, min, List, Bool, true, false, length, drop, ◌==◌, Result, Ok, Err, Vec}
+-- What a source and a sink in memory show. This project's own.
+use Rattle.std.specs.Prelude.{◌≡◌, ℕ, ◌-◌, ◌≤◌, ◌<◌, ◌⊎◌, min, List, Bool, true, false, length, drop, ◌==◌, Some, Result, Ok, Err, Vec}
 use Rattle.std.specs.declared.alloc.Global.{Global}
-use Rattle.tl_base.specs.Numbers.{is_among, cut_at}
-use Rattle.tl_base.specs.declared.memory.MemSource.{MemSource}
+use Rattle.tl_base.specs.Causes.{one_more}
+use Rattle.tl_base.specs.Cuts.{is_among, cut_at}
+use Rattle.tl_base.specs.Using.{SourceState, SinkState, nothing_aside}
+use Rattle.tl_base.specs.declared.mem_source.MemSource.{MemSource}
 use Rattle.tl_base.specs.declared.mem_sink.MemSink.{MemSink}
 
 -- the bytes that it has left
@@ -16,6 +18,10 @@ source_faults s = s.faults
 abbrev pub is_sound_source : MemSource → Bool
 is_sound_source s = length s.fails.items == 0
 
+-- it tells its bytes, and nothing stands beside them
+abbrev pub source_state : MemSource → SourceState
+source_state s = record { left = Some (source_bytes s); faults = source_faults s; aside = nothing_aside; sound = is_sound_source s }
+
 -- no read was made yet, and these are the cuts and the numbers that fail
 abbrev pub IsUnread : MemSource → Vec ℕ Global → Vec ℕ Global → Type 0
 IsUnread s cuts fails = (s.reads ≡ 0) × (s.cuts ≡ cuts) × (s.fails ≡ fails)
@@ -28,11 +34,12 @@ ReadsPiece s room (Err e) = is_among s.reads s.fails.items ≡ true
 
 -- the next read has the next number; the cuts and the numbers that fail are kept
 pub record CountsRead (old new : MemSource) : Type 0 where
-  pub number : new.reads ≡ min (old.reads + 1) (2 ^ 64 - 1)
+  pub number : new.reads ≡ one_more old.reads
   pub cuts : new.cuts ≡ old.cuts
   pub fails : new.fails ≡ old.fails
 
--- What a sink in memory shows.
+-- ---- a sink
+
 abbrev pub sink_bytes : MemSink → List ℕ
 sink_bytes s = s.bytes.items
 
@@ -46,6 +53,10 @@ sink_faults s = s.faults
 abbrev pub is_sound_sink : MemSink → Bool
 is_sound_sink s = length s.fails.items == 0
 
+-- it tells its bytes, and nothing stands beside them
+abbrev pub sink_state : MemSink → SinkState
+sink_state s = record { written = Some (sink_bytes s); faults = sink_faults s; aside = nothing_aside; sound = is_sound_sink s; room = sink_room s }
+
 -- no write was made yet, and these are the numbers that fail
 abbrev pub IsUnwritten : MemSink → Vec ℕ Global → Type 0
 IsUnwritten s fails = (s.writes ≡ 0) × (s.fails ≡ fails)
@@ -58,5 +69,5 @@ TakesWhatFits s size (Err e) = (is_among s.writes s.fails.items ≡ true) ⊎ (s
 
 -- the next write has the next number; the numbers that fail are kept
 pub record CountsWrite (old new : MemSink) : Type 0 where
-  pub number : new.writes ≡ min (old.writes + 1) (2 ^ 64 - 1)
+  pub number : new.writes ≡ one_more old.writes
   pub fails : new.fails ≡ old.fails

@@ -1,11 +1,36 @@
--- Calls by their numbers: which fail, and how much is given. This project's own.
-use Rattle.std.specs.Prelude.{ℕ, ◌-◌, ◌^◌, List, Bool, get_or, ◌==◌, if◌then◌else◌}
-use Rattle.std.specs.List.{list_any}
+-- Numbers in bytes, the least byte first. This project's own.
+use Rattle.std.specs.Prelude.{◌≡◌, ℕ, ℤ, ◌<◌, List, length}
+use Rattle.std.specs.Int.{w32, w64, to_le_bytes, from_le_bytes, cast_unsigned}
+use Rattle.tl_base.specs.Contents.{AreBytes}
 
--- this number is one of them
-abbrev pub is_among : ℕ → List ℕ → Bool
-is_among number numbers = list_any (λ k. k == number) numbers
+-- a number in four bytes
+abbrev pub word : ℕ → List ℕ
+word n = to_le_bytes w32 n
 
--- how many bytes a read with this number gives at most: its cut, where one above 0 stands, else 2^64 - 1
-abbrev pub cut_at : List ℕ → ℕ → ℕ
-cut_at cuts number = if get_or cuts number 0 == 0 then 2 ^ 64 - 1 else get_or cuts number 0
+-- a number in eight bytes
+abbrev pub double_word : ℕ → List ℕ
+double_word n = to_le_bytes w64 n
+
+-- a number with a sign in four bytes
+abbrev pub signed_word : ℤ → List ℕ
+signed_word x = word (cast_unsigned w32 x)
+
+-- a number with a sign in eight bytes
+abbrev pub signed_double : ℤ → List ℕ
+signed_double x = double_word (cast_unsigned w64 x)
+
+-- the number that four bytes spell
+abbrev pub word_number : List ℕ → ℕ
+word_number bytes = from_le_bytes w32 bytes
+
+-- the number that eight bytes spell
+abbrev pub double_number : List ℕ → ℕ
+double_number bytes = from_le_bytes w64 bytes
+
+-- so many bytes and numbers below a bound determine each other
+pub record Determine (size bound : ℕ) (spell : ℕ → List ℕ) (number : List ℕ → ℕ) : Type 0 where
+  pub one_number : (n : ℕ) → n < bound → number (spell n) ≡ n
+  pub one_spelling : (bytes : List ℕ) → length bytes ≡ size → AreBytes bytes → spell (number bytes) ≡ bytes
+  pub fits : (bytes : List ℕ) → length bytes ≡ size → AreBytes bytes → number bytes < bound
+  pub long : (n : ℕ) → length (spell n) ≡ size
+  pub bytes : (n : ℕ) → AreBytes (spell n)

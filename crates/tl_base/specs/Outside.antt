@@ -1,76 +1,120 @@
--- What an outside shows where it tells its contents: files, what is left of each slot, what was written to each out. This project's own.
-use Rattle.std.specs.Prelude.{◌≡◌, ℕ, List, [], ◌∷◌, Option, Some, None, option_map, ◌⊎◌}
-use Rattle.tl_base.specs.Contents.{Files}
+-- What an outside shows where it tells its contents: files, what is left of each slot, what was written to each out, links and moments to come.
+-- This project's own.
+use Rattle.std.specs.Prelude.{◌≡◌, ℕ, ◌+◌, ◌-◌, ◌≤◌, List, [], ◌∷◌, length, get_or, set, Bool, Option, ◌⊎◌}
+use Rattle.tl_base.specs.Contents.{AreBytes, Files, HoldBytes, ListsOfBytes}
+use Rattle.tl_base.specs.declared.counts.Counts.{Counts}
 use Rattle.tl_base.specs.declared.host.Slot.{Slot}
-use Rattle.tl_base.specs.declared.host.Slot.TheVariants.{Schema, Input}
+use Rattle.tl_base.specs.declared.host.Slot.TheVariants as slots
 use Rattle.tl_base.specs.declared.host.Out.{Out}
-use Rattle.tl_base.specs.declared.host.Out.TheVariants.{Output, Errors}
+use Rattle.tl_base.specs.declared.host.Out.TheVariants as outs
 
--- the parts of an outside that tells them; room is how many bytes each out takes
-pub record View : Type 0 where
-  pub files : Files
-  pub schema_left : List ℕ
-  pub input_left : List ℕ
+-- the bytes left in each slot
+pub record Left : Type 0 where
+  pub schema : List ℕ
+  pub input : List ℕ
+  pub state : List ℕ
+  pub link : List ℕ
+
+-- The bytes written to each out. To Link a list was written for each link taken so far; what was written there before the first is `unlinked`.
+pub record Written : Type 0 where
   pub output : List ℕ
   pub errors : List ℕ
+  pub state : List ℕ
+  pub unlinked : List ℕ
+  pub links : List (List ℕ)
+
+-- The parts of an outside that tells them. `state_name` is the name under which State was created, `links` what each link to come will give,
+-- `address` the address last used, `moments` the moments to come, and `room` how many bytes each out, link or name may have.
+pub record View : Type 0 where
+  pub files : Files
+  pub left : Left
+  pub written : Written
+  pub state_name : Option (List ℕ)
+  pub links : List (List ℕ)
+  pub address : Option (List ℕ)
+  pub moments : List ℕ
   pub room : ℕ
 
--- What an object stands for beside its own bytes: the counts of other faults, the other parts of a view where it is told,
--- and which reference and which slot or out it holds.
-pub record Aside : Type 0 where
-  pub reads : ℕ
-  pub writes : ℕ
+-- what a host stands for: its view where it tells it, how often its calls have failed, and whether it fails only in the cases that its calls name
+pub record HostState : Type 0 where
   pub view : Option View
-  pub held : List ℕ
+  pub counts : Counts
+  pub sound : Bool
 
--- an object that stands for its bytes alone
-abbrev pub nothing_aside : Aside
-nothing_aside = record { reads = 0; writes = 0; view = None; held = [] }
+-- ---- slots
 
+abbrev pub slot_part : Slot → Left → List ℕ
+slot_part slots.Schema l = l.schema
+slot_part slots.Input l = l.input
+slot_part slots.State l = l.state
+slot_part slots.Link l = l.link
+
+abbrev pub with_slot : Slot → List ℕ → Left → Left
+with_slot slots.Schema bytes l = record l { schema = bytes }
+with_slot slots.Input bytes l = record l { input = bytes }
+with_slot slots.State bytes l = record l { state = bytes }
+with_slot slots.Link bytes l = record l { link = bytes }
+
+-- the bytes left in a slot
 abbrev pub left_of : Slot → View → List ℕ
-left_of Schema v = v.schema_left
-left_of Input v = v.input_left
+left_of slot v = slot_part slot v.left
 
+-- the view, with these bytes left in a slot
 abbrev pub with_left : Slot → List ℕ → View → View
-with_left Schema bytes v = record v { schema_left = bytes }
-with_left Input bytes v = record v { input_left = bytes }
+with_left slot bytes v = record v { left = with_slot slot bytes v.left }
 
+-- ---- outs
+
+-- the last of these lists; where there is none, the one given
+abbrev pub last_or : List ℕ → List (List ℕ) → List ℕ
+last_or none lists = get_or lists (length lists - 1) none
+
+-- the lists, with these bytes for the last
+abbrev pub with_last : List ℕ → List (List ℕ) → List (List ℕ)
+with_last bytes lists = set lists (length lists - 1) bytes
+
+-- these bytes where there is no list, else the one given
+abbrev pub if_no_list : List ℕ → List (List ℕ) → List ℕ → List ℕ
+if_no_list bytes [] none = bytes
+if_no_list bytes (x ∷ xs) none = none
+
+abbrev pub out_part : Out → Written → List ℕ
+out_part outs.Output w = w.output
+out_part outs.Errors w = w.errors
+out_part outs.State w = w.state
+out_part outs.Link w = last_or w.unlinked w.links
+
+abbrev pub with_out : Out → List ℕ → Written → Written
+with_out outs.Output bytes w = record w { output = bytes }
+with_out outs.Errors bytes w = record w { errors = bytes }
+with_out outs.State bytes w = record w { state = bytes }
+with_out outs.Link bytes w = record w { unlinked = if_no_list bytes w.links w.unlinked; links = with_last bytes w.links }
+
+-- The bytes written to an out. Those written to Link are the last link's; before the first link, those written until then.
 abbrev pub written_of : Out → View → List ℕ
-written_of Output v = v.output
-written_of Errors v = v.errors
+written_of out v = out_part out v.written
 
+-- the view, with these bytes written to an out
 abbrev pub with_written : Out → List ℕ → View → View
-with_written Output bytes v = record v { output = bytes }
-with_written Errors bytes v = record v { errors = bytes }
+with_written out bytes v = record v { written = with_out out bytes v.written }
 
-abbrev pub room_of : Option View → ℕ
-room_of None = 0
-room_of (Some v) = v.room
+-- so many more bytes fit into an out
+abbrev pub HasRoom : Out → ℕ → View → Type 0
+HasRoom out bytes v = length (written_of out v) + bytes ≤ v.room
+
+-- ---- files
 
 -- these are the contents of the first file with this name
 abbrev pub HasFile : Files → List ℕ → List ℕ → Type 0
 HasFile [] name bytes = ⊥
 HasFile (f ∷ fs) name bytes = ((f.0 ≡ name) × (f.1 ≡ bytes)) ⊎ (¬ (f.0 ≡ name) × HasFile fs name bytes)
 
--- a number for each slot and each out
-abbrev pub slot_number : Slot → ℕ
-slot_number Schema = 0
-slot_number Input = 1
+-- a file has this name
+abbrev pub IsThere : List ℕ → View → Type 0
+IsThere name v = (bytes : List ℕ) × HasFile v.files name bytes
 
-abbrev pub out_number : Out → ℕ
-out_number Output = 0
-out_number Errors = 1
-
--- a slot of an outside as a source: what is left, and what stands beside it
-abbrev pub slot_left : Slot → Option View → Option (List ℕ)
-slot_left slot view = option_map (left_of slot) view
-
-abbrev pub slot_aside : Slot → Option View → ℕ → ℕ → Aside
-slot_aside slot view writes reference = record { reads = 0; writes = writes; view = option_map (with_left slot []) view; held = reference ∷ slot_number slot ∷ [] }
-
--- an out of an outside as a sink: what was written, and what stands beside it
-abbrev pub out_written : Out → Option View → Option (List ℕ)
-out_written out view = option_map (written_of out) view
-
-abbrev pub out_aside : Out → Option View → ℕ → ℕ → Aside
-out_aside out view reads reference = record { reads = reads; writes = 0; view = option_map (with_written out []) view; held = reference ∷ out_number out ∷ [] }
+-- files, slots and links to come hold bytes
+pub record ShowsBytes (v : View) : Type 0 where
+  pub files : HoldBytes v.files
+  pub left : (slot : Slot) → AreBytes (left_of slot v)
+  pub links : ListsOfBytes v.links

@@ -1,5 +1,5 @@
 //! Lists of bytes.
-ghost use Rattle.std.specs.Prelude.{◌≡◌, ◌∷◌, ◌++◌, [], IfOk, OnOk, OnErr};
+ghost use Rattle.std.specs.Prelude.{◌≡◌, ◌∷◌, ◌++◌, [], IfOk, OnOk, OnErr, length};
 ghost use Rattle.tl_base.specs.Contents.{AreBytes};
 
 use std::alloc::{AllocError, Global};
@@ -23,6 +23,7 @@ impl Model for Bytes {
 }
 
 impl Bytes {
+    /// No bytes.
     pub fn new(alloc: Global) -> Bytes
         ensures { result ≡ [] }
     {
@@ -31,6 +32,7 @@ impl Bytes {
         }
     }
 
+    /// A copy of these bytes.
     pub fn from_slice(alloc: Global, bytes: &[u8]) -> Result<Bytes, AllocError>
         ensures { IfOk result (λ b. b ≡ bytes.now) }
     {
@@ -46,6 +48,14 @@ impl Bytes {
         Bytes { items }
     }
 
+    /// The bytes as a vector, not copied.
+    pub fn into_vec(self) -> Vec<u8>
+        ensures { result.items ≡ self }
+    {
+        self.items
+    }
+
+    /// The bytes.
     pub fn as_slice(&self) -> &[u8]
         ensures value { result.now ≡ self.now }
         ensures bytes { AreBytes self.now }
@@ -53,6 +63,14 @@ impl Bytes {
         self.items.as_slice()
     }
 
+    /// How many bytes there are.
+    pub fn len(&self) -> usize
+        ensures { result ≡ length self.now }
+    {
+        self.items.len()
+    }
+
+    /// Appends a byte.
     pub fn push(&mut self, byte: u8) -> Result<(), AllocError>
         ensures ok { OnOk result (self.new ≡ self.old ++ byte ∷ []) }
         ensures err { OnErr result (self.new ≡ self.old) }
@@ -61,6 +79,23 @@ impl Bytes {
         Ok(())
     }
 
+    /// Appends bytes.
+    pub fn append(&mut self, bytes: &[u8]) -> Result<(), AllocError>
+        ensures ok { OnOk result (self.new ≡ self.old ++ bytes.now) }
+        ensures err { OnErr result (self.new ≡ self.old) }
+    {
+        self.items.extend_from_slice(bytes)?;
+        Ok(())
+    }
+
+    /// Removes all bytes. The memory stays.
+    pub fn clear(&mut self)
+        ensures { self.new ≡ [] }
+    {
+        self.items.clear();
+    }
+
+    /// A copy.
     pub fn copy(&self) -> Result<Bytes, AllocError>
         ensures { IfOk result (λ b. b ≡ self.now) }
     {

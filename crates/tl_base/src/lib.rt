@@ -1,24 +1,43 @@
-//! Lists of bytes, sources, sinks and the outside.
+//! Lists of bytes, sources, sinks, links and packets, and the outside of a program.
 #![tactic(auto)]
 
 mod bytes;
+mod counts;
 mod fault;
+mod files;
 mod host;
 mod lent;
-mod mem_file;
-mod mem_files;
+mod limited;
+mod link;
+mod mem_contents;
 mod mem_host;
+mod mem_lists;
+mod mem_script;
+mod mem_shown;
 mod mem_sink;
-mod memory;
+mod mem_source;
+mod numbers;
+mod packet;
+mod pieces;
 mod sink;
 mod source;
 
 pub use bytes::Bytes;
+pub use counts::{Counts, Kind};
 pub use fault::{Failed, Memory};
+pub use files::{read_file, write_out};
 pub use host::{Host, Out, Slot};
-pub use lent::{SinkOf, SourceOf};
-pub use mem_host::{HostCall, MemHost};
+pub use lent::{LinkOf, SinkOf, SourceOf};
+pub use limited::Limited;
+pub use link::Link;
+pub use mem_host::MemHost;
+pub use mem_script::HostCall;
 pub use mem_sink::MemSink;
-pub use memory::MemSource;
+pub use mem_source::MemSource;
+pub use numbers::{
+    BOXED_VECTOR, PACKED, bytes_of_i32, bytes_of_i64, bytes_of_u32, bytes_of_u64, i32_of, i64_of,
+    numbers_and_bytes, u32_of, u64_of,
+};
+pub use packet::{PACKET_BYTES, PacketFault, read_packet, write_packet};
 pub use sink::{Sink, WriteFault, write_all};
 pub use source::{Source, TakeFault, TextFault, take_bytes, take_end, take_text, take_word};

@@ -1,301 +1,255 @@
 //! An outside in memory.
-ghost use Rattle.std.specs.Prelude.{◌≡◌, ◌<◌, ◌≤◌, ◌+◌, ◌-◌, ◌^◌, ◌==◌, IfOk, OnOk, OnErr, length, take, min, Some, true, false, map, List, ℕ, [], ◌∷◌, ◌++◌, Ok, vec_capacity};
+ghost use Rattle.std.specs.Prelude.{◌≡◌, ◌<◌, ◌≤◌, ◌^◌, ◌∷◌, ◌++◌, [], IfOk, OnOk, OnErr, IsErr, IsSome, IsTrue, Ok, length, get_or};
 
 use crate::bytes::Bytes;
+use crate::counts::{Counts, Kind};
 use crate::fault::{Failed, Memory};
 use crate::host::{Host, Out, Slot};
-use crate::mem_file::{MemFile, Reading};
-use crate::mem_files::{give_from, index_of};
-use crate::mem_sink::put;
-use crate::memory::most_at;
+use crate::mem_script::{HostCall, Script};
+use crate::mem_shown::MemShown;
 use std::alloc::Global;
 
-// In place of a file's number, where a slot was not opened.
-const CLOSED: usize = usize::MAX;
-
-/// A kind of call to a host.
-#[derive(Clone, Copy, Debug, PartialEq, Eq)]
-pub enum HostCall {
-    Open,
-    Read { slot: Slot },
-    Write { out: Out },
-}
-
-/// Calls of one kind: how many there were, and the numbers of those that fail.
-#[derive(Drop)]
-pub struct Calls {
-    made: u64,
-    failing: Vec<u64>,
-}
-
-/// Files, outs and counts in memory. It tells its view.
+/// Files, outs, links, moments and counts in memory. It tells its view.
 #[derive(Drop)]
 pub struct MemHost {
-    files: Vec<MemFile>,
-    cuts: Vec<u32>,
-    opens: Calls,
-    schema_reads: Calls,
-    input_reads: Calls,
-    output_writes: Calls,
-    errors_writes: Calls,
-    schema: Reading,
-    input: Reading,
-    output: Vec<u8>,
-    errors: Vec<u8>,
-    room: usize,
-    read_faults: u64,
-    write_faults: u64,
-    ghost output_room: { room ≤ vec_capacity output },
-    ghost errors_room: { room ≤ vec_capacity errors },
-}
-
-impl Calls {
-    ghost use Rattle.tl_base.specs.MemoryHost.{counted, next_number, IsFresh};
-
-    // No calls, and none that fails.
-    fn none(alloc: Global) -> Calls
-        ensures { IsFresh result }
-    {
-        Calls {
-            made: 0,
-            failing: Vec::new(alloc),
-        }
-    }
-
-    // Counts the next call. It answers the call's number, or none where it is one that fails.
-    fn next(&mut self) -> Option<u64>
-        ensures number { result ≡ next_number self.old }
-        ensures counted { self.new ≡ counted self.old }
-    {
-        let number = self.made;
-        self.made = number.saturating_add(1);
-        if self.failing.contains(&number) {
-            None
-        } else {
-            Some(number)
-        }
-    }
+    shown: MemShown,
+    script: Script,
+    counts: Counts,
 }
 
 impl MemHost {
-    ghost use Rattle.tl_base.specs.Outside.{View, written_of};
-    ghost use Rattle.tl_base.specs.MemoryHost.{host_view, host_cuts, calls_of, is_sound_host, IsUnfailed, IsUnscripted, KeepsCounts, KeepsOuts, KeepsSlots, KeepsCalls, KeepsScript, FailsToo};
-    ghost use Rattle.tl_base.specs.Causes.{Rose};
+    ghost use Rattle.tl_base.specs.Kinds.{no_faults};
+    ghost use Rattle.tl_base.specs.Outside.{written_of};
+    ghost use Rattle.tl_base.specs.Scripts.{no_script};
+    ghost use Rattle.tl_base.specs.MemoryShown.{nothing_shown};
+    ghost use Rattle.tl_base.specs.MemoryHost.{host_view, host_script, host_counts};
 
-    /// An outside without files, whose outs take `room` bytes each. It takes their memory.
+    /// An outside without files and links, whose outs, links and names may have `room` bytes each. It takes their memory.
     pub fn new(alloc: Global, room: u32) -> Result<MemHost, Memory>
-        ensures view { IfOk result (λ h. host_view h ≡ record { files = []; schema_left = []; input_left = []; output = []; errors = []; room = room }) }
-        ensures sound { IfOk result (λ h. is_sound_host h ≡ true) }
-        ensures counts { IfOk result IsUnfailed }
-        ensures script { IfOk result IsUnscripted }
+        ensures view { IfOk result (λ h. host_view h ≡ nothing_shown room) }
+        ensures script { IfOk result (λ h. host_script h ≡ no_script) }
+        ensures counts { IfOk result (λ h. host_counts h ≡ no_faults) }
     {
         Ok(MemHost {
-            files: Vec::new(alloc),
-            cuts: Vec::new(alloc),
-            opens: Calls::none(alloc),
-            schema_reads: Calls::none(alloc),
-            input_reads: Calls::none(alloc),
-            output_writes: Calls::none(alloc),
-            errors_writes: Calls::none(alloc),
-            schema: Reading {
-                file: CLOSED,
-                at: 0,
-            },
-            input: Reading {
-                file: CLOSED,
-                at: 0,
-            },
-            output: Vec::with_capacity(alloc, room as usize)?,
-            errors: Vec::with_capacity(alloc, room as usize)?,
-            room: room as usize,
-            read_faults: 0,
-            write_faults: 0,
+            shown: MemShown::new(alloc, room)?,
+            script: Script::new(alloc),
+            counts: Counts::none(),
         })
     }
 
-    /// Adds a file behind the others. Before the run.
+    /// Adds a file after the others. Before the run.
     pub fn file(&mut self, alloc: Global, name: &str, bytes: Bytes) -> Result<(), Memory>
-        ensures ok { OnOk result ((host_view self.new).files ≡ (host_view self.old).files ++ (name.now, bytes) ∷ []) }
+        ensures ok { OnOk result (host_view self.new ≡ record (host_view self.old) { files = (host_view self.old).files ++ (name.now, bytes) ∷ [] }) }
         ensures err { OnErr result (host_view self.new ≡ host_view self.old) }
-        ensures slots { KeepsSlots self.old self.new }
-        ensures outs { KeepsOuts self.old self.new }
-        ensures counts { KeepsCounts self.old self.new }
-        ensures sound { is_sound_host self.new ≡ is_sound_host self.old }
-        ensures cuts { host_cuts self.new ≡ host_cuts self.old }
-        ensures calls { KeepsCalls self.old self.new }
+        ensures script { host_script self.new ≡ host_script self.old }
+        ensures counts { host_counts self.new ≡ host_counts self.old }
     {
-        let name = Bytes::from_slice(alloc, name.as_bytes())?;
-        self.files.push(MemFile { name, bytes })?;
-        Ok(())
+        self.shown.add_file(alloc, name, bytes)
+    }
+
+    /// Adds a link to come after the others, with the bytes that it will give. Before the run.
+    pub fn link(&mut self, alloc: Global, bytes: Bytes) -> Result<(), Memory>
+        ensures ok { OnOk result (host_view self.new ≡ record (host_view self.old) { links = (host_view self.old).links ++ bytes ∷ [] }) }
+        ensures err { OnErr result (host_view self.new ≡ host_view self.old) }
+        ensures script { host_script self.new ≡ host_script self.old }
+        ensures counts { host_counts self.new ≡ host_counts self.old }
+    {
+        self.shown.add_link(alloc, bytes)
+    }
+
+    /// Adds a moment to come after the others. Before the run.
+    pub fn moment(&mut self, now: u32) -> Result<(), Memory>
+        requires { now < 2 ^ 31 }
+        ensures ok { OnOk result (host_view self.new ≡ record (host_view self.old) { moments = (host_view self.old).moments ++ now ∷ [] }) }
+        ensures err { OnErr result (host_view self.new ≡ host_view self.old) }
+        ensures script { host_script self.new ≡ host_script self.old }
+        ensures counts { host_counts self.new ≡ host_counts self.old }
+    {
+        self.shown.add_moment(now)
     }
 
     /// Adds a cut: the next read of each slot that has no cut yet gives at most so many bytes, where that is above 0.
     pub fn cut(&mut self, most: u32) -> Result<(), Memory>
-        ensures ok { OnOk result (host_cuts self.new ≡ host_cuts self.old ++ most ∷ []) }
-        ensures err { OnErr result (host_cuts self.new ≡ host_cuts self.old) }
-        ensures calls { KeepsCalls self.old self.new }
+        ensures ok { OnOk result (host_script self.new ≡ record (host_script self.old) { cuts = (host_script self.old).cuts ++ most ∷ [] }) }
+        ensures err { OnErr result (host_script self.new ≡ host_script self.old) }
         ensures view { host_view self.new ≡ host_view self.old }
-        ensures counts { KeepsCounts self.old self.new }
-        ensures sound { is_sound_host self.new ≡ is_sound_host self.old }
+        ensures counts { host_counts self.new ≡ host_counts self.old }
     {
-        self.cuts.push(most)?;
-        Ok(())
+        self.script.cut(most)
     }
 
     /// Lets call number `number` of this kind, from 0, fail.
     pub fn fail(&mut self, call: HostCall, number: u64) -> Result<(), Memory>
-        ensures ok { OnOk result (FailsToo call number self.old self.new) }
-        ensures err { OnErr result (KeepsScript self.old self.new) }
-        ensures cuts { host_cuts self.new ≡ host_cuts self.old }
+        ensures ok { OnOk result (host_script self.new ≡ record (host_script self.old) { fails = (host_script self.old).fails ++ record { call = call; number = number } ∷ [] }) }
+        ensures err { OnErr result (host_script self.new ≡ host_script self.old) }
         ensures view { host_view self.new ≡ host_view self.old }
-        ensures counts { KeepsCounts self.old self.new }
+        ensures counts { host_counts self.new ≡ host_counts self.old }
     {
-        match call {
-            HostCall::Open => self.opens.failing.push(number)?,
-            HostCall::Read { slot: Slot::Schema } => self.schema_reads.failing.push(number)?,
-            HostCall::Read { slot: Slot::Input } => self.input_reads.failing.push(number)?,
-            HostCall::Write { out: Out::Output } => self.output_writes.failing.push(number)?,
-            HostCall::Write { out: Out::Errors } => self.errors_writes.failing.push(number)?,
-        }
-        Ok(())
+        self.script.fail(call, number)
     }
 
     /// What was written to an out.
     pub fn written(&self, out: Out) -> &[u8]
         ensures { result.now ≡ written_of out (host_view self.now) }
     {
-        match out {
-            Out::Output => self.output.as_slice(),
-            Out::Errors => self.errors.as_slice(),
-        }
+        self.shown.written(out)
     }
 
-    // Counts a fault of reading.
-    fn read_failed(&mut self) -> Failed
-        ensures rose { Rose self.old.read_faults self.new.read_faults }
-        ensures later { self.old.read_faults ≤ self.new.read_faults }
-        ensures once { self.new.read_faults ≡ min (self.old.read_faults + 1) (2 ^ 64 - 1) }
-        ensures rest { self.new ≡ record self.old { read_faults = self.new.read_faults } }
+    /// What was written to link number i of those taken, from 0.
+    pub fn link_written(&self, i: u32) -> &[u8]
+        requires { i < length (host_view self.now).written.links }
+        ensures { result.now ≡ get_or (host_view self.now).written.links i [] }
     {
-        self.read_faults = self.read_faults.saturating_add(1);
-        Failed
-    }
-
-    // Counts a fault of writing.
-    fn write_failed(&mut self) -> Failed
-        ensures rose { Rose self.old.write_faults self.new.write_faults }
-        ensures later { self.old.write_faults ≤ self.new.write_faults }
-        ensures once { self.new.write_faults ≡ min (self.old.write_faults + 1) (2 ^ 64 - 1) }
-        ensures rest { self.new ≡ record self.old { write_faults = self.new.write_faults } }
-    {
-        self.write_faults = self.write_faults.saturating_add(1);
-        Failed
+        self.shown.link_written(i as usize)
     }
 }
 
 impl Host for MemHost {
-    ghost use Rattle.std.specs.Prelude.{Some};
-    ghost use Rattle.tl_base.specs.MemoryFiles.{files-HoldBytes};
-    ghost use Rattle.tl_base.specs.MemoryHost.{host_view, is_sound_host, OpensAsTold, ReadsAsTold, WritesAsTold, Counts};
-    ghost use Rattle.tl_base.specs.Outside.{HasFile, written_of};
-    ghost use Rattle.tl_base.specs.Causes.{HasCause, count_after};
-    ghost use Rattle.tl_base.specs.Calls.{Told, Opens, ReadsSlot, WritesOut, FailsOnly};
     ghost use Rattle.std.specs.Io.{ReadsAtMost, WritesAtMost};
+    ghost use Rattle.tl_base.specs.Kinds.{slot_kind, out_kind, counts_after};
+    ghost use Rattle.tl_base.specs.Outside.{IsThere, HasRoom};
+    ghost use Rattle.tl_base.specs.Calls.{Told, Opens, ReadsSlot, Creates, WritesOut, Listens, Connects, Accepts, TellsMoment};
+    ghost use Rattle.tl_base.specs.Using.{MeetsFaults};
+    ghost use Rattle.tl_base.specs.Scripts.{counted};
+    ghost use Rattle.tl_base.specs.MemoryHost.{host_state, host_script, host_counts, AnswersAsTold, GivesAsTold, TakesAsTold};
+    ghost use Rattle.tl_base.specs.ShownLaws.{shows_bytes};
+    ghost use Rattle.tl_base.specs.declared.counts.Kind.TheVariants.{Links};
+    ghost use Rattle.tl_base.specs.declared.mem_script.HostCall.TheVariants.{Open, Read, Create, Write, Listen, Connect, Accept};
 
-    ghost view = { λ h. Some (host_view h) };
+    ghost state = { host_state };
 
-    ghost sound = { is_sound_host };
-
-    ghost read_faults = { λ h. h.read_faults };
-
-    ghost write_faults = { λ h. h.write_faults };
-
-    ghost bytes = { λ h. files-HoldBytes h.files.items };
+    ghost are_bytes = { λ h. shows_bytes h.shown };
 
     fn open_slot(&mut self, slot: Slot, name: &str) -> Result<(), Failed>
-        ensures view { Told (Some (host_view self.old)) (Some (host_view self.new)) (Opens slot name.now result) }
-        ensures cause { HasCause self.old.read_faults self.new.read_faults result }
-        ensures others { self.new.write_faults ≡ self.old.write_faults }
-        ensures sound { FailsOnly (Some (host_view self.old)) (is_sound_host self.old) (is_sound_host self.new) result (λ v. (bytes : List ℕ) × HasFile v.files name.now bytes) }
-        ensures script { OpensAsTold self.old name.now result }
-        ensures counts { Counts HostCall.Open self.old self.new }
-        ensures exact { self.new.read_faults ≡ count_after self.old.read_faults result }
+        ensures view { Told (host_state self.old).view (host_state self.new).view (Opens slot name.now result) }
+        ensures faults { MeetsFaults (slot_kind slot) (host_state self.old) (host_state self.new) (IsErr result) (IsThere name.now) }
+        ensures told { AnswersAsTold HostCall.Open (IsThere name.now) self.old result }
+        ensures script { host_script self.new ≡ counted HostCall.Open (host_script self.old) }
+        ensures exact { host_counts self.new ≡ counts_after (slot_kind slot) (host_counts self.old) result }
     {
-        let Some(_) = self.opens.next() else {
-            return Err(self.read_failed());
-        };
-        match index_of(&self.files, name) {
-            Some(file) => {
-                let reading = Reading { file, at: 0 };
-                match slot {
-                    Slot::Schema => self.schema = reading,
-                    Slot::Input => self.input = reading,
-                }
-                Ok(())
-            }
-            None => Err(self.read_failed()),
+        if self.script.next(HostCall::Open).is_none() {
+            return Err(self.counts.fail(slot.kind()));
+        }
+        match self.shown.open(slot, name) {
+            Ok(()) => Ok(()),
+            Err(_) => Err(self.counts.fail(slot.kind())),
         }
     }
 
     fn read(&mut self, slot: Slot, into: &mut [u8]) -> Result<usize, Failed>
         ensures bound { ReadsAtMost result into.new }
         ensures empty { length into.old ≡ 0 → result ≡ Ok 0 }
-        ensures view { Told (Some (host_view self.old)) (Some (host_view self.new)) (ReadsSlot slot into.new result) }
-        ensures cause { HasCause self.old.read_faults self.new.read_faults result }
-        ensures others { self.new.write_faults ≡ self.old.write_faults }
-        ensures sound { FailsOnly (Some (host_view self.old)) (is_sound_host self.old) (is_sound_host self.new) result (λ v. Unit {0}) }
-        ensures script { 0 < length into.old → ReadsAsTold slot self.old (length into.old) result }
-        ensures counts { 0 < length into.old → Counts (HostCall.Read slot) self.old self.new }
-        ensures exact { self.new.read_faults ≡ count_after self.old.read_faults result }
+        ensures view { Told (host_state self.old).view (host_state self.new).view (ReadsSlot slot into.new result) }
+        ensures faults { MeetsFaults (slot_kind slot) (host_state self.old) (host_state self.new) (IsErr result) (λ _. Unit {0}) }
+        ensures told { 0 < length into.old → GivesAsTold slot self.old (length into.old) result }
+        ensures script { 0 < length into.old → host_script self.new ≡ counted (HostCall.Read slot) (host_script self.old) }
+        ensures exact { host_counts self.new ≡ counts_after (slot_kind slot) (host_counts self.old) result }
         ensures still { length into.old ≡ 0 → self.new ≡ self.old }
     {
         if into.is_empty() {
             return Ok(0);
         }
-        let next = match slot {
-            Slot::Schema => self.schema_reads.next(),
-            Slot::Input => self.input_reads.next(),
+        let Some(number) = self.script.next(HostCall::Read { slot }) else {
+            return Err(self.counts.fail(slot.kind()));
         };
-        let Some(number) = next else {
-            return Err(self.read_failed());
-        };
-        let most = most_at(&self.cuts, number);
-        Ok(match slot {
-            Slot::Schema => give_from(&self.files, &mut self.schema, most, into),
-            Slot::Input => give_from(&self.files, &mut self.input, most, into),
-        })
+        let most = self.script.most_at(number);
+        Ok(self.shown.give(slot, most, into))
+    }
+
+    fn create(&mut self, out: Out, name: &str) -> Result<(), Failed>
+        ensures view { Told (host_state self.old).view (host_state self.new).view (Creates out name.now result) }
+        ensures faults { MeetsFaults (out_kind out) (host_state self.old) (host_state self.new) (IsErr result) (λ v. length name.now ≤ v.room) }
+        ensures told { AnswersAsTold HostCall.Create (λ v. length name.now ≤ v.room) self.old result }
+        ensures script { host_script self.new ≡ counted HostCall.Create (host_script self.old) }
+        ensures exact { host_counts self.new ≡ counts_after (out_kind out) (host_counts self.old) result }
+    {
+        if self.script.next(HostCall::Create).is_none() {
+            return Err(self.counts.fail(out.kind()));
+        }
+        match self.shown.create(out, name) {
+            Ok(()) => Ok(()),
+            Err(_) => Err(self.counts.fail(out.kind())),
+        }
     }
 
     fn write(&mut self, out: Out, piece: &[u8]) -> Result<usize, Failed>
         ensures bound { WritesAtMost result piece.now }
         ensures some { 0 < length piece.now → IfOk result (λ n. 0 < n) }
         ensures empty { length piece.now ≡ 0 → result ≡ Ok 0 }
-        ensures view { Told (Some (host_view self.old)) (Some (host_view self.new)) (WritesOut out piece.now result) }
-        ensures cause { HasCause self.old.write_faults self.new.write_faults result }
-        ensures others { self.new.read_faults ≡ self.old.read_faults }
-        ensures sound { 0 < length piece.now → FailsOnly (Some (host_view self.old)) (is_sound_host self.old) (is_sound_host self.new) result (λ v. length (written_of out v) < v.room) }
-        ensures script { 0 < length piece.now → WritesAsTold out self.old (length piece.now) result }
-        ensures counts { 0 < length piece.now → Counts (HostCall.Write out) self.old self.new }
-        ensures exact { self.new.write_faults ≡ count_after self.old.write_faults result }
+        ensures view { Told (host_state self.old).view (host_state self.new).view (WritesOut out piece.now result) }
+        ensures faults { MeetsFaults (out_kind out) (host_state self.old) (host_state self.new) (IsErr result) (HasRoom out 1) }
+        ensures told { 0 < length piece.now → TakesAsTold out self.old (length piece.now) result }
+        ensures script { 0 < length piece.now → host_script self.new ≡ counted (HostCall.Write out) (host_script self.old) }
+        ensures exact { host_counts self.new ≡ counts_after (out_kind out) (host_counts self.old) result }
         ensures still { length piece.now ≡ 0 → self.new ≡ self.old }
     {
         if piece.is_empty() {
             return Ok(0);
         }
-        let next = match out {
-            Out::Output => self.output_writes.next(),
-            Out::Errors => self.errors_writes.next(),
-        };
-        let Some(_) = next else {
-            return Err(self.write_failed());
-        };
-        let taken = match out {
-            Out::Output => put(&mut self.output, self.room, piece),
-            Out::Errors => put(&mut self.errors, self.room, piece),
-        };
-        match taken {
-            Some(count) => Ok(count),
-            None => Err(self.write_failed()),
+        if self.script.next(HostCall::Write { out }).is_none() {
+            return Err(self.counts.fail(out.kind()));
         }
+        match self.shown.put(out, piece) {
+            Some(count) => Ok(count),
+            None => Err(self.counts.fail(out.kind())),
+        }
+    }
+
+    fn listen(&mut self, address: &str) -> Result<(), Failed>
+        ensures view { Told (host_state self.old).view (host_state self.new).view (Listens address.now result) }
+        ensures faults { MeetsFaults Kind.Links (host_state self.old) (host_state self.new) (IsErr result) (λ v. length address.now ≤ v.room) }
+        ensures told { AnswersAsTold HostCall.Listen (λ v. length address.now ≤ v.room) self.old result }
+        ensures script { host_script self.new ≡ counted HostCall.Listen (host_script self.old) }
+        ensures exact { host_counts self.new ≡ counts_after Kind.Links (host_counts self.old) result }
+    {
+        if self.script.next(HostCall::Listen).is_none() {
+            return Err(self.counts.fail(Kind::Links));
+        }
+        match self.shown.listen(address) {
+            Ok(()) => Ok(()),
+            Err(_) => Err(self.counts.fail(Kind::Links)),
+        }
+    }
+
+    fn connect(&mut self, address: &str) -> Result<(), Failed>
+        ensures view { Told (host_state self.old).view (host_state self.new).view (Connects address.now result) }
+        ensures faults { MeetsFaults Kind.Links (host_state self.old) (host_state self.new) (IsErr result) (λ v. (0 < length v.links) × (length address.now ≤ v.room)) }
+        ensures told { AnswersAsTold HostCall.Connect (λ v. (0 < length v.links) × (length address.now ≤ v.room)) self.old result }
+        ensures script { host_script self.new ≡ counted HostCall.Connect (host_script self.old) }
+        ensures exact { host_counts self.new ≡ counts_after Kind.Links (host_counts self.old) result }
+    {
+        if self.script.next(HostCall::Connect).is_none() {
+            return Err(self.counts.fail(Kind::Links));
+        }
+        match self.shown.connect(address) {
+            Ok(()) => Ok(()),
+            Err(_) => Err(self.counts.fail(Kind::Links)),
+        }
+    }
+
+    fn accept(&mut self) -> Result<(), Failed>
+        ensures view { Told (host_state self.old).view (host_state self.new).view (Accepts result) }
+        ensures faults { MeetsFaults Kind.Links (host_state self.old) (host_state self.new) (IsErr result) (λ v. 0 < length v.links) }
+        ensures told { AnswersAsTold HostCall.Accept (λ v. 0 < length v.links) self.old result }
+        ensures script { host_script self.new ≡ counted HostCall.Accept (host_script self.old) }
+        ensures exact { host_counts self.new ≡ counts_after Kind.Links (host_counts self.old) result }
+    {
+        if self.script.next(HostCall::Accept).is_none() {
+            return Err(self.counts.fail(Kind::Links));
+        }
+        match self.shown.accept() {
+            Ok(()) => Ok(()),
+            Err(_) => Err(self.counts.fail(Kind::Links)),
+        }
+    }
+
+    fn now(&mut self) -> u32
+        ensures moment { result < 2 ^ 31 }
+        ensures view { Told (host_state self.old).view (host_state self.new).view (TellsMoment result) }
+        ensures counts { host_counts self.new ≡ host_counts self.old }
+        ensures sound { IsSome (host_state self.old).view → IsTrue (host_state self.old).sound → IsTrue (host_state self.new).sound }
+        ensures script { host_script self.new ≡ host_script self.old }
+    {
+        self.shown.now()
     }
 }

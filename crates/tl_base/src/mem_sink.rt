@@ -1,11 +1,12 @@
 //! A sink in memory.
-ghost use Rattle.std.specs.Prelude.{◌≡◌, ◌==◌, ◌+◌, ◌-◌, ◌<◌, ◌≤◌, [], ◌++◌, length, take, min, Ok, IfSome, IfNone, IfOk, vec_capacity};
+ghost use Rattle.std.specs.Prelude.{◌≡◌, ◌<◌, ◌≤◌, IsErr, Ok, IfOk, length, vec_capacity};
 ghost use Rattle.std.specs.Io.{WritesAtMost};
 ghost use Rattle.std.specs.Io.KnownBytes.{WriteAppends};
-ghost use Rattle.tl_base.specs.Causes.{HasCause, count_after};
-ghost use Rattle.tl_base.specs.Using.{WritesSound};
+ghost use Rattle.tl_base.specs.Causes.{count_after};
+ghost use Rattle.tl_base.specs.Using.{Wrote};
 
 use crate::fault::{Failed, Memory};
+use crate::pieces::put;
 use crate::sink::Sink;
 use std::alloc::Global;
 
@@ -21,7 +22,8 @@ pub struct MemSink {
 }
 
 impl MemSink {
-    ghost use Rattle.tl_base.specs.Memory.{sink_bytes, sink_room, sink_faults, is_sound_sink, IsUnwritten};
+    ghost use Rattle.std.specs.Prelude.{[]};
+    ghost use Rattle.tl_base.specs.Memory.{sink_bytes, sink_room, sink_faults, IsUnwritten};
 
     /// Takes memory for `room` bytes. Write number k, from 0 and without empty pieces, takes what still fits, and fails exactly
     /// where k is in `fails` or nothing fits.
@@ -29,7 +31,6 @@ impl MemSink {
         ensures bytes { IfOk result (λ s. sink_bytes s ≡ []) }
         ensures room { IfOk result (λ s. sink_room s ≡ room) }
         ensures faults { IfOk result (λ s. sink_faults s ≡ 0) }
-        ensures sound { IfOk result (λ s. is_sound_sink s ≡ (length fails.items == 0)) }
         ensures first { IfOk result (λ s. IsUnwritten s fails) }
     {
         Ok(MemSink {
@@ -49,48 +50,17 @@ impl MemSink {
     }
 }
 
-/// Appends what fits of a piece, into memory that is there. None where nothing fits.
-pub fn put(to: &mut Vec<u8>, room: usize, piece: &[u8]) -> Option<usize>
-    requires room { room ≤ vec_capacity to.old }
-    requires some { 0 < length piece.now }
-    ensures taken { IfSome result (λ n. (0 < n) × (n ≤ length piece.now) × (to.new.items ≡ to.old.items ++ take n piece.now)) }
-    ensures count { IfSome result (λ n. n ≡ min (length piece.now) (room - length to.old.items)) }
-    ensures full { IfNone result ((to.new.items ≡ to.old.items) × (room ≤ length to.old.items)) }
-    ensures capacity { vec_capacity to.old ≤ vec_capacity to.new }
-{
-    if to.len() >= room {
-        return None;
-    }
-    let count = piece.len().min(room - to.len());
-    match to.extend_from_slice(&piece[..count]) {
-        Ok(()) => Some(count),
-        Err(_) => unreachable!(),
-    }
-}
-
 impl Sink for MemSink {
-    ghost use Rattle.std.specs.Prelude.{Some};
-    ghost use Rattle.tl_base.specs.Outside.{nothing_aside};
-    ghost use Rattle.tl_base.specs.Memory.{sink_bytes, sink_room, sink_faults, is_sound_sink, TakesWhatFits, CountsWrite};
+    ghost use Rattle.tl_base.specs.Memory.{sink_state, sink_faults, TakesWhatFits, CountsWrite};
 
-    ghost written = { λ s. Some (sink_bytes s) };
-
-    ghost faults = { sink_faults };
-
-    ghost aside = { λ _. nothing_aside };
-
-    ghost sound = { is_sound_sink };
-
-    ghost room = { sink_room };
+    ghost state = { sink_state };
 
     fn write(&mut self, piece: &[u8]) -> Result<usize, Failed>
         ensures bound { WritesAtMost result piece.now }
         ensures some { 0 < length piece.now → IfOk result (λ n. 0 < n) }
         ensures empty { length piece.now ≡ 0 → result ≡ Ok 0 }
-        ensures bytes { WriteAppends (Some (sink_bytes self.old)) (Some (sink_bytes self.new)) result piece.now }
-        ensures cause { HasCause (sink_faults self.old) (sink_faults self.new) result }
-        ensures room { sink_room self.new ≡ sink_room self.old }
-        ensures sound { 0 < length piece.now → WritesSound (Some (sink_bytes self.old)) (sink_room self.old) (is_sound_sink self.old) (is_sound_sink self.new) result }
+        ensures bytes { WriteAppends (sink_state self.old).written (sink_state self.new).written result piece.now }
+        ensures used { Wrote (sink_state self.old) (sink_state self.new) 1 (IsErr result) }
         ensures fits { 0 < length piece.now → TakesWhatFits self.old (length piece.now) result }
         ensures counts { 0 < length piece.now → CountsWrite self.old self.new }
         ensures exact { sink_faults self.new ≡ count_after (sink_faults self.old) result }

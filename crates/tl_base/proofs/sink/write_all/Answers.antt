@@ -1,5 +1,5 @@
 use Rattle.std.proofs.Common.{rules}
-use Rattle.tl_base.proofs.Pieces.{appends_more, appends_kept}
+use Rattle.tl_base.proofs.Appending.{appends_more, appends_kept}
 use Rattle.tl_base.proofs.sink.write_all.Goals as goal
 
 pub loop-at-preserved : goal.loop-at-preserved

@@ -8,8 +8,8 @@ invariant-loop-at g l =
     let s = g.K.Sink in
     record {
       within : l.at ≤ length l.piece;
-      bytes : Appends (s.written l.fn.to) (s.written l.to) (take l.at l.piece);
-      used : Wrote s.written s.faults s.aside s.sound s.room l.fn.to l.to l.at ⊥;
+      bytes : Appends (s.state l.fn.to).written (s.state l.to).written (take l.at l.piece);
+      used : Wrote (s.state l.fn.to) (s.state l.to) l.at ⊥;
     }
 
 abbrev pub decreases-loop-at : goal.decreases-loop-at

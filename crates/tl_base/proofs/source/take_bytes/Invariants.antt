@@ -9,8 +9,8 @@ invariant-loop-had g l =
     record {
       few : l.had ≤ length l.fn.into;
       width : length l.into ≡ length l.fn.into;
-      bytes : Consumes (s.left l.fn.from) (s.left l.from) (take l.had l.into);
-      used : Used s.left s.faults s.aside s.sound l.fn.from l.from ⊥;
+      bytes : Consumes (s.state l.fn.from).left (s.state l.from).left (take l.had l.into);
+      used : Used (s.state l.fn.from) (s.state l.from) ⊥;
     }
 
 abbrev pub decreases-loop-had : goal.decreases-loop-had
