@@ -3,15 +3,19 @@ use std::alloc::{AllocError, Global};
 use std::process::Abort;
 use std::test::Fail;
 use tl_base::{
-    Bytes, Host, HostCall, MemHost, Out, SinkOf, Slot, SourceOf, take_end, take_text, write_all,
+    Bytes, Host, HostCall, LinkOf, MemHost, Out, SinkOf, Slot, SourceOf, take_end, take_text,
+    take_word, write_all,
 };
 
-// A host with two files of one name and an empty one, and room for four bytes.
+// A host with two files of one name and an empty one, six links to come that give `link`, and room for four bytes.
 fn host(alloc: Global) -> Result<MemHost, AllocError> {
     let mut host = MemHost::new(alloc, 4)?;
     host.file(alloc, "a", Bytes::from_slice(alloc, b"first")?)?;
     host.file(alloc, "a", Bytes::from_slice(alloc, b"second")?)?;
     host.file(alloc, "b", Bytes::new(alloc))?;
+    for _ in 0..6 {
+        host.link(alloc, Bytes::from_slice(alloc, b"link")?)?;
+    }
     Ok(host)
 }
 
@@ -51,12 +55,20 @@ fn a_host_gives_its_first_file_of_a_name(rt: HostRuntime) -> Result<(), Fail> {
     assert_writes(&rt, &mut host)
 }
 
-const KINDS: [HostCall; 5] = [
+const KINDS: [HostCall; 13] = [
     HostCall::Open,
     HostCall::Read { slot: Slot::Schema },
     HostCall::Read { slot: Slot::Input },
+    HostCall::Read { slot: Slot::State },
+    HostCall::Read { slot: Slot::Link },
+    HostCall::Create,
     HostCall::Write { out: Out::Output },
     HostCall::Write { out: Out::Errors },
+    HostCall::Write { out: Out::State },
+    HostCall::Write { out: Out::Link },
+    HostCall::Listen,
+    HostCall::Connect,
+    HostCall::Accept,
 ];
 
 // Whether a call of this kind succeeds.
@@ -64,7 +76,11 @@ fn succeeds(host: &mut MemHost, kind: HostCall) -> bool {
     match kind {
         HostCall::Open => host.open_slot(Slot::Schema, "a").is_ok(),
         HostCall::Read { slot } => host.read(slot, &mut [0u8; 1]).is_ok(),
+        HostCall::Create => host.create(Out::State, "a").is_ok(),
         HostCall::Write { out } => host.write(out, b"x").is_ok(),
+        HostCall::Listen => host.listen("a").is_ok(),
+        HostCall::Connect => host.connect("a").is_ok(),
+        HostCall::Accept => host.accept().is_ok(),
     }
 }
 
@@ -86,5 +102,45 @@ fn a_host_fails_only_at_the_call_told(rt: HostRuntime) -> Result<(), Fail> {
     for told in KINDS {
         assert!(rt; fails_once(rt.alloc(), told)?, "{told:?}");
     }
+    Ok(())
+}
+
+fn connects(host: &mut MemHost) -> bool {
+    host.connect("a").is_ok()
+}
+
+fn accepts(host: &mut MemHost) -> bool {
+    host.accept().is_ok()
+}
+
+// A link gives its bytes, and takes others that the next link doesn't have.
+#[test]
+fn links_are_taken_in_order(rt: HostRuntime) -> Result<(), Fail> {
+    let mut host = MemHost::new(rt.alloc(), 4)?;
+    host.link(rt.alloc(), Bytes::from_slice(rt.alloc(), b"one!two!")?)?;
+    host.link(rt.alloc(), Bytes::new(rt.alloc()))?;
+    assert!(rt; connects(&mut host));
+    assert!(rt; take_word(&mut LinkOf::new(&mut host))? == [111, 110, 101, 33]);
+    write_all(&mut LinkOf::new(&mut host), b"back")?;
+    assert!(rt; host.written(Out::Link) == b"back".as_slice());
+    assert!(rt; accepts(&mut host));
+    assert!(rt; take_end(&mut LinkOf::new(&mut host))?);
+    assert!(rt; host.written(Out::Link) == b"".as_slice());
+    assert!(rt; !accepts(&mut host));
+    Ok(())
+}
+
+// State is named and emptied; moments come in order, and then 0.
+#[test]
+fn state_and_moments_are_as_told(rt: HostRuntime) -> Result<(), Fail> {
+    let mut host = MemHost::new(rt.alloc(), 4)?;
+    host.moment(7)?;
+    host.moment(5)?;
+    let wrote = host.write(Out::State, b"old")?;
+    assert!(rt; wrote == 3);
+    assert!(rt; host.create(Out::State, "long").is_ok());
+    assert!(rt; host.written(Out::State) == b"".as_slice());
+    assert!(rt; host.create(Out::State, "longer").is_err());
+    assert!(rt; [host.now(), host.now(), host.now()] == [7, 5, 0]);
     Ok(())
 }

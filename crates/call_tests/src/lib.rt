@@ -14,6 +14,8 @@ mod lanes;
 #[cfg(test)]
 mod numbers;
 #[cfg(test)]
+mod packets;
+#[cfg(test)]
 mod replays;
 #[cfg(test)]
 mod schemas;

@@ -1,31 +1,41 @@
-//! The real outside: files and the standard streams. What they hold or take is not told: this is the trusted edge.
-ghost use Rattle.std.specs.Prelude.{None, false, IfSome, ◌≡◌, ◌≤◌, length};
+//! The real outside: files, the standard streams, TCP and the clock. What they hold or take is not told: this is the trusted edge.
+ghost use Rattle.std.specs.Prelude.{None, false, IfSome, ◌≤◌, ◌<◌, ◌^◌, length};
 
 use std::fs::File;
 use std::io::{BufReader, Read, Write};
+use std::net::{TcpListener, TcpStream};
+use std::time::{SystemTime, UNIX_EPOCH};
 use std::{fs, io};
-use tl_base::{Failed, Host, Out, Slot};
+use tl_base::{Counts, Failed, Host, Kind, Out, Slot};
 
-/// Files behind buffers, and the standard streams.
+/// Files behind buffers, the standard streams, one listener and one link.
 #[derive(Drop)]
 pub struct RealHost {
     rt: HostRuntime,
     schema: Option<BufReader<File>>,
     input: Option<BufReader<File>>,
-    read_faults: u64,
-    write_faults: u64,
+    state: Option<BufReader<File>>,
+    saved: Option<File>,
+    listener: Option<TcpListener>,
+    link: Option<TcpStream>,
+    counts: Counts,
+    // The moment that was told last.
+    moment: u32,
+    ghost small: { moment < 2 ^ 31 },
 }
 
 impl RealHost {
-    pub fn new(rt: HostRuntime) -> RealHost
-        ensures unfailed { (result.read_faults ≡ 0) × (result.write_faults ≡ 0) }
-    {
+    pub fn new(rt: HostRuntime) -> RealHost {
         RealHost {
             rt,
             schema: None,
             input: None,
-            read_faults: 0,
-            write_faults: 0,
+            state: None,
+            saved: None,
+            listener: None,
+            link: None,
+            counts: Counts::none(),
+            moment: 0,
         }
     }
 
@@ -33,43 +43,60 @@ impl RealHost {
     fn open(&self, name: &str) -> io::Result<BufReader<File>> {
         BufReader::new(self.rt.alloc(), fs::open(&self.rt, name)?)
     }
+
+    // The seconds since 1970, where the clock can be read and shows fewer than 2^31.
+    fn seconds(&self) -> Option<u32>
+        ensures { IfSome result (λ n. n < 2 ^ 31) }
+    {
+        let time = SystemTime::now(&self.rt).ok()?;
+        let seconds = time.duration_since(UNIX_EPOCH).ok()?.as_secs();
+        if seconds < 1 << 31 {
+            Some(seconds as u32)
+        } else {
+            None
+        }
+    }
 }
 
-// Reads from a file, if it is open.
-fn read_some(file: &mut Option<BufReader<File>>, into: &mut [u8]) -> Option<usize>
+// Reads from a file or a link, if it is open.
+fn read_some<R: Read>(from: &mut Option<R>, into: &mut [u8]) -> Option<usize>
     ensures { IfSome result (λ n. n ≤ length into.new) }
 {
-    match file {
+    match from {
         None => None,
-        Some(file) => file.read(into).ok(),
+        Some(from) => from.read(into).ok(),
+    }
+}
+
+// Writes to a file or a link, if it is open.
+fn write_some<W: Write>(to: &mut Option<W>, piece: &[u8]) -> Option<usize>
+    ensures { IfSome result (λ n. n ≤ length piece.now) }
+{
+    match to {
+        None => None,
+        Some(to) => to.write(piece).ok(),
     }
 }
 
 impl Host for RealHost {
-    ghost view = { λ _. None };
+    ghost use Rattle.tl_base.specs.Outside.{HostState};
 
-    ghost sound = { λ _. false };
+    ghost state = { λ h. record { view = None; counts = h.counts; sound = false } };
 
-    ghost read_faults = { λ h. h.read_faults };
-
-    ghost write_faults = { λ h. h.write_faults };
-
-    ghost bytes = { λ _. tt };
+    ghost are_bytes = { λ _. tt };
 
     fn open_slot(&mut self, slot: Slot, name: &str) -> Result<(), Failed> {
-        match self.open(name) {
-            Ok(file) => {
-                match slot {
-                    Slot::Schema => self.schema = Some(file),
-                    Slot::Input => self.input = Some(file),
-                }
-                Ok(())
-            }
-            Err(_) => {
-                self.read_faults = self.read_faults.saturating_add(1);
-                Err(Failed)
-            }
+        let Ok(file) = self.open(name) else {
+            return Err(self.counts.fail(slot.kind()));
+        };
+        match slot {
+            Slot::Schema => self.schema = Some(file),
+            Slot::Input => self.input = Some(file),
+            Slot::State => self.state = Some(file),
+            // A link is no file.
+            Slot::Link => return Err(self.counts.fail(slot.kind())),
         }
+        Ok(())
     }
 
     fn read(&mut self, slot: Slot, into: &mut [u8]) -> Result<usize, Failed> {
@@ -79,13 +106,25 @@ impl Host for RealHost {
         let got = match slot {
             Slot::Schema => read_some(&mut self.schema, into),
             Slot::Input => read_some(&mut self.input, into),
+            Slot::State => read_some(&mut self.state, into),
+            Slot::Link => read_some(&mut self.link, into),
         };
         match got {
             Some(count) => Ok(count),
-            None => {
-                self.read_faults = self.read_faults.saturating_add(1);
-                Err(Failed)
+            None => Err(self.counts.fail(slot.kind())),
+        }
+    }
+
+    fn create(&mut self, out: Out, name: &str) -> Result<(), Failed> {
+        if out != Out::State {
+            return Err(self.counts.fail(out.kind()));
+        }
+        match fs::create(&self.rt, name) {
+            Ok(file) => {
+                self.saved = Some(file);
+                Ok(())
             }
+            Err(_) => Err(self.counts.fail(out.kind())),
         }
     }
 
@@ -94,15 +133,54 @@ impl Host for RealHost {
             return Ok(0);
         }
         let wrote = match out {
-            Out::Output => self.rt.stdout().write(piece),
-            Out::Errors => self.rt.stderr().write(piece),
+            Out::Output => self.rt.stdout().write(piece).ok(),
+            Out::Errors => self.rt.stderr().write(piece).ok(),
+            Out::State => write_some(&mut self.saved, piece),
+            Out::Link => write_some(&mut self.link, piece),
         };
         match wrote {
-            Ok(count) if count > 0 => Ok(count),
-            _ => {
-                self.write_faults = self.write_faults.saturating_add(1);
-                Err(Failed)
+            Some(count) if count > 0 => Ok(count),
+            _ => Err(self.counts.fail(out.kind())),
+        }
+    }
+
+    fn listen(&mut self, address: &str) -> Result<(), Failed> {
+        match TcpListener::bind(&self.rt, address) {
+            Ok(listener) => {
+                self.listener = Some(listener);
+                Ok(())
+            }
+            Err(_) => Err(self.counts.fail(Kind::Links)),
+        }
+    }
+
+    fn connect(&mut self, address: &str) -> Result<(), Failed> {
+        match TcpStream::connect(&self.rt, address) {
+            Ok(stream) => {
+                self.link = Some(stream);
+                Ok(())
+            }
+            Err(_) => Err(self.counts.fail(Kind::Links)),
+        }
+    }
+
+    fn accept(&mut self) -> Result<(), Failed> {
+        match &self.listener {
+            None => {}
+            Some(listener) => {
+                if let Ok((stream, _)) = listener.accept() {
+                    self.link = Some(stream);
+                    return Ok(());
+                }
             }
         }
+        Err(self.counts.fail(Kind::Links))
+    }
+
+    fn now(&mut self) -> u32 {
+        if let Some(moment) = self.seconds() {
+            self.moment = moment;
+        }
+        self.moment
     }
 }
