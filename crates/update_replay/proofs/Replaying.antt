@@ -5,7 +5,7 @@ use Rattle.std.specs.Io.KnownBytes.{Appends}
 use Rattle.std.proofs.KnownBytes.{Appends-nil, Appends-trans}
 use Rattle.std.proofs.lemmas.List.{length-replicate}
 use Rattle.tl_base.specs.Contents.{AreBytes}
-use Rattle.tl_base.specs.Writing.{AppendsFront}
+use Rattle.tl_base.specs.Writing.{AppendsPrefix}
 use Rattle.box_events.specs.Happenings.{Happening, added}
 use Rattle.box_events.specs.Boxes.{ending}
 use Rattle.box_events.proofs.Boundaries.{ending-append}
@@ -63,11 +63,11 @@ module _ (at count : ℕ) (w v : World) (s : Step) (o : Outcome) (a b : Option (
   pub made : Appends a b (outcome_lines v count o) → Makes at count w s v a b (Ok tt)
   made bytes = (step_lines count w s, subst (λ (x : List ℕ). Appends a b x) same bytes, (few, may, is, refl))
 
-  front_made : (e : LineFault) → AppendsFront a b (outcome_lines v count o) → Makes at count w s v a b (Err (of_line e))
+  front_made : (e : LineFault) → AppendsPrefix a b (outcome_lines v count o) → Makes at count w s v a b (Err (of_line e))
   front_made line.WriteFault (front, rest, split, bytes) = (front, bytes, (few, may, rest, split ∙ same))
   front_made line.Memory (front, rest, split, bytes) = (front, bytes, (few, inr (may, rest, split ∙ same)))
 
-  pub not_made : (e : LineFault) (r : Result (Unit {0}) ReplayFault) → IsErrAnd r (λ z. z ≡ of_line e) → AppendsFront a b (outcome_lines v count o) → Makes at count w s v a b r
+  pub not_made : (e : LineFault) (r : Result (Unit {0}) ReplayFault) → IsErrAnd r (λ z. z ≡ of_line e) → AppendsPrefix a b (outcome_lines v count o) → Makes at count w s v a b r
   not_made e (Ok u) are bytes = absurd are
   not_made e (Err z) are bytes = subst (λ (y : ReplayFault). Makes at count w s v a b (Err y)) (sym are) (front_made e bytes)
 
@@ -203,7 +203,7 @@ module _ (journal : List ℕ) (bytes : AreBytes journal) (w : World) (at count :
   pub all_done : (q : ℕ) (after c : Option (List ℕ)) → IfSome left (λ x. AreBytes x → NextRead x after at q (Ok None)) → Appends b c (closing_lines w) → ReplayedOn journal w a c (Ok count)
   all_done q after c read wrote = (g.lines ++ closing_lines w, Appends-trans a b c g.lines (closing_lines w) g.written wrote, (g.steps, at, g.lines, subst (λ (x : List ℕ). Began journal g.steps at x g.lines) (at_end q after read) g.began, g.number, g.world, ap (λ (u : World). g.lines ++ closing_lines u) g.world))
 
-  stopped_at : (c : Option (List ℕ)) (next : List ℕ) → Next g.steps g.rest next → AppendsFront b c next → (output : List ℕ) × Appends a c output × Stopped journal output
+  stopped_at : (c : Option (List ℕ)) (next : List ℕ) → Next g.steps g.rest next → AppendsPrefix b c next → (output : List ℕ) × Appends a c output × Stopped journal output
   stopped_at c next comes (front, rest, split, wrote) = (g.lines ++ front, Appends-trans a b c g.lines front g.written wrote, (g.steps, at, g.rest, g.lines, next, front, rest, g.began, comes, split, refl))
 
   as_line : (v : World) (c : Option (List ℕ)) (e : LineFault) → (output : List ℕ) × Appends a c output × Stopped journal output → ReplayedOn journal v a c (Err (of_line e))
@@ -211,7 +211,7 @@ module _ (journal : List ℕ) (bytes : AreBytes journal) (w : World) (at count :
   as_line v c line.Memory s = s
 
   -- the closing lines were not written whole
-  pub not_closed : (q : ℕ) (after c : Option (List ℕ)) (e : LineFault) (r : Result ℕ ReplayFault) → IfSome left (λ x. AreBytes x → NextRead x after at q (Ok None)) → AppendsFront b c (closing_lines w) → IsErrAnd r (λ z. z ≡ of_line e) → ReplayedOn journal w a c r
+  pub not_closed : (q : ℕ) (after c : Option (List ℕ)) (e : LineFault) (r : Result ℕ ReplayFault) → IfSome left (λ x. AreBytes x → NextRead x after at q (Ok None)) → AppendsPrefix b c (closing_lines w) → IsErrAnd r (λ z. z ≡ of_line e) → ReplayedOn journal w a c r
   not_closed q after c e (Ok n) read wrote same = absurd same
   not_closed q after c e (Err z) read wrote same =
       subst (λ (y : ReplayFault). ReplayedOn journal w a c (Err y)) (sym same) (as_line w c e (stopped_at c (closing_lines w) (end_comes q after read) wrote))
@@ -284,7 +284,7 @@ module _ (o : Option (List ℕ)) (w : World) (at count : ℕ) (left a b : Option
   pub done_told : (q : ℕ) (after c : Option (List ℕ)) → IfSome left (λ x. AreBytes x → NextRead x after at q (Ok None)) → Appends b c (closing_lines w) → IfSome o (λ journal. AreBytes journal → ReplayedOn journal w a c (Ok count))
   done_told q after c read wrote = map_told o (λ journal bytes h. all_done journal bytes w at count left a b h q after c read wrote) g
 
-  pub not_closed_told : (q : ℕ) (after c : Option (List ℕ)) (e : LineFault) (r : Result ℕ ReplayFault) → IfSome left (λ x. AreBytes x → NextRead x after at q (Ok None)) → AppendsFront b c (closing_lines w) → IsErrAnd r (λ z. z ≡ of_line e) → IfSome o (λ journal. AreBytes journal → ReplayedOn journal w a c r)
+  pub not_closed_told : (q : ℕ) (after c : Option (List ℕ)) (e : LineFault) (r : Result ℕ ReplayFault) → IfSome left (λ x. AreBytes x → NextRead x after at q (Ok None)) → AppendsPrefix b c (closing_lines w) → IsErrAnd r (λ z. z ≡ of_line e) → IfSome o (λ journal. AreBytes journal → ReplayedOn journal w a c r)
   not_closed_told q after c e r read wrote same = map_told o (λ journal bytes h. not_closed journal bytes w at count left a b h q after c e r read wrote same) g
 
   pub not_made_told : (v : World) (q : ℕ) (step : DeclaredStep) (after c : Option (List ℕ)) (e : ReplayFault) (r : Result ℕ ReplayFault) → IfSome left (λ x. AreBytes x → NextRead x after at q (Ok (Some step))) → Makes at count w (step_of step) v b c (Err e) → IsErrAnd r (λ z. z ≡ e) → IfSome o (λ journal. AreBytes journal → ReplayedOn journal v a c r)

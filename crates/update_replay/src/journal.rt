@@ -59,9 +59,9 @@ pub fn read_step<S: Source>(
     at: &mut u64,
     from: &mut S,
 ) -> Result<Option<Step>, JournalFault>
-    ensures read { IfSome (S.left from.old) (λ bytes. AreBytes bytes → StepRead bytes (S.left from.new) at.old at.new result) }
+    ensures read { IfSome (S.state from.old).left (λ bytes. AreBytes bytes → StepRead bytes (S.state from.new).left at.old at.new result) }
     ensures short { IfOk result (λ o. IfSome o (λ s. IsShort (step_of s))) }
-    ensures used { Used S.left S.faults S.aside S.sound from.old from.new (IsErrOf result JournalFault.ReadFault) }
+    ensures used { Used (S.state from.old) (S.state from.new) (IsErrOf result JournalFault.ReadFault) }
 {
     let Some(number) = first_of(at, from)? else {
         return Ok(None);
@@ -79,8 +79,8 @@ pub fn read_step<S: Source>(
 
 // The first number of a step; none at the end.
 fn first_of<S: Source>(at: &mut u64, from: &mut S) -> Result<Option<u32>, JournalFault>
-    ensures read { IfSome (S.left from.old) (λ bytes. AreBytes bytes → FirstRead bytes (S.left from.new) at.old at.new result) }
-    ensures used { Used S.left S.faults S.aside S.sound from.old from.new (IsErrOf result JournalFault.ReadFault) }
+    ensures read { IfSome (S.state from.old).left (λ bytes. AreBytes bytes → FirstRead bytes (S.state from.new).left at.old at.new result) }
+    ensures used { Used (S.state from.old) (S.state from.new) (IsErrOf result JournalFault.ReadFault) }
 {
     let mut word = [0u8; 4];
     match take_bytes(from, &mut word) {
@@ -104,9 +104,9 @@ fn post_of<S: Source>(
     at: &mut u64,
     from: &mut S,
 ) -> Result<(i64, Bytes), JournalFault>
-    ensures read { Reads IsPost (S.left from.old) (S.left from.new) at.old at.new result }
+    ensures read { Reads IsPost (S.state from.old).left (S.state from.new).left at.old at.new result }
     ensures short { IfOk result (λ said. length said.1 ≤ 253) }
-    ensures used { Used S.left S.faults S.aside S.sound from.old from.new (IsErrOf result JournalFault.ReadFault) }
+    ensures used { Used (S.state from.old) (S.state from.new) (IsErrOf result JournalFault.ReadFault) }
 {
     let number = double_of(at, from)?;
     let body = message_of(alloc, at, from)?;
@@ -115,9 +115,9 @@ fn post_of<S: Source>(
 
 // The body of a vector's only message.
 fn message_of<S: Source>(alloc: Global, at: &mut u64, from: &mut S) -> Result<Bytes, JournalFault>
-    ensures read { Reads IsMessage (S.left from.old) (S.left from.new) at.old at.new result }
+    ensures read { Reads IsMessage (S.state from.old).left (S.state from.new).left at.old at.new result }
     ensures short { IfOk result (λ body. length body ≤ 253) }
-    ensures used { Used S.left S.faults S.aside S.sound from.old from.new (IsErrOf result JournalFault.ReadFault) }
+    ensures used { Used (S.state from.old) (S.state from.new) (IsErrOf result JournalFault.ReadFault) }
 {
     expect(VECTOR, at, from)?;
     expect(1, at, from)?;
@@ -127,8 +127,8 @@ fn message_of<S: Source>(alloc: Global, at: &mut u64, from: &mut S) -> Result<By
 
 // A hear behind its number: the packet's number, where the client is 0.
 fn hear_of<S: Source>(at: &mut u64, from: &mut S) -> Result<u32, JournalFault>
-    ensures read { Reads IsHear (S.left from.old) (S.left from.new) at.old at.new result }
-    ensures used { Used S.left S.faults S.aside S.sound from.old from.new (IsErrOf result JournalFault.ReadFault) }
+    ensures read { Reads IsHear (S.state from.old).left (S.state from.new).left at.old at.new result }
+    ensures used { Used (S.state from.old) (S.state from.new) (IsErrOf result JournalFault.ReadFault) }
 {
     expect(0, at, from)?;
     packet_number_of(at, from)
@@ -136,8 +136,8 @@ fn hear_of<S: Source>(at: &mut u64, from: &mut S) -> Result<u32, JournalFault>
 
 // The number of a packet.
 fn packet_number_of<S: Source>(at: &mut u64, from: &mut S) -> Result<u32, JournalFault>
-    ensures read { Reads IsPacketNumber (S.left from.old) (S.left from.new) at.old at.new result }
-    ensures used { Used S.left S.faults S.aside S.sound from.old from.new (IsErrOf result JournalFault.ReadFault) }
+    ensures read { Reads IsPacketNumber (S.state from.old).left (S.state from.new).left at.old at.new result }
+    ensures used { Used (S.state from.old) (S.state from.new) (IsErrOf result JournalFault.ReadFault) }
 {
     let number = word_of(at, from)?;
     if number >= 0x80000000 {
@@ -148,8 +148,8 @@ fn packet_number_of<S: Source>(at: &mut u64, from: &mut S) -> Result<u32, Journa
 
 // Exactly this number.
 fn expect<S: Source>(number: u32, at: &mut u64, from: &mut S) -> Result<(), JournalFault>
-    ensures read { Reads (IsThis (word number)) (S.left from.old) (S.left from.new) at.old at.new result }
-    ensures used { Used S.left S.faults S.aside S.sound from.old from.new (IsErrOf result JournalFault.ReadFault) }
+    ensures read { Reads (IsThis (word number)) (S.state from.old).left (S.state from.new).left at.old at.new result }
+    ensures used { Used (S.state from.old) (S.state from.new) (IsErrOf result JournalFault.ReadFault) }
 {
     let found = word_of(at, from)?;
     if found != number {
@@ -160,9 +160,9 @@ fn expect<S: Source>(number: u32, at: &mut u64, from: &mut S) -> Result<(), Jour
 
 // A short text.
 fn text_of<S: Source>(alloc: Global, at: &mut u64, from: &mut S) -> Result<Bytes, JournalFault>
-    ensures read { Reads IsText (S.left from.old) (S.left from.new) at.old at.new result }
+    ensures read { Reads IsText (S.state from.old).left (S.state from.new).left at.old at.new result }
     ensures short { IfOk result (λ body. length body ≤ 253) }
-    ensures used { Used S.left S.faults S.aside S.sound from.old from.new (IsErrOf result JournalFault.ReadFault) }
+    ensures used { Used (S.state from.old) (S.state from.new) (IsErrOf result JournalFault.ReadFault) }
 {
     let count = byte_of(at, from)?;
     if count > MOST_BYTES {
@@ -179,9 +179,9 @@ fn padded_of<S: Source>(
     from: &mut S,
 ) -> Result<Bytes, JournalFault>
     requires { count ≤ 253 }
-    ensures read { Reads (IsPadded count) (S.left from.old) (S.left from.new) at.old at.new result }
+    ensures read { Reads (IsPadded count) (S.state from.old).left (S.state from.new).left at.old at.new result }
     ensures short { IfOk result (λ body. length body ≤ 253) }
-    ensures used { Used S.left S.faults S.aside S.sound from.old from.new (IsErrOf result JournalFault.ReadFault) }
+    ensures used { Used (S.state from.old) (S.state from.new) (IsErrOf result JournalFault.ReadFault) }
 {
     let count = count as usize;
     let zeros = (4 - (1 + count) % 4) % 4;
@@ -204,8 +204,8 @@ fn are_zeros(bytes: &[u8]) -> bool
 
 // The next byte.
 fn byte_of<S: Source>(at: &mut u64, from: &mut S) -> Result<u8, JournalFault>
-    ensures read { Reads IsByte (S.left from.old) (S.left from.new) at.old at.new result }
-    ensures used { Used S.left S.faults S.aside S.sound from.old from.new (IsErrOf result JournalFault.ReadFault) }
+    ensures read { Reads IsByte (S.state from.old).left (S.state from.new).left at.old at.new result }
+    ensures used { Used (S.state from.old) (S.state from.new) (IsErrOf result JournalFault.ReadFault) }
 {
     let mut byte = [0u8; 1];
     fill(at, from, &mut byte)?;
@@ -214,8 +214,8 @@ fn byte_of<S: Source>(at: &mut u64, from: &mut S) -> Result<u8, JournalFault>
 
 // The next four bytes as a number.
 fn word_of<S: Source>(at: &mut u64, from: &mut S) -> Result<u32, JournalFault>
-    ensures read { Reads IsWord (S.left from.old) (S.left from.new) at.old at.new result }
-    ensures used { Used S.left S.faults S.aside S.sound from.old from.new (IsErrOf result JournalFault.ReadFault) }
+    ensures read { Reads IsWord (S.state from.old).left (S.state from.new).left at.old at.new result }
+    ensures used { Used (S.state from.old) (S.state from.new) (IsErrOf result JournalFault.ReadFault) }
 {
     let mut word = [0u8; 4];
     fill(at, from, &mut word)?;
@@ -224,8 +224,8 @@ fn word_of<S: Source>(at: &mut u64, from: &mut S) -> Result<u32, JournalFault>
 
 // The next eight bytes as a number.
 fn double_of<S: Source>(at: &mut u64, from: &mut S) -> Result<u64, JournalFault>
-    ensures read { Reads IsDouble (S.left from.old) (S.left from.new) at.old at.new result }
-    ensures used { Used S.left S.faults S.aside S.sound from.old from.new (IsErrOf result JournalFault.ReadFault) }
+    ensures read { Reads IsDouble (S.state from.old).left (S.state from.new).left at.old at.new result }
+    ensures used { Used (S.state from.old) (S.state from.new) (IsErrOf result JournalFault.ReadFault) }
 {
     let mut word = [0u8; 8];
     fill(at, from, &mut word)?;
@@ -236,8 +236,8 @@ fn double_of<S: Source>(at: &mut u64, from: &mut S) -> Result<u64, JournalFault>
 fn fill<S: Source>(at: &mut u64, from: &mut S, into: &mut [u8]) -> Result<(), JournalFault>
     requires { length into.old < 2 ^ 32 }
     ensures length { length into.new ≡ length into.old }
-    ensures read { IfSome (S.left from.old) (λ bytes. Filled into.new bytes (S.left from.new) at.old at.new result) }
-    ensures used { Used S.left S.faults S.aside S.sound from.old from.new (IsErrOf result JournalFault.ReadFault) }
+    ensures read { IfSome (S.state from.old).left (λ bytes. Filled into.new bytes (S.state from.new).left at.old at.new result) }
+    ensures used { Used (S.state from.old) (S.state from.new) (IsErrOf result JournalFault.ReadFault) }
 {
     match take_bytes(from, into) {
         Ok(()) => {

@@ -52,8 +52,8 @@ pub fn write_step<K: Sink>(
     to: &mut K,
 ) -> Result<(), LineFault>
     requires { Stands world.now outcome }
-    ensures bytes { WritesPiece (K.written to.old) (K.written to.new) (outcome_lines world.now number outcome) result }
-    ensures used { Wrote K.written K.faults K.aside K.sound K.room to.old to.new (length (outcome_lines world.now number outcome)) (IsErrOf result LineFault.WriteFault) }
+    ensures bytes { WritesPiece (K.state to.old).written (K.state to.new).written (outcome_lines world.now number outcome) result }
+    ensures used { Wrote (K.state to.old) (K.state to.new) (length (outcome_lines world.now number outcome)) (IsErrOf result LineFault.WriteFault) }
 {
     let mut lines = Vec::new(alloc);
     put_outcome(alloc, &mut lines, number, outcome, body_of(world, outcome))?;
@@ -75,8 +75,8 @@ fn body_of(world: &World, outcome: Outcome) -> &[u8]
 
 /// Writes the closing lines. After a fault a front of them was written.
 pub fn write_end<K: Sink>(alloc: Global, world: &World, to: &mut K) -> Result<(), LineFault>
-    ensures bytes { WritesPiece (K.written to.old) (K.written to.new) (closing_lines world.now) result }
-    ensures used { Wrote K.written K.faults K.aside K.sound K.room to.old to.new (length (closing_lines world.now)) (IsErrOf result LineFault.WriteFault) }
+    ensures bytes { WritesPiece (K.state to.old).written (K.state to.new).written (closing_lines world.now) result }
+    ensures used { Wrote (K.state to.old) (K.state to.new) (length (closing_lines world.now)) (IsErrOf result LineFault.WriteFault) }
 {
     let mut lines = Vec::new(alloc);
     world.reached();

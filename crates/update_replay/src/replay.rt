@@ -66,8 +66,8 @@ fn make_step<K: Sink>(
 ) -> Result<(), ReplayFault>
     requires short { IsShort (step_of step) }
     requires space { ending world.old.box ≤ count }
-    ensures made { Makes at count world.old (step_of step) world.new (K.written to.old) (K.written to.new) result }
-    ensures used { Wrote K.written K.faults K.aside K.sound K.room to.old to.new (length (step_lines count world.old (step_of step))) (IsErrOf result ReplayFault.WriteFault) }
+    ensures made { Makes at count world.old (step_of step) world.new (K.state to.old).written (K.state to.new).written result }
+    ensures used { Wrote (K.state to.old) (K.state to.new) (length (step_lines count world.old (step_of step))) (IsErrOf result ReplayFault.WriteFault) }
 {
     if count >= MOST_STEPS {
         return Err(ReplayFault::TooLong { at });
@@ -87,9 +87,9 @@ fn next_step<S: Source>(
     at: &mut u64,
     from: &mut S,
 ) -> Result<Option<Step>, ReplayFault>
-    ensures read { IfSome (S.left from.old) (λ bytes. AreBytes bytes → NextRead bytes (S.left from.new) at.old at.new result) }
+    ensures read { IfSome (S.state from.old).left (λ bytes. AreBytes bytes → NextRead bytes (S.state from.new).left at.old at.new result) }
     ensures short { IfOk result (λ o. IfSome o (λ s. IsShort (step_of s))) }
-    ensures used { Used S.left S.faults S.aside S.sound from.old from.new (IsErrOf result ReplayFault.ReadFault) }
+    ensures used { Used (S.state from.old) (S.state from.new) (IsErrOf result ReplayFault.ReadFault) }
     ensures written { IsErrOf result ReplayFault.WriteFault → ⊥ }
 {
     let place = *at;
@@ -109,10 +109,10 @@ pub fn replay_steps<S: Source, K: Sink>(
     to: &mut K,
 ) -> Result<u32, ReplayFault>
     requires { world.old ≡ start }
-    ensures replayed { IfSome (S.left from.old) (λ journal. AreBytes journal → ReplayedOn journal world.new (K.written to.old) (K.written to.new) result) }
-    ensures read { Used S.left S.faults S.aside S.sound from.old from.new (IsErrOf result ReplayFault.ReadFault) }
-    ensures written { WritesOnly K.written K.faults K.aside K.sound K.room to.old to.new (IsErrOf result ReplayFault.WriteFault) }
-    ensures fits { IfSome (S.left from.old) (λ journal. AreBytes journal → NeverFull journal (K.written to.old) (K.sound to.old) (K.room to.old) (IsErrOf result ReplayFault.WriteFault)) }
+    ensures replayed { IfSome (S.state from.old).left (λ journal. AreBytes journal → ReplayedOn journal world.new (K.state to.old).written (K.state to.new).written result) }
+    ensures read { Used (S.state from.old) (S.state from.new) (IsErrOf result ReplayFault.ReadFault) }
+    ensures written { WritesOnly (K.state to.old) (K.state to.new) (IsErrOf result ReplayFault.WriteFault) }
+    ensures fits { IfSome (S.state from.old).left (λ journal. AreBytes journal → NeverFull journal (K.state to.old).written (K.state to.old).sound (K.state to.old).room (IsErrOf result ReplayFault.WriteFault)) }
 {
     let mut at = 0u64;
     let mut count = 0u32;

@@ -8,4 +8,4 @@ put_closing-requires g c = rw (c.restart.ensures, c.events.ensures) (closing_fit
 
 pub returns-clause-bytes : goal.returns-clause-bytes
 returns-clause-bytes g c =
-    subst (λ (x : List ℕ). Appends (g.K.Sink.written c.args.to.now) (g.K.Sink.written c.write_all.new.to) x) (c.as_slice.ensures.value ∙ c.in_ok-put_closing.ensures ∙ closing_is c.args.world.now _ _ _ _ _ c.new-lines.ensures.items c.server_end.ensures.value c.restart.ensures c.at.ensures c.events.ensures) c.in_ok-write_all.ensures.bytes
+    subst (λ (x : List ℕ). Appends (g.K.Sink.state c.args.to.now).written (g.K.Sink.state c.write_all.new.to).written x) (c.as_slice.ensures.value ∙ c.in_ok-put_closing.ensures ∙ closing_is c.args.world.now _ _ _ _ _ c.new-lines.ensures.items c.server_end.ensures.value c.restart.ensures c.at.ensures c.events.ensures) c.in_ok-write_all.ensures.bytes

@@ -8,14 +8,14 @@ use Rattle.update_replay.proofs.replay.replay_steps.Given as goal
 
 abbrev pub invariant-loop-step : goal.invariant-loop-step
 invariant-loop-step g l =
-    let s = g.S.Source in
-    let k = g.K.Sink in
+    let s = g.S.Source.state in
+    let k = g.K.Sink.state in
     record {
       few : l.count ≤ 100000;
       space : ending l.world.box ≤ l.count;
-      going : IfSome (s.left l.fn.from) (λ journal. AreBytes journal → Going journal l.world l.at l.count (s.left l.from) (k.written l.fn.to) (k.written l.to));
-      read : Used s.left s.faults s.aside s.sound l.fn.from l.from ⊥;
-      written : WritesOnly k.written k.faults k.aside k.sound k.room l.fn.to l.to ⊥;
+      going : IfSome (s l.fn.from).left (λ journal. AreBytes journal → Going journal l.world l.at l.count (s l.from).left (k l.fn.to).written (k l.to).written);
+      read : Used (s l.fn.from) (s l.from) ⊥;
+      written : WritesOnly (k l.fn.to) (k l.to) ⊥;
     }
 
 abbrev pub decreases-loop-step : goal.decreases-loop-step
