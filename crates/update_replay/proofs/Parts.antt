@@ -1,14 +1,15 @@
 -- Parts of a step, read one behind the other.
 use Rattle.std.proofs.Common.{◌≡◌, ℕ, ℤ, ◌+◌, ◌-◌, ◌^◌, ◌<◌, ◌≤◌, List, [], ◌∷◌, ◌++◌, append_assoc, length, take, drop, get_or, replicate, Option, Some, None, Result, Ok, Err, refl, ap, sym, subst, ◌∙◌, arith, take-append-drop, zero, suc, inl, inr}
 use Rattle.std.specs.Prelude.{IfSome}
-use Rattle.std.specs.Int.{w64, from_le_bytes, cast_signed}
+use Rattle.std.specs.Int.{w32, w64, from_le_bytes, cast_signed}
 use Rattle.std.proofs.lemmas.List.{take_at, drop_at, length-append, length-take-le, length-drop, append_cancel_left, get_or-take, get_or-append-add, get_or_past, length-replicate}
 use Rattle.std.proofs.Math.Seq.{take-length}
-use Rattle.std.proofs.lemmas.Nat.{le_bytes_8}
+use Rattle.std.proofs.lemmas.Nat.{le_bytes_4, le_bytes_8}
 use Rattle.std.proofs.lemmas.Bool.{cases_lt}
 use Rattle.tl_base.specs.Contents.{AreBytes}
+use Rattle.tl_base.specs.Taking.{TakesInto}
 use Rattle.update_replay.specs.Words.{double_word, missing, short_text}
-use Rattle.update_replay.specs.Reading.{moved, IsThis, IsByte, IsDouble, IsPadded, IsText, IsMessage, IsPost, Behind, PartRead, Reads, Filled}
+use Rattle.update_replay.specs.Reading.{moved, IsThis, IsByte, IsWord, IsDouble, IsPadded, IsText, IsMessage, IsPost, Behind, PartRead, Reads, Filled, FirstRead}
 use Rattle.update_replay.specs.declared.journal.JournalFault.{JournalFault}
 use Rattle.update_replay.specs.declared.journal.JournalFault.TheVariants.{NotYetBuilt, ReadFault, Memory}
 
@@ -41,69 +42,83 @@ behind_part Says front bytes rest c p q r (Err Memory) e at h = tt
 pub behind : {A : Type 0} (Says : A → List ℕ → Type 0) (front : List ℕ) (a b c : Option (List ℕ)) (p q r : ℕ) (u : Unit {0}) (res : Result A JournalFault)
     → Reads (IsThis front) a b p q (Ok u) → Reads Says b c q r res → Reads (Behind front Says) a c p r res
 behind Says front None b c p q r u res first second = tt
-behind {A = A} Says front (Some bytes) b c p q r u res first second = λ good.
-    let f = first good in
+behind {A = A} Says front (Some bytes) b c p q r u res f second =
     let whole : bytes ≡ front ++ f.1 = f.2 ∙ ap (λ (z : List ℕ). z ++ f.1) f.3 in
     let at : q ≡ moved p (length front) = f.5 ∙ ap (λ (z : List ℕ). moved p (length z)) f.3 in
     let next = subst (λ (o : Option (List ℕ)). Reads Says o c q r res) f.4 second in
-    behind_part Says front bytes f.1 c p q r res whole at (next (bytes_behind bytes front f.1 whole good))
+    behind_part Says front bytes f.1 c p q r res whole at next
 
 pub front_missing : {A : Type 0} (Says : A → List ℕ → Type 0) (front : List ℕ) (a b : Option (List ℕ)) (p q s : ℕ) (e : JournalFault)
     → Reads (IsThis front) a b p q (Err e) → Reads (Behind front Says) a b p s (Err e)
 front_missing Says front None b p q s e first = tt
-front_missing Says front (Some bytes) b p q s NotYetBuilt first = λ good v x rest whole said.
-    first good tt front (said.rest ++ rest) (whole ∙ (ap (λ (z : List ℕ). z ++ rest) said.whole ∙ append_assoc front said.rest rest)) refl
-front_missing Says front (Some bytes) b p q s ReadFault first = λ good. tt
-front_missing Says front (Some bytes) b p q s Memory first = λ good. tt
+front_missing Says front (Some bytes) b p q s NotYetBuilt first = λ v x rest whole said.
+    first tt front (said.rest ++ rest) (whole ∙ (ap (λ (z : List ℕ). z ++ rest) said.whole ∙ append_assoc front said.rest rest)) refl
+front_missing Says front (Some bytes) b p q s ReadFault first = tt
+front_missing Says front (Some bytes) b p q s Memory first = tt
+
+-- ---- four bytes that are a number
+
+word_part : (bytes xs rest : List ℕ) (b : Option (List ℕ)) (p q n : ℕ) → AreBytes bytes → length xs ≡ 4 → n ≡ from_le_bytes w32 xs → bytes ≡ xs ++ rest → b ≡ Some rest → q ≡ moved p (length xs) → PartRead IsWord bytes b p q (Ok n)
+word_part bytes xs rest b p q n good len is whole left at =
+    let taken = bytes_before bytes xs rest whole good in
+    let fits : n < 2 ^ 32 = omega (arith, is, taken 0, taken 1, taken 2, taken 3) in
+    (xs, rest, whole, (fits, sym (le_bytes_4 xs n len taken is)), left, at)
+
+pub word_read : (a b : Option (List ℕ)) (p q n : ℕ) (xs : List ℕ) (u : Unit {0}) → IfSome a AreBytes → length xs ≡ 4 → n ≡ from_le_bytes w32 xs → IfSome a (λ bytes. Filled xs bytes b p q (Ok u)) → Reads IsWord a b p q (Ok n)
+word_read None b p q n xs u good len is h = tt
+word_read (Some bytes) b p q n xs u good len is h = word_part bytes xs h.0 b p q n good len is h.1 h.2 h.3
+
+pub first_read : (a b : Option (List ℕ)) (p q n : ℕ) (xs : List ℕ) (u : Unit {0}) → IfSome a AreBytes → length xs ≡ 4 → n ≡ from_le_bytes w32 xs → q ≡ moved p 4 → IfSome a (λ bytes. TakesInto xs bytes b (Ok u)) → IfSome a (λ bytes. FirstRead bytes b p q (Ok (Some n)))
+first_read None b p q n xs u good len is at h = tt
+first_read (Some bytes) None p q n xs u good len is at h = absurd h
+first_read (Some bytes) (Some rest) p q n xs u good len is at h = word_part bytes xs rest (Some rest) p q n good len is h refl (omega (arith, at, len))
 
 -- ---- eight bytes, and what stands behind them in a post
 
 pub double_fits : (bs : List ℕ) → AreBytes bs → from_le_bytes w64 bs < 2 ^ 64
 double_fits bs bytes = omega (arith, bytes 0, bytes 1, bytes 2, bytes 3, bytes 4, bytes 5, bytes 6, bytes 7)
 
-pub double_read : (a b : Option (List ℕ)) (p q n : ℕ) (xs : List ℕ) (u : Unit {0}) → length xs ≡ 8 → n ≡ from_le_bytes w64 xs → IfSome a (λ bytes. Filled xs bytes b p q (Ok u)) → Reads IsDouble a b p q (Ok n)
-double_read None b p q n xs u len is h = tt
-double_read (Some bytes) b p q n xs u len is h = λ good.
+pub double_read : (a b : Option (List ℕ)) (p q n : ℕ) (xs : List ℕ) (u : Unit {0}) → IfSome a AreBytes → length xs ≡ 8 → n ≡ from_le_bytes w64 xs → IfSome a (λ bytes. Filled xs bytes b p q (Ok u)) → Reads IsDouble a b p q (Ok n)
+double_read None b p q n xs u good len is h = tt
+double_read (Some bytes) b p q n xs u good len is h =
     let taken = bytes_before bytes xs h.0 h.1 good in
     let fits : n < 2 ^ 64 = subst (λ (m : ℕ). m < 2 ^ 64) (sym is) (double_fits xs taken) in
     (xs, h.0, h.1, (fits, sym (le_bytes_8 xs n len taken is)), h.2, h.3)
 
 pub post_front_missing : (a b : Option (List ℕ)) (p q s : ℕ) (e : JournalFault) → Reads IsDouble a b p q (Err e) → Reads IsPost a b p s (Err e)
 post_front_missing None b p q s e first = tt
-post_front_missing (Some bytes) b p q s NotYetBuilt first = λ good said x rest whole says.
-    first good says.0 (double_word says.0) ((says.3).rest ++ rest) (whole ∙ ap (λ (z : List ℕ). z ++ rest) (says.3).whole) (says.1, refl)
-post_front_missing (Some bytes) b p q s ReadFault first = λ good. tt
-post_front_missing (Some bytes) b p q s Memory first = λ good. tt
+post_front_missing (Some bytes) b p q s NotYetBuilt first = λ said x rest whole says.
+    first says.0 (double_word says.0) ((says.3).rest ++ rest) (whole ∙ ap (λ (z : List ℕ). z ++ rest) (says.3).whole) (says.1, refl)
+post_front_missing (Some bytes) b p q s ReadFault first = tt
+post_front_missing (Some bytes) b p q s Memory first = tt
 
 pub post_read : (a b c : Option (List ℕ)) (p q r n : ℕ) (id : ℤ) (body : List ℕ) → id ≡ cast_signed w64 n → Reads IsDouble a b p q (Ok n) → Reads IsMessage b c q r (Ok body) → Reads IsPost a c p r (Ok (id, body))
 post_read None b c p q r n id body is first second = tt
-post_read (Some bytes) b c p q r n id body is first second = λ good.
-    let f = first good in
+post_read (Some bytes) b c p q r n id body is f second =
     let whole : bytes ≡ double_word n ++ f.1 = f.2 ∙ ap (λ (z : List ℕ). z ++ f.1) (f.3).1 in
     let at : q ≡ moved p 8 = f.5 ∙ ap (λ (z : List ℕ). moved p (length z)) (f.3).1 in
     let next = subst (λ (o : Option (List ℕ)). Reads IsMessage o c q r (Ok body)) f.4 second in
-    let h = behind_part IsMessage (double_word n) bytes f.1 c p q r (Ok body) whole at (next (bytes_behind bytes (double_word n) f.1 whole good)) in
+    let h = behind_part IsMessage (double_word n) bytes f.1 c p q r (Ok body) whole at next in
     (h.0, h.1, h.2, (n, (f.3).0, is, h.3), h.4, h.5)
 
 pub post_fails : (a b c : Option (List ℕ)) (p q r s n : ℕ) (e : JournalFault) → Reads IsDouble a b p q (Ok n) → Reads IsMessage b c q r (Err e) → Reads IsPost a c p s (Err e)
 post_fails None b c p q r s n e first second = tt
-post_fails (Some bytes) b c p q r s n NotYetBuilt first second = λ good said x rest whole says.
-    let f = first good in
+post_fails (Some bytes) b c p q r s n NotYetBuilt f second = λ said x rest whole says.
     let here : bytes ≡ double_word n ++ f.1 = f.2 ∙ ap (λ (z : List ℕ). z ++ f.1) (f.3).1 in
     let next = subst (λ (o : Option (List ℕ)). Reads IsMessage o c q r (Err NotYetBuilt)) f.4 second in
     let behind_it : f.1 ≡ (says.3).rest ++ rest = ap (drop 8) (sym here ∙ (whole ∙ ap (λ (z : List ℕ). z ++ rest) (says.3).whole)) in
-    next (bytes_behind bytes (double_word n) f.1 here good) said.1 (says.3).rest rest behind_it (says.3).says
-post_fails (Some bytes) b c p q r s n ReadFault first second = λ good. tt
-post_fails (Some bytes) b c p q r s n Memory first second = λ good. tt
+    next said.1 (says.3).rest rest behind_it (says.3).says
+post_fails (Some bytes) b c p q r s n ReadFault first second = tt
+post_fails (Some bytes) b c p q r s n Memory first second = tt
 
 -- ---- texts
 
 pub text_front_missing : (a b : Option (List ℕ)) (p q s : ℕ) (e : JournalFault) → Reads IsByte a b p q (Err e) → Reads IsText a b p s (Err e)
 text_front_missing None b p q s e first = tt
-text_front_missing (Some bytes) b p q s NotYetBuilt first = λ good t x rest whole says.
-    first good (length t) (length t ∷ []) ((t ++ replicate (missing (1 + length t)) 0) ++ rest) (whole ∙ ap (λ (z : List ℕ). z ++ rest) says.1) refl
-text_front_missing (Some bytes) b p q s ReadFault first = λ good. tt
-text_front_missing (Some bytes) b p q s Memory first = λ good. tt
+text_front_missing (Some bytes) b p q s NotYetBuilt first = λ t x rest whole says.
+    first (length t) (length t ∷ []) ((t ++ replicate (missing (1 + length t)) 0) ++ rest) (whole ∙ ap (λ (z : List ℕ). z ++ rest) says.1) refl
+text_front_missing (Some bytes) b p q s ReadFault first = tt
+text_front_missing (Some bytes) b p q s Memory first = tt
 
 text_part : (bytes rest : List ℕ) (c : Option (List ℕ)) (p q r n : ℕ) (res : Result (List ℕ) JournalFault) → n ≤ 253 → bytes ≡ n ∷ rest → q ≡ moved p 1 → PartRead (IsPadded n) rest c q r res → PartRead IsText bytes c p r res
 text_part bytes rest c p q r n (Ok t) few e at h =
@@ -119,12 +134,11 @@ text_part bytes rest c p q r n (Err Memory) few e at h = tt
 
 pub text_read : (a b c : Option (List ℕ)) (p q r n : ℕ) (res : Result (List ℕ) JournalFault) → n ≤ 253 → Reads IsByte a b p q (Ok n) → Reads (IsPadded n) b c q r res → Reads IsText a c p r res
 text_read None b c p q r n res few first second = tt
-text_read (Some bytes) b c p q r n res few first second = λ good.
-    let f = first good in
+text_read (Some bytes) b c p q r n res few f second =
     let whole : bytes ≡ n ∷ f.1 = f.2 ∙ ap (λ (z : List ℕ). z ++ f.1) f.3 in
     let at : q ≡ moved p 1 = f.5 ∙ ap (λ (z : List ℕ). moved p (length z)) f.3 in
     let next = subst (λ (o : Option (List ℕ)). Reads (IsPadded n) o c q r res) f.4 second in
-    text_part bytes f.1 c p q r n res few whole at (next (bytes_behind bytes (n ∷ []) f.1 whole good))
+    text_part bytes f.1 c p q r n res few whole at next
 
 -- ---- bytes with the zeros behind them
 
@@ -141,7 +155,7 @@ all_behind n xs = let count : length xs - n ≡ length (drop n xs) = omega (arit
 pub padded_read : (a b : Option (List ℕ)) (p q n : ℕ) (xs : List ℕ) (u : Unit {0}) → length xs ≡ n + missing (1 + n) → drop n xs ≡ replicate (length (drop n xs)) 0
     → IfSome a (λ bytes. Filled xs bytes b p q (Ok u)) → Reads (IsPadded n) a b p q (Ok (take n xs))
 padded_read None b p q n xs u len zeros h = tt
-padded_read (Some bytes) b p q n xs u len zeros h = λ good.
+padded_read (Some bytes) b p q n xs u len zeros h =
     let front : length (take n xs) ≡ n = length-take-le n xs (omega (arith, len)) in
     let back : length (drop n xs) ≡ missing (1 + n) = omega (arith, len, length-drop n xs) in
     let is : xs ≡ take n xs ++ replicate (missing (1 + n)) 0 = sym (take-append-drop n xs) ∙ ap (λ (z : List ℕ). take n xs ++ z) (zeros ∙ ap (λ (m : ℕ). replicate m 0) back) in
@@ -150,7 +164,7 @@ padded_read (Some bytes) b p q n xs u len zeros h = λ good.
 pub padded_wrong : (a b : Option (List ℕ)) (p q n : ℕ) (xs : List ℕ) (u : Unit {0}) → length xs ≡ n + missing (1 + n) → (drop n xs ≡ replicate (length (drop n xs)) 0 → ⊥)
     → IfSome a (λ bytes. Filled xs bytes b p q (Ok u)) → Reads (IsPadded n) a b p q (Err NotYetBuilt)
 padded_wrong None b p q n xs u len no_zeros h = tt
-padded_wrong (Some bytes) b p q n xs u len no_zeros h = λ good t x rest whole says.
+padded_wrong (Some bytes) b p q n xs u len no_zeros h = λ t x rest whole says.
     let long : length x ≡ length xs = ap length says.1 ∙ (length-append t (replicate (missing (1 + n)) 0) ∙ omega (arith, says.0, len, length-replicate {A = ℕ} (missing (1 + n)) 0)) in
     let same : xs ≡ x = sym (take_at xs h.0 (length xs) refl) ∙ (ap (take (length xs)) (sym h.1 ∙ whole) ∙ take_at x rest (length xs) long) in
     let back : drop n xs ≡ replicate (missing (1 + n)) 0 = ap (drop n) (same ∙ says.1) ∙ drop_at t (replicate (missing (1 + n)) 0) n says.0 in

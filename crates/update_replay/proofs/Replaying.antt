@@ -4,7 +4,6 @@ use Rattle.std.specs.Prelude.{IfSome, IsErrAnd, IsErrOf, slice_get, replicate}
 use Rattle.std.specs.Io.KnownBytes.{Appends}
 use Rattle.std.proofs.KnownBytes.{Appends-nil, Appends-trans}
 use Rattle.std.proofs.lemmas.List.{length-replicate}
-use Rattle.tl_base.specs.Contents.{AreBytes}
 use Rattle.tl_base.specs.Writing.{AppendsPrefix}
 use Rattle.box_events.specs.Happenings.{Happening, added}
 use Rattle.box_events.specs.Boxes.{ending}
@@ -25,7 +24,6 @@ use Rattle.update_replay.specs.declared.lines.LineFault.{LineFault}
 use Rattle.update_replay.specs.declared.lines.LineFault.TheVariants as line
 use Rattle.update_replay.specs.declared.replay.ReplayFault.{ReplayFault}
 use Rattle.update_replay.specs.declared.replay.ReplayFault.TheVariants.{NotYetBuilt, NoPacket, TooLong, ReadFault, WriteFault, Memory}
-use Rattle.update_replay.proofs.Parts.{bytes_behind}
 use Rattle.update_replay.proofs.Reached.{run_more, kept}
 
 -- ---- the lines
@@ -146,17 +144,15 @@ pub record Going (journal : List ℕ) (w : World) (at count : ℕ) (left a b : O
 pub going_first : (journal : List ℕ) (w : World) (left a : Option (List ℕ)) → w ≡ start → left ≡ Some journal → Going journal w 0 0 left a a
 going_first journal w left a is told = record { steps = []; rest = journal; lines = []; is_left = told; began = none; number = refl; world = is; written = Appends-nil a; place = omega arith }
 
--- what the source still has is bytes, and this is what was read of it
-pub going_read : (P : List ℕ → Type 0) (journal : List ℕ) (w : World) (at count : ℕ) (left a b : Option (List ℕ)) → AreBytes journal → (g : Going journal w at count left a b) → IfSome left (λ bytes. AreBytes bytes → P bytes) → P g.rest
-going_read P journal w at count left a b bytes g read =
-    let f = began_front journal g.steps at g.rest g.lines g.began in
-    subst (λ (o : Option (List ℕ)). IfSome o (λ bytes. AreBytes bytes → P bytes)) g.is_left read (bytes_behind journal f.0 g.rest f.1 bytes)
+-- what was read of what the source still has
+pub going_read : (P : List ℕ → Type 0) (journal : List ℕ) (w : World) (at count : ℕ) (left a b : Option (List ℕ)) (g : Going journal w at count left a b) → IfSome left P → P g.rest
+going_read P journal w at count left a b g read = subst (λ (o : Option (List ℕ)). IfSome o P) g.is_left read
 
-module _ (journal : List ℕ) (bytes : AreBytes journal) (w : World) (at count : ℕ) (left a b : Option (List ℕ)) (g : Going journal w at count left a b) where
+module _ (journal : List ℕ) (w : World) (at count : ℕ) (left a b : Option (List ℕ)) (g : Going journal w at count left a b) where
   -- the next step was made
-  pub going_on : (v : World) (q : ℕ) (step : DeclaredStep) (after c : Option (List ℕ)) → IfSome left (λ x. AreBytes x → NextRead x after at q (Ok (Some step))) → Makes at count w (step_of step) v b c (Ok tt) → Going journal v q (count + 1) after a c
+  pub going_on : (v : World) (q : ℕ) (step : DeclaredStep) (after c : Option (List ℕ)) → IfSome left (λ x. NextRead x after at q (Ok (Some step))) → Makes at count w (step_of step) v b c (Ok tt) → Going journal v q (count + 1) after a c
   going_on v q step after c read (output, wrote, (few, may, is, shown)) =
-      let r = going_read (λ x. NextRead x after at q (Ok (Some step))) journal w at count left a b bytes g read in
+      let r = going_read (λ x. NextRead x after at q (Ok (Some step))) journal w at count left a b g read in
       let x = r.0 in
       let short : length x ≤ 280 = spelled_length (step_of step) x r.2.spelled in
       let there : q ≡ at + length x = omega (arith, r.4, g.place, few, short) in
@@ -183,15 +179,15 @@ module _ (journal : List ℕ) (bytes : AreBytes journal) (w : World) (at count :
   none_read q after WriteFault read = absurd read
   none_read q after Memory read = (g.lines, g.written, (g.steps, at, g.rest, g.lines, [], [], [], g.began, nothing, refl, sym (append-nil g.lines)))
 
-  pub not_read : (q : ℕ) (after : Option (List ℕ)) (e : ReplayFault) (r : Result ℕ ReplayFault) → IfSome left (λ x. AreBytes x → NextRead x after at q (Err e)) → IsErrAnd r (λ z. z ≡ e) → ReplayedOn journal w a b r
+  pub not_read : (q : ℕ) (after : Option (List ℕ)) (e : ReplayFault) (r : Result ℕ ReplayFault) → IfSome left (λ x. NextRead x after at q (Err e)) → IsErrAnd r (λ z. z ≡ e) → ReplayedOn journal w a b r
   not_read q after e (Ok n) read same = absurd same
-  not_read q after e (Err z) read same = subst (λ (y : ReplayFault). ReplayedOn journal w a b (Err y)) (sym same) (none_read q after e (going_read (λ x. NextRead x after at q (Err e)) journal w at count left a b bytes g read))
+  not_read q after e (Err z) read same = subst (λ (y : ReplayFault). ReplayedOn journal w a b (Err y)) (sym same) (none_read q after e (going_read (λ x. NextRead x after at q (Err e)) journal w at count left a b g read))
 
-  at_end : (q : ℕ) (after : Option (List ℕ)) → IfSome left (λ x. AreBytes x → NextRead x after at q (Ok None)) → g.rest ≡ []
-  at_end q after read = (going_read (λ x. NextRead x after at q (Ok None)) journal w at count left a b bytes g read).0
+  at_end : (q : ℕ) (after : Option (List ℕ)) → IfSome left (λ x. NextRead x after at q (Ok None)) → g.rest ≡ []
+  at_end q after read = (going_read (λ x. NextRead x after at q (Ok None)) journal w at count left a b g read).0
 
   -- what comes next: the closing lines at the journal's end, or the lines of a step that can be made
-  pub end_comes : (q : ℕ) (after : Option (List ℕ)) → IfSome left (λ x. AreBytes x → NextRead x after at q (Ok None)) → Next g.steps g.rest (closing_lines w)
+  pub end_comes : (q : ℕ) (after : Option (List ℕ)) → IfSome left (λ x. NextRead x after at q (Ok None)) → Next g.steps g.rest (closing_lines w)
   end_comes q after read = subst (λ (u : World). Next g.steps g.rest (closing_lines u)) (sym g.world) (the_end (at_end q after read))
 
   pub step_comes : (step : Step) (x rest : List ℕ) → BeginsStep g.rest step x rest → count < 100000 → Possible w step → Next g.steps g.rest (step_lines count w step)
@@ -200,7 +196,7 @@ module _ (journal : List ℕ) (bytes : AreBytes journal) (w : World) (at count :
       subst (λ (u : World). Next g.steps g.rest (step_lines count u step)) (sym g.world) (subst (λ (n : ℕ). Next g.steps g.rest (step_lines n (run g.steps) step)) (sym g.number) next)
 
   -- the closing lines were written
-  pub all_done : (q : ℕ) (after c : Option (List ℕ)) → IfSome left (λ x. AreBytes x → NextRead x after at q (Ok None)) → Appends b c (closing_lines w) → ReplayedOn journal w a c (Ok count)
+  pub all_done : (q : ℕ) (after c : Option (List ℕ)) → IfSome left (λ x. NextRead x after at q (Ok None)) → Appends b c (closing_lines w) → ReplayedOn journal w a c (Ok count)
   all_done q after c read wrote = (g.lines ++ closing_lines w, Appends-trans a b c g.lines (closing_lines w) g.written wrote, (g.steps, at, g.lines, subst (λ (x : List ℕ). Began journal g.steps at x g.lines) (at_end q after read) g.began, g.number, g.world, ap (λ (u : World). g.lines ++ closing_lines u) g.world))
 
   stopped_at : (c : Option (List ℕ)) (next : List ℕ) → Next g.steps g.rest next → AppendsPrefix b c next → (output : List ℕ) × Appends a c output × Stopped journal output
@@ -211,7 +207,7 @@ module _ (journal : List ℕ) (bytes : AreBytes journal) (w : World) (at count :
   as_line v c line.Memory s = s
 
   -- the closing lines were not written whole
-  pub not_closed : (q : ℕ) (after c : Option (List ℕ)) (e : LineFault) (r : Result ℕ ReplayFault) → IfSome left (λ x. AreBytes x → NextRead x after at q (Ok None)) → AppendsPrefix b c (closing_lines w) → IsErrAnd r (λ z. z ≡ of_line e) → ReplayedOn journal w a c r
+  pub not_closed : (q : ℕ) (after c : Option (List ℕ)) (e : LineFault) (r : Result ℕ ReplayFault) → IfSome left (λ x. NextRead x after at q (Ok None)) → AppendsPrefix b c (closing_lines w) → IsErrAnd r (λ z. z ≡ of_line e) → ReplayedOn journal w a c r
   not_closed q after c e (Ok n) read wrote same = absurd same
   not_closed q after c e (Err z) read wrote same =
       subst (λ (y : ReplayFault). ReplayedOn journal w a c (Err y)) (sym same) (as_line w c e (stopped_at c (closing_lines w) (end_comes q after read) wrote))
@@ -258,37 +254,37 @@ module _ (journal : List ℕ) (bytes : AreBytes journal) (w : World) (at count :
   step_missing v step x rest begins c Memory (output, wrote, (few, front)) = step_front step x rest begins few output c wrote front
 
   -- the next step was not made
-  pub step_not_made : (v : World) (q : ℕ) (step : DeclaredStep) (after c : Option (List ℕ)) (e : ReplayFault) (r : Result ℕ ReplayFault) → IfSome left (λ x. AreBytes x → NextRead x after at q (Ok (Some step))) → Makes at count w (step_of step) v b c (Err e) → IsErrAnd r (λ z. z ≡ e) → ReplayedOn journal v a c r
+  pub step_not_made : (v : World) (q : ℕ) (step : DeclaredStep) (after c : Option (List ℕ)) (e : ReplayFault) (r : Result ℕ ReplayFault) → IfSome left (λ x. NextRead x after at q (Ok (Some step))) → Makes at count w (step_of step) v b c (Err e) → IsErrAnd r (λ z. z ≡ e) → ReplayedOn journal v a c r
   step_not_made v q step after c e (Ok n) read made same = absurd same
   step_not_made v q step after c e (Err z) read made same =
-      let x = going_read (λ x. NextRead x after at q (Ok (Some step))) journal w at count left a b bytes g read in
+      let x = going_read (λ x. NextRead x after at q (Ok (Some step))) journal w at count left a b g read in
       subst (λ (y : ReplayFault). ReplayedOn journal v a c (Err y)) (sym same) (step_missing v (step_of step) x.0 x.1 x.2 c e made)
 
 -- ---- what is told of a source and of a sink
 
-pub map_told : {P Q : List ℕ → Type 0} (o : Option (List ℕ)) → ((journal : List ℕ) → AreBytes journal → P journal → Q journal) → IfSome o (λ journal. AreBytes journal → P journal) → IfSome o (λ journal. AreBytes journal → Q journal)
+pub map_told : {P Q : List ℕ → Type 0} (o : Option (List ℕ)) → ((journal : List ℕ) → P journal → Q journal) → IfSome o P → IfSome o Q
 map_told None f h = tt
-map_told (Some journal) f h = λ bytes. f journal bytes (h bytes)
+map_told (Some journal) f h = f journal h
 
-pub first_told : (o a : Option (List ℕ)) (w : World) → w ≡ start → IfSome o (λ journal. AreBytes journal → Going journal w 0 0 o a a)
+pub first_told : (o a : Option (List ℕ)) (w : World) → w ≡ start → IfSome o (λ journal. Going journal w 0 0 o a a)
 first_told None a w is = tt
-first_told (Some journal) a w is = λ bytes. going_first journal w (Some journal) a is refl
+first_told (Some journal) a w is = going_first journal w (Some journal) a is refl
 
-module _ (o : Option (List ℕ)) (w : World) (at count : ℕ) (left a b : Option (List ℕ)) (g : IfSome o (λ journal. AreBytes journal → Going journal w at count left a b)) where
-  pub going_told : (v : World) (q : ℕ) (step : DeclaredStep) (after c : Option (List ℕ)) → IfSome left (λ x. AreBytes x → NextRead x after at q (Ok (Some step))) → Makes at count w (step_of step) v b c (Ok tt) → IfSome o (λ journal. AreBytes journal → Going journal v q (count + 1) after a c)
-  going_told v q step after c read made = map_told o (λ journal bytes h. going_on journal bytes w at count left a b h v q step after c read made) g
+module _ (o : Option (List ℕ)) (w : World) (at count : ℕ) (left a b : Option (List ℕ)) (g : IfSome o (λ journal. Going journal w at count left a b)) where
+  pub going_told : (v : World) (q : ℕ) (step : DeclaredStep) (after c : Option (List ℕ)) → IfSome left (λ x. NextRead x after at q (Ok (Some step))) → Makes at count w (step_of step) v b c (Ok tt) → IfSome o (λ journal. Going journal v q (count + 1) after a c)
+  going_told v q step after c read made = map_told o (λ journal h. going_on journal w at count left a b h v q step after c read made) g
 
-  pub not_read_told : (q : ℕ) (after : Option (List ℕ)) (e : ReplayFault) (r : Result ℕ ReplayFault) → IfSome left (λ x. AreBytes x → NextRead x after at q (Err e)) → IsErrAnd r (λ z. z ≡ e) → IfSome o (λ journal. AreBytes journal → ReplayedOn journal w a b r)
-  not_read_told q after e r read same = map_told o (λ journal bytes h. not_read journal bytes w at count left a b h q after e r read same) g
+  pub not_read_told : (q : ℕ) (after : Option (List ℕ)) (e : ReplayFault) (r : Result ℕ ReplayFault) → IfSome left (λ x. NextRead x after at q (Err e)) → IsErrAnd r (λ z. z ≡ e) → IfSome o (λ journal. ReplayedOn journal w a b r)
+  not_read_told q after e r read same = map_told o (λ journal h. not_read journal w at count left a b h q after e r read same) g
 
-  pub done_told : (q : ℕ) (after c : Option (List ℕ)) → IfSome left (λ x. AreBytes x → NextRead x after at q (Ok None)) → Appends b c (closing_lines w) → IfSome o (λ journal. AreBytes journal → ReplayedOn journal w a c (Ok count))
-  done_told q after c read wrote = map_told o (λ journal bytes h. all_done journal bytes w at count left a b h q after c read wrote) g
+  pub done_told : (q : ℕ) (after c : Option (List ℕ)) → IfSome left (λ x. NextRead x after at q (Ok None)) → Appends b c (closing_lines w) → IfSome o (λ journal. ReplayedOn journal w a c (Ok count))
+  done_told q after c read wrote = map_told o (λ journal h. all_done journal w at count left a b h q after c read wrote) g
 
-  pub not_closed_told : (q : ℕ) (after c : Option (List ℕ)) (e : LineFault) (r : Result ℕ ReplayFault) → IfSome left (λ x. AreBytes x → NextRead x after at q (Ok None)) → AppendsPrefix b c (closing_lines w) → IsErrAnd r (λ z. z ≡ of_line e) → IfSome o (λ journal. AreBytes journal → ReplayedOn journal w a c r)
-  not_closed_told q after c e r read wrote same = map_told o (λ journal bytes h. not_closed journal bytes w at count left a b h q after c e r read wrote same) g
+  pub not_closed_told : (q : ℕ) (after c : Option (List ℕ)) (e : LineFault) (r : Result ℕ ReplayFault) → IfSome left (λ x. NextRead x after at q (Ok None)) → AppendsPrefix b c (closing_lines w) → IsErrAnd r (λ z. z ≡ of_line e) → IfSome o (λ journal. ReplayedOn journal w a c r)
+  not_closed_told q after c e r read wrote same = map_told o (λ journal h. not_closed journal w at count left a b h q after c e r read wrote same) g
 
-  pub not_made_told : (v : World) (q : ℕ) (step : DeclaredStep) (after c : Option (List ℕ)) (e : ReplayFault) (r : Result ℕ ReplayFault) → IfSome left (λ x. AreBytes x → NextRead x after at q (Ok (Some step))) → Makes at count w (step_of step) v b c (Err e) → IsErrAnd r (λ z. z ≡ e) → IfSome o (λ journal. AreBytes journal → ReplayedOn journal v a c r)
-  not_made_told v q step after c e r read made same = map_told o (λ journal bytes h. step_not_made journal bytes w at count left a b h v q step after c e r read made same) g
+  pub not_made_told : (v : World) (q : ℕ) (step : DeclaredStep) (after c : Option (List ℕ)) (e : ReplayFault) (r : Result ℕ ReplayFault) → IfSome left (λ x. NextRead x after at q (Ok (Some step))) → Makes at count w (step_of step) v b c (Err e) → IsErrAnd r (λ z. z ≡ e) → IfSome o (λ journal. ReplayedOn journal v a c r)
+  not_made_told v q step after c e r read made same = map_told o (λ journal h. step_not_made journal w at count left a b h v q step after c e r read made same) g
 
 -- ---- a step counts for one number at most
 

@@ -2,7 +2,6 @@
 use Rattle.std.proofs.Common.{◌≡◌, ℕ, ◌+◌, ◌≤◌, List, ◌++◌, length, length-append, Option, Some, None, Bool, refl, ap, subst, arith, Result, Ok, Err}
 use Rattle.std.specs.Prelude.{IsTrue, IsSome, IfSome, IsErrOf, IsErrAnd}
 use Rattle.std.specs.Io.KnownBytes.{Appends}
-use Rattle.tl_base.specs.Contents.{AreBytes}
 use Rattle.tl_base.specs.Using.{SinkState, Wrote, WritesOnly}
 use Rattle.update_replay.specs.Worlds.{World, Step}
 use Rattle.update_replay.specs.Report.{step_lines, closing_lines}
@@ -38,22 +37,22 @@ module _ (x y z : SinkState) (w : World) (at count : ℕ) (left : Option (List �
   next_fits journal g next P F wrote told comes =
       room_left journal g.lines next P F (λ f. next_shorter journal g.steps at g.rest g.lines next g.began (comes f)) told x.written y.written x.sound y.sound x.room y.room g.written before.stays before.room_kept wrote.never
 
-  step_next : (journal : List ℕ) → AreBytes journal → (g : Going journal w at count left x.written y.written) → (v : World) (q : ℕ) (step : DeclaredStep) (after : Option (List ℕ)) → IfSome left (λ b. AreBytes b → NextRead b after at q (Ok (Some step)))
+  step_next : (journal : List ℕ) (g : Going journal w at count left x.written y.written) (v : World) (q : ℕ) (step : DeclaredStep) (after : Option (List ℕ)) → IfSome left (λ b. NextRead b after at q (Ok (Some step)))
       → Makes at count w (step_of step) v y.written z.written (Err WriteFault) → Next g.steps g.rest (step_lines count w (step_of step))
-  step_next journal bytes g v q step after read made =
-      let s = going_read (λ b. NextRead b after at q (Ok (Some step))) journal w at count left x.written y.written bytes g read in
-      step_comes journal bytes w at count left x.written y.written g (step_of step) s.0 s.1 s.2 made.2.0 made.2.1
+  step_next journal g v q step after read made =
+      let s = going_read (λ b. NextRead b after at q (Ok (Some step))) journal w at count left x.written y.written g read in
+      step_comes journal w at count left x.written y.written g (step_of step) s.0 s.1 s.2 made.2.0 made.2.1
 
   -- the step that was read is made with no failed write
-  pub step_fits : (o : Option (List ℕ)) → IfSome o (λ journal. AreBytes journal → Going journal w at count left x.written y.written) → (v : World) (q : ℕ) (step : DeclaredStep) (after : Option (List ℕ)) (e : ReplayFault) (r : Result ℕ ReplayFault) → IfSome left (λ b. AreBytes b → NextRead b after at q (Ok (Some step)))
-      → Makes at count w (step_of step) v y.written z.written (Err e) → IsErrAnd r (λ f. f ≡ e) → Wrote y z (length (step_lines count w (step_of step))) (IsErrOf {T = Unit {0}} (Err e) WriteFault) → IfSome o (λ journal. AreBytes journal → NeverFull journal x.written x.sound x.room (IsErrOf r WriteFault))
+  pub step_fits : (o : Option (List ℕ)) → IfSome o (λ journal. Going journal w at count left x.written y.written) → (v : World) (q : ℕ) (step : DeclaredStep) (after : Option (List ℕ)) (e : ReplayFault) (r : Result ℕ ReplayFault) → IfSome left (λ b. NextRead b after at q (Ok (Some step)))
+      → Makes at count w (step_of step) v y.written z.written (Err e) → IsErrAnd r (λ f. f ≡ e) → Wrote y z (length (step_lines count w (step_of step))) (IsErrOf {T = Unit {0}} (Err e) WriteFault) → IfSome o (λ journal. NeverFull journal x.written x.sound x.room (IsErrOf r WriteFault))
   step_fits o going v q step after e r read made is wrote =
       let fault : IsErrOf r WriteFault → e ≡ WriteFault = same_fault e WriteFault r is in
       let as_write : IsErrOf r WriteFault → Makes at count w (step_of step) v y.written z.written (Err WriteFault) = λ f. subst (λ (u : ReplayFault). Makes at count w (step_of step) v y.written z.written (Err u)) (fault f) made in
-      map_told o (λ journal bytes g. next_fits journal g (step_lines count w (step_of step)) _ _ wrote (λ f. ap Err (fault f)) (λ f. step_next journal bytes g v q step after read (as_write f))) going
+      map_told o (λ journal g. next_fits journal g (step_lines count w (step_of step)) _ _ wrote (λ f. ap Err (fault f)) (λ f. step_next journal g v q step after read (as_write f))) going
 
   -- and so are the closing lines written
-  pub end_fits : (o : Option (List ℕ)) → IfSome o (λ journal. AreBytes journal → Going journal w at count left x.written y.written) → (q : ℕ) (after : Option (List ℕ)) (e : LineFault) (r : Result ℕ ReplayFault) → IfSome left (λ b. AreBytes b → NextRead b after at q (Ok None))
-      → IsErrAnd r (λ f. f ≡ of_line e) → Wrote y z (length (closing_lines w)) (IsErrOf {T = Unit {0}} (Err e) line.WriteFault) → IfSome o (λ journal. AreBytes journal → NeverFull journal x.written x.sound x.room (IsErrOf r WriteFault))
+  pub end_fits : (o : Option (List ℕ)) → IfSome o (λ journal. Going journal w at count left x.written y.written) → (q : ℕ) (after : Option (List ℕ)) (e : LineFault) (r : Result ℕ ReplayFault) → IfSome left (λ b. NextRead b after at q (Ok None))
+      → IsErrAnd r (λ f. f ≡ of_line e) → Wrote y z (length (closing_lines w)) (IsErrOf {T = Unit {0}} (Err e) line.WriteFault) → IfSome o (λ journal. NeverFull journal x.written x.sound x.room (IsErrOf r WriteFault))
   end_fits o going q after e r read is wrote =
-      map_told o (λ journal bytes g. next_fits journal g (closing_lines w) _ _ wrote (λ f. ap Err (line_failed e r is f)) (λ f. end_comes journal bytes w at count left x.written y.written g q after read)) going
+      map_told o (λ journal g. next_fits journal g (closing_lines w) _ _ wrote (λ f. ap Err (line_failed e r is f)) (λ f. end_comes journal w at count left x.written y.written g q after read)) going

@@ -1,7 +1,6 @@
 -- A step behind its number.
 use Rattle.std.proofs.Common.{◌≡◌, ◌≢◌, ℕ, suc, ℤ, List, [], ◌++◌, length, drop, get_or, Option, Some, None, Result, Ok, Err, refl, ap, sym, subst, ◌∙◌, arith}
 use Rattle.std.specs.Prelude.{IfSome}
-use Rattle.tl_base.specs.Contents.{AreBytes}
 use Rattle.update_replay.specs.Words.{word, double_word, short_text}
 use Rattle.update_replay.specs.Worlds.{Step, post, hears}
 use Rattle.update_replay.specs.Journal.{post_number, hear_number, message_number, vector_number, SpellsStep, BeginsStep}
@@ -9,7 +8,7 @@ use Rattle.update_replay.specs.Reading.{moved, step_of, StepRead, IsPost, IsHear
 use Rattle.update_replay.specs.declared.journal.Step.{Step as DeclaredStep}
 use Rattle.update_replay.specs.declared.journal.JournalFault.{JournalFault}
 use Rattle.update_replay.specs.declared.journal.JournalFault.TheVariants.{NotYetBuilt, ReadFault, Memory}
-use Rattle.update_replay.proofs.Parts.{bytes_behind, behind_part}
+use Rattle.update_replay.proofs.Parts.{behind_part}
 
 -- ---- a step is its number and what stands behind it
 
@@ -79,51 +78,47 @@ some_there bytes rest n e nothing = let differ : ◌≡◌ {A = ℕ} (suc (suc (
 -- ---- what reading answers, where the source tells its bytes
 
 abbrev pub ReadsStep : Option (List ℕ) → Option (List ℕ) → ℕ → ℕ → Result (Option DeclaredStep) JournalFault → Type 0
-ReadsStep before after p q result = IfSome before (λ bytes. AreBytes bytes → StepRead bytes after p q result)
+ReadsStep before after p q result = IfSome before (λ bytes. StepRead bytes after p q result)
 
 abbrev pub ReadsFirst : Option (List ℕ) → Option (List ℕ) → ℕ → ℕ → ℕ → Type 0
-ReadsFirst before after p q n = IfSome before (λ bytes. AreBytes bytes → FirstRead bytes after p q (Ok (Some n)))
+ReadsFirst before after p q n = IfSome before (λ bytes. FirstRead bytes after p q (Ok (Some n)))
 
 pub post_step : (a b c : Option (List ℕ)) (p q r n : ℕ) (id : ℤ) (body : List ℕ) (step : DeclaredStep) → n ≡ post_number → step_of step ≡ post id body → ReadsFirst a b p q n → Reads IsPost b c q r (Ok (id, body)) → ReadsStep a c p r (Ok (Some step))
 post_step None b c p q r n id body step is same first second = tt
-post_step (Some bytes) b c p q r n id body step is same first second = λ good.
-    let f = first good in
+post_step (Some bytes) b c p q r n id body step is same f second =
     let whole : bytes ≡ word post_number ++ f.1 = f.2 ∙ ap (λ (z : List ℕ). z ++ f.1) ((f.3).1 ∙ ap word is) in
     let at : q ≡ moved p 4 = f.5 ∙ ap (λ (z : List ℕ). moved p (length z)) (f.3).1 in
     let next = subst (λ (o : Option (List ℕ)). Reads IsPost o c q r (Ok (id, body))) f.4 second in
-    let h = behind_part IsPost (word post_number) bytes f.1 c p q r (Ok (id, body)) whole at (next (bytes_behind bytes (word post_number) f.1 whole good)) in
+    let h = behind_part IsPost (word post_number) bytes f.1 c p q r (Ok (id, body)) whole at next in
     let s = h.3 in
     let spelled = subst (λ (t : Step). SpellsStep t (word post_number ++ s.rest)) (sym same) (post_spelled id body s.rest s.says) in
     (h.0, h.1, record { whole = h.2; spelled = subst (λ (z : List ℕ). SpellsStep (step_of step) z) (sym s.whole) spelled }, h.4, h.5)
 
 pub post_none : (a b c : Option (List ℕ)) (p q r s n : ℕ) (e : JournalFault) → n ≡ post_number → ReadsFirst a b p q n → Reads IsPost b c q r (Err e) → ReadsStep a c p s (Err e)
 post_none None b c p q r s n e is first second = tt
-post_none (Some bytes) b c p q r s n NotYetBuilt is first second = λ good.
-    let f = first good in
+post_none (Some bytes) b c p q r s n NotYetBuilt is f second =
     let whole : bytes ≡ word post_number ++ f.1 = f.2 ∙ ap (λ (z : List ℕ). z ++ f.1) ((f.3).1 ∙ ap word is) in
     let next = subst (λ (o : Option (List ℕ)). Reads IsPost o c q r (Err NotYetBuilt)) f.4 second in
-    record { some = some_there bytes f.1 post_number whole; none = no_post bytes f.1 whole (next (bytes_behind bytes (word post_number) f.1 whole good)) }
-post_none (Some bytes) b c p q r s n ReadFault is first second = λ good. tt
-post_none (Some bytes) b c p q r s n Memory is first second = λ good. tt
+    record { some = some_there bytes f.1 post_number whole; none = no_post bytes f.1 whole next }
+post_none (Some bytes) b c p q r s n ReadFault is first second = tt
+post_none (Some bytes) b c p q r s n Memory is first second = tt
 
 pub hear_step : (a b c : Option (List ℕ)) (p q r n k : ℕ) (step : DeclaredStep) → n ≡ hear_number → step_of step ≡ hears k → ReadsFirst a b p q n → Reads IsHear b c q r (Ok k) → ReadsStep a c p r (Ok (Some step))
 hear_step None b c p q r n k step is same first second = tt
-hear_step (Some bytes) b c p q r n k step is same first second = λ good.
-    let f = first good in
+hear_step (Some bytes) b c p q r n k step is same f second =
     let whole : bytes ≡ word hear_number ++ f.1 = f.2 ∙ ap (λ (z : List ℕ). z ++ f.1) ((f.3).1 ∙ ap word is) in
     let at : q ≡ moved p 4 = f.5 ∙ ap (λ (z : List ℕ). moved p (length z)) (f.3).1 in
     let next = subst (λ (o : Option (List ℕ)). Reads IsHear o c q r (Ok k)) f.4 second in
-    let h = behind_part IsHear (word hear_number) bytes f.1 c p q r (Ok k) whole at (next (bytes_behind bytes (word hear_number) f.1 whole good)) in
+    let h = behind_part IsHear (word hear_number) bytes f.1 c p q r (Ok k) whole at next in
     let s = h.3 in
     let spelled = subst (λ (t : Step). SpellsStep t (word hear_number ++ s.rest)) (sym same) (hear_spelled k s.rest s.says) in
     (h.0, h.1, record { whole = h.2; spelled = subst (λ (z : List ℕ). SpellsStep (step_of step) z) (sym s.whole) spelled }, h.4, h.5)
 
 pub hear_none : (a b c : Option (List ℕ)) (p q r s n : ℕ) (e : JournalFault) → n ≡ hear_number → ReadsFirst a b p q n → Reads IsHear b c q r (Err e) → ReadsStep a c p s (Err e)
 hear_none None b c p q r s n e is first second = tt
-hear_none (Some bytes) b c p q r s n NotYetBuilt is first second = λ good.
-    let f = first good in
+hear_none (Some bytes) b c p q r s n NotYetBuilt is f second =
     let whole : bytes ≡ word hear_number ++ f.1 = f.2 ∙ ap (λ (z : List ℕ). z ++ f.1) ((f.3).1 ∙ ap word is) in
     let next = subst (λ (o : Option (List ℕ)). Reads IsHear o c q r (Err NotYetBuilt)) f.4 second in
-    record { some = some_there bytes f.1 hear_number whole; none = no_hear bytes f.1 whole (next (bytes_behind bytes (word hear_number) f.1 whole good)) }
-hear_none (Some bytes) b c p q r s n ReadFault is first second = λ good. tt
-hear_none (Some bytes) b c p q r s n Memory is first second = λ good. tt
+    record { some = some_there bytes f.1 hear_number whole; none = no_hear bytes f.1 whole next }
+hear_none (Some bytes) b c p q r s n ReadFault is first second = tt
+hear_none (Some bytes) b c p q r s n Memory is first second = tt

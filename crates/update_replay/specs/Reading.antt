@@ -2,7 +2,6 @@
 -- From "Binary data serialization" (core.telegram.org/mtproto/serialize); which steps there are is this project's own.
 use Rattle.std.specs.Prelude.{◌≡◌, ◌≢◌, ℕ, ℤ, ◌+◌, ◌-◌, ◌<◌, ◌≤◌, ◌^◌, min, List, [], ◌∷◌, ◌++◌, length, replicate, Option, Some, None, IfSome, Result, Ok, Err}
 use Rattle.std.specs.Int.{w64, cast_signed}
-use Rattle.tl_base.specs.Contents.{AreBytes}
 use Rattle.update_replay.specs.Words.{word, double_word, missing, short_text}
 use Rattle.update_replay.specs.Worlds.{Step, post, hears}
 use Rattle.update_replay.specs.Journal.{vector_number, message_number, BeginsStep, NoStep}
@@ -86,7 +85,7 @@ PartRead Says bytes after p q (Err Memory) = Unit {0}
 
 -- likewise, where the source tells its bytes
 abbrev pub Reads : {A : Type 0} → (A → List ℕ → Type 0) → Option (List ℕ) → Option (List ℕ) → ℕ → ℕ → Result A JournalFault → Type 0
-Reads Says before after p q result = IfSome before (λ bytes. AreBytes bytes → PartRead Says bytes after p q result)
+Reads Says before after p q result = IfSome before (λ bytes. PartRead Says bytes after p q result)
 
 -- A buffer is filled with what follows, or fewer bytes follow.
 abbrev pub Filled : List ℕ → List ℕ → Option (List ℕ) → ℕ → ℕ → Result (Unit {0}) JournalFault → Type 0

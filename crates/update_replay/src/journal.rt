@@ -1,6 +1,5 @@
 //! Journals: steps, one after the other.
 ghost use Rattle.std.specs.Prelude.{◌≡◌, ◌<◌, ◌≤◌, ◌^◌, ◌↔◌, IsErrOf, IsTrue, IfOk, IfSome, length, replicate};
-ghost use Rattle.tl_base.specs.Contents.{AreBytes};
 ghost use Rattle.tl_base.specs.Using.{Used};
 ghost use Rattle.update_replay.specs.Words.{word};
 ghost use Rattle.update_replay.specs.Reached.{IsShort};
@@ -59,7 +58,7 @@ pub fn read_step<S: Source>(
     at: &mut u64,
     from: &mut S,
 ) -> Result<Option<Step>, JournalFault>
-    ensures read { IfSome (S.state from.old).left (λ bytes. AreBytes bytes → StepRead bytes (S.state from.new).left at.old at.new result) }
+    ensures read { IfSome (S.state from.old).left (λ bytes. StepRead bytes (S.state from.new).left at.old at.new result) }
     ensures short { IfOk result (λ o. IfSome o (λ s. IsShort (step_of s))) }
     ensures used { Used (S.state from.old) (S.state from.new) (IsErrOf result JournalFault.ReadFault) }
 {
@@ -79,7 +78,7 @@ pub fn read_step<S: Source>(
 
 // The first number of a step; none at the end.
 fn first_of<S: Source>(at: &mut u64, from: &mut S) -> Result<Option<u32>, JournalFault>
-    ensures read { IfSome (S.state from.old).left (λ bytes. AreBytes bytes → FirstRead bytes (S.state from.new).left at.old at.new result) }
+    ensures read { IfSome (S.state from.old).left (λ bytes. FirstRead bytes (S.state from.new).left at.old at.new result) }
     ensures used { Used (S.state from.old) (S.state from.new) (IsErrOf result JournalFault.ReadFault) }
 {
     let mut word = [0u8; 4];

@@ -1,6 +1,5 @@
 //! Replays.
 ghost use Rattle.std.specs.Prelude.{◌≡◌, ◌≤◌, IfOk, IfSome, IsErrOf, length};
-ghost use Rattle.tl_base.specs.Contents.{AreBytes};
 ghost use Rattle.tl_base.specs.Using.{Used, Wrote, WritesOnly};
 ghost use Rattle.box_events.specs.Boxes.{ending};
 ghost use Rattle.update_replay.specs.Worlds.{start};
@@ -87,7 +86,7 @@ fn next_step<S: Source>(
     at: &mut u64,
     from: &mut S,
 ) -> Result<Option<Step>, ReplayFault>
-    ensures read { IfSome (S.state from.old).left (λ bytes. AreBytes bytes → NextRead bytes (S.state from.new).left at.old at.new result) }
+    ensures read { IfSome (S.state from.old).left (λ bytes. NextRead bytes (S.state from.new).left at.old at.new result) }
     ensures short { IfOk result (λ o. IfSome o (λ s. IsShort (step_of s))) }
     ensures used { Used (S.state from.old) (S.state from.new) (IsErrOf result ReplayFault.ReadFault) }
     ensures written { IsErrOf result ReplayFault.WriteFault → ⊥ }
@@ -109,10 +108,10 @@ pub fn replay_steps<S: Source, K: Sink>(
     to: &mut K,
 ) -> Result<u32, ReplayFault>
     requires { world.old ≡ start }
-    ensures replayed { IfSome (S.state from.old).left (λ journal. AreBytes journal → ReplayedOn journal world.new (K.state to.old).written (K.state to.new).written result) }
+    ensures replayed { IfSome (S.state from.old).left (λ journal. ReplayedOn journal world.new (K.state to.old).written (K.state to.new).written result) }
     ensures read { Used (S.state from.old) (S.state from.new) (IsErrOf result ReplayFault.ReadFault) }
     ensures written { WritesOnly (K.state to.old) (K.state to.new) (IsErrOf result ReplayFault.WriteFault) }
-    ensures fits { IfSome (S.state from.old).left (λ journal. AreBytes journal → NeverFull journal (K.state to.old).written (K.state to.old).sound (K.state to.old).room (IsErrOf result ReplayFault.WriteFault)) }
+    ensures fits { IfSome (S.state from.old).left (λ journal. NeverFull journal (K.state to.old).written (K.state to.old).sound (K.state to.old).room (IsErrOf result ReplayFault.WriteFault)) }
 {
     let mut at = 0u64;
     let mut count = 0u32;

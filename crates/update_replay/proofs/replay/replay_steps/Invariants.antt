@@ -1,6 +1,5 @@
 use Rattle.std.proofs.Common.{◌≤◌, ◌-◌}
 use Rattle.std.specs.Prelude.{IfSome}
-use Rattle.tl_base.specs.Contents.{AreBytes}
 use Rattle.tl_base.specs.Using.{Used, WritesOnly}
 use Rattle.box_events.specs.Boxes.{ending}
 use Rattle.update_replay.proofs.Replaying.{Going}
@@ -13,7 +12,7 @@ invariant-loop-step g l =
     record {
       few : l.count ≤ 100000;
       space : ending l.world.box ≤ l.count;
-      going : IfSome (s l.fn.from).left (λ journal. AreBytes journal → Going journal l.world l.at l.count (s l.from).left (k l.fn.to).written (k l.to).written);
+      going : IfSome (s l.fn.from).left (λ journal. Going journal l.world l.at l.count (s l.from).left (k l.fn.to).written (k l.to).written);
       read : Used (s l.fn.from) (s l.from) ⊥;
       written : WritesOnly (k l.fn.to) (k l.to) ⊥;
     }
