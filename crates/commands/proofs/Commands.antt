@@ -2,7 +2,7 @@
 use Rattle.std.proofs.Common.{◌≡◌, ℕ, List, length, Bool, IsTrue, IsSome, Option, Result, Ok, Err, Vec, Global, sym, ap, subst, arith}
 use Rattle.std.specs.Prelude.{IsErrAnd}
 use Rattle.tl_base.specs.Contents.{Files}
-use Rattle.tl_base.specs.Outside.{View, HasFile}
+use Rattle.tl_base.specs.Outside.{View, HasFile, HasRoom}
 use Rattle.tl_base.specs.Calls.{Told}
 use Rattle.tl_base.specs.declared.host.Out.TheVariants.{Output}
 use Rattle.commands.specs.declared.stop.SchemaCause.{SchemaCause}
@@ -12,8 +12,8 @@ use Rattle.commands.specs.declared.stop.Stop.TheVariants as stop
 use Rattle.commands.specs.Answer.{Answer, done, refused, schema_line}
 use Rattle.commands.specs.Loaded.{SchemaRefused}
 use Rattle.commands.specs.Jobs.{LoadsSchema, Command, bytes_of, MakesOutput}
-use Rattle.commands.specs.Sound.{NeverFails, HasRoom, CommandFits}
-use Rattle.commands.proofs.Sound.{fails_as, then_fails}
+use Rattle.commands.specs.Sound.{CommandFits}
+use Rattle.commands.proofs.Sound.{NeverFails, fails_as, then_fails}
 use Rattle.commands.proofs.Views.{told_as}
 
 module _ (command : Command) where
@@ -50,7 +50,7 @@ module _ (command : Command) where
     made_fits : HasOne → (v u : View) → MakesOutput command (Ok made.items) v u → CommandFits command v → HasRoom Output (length piece) u
     made_fits one v u (answer, only) (a, also, room) =
         let is : a ≡ done made.items = one v.files a (done made.items) also answer in
-        omega (arith, ap length same, ap (λ (b : Answer). length b.output) is, ap length only.output, only.room, room)
+        omega (arith, ap length same, ap (λ (b : Answer). length b.output) is, ap length only.output, ap (λ (x : View). x.room) only.rest, room)
 
     -- over a sound view with room for the answer's Output, writing it doesn't fail
     pub not_put_sound : HasOne → (F G : Type 0) (a m : Option View) (x y z : Bool) → Told a m (MakesOutput command (Ok made.items)) → (IsSome a → IsTrue x → IsTrue y) → NeverFails m y z F (HasRoom Output (length piece)) → (G → F)

@@ -1,6 +1,6 @@
 -- How a run ends, from how its job ended and what was told.
-use Rattle.std.proofs.Common.{◌≡◌, ℕ, List, [], ◌++◌, append-nil, Option, Some, None, Bool, Ok, Err, refl, sym, ap, ◌∙◌, subst, codes, inl, inr}
-use Rattle.std.specs.Prelude.{IfSome, IsTrue, IsErrOf, ◌⊎◌}
+use Rattle.std.proofs.Common.{◌≡◌, ℕ, List, [], ◌++◌, append-nil, Option, Some, None, Ok, Err, refl, sym, ap, ◌∙◌, subst, codes, inl, inr}
+use Rattle.std.specs.Prelude.{IfSome, IsErrOf, ◌⊎◌}
 use Rattle.tl_base.specs.Contents.{Files}
 use Rattle.tl_base.specs.Outside.{View}
 use Rattle.tl_base.specs.Calls.{Told}
@@ -12,7 +12,7 @@ use Rattle.commands.specs.declared.status.Status.TheVariants as status
 use Rattle.commands.specs.Answer.{Answer, AskReplay, usage, usage_line, done, refused, refused_after}
 use Rattle.commands.specs.Answers.{AskNothing, Answers, no_row, replay}
 use Rattle.commands.specs.ReplayJobs.{WritesSome, Replays}
-use Rattle.commands.specs.Sound.{NeverFails, CommandFits, ReplayFits, AnswerFits}
+use Rattle.commands.specs.Sound.{CommandFits, ReplayFits, AnswerFits}
 use Rattle.commands.specs.Runs.{WritesFront, Tells, Ends, answered, read_failed, write_failed, out_of_memory}
 use Rattle.commands.specs.Jobs.{Command, Works, TellsLine, Reports, refusal_line}
 use Rattle.commands.proofs.OneAnswer.{replays}
@@ -20,12 +20,12 @@ use Rattle.commands.proofs.Views.{told_as, told_then}
 
 -- ---- endings
 
-tells_on : {W : Type 0} (V : Type 0) (line : List ℕ) (v u w : View) → u.errors ≡ v.errors → (V → W) → Tells V line u w → Tells W line v w
+tells_on : {W : Type 0} (V : Type 0) (line : List ℕ) (v u w : View) → u.written.errors ≡ v.written.errors → (V → W) → Tells V line u w → Tells W line v w
 tells_on V line v u w e rose (inl h) = inl (h ∙ ap (λ (x : List ℕ). x ++ line) e)
 tells_on V line v u w e rose (inr (r, (front, rest, split, h))) = inr (rose r, (front, rest, split, h ∙ ap (λ (x : List ℕ). x ++ front) e))
 
-tells_none : {W : Type 0} (v w : View) → w.errors ≡ v.errors → Tells W [] v w
-tells_none v w e = inl (e ∙ sym (append-nil v.errors))
+tells_none : {W : Type 0} (v w : View) → w.written.errors ≡ v.written.errors → Tells W [] v w
+tells_none v w e = inl (e ∙ sym (append-nil v.written.errors))
 
 -- words that ask for this command
 module _ (words : List (List ℕ)) (command : Command) (answers : (files : Files) (a : Answer) → command files a → Answers words files a) (R W V : Type 0) where
@@ -34,7 +34,7 @@ module _ (words : List (List ℕ)) (command : Command) (answers : (files : Files
 
   ended : (e : Stop) (k : Status) → (V → W) → (e ≡ stop.ReadFault → R) → (e ≡ stop.WriteFault → W) → (v u w : View) → Works command (Err e) v u → Reports V e k u w → Ends words R W k v w
   ended (stop.Refused r) k rose read write v u w (answer, only) (inl (is, (same, told))) =
-      answered (refused (refusal_line r)) (answers v.files _ answer) is (same ∙ only.output ∙ sym (append-nil v.output)) (tells_on V (refusal_line r) v u w only.errors rose told)
+      answered (refused (refusal_line r)) (answers v.files _ answer) is (same ∙ only.output ∙ sym (append-nil v.written.output)) (tells_on V (refusal_line r) v u w only.errors rose told)
   ended (stop.Refused r) k rose read write v u w (answer, only) (inr (is, (same, told))) =
       out_of_memory is (inl (same ∙ only.output)) (tells_on V _ v u w only.errors rose told)
   ended stop.ReadFault k rose read write v u w only (is, (same, told)) =
@@ -51,7 +51,7 @@ module _ (words : List (List ℕ)) (s j : List ℕ) (asked : AskReplay words s j
   pub ends_replayed : (a b : Option View) (k : Status) → k ≡ status.Done → Told a b (Replays s j (Ok tt)) → Told a b (Ends words R W k)
   ends_replayed a b k is = told_as a b (Replays s j (Ok tt)) (Ends words R W k) (λ v w h. answered (done h.0) (replay s j asked h.1) is h.2 (tells_none v w h.3))
 
-  front_of : (v u w : View) → w.output ≡ u.output → WritesSome s j v u → WritesFront words v w
+  front_of : (v u w : View) → w.written.output ≡ u.written.output → WritesSome s j v u → WritesFront words v w
   front_of v u w same (a, answer, (front, rest, split, put)) = (a, replay s j asked answer, (front, rest, split, same ∙ put))
 
   replay_ended : (e : Stop) (k : Status) → (V → W) → (e ≡ stop.ReadFault → R) → (e ≡ stop.WriteFault → W) → (v u w : View) → Replays s j (Err e) v u → Reports V e k u w → Ends words R W k v w
@@ -76,7 +76,7 @@ pub ends_usage : (words : List (List ℕ)) (R W : Type 0) (a b : Option View) (k
 ends_usage words R W None None k none is h = tt
 ends_usage words R W None (Some w) k none is h = h
 ends_usage words R W (Some v) None k none is h = h
-ends_usage words R W (Some v) (Some w) k none is (same, told) = answered usage (no_row none refl) is (same ∙ sym (append-nil v.output)) told
+ends_usage words R W (Some v) (Some w) k none is (same, told) = answered usage (no_row none refl) is (same ∙ sym (append-nil v.written.output)) told
 
 -- ---- what is told
 
@@ -114,13 +114,14 @@ stop_failed : (e : Stop) (k : Status) → (k ≡ status.ReadFault → e ≡ stop
 stop_failed e k read write (inl is) = inl (ap Err (read is))
 stop_failed e k read write (inr is) = inr (ap Err (write is))
 
-pub command_never : (words : List (List ℕ)) (command : Command) → ((files : Files) (a : Answer) → Answers words files a → command files a) → (a : Option View) (before after : Bool) (e : Stop) (k : Status)
-    → NeverFails a before after (IsErrOf {T = Unit {0}} (Err e) stop.ReadFault ⊎ IsErrOf {T = Unit {0}} (Err e) stop.WriteFault) (CommandFits command)
-    → (k ≡ status.ReadFault → e ≡ stop.ReadFault) → (k ≡ status.WriteFault → e ≡ stop.WriteFault) → IfSome a (λ v. IsTrue before → AnswerFits words v → k ≡ status.ReadFault ⊎ k ≡ status.WriteFault → ⊥)
-command_never words command finds None before after e k p read write = tt
-command_never words command finds (Some v) before after e k p read write = λ sound fits failed. p.never sound (fits.0, finds v.files fits.0 fits.1, fits.2) (stop_failed e k read write failed)
+pub command_never : (words : List (List ℕ)) (command : Command) → ((files : Files) (a : Answer) → Answers words files a → command files a) → (a : Option View) (S : Type 0) (e : Stop) (k : Status)
+    → IfSome a (λ v. S → CommandFits command v → IsErrOf {T = Unit {0}} (Err e) stop.ReadFault ⊎ IsErrOf {T = Unit {0}} (Err e) stop.WriteFault → ⊥)
+    → (k ≡ status.ReadFault → e ≡ stop.ReadFault) → (k ≡ status.WriteFault → e ≡ stop.WriteFault) → IfSome a (λ v. S → AnswerFits words v → k ≡ status.ReadFault ⊎ k ≡ status.WriteFault → ⊥)
+command_never words command finds None S e k never read write = tt
+command_never words command finds (Some v) S e k never read write = λ sound fits failed. never sound (fits.0, finds v.files fits.0 fits.1, fits.2) (stop_failed e k read write failed)
 
-pub replay_never : (words : List (List ℕ)) (s j : List ℕ) → AskReplay words s j → (a : Option View) (before after : Bool) (e : Stop) (k : Status) → NeverFails a before after (IsErrOf {T = Unit {0}} (Err e) stop.ReadFault ⊎ IsErrOf {T = Unit {0}} (Err e) stop.WriteFault) (ReplayFits s j)
-    → (k ≡ status.ReadFault → e ≡ stop.ReadFault) → (k ≡ status.WriteFault → e ≡ stop.WriteFault) → IfSome a (λ v. IsTrue before → AnswerFits words v → k ≡ status.ReadFault ⊎ k ≡ status.WriteFault → ⊥)
-replay_never words s j asked None before after e k p read write = tt
-replay_never words s j asked (Some v) before after e k p read write = λ sound fits failed. p.never sound (fits.0, replays words v.files s j fits.0 asked fits.1, fits.2) (stop_failed e k read write failed)
+pub replay_never : (words : List (List ℕ)) (s j : List ℕ) → AskReplay words s j → (a : Option View) (S : Type 0) (e : Stop) (k : Status)
+    → IfSome a (λ v. S → ReplayFits s j v → IsErrOf {T = Unit {0}} (Err e) stop.ReadFault ⊎ IsErrOf {T = Unit {0}} (Err e) stop.WriteFault → ⊥)
+    → (k ≡ status.ReadFault → e ≡ stop.ReadFault) → (k ≡ status.WriteFault → e ≡ stop.WriteFault) → IfSome a (λ v. S → AnswerFits words v → k ≡ status.ReadFault ⊎ k ≡ status.WriteFault → ⊥)
+replay_never words s j asked None S e k never read write = tt
+replay_never words s j asked (Some v) S e k never read write = λ sound fits failed. never sound (fits.0, replays words v.files s j fits.0 asked fits.1, fits.2) (stop_failed e k read write failed)

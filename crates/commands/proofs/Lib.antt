@@ -4,10 +4,10 @@ pub mod Values
 pub mod Outcomes
 pub mod WholeInput
 pub mod Forms
-pub mod Slots
 pub mod Views
 pub mod Sound
 pub mod Loading
+pub mod Kept
 pub mod OneDecode
 pub mod OneReplay
 pub mod Journals

@@ -2,7 +2,7 @@
 use Rattle.std.proofs.Common.{◌≡◌, ℕ, List, Bool, IsTrue, IsSome, Option, Result, Ok, Err, Vec, Global, refl, sym, ap, subst, codes}
 use Rattle.std.specs.Prelude.{IsErrAnd, IsErrOf}
 use Rattle.tl_base.specs.Contents.{Files}
-use Rattle.tl_base.specs.Outside.{View, HasFile}
+use Rattle.tl_base.specs.Outside.{View, HasFile, IsThere}
 use Rattle.tl_base.specs.Calls.{Told}
 use Rattle.tl_types.specs.PlainTypes.{boxed}
 use Rattle.tl_types.specs.PlainViews.{plain_decls}
@@ -21,10 +21,10 @@ use Rattle.commands.specs.Answer.{Answer, done, refused, schema_line, input_line
 use Rattle.commands.specs.Loaded.{IsSchemaText, SchemaRefused}
 use Rattle.commands.specs.DecodeAnswers.{OfInput, whole, longer, faulty, OfType, no_type, typed, OfSchema, no_schema, schema_of, DecodeAnswer}
 use Rattle.commands.specs.Jobs.{LoadsSchema, NamesPlain, LoadsValue, Command, decode_command, bytes_of, MakesOutput}
-use Rattle.commands.specs.Sound.{NeverFails, IsThere, CommandAnswered}
+use Rattle.commands.specs.Sound.{CommandAnswered}
 use Rattle.commands.proofs.Loading.{then_reads}
 use Rattle.commands.proofs.SameFiles.{same_file}
-use Rattle.commands.proofs.Sound.{fails_as, then_fails}
+use Rattle.commands.proofs.Sound.{NeverFails, fails_as, then_fails}
 use Rattle.commands.proofs.OneSchemaText.{one_schema_text, never_schema}
 use Rattle.commands.proofs.OneTypeName.{never_type}
 use Rattle.commands.proofs.Commands.{stops}
@@ -67,7 +67,7 @@ module _ (s t i : List ℕ) where
     -- what the input tells, behind the schema and its type
     of_input_answer : (bytes : List ℕ) (a : Answer) (v u : View) → LoadsSchema s (Ok schema) v u → HasFile u.files i bytes → OfInput schema head bytes a → DecodeAnswer v.files s t i a
     of_input_answer bytes a v u ((text, has, is), only) there tells =
-        (text, has, schema_of schema is (typed names.0 head bytes names.1 names.2 (subst (λ (fs : Files). HasFile fs i bytes) only.files there) tells))
+        (text, has, schema_of schema is (typed names.0 head bytes names.1 names.2 (subst (λ (fs : Files). HasFile fs i bytes) (ap (λ (x : View). x.files) only.rest) there) tells))
 
     input_stops : (e : InputFault) (v u w : View) → LoadsSchema s (Ok schema) v u → LoadsValue (plain_decls schema) (boxed head) i (Err e) u w → MakesOutput decoding (Err (of_input e)) v w
     input_stops (input.Refused at why) v u w loaded ((bytes, there, (p, r, is)), only) = (
@@ -109,7 +109,7 @@ module _ (s t i : List ℕ) where
     input_there v u ((text, has, h), only) (a, (other, also, tells)) =
         let same : other ≡ text = same_file v.files s other text also has in
         let there = schema_there text v.files a h (subst (λ (x : List ℕ). OfSchema x t i v.files a) same tells) in
-        (there.0, subst (λ (fs : Files). HasFile fs i there.0) (sym only.files) there.1)
+        (there.0, subst (λ (fs : Files). HasFile fs i there.0) (sym (ap (λ (x : View). x.files) only.rest)) there.1)
 
     -- over a sound view with an answer the input's file is there, so reading it doesn't fail
     pub no_value_sound : (e : InputFault) (r : Result (Vec ℕ Global) Stop) (a m : Option View) (x y z : Bool) → Told a m (LoadsSchema s (Ok schema)) → (IsSome a → IsTrue x → IsTrue y)

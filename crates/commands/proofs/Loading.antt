@@ -3,11 +3,12 @@ use Rattle.std.proofs.Common.{◌≡◌, ℕ, ◌<◌, ◌≤◌, List, [], ◌+
 use Rattle.std.specs.Prelude.{IsErrAnd, IfSome}
 use Rattle.std.proofs.lemmas.List.{length-append}
 use Rattle.std.proofs.lemmas.Bool.{cases_lt}
-use Rattle.tl_base.specs.Contents.{AreBytes, HoldBytes}
-use Rattle.tl_base.specs.Outside.{View, HasFile, with_left}
+use Rattle.tl_base.specs.Contents.{AreBytes}
+use Rattle.tl_base.specs.Outside.{View, ShowsBytes, HasFile, left_of, with_left, with_written}
+use Rattle.tl_base.specs.Hosted.{OnlySlot, ReadsFile}
 use Rattle.tl_base.specs.Calls.{Told, Opens}
-use Rattle.tl_base.specs.declared.host.Slot.{Slot}
 use Rattle.tl_base.specs.declared.host.Slot.TheVariants.{Schema, Input}
+use Rattle.tl_base.specs.declared.host.Out.TheVariants.{Output, Errors}
 use Rattle.tl_base.specs.declared.source.TextFault.{TextFault}
 use Rattle.tl_base.specs.declared.source.TextFault.TheVariants as text
 use Rattle.tl_lexer.specs.declared.token.Token.{Token}
@@ -37,7 +38,8 @@ use Rattle.commands.specs.declared.stop.SchemaCause.{SchemaCause}
 use Rattle.commands.specs.declared.stop.TextCause.{TextCause}
 use Rattle.commands.specs.declared.stop.TextCause.TheVariants.{TextTooLong, BadByte, OpenComment, Unexpected, NotProfile, TooMany}
 use Rattle.commands.specs.Loaded.{TextRefused, too_long, bad_byte, open_comment, unexpected, not_profile, too_many, SchemaRefused, by_text, by_checks}
-use Rattle.commands.specs.Steps.{SameBut, ReadsText, TakesValue}
+use Rattle.commands.specs.Steps.{TakesValue}
+use Rattle.commands.specs.Runs.{KeepsRest}
 use Rattle.commands.specs.Jobs.{OnlyReads, ReadsSchema, LoadsSchema, LoadsValue}
 use Rattle.commands.proofs.SameFiles.{file_bytes}
 
@@ -66,16 +68,36 @@ no_schema text tokens program check.Memory r lexed parsed none e = stops text _ 
 
 -- ---- files
 
-pub only_reads : (slot : Slot) (v w : View) → SameBut slot v w → OnlyReads v w
-only_reads Schema v w e = record { files = ap (λ (x : View). x.files) e; output = ap (λ (x : View). x.output) e; errors = ap (λ (x : View). x.errors) e; room = ap (λ (x : View). x.room) e }
-only_reads Input v w e = record { files = ap (λ (x : View). x.files) e; output = ap (λ (x : View). x.output) e; errors = ap (λ (x : View). x.errors) e; room = ap (λ (x : View). x.room) e }
+-- what `KeepsRest` gives for the new view
+rest_of : View → View → View
+rest_of v w = record v { left = record v.left { schema = w.left.schema; input = w.left.input }; written = record v.written { output = w.written.output; errors = w.written.errors } }
+
+pub rest_then : (u v w : View) → KeepsRest u v → KeepsRest v w → KeepsRest u w
+unfolding rest_of
+rest_then u v w p q = q ∙ ap (λ (x : View). rest_of x w) p
+
+pub only_schema : (v w : View) → OnlySlot Schema v w → OnlyReads v w
+unfolding rest_of
+only_schema v w e = record { output = ap (λ (x : View). x.written.output) e; errors = ap (λ (x : View). x.written.errors) e; rest = e ∙ ap (rest_of v) (sym e) }
+
+opened_input : (bytes : List ℕ) (v w : View) → w ≡ with_left Input bytes v → OnlyReads v w
+unfolding rest_of
+opened_input bytes v w e = record { output = ap (λ (x : View). x.written.output) e; errors = ap (λ (x : View). x.written.errors) e; rest = e ∙ ap (rest_of v) (sym e) }
+
+pub only_input : (v w : View) → OnlySlot Input v w → OnlyReads v w
+only_input v w e = opened_input (left_of Input w) v w e
+
+-- what is written to Output or Errors leaves the rest
+pub output_rest : (bytes : List ℕ) (v w : View) → w ≡ with_written Output bytes v → KeepsRest v w
+unfolding rest_of
+output_rest bytes v w e = e ∙ ap (rest_of v) (sym e)
+
+pub errors_rest : (bytes : List ℕ) (v w : View) → w ≡ with_written Errors bytes v → KeepsRest v w
+unfolding rest_of
+errors_rest bytes v w e = e ∙ ap (rest_of v) (sym e)
 
 pub then_reads : (u v w : View) → OnlyReads u v → OnlyReads v w → OnlyReads u w
-then_reads u v w p q = record { files = q.files ∙ p.files; output = q.output ∙ p.output; errors = q.errors ∙ p.errors; room = q.room ∙ p.room }
-
-opened_reads : (slot : Slot) (bytes : List ℕ) (v w : View) → w ≡ with_left slot bytes v → OnlyReads v w
-opened_reads Schema bytes v w e = record { files = ap (λ (x : View). x.files) e; output = ap (λ (x : View). x.output) e; errors = ap (λ (x : View). x.errors) e; room = ap (λ (x : View). x.room) e }
-opened_reads Input bytes v w e = record { files = ap (λ (x : View). x.files) e; output = ap (λ (x : View). x.output) e; errors = ap (λ (x : View). x.errors) e; room = ap (λ (x : View). x.room) e }
+then_reads u v w p q = record { output = q.output ∙ p.output; errors = q.errors ∙ p.errors; rest = rest_then u v w p.rest q.rest }
 
 -- ---- the schema of a file
 
@@ -84,11 +106,11 @@ stopped_at name e (Ok x) v w h is = absurd is
 stopped_at name text.ReadFault (Err z) v w h is = subst (λ (y : Stop). LoadsSchema name (Err y) v w) (sym is) h
 stopped_at name text.Memory (Err z) v w h is = subst (λ (y : Stop). LoadsSchema name (Err y) v w) (sym is) h
 
-pub no_text : (name : List ℕ) (limit : ℕ) (e : TextFault) (r : Result Declared Stop) (a b : Option View) → Told a b (ReadsText Schema name limit (Err e)) → IsErrAnd r (λ z. z ≡ of_text e) → Told a b (LoadsSchema name r)
+pub no_text : (name : List ℕ) (limit : ℕ) (e : TextFault) (r : Result Declared Stop) (a b : Option View) → Told a b (ReadsFile Schema name limit (Err e)) → IsErrAnd r (λ z. z ≡ of_text e) → Told a b (LoadsSchema name r)
 no_text name limit e r None None read is = tt
 no_text name limit e r None (Some w) read is = read
 no_text name limit e r (Some v) None read is = read
-no_text name limit e r (Some v) (Some w) read is = stopped_at name e r v w (only_reads Schema v w read) is
+no_text name limit e r (Some v) (Some w) read is = stopped_at name e r v w (only_schema v w read) is
 
 -- the schema of what was read is that of the file, whole or cut
 whole_file : (bytes read rest : List ℕ) (r : Result Declared Stop) → bytes ≡ read ++ rest → rest ≡ [] → ReadsSchema read r → ReadsSchema bytes r
@@ -132,12 +154,12 @@ loaded name (Err stop.ReadFault) v w h only = only
 loaded name (Err stop.WriteFault) v w h only = (h, only)
 loaded name (Err stop.Memory) v w h only = only
 
-pub text_loaded : (name : List ℕ) (read : Vec ℕ Global) (r : Result Declared Stop) (a b : Option View) → Told a b (ReadsText Schema name 4194304 (Ok read)) → ReadsSchema read.items r → Told a b (LoadsSchema name r)
+pub text_loaded : (name : List ℕ) (read : Vec ℕ Global) (r : Result Declared Stop) (a b : Option View) → Told a b (ReadsFile Schema name 4194304 (Ok read)) → ReadsSchema read.items r → Told a b (LoadsSchema name r)
 text_loaded name read r None None h is = tt
 text_loaded name read r None (Some w) h is = h
 text_loaded name read r (Some v) None h is = h
-text_loaded name read r (Some v) (Some w) ((bytes, rest, has, split, few, end), same) is =
-    loaded name r v w (bytes, has, file_schema bytes read.items rest r split end is) (only_reads Schema v w same)
+text_loaded name read r (Some v) (Some w) ((bytes, has, split, few, end), same) is =
+    loaded name r v w (bytes, has, file_schema bytes read.items (left_of Schema w) r split end is) (only_schema v w same)
 
 -- ---- the value of a file
 
@@ -148,7 +170,7 @@ value_there ds T name bytes (Err (input.Trailing at)) v w has h only = ((bytes, 
 value_there ds T name bytes (Err input.ReadFault) v w has h only = only
 value_there ds T name bytes (Err input.Memory) v w has h only = only
 
-pub value_loaded : (E : Type 0) (ds : List PlainDeclaration) (T : PlainShape) (name : List ℕ) (r : Result Value InputFault) (a m b : Option View) → IfSome a (λ v. HoldBytes v.files) → Told a m (Opens {E = E} Input name (Ok tt)) → Told m b (TakesValue ds T r)
+pub value_loaded : (E : Type 0) (ds : List PlainDeclaration) (T : PlainShape) (name : List ℕ) (r : Result Value InputFault) (a m b : Option View) → IfSome a ShowsBytes → Told a m (Opens {E = E} Input name (Ok tt)) → Told m b (TakesValue ds T r)
     → Told a b (LoadsValue ds T name r)
 value_loaded E ds T name r None None None all opened taken = tt
 value_loaded E ds T name r None None (Some w) all opened taken = taken
@@ -156,13 +178,13 @@ value_loaded E ds T name r None (Some u) b all opened taken = absurd opened
 value_loaded E ds T name r (Some v) None b all opened taken = absurd opened
 value_loaded E ds T name r (Some v) (Some u) None all opened taken = taken
 value_loaded E ds T name r (Some v) (Some u) (Some w) all (bytes, has, is) taken =
-    let left : u.input_left ≡ bytes = ap (λ (x : View). x.input_left) is in
-    let good : AreBytes bytes = file_bytes v.files name bytes all has in
+    let left : left_of Input u ≡ bytes = ap (left_of Input) is in
+    let good : AreBytes bytes = file_bytes v.files name bytes all.files has in
     let value : DecodesWhole ds T bytes r = subst (λ (x : List ℕ). DecodesWhole ds T x r) left (taken.0 (subst AreBytes (sym left) good)) in
-    value_there ds T name bytes r v w has value (then_reads v u w (opened_reads Input bytes v u is) (only_reads Input u w taken.1))
+    value_there ds T name bytes r v w has value (then_reads v u w (opened_input bytes v u is) (only_input u w taken.1))
 
 pub not_opened : {F : Type 0} (ds : List PlainDeclaration) (T : PlainShape) (name : List ℕ) (e : F) (a b : Option View) → Told a b (Opens Input name (Err e)) → Told a b (LoadsValue ds T name (Err input.ReadFault))
 not_opened ds T name e None None h = tt
 not_opened ds T name e None (Some w) h = h
 not_opened ds T name e (Some v) None h = h
-not_opened ds T name e (Some v) (Some w) h = record { files = ap (λ (x : View). x.files) h; output = ap (λ (x : View). x.output) h; errors = ap (λ (x : View). x.errors) h; room = ap (λ (x : View). x.room) h }
+not_opened ds T name e (Some v) (Some w) h = opened_input (left_of Input v) v w h

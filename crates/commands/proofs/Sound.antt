@@ -1,14 +1,24 @@
 -- Where a run can't fail, from where its calls can't.
 use Rattle.std.proofs.Common.{Bool, Option, Some, None, IsSome, IsTrue, refl}
 use Rattle.std.proofs.lemmas.Bool.{false≢true}
-use Rattle.tl_base.specs.Outside.{View}
+use Rattle.std.specs.Prelude.{IfSome}
+use Rattle.tl_base.specs.Outside.{View, HostState}
+use Rattle.tl_base.specs.Using.{MeetsFaults}
+use Rattle.tl_base.specs.declared.counts.Kind.{Kind}
 use Rattle.tl_base.specs.Calls.{Told}
-use Rattle.commands.specs.Sound.{NeverFails}
+
+-- where the view is told and the outside is sound, it stays sound, and where P the call doesn't fail so
+pub record NeverFails (told : Option View) (before now : Bool) (failed : Type 0) (P : View → Type 0) : Type 0 where
+  pub stays : IsSome told → IsTrue before → IsTrue now
+  pub never : IfSome told (λ v. IsTrue before → P v → failed → ⊥)
+
+pub safe : {k : Kind} {a b : HostState} {F : Type 0} {P : View → Type 0} → MeetsFaults k a b F P → NeverFails a.view a.sound b.sound F P
+safe met = record { stays = met.stays; never = met.never }
 
 -- nothing failed
-pub none_failed : (told : Option View) (x y : Bool) (F : Type 0) (P : View → Type 0) → (IsSome told → IsTrue x → IsTrue y) → (F → ⊥) → NeverFails told x y F P
-none_failed None x y F P stays never = record { stays = stays; never = tt }
-none_failed (Some v) x y F P stays never = record { stays = stays; never = λ sound p failed. never failed }
+pub never_failed : (told : Option View) (S F : Type 0) (P : View → Type 0) → (F → ⊥) → IfSome told (λ v. S → P v → F → ⊥)
+never_failed None S F P never = tt
+never_failed (Some v) S F P never = λ sound p failed. never failed
 
 -- a failure that is another call's, where more is known of the view
 pub fails_as : (told : Option View) (x y : Bool) (F G : Type 0) (P R : View → Type 0) → NeverFails told x y F P → (G → F) → ((v : View) → R v → P v) → NeverFails told x y G R

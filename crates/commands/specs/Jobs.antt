@@ -24,14 +24,13 @@ use Rattle.commands.specs.Loaded.{IsSchemaText, SchemaRefused, TypeNameRefused}
 use Rattle.commands.specs.DecodeAnswers.{DecodeAnswer}
 use Rattle.commands.specs.CheckAnswers.{CheckAnswer}
 use Rattle.commands.specs.Answer.{Answer, done, refused, schema_line, type_line, profile_line, input_line, journal_line, cause_text}
-use Rattle.commands.specs.Runs.{AddsFront, Tells}
+use Rattle.commands.specs.Runs.{KeepsRest, AddsFront, Tells}
 
--- files, Output and Errors are as before
+-- Output and Errors are as before, and so is all else but what is left of Schema and Input
 pub record OnlyReads (v w : View) : Type 0 where
-  pub files : w.files ≡ v.files
-  pub output : w.output ≡ v.output
-  pub errors : w.errors ≡ v.errors
-  pub room : w.room ≡ v.room
+  pub output : w.written.output ≡ v.written.output
+  pub errors : w.written.errors ≡ v.written.errors
+  pub rest : KeepsRest v w
 
 -- the schema of a text
 abbrev pub ReadsSchema : List ℕ → Result Declared Stop → Type 0
@@ -111,15 +110,15 @@ MakesOutput command (Err stop.Memory) v w = OnlyReads v w
 
 -- the work of a command: what it writes on Output, or why not
 abbrev pub Works : Command → Result (Unit {0}) Stop → View → View → Type 0
-Works command (Ok u) v w = (output : List ℕ) × command v.files (done output) × (w.output ≡ v.output ++ output) × (w.errors ≡ v.errors)
+Works command (Ok u) v w = (output : List ℕ) × command v.files (done output) × (w.written.output ≡ v.written.output ++ output) × (w.written.errors ≡ v.written.errors)
 Works command (Err (stop.Refused r)) v w = command v.files (refused (refusal_line r)) × OnlyReads v w
 Works command (Err stop.ReadFault) v w = OnlyReads v w
-Works command (Err stop.WriteFault) v w = (output : List ℕ) × command v.files (done output) × AddsFront v.output w.output output × (w.errors ≡ v.errors)
+Works command (Err stop.WriteFault) v w = (output : List ℕ) × command v.files (done output) × AddsFront v.written.output w.written.output output × (w.written.errors ≡ v.written.errors)
 Works command (Err stop.Memory) v w = OnlyReads v w
 
 -- a line on Errors, and nothing else
 abbrev pub TellsLine : Type 0 → List ℕ → View → View → Type 0
-TellsLine rose line v w = (w.output ≡ v.output) × Tells rose line v w
+TellsLine rose line v w = (w.written.output ≡ v.written.output) × Tells rose line v w
 
 -- the status of a run that stopped, and its line
 abbrev pub Reports : Type 0 → Stop → Status → View → View → Type 0

@@ -1,6 +1,6 @@
 -- What the parts of `replay` answer, and what they do to the outside. This project's own.
 use Rattle.std.specs.Prelude.{◌≡◌, ◌⊎◌, ℕ, ◌≤◌, List, [], ◌++◌, length, Result, Ok, Err}
-use Rattle.tl_base.specs.Outside.{View, HasFile, with_written}
+use Rattle.tl_base.specs.Outside.{View, HasFile, written_of, with_written}
 use Rattle.tl_base.specs.declared.host.Out.TheVariants.{Output}
 use Rattle.update_replay.specs.declared.profile.TheConstants.{PROFILE_TEXT}
 use Rattle.update_replay.specs.declared.replay.ReplayFault.{ReplayFault}
@@ -38,16 +38,16 @@ ended_as (Err e) = Err (of_replay e)
 
 -- the journal was replayed, and what that wrote was added to Output
 abbrev pub WritesReplay : List ℕ → Result (Unit {0}) Stop → View → View → Type 0
-WritesReplay journal result v w = (output : List ℕ) × (world : World) × (r : Result ℕ ReplayFault) × Replayed journal world output r × (result ≡ ended_as r) × (w ≡ with_written Output (v.output ++ output) v)
+WritesReplay journal result v w = (output : List ℕ) × (world : World) × (r : Result ℕ ReplayFault) × Replayed journal world output r × (result ≡ ended_as r) × (w ≡ with_written Output (written_of Output v ++ output) v)
 
 -- Output has a front of the answer's
 abbrev pub WritesSome : List ℕ → List ℕ → View → View → Type 0
-WritesSome schema journal v w = (a : Answer) × ReplayAnswer v.files schema journal a × AddsFront v.output w.output a.output
+WritesSome schema journal v w = (a : Answer) × ReplayAnswer v.files schema journal a × AddsFront v.written.output w.written.output a.output
 
 -- the work of `replay`: its report on Output, or why not
 abbrev pub Replays : List ℕ → List ℕ → Result (Unit {0}) Stop → View → View → Type 0
-Replays schema journal (Ok u) v w = (output : List ℕ) × ReplayAnswer v.files schema journal (done output) × (w.output ≡ v.output ++ output) × (w.errors ≡ v.errors)
-Replays schema journal (Err (stop.Refused r)) v w = (output : List ℕ) × ReplayAnswer v.files schema journal (refused_after output (refusal_line r)) × (w.output ≡ v.output ++ output) × (w.errors ≡ v.errors)
+Replays schema journal (Ok u) v w = (output : List ℕ) × ReplayAnswer v.files schema journal (done output) × (w.written.output ≡ v.written.output ++ output) × (w.written.errors ≡ v.written.errors)
+Replays schema journal (Err (stop.Refused r)) v w = (output : List ℕ) × ReplayAnswer v.files schema journal (refused_after output (refusal_line r)) × (w.written.output ≡ v.written.output ++ output) × (w.written.errors ≡ v.written.errors)
 Replays schema journal (Err stop.ReadFault) v w = OnlyReads v w
-Replays schema journal (Err stop.WriteFault) v w = WritesSome schema journal v w × (w.errors ≡ v.errors)
-Replays schema journal (Err stop.Memory) v w = ((w.output ≡ v.output) ⊎ WritesSome schema journal v w) × (w.errors ≡ v.errors)
+Replays schema journal (Err stop.WriteFault) v w = WritesSome schema journal v w × (w.written.errors ≡ v.written.errors)
+Replays schema journal (Err stop.Memory) v w = ((w.written.output ≡ v.written.output) ⊎ WritesSome schema journal v w) × (w.written.errors ≡ v.written.errors)

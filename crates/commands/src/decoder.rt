@@ -67,10 +67,10 @@ pub fn decode<S: Source>(
 ) -> Result<Value, DecodeFault>
     requires { head < length (types_of schema.now.program) }
     // What is spelled is read, and exactly its bytes are taken.
-    ensures spelled { IfSome (S.left from.old) (λ bytes. (t : Tree) (x rest : List ℕ) → bytes ≡ x ++ rest → Spells (plain_decls schema.now) (boxed head) t x → depth t ≤ MAX_LEVELS → GivesValue result (S.left from.new) at.old at.new t x rest) }
+    ensures spelled { IfSome (S.state from.old).left (λ bytes. (t : Tree) (x rest : List ℕ) → bytes ≡ x ++ rest → Spells (plain_decls schema.now) (boxed head) t x → depth t ≤ MAX_LEVELS → GivesValue result (S.state from.new).left at.old at.new t x rest) }
     // What is refused is refused at its place, for its cause.
-    ensures refused { IfSome (S.left from.old) (λ bytes. (place : ℕ) (cause : Cause) → Refused (plain_decls schema.now) MAX_LEVELS (boxed head) bytes place cause → GivesFault result (moved at.old place) cause) }
-    ensures used { Used S.left S.faults S.aside S.sound from.old from.new (IsErrOf result DecodeFault.ReadFault) }
+    ensures refused { IfSome (S.state from.old).left (λ bytes. (place : ℕ) (cause : Cause) → Refused (plain_decls schema.now) MAX_LEVELS (boxed head) bytes place cause → GivesFault result (moved at.old place) cause) }
+    ensures used { Used (S.state from.old) (S.state from.new) (IsErrOf result DecodeFault.ReadFault) }
 {
     // Read for the proof alone: that the place fits, and that the schema is sound.
     let _start = *at;
@@ -88,8 +88,8 @@ fn record_of<S: Source>(
     from: &mut S,
 ) -> Result<Value, DecodeFault>
     requires { head < length (types_of schema.now.program) }
-    ensures read { ReadsAs view (S.left from.old) (S.left from.new) at.old at.new result (boxed_at (plain_decls schema.now) (fields_at (value_at (plain_decls schema.now) levels) []) head) }
-    ensures used { Used S.left S.faults S.aside S.sound from.old from.new (IsErrOf result DecodeFault.ReadFault) }
+    ensures read { ReadsAs view (S.state from.old).left (S.state from.new).left at.old at.new result (boxed_at (plain_decls schema.now) (fields_at (value_at (plain_decls schema.now) levels) []) head) }
+    ensures used { Used (S.state from.old) (S.state from.new) (IsErrOf result DecodeFault.ReadFault) }
 {
     let place = *at;
     let word = word_of(at, from)?;
@@ -114,8 +114,8 @@ fn fields_of<S: Source>(
     at: &mut u64,
     from: &mut S,
 ) -> Result<Vec<Value>, DecodeFault>
-    ensures read { ReadsAs (λ v. map view v.items) (S.left from.old) (S.left from.new) at.old at.new result (fields_at (value_at (plain_decls schema.now) levels) [] (map (λ f. plain_slot (slot f)) slots.now)) }
-    ensures used { Used S.left S.faults S.aside S.sound from.old from.new (IsErrOf result DecodeFault.ReadFault) }
+    ensures read { ReadsAs (λ v. map view v.items) (S.state from.old).left (S.state from.new).left at.old at.new result (fields_at (value_at (plain_decls schema.now) levels) [] (map (λ f. plain_slot (slot f)) slots.now)) }
+    ensures used { Used (S.state from.old) (S.state from.new) (IsErrOf result DecodeFault.ReadFault) }
 {
     let mut fields = Vec::new(alloc);
     for field in slots {
@@ -133,8 +133,8 @@ fn whole_of<S: Source>(
     at: &mut u64,
     from: &mut S,
 ) -> Result<Value, DecodeFault>
-    ensures read { ReadsAs view (S.left from.old) (S.left from.new) at.old at.new result (value_at (plain_decls schema.now) levels (plain_shape (shape of.now))) }
-    ensures used { Used S.left S.faults S.aside S.sound from.old from.new (IsErrOf result DecodeFault.ReadFault) }
+    ensures read { ReadsAs view (S.state from.old).left (S.state from.new).left at.old at.new result (value_at (plain_decls schema.now) levels (plain_shape (shape of.now))) }
+    ensures used { Used (S.state from.old) (S.state from.new) (IsErrOf result DecodeFault.ReadFault) }
 {
     match of {
         TypeRef::Long => long_of(at, from),
@@ -176,8 +176,8 @@ fn wrong(word: u32) -> Cause
 
 // A number of 32 bits.
 fn int_of<S: Source>(at: &mut u64, from: &mut S) -> Result<Value, DecodeFault>
-    ensures read { ReadsAs view (S.left from.old) (S.left from.new) at.old at.new result (plain_at int) }
-    ensures used { Used S.left S.faults S.aside S.sound from.old from.new (IsErrOf result DecodeFault.ReadFault) }
+    ensures read { ReadsAs view (S.state from.old).left (S.state from.new).left at.old at.new result (plain_at int) }
+    ensures used { Used (S.state from.old) (S.state from.new) (IsErrOf result DecodeFault.ReadFault) }
 {
     let word = word_of(at, from)?;
     Ok(Value::Int(word.cast_signed()))
@@ -185,8 +185,8 @@ fn int_of<S: Source>(at: &mut u64, from: &mut S) -> Result<Value, DecodeFault>
 
 // A number of 64 bits.
 fn long_of<S: Source>(at: &mut u64, from: &mut S) -> Result<Value, DecodeFault>
-    ensures read { ReadsAs view (S.left from.old) (S.left from.new) at.old at.new result (plain_at long) }
-    ensures used { Used S.left S.faults S.aside S.sound from.old from.new (IsErrOf result DecodeFault.ReadFault) }
+    ensures read { ReadsAs view (S.state from.old).left (S.state from.new).left at.old at.new result (plain_at long) }
+    ensures used { Used (S.state from.old) (S.state from.new) (IsErrOf result DecodeFault.ReadFault) }
 {
     let word = double_of(at, from)?;
     Ok(Value::Long(word.cast_signed()))
@@ -194,8 +194,8 @@ fn long_of<S: Source>(at: &mut u64, from: &mut S) -> Result<Value, DecodeFault>
 
 // The next four bytes as a number.
 fn word_of<S: Source>(at: &mut u64, from: &mut S) -> Result<u32, DecodeFault>
-    ensures read { ReadsAs (λ w. w) (S.left from.old) (S.left from.new) at.old at.new result word_at }
-    ensures used { Used S.left S.faults S.aside S.sound from.old from.new (IsErrOf result DecodeFault.ReadFault) }
+    ensures read { ReadsAs (λ w. w) (S.state from.old).left (S.state from.new).left at.old at.new result word_at }
+    ensures used { Used (S.state from.old) (S.state from.new) (IsErrOf result DecodeFault.ReadFault) }
 {
     match take_word(from) {
         Ok(word) => {
@@ -212,8 +212,8 @@ fn word_of<S: Source>(at: &mut u64, from: &mut S) -> Result<u32, DecodeFault>
 
 // The next eight bytes as a number.
 fn double_of<S: Source>(at: &mut u64, from: &mut S) -> Result<u64, DecodeFault>
-    ensures read { ReadsAs (λ w. w) (S.left from.old) (S.left from.new) at.old at.new result double_at }
-    ensures used { Used S.left S.faults S.aside S.sound from.old from.new (IsErrOf result DecodeFault.ReadFault) }
+    ensures read { ReadsAs (λ w. w) (S.state from.old).left (S.state from.new).left at.old at.new result double_at }
+    ensures used { Used (S.state from.old) (S.state from.new) (IsErrOf result DecodeFault.ReadFault) }
 {
     let mut word = [0u8; 8];
     match take_bytes(from, &mut word) {

@@ -1,21 +1,24 @@
 //! The jobs of `check` and `decode`.
 ghost use Rattle.std.specs.Prelude.{◌<◌, IsErrOf, length};
 ghost use Rattle.tl_base.specs.Calls.{Told};
+ghost use Rattle.tl_base.specs.Outside.{IsThere};
+ghost use Rattle.tl_base.specs.Using.{MeetsFaults};
+ghost use Rattle.tl_base.specs.declared.counts.Kind.TheVariants as kinds;
 ghost use Rattle.tl_types.specs.Meanings.{types_of};
 ghost use Rattle.tl_types.specs.PlainTypes.{boxed};
 ghost use Rattle.tl_types.specs.PlainViews.{plain_decls};
 ghost use Rattle.commands.specs.Jobs.{LoadsSchema, LoadsValue, MakesOutput, NamesPlain, ReadsSchema, Works, bytes_of, check_command, decode_command};
+ghost use Rattle.commands.specs.Runs.{KeepsRest};
 ghost use Rattle.commands.specs.Steps.{TakesValue};
-ghost use Rattle.commands.specs.Sound.{CommandAnswered, CommandFits, IsThere, MeetsBothFaults, MeetsFaults};
+ghost use Rattle.commands.specs.Sound.{CommandAnswered, CommandFits, MeetsBothFaults};
 
-use crate::files::{put, text_of};
 use crate::listing::listing;
 use crate::plain_types::plain_head;
 use crate::shown::line_of;
 use crate::stop::{Refusal, Stop, TypeNameCause};
 use crate::whole::{InputFault, decode_whole};
 use std::alloc::Global;
-use tl_base::{Host, Out, Slot, SourceOf};
+use tl_base::{Host, Out, Slot, SourceOf, read_file, write_out};
 use tl_combinators::parse;
 use tl_lexer::{TEXT_LIMIT, lex};
 use tl_types::{Schema, Value, check, type_of};
@@ -39,11 +42,11 @@ fn schema_of(alloc: Global, text: &[u8]) -> Result<Schema, Stop>
 
 // The schema that a file spells.
 fn load_schema<H: Host>(alloc: Global, host: &mut H, name: &str) -> Result<Schema, Stop>
-    ensures loads { Told (H.view host.old) (H.view host.new) (LoadsSchema name.now result) }
+    ensures loads { Told (H.state host.old).view (H.state host.new).view (LoadsSchema name.now result) }
     ensures no_write { IsErrOf result Stop.WriteFault → ⊥ }
-    ensures faults { MeetsFaults H.view H.read_faults H.write_faults H.sound host.old host.new (IsErrOf result Stop.ReadFault) (IsThere name.now) }
+    ensures faults { MeetsFaults kinds.Reads (H.state host.old) (H.state host.new) (IsErrOf result Stop.ReadFault) (IsThere name.now) }
 {
-    let text = text_of(alloc, host, Slot::Schema, name, SCHEMA_BYTES)?;
+    let text = read_file(alloc, host, Slot::Schema, name, SCHEMA_BYTES)?;
     schema_of(alloc, &text)
 }
 
@@ -68,8 +71,8 @@ fn slot_value<H: Host>(
     head: u32,
 ) -> Result<Value, InputFault>
     requires { head < length (types_of schema.now.program) }
-    ensures value { Told (H.view host.old) (H.view host.new) (TakesValue (plain_decls schema.now) (boxed head) result) }
-    ensures faults { MeetsFaults H.view H.read_faults H.write_faults H.sound host.old host.new (IsErrOf result InputFault.ReadFault) (λ _. Unit {0}) }
+    ensures value { Told (H.state host.old).view (H.state host.new).view (TakesValue (plain_decls schema.now) (boxed head) result) }
+    ensures faults { MeetsFaults kinds.Reads (H.state host.old) (H.state host.new) (IsErrOf result InputFault.ReadFault) (λ _. Unit {0}) }
 {
     let mut source = SourceOf::new(host, Slot::Input);
     decode_whole(alloc, schema, head, &mut source)
@@ -84,8 +87,8 @@ fn load_value<H: Host>(
     name: &str,
 ) -> Result<Value, InputFault>
     requires { head < length (types_of schema.now.program) }
-    ensures loads { Told (H.view host.old) (H.view host.new) (LoadsValue (plain_decls schema.now) (boxed head) name.now result) }
-    ensures faults { MeetsFaults H.view H.read_faults H.write_faults H.sound host.old host.new (IsErrOf result InputFault.ReadFault) (IsThere name.now) }
+    ensures loads { Told (H.state host.old).view (H.state host.new).view (LoadsValue (plain_decls schema.now) (boxed head) name.now result) }
+    ensures faults { MeetsFaults kinds.Reads (H.state host.old) (H.state host.new) (IsErrOf result InputFault.ReadFault) (IsThere name.now) }
 {
     match host.open_slot(Slot::Input, name) {
         Ok(()) => slot_value(alloc, host, schema, head),
@@ -101,9 +104,9 @@ fn decoded_line<H: Host>(
     of: &str,
     input: &str,
 ) -> Result<Vec<u8>, Stop>
-    ensures line { Told (H.view host.old) (H.view host.new) (MakesOutput (decode_command schema.now of.now input.now) (bytes_of result)) }
+    ensures line { Told (H.state host.old).view (H.state host.new).view (MakesOutput (decode_command schema.now of.now input.now) (bytes_of result)) }
     ensures no_write { IsErrOf result Stop.WriteFault → ⊥ }
-    ensures faults { MeetsFaults H.view H.read_faults H.write_faults H.sound host.old host.new (IsErrOf result Stop.ReadFault) (CommandAnswered (decode_command schema.now of.now input.now)) }
+    ensures faults { MeetsFaults kinds.Reads (H.state host.old) (H.state host.new) (IsErrOf result Stop.ReadFault) (CommandAnswered (decode_command schema.now of.now input.now)) }
 {
     let schema = load_schema(alloc, host, schema)?;
     let head = plain_type(alloc, &schema, of)?;
@@ -114,9 +117,9 @@ fn decoded_line<H: Host>(
 
 // The list of the schema's declarations.
 fn checked_listing<H: Host>(alloc: Global, host: &mut H, schema: &str) -> Result<Vec<u8>, Stop>
-    ensures list { Told (H.view host.old) (H.view host.new) (MakesOutput (check_command schema.now) (bytes_of result)) }
+    ensures list { Told (H.state host.old).view (H.state host.new).view (MakesOutput (check_command schema.now) (bytes_of result)) }
     ensures no_write { IsErrOf result Stop.WriteFault → ⊥ }
-    ensures faults { MeetsFaults H.view H.read_faults H.write_faults H.sound host.old host.new (IsErrOf result Stop.ReadFault) (CommandAnswered (check_command schema.now)) }
+    ensures faults { MeetsFaults kinds.Reads (H.state host.old) (H.state host.new) (IsErrOf result Stop.ReadFault) (CommandAnswered (check_command schema.now)) }
 {
     let schema = load_schema(alloc, host, schema)?;
     let text = listing(alloc, &schema)?;
@@ -125,11 +128,12 @@ fn checked_listing<H: Host>(alloc: Global, host: &mut H, schema: &str) -> Result
 
 /// Checks a schema, and writes the list of its declarations.
 pub fn check_schema<H: Host>(alloc: Global, host: &mut H, schema: &str) -> Result<(), Stop>
-    ensures works { Told (H.view host.old) (H.view host.new) (Works (check_command schema.now) result) }
-    ensures faults { MeetsBothFaults H.view H.read_faults H.write_faults H.sound host.old host.new (IsErrOf result Stop.ReadFault) (IsErrOf result Stop.WriteFault) (CommandFits (check_command schema.now)) }
+    ensures works { Told (H.state host.old).view (H.state host.new).view (Works (check_command schema.now) result) }
+    ensures kept { Told (H.state host.old).view (H.state host.new).view KeepsRest }
+    ensures faults { MeetsBothFaults (H.state host.old) (H.state host.new) (IsErrOf result Stop.ReadFault) (IsErrOf result Stop.WriteFault) (CommandFits (check_command schema.now)) }
 {
     let text = checked_listing(alloc, host, schema)?;
-    put(host, Out::Output, &text)?;
+    write_out(host, Out::Output, &text)?;
     Ok(())
 }
 
@@ -141,10 +145,11 @@ pub fn decode<H: Host>(
     of: &str,
     input: &str,
 ) -> Result<(), Stop>
-    ensures works { Told (H.view host.old) (H.view host.new) (Works (decode_command schema.now of.now input.now) result) }
-    ensures faults { MeetsBothFaults H.view H.read_faults H.write_faults H.sound host.old host.new (IsErrOf result Stop.ReadFault) (IsErrOf result Stop.WriteFault) (CommandFits (decode_command schema.now of.now input.now)) }
+    ensures works { Told (H.state host.old).view (H.state host.new).view (Works (decode_command schema.now of.now input.now) result) }
+    ensures kept { Told (H.state host.old).view (H.state host.new).view KeepsRest }
+    ensures faults { MeetsBothFaults (H.state host.old) (H.state host.new) (IsErrOf result Stop.ReadFault) (IsErrOf result Stop.WriteFault) (CommandFits (decode_command schema.now of.now input.now)) }
 {
     let line = decoded_line(alloc, host, schema, of, input)?;
-    put(host, Out::Output, &line)?;
+    write_out(host, Out::Output, &line)?;
     Ok(())
 }

@@ -2,7 +2,6 @@
 #![tactic(auto)]
 
 mod decoder;
-mod files;
 mod job;
 mod laws;
 mod listing;

@@ -2,7 +2,7 @@
 ghost use Rattle.std.specs.Prelude.{◌≡◌, ◌⊎◌, IfSome, IsTrue, map, string_bytes};
 ghost use Rattle.tl_base.specs.Calls.{Told};
 ghost use Rattle.tl_base.specs.Causes.{Rose};
-ghost use Rattle.commands.specs.Runs.{Ends};
+ghost use Rattle.commands.specs.Runs.{Ends, KeepsRest};
 ghost use Rattle.commands.specs.Sound.{AnswerFits};
 
 use crate::job::{check_schema, decode};
@@ -20,12 +20,15 @@ const USAGE: &[u8] =
 /// Runs the program over an outside: the words without the program's name, and the status that it ends with.
 pub fn run<H: Host>(alloc: Global, words: &[String], host: &mut H) -> Status
     // Status, Output and Errors are those of the definition, or a fault's whose count rose, or memory's.
-    ensures ends { Told (H.view host.old) (H.view host.new) (Ends (map string_bytes words.now) (Rose (H.read_faults host.old) (H.read_faults host.new)) (Rose (H.write_faults host.old) (H.write_faults host.new)) result) }
+    ensures ends { Told (H.state host.old).view (H.state host.new).view (Ends (map string_bytes words.now) (Rose (H.state host.old).counts.reads (H.state host.new).counts.reads) (Rose (H.state host.old).counts.writes (H.state host.new).counts.writes) result) }
+    // Files, State, links, addresses and moments are as before, and the links' count of faults.
+    ensures kept { Told (H.state host.old).view (H.state host.new).view KeepsRest }
+    ensures links { (H.state host.new).counts.links ≡ (H.state host.old).counts.links }
     // A fault's status comes only where its count rose, told or not.
-    ensures read { result ≡ Status.ReadFault → Rose (H.read_faults host.old) (H.read_faults host.new) }
-    ensures write { result ≡ Status.WriteFault → Rose (H.write_faults host.old) (H.write_faults host.new) }
+    ensures read { result ≡ Status.ReadFault → Rose (H.state host.old).counts.reads (H.state host.new).counts.reads }
+    ensures write { result ≡ Status.WriteFault → Rose (H.state host.old).counts.writes (H.state host.new).counts.writes }
     // Over a sound host with the files that the words take and room enough, no fault's status comes.
-    ensures sound { IfSome (H.view host.old) (λ v. IsTrue (H.sound host.old) → AnswerFits (map string_bytes words.now) v → (result ≡ Status.ReadFault) ⊎ (result ≡ Status.WriteFault) → ⊥) }
+    ensures sound { IfSome (H.state host.old).view (λ v. IsTrue (H.state host.old).sound → AnswerFits (map string_bytes words.now) v → (result ≡ Status.ReadFault) ⊎ (result ≡ Status.WriteFault) → ⊥) }
 {
     if let Some(schema) = check_words(words) {
         return match check_schema(alloc, host, schema) {

@@ -4,12 +4,12 @@ ghost use Rattle.tl_base.specs.Calls.{Told};
 ghost use Rattle.tl_base.specs.Causes.{Rose};
 ghost use Rattle.commands.specs.Answer.{cause_text, check_name, form_name, placed_line, schema_line, text_line, type_cause_name, type_line, unplaced_line};
 ghost use Rattle.commands.specs.Jobs.{journal_cause_text, refusal_line, Reports, TellsLine};
+ghost use Rattle.commands.specs.Runs.{KeepsRest};
 
-use crate::files::put;
 use crate::status::Status;
 use crate::stop::{JournalCause, Refusal, SchemaCause, Stop, TextCause, TypeNameCause};
 use std::alloc::{AllocError, Global};
-use tl_base::{Host, Out};
+use tl_base::{Host, Out, write_out};
 use tl_combinators::Form;
 use tl_types::{Cause, CheckCause, TypeCause};
 
@@ -170,19 +170,23 @@ fn line_of(alloc: Global, refusal: Refusal) -> Result<String, AllocError>
 /// Writes a line to Errors. A fault in writing it leaves the status.
 pub fn tell<H: Host>(host: &mut H, status: Status, line: &[u8]) -> Status
     ensures status { result ≡ status }
-    ensures told { Told (H.view host.old) (H.view host.new) (TellsLine (Rose (H.write_faults host.old) (H.write_faults host.new)) line.now) }
-    ensures later { H.write_faults host.old ≤ H.write_faults host.new }
-    ensures others { H.read_faults host.new ≡ H.read_faults host.old }
+    ensures told { Told (H.state host.old).view (H.state host.new).view (TellsLine (Rose (H.state host.old).counts.writes (H.state host.new).counts.writes) line.now) }
+    ensures later { (H.state host.old).counts.writes ≤ (H.state host.new).counts.writes }
+    ensures others { (H.state host.new).counts.reads ≡ (H.state host.old).counts.reads }
+    ensures kept { Told (H.state host.old).view (H.state host.new).view KeepsRest }
+    ensures links { (H.state host.new).counts.links ≡ (H.state host.old).counts.links }
 {
-    let _ = put(host, Out::Errors, line);
+    let _ = write_out(host, Out::Errors, line);
     status
 }
 
 /// Tells why a run stopped, and answers its status.
 pub fn report<H: Host>(alloc: Global, host: &mut H, stop: Stop) -> Status
-    ensures reports { Told (H.view host.old) (H.view host.new) (Reports (Rose (H.write_faults host.old) (H.write_faults host.new)) stop result) }
-    ensures later { H.write_faults host.old ≤ H.write_faults host.new }
-    ensures others { H.read_faults host.new ≡ H.read_faults host.old }
+    ensures reports { Told (H.state host.old).view (H.state host.new).view (Reports (Rose (H.state host.old).counts.writes (H.state host.new).counts.writes) stop result) }
+    ensures later { (H.state host.old).counts.writes ≤ (H.state host.new).counts.writes }
+    ensures others { (H.state host.new).counts.reads ≡ (H.state host.old).counts.reads }
+    ensures kept { Told (H.state host.old).view (H.state host.new).view KeepsRest }
+    ensures links { (H.state host.new).counts.links ≡ (H.state host.old).counts.links }
     ensures read { result ≡ Status.ReadFault → stop ≡ Stop.ReadFault }
     ensures write { result ≡ Status.WriteFault → stop ≡ Stop.WriteFault }
 {

@@ -62,8 +62,8 @@ pub fn decode_whole<S: Source>(
     from: &mut S,
 ) -> Result<Value, InputFault>
     requires { head < length (types_of schema.now.program) }
-    ensures whole { IfSome (S.left from.old) (λ bytes. AreBytes bytes → DecodesWhole (plain_decls schema.now) (boxed head) bytes result) }
-    ensures used { Used S.left S.faults S.aside S.sound from.old from.new (IsErrOf result InputFault.ReadFault) }
+    ensures whole { IfSome (S.state from.old).left (λ bytes. AreBytes bytes → DecodesWhole (plain_decls schema.now) (boxed head) bytes result) }
+    ensures used { Used (S.state from.old) (S.state from.new) (IsErrOf result InputFault.ReadFault) }
 {
     let mut at = 0;
     let value = decode(alloc, schema, head, &mut at, from)?;

@@ -12,6 +12,6 @@ invariant-loop-field g l =
     let s = g.S.Source in
     let f = value_at (plain_decls l.schema) l.levels in
     record {
-      read : Continues (fields_at f [] (plain_slots l.slots)) (s.left l.fn.from) (s.left l.from) l.fn.at l.at (fields_at f (map view l.fields.items) (plain_slots (drop l.field-index l.slots)));
-      used : Used s.left s.faults s.aside s.sound l.fn.from l.from ⊥;
+      read : Continues (fields_at f [] (plain_slots l.slots)) (s.state l.fn.from).left (s.state l.from).left l.fn.at l.at (fields_at f (map view l.fields.items) (plain_slots (drop l.field-index l.slots)));
+      used : Used (s.state l.fn.from) (s.state l.from) ⊥;
     }

@@ -1,7 +1,7 @@
 use Rattle.std.proofs.Common.{Ok, rules}
 use Rattle.commands.specs.Jobs.{LoadsSchema, decode_command}
 use Rattle.commands.proofs.Commands.{no_schema_made}
-use Rattle.commands.proofs.Sound.{none_failed, stays_sound}
+use Rattle.commands.proofs.Sound.{safe, never_failed, stays_sound}
 use Rattle.commands.proofs.Lines.{decode_refuses, no_type_line, no_value_line, value_line, no_value_sound}
 use Rattle.commands.proofs.job.decoded_line.Goals as goal
 
@@ -24,29 +24,32 @@ returns-clause-line g c =
     value_line c.args.schema.now c.args.of.now c.args.input.now c.in_ok-schema.schema c.in_ok-head.head c.in_ok-head.ensures c.in_ok-value.value _ _ _ _ c.in_ok-schema.ensures.loads c.in_ok-value.ensures.loads (search rules)
 
 pub returns-in_err-value-clause-faults : goal.returns-in_err-value-clause-faults
-returns-in_err-value-clause-faults g c = record {
-  later = search rules;
-  cause = search rules;
-  kept = search rules;
-  safe =
-      no_value_sound c.args.schema.now c.args.of.now c.args.input.now c.in_ok-schema.schema c.in_ok-head.head c.in_ok-head.ensures c.in_err-value.field-0.0 c.from_residual-in_err-value.result _ _ _ _ _
-      c.in_ok-schema.ensures.loads c.in_ok-schema.ensures.faults.safe.stays c.in_err-value.ensures.faults.safe c.from_residual-in_err-value.ensures.1;
-}
+returns-in_err-value-clause-faults g c =
+    let p =
+    no_value_sound c.args.schema.now c.args.of.now c.args.input.now c.in_ok-schema.schema c.in_ok-head.head c.in_ok-head.ensures c.in_err-value.field-0.0 c.from_residual-in_err-value.result _ _ _ _ _
+    c.in_ok-schema.ensures.loads c.in_ok-schema.ensures.faults.stays (safe c.in_err-value.ensures.faults) c.from_residual-in_err-value.ensures.1 in
+    record {
+      later = search rules;
+      cause = search rules;
+      others = search rules;
+      stays = p.stays;
+      never = p.never;
+    }
 
 pub returns-in_err-line-clause-faults : goal.returns-in_err-line-clause-faults
 returns-in_err-line-clause-faults g c = record {
   later = search rules;
   cause = search rules;
-  kept = search rules;
-  safe =
-      none_failed _ _ _ _ _ (stays_sound _ _ _ _ _ (LoadsSchema c.args.schema.now (Ok c.in_ok-schema.schema)) c.in_ok-schema.ensures.loads c.in_ok-schema.ensures.faults.safe.stays c.in_ok-value.ensures.faults.safe.stays) (λ failed. search rules);
+  others = search rules;
+  stays = stays_sound _ _ _ _ _ (LoadsSchema c.args.schema.now (Ok c.in_ok-schema.schema)) c.in_ok-schema.ensures.loads c.in_ok-schema.ensures.faults.stays c.in_ok-value.ensures.faults.stays;
+  never = never_failed (g.H.Host.state c.args.host.now).view _ _ _ (λ failed. search rules);
 }
 
 pub returns-clause-faults : goal.returns-clause-faults
 returns-clause-faults g c = record {
   later = search rules;
   cause = search rules;
-  kept = search rules;
-  safe =
-      none_failed _ _ _ _ _ (stays_sound _ _ _ _ _ (LoadsSchema c.args.schema.now (Ok c.in_ok-schema.schema)) c.in_ok-schema.ensures.loads c.in_ok-schema.ensures.faults.safe.stays c.in_ok-value.ensures.faults.safe.stays) (λ failed. search rules);
+  others = search rules;
+  stays = stays_sound _ _ _ _ _ (LoadsSchema c.args.schema.now (Ok c.in_ok-schema.schema)) c.in_ok-schema.ensures.loads c.in_ok-schema.ensures.faults.stays c.in_ok-value.ensures.faults.stays;
+  never = never_failed (g.H.Host.state c.args.host.now).view _ _ _ (λ failed. search rules);
 }
