@@ -1,10 +1,9 @@
 -- A schema from its text and its file, and an input's value from its file.
 use Rattle.std.proofs.Common.{◌≡◌, ℕ, ◌<◌, ◌≤◌, List, [], ◌++◌, length, Option, Some, None, Result, Ok, Err, refl, sym, ap, ◌∙◌, subst, arith, inl, inr, append-nil, Vec, Global}
-use Rattle.std.specs.Prelude.{IsErrAnd, IfSome}
+use Rattle.std.specs.Prelude.{IsErrAnd}
 use Rattle.std.proofs.lemmas.List.{length-append}
 use Rattle.std.proofs.lemmas.Bool.{cases_lt}
-use Rattle.tl_base.specs.Contents.{AreBytes}
-use Rattle.tl_base.specs.Outside.{View, ShowsBytes, HasFile, left_of, with_left, with_written}
+use Rattle.tl_base.specs.Outside.{View, HasFile, left_of, with_left, with_written}
 use Rattle.tl_base.specs.Hosted.{OnlySlot, ReadsFile}
 use Rattle.tl_base.specs.Calls.{Told, Opens}
 use Rattle.tl_base.specs.declared.host.Slot.TheVariants.{Schema, Input}
@@ -41,7 +40,6 @@ use Rattle.commands.specs.Loaded.{TextRefused, too_long, bad_byte, open_comment,
 use Rattle.commands.specs.Steps.{TakesValue}
 use Rattle.commands.specs.Runs.{KeepsRest}
 use Rattle.commands.specs.Jobs.{OnlyReads, ReadsSchema, LoadsSchema, LoadsValue}
-use Rattle.commands.proofs.SameFiles.{file_bytes}
 
 -- ---- the schema of a text
 
@@ -170,17 +168,16 @@ value_there ds T name bytes (Err (input.Trailing at)) v w has h only = ((bytes, 
 value_there ds T name bytes (Err input.ReadFault) v w has h only = only
 value_there ds T name bytes (Err input.Memory) v w has h only = only
 
-pub value_loaded : (E : Type 0) (ds : List PlainDeclaration) (T : PlainShape) (name : List ℕ) (r : Result Value InputFault) (a m b : Option View) → IfSome a ShowsBytes → Told a m (Opens {E = E} Input name (Ok tt)) → Told m b (TakesValue ds T r)
+pub value_loaded : (E : Type 0) (ds : List PlainDeclaration) (T : PlainShape) (name : List ℕ) (r : Result Value InputFault) (a m b : Option View) → Told a m (Opens {E = E} Input name (Ok tt)) → Told m b (TakesValue ds T r)
     → Told a b (LoadsValue ds T name r)
-value_loaded E ds T name r None None None all opened taken = tt
-value_loaded E ds T name r None None (Some w) all opened taken = taken
-value_loaded E ds T name r None (Some u) b all opened taken = absurd opened
-value_loaded E ds T name r (Some v) None b all opened taken = absurd opened
-value_loaded E ds T name r (Some v) (Some u) None all opened taken = taken
-value_loaded E ds T name r (Some v) (Some u) (Some w) all (bytes, has, is) taken =
+value_loaded E ds T name r None None None opened taken = tt
+value_loaded E ds T name r None None (Some w) opened taken = taken
+value_loaded E ds T name r None (Some u) b opened taken = absurd opened
+value_loaded E ds T name r (Some v) None b opened taken = absurd opened
+value_loaded E ds T name r (Some v) (Some u) None opened taken = taken
+value_loaded E ds T name r (Some v) (Some u) (Some w) (bytes, has, is) taken =
     let left : left_of Input u ≡ bytes = ap (left_of Input) is in
-    let good : AreBytes bytes = file_bytes v.files name bytes all.files has in
-    let value : DecodesWhole ds T bytes r = subst (λ (x : List ℕ). DecodesWhole ds T x r) left (taken.0 (subst AreBytes (sym left) good)) in
+    let value : DecodesWhole ds T bytes r = subst (λ (x : List ℕ). DecodesWhole ds T x r) left taken.0 in
     value_there ds T name bytes r v w has value (then_reads v u w (opened_input bytes v u is) (only_input u w taken.1))
 
 pub not_opened : {F : Type 0} (ds : List PlainDeclaration) (T : PlainShape) (name : List ℕ) (e : F) (a b : Option View) → Told a b (Opens Input name (Err e)) → Told a b (LoadsValue ds T name (Err input.ReadFault))

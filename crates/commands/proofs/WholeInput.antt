@@ -29,29 +29,29 @@ module _ (ds : List PlainDeclaration) (T : PlainShape) where
   RefusesRefused a r = IfSome a (λ bytes. (place : ℕ) (cause : Cause) → Refused ds 120 T bytes place cause → GivesFault r (moved 0 place) cause)
 
   abbrev pub Whole : Option (List ℕ) → Result Value InputFault → Type 0
-  Whole a r = IfSome a (λ bytes. AreBytes bytes → DecodesWhole ds T bytes r)
+  Whole a r = IfSome a (λ bytes. DecodesWhole ds T bytes r)
 
   refused_whole : (bytes : List ℕ) (at p : ℕ) (why cause : Cause) → Refused ds 120 T bytes p cause → (at ≡ moved 0 p) × (why ≡ cause) → DecodesWhole ds T bytes (Err (input.Refused at why))
   refused_whole bytes at p why cause r same = (p, subst (Refused ds 120 T bytes p) (sym same.1) r, same.0)
 
-  pub whole_fails : (a b : Option (List ℕ)) (q : ℕ) (e : DecodeFault) → ReadsSpelled a b q (Err e) → RefusesRefused a (Err e) → Whole a (Err (input_fault e))
-  whole_fails None b q e spelled refused = tt
-  whole_fails (Some bytes) b q (fault.Refused at why) spelled refused = λ are.
+  pub whole_fails : (a b : Option (List ℕ)) (q : ℕ) (e : DecodeFault) → IfSome a AreBytes → ReadsSpelled a b q (Err e) → RefusesRefused a (Err e) → Whole a (Err (input_fault e))
+  whole_fails None b q e are spelled refused = tt
+  whole_fails (Some bytes) b q (fault.Refused at why) are spelled refused =
       elim (either ds 120 T bytes are) [
         | inl (t, x, (rest, is, spells, deep)) ↦ absurd (spelled t x rest is spells deep)
         | inr (place, cause, r) ↦ refused_whole bytes at place why cause r (refused place cause r)
       ]
-  whole_fails (Some bytes) b q fault.ReadFault spelled refused = λ are. tt
-  whole_fails (Some bytes) b q fault.Memory spelled refused = λ are. tt
+  whole_fails (Some bytes) b q fault.ReadFault are spelled refused = tt
+  whole_fails (Some bytes) b q fault.Memory are spelled refused = tt
 
   ends_there : (bytes x rest : List ℕ) (t : Tree) (v : Value) → bytes ≡ x ++ rest → rest ≡ [] → view v ≡ t → Spells ds T t x → depth t ≤ 120 → DecodesWhole ds T bytes (Ok v)
   ends_there bytes x rest t v is none seen spells deep =
       let all : bytes ≡ x = is ∙ ap (λ (z : List ℕ). x ++ z) none ∙ append-nil x in
       rw (seen, all) (spells, deep)
 
-  pub whole_read : (a b c : Option (List ℕ)) (q : ℕ) (v : Value) (end : Bool) → ReadsSpelled a b q (Ok v) → RefusesRefused a (Ok v) → end ≡ true → IfSome b (λ bytes. TakesEnd {E = Failed} bytes c (Ok end)) → Whole a (Ok v)
-  whole_read None b c q v end spelled refused is_end h = tt
-  whole_read (Some bytes) b c q v end spelled refused is_end h = λ are.
+  pub whole_read : (a b c : Option (List ℕ)) (q : ℕ) (v : Value) (end : Bool) → IfSome a AreBytes → ReadsSpelled a b q (Ok v) → RefusesRefused a (Ok v) → end ≡ true → IfSome b (λ bytes. TakesEnd {E = Failed} bytes c (Ok end)) → Whole a (Ok v)
+  whole_read None b c q v end are spelled refused is_end h = tt
+  whole_read (Some bytes) b c q v end are spelled refused is_end h =
       elim (either ds 120 T bytes are) [
         | inl (t, x, (rest, is, spells, deep)) ↦
             let got = spelled t x rest is spells deep in
@@ -63,9 +63,9 @@ module _ (ds : List PlainDeclaration) (T : PlainShape) where
   goes_on_there : (bytes x rest more : List ℕ) (b q : ℕ) (t : Tree) → bytes ≡ x ++ rest → rest ≡ b ∷ more → Spells ds T t x → depth t ≤ 120 → q ≡ moved 0 (length x) → DecodesWhole ds T bytes (Err (input.Trailing q))
   goes_on_there bytes x rest more b q t is some spells deep at = (t, x, b, more, is ∙ ap (λ (z : List ℕ). x ++ z) some, spells, deep, at)
 
-  pub whole_goes_on : (a b c : Option (List ℕ)) (q : ℕ) (v : Value) (end : Bool) → ReadsSpelled a b q (Ok v) → RefusesRefused a (Ok v) → end ≡ false → IfSome b (λ bytes. TakesEnd {E = Failed} bytes c (Ok end)) → Whole a (Err (input.Trailing q))
-  whole_goes_on None b c q v end spelled refused is_end h = tt
-  whole_goes_on (Some bytes) b c q v end spelled refused is_end h = λ are.
+  pub whole_goes_on : (a b c : Option (List ℕ)) (q : ℕ) (v : Value) (end : Bool) → IfSome a AreBytes → ReadsSpelled a b q (Ok v) → RefusesRefused a (Ok v) → end ≡ false → IfSome b (λ bytes. TakesEnd {E = Failed} bytes c (Ok end)) → Whole a (Err (input.Trailing q))
+  whole_goes_on None b c q v end are spelled refused is_end h = tt
+  whole_goes_on (Some bytes) b c q v end are spelled refused is_end h =
       elim (either ds 120 T bytes are) [
         | inl (t, x, (rest, is, spells, deep)) ↦
             let got = spelled t x rest is spells deep in

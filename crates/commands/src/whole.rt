@@ -1,6 +1,5 @@
 //! Values that are whole inputs.
 ghost use Rattle.std.specs.Prelude.{◌<◌, IsErrOf, IfSome, length};
-ghost use Rattle.tl_base.specs.Contents.{AreBytes};
 ghost use Rattle.tl_base.specs.Using.{Used};
 ghost use Rattle.tl_types.specs.Meanings.{types_of};
 ghost use Rattle.tl_types.specs.PlainTypes.{boxed};
@@ -62,7 +61,7 @@ pub fn decode_whole<S: Source>(
     from: &mut S,
 ) -> Result<Value, InputFault>
     requires { head < length (types_of schema.now.program) }
-    ensures whole { IfSome (S.state from.old).left (λ bytes. AreBytes bytes → DecodesWhole (plain_decls schema.now) (boxed head) bytes result) }
+    ensures whole { IfSome (S.state from.old).left (λ bytes. DecodesWhole (plain_decls schema.now) (boxed head) bytes result) }
     ensures used { Used (S.state from.old) (S.state from.new) (IsErrOf result InputFault.ReadFault) }
 {
     let mut at = 0;

@@ -5,4 +5,4 @@ use Rattle.commands.proofs.job.load_value.Goals as goal
 
 pub returns-in-Ok-clause-loads : goal.returns-in-Ok-clause-loads
 returns-in-Ok-clause-loads g c =
-    value_loaded Failed (plain_decls c.args.schema.now) _ c.args.name.now c.slot_value.result _ _ _ (g.met.H.Host.are_bytes c.args.host.now) c.in-Ok.ensures.view c.slot_value.ensures.value
+    value_loaded Failed (plain_decls c.args.schema.now) _ c.args.name.now c.slot_value.result _ _ _ c.in-Ok.ensures.view c.slot_value.ensures.value
