@@ -3,8 +3,7 @@ use std::alloc::{AllocError, Global};
 use std::test::Fail;
 use tl_base::{
     Bytes, Limited, MemSink, MemSource, PacketFault, TakeFault, WriteFault, bytes_of_i64,
-    bytes_of_u32, i32_of, i64_of, read_packet, take_bytes, take_word, u32_of, u64_of,
-    write_packet,
+    bytes_of_u32, i32_of, i64_of, read_packet, take_bytes, take_word, u32_of, u64_of, write_packet,
 };
 
 // A source of these bytes, whose first read gives one of them.
@@ -21,8 +20,16 @@ const READS: [Read; 9] = [
     (b"\x04\0\0\0abcd", Ok(true), b"abcd"),
     (b"\x04\0\0\0abcdef", Ok(true), b"abcd"),
     (b"\0\0\0\0", Ok(true), b""),
-    (b"\x05\0\0\0abcde", Err(PacketFault::BadLength { length: 5 }), b""),
-    (b"\x04\0\x10\0", Err(PacketFault::BadLength { length: 1_048_580 }), b""),
+    (
+        b"\x05\0\0\0abcde",
+        Err(PacketFault::BadLength { length: 5 }),
+        b"",
+    ),
+    (
+        b"\x04\0\x10\0",
+        Err(PacketFault::BadLength { length: 1_048_580 }),
+        b"",
+    ),
     (b"\x04\0", Err(PacketFault::Ended { had: 2 }), b""),
     (b"\x04\0\0\0", Err(PacketFault::Ended { had: 4 }), b""),
     (b"\x04\0\0\0ab", Err(PacketFault::Ended { had: 6 }), b""),
