@@ -12,3 +12,4 @@ pub mod Spelled
 pub mod Sending
 pub mod Showing
 pub mod Hosting
+pub mod Linking

@@ -1,5 +1,5 @@
 -- A read within a limit is a read of what lies before it.
-use Rattle.std.proofs.Common.{◌≡◌, ℕ, ◌+◌, ◌-◌, ◌<◌, ◌≤◌, min, List, [], ◌∷◌, ◌++◌, length, take, drop, Option, Some, None, refl, sym, ap, ◌∙◌, ap₂, append_assoc, subst, inl, inr, arith, length-drop, take-append-drop}
+use Rattle.std.proofs.Common.{◌≡◌, ℕ, ◌+◌, ◌-◌, ◌<◌, ◌≤◌, min, List, [], ◌∷◌, ◌++◌, length, get_or, take, drop, Option, Some, None, refl, sym, ap, ◌∙◌, ap₂, append_assoc, subst, inl, inr, arith, length-drop, take-append-drop}
 use Rattle.std.specs.Prelude.{option_map}
 use Rattle.std.specs.Io.KnownBytes.{Consumes, IsAtEnd}
 use Rattle.std.proofs.lemmas.List.{length-append, length-take-le, take_all, take-append-le, drop-drop, drop_at}
@@ -7,6 +7,8 @@ use Rattle.std.proofs.Math.Seq.{take-append-add}
 use Rattle.std.proofs.lemmas.Bool.{cases_lt}
 use Rattle.std.specs.Prelude.{IsSome}
 use Rattle.tl_base.specs.Using.{Aside, SourceState, Used}
+use Rattle.tl_base.specs.Outside.{View}
+use Rattle.tl_base.specs.declared.counts.Counts.{Counts}
 use Rattle.tl_base.specs.Limits.{behind, past_end, limited_state}
 
 take_none : (n : ℕ) → take {A = ℕ} n [] ≡ []
@@ -99,3 +101,40 @@ over_limit x y r s piece front back past =
     let whole : x ≡ piece ++ y =
     sym (take-append-drop r x) ∙ (ap₂ (λ (a b : List ℕ). a ++ b) front (sym back) ∙ (append_assoc piece (take s y) (drop s y) ∙ ap (λ (l : List ℕ). piece ++ l) (take-append-drop s y))) in
     (whole, omega (arith, ap length whole, length-append piece y, ap length back, length-drop s y, length-drop r x, past))
+
+took_at : (a b : Option (List ℕ)) (r s : ℕ) (piece : List ℕ) → behind s b ≡ behind r a → past_end s b ≡ past_end r a → Consumes (option_map (take r) a) (option_map (take s) b) piece → Consumes a b piece × (IsSome a → r ≡ length piece + s)
+took_at None b r s piece back past h = (tt, λ some. absurd cc)
+took_at (Some x) None r s piece back past h = absurd h
+took_at (Some x) (Some y) r s piece back past h = let both = over_limit x y r s piece h back past in (both.0, λ some. both.1)
+
+abbrev made_of_parts : Counts → Option View → List (List ℕ) → Aside
+made_of_parts counts view held = record { counts = counts; view = view; held = held }
+
+same_parts : (a b : Aside) → a.counts ≡ b.counts → a.view ≡ b.view → a.held ≡ b.held → a ≡ b
+same_parts a b p q r =
+    ap (λ (x : Counts). made_of_parts x a.view a.held) p ∙ (ap (λ (x : Option View). made_of_parts b.counts x a.held) q ∙ ap (made_of_parts b.counts b.view) r)
+
+inner_aside : (l k r s m n : ℕ) (x y : SourceState) → (limited_state k s y n).aside ≡ (limited_state l r x m).aside → y.aside ≡ x.aside
+inner_aside l k r s m n x y e = same_parts y.aside x.aside (ap (λ (a : Aside). a.counts) e) (ap (λ (a : Aside). a.view) e) (ap (λ (a : Aside). drop 2 a.held) e)
+
+-- what a call over a limited source took, it took of the other source; and the limit is nearer by as much
+pub limited_took : (l k r s m n : ℕ) (x y : SourceState) (piece : List ℕ) → (limited_state k s y n).aside ≡ (limited_state l r x m).aside → Consumes (limited_state l r x m).left (limited_state k s y n).left piece
+    → Consumes x.left y.left piece × (IsSome x.left → r ≡ length piece + s)
+limited_took l k r s m n x y piece e h = took_at x.left y.left r s piece (ap (λ (a : Aside). get_or a.held 1 []) e) (ap (λ (a : Aside). get_or (get_or a.held 0 []) 2 0) e) h
+
+-- the limit is the one that it was
+pub limit_kept : (l k r s m n : ℕ) (x y : SourceState) → (limited_state k s y n).aside ≡ (limited_state l r x m).aside → k ≡ l
+limit_kept l k r s m n x y e = ap (λ (a : Aside). get_or (get_or a.held 0 []) 1 0) e
+
+-- what it did to the limited source beside that, it did to the other source
+pub limited_back : (l k r s m n : ℕ) (x y : SourceState) (F : Type 0) → Used (limited_state l r x m) (limited_state k s y n) F → Used x y F
+limited_back l k r s m n x y F u =
+    record {
+      later = u.later;
+      cause = u.cause;
+      kept = inner_aside l k r s m n x y u.kept;
+      told = λ some. told_by (take s) y.left (u.told (told_on (take r) x.left some));
+      untold = λ none. untold_by (take s) y.left (u.untold (untold_on (take r) x.left none));
+      stays = λ some sound. u.stays (told_on (take r) x.left some) sound;
+      never = λ some sound f. u.never (told_on (take r) x.left some) sound f;
+    }

@@ -9,22 +9,25 @@ use Rattle.tl_base.specs.declared.host.Slot.TheVariants as slots
 use Rattle.tl_base.specs.declared.host.Out.{Out}
 use Rattle.tl_base.specs.declared.host.Out.TheVariants as outs
 
--- a number for each slot and each out
+-- a number for each slot
 abbrev pub slot_number : Slot → ℕ
 slot_number slots.Schema = 0
 slot_number slots.Input = 1
 slot_number slots.State = 2
 slot_number slots.Link = 3
 
+-- a number for each out
 abbrev pub out_number : Out → ℕ
 out_number outs.Output = 0
 out_number outs.Errors = 1
 out_number outs.State = 2
 out_number outs.Link = 3
 
+-- what is left of a slot, where the view is told
 abbrev pub slot_left : Slot → Option View → Option (List ℕ)
 slot_left slot view = option_map (left_of slot) view
 
+-- what was written to an out, where the view is told
 abbrev pub out_written : Out → Option View → Option (List ℕ)
 out_written out view = option_map (written_of out) view
 

@@ -11,6 +11,7 @@ use Rattle.tl_base.specs.declared.mem_sink.MemSink.{MemSink}
 abbrev pub source_bytes : MemSource → List ℕ
 source_bytes s = drop s.at s.bytes
 
+-- how often reading has failed
 abbrev pub source_faults : MemSource → ℕ
 source_faults s = s.faults
 
@@ -40,12 +41,15 @@ pub record CountsRead (old new : MemSource) : Type 0 where
 
 -- ---- a sink
 
+-- the bytes that were written
 abbrev pub sink_bytes : MemSink → List ℕ
 sink_bytes s = s.bytes.items
 
+-- how many bytes it takes in all
 abbrev pub sink_room : MemSink → ℕ
 sink_room s = s.room
 
+-- how often writing has failed
 abbrev pub sink_faults : MemSink → ℕ
 sink_faults s = s.faults
 

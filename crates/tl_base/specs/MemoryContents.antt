@@ -11,15 +11,19 @@ use Rattle.tl_base.specs.declared.mem_contents.Origin.TheVariants.{File, Link}
 use Rattle.tl_base.specs.declared.mem_contents.Reading.{Reading}
 use Rattle.tl_base.specs.declared.mem_contents.Readings.{Readings}
 
+-- the name and the contents of a file
 abbrev pub file_view : MemFile → List ℕ × List ℕ
 file_view f = (f.name, f.bytes)
 
+-- the contents of a file
 abbrev pub file_bytes : MemFile → List ℕ
 file_bytes f = f.bytes
 
+-- what a link gives
 abbrev pub link_bytes : MemLink → List ℕ
 link_bytes l = l.bytes
 
+-- what was written to a link
 abbrev pub link_written : MemLink → List ℕ
 link_written l = l.written.items
 
@@ -50,12 +54,14 @@ lefts files links rs = record { schema = left_by files links rs.schema; input = 
 abbrev pub no_readings : Readings
 no_readings = record { schema = None; input = None; state = None; link = None }
 
+-- what this slot reads
 abbrev pub reading_of : Slot → Readings → Option Reading
 reading_of slots.Schema rs = rs.schema
 reading_of slots.Input rs = rs.input
 reading_of slots.State rs = rs.state
 reading_of slots.Link rs = rs.link
 
+-- the slots, where this one reads r
 abbrev pub with_reading : Slot → Reading → Readings → Readings
 with_reading slots.Schema r rs = record rs { schema = Some r }
 with_reading slots.Input r rs = record rs { input = Some r }
@@ -67,14 +73,17 @@ abbrev pub origin_files : Origin → ℕ
 origin_files (File index) = index + 1
 origin_files (Link index) = 0
 
+-- likewise of links
 abbrev pub origin_links : Origin → ℕ
 origin_links (File index) = 0
 origin_links (Link index) = index + 1
 
+-- how many files there must be for a slot to be read
 abbrev pub files_read : Option Reading → ℕ
 files_read None = 0
 files_read (Some r) = origin_files r.origin
 
+-- likewise of links
 abbrev pub links_read : Option Reading → ℕ
 links_read None = 0
 links_read (Some r) = origin_links r.origin

@@ -11,12 +11,15 @@ use Rattle.tl_base.specs.declared.mem_script.HostCall.{HostCall}
 use Rattle.tl_base.specs.declared.mem_script.HostCall.TheVariants.{Read, Write}
 use Rattle.tl_base.specs.declared.mem_host.MemHost.{MemHost}
 
+-- what it shows
 abbrev pub host_view : MemHost → View
 host_view h = view_of h.shown
 
+-- what it was told of its calls
 abbrev pub host_script : MemHost → ScriptView
 host_script h = script_of h.script
 
+-- how often its calls have failed
 abbrev pub host_counts : MemHost → Counts
 host_counts h = h.counts
 

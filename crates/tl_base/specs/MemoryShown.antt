@@ -9,6 +9,7 @@ use Rattle.tl_base.specs.declared.mem_shown.MemShown.{MemShown}
 abbrev pub outs_of : MemShown → Written
 outs_of s = record { output = s.output.items; errors = s.errors.items; state = s.state.items; unlinked = s.unlinked.items; links = map link_written (take s.taken s.links.items) }
 
+-- what it shows
 abbrev pub view_of : MemShown → View
 view_of s = record {
   files = map file_view s.files.items;

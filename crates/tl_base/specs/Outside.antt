@@ -43,12 +43,14 @@ pub record HostState : Type 0 where
 
 -- ---- slots
 
+-- what is left of this slot
 abbrev pub slot_part : Slot → Left → List ℕ
 slot_part slots.Schema l = l.schema
 slot_part slots.Input l = l.input
 slot_part slots.State l = l.state
 slot_part slots.Link l = l.link
 
+-- likewise, with these bytes left of this slot
 abbrev pub with_slot : Slot → List ℕ → Left → Left
 with_slot slots.Schema bytes l = record l { schema = bytes }
 with_slot slots.Input bytes l = record l { input = bytes }
@@ -78,12 +80,14 @@ abbrev pub if_no_list : List ℕ → List (List ℕ) → List ℕ → List ℕ
 if_no_list bytes [] none = bytes
 if_no_list bytes (x ∷ xs) none = none
 
+-- what was written to this out
 abbrev pub out_part : Out → Written → List ℕ
 out_part outs.Output w = w.output
 out_part outs.Errors w = w.errors
 out_part outs.State w = w.state
 out_part outs.Link w = last_or w.unlinked w.links
 
+-- likewise, with these bytes written to this out
 abbrev pub with_out : Out → List ℕ → Written → Written
 with_out outs.Output bytes w = record w { output = bytes }
 with_out outs.Errors bytes w = record w { errors = bytes }

@@ -65,6 +65,7 @@ pub record ScriptView : Type 0 where
   pub fails : List Failing
   pub made : Made
 
+-- what it was told
 abbrev pub script_of : Script → ScriptView
 script_of s = record { cuts = s.cuts.items; fails = s.fails.items; made = s.made }
 

@@ -5,8 +5,9 @@ use crate::bytes::Bytes;
 use crate::counts::{Counts, Kind};
 use crate::fault::{Failed, Memory};
 use crate::host::{Host, Out, Slot};
-use crate::mem_script::{HostCall, Script};
+use crate::mem_script::{Failing, HostCall, Script};
 use crate::mem_shown::MemShown;
+use crate::pieces::most_at;
 use std::alloc::Global;
 
 /// Files, outs, links, moments and counts in memory. It tells its view.
@@ -75,7 +76,8 @@ impl MemHost {
         ensures view { host_view self.new ≡ host_view self.old }
         ensures counts { host_counts self.new ≡ host_counts self.old }
     {
-        self.script.cut(most)
+        self.script.cuts.push(most)?;
+        Ok(())
     }
 
     /// Lets call number `number` of this kind, from 0, fail.
@@ -85,7 +87,8 @@ impl MemHost {
         ensures view { host_view self.new ≡ host_view self.old }
         ensures counts { host_counts self.new ≡ host_counts self.old }
     {
-        self.script.fail(call, number)
+        self.script.fails.push(Failing { call, number })?;
+        Ok(())
     }
 
     /// What was written to an out.
@@ -152,7 +155,7 @@ impl Host for MemHost {
         let Some(number) = self.script.next(HostCall::Read { slot }) else {
             return Err(self.counts.fail(slot.kind()));
         };
-        let most = self.script.most_at(number);
+        let most = most_at(&self.script.cuts, number);
         Ok(self.shown.give(slot, most, into))
     }
 

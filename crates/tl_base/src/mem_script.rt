@@ -1,12 +1,9 @@
 //! What a host in memory was told of its calls.
-ghost use Rattle.std.specs.Prelude.{◌≡◌, ◌∷◌, ◌++◌, ◌<◌, [], IfSome, IfNone, OnOk, OnErr};
+ghost use Rattle.std.specs.Prelude.{◌≡◌, IfSome, IfNone};
 ghost use Rattle.tl_base.specs.Causes.{one_more};
-ghost use Rattle.tl_base.specs.Scripts.{none_made, made_of, with_made, no_script, script_of, counted, FailsNext};
-ghost use Rattle.tl_base.specs.Cuts.{cut_at};
+ghost use Rattle.tl_base.specs.Scripts.{made_of, with_made, no_script, script_of, counted, FailsNext};
 
-use crate::fault::Memory;
 use crate::host::{Out, Slot};
-use crate::pieces::most_at;
 use std::alloc::Global;
 
 /// A kind of call to a host.
@@ -47,27 +44,6 @@ pub struct Made {
 }
 
 impl Made {
-    // No call was made.
-    fn none() -> Made
-        ensures { result ≡ none_made }
-    {
-        Made {
-            opens: 0,
-            schema_reads: 0,
-            input_reads: 0,
-            state_reads: 0,
-            link_reads: 0,
-            creates: 0,
-            output_writes: 0,
-            errors_writes: 0,
-            state_writes: 0,
-            link_writes: 0,
-            listens: 0,
-            connects: 0,
-            accepts: 0,
-        }
-    }
-
     // How many calls of a kind there were.
     fn number(&self, call: HostCall) -> u64
         ensures { result ≡ made_of call self.now }
@@ -122,9 +98,9 @@ impl Made {
 /// Which calls fail, how much a read gives at most, and how many calls there were.
 #[derive(Drop)]
 pub struct Script {
-    cuts: Vec<u32>,
-    fails: Vec<Failing>,
-    made: Made,
+    pub cuts: Vec<u32>,
+    pub fails: Vec<Failing>,
+    pub made: Made,
 }
 
 impl Script {
@@ -135,26 +111,22 @@ impl Script {
         Script {
             cuts: Vec::new(alloc),
             fails: Vec::new(alloc),
-            made: Made::none(),
+            made: Made {
+                opens: 0,
+                schema_reads: 0,
+                input_reads: 0,
+                state_reads: 0,
+                link_reads: 0,
+                creates: 0,
+                output_writes: 0,
+                errors_writes: 0,
+                state_writes: 0,
+                link_writes: 0,
+                listens: 0,
+                connects: 0,
+                accepts: 0,
+            },
         }
-    }
-
-    /// Adds a cut.
-    pub fn cut(&mut self, most: u32) -> Result<(), Memory>
-        ensures ok { OnOk result (script_of self.new ≡ record (script_of self.old) { cuts = (script_of self.old).cuts ++ most ∷ [] }) }
-        ensures err { OnErr result (script_of self.new ≡ script_of self.old) }
-    {
-        self.cuts.push(most)?;
-        Ok(())
-    }
-
-    /// Lets a call fail.
-    pub fn fail(&mut self, call: HostCall, number: u64) -> Result<(), Memory>
-        ensures ok { OnOk result (script_of self.new ≡ record (script_of self.old) { fails = (script_of self.old).fails ++ record { call = call; number = number } ∷ [] }) }
-        ensures err { OnErr result (script_of self.new ≡ script_of self.old) }
-    {
-        self.fails.push(Failing { call, number })?;
-        Ok(())
     }
 
     /// Counts the next call of a kind. It answers the call's number, or none where it is one that fails.
@@ -170,13 +142,5 @@ impl Script {
         } else {
             Some(number)
         }
-    }
-
-    /// How many bytes the read of a slot with this number may give.
-    pub fn most_at(&self, number: u64) -> usize
-        ensures some { 0 < result }
-        ensures cut { result ≡ cut_at (script_of self.now).cuts number }
-    {
-        most_at(&self.cuts, number)
     }
 }
