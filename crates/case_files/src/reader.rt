@@ -18,7 +18,7 @@ pub struct BadLine {
 #[derive(Drop)]
 struct Reader {
     alloc: Global,
-    // The case file's name, and the folder that it lies in, with the `/` at its end.
+    // The case file's name, and the folder that it lies in; empty where the name has none.
     file: String,
     folder: String,
     // The case that was begun last: its name, its line, and the index of its first run. Line 0: none was begun.
