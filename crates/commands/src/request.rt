@@ -6,7 +6,9 @@ ghost use Rattle.commands.specs.Requests.{IsOperand, FindsRequest};
 #[derive(Clone, Copy)]
 pub enum Request<'a> {
     /// `check SCHEMA`
-    Check { schema: &'a str },
+    Check {
+        schema: &'a str,
+    },
     /// `decode SCHEMA TYPE INPUT`
     Decode {
         schema: &'a str,
@@ -14,7 +16,10 @@ pub enum Request<'a> {
         input: &'a str,
     },
     /// `replay SCHEMA JOURNAL CLIENTS`. There is one client.
-    Replay { schema: &'a str, journal: &'a str },
+    Replay {
+        schema: &'a str,
+        journal: &'a str,
+    },
 }
 
 /// The request that the words ask for.
@@ -27,8 +32,7 @@ pub fn request_of(words: &[String]) -> Option<Request<'_>>
             decode_of(schema.as_str(), of.as_str(), input.as_str())
         }
         [command, schema, journal, clients]
-            if command.as_str() == "replay" && clients.as_str() == "1" =>
-        {
+            if command.as_str() == "replay" && clients.as_str() == "1" => {
             replay_of(schema.as_str(), journal.as_str())
         }
         _ => None,
