@@ -1,5 +1,5 @@
 -- How a run ends, from how its job ended and what was told.
-use Rattle.std.proofs.Common.{◌≡◌, ℕ, List, [], ◌++◌, append-nil, Option, Some, None, Ok, Err, refl, sym, ap, ◌∙◌, subst, codes, inl, inr}
+use Rattle.std.proofs.Common.{◌≡◌, ℕ, List, [], ◌++◌, append-nil, Option, Some, None, Result, Ok, Err, refl, sym, ap, ◌∙◌, subst, codes, inl, inr}
 use Rattle.std.specs.Prelude.{IfSome, IsErrOf, ◌⊎◌}
 use Rattle.tl_base.specs.Contents.{Files}
 use Rattle.tl_base.specs.Outside.{View}
@@ -9,13 +9,14 @@ use Rattle.commands.specs.declared.stop.Stop.{Stop}
 use Rattle.commands.specs.declared.stop.Stop.TheVariants as stop
 use Rattle.commands.specs.declared.status.Status.{Status}
 use Rattle.commands.specs.declared.status.Status.TheVariants as status
-use Rattle.commands.specs.Answer.{Answer, AskReplay, usage, usage_line, done, refused, refused_after}
-use Rattle.commands.specs.Answers.{AskNothing, Answers, no_row, replay}
-use Rattle.commands.specs.ReplayJobs.{WritesSome, Replays}
-use Rattle.commands.specs.Sound.{CommandFits, ReplayFits, AnswerFits}
+use Rattle.commands.specs.Answer.{Answer, usage, usage_line, done, refused_after}
+use Rattle.commands.specs.Requests.{RequestText, replay, AsksFor, AsksNothing}
+use Rattle.commands.specs.Answers.{AnswerTo, no_request, requested}
+use Rattle.commands.specs.ReplayJobs.{Replays}
+use Rattle.commands.specs.Sound.{RequestFits, AnswerFits}
 use Rattle.commands.specs.Runs.{WritesFront, Tells, Ends, answered, read_failed, write_failed, out_of_memory}
-use Rattle.commands.specs.Jobs.{Command, Works, TellsLine, Reports, refusal_line}
-use Rattle.commands.proofs.OneAnswer.{replays}
+use Rattle.commands.specs.Jobs.{Command, Works, WritesSomeOf, WorksFor, TellsLine, Reports, refusal_line}
+use Rattle.commands.proofs.OneAnswer.{answer_to}
 use Rattle.commands.proofs.Views.{told_as, told_then}
 
 -- ---- endings
@@ -27,56 +28,62 @@ tells_on V line v u w e rose (inr (r, (front, rest, split, h))) = inr (rose r, (
 tells_none : {W : Type 0} (v w : View) → w.written.errors ≡ v.written.errors → Tells W [] v w
 tells_none v w e = inl (e ∙ sym (append-nil v.written.errors))
 
--- words that ask for this command
-module _ (words : List (List ℕ)) (command : Command) (answers : (files : Files) (a : Answer) → command files a → Answers words files a) (R W V : Type 0) where
-  pub ends_done : (a b : Option View) (k : Status) → k ≡ status.Done → Told a b (Works command (Ok tt)) → Told a b (Ends words R W k)
-  ends_done a b k is = told_as a b (Works command (Ok tt)) (Ends words R W k) (λ v w h. answered (done h.0) (answers v.files (done h.0) h.1) is h.2 (tells_none v w h.3))
+-- words that ask for this request
+module _ (words : List (List ℕ)) (r : RequestText) (asks : AsksFor words r) (R W V : Type 0) where
+  pub ends_done : (a b : Option View) (k : Status) → k ≡ status.Done → Told a b (WorksFor r (Ok tt)) → Told a b (Ends words R W k)
+  ends_done a b k is = told_as a b (WorksFor r (Ok tt)) (Ends words R W k) (λ v w h. answered (done h.0) (requested r asks h.1) is h.2 (tells_none v w h.3))
 
-  ended : (e : Stop) (k : Status) → (V → W) → (e ≡ stop.ReadFault → R) → (e ≡ stop.WriteFault → W) → (v u w : View) → Works command (Err e) v u → Reports V e k u w → Ends words R W k v w
-  ended (stop.Refused r) k rose read write v u w (answer, only) (inl (is, (same, told))) =
-      answered (refused (refusal_line r)) (answers v.files _ answer) is (same ∙ only.output ∙ sym (append-nil v.written.output)) (tells_on V (refusal_line r) v u w only.errors rose told)
-  ended (stop.Refused r) k rose read write v u w (answer, only) (inr (is, (same, told))) =
-      out_of_memory is (inl (same ∙ only.output)) (tells_on V _ v u w only.errors rose told)
+  front_of : (v u w : View) → w.written.output ≡ u.written.output → WritesSomeOf r v u → WritesFront words v w
+  front_of v u w same (a, answer, (front, rest, split, put)) = (a, requested r asks answer, (front, rest, split, same ∙ put))
+
+  -- Refused with no memory for the line: the answer's Output was none, or it was written as it went.
+  ended : (e : Stop) (k : Status) → (V → W) → (e ≡ stop.ReadFault → R) → (e ≡ stop.WriteFault → W) → (v u w : View) → WorksFor r (Err e) v u → Reports V e k u w → Ends words R W k v w
+  ended (stop.Refused x) k rose read write v u w (output, answer, put, errors, goes) (inl (is, (same, told))) =
+      answered (refused_after output (refusal_line x)) (requested r asks answer) is (same ∙ put) (tells_on V (refusal_line x) v u w errors rose told)
+  ended (stop.Refused x) k rose read write v u w (output, answer, put, errors, inl e) (inr (is, (same, told))) =
+      out_of_memory is (inl (same ∙ e)) (tells_on V _ v u w errors rose told)
+  ended (stop.Refused x) k rose read write v u w (output, answer, put, errors, inr goes) (inr (is, (same, told))) =
+      let all = front_of v u w same (refused_after output (refusal_line x), answer, (output, [], append-nil output, put)) in
+      out_of_memory is (inr (r, asks, goes, all)) (tells_on V _ v u w errors rose told)
   ended stop.ReadFault k rose read write v u w only (is, (same, told)) =
       read_failed (read refl) is (same ∙ only.output) (tells_on V _ v u w only.errors rose told)
-  ended stop.WriteFault k rose read write v u w (line, answer, (front, rest, split, put), errors) (is, (same, told)) =
-      write_failed (write refl) is (done line, answers v.files (done line) answer, (front, rest, split, same ∙ put)) (tells_on V _ v u w errors rose told)
-  ended stop.Memory k rose read write v u w only (is, (same, told)) =
-      out_of_memory is (inl (same ∙ only.output)) (tells_on V _ v u w only.errors rose told)
-
-  pub ends_stopped : (e : Stop) (k : Status) (a m b : Option View) → (V → W) → (e ≡ stop.ReadFault → R) → (e ≡ stop.WriteFault → W) → Told a m (Works command (Err e)) → Told m b (Reports V e k) → Told a b (Ends words R W k)
-  ends_stopped e k a m b rose read write = told_then a m b (Works command (Err e)) (Reports V e k) (Ends words R W k) (ended e k rose read write)
-
-module _ (words : List (List ℕ)) (s j : List ℕ) (asked : AskReplay words s j) (R W V : Type 0) where
-  pub ends_replayed : (a b : Option View) (k : Status) → k ≡ status.Done → Told a b (Replays s j (Ok tt)) → Told a b (Ends words R W k)
-  ends_replayed a b k is = told_as a b (Replays s j (Ok tt)) (Ends words R W k) (λ v w h. answered (done h.0) (replay s j asked h.1) is h.2 (tells_none v w h.3))
-
-  front_of : (v u w : View) → w.written.output ≡ u.written.output → WritesSome s j v u → WritesFront words v w
-  front_of v u w same (a, answer, (front, rest, split, put)) = (a, replay s j asked answer, (front, rest, split, same ∙ put))
-
-  replay_ended : (e : Stop) (k : Status) → (V → W) → (e ≡ stop.ReadFault → R) → (e ≡ stop.WriteFault → W) → (v u w : View) → Replays s j (Err e) v u → Reports V e k u w → Ends words R W k v w
-  replay_ended (stop.Refused r) k rose read write v u w (output, answer, put, errors) (inl (is, (same, told))) =
-      answered (refused_after output (refusal_line r)) (replay s j asked answer) is (same ∙ put) (tells_on V (refusal_line r) v u w errors rose told)
-  replay_ended (stop.Refused r) k rose read write v u w (output, answer, put, errors) (inr (is, (same, told))) =
-      let all = front_of v u w same (refused_after output (refusal_line r), answer, (output, [], append-nil output, put)) in
-      out_of_memory is (inr (s, j, asked, all)) (tells_on V _ v u w errors rose told)
-  replay_ended stop.ReadFault k rose read write v u w only (is, (same, told)) =
-      read_failed (read refl) is (same ∙ only.output) (tells_on V _ v u w only.errors rose told)
-  replay_ended stop.WriteFault k rose read write v u w (some, errors) (is, (same, told)) =
+  ended stop.WriteFault k rose read write v u w (some, errors) (is, (same, told)) =
       write_failed (write refl) is (front_of v u w same some) (tells_on V _ v u w errors rose told)
-  replay_ended stop.Memory k rose read write v u w (inl e, errors) (is, (same, told)) =
+  ended stop.Memory k rose read write v u w (inl e, errors) (is, (same, told)) =
       out_of_memory is (inl (same ∙ e)) (tells_on V _ v u w errors rose told)
-  replay_ended stop.Memory k rose read write v u w (inr some, errors) (is, (same, told)) =
-      out_of_memory is (inr (s, j, asked, front_of v u w same some)) (tells_on V _ v u w errors rose told)
+  ended stop.Memory k rose read write v u w (inr (goes, some), errors) (is, (same, told)) =
+      out_of_memory is (inr (r, asks, goes, front_of v u w same some)) (tells_on V _ v u w errors rose told)
 
-  pub ends_replay_stopped : (e : Stop) (k : Status) (a m b : Option View) → (V → W) → (e ≡ stop.ReadFault → R) → (e ≡ stop.WriteFault → W) → Told a m (Replays s j (Err e)) → Told m b (Reports V e k) → Told a b (Ends words R W k)
-  ends_replay_stopped e k a m b rose read write = told_then a m b (Replays s j (Err e)) (Reports V e k) (Ends words R W k) (replay_ended e k rose read write)
+  pub ends_stopped : (e : Stop) (k : Status) (a m b : Option View) → (V → W) → (e ≡ stop.ReadFault → R) → (e ≡ stop.WriteFault → W) → Told a m (WorksFor r (Err e)) → Told m b (Reports V e k) → Told a b (Ends words R W k)
+  ends_stopped e k a m b rose read write = told_then a m b (WorksFor r (Err e)) (Reports V e k) (Ends words R W k) (ended e k rose read write)
 
-pub ends_usage : (words : List (List ℕ)) (R W : Type 0) (a b : Option View) (k : Status) → AskNothing words → k ≡ status.Usage → Told a b (TellsLine W usage_line) → Told a b (Ends words R W k)
-ends_usage words R W None None k none is h = tt
-ends_usage words R W None (Some w) k none is h = h
-ends_usage words R W (Some v) None k none is h = h
-ends_usage words R W (Some v) (Some w) k none is (same, told) = answered usage (no_row none refl) is (same ∙ sym (append-nil v.written.output)) told
+pub ends_usage : (words : List (List ℕ)) (R W : Type 0) (a b : Option View) (k : Status) → AsksNothing words → k ≡ status.Usage → Told a b (TellsLine W usage_line) → Told a b (Ends words R W k)
+ends_usage words R W a b k none is = told_as a b (TellsLine W usage_line) (Ends words R W k) (λ v w h. answered usage (no_request none refl) is (h.0 ∙ sym (append-nil v.written.output)) h.1)
+
+-- ---- the work of a request, from that of its job
+
+module _ (r : RequestText) (command : Command) (answers : (files : Files) (a : Answer) → command files a → AnswerTo r files a) where
+  works_for : (result : Result (Unit {0}) Stop) (v w : View) → Works command result v w → WorksFor r result v w
+  works_for (Ok u) v w (output, answer, put, errors) = (output, answers v.files (done output) answer, put, errors)
+  works_for (Err (stop.Refused x)) v w (answer, only) = ([], answers v.files _ answer, only.output ∙ sym (append-nil v.written.output), only.errors, inl only.output)
+  works_for (Err stop.ReadFault) v w only = only
+  works_for (Err stop.WriteFault) v w (output, answer, front, errors) = ((done output, answers v.files (done output) answer, front), errors)
+  works_for (Err stop.Memory) v w only = (inl only.output, only.errors)
+
+  pub told_works : (result : Result (Unit {0}) Stop) (a b : Option View) → Told a b (Works command result) → Told a b (WorksFor r result)
+  told_works result a b = told_as a b (Works command result) (WorksFor r result) (works_for result)
+
+module _ (s j : List ℕ) where
+  replays_for : (result : Result (Unit {0}) Stop) (v w : View) → Replays s j result v w → WorksFor (replay s j) result v w
+  replays_for (Ok u) v w h = h
+  replays_for (Err (stop.Refused x)) v w (output, answer, put, errors) = (output, answer, put, errors, inr tt)
+  replays_for (Err stop.ReadFault) v w h = h
+  replays_for (Err stop.WriteFault) v w h = h
+  replays_for (Err stop.Memory) v w (inl e, errors) = (inl e, errors)
+  replays_for (Err stop.Memory) v w (inr some, errors) = (inr (tt, some), errors)
+
+  pub told_replays : (result : Result (Unit {0}) Stop) (a b : Option View) → Told a b (Replays s j result) → Told a b (WorksFor (replay s j) result)
+  told_replays result a b = told_as a b (Replays s j result) (WorksFor (replay s j) result) (replays_for result)
 
 -- ---- what is told
 
@@ -114,14 +121,8 @@ stop_failed : (e : Stop) (k : Status) → (k ≡ status.ReadFault → e ≡ stop
 stop_failed e k read write (inl is) = inl (ap Err (read is))
 stop_failed e k read write (inr is) = inr (ap Err (write is))
 
-pub command_never : (words : List (List ℕ)) (command : Command) → ((files : Files) (a : Answer) → Answers words files a → command files a) → (a : Option View) (S : Type 0) (e : Stop) (k : Status)
-    → IfSome a (λ v. S → CommandFits command v → IsErrOf {T = Unit {0}} (Err e) stop.ReadFault ⊎ IsErrOf {T = Unit {0}} (Err e) stop.WriteFault → ⊥)
+pub request_never : (words : List (List ℕ)) (r : RequestText) → AsksFor words r → (a : Option View) (S : Type 0) (e : Stop) (k : Status)
+    → IfSome a (λ v. S → RequestFits r v → IsErrOf {T = Unit {0}} (Err e) stop.ReadFault ⊎ IsErrOf {T = Unit {0}} (Err e) stop.WriteFault → ⊥)
     → (k ≡ status.ReadFault → e ≡ stop.ReadFault) → (k ≡ status.WriteFault → e ≡ stop.WriteFault) → IfSome a (λ v. S → AnswerFits words v → k ≡ status.ReadFault ⊎ k ≡ status.WriteFault → ⊥)
-command_never words command finds None S e k never read write = tt
-command_never words command finds (Some v) S e k never read write = λ sound fits failed. never sound (fits.0, finds v.files fits.0 fits.1, fits.2) (stop_failed e k read write failed)
-
-pub replay_never : (words : List (List ℕ)) (s j : List ℕ) → AskReplay words s j → (a : Option View) (S : Type 0) (e : Stop) (k : Status)
-    → IfSome a (λ v. S → ReplayFits s j v → IsErrOf {T = Unit {0}} (Err e) stop.ReadFault ⊎ IsErrOf {T = Unit {0}} (Err e) stop.WriteFault → ⊥)
-    → (k ≡ status.ReadFault → e ≡ stop.ReadFault) → (k ≡ status.WriteFault → e ≡ stop.WriteFault) → IfSome a (λ v. S → AnswerFits words v → k ≡ status.ReadFault ⊎ k ≡ status.WriteFault → ⊥)
-replay_never words s j asked None S e k never read write = tt
-replay_never words s j asked (Some v) S e k never read write = λ sound fits failed. never sound (fits.0, replays words v.files s j fits.0 asked fits.1, fits.2) (stop_failed e k read write failed)
+request_never words r asks None S e k never read write = tt
+request_never words r asks (Some v) S e k never read write = λ sound fits failed. never sound (fits.0, answer_to words v.files r fits.0 asks fits.1, fits.2) (stop_failed e k read write failed)

@@ -1,32 +1,64 @@
--- The rows of words: which words ask for what, and that they ask for one thing.
-use Rattle.std.proofs.Common.{get_or, map, ◌≡◌, ℕ, ◌<◌, ◌≤◌, List, [], ◌∷◌, length, Option, Some, None, refl, sym, ap, ◌∙◌, subst, arith, codes}
-use Rattle.std.specs.Prelude.{IfSome}
-use Rattle.commands.specs.Answer.{IsOperand, AskCheck, AskDecode, AskReplay}
+-- The rows of words: they ask for one request at most, and whether they do is decided.
+use Rattle.std.proofs.Common.{get_or, map, ◌≡◌, ◌≢◌, ℕ, ◌<◌, ◌≤◌, List, [], ◌∷◌, length, refl, sym, ap, ◌∙◌, subst, inl, inr, arith, codes}
+use Rattle.std.specs.Prelude.{if◌then◌else◌, ◌==◌}
+use Rattle.std.proofs.lemmas.Bool.{cases_eq}
+use Rattle.std.proofs.lemmas.List.{length-map}
+use Rattle.tl_lexer.proofs.Whole.{Decided}
+use Rattle.tl_combinators.proofs.Decided.{decided_as, decided_and, decided_not, text_decided}
+use Rattle.commands.specs.Requests.{RequestText, check, decode, replay, IsOperand, AsksFor, AsksNothing}
+use Rattle.commands.specs.Answers.{Asks, nothing, something}
 
--- ---- one thing
+-- ---- one request
 
-pub same_words : (words : List (List ℕ)) (s t i s' t' i' : List ℕ) → AskDecode words s t i → AskDecode words s' t' i' → (s ≡ s') × (t ≡ t') × (i ≡ i')
-same_words words s t i s' t' i' p q = let e = sym p.row ∙ q.row in (cc, cc, cc)
+-- the request that words may ask for, by the first letter of the command
+abbrev of_letter : ℕ → List ℕ → List ℕ → List ℕ → RequestText
+of_letter letter a b c = if letter == 99 then check a else if letter == 100 then decode a b c else replay a b
 
--- words ask for one command at most
-pub decode_or_replay : (words : List (List ℕ)) (s t i s' j : List ℕ) → AskDecode words s t i → AskReplay words s' j → ⊥
-decode_or_replay words s t i s' j p q =
-    let rows = sym p.row ∙ q.row in
-    let names : codes "decode" ≡ codes "replay" = cc in
-    let differ : ◌≡◌ {A = ℕ} 100 114 = ap (λ (z : List ℕ). get_or z 0 0) names in
-    absurd (omega arith)
+abbrev pub may_ask_for : List (List ℕ) → RequestText
+may_ask_for words = of_letter (get_or (get_or words 0 []) 0 0) (get_or words 1 []) (get_or words 2 []) (get_or words 3 [])
 
-pub same_replay : (words : List (List ℕ)) (s j s' j' : List ℕ) → AskReplay words s j → AskReplay words s' j' → (s ≡ s') × (j ≡ j')
-same_replay words s j s' j' p q = let e = sym p.row ∙ q.row in (cc, cc)
+asked_is : (words : List (List ℕ)) (r : RequestText) → AsksFor words r → may_ask_for words ≡ r
+asked_is words (check schema) asks = ap may_ask_for asks.0
+asked_is words (decode schema type input) asks = ap may_ask_for asks.0
+asked_is words (replay schema journal) asks = ap may_ask_for asks.0
 
-pub same_check : (words : List (List ℕ)) (s s' : List ℕ) → AskCheck words s → AskCheck words s' → s ≡ s'
-same_check words s s' p q = let e = sym p.row ∙ q.row in cc
+pub one_request : (words : List (List ℕ)) (r s : RequestText) → AsksFor words r → AsksFor words s → r ≡ s
+one_request words r s p q = sym (asked_is words r p) ∙ asked_is words s q
 
-pub check_or_decode : (words : List (List ℕ)) (s s' t i : List ℕ) → AskCheck words s → AskDecode words s' t i → ⊥
-check_or_decode words s s' t i p q = let e : ◌≡◌ {A = ℕ} 2 4 = ap length (sym p.row ∙ q.row) in absurd (omega arith)
+-- words that don't ask for what they may ask for ask for nothing
+pub asks_nothing : (words : List (List ℕ)) (r : RequestText) → may_ask_for words ≡ r → (AsksFor words r → ⊥) → AsksNothing words
+asks_nothing words r may never s asks = never (subst (AsksFor words) (sym (asked_is words s asks) ∙ may) asks)
 
-pub check_or_replay : (words : List (List ℕ)) (s s' j : List ℕ) → AskCheck words s → AskReplay words s' j → ⊥
-check_or_replay words s s' j p q = let e : ◌≡◌ {A = ℕ} 2 4 = ap length (sym p.row ∙ q.row) in absurd (omega arith)
+-- ---- whether words ask for a request
+
+operand_decided : (word : List ℕ) → Decided (IsOperand word)
+operand_decided [] = inr (λ h. h)
+operand_decided (b ∷ bs) = decided_not (cases_eq b 45)
+
+rows : (x y : List ℕ) (xs ys : List (List ℕ)) → Decided (x ≡ y) → Decided (xs ≡ ys) → Decided (x ∷ xs ≡ y ∷ ys)
+rows x y xs ys (inl e) (inl f) = inl cc
+rows x y xs ys (inl e) (inr n) = inr (λ f. n cc)
+rows x y xs ys (inr n) d = inr (λ f. n cc)
+
+row_decided : (xs ys : List (List ℕ)) → Decided (xs ≡ ys)
+row_decided [] [] = inl refl
+row_decided [] (y ∷ ys) = inr (λ e. absurd cc)
+row_decided (x ∷ xs) [] = inr (λ e. absurd cc)
+row_decided (x ∷ xs) (y ∷ ys) = rows x y xs ys (text_decided x y) (row_decided xs ys)
+
+asked_decided : (words : List (List ℕ)) (r : RequestText) → Decided (AsksFor words r)
+asked_decided words (check schema) = decided_and (row_decided words (codes "check" ∷ schema ∷ [])) (operand_decided schema)
+asked_decided words (decode schema type input) = decided_as (λ h. (h.0.0, h.0.1, h.1.0, h.1.1)) (λ h. ((h.0, h.1), (h.2, h.3)))
+    (decided_and (decided_and (row_decided words (codes "decode" ∷ schema ∷ type ∷ input ∷ [])) (operand_decided schema)) (decided_and (operand_decided type) (operand_decided input)))
+asked_decided words (replay schema journal) = decided_as (λ h. (h.0, h.1.0, h.1.1)) (λ h. (h.0, (h.1, h.2)))
+    (decided_and (row_decided words (codes "replay" ∷ schema ∷ journal ∷ codes "1" ∷ [])) (decided_and (operand_decided schema) (operand_decided journal)))
+
+asks_from : (words : List (List ℕ)) → Decided (AsksFor words (may_ask_for words)) → Asks words
+asks_from words (inl asks) = something (may_ask_for words) asks
+asks_from words (inr never) = nothing (asks_nothing words (may_ask_for words) refl never)
+
+pub each_asks : (words : List (List ℕ)) → Asks words
+each_asks words = asks_from words (asked_decided words (may_ask_for words))
 
 -- ---- the words of a slice
 
@@ -44,21 +76,23 @@ four_words f (a ∷ b ∷ d ∷ []) c s t i least most ec es et ei = absurd (ome
 four_words f (a ∷ b ∷ d ∷ e ∷ []) c s t i least most ec es et ei = rw (← ec, ← es, ← et, ← ei) refl
 four_words f (a ∷ b ∷ d ∷ e ∷ g ∷ gs) c s t i least most ec es et ei = absurd (omega arith)
 
-pub asked : {D : Type 0} (f g h : D → List ℕ) (words : List (List ℕ)) (s t i : List ℕ) (r : Option D) → words ≡ codes "decode" ∷ s ∷ t ∷ i ∷ [] → IfSome r (λ d. (f d ≡ s) × (g d ≡ t) × (h d ≡ i) × IsOperand s × IsOperand t × IsOperand i)
-    → IfSome r (λ d. AskDecode words (f d) (g d) (h d))
-asked f g h words s t i None row found = tt
-asked f g h words s t i (Some d) row (es, et, ei, os, ot, oi) = record {
-  row = row ∙ ap (λ (x : List ℕ). codes "decode" ∷ x ∷ t ∷ i ∷ []) (sym es) ∙ ap (λ (x : List ℕ). codes "decode" ∷ f d ∷ x ∷ i ∷ []) (sym et) ∙ ap (λ (x : List ℕ). codes "decode" ∷ f d ∷ g d ∷ x ∷ []) (sym ei);
-  schema_word = subst IsOperand (sym es) os;
-  type_word = subst IsOperand (sym et) ot;
-  input_word = subst IsOperand (sym ei) oi;
-}
+-- ---- words that no row has
 
-pub asked_replay : {D : Type 0} (f g : D → List ℕ) (words : List (List ℕ)) (s j : List ℕ) (r : Option D) → words ≡ codes "replay" ∷ s ∷ j ∷ codes "1" ∷ [] → IfSome r (λ d. (f d ≡ s) × (g d ≡ j) × IsOperand s × IsOperand j)
-    → IfSome r (λ d. AskReplay words (f d) (g d))
-asked_replay f g words s j None row found = tt
-asked_replay f g words s j (Some d) row (es, ej, os, oj) = record {
-  row = row ∙ ap (λ (x : List ℕ). codes "replay" ∷ x ∷ j ∷ codes "1" ∷ []) (sym es) ∙ ap (λ (x : List ℕ). codes "replay" ∷ f d ∷ x ∷ codes "1" ∷ []) (sym ej);
-  schema_word = subst IsOperand (sym es) os;
-  journal_word = subst IsOperand (sym ej) oj;
-}
+pub other_length : {A : Type 0} (f : A → List ℕ) (xs : List A) → length xs ≢ 2 → length xs ≢ 4 → AsksNothing (map f xs)
+other_length f xs m n (check schema) asks = m (sym (length-map xs f) ∙ ap length asks.0)
+other_length f xs m n (decode schema type input) asks = n (sym (length-map xs f) ∙ ap length asks.0)
+other_length f xs m n (replay schema journal) asks = n (sym (length-map xs f) ∙ ap length asks.0)
+
+pub no_row_of_two : (words : List (List ℕ)) (a b : List ℕ) → words ≡ a ∷ b ∷ [] → a ≢ codes "check" → AsksNothing words
+no_row_of_two words a b is other (check schema) asks = let e = sym is ∙ asks.0 in other cc
+no_row_of_two words a b is other (decode schema type input) asks = let e : ◌≡◌ {A = ℕ} 2 4 = ap length (sym is ∙ asks.0) in omega (arith, e)
+no_row_of_two words a b is other (replay schema journal) asks = let e : ◌≡◌ {A = ℕ} 2 4 = ap length (sym is ∙ asks.0) in omega (arith, e)
+
+pub no_row_of_four : (words : List (List ℕ)) (a b c d : List ℕ) → words ≡ a ∷ b ∷ c ∷ d ∷ [] → a ≢ codes "decode" → (a ≡ codes "replay" → d ≢ codes "1") → AsksNothing words
+no_row_of_four words a b c d is other one (check schema) asks = let e : ◌≡◌ {A = ℕ} 4 2 = ap length (sym is ∙ asks.0) in omega (arith, e)
+no_row_of_four words a b c d is other one (decode schema type input) asks = let e = sym is ∙ asks.0 in other cc
+no_row_of_four words a b c d is other one (replay schema journal) asks =
+    let e = sym is ∙ asks.0 in
+    let command : a ≡ codes "replay" = cc in
+    let clients : d ≡ codes "1" = cc in
+    one command clients

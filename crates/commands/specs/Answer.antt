@@ -1,5 +1,5 @@
--- The parts of an answer: the rows of words, and the lines of Output and Errors. This project's own.
-use Rattle.std.specs.Prelude.{◌≡◌, ◌≢◌, ℕ, List, [], ◌∷◌, ◌++◌, codes, decimal}
+-- The parts of an answer: the lines of Output and Errors. This project's own.
+use Rattle.std.specs.Prelude.{ℕ, List, [], ◌++◌, codes, decimal}
 use Rattle.std.specs.Int.{w32, to_be_bytes}
 use Rattle.hex.specs.Hex.{encode_lower}
 use Rattle.tl_types.specs.declared.fault.Cause.{Cause}
@@ -23,31 +23,6 @@ pub record Answer : Type 0 where
   pub status : Status
   pub output : List ℕ
   pub errors : List ℕ
-
--- ---- words
-
--- a word that may be an operand: it is not empty and does not begin with `-`
-abbrev pub IsOperand : List ℕ → Type 0
-IsOperand [] = ⊥
-IsOperand (b ∷ bs) = b ≢ 45
-
--- the words are `check SCHEMA`
-pub record AskCheck (words : List (List ℕ)) (schema : List ℕ) : Type 0 where
-  pub row : words ≡ codes "check" ∷ schema ∷ []
-  pub schema_word : IsOperand schema
-
--- the words are `decode SCHEMA TYPE INPUT`
-pub record AskDecode (words : List (List ℕ)) (schema type input : List ℕ) : Type 0 where
-  pub row : words ≡ codes "decode" ∷ schema ∷ type ∷ input ∷ []
-  pub schema_word : IsOperand schema
-  pub type_word : IsOperand type
-  pub input_word : IsOperand input
-
--- the words are `replay SCHEMA JOURNAL 1`
-pub record AskReplay (words : List (List ℕ)) (schema journal : List ℕ) : Type 0 where
-  pub row : words ≡ codes "replay" ∷ schema ∷ journal ∷ codes "1" ∷ []
-  pub schema_word : IsOperand schema
-  pub journal_word : IsOperand journal
 
 -- ---- lines
 

@@ -23,7 +23,9 @@ use Rattle.commands.specs.declared.status.Status.TheVariants as status
 use Rattle.commands.specs.Loaded.{IsSchemaText, SchemaRefused, TypeNameRefused}
 use Rattle.commands.specs.DecodeAnswers.{DecodeAnswer}
 use Rattle.commands.specs.CheckAnswers.{CheckAnswer}
-use Rattle.commands.specs.Answer.{Answer, done, refused, schema_line, type_line, profile_line, input_line, journal_line, cause_text}
+use Rattle.commands.specs.Requests.{RequestText, WritesAsItGoes}
+use Rattle.commands.specs.Answers.{AnswerTo}
+use Rattle.commands.specs.Answer.{Answer, done, refused, refused_after, schema_line, type_line, profile_line, input_line, journal_line, cause_text}
 use Rattle.commands.specs.Runs.{KeepsRest, AddsFront, Tells}
 
 -- Output and Errors are as before, and so is all else but what is left of Schema and Input
@@ -115,6 +117,18 @@ Works command (Err (stop.Refused r)) v w = command v.files (refused (refusal_lin
 Works command (Err stop.ReadFault) v w = OnlyReads v w
 Works command (Err stop.WriteFault) v w = (output : List ℕ) × command v.files (done output) × AddsFront v.written.output w.written.output output × (w.written.errors ≡ v.written.errors)
 Works command (Err stop.Memory) v w = OnlyReads v w
+
+-- Output has a front of the answer's
+abbrev pub WritesSomeOf : RequestText → View → View → Type 0
+WritesSomeOf r v w = (a : Answer) × AnswerTo r v.files a × AddsFront v.written.output w.written.output a.output
+
+-- the work of a request: what it writes on Output, or why not
+abbrev pub WorksFor : RequestText → Result (Unit {0}) Stop → View → View → Type 0
+WorksFor r (Ok u) v w = (output : List ℕ) × AnswerTo r v.files (done output) × (w.written.output ≡ v.written.output ++ output) × (w.written.errors ≡ v.written.errors)
+WorksFor r (Err (stop.Refused refusal)) v w = (output : List ℕ) × AnswerTo r v.files (refused_after output (refusal_line refusal)) × (w.written.output ≡ v.written.output ++ output) × (w.written.errors ≡ v.written.errors) × ((w.written.output ≡ v.written.output) ⊎ WritesAsItGoes r)
+WorksFor r (Err stop.ReadFault) v w = OnlyReads v w
+WorksFor r (Err stop.WriteFault) v w = WritesSomeOf r v w × (w.written.errors ≡ v.written.errors)
+WorksFor r (Err stop.Memory) v w = ((w.written.output ≡ v.written.output) ⊎ (WritesAsItGoes r × WritesSomeOf r v w)) × (w.written.errors ≡ v.written.errors)
 
 -- a line on Errors, and nothing else
 abbrev pub TellsLine : Type 0 → List ℕ → View → View → Type 0

@@ -12,3 +12,4 @@ pub mod Jobs
 pub mod ReplayJobs
 pub mod Loaded
 pub mod CheckAnswers
+pub mod Requests

@@ -3,7 +3,8 @@ use Rattle.std.specs.Prelude.{◌≡◌, ℕ, List, ◌++◌, codes, ◌⊎◌}
 use Rattle.tl_base.specs.Outside.{View}
 use Rattle.commands.specs.declared.status.Status.{Status}
 use Rattle.commands.specs.declared.status.Status.TheVariants.{Done, Refused, Usage, ReadFault, WriteFault, Memory}
-use Rattle.commands.specs.Answer.{Answer, AskReplay}
+use Rattle.commands.specs.Answer.{Answer}
+use Rattle.commands.specs.Requests.{RequestText, AsksFor, WritesAsItGoes}
 use Rattle.commands.specs.Answers.{Answers}
 
 -- the number that a process ends with
@@ -31,9 +32,9 @@ Tells write_rose line v w = (w.written.errors ≡ v.written.errors ++ line) ⊎ 
 abbrev pub WritesFront : List (List ℕ) → View → View → Type 0
 WritesFront words v w = (a : Answer) × Answers words v.files a × AddsFront v.written.output w.written.output a.output
 
--- Output is as before; or the run is a replay, and Output has a front of what the run without a fault writes
+-- Output is as before; or the run's request writes as it goes, and Output has a front of what the run without a fault writes
 abbrev pub WritesNoneOrFront : List (List ℕ) → View → View → Type 0
-WritesNoneOrFront words v w = (w.written.output ≡ v.written.output) ⊎ ((schema journal : List ℕ) × AskReplay words schema journal × WritesFront words v w)
+WritesNoneOrFront words v w = (w.written.output ≡ v.written.output) ⊎ ((r : RequestText) × AsksFor words r × WritesAsItGoes r × WritesFront words v w)
 
 -- A run ends with its answer; or with a fault whose count rose; or for want of memory. What it wrote until then is none of its
 -- Output, or a front.

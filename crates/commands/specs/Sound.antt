@@ -11,7 +11,8 @@ use Rattle.update_replay.specs.Settled.{Settled}
 use Rattle.commands.specs.Answer.{Answer}
 use Rattle.commands.specs.Jobs.{Command}
 use Rattle.commands.specs.ReplayAnswers.{ReplayAnswer}
-use Rattle.commands.specs.Answers.{Answers}
+use Rattle.commands.specs.Requests.{RequestText}
+use Rattle.commands.specs.Answers.{AnswerTo, Answers}
 
 -- A call that may meet faults of reading and of writing: neither count falls and that of links is kept, the call failed so only where the count
 -- rose, and, where the view is told and the host is sound, it stays sound, and the call doesn't fail where P.
@@ -43,6 +44,10 @@ ReplayFits schema journal v = (a : Answer) × ReplayAnswer v.files schema journa
 -- there is room for all that a replay of the journal writes
 abbrev pub JournalFits : List ℕ → View → Type 0
 JournalFits journal v = (w : World) × (output : List ℕ) × (r : Result ℕ ReplayFault) × Settled r × Replayed journal w output r × HasRoom Output (length output) v
+
+-- the request has an answer over the files, and there is room for its Output
+abbrev pub RequestFits : RequestText → View → Type 0
+RequestFits r v = (a : Answer) × AnswerTo r v.files a × HasRoom Output (length a.output) v
 
 -- the words have an answer over the files, and there is room for its Output
 abbrev pub AnswerFits : List (List ℕ) → View → Type 0

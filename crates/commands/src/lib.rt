@@ -9,11 +9,11 @@ mod plain_types;
 mod program;
 mod replaying;
 mod report;
+mod request;
 mod shown;
 mod status;
 mod stop;
 mod whole;
-mod words;
 
 pub use laws::{words_and_files_have_an_answer, words_and_files_have_one_answer};
 pub use program::run;

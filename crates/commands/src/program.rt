@@ -1,15 +1,18 @@
 //! The top call.
-ghost use Rattle.std.specs.Prelude.{◌≡◌, ◌⊎◌, IfSome, IsTrue, map, string_bytes};
+ghost use Rattle.std.specs.Prelude.{◌≡◌, ◌⊎◌, IfSome, IsErrOf, IsTrue, map, string_bytes};
 ghost use Rattle.tl_base.specs.Calls.{Told};
 ghost use Rattle.tl_base.specs.Causes.{Rose};
+ghost use Rattle.commands.specs.Jobs.{WorksFor};
+ghost use Rattle.commands.specs.Requests.{request_text};
 ghost use Rattle.commands.specs.Runs.{Ends, KeepsRest};
-ghost use Rattle.commands.specs.Sound.{AnswerFits};
+ghost use Rattle.commands.specs.Sound.{AnswerFits, MeetsBothFaults, RequestFits};
 
 use crate::job::{check_schema, decode};
 use crate::replaying::replay;
 use crate::report::{report, tell};
+use crate::request::{Request, request_of};
 use crate::status::Status;
-use crate::words::{check_words, decode_words, replay_words};
+use crate::stop::Stop;
 use std::alloc::Global;
 use tl_base::Host;
 
@@ -30,23 +33,24 @@ pub fn run<H: Host>(alloc: Global, words: &[String], host: &mut H) -> Status
     // Over a sound host with the files that the words take and room enough, no fault's status comes.
     ensures sound { IfSome (H.state host.old).view (λ v. IsTrue (H.state host.old).sound → AnswerFits (map string_bytes words.now) v → (result ≡ Status.ReadFault) ⊎ (result ≡ Status.WriteFault) → ⊥) }
 {
-    if let Some(schema) = check_words(words) {
-        return match check_schema(alloc, host, schema) {
+    match request_of(words) {
+        None => tell(host, Status::Usage, USAGE),
+        Some(request) => match answer(alloc, host, request) {
             Ok(()) => Status::Done,
             Err(stop) => report(alloc, host, stop),
-        };
+        },
     }
-    if let Some(asked) = decode_words(words) {
-        return match decode(alloc, host, asked.schema, asked.of, asked.input) {
-            Ok(()) => Status::Done,
-            Err(stop) => report(alloc, host, stop),
-        };
+}
+
+// Makes the work of a request.
+fn answer<H: Host>(alloc: Global, host: &mut H, request: Request) -> Result<(), Stop>
+    ensures works { Told (H.state host.old).view (H.state host.new).view (WorksFor (request_text request.entry) result) }
+    ensures kept { Told (H.state host.old).view (H.state host.new).view KeepsRest }
+    ensures faults { MeetsBothFaults (H.state host.old) (H.state host.new) (IsErrOf result Stop.ReadFault) (IsErrOf result Stop.WriteFault) (RequestFits (request_text request.entry)) }
+{
+    match request {
+        Request::Check { schema } => check_schema(alloc, host, schema),
+        Request::Decode { schema, of, input } => decode(alloc, host, schema, of, input),
+        Request::Replay { schema, journal } => replay(alloc, host, schema, journal),
     }
-    if let Some(asked) = replay_words(words) {
-        return match replay(alloc, host, asked.schema, asked.journal) {
-            Ok(()) => Status::Done,
-            Err(stop) => report(alloc, host, stop),
-        };
-    }
-    tell(host, Status::Usage, USAGE)
 }

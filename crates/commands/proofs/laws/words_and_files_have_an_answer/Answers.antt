@@ -1,4 +1,5 @@
-use Rattle.commands.proofs.AnAnswer.{an_answer, each_asks}
+use Rattle.commands.proofs.AnAnswer.{an_answer}
+use Rattle.commands.proofs.Rows.{each_asks}
 use Rattle.commands.proofs.laws.words_and_files_have_an_answer.Goals as goal
 
 pub returns-clause-answered : goal.returns-clause-answered

@@ -1,0 +1,55 @@
+-- The table of requests: what words ask for, which files that takes, and whether it writes as it goes. This project's own.
+use Rattle.std.specs.Prelude.{◌≡◌, ◌≢◌, ℕ, List, [], ◌∷◌, Option, Some, None, codes}
+use Rattle.tl_base.specs.Contents.{Files}
+use Rattle.tl_base.specs.Outside.{HasFile}
+use Rattle.commands.specs.declared.request.Request.{Request}
+use Rattle.commands.specs.declared.request.Request.TheVariants.{Check, Decode, Replay}
+
+-- what a run is asked for, each operand as its bytes
+pub data RequestText : Type 0 where
+  check : (schema : List ℕ) → RequestText
+  decode : (schema type input : List ℕ) → RequestText
+  replay : (schema journal : List ℕ) → RequestText
+
+-- a word that may be an operand: it is not empty and does not begin with `-`
+abbrev pub IsOperand : List ℕ → Type 0
+IsOperand [] = ⊥
+IsOperand (b ∷ bs) = b ≢ 45
+
+-- the words are the request's row: `check SCHEMA`, `decode SCHEMA TYPE INPUT`, `replay SCHEMA JOURNAL 1`
+abbrev pub AsksFor : List (List ℕ) → RequestText → Type 0
+AsksFor words (check schema) = (words ≡ codes "check" ∷ schema ∷ []) × IsOperand schema
+AsksFor words (decode schema type input) = (words ≡ codes "decode" ∷ schema ∷ type ∷ input ∷ []) × IsOperand schema × IsOperand type × IsOperand input
+AsksFor words (replay schema journal) = (words ≡ codes "replay" ∷ schema ∷ journal ∷ codes "1" ∷ []) × IsOperand schema × IsOperand journal
+
+-- the words are those of no request
+abbrev pub AsksNothing : List (List ℕ) → Type 0
+AsksNothing words = (r : RequestText) → AsksFor words r → ⊥
+
+-- some file has this name
+abbrev pub IsFile : Files → List ℕ → Type 0
+IsFile files name = (bytes : List ℕ) × HasFile files name bytes
+
+-- the files that the request names are there
+abbrev pub HasFilesOf : Files → RequestText → Type 0
+HasFilesOf files (check schema) = IsFile files schema
+HasFilesOf files (decode schema type input) = IsFile files schema × IsFile files input
+HasFilesOf files (replay schema journal) = IsFile files schema × IsFile files journal
+
+-- the request's work writes its Output in pieces, and may stop between them
+abbrev pub WritesAsItGoes : RequestText → Type 0
+WritesAsItGoes (check schema) = ⊥
+WritesAsItGoes (decode schema type input) = ⊥
+WritesAsItGoes (replay schema journal) = Unit {0}
+
+-- ---- the request of the program
+
+abbrev pub request_text : Request → RequestText
+request_text (Check schema) = check schema.now
+request_text (Decode schema type input) = decode schema.now type.now input.now
+request_text (Replay schema journal) = replay schema.now journal.now
+
+-- the request that the words ask for, or none where they ask for none
+abbrev pub FindsRequest : List (List ℕ) → Option Request → Type 0
+FindsRequest words (Some request) = AsksFor words (request_text request)
+FindsRequest words None = AsksNothing words
