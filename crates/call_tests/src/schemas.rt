@@ -1,7 +1,7 @@
 //! Entries of schemas, and types by their names.
 ghost use Rattle.std.specs.Prelude.{IsTrue};
 ghost use Rattle.tl_combinators.specs.Program.{program_text};
-ghost use Rattle.tl_types.specs.Meanings.{IsSmall};
+ghost use Rattle.tl_schema.specs.Meanings.{IsSmall};
 
 use std::alloc::{AllocError, Global};
 use std::test::Fail;

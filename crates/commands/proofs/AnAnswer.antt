@@ -7,7 +7,7 @@ use Rattle.tl_combinators.proofs.Decided.{text_decided}
 use Rattle.tl_types.specs.PlainTypes.{boxed}
 use Rattle.tl_types.specs.PlainViews.{plain_decls}
 use Rattle.tl_types.specs.Values.{Tree, depth}
-use Rattle.tl_types.specs.Schemas.{Declared}
+use Rattle.tl_schema.specs.Schemas.{Declared}
 use Rattle.tl_types.specs.Spelling.{Spells}
 use Rattle.tl_types.proofs.Exactly.{either}
 use Rattle.update_replay.specs.declared.profile.TheConstants.{PROFILE_TEXT}

@@ -14,8 +14,8 @@ use Rattle.tl_combinators.specs.BuiltIns.{built_in_line}
 use Rattle.tl_combinators.specs.Declarations.{one_variable, variables, combinator, named_declaration, declaration, where_declaration, declaration_too_many}
 use Rattle.tl_combinators.specs.Sentences.{ProgramText, declaration_limit, one_declaration, item, program, Reads}
 use Rattle.tl_combinators.proofs.Values.{Only, only_gives, only_fails, only_chain, only_choice, only_loop, only_taken}
-use Rattle.tl_types.specs.Writing.{At}
-use Rattle.tl_types.specs.Meanings.{IsSmall}
+use Rattle.tl_schema.specs.Writing.{At}
+use Rattle.tl_schema.specs.Meanings.{IsSmall}
 
 -- one more, where the limit is not yet reached
 one_more : {A : Type 0} (limit : ℕ) (xs : List A) (x : A) → length xs ≤ limit → length xs ≢ limit → length (xs ++ (x ∷ [])) ≤ limit

@@ -6,7 +6,7 @@ use Rattle.tl_base.specs.Outside.{View, HasFile, IsThere}
 use Rattle.tl_base.specs.Calls.{Told}
 use Rattle.tl_types.specs.PlainTypes.{boxed}
 use Rattle.tl_types.specs.PlainViews.{plain_decls}
-use Rattle.tl_types.specs.Schemas.{Declared}
+use Rattle.tl_schema.specs.Schemas.{Declared}
 use Rattle.tl_types.specs.Seen.{view}
 use Rattle.tl_types.specs.declared.value.Value.{Value}
 use Rattle.commands.specs.Shown.{line_text}

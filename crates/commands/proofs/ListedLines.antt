@@ -5,7 +5,7 @@ use Rattle.std.proofs.lemmas.List.{length-take, take_all, take_more}
 use Rattle.std.proofs.lemmas.List.Concat.{flat_map-append}
 use Rattle.std.proofs.lemmas.List.Sums.{count_by-le-length, count_by_more_yes, count_by_more_no}
 use Rattle.std.proofs.lemmas.Option.{get_or_from_slice_get, slice_get_within}
-use Rattle.tl_types.specs.Schemas.{Declaration}
+use Rattle.tl_schema.specs.Schemas.{Declaration}
 use Rattle.commands.specs.CheckAnswers.{is_listed, entry_line, is_listed_constructor, is_listed_function, counts_line, listing}
 
 take_push : {X : Type 0} (xs : List X) (i : ℕ) (x : X) → slice_get xs i ≡ Some x → take (i + 1) xs ≡ take i xs ++ x ∷ []

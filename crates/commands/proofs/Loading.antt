@@ -17,11 +17,11 @@ use Rattle.tl_combinators.specs.declared.fault.SyntaxFault.TheVariants as syntax
 use Rattle.tl_combinators.specs.Program.{DeclText}
 use Rattle.tl_combinators.specs.Sentences.{Reads, SyntaxRefused, FaultIs}
 use Rattle.tl_types.specs.PlainTypes.{PlainShape}
-use Rattle.tl_types.specs.Schemas.{Declared}
+use Rattle.tl_schema.specs.Schemas.{Declared}
 use Rattle.tl_types.specs.PlainSchemas.{PlainDeclaration}
-use Rattle.tl_types.specs.CheckedPrograms.{Checks}
-use Rattle.tl_types.specs.declared.fault.CheckFault.{CheckFault}
-use Rattle.tl_types.specs.declared.fault.CheckFault.TheVariants as check
+use Rattle.tl_schema.specs.CheckedPrograms.{Checks}
+use Rattle.tl_schema.specs.declared.fault.CheckFault.{CheckFault}
+use Rattle.tl_schema.specs.declared.fault.CheckFault.TheVariants as check
 use Rattle.tl_types.specs.declared.value.Value.{Value}
 use Rattle.commands.specs.Decoding.{DecodesWhole}
 use Rattle.commands.specs.declared.whole.InputFault.{InputFault}

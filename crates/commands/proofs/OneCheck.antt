@@ -1,7 +1,7 @@
 -- What `check` answers is one.
 use Rattle.std.proofs.Common.{◌≡◌, ℕ, List, sym, ap, ◌∙◌, subst}
 use Rattle.tl_base.specs.Contents.{Files}
-use Rattle.tl_types.specs.Schemas.{Declared}
+use Rattle.tl_schema.specs.Schemas.{Declared}
 use Rattle.commands.specs.declared.stop.SchemaCause.{SchemaCause}
 use Rattle.commands.specs.Answer.{Answer, done, refused, schema_line}
 use Rattle.commands.specs.CheckAnswers.{listing, OfChecked, no_schema, listed, CheckAnswer}

@@ -4,10 +4,10 @@ use Rattle.std.proofs.lemmas.List.{length-append}
 use Rattle.tl_base.specs.Contents.{Files}
 use Rattle.tl_types.specs.PlainTypes.{boxed}
 use Rattle.tl_types.specs.Values.{Tree, depth}
-use Rattle.tl_types.specs.Schemas.{Declared}
+use Rattle.tl_schema.specs.Schemas.{Declared}
 use Rattle.tl_types.specs.PlainSchemas.{IsPlainSchema}
 use Rattle.tl_types.specs.PlainViews.{plain_decls}
-use Rattle.tl_types.specs.CheckedPrograms.{IsSchema}
+use Rattle.tl_schema.specs.CheckedPrograms.{IsSchema}
 use Rattle.tl_types.specs.Spelling.{Spells}
 use Rattle.tl_types.specs.Reading.{moved}
 use Rattle.tl_types.specs.declared.fault.Cause.{Cause}

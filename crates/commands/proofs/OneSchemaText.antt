@@ -10,12 +10,12 @@ use Rattle.tl_combinators.specs.Sentences.{Reads, SyntaxRefused}
 use Rattle.tl_combinators.proofs.OneProgram.{one_program}
 use Rattle.tl_combinators.proofs.WrittenNumbers.{numbers_fit}
 use Rattle.tl_combinators.proofs.Causes.{no_memory as no_memory_of_tokens}
-use Rattle.tl_types.specs.Schemas.{Declared}
-use Rattle.tl_types.specs.CheckCauses.{Passes, RefusedAt}
-use Rattle.tl_types.specs.CheckedPrograms.{IsSchema}
-use Rattle.tl_types.specs.declared.fault.CheckCause.{CheckCause}
-use Rattle.tl_types.proofs.CheckOrder.{passed_or_refused, one_refusal, never_refused_and_passed}
-use Rattle.tl_types.proofs.OneSchema.{same_schema, some_schema}
+use Rattle.tl_schema.specs.Schemas.{Declared}
+use Rattle.tl_schema.specs.CheckCauses.{Passes, RefusedAt}
+use Rattle.tl_schema.specs.CheckedPrograms.{IsSchema}
+use Rattle.tl_schema.specs.declared.fault.CheckCause.{CheckCause}
+use Rattle.tl_schema.proofs.CheckOrder.{passed_or_refused, one_refusal, never_refused_and_passed}
+use Rattle.tl_schema.proofs.OneSchema.{same_schema, some_schema}
 use Rattle.commands.specs.declared.stop.SchemaCause.{SchemaCause}
 use Rattle.commands.specs.declared.stop.SchemaCause.TheVariants.{Text, Checked}
 use Rattle.commands.specs.declared.stop.TextCause.{TextCause}

@@ -4,14 +4,14 @@ use Rattle.tl_combinators.specs.Sentences.{TypeRefused}
 use Rattle.tl_combinators.specs.Trees.{Tree}
 use Rattle.tl_combinators.proofs.OneProgram.{one_type}
 use Rattle.tl_combinators.proofs.Causes.{no_memory_of_type}
-use Rattle.tl_types.specs.Types.{Shape}
-use Rattle.tl_types.specs.Schemas.{Declared}
-use Rattle.tl_types.specs.AskedTypes.{AsksFor, IsTypeText}
+use Rattle.tl_schema.specs.Types.{Shape}
+use Rattle.tl_schema.specs.Schemas.{Declared}
+use Rattle.tl_schema.specs.AskedTypes.{AsksFor, IsTypeText}
 use Rattle.tl_types.specs.PlainViews.{IsPlainType}
-use Rattle.tl_types.specs.declared.fault.TypeCause.{TypeCause}
-use Rattle.tl_types.specs.declared.fault.TypeFault.{TypeFault}
-use Rattle.tl_types.specs.declared.fault.TypeFault.TheVariants as type
-use Rattle.tl_types.proofs.OneType.{RefusesType, type_or_fault, one_meaning, never_type_and_fault, one_type_fault}
+use Rattle.tl_schema.specs.declared.fault.TypeCause.{TypeCause}
+use Rattle.tl_schema.specs.declared.fault.TypeFault.{TypeFault}
+use Rattle.tl_schema.specs.declared.fault.TypeFault.TheVariants as type
+use Rattle.tl_schema.proofs.OneType.{RefusesType, type_or_fault, one_meaning, never_type_and_fault, one_type_fault}
 use Rattle.commands.specs.declared.stop.TextCause.{TextCause}
 use Rattle.commands.specs.declared.stop.TypeNameCause.{TypeNameCause}
 use Rattle.commands.specs.declared.stop.TypeNameCause.TheVariants.{Text, Checked, NotYetBuilt}

@@ -1,15 +1,15 @@
 -- Any type but `long` is seen as `int` by the reading of plain types.
 use Rattle.std.proofs.Common.{◌≡◌, refl, sym, ap, ◌∙◌}
-use Rattle.tl_types.specs.Types.{Shape}
+use Rattle.tl_schema.specs.Types.{Shape}
 use Rattle.tl_types.specs.PlainTypes as plain
 use Rattle.tl_types.specs.PlainViews.{plain_shape}
-use Rattle.tl_types.specs.Seen.{shape, shape_step}
-use Rattle.tl_types.specs.declared.schema.TypeRef as ref
-use Rattle.tl_types.specs.declared.schema.TypeRef.{TypeRef, map-TypeRef}
-use Rattle.tl_types.specs.declared.schema.TypeRef.TheFolds.{fold_out-TypeRef}
-use Rattle.tl_types.specs.declared.schema.TypeRef.TheOpen.{TypeRef-F}
-use Rattle.tl_types.specs.declared.schema.TypeRef.TheVariants.{rolls-Long}
-use Rattle.tl_types.specs.declared.schema.TypeRef.TheViews.{out-TypeRef, roll-TypeRef, roll-out-TypeRef}
+use Rattle.tl_schema.specs.Seen.{shape, shape_step}
+use Rattle.tl_schema.specs.declared.schema.TypeRef as ref
+use Rattle.tl_schema.specs.declared.schema.TypeRef.{TypeRef, map-TypeRef}
+use Rattle.tl_schema.specs.declared.schema.TypeRef.TheFolds.{fold_out-TypeRef}
+use Rattle.tl_schema.specs.declared.schema.TypeRef.TheOpen.{TypeRef-F}
+use Rattle.tl_schema.specs.declared.schema.TypeRef.TheVariants.{rolls-Long}
+use Rattle.tl_schema.specs.declared.schema.TypeRef.TheViews.{out-TypeRef, roll-TypeRef, roll-out-TypeRef}
 
 -- one level of the type
 plain_step : (l : TypeRef-F TypeRef) → (l ≡ TypeRef-F.Long → ⊥) → plain_shape (shape_step (map-TypeRef TypeRef Shape shape l)) ≡ plain.int

@@ -3,14 +3,14 @@ use Rattle.std.proofs.Common.{◌≡◌, ℕ, ◌+◌, ◌<◌, ◌≤◌, List,
 use Rattle.std.specs.Option.{option_map}
 use Rattle.std.proofs.lemmas.Bool.{cases_lt}
 use Rattle.std.proofs.lemmas.Option.{same_Some, slice_get-map, slice_get-get_or, slice_get_within}
-use Rattle.tl_types.specs.Types.{Shape, Shapes, boxed, no_shapes, shapes_of}
-use Rattle.tl_types.specs.Types as shapes
-use Rattle.tl_types.specs.Schemas.{Declared}
-use Rattle.tl_types.specs.Seen.{shape}
-use Rattle.tl_types.specs.Meanings.{types_of}
+use Rattle.tl_schema.specs.Types.{Shape, Shapes, boxed, no_shapes, shapes_of}
+use Rattle.tl_schema.specs.Types as shapes
+use Rattle.tl_schema.specs.Schemas.{Declared}
+use Rattle.tl_schema.specs.Seen.{shape}
+use Rattle.tl_schema.specs.Meanings.{types_of}
 use Rattle.tl_types.specs.PlainViews.{IsPlainHead, IsPlainType}
-use Rattle.tl_types.specs.declared.schema.TypeRef.{TypeRef}
-use Rattle.tl_types.specs.declared.schema.TypeRef as ref
+use Rattle.tl_schema.specs.declared.schema.TypeRef.{TypeRef}
+use Rattle.tl_schema.specs.declared.schema.TypeRef as ref
 
 -- the item of a slice, seen as f sees it
 pub seen_item : {X Y : Type 0} (f : X → Y) (xs : List X) (i : ℕ) (x : X) → i < length xs → x ≡ get_or xs i x → slice_get (map f xs) i ≡ Some (f x)

@@ -3,10 +3,10 @@ use Rattle.std.proofs.Common.{◌≡◌, ℕ, List, Result, Ok, Err, sym, subst}
 use Rattle.std.specs.Prelude.{IsErrAnd}
 use Rattle.tl_lexer.specs.declared.fault.LexFault.TheVariants as lex
 use Rattle.tl_combinators.specs.declared.fault.SyntaxFault.TheVariants as syntax
-use Rattle.tl_types.specs.Schemas.{Declared}
-use Rattle.tl_types.specs.AskedTypes.{NamesType}
-use Rattle.tl_types.specs.declared.fault.TypeFault.{TypeFault}
-use Rattle.tl_types.specs.declared.fault.TypeFault.TheVariants as type
+use Rattle.tl_schema.specs.Schemas.{Declared}
+use Rattle.tl_schema.specs.AskedTypes.{NamesType}
+use Rattle.tl_schema.specs.declared.fault.TypeFault.{TypeFault}
+use Rattle.tl_schema.specs.declared.fault.TypeFault.TheVariants as type
 use Rattle.commands.specs.declared.stop.TextCause.TheVariants.{TextTooLong, BadByte, OpenComment, Unexpected, NotProfile, TooMany}
 use Rattle.commands.specs.declared.stop.Stop.{Stop}
 use Rattle.commands.specs.Stops.{of_type}

@@ -7,13 +7,14 @@ use Rattle.tl_types.specs.PlainTypes.{PlainShape}
 use Rattle.tl_types.specs.PlainTypes as shape
 use Rattle.tl_types.specs.Values.{Tree, Trees, trees_of}
 use Rattle.tl_types.specs.Values as value
-use Rattle.tl_types.specs.Schemas.{Declaration, Declared}
+use Rattle.tl_schema.specs.Schemas.{Declaration, Declared}
 use Rattle.tl_types.specs.PlainSchemas.{PlainSlot, PlainDeclaration}
 use Rattle.tl_types.specs.PlainViews.{plain_slot, plain_decls}
-use Rattle.tl_types.specs.Seen.{view, slot}
+use Rattle.tl_types.specs.Seen.{view}
+use Rattle.tl_schema.specs.Seen.{slot}
 use Rattle.tl_types.specs.Reading.{Spot, Read, Reader, ◌>>=◌, word_at, is_head, member_from, fields_in, fields_at, wrong_number, record_at, numbered_at, by_number_at, boxed_at, plain_at, deep_at, is_deep, value_at}
 use Rattle.tl_types.specs.declared.fault.Cause.{Cause}
-use Rattle.tl_types.specs.declared.schema.SchemaField.{SchemaField}
+use Rattle.tl_schema.specs.declared.schema.SchemaField.{SchemaField}
 use Rattle.tl_types.specs.declared.value.Value.{Value}
 use Rattle.commands.specs.declared.decoder.DecodeFault.{DecodeFault}
 use Rattle.commands.specs.declared.decoder.DecodeFault.TheVariants.{Refused}

@@ -5,12 +5,12 @@ use Rattle.hex.specs.Hex.{encode_lower}
 use Rattle.tl_types.specs.declared.fault.Cause.{Cause}
 use Rattle.tl_types.specs.declared.fault.Cause.TheVariants.{TooDeep, Truncated, Packed, UnknownNumber}
 use Rattle.commands.specs.declared.stop.SchemaCause.{SchemaCause}
-use Rattle.tl_types.specs.declared.fault.CheckCause.{CheckCause}
-use Rattle.tl_types.specs.declared.fault.CheckCause.TheVariants as check
+use Rattle.tl_schema.specs.declared.fault.CheckCause.{CheckCause}
+use Rattle.tl_schema.specs.declared.fault.CheckCause.TheVariants as check
 use Rattle.tl_combinators.specs.declared.fault.Form.{Form}
 use Rattle.tl_combinators.specs.declared.fault.Form.TheVariants as form
-use Rattle.tl_types.specs.declared.fault.TypeCause.{TypeCause}
-use Rattle.tl_types.specs.declared.fault.TypeCause.TheVariants as type
+use Rattle.tl_schema.specs.declared.fault.TypeCause.{TypeCause}
+use Rattle.tl_schema.specs.declared.fault.TypeCause.TheVariants as type
 use Rattle.commands.specs.declared.stop.TextCause.{TextCause}
 use Rattle.commands.specs.declared.stop.TextCause.TheVariants.{TextTooLong, BadByte, OpenComment, Unexpected, NotProfile, TooMany}
 use Rattle.commands.specs.declared.stop.SchemaCause.TheVariants as schema

@@ -5,8 +5,8 @@ use Rattle.std.specs.Int.{w32, to_be_bytes}
 use Rattle.hex.specs.Hex.{encode_lower}
 use Rattle.tl_base.specs.Contents.{Files}
 use Rattle.tl_base.specs.Outside.{HasFile}
-use Rattle.tl_types.specs.Schemas.{Declaration, Declared}
-use Rattle.tl_types.specs.Meanings.{base_shape}
+use Rattle.tl_schema.specs.Schemas.{Declaration, Declared}
+use Rattle.tl_schema.specs.Meanings.{base_shape}
 use Rattle.commands.specs.declared.stop.SchemaCause.{SchemaCause}
 use Rattle.commands.specs.Loaded.{IsSchemaText, SchemaRefused}
 use Rattle.commands.specs.Answer.{Answer, done, refused, schema_line}

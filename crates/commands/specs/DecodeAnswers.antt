@@ -2,9 +2,9 @@
 use Rattle.std.specs.Prelude.{◌≡◌, ℕ, ◌≤◌, List, ◌∷◌, ◌++◌, length, codes}
 use Rattle.tl_base.specs.Contents.{Files}
 use Rattle.tl_base.specs.Outside.{HasFile}
-use Rattle.tl_types.specs.Types.{Shape}
-use Rattle.tl_types.specs.Schemas.{Declared}
-use Rattle.tl_types.specs.AskedTypes.{IsTypeText}
+use Rattle.tl_schema.specs.Types.{Shape}
+use Rattle.tl_schema.specs.Schemas.{Declared}
+use Rattle.tl_schema.specs.AskedTypes.{IsTypeText}
 use Rattle.tl_types.specs.PlainTypes.{boxed}
 use Rattle.tl_types.specs.PlainViews.{IsPlainType, plain_decls}
 use Rattle.tl_types.specs.Values.{Tree, depth}

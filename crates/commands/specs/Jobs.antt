@@ -2,11 +2,11 @@
 use Rattle.std.specs.Prelude.{◌≡◌, ◌⊎◌, ℕ, List, ◌++◌, Result, Ok, Err, Vec, codes, decimal}
 use Rattle.tl_base.specs.Contents.{Files}
 use Rattle.tl_base.specs.Outside.{View, HasFile}
-use Rattle.tl_types.specs.Types.{Shape}
+use Rattle.tl_schema.specs.Types.{Shape}
 use Rattle.tl_types.specs.PlainTypes.{PlainShape}
-use Rattle.tl_types.specs.Schemas.{Declared}
+use Rattle.tl_schema.specs.Schemas.{Declared}
 use Rattle.tl_types.specs.PlainSchemas.{PlainDeclaration}
-use Rattle.tl_types.specs.AskedTypes.{IsTypeText}
+use Rattle.tl_schema.specs.AskedTypes.{IsTypeText}
 use Rattle.tl_types.specs.PlainViews.{IsPlainType}
 use Rattle.tl_types.specs.declared.value.Value.{Value}
 use Rattle.commands.specs.Decoding.{DecodesWhole}

@@ -10,14 +10,14 @@ use Rattle.tl_combinators.specs.declared.fault.SyntaxFault.{SyntaxFault}
 use Rattle.tl_combinators.specs.declared.fault.SyntaxFault.TheVariants as syntax
 use Rattle.tl_combinators.specs.Sentences.{Reads, SyntaxRefused}
 use Rattle.tl_combinators.specs.Sentences as sentence
-use Rattle.tl_types.specs.Types.{Shape}
-use Rattle.tl_types.specs.Schemas.{Declared}
-use Rattle.tl_types.specs.CheckCauses.{RefusedAt}
-use Rattle.tl_types.specs.CheckedPrograms.{IsSchema}
-use Rattle.tl_types.specs.AskedTypes.{AsksFor, IsTypeText, RefusedTypeBy, type_causes}
+use Rattle.tl_schema.specs.Types.{Shape}
+use Rattle.tl_schema.specs.Schemas.{Declared}
+use Rattle.tl_schema.specs.CheckCauses.{RefusedAt}
+use Rattle.tl_schema.specs.CheckedPrograms.{IsSchema}
+use Rattle.tl_schema.specs.AskedTypes.{AsksFor, IsTypeText, RefusedTypeBy, type_causes}
 use Rattle.tl_types.specs.PlainViews.{IsPlainType}
-use Rattle.tl_types.specs.declared.fault.CheckCause.{CheckCause}
-use Rattle.tl_types.specs.declared.fault.TypeCause.{TypeCause}
+use Rattle.tl_schema.specs.declared.fault.CheckCause.{CheckCause}
+use Rattle.tl_schema.specs.declared.fault.TypeCause.{TypeCause}
 use Rattle.commands.specs.declared.stop.TextCause.{TextCause}
 use Rattle.commands.specs.declared.stop.TextCause.TheVariants.{TextTooLong, BadByte, OpenComment, Unexpected, NotProfile, TooMany}
 use Rattle.commands.specs.declared.stop.SchemaCause.{SchemaCause}

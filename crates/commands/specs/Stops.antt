@@ -6,10 +6,10 @@ use Rattle.tl_lexer.specs.declared.fault.LexFault.{LexFault}
 use Rattle.tl_lexer.specs.declared.fault.LexFault.TheVariants as lex
 use Rattle.tl_combinators.specs.declared.fault.SyntaxFault.{SyntaxFault}
 use Rattle.tl_combinators.specs.declared.fault.SyntaxFault.TheVariants as syntax
-use Rattle.tl_types.specs.declared.fault.CheckFault.{CheckFault}
-use Rattle.tl_types.specs.declared.fault.CheckFault.TheVariants as check
-use Rattle.tl_types.specs.declared.fault.TypeFault.{TypeFault}
-use Rattle.tl_types.specs.declared.fault.TypeFault.TheVariants as type
+use Rattle.tl_schema.specs.declared.fault.CheckFault.{CheckFault}
+use Rattle.tl_schema.specs.declared.fault.CheckFault.TheVariants as check
+use Rattle.tl_schema.specs.declared.fault.TypeFault.{TypeFault}
+use Rattle.tl_schema.specs.declared.fault.TypeFault.TheVariants as type
 use Rattle.commands.specs.declared.whole.InputFault.{InputFault}
 use Rattle.commands.specs.declared.whole.InputFault.TheVariants as input
 use Rattle.update_replay.specs.declared.replay.ReplayFault.{ReplayFault}

@@ -1,11 +1,12 @@
 //! Values from bytes.
 ghost use Rattle.std.specs.Prelude.{◌≡◌, ◌<◌, ◌≤◌, ◌++◌, ◌==◌, ◌&&◌, [], ℕ, List, IsErrOf, IfSome, length, map};
 ghost use Rattle.tl_base.specs.Using.{Used};
-ghost use Rattle.tl_types.specs.Meanings.{types_of};
+ghost use Rattle.tl_schema.specs.Meanings.{types_of};
 ghost use Rattle.tl_types.specs.PlainTypes.{boxed, int, long};
 ghost use Rattle.tl_types.specs.PlainViews.{plain_decls, plain_shape, plain_slot};
 ghost use Rattle.tl_types.specs.Values.{Tree, depth};
-ghost use Rattle.tl_types.specs.Seen.{view, shape, slot, declaration};
+ghost use Rattle.tl_types.specs.Seen.{view};
+ghost use Rattle.tl_schema.specs.Seen.{shape, slot, declaration};
 ghost use Rattle.tl_types.specs.Spelling.{Spells};
 ghost use Rattle.tl_types.specs.Refusal.{Refused};
 ghost use Rattle.tl_types.specs.Reading.{moved, word_at, double_at, plain_at, fields_at, boxed_at, value_at, member_from, wrong_number};

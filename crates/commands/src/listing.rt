@@ -1,6 +1,6 @@
 //! The list of a schema's declarations.
 ghost use Rattle.std.specs.Prelude.{◌≡◌, ◌++◌, IfOk, OnOk, string_bytes};
-ghost use Rattle.tl_types.specs.Seen.{declaration};
+ghost use Rattle.tl_schema.specs.Seen.{declaration};
 ghost use Rattle.commands.specs.CheckAnswers.{counts_line, entry_line, is_listed, listing};
 
 use std::alloc::{AllocError, Global};

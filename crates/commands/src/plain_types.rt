@@ -1,6 +1,6 @@
 //! The types whose values are read so far: boxed types without arguments whose constructors have unconditional `int` and `long` fields alone.
 ghost use Rattle.std.specs.Prelude.{◌↔◌, IsTrue, map};
-ghost use Rattle.tl_types.specs.Seen.{shape, slot};
+ghost use Rattle.tl_schema.specs.Seen.{shape, slot};
 ghost use Rattle.tl_types.specs.PlainViews.{ArePlainSlots, IsPlainHead, IsPlainSlot, IsWhole, PlainIs};
 
 use tl_types::{Schema, SchemaField, TypeRef};

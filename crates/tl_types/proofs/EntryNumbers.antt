@@ -5,13 +5,13 @@ use Rattle.std.proofs.lemmas.Bool.{cases_Bool, cases_order, ltb-true}
 use Rattle.std.proofs.lemmas.List.{length-map}
 use Rattle.std.proofs.lemmas.Option.{cond_some, none-some, same_Some, slice_get-map, slice_get_cases, slice_get_within}
 use Rattle.tl_combinators.specs.Program.{DeclText}
-use Rattle.tl_types.specs.Writing.{At, is_constructor, result_head}
-use Rattle.tl_types.specs.Writing.{own_type}
-use Rattle.tl_types.specs.Numbers.{IsNumbered}
-use Rattle.tl_types.specs.Schemas.{Declaration, Declared, vector_number, packed_number}
-use Rattle.tl_types.specs.Meanings.{types_of, head_in, IsNumberWhere, IsEntry, line_number}
-use Rattle.tl_types.specs.SameNumber.{SameNumber, earlier, packed}
-use Rattle.tl_types.specs.CheckedPrograms.{IsSchema}
+use Rattle.tl_schema.specs.Writing.{At, is_constructor, result_head}
+use Rattle.tl_schema.specs.Writing.{own_type}
+use Rattle.tl_schema.specs.Numbers.{IsNumbered}
+use Rattle.tl_schema.specs.Schemas.{Declaration, Declared, vector_number, packed_number}
+use Rattle.tl_schema.specs.Meanings.{types_of, head_in, IsNumberWhere, IsEntry, line_number}
+use Rattle.tl_schema.specs.SameNumber.{SameNumber, earlier, packed}
+use Rattle.tl_schema.specs.CheckedPrograms.{IsSchema}
 use Rattle.tl_types.specs.PlainSchemas.{PlainDeclaration, IsPlainSchema}
 use Rattle.tl_types.specs.PlainViews.{own_head, plain_declaration, plain_decls}
 

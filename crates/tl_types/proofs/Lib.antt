@@ -1,4 +1,3 @@
-pub mod Deciding
 pub mod Words
 pub mod Members
 pub mod Views
@@ -6,68 +5,4 @@ pub mod Spelling
 pub mod Refusal
 pub mod Reading
 pub mod Exactly
-pub mod Rows
-pub mod Places
-pub mod NamedEntries
-pub mod IndexSteps
-pub mod LastWords
-pub mod PartsOfOne
-pub mod UnknownParts
-pub mod BareParts
-pub mod AppliedTypes
-pub mod SameNames
-pub mod Results
-pub mod FieldConditions
-mod Maps
-mod NameKeys
-mod Repeats
-mod TypeNames
-mod UnevenTypes
-mod ArityCases
-mod ListParts
-mod Misapplied
-pub mod Calls
-pub mod UnknownVariables
-pub mod Firsts
-pub mod PlacesDecided
-pub mod TypesDecided
-pub mod WritingDecided
-pub mod SameNameFirst
-pub mod UnknownTypeFirst
-pub mod UnknownVariableFirst
-pub mod BadResultFirst
-pub mod NotBareFirst
-pub mod BadFlagFirst
-pub mod OneArity
-pub mod WrongArityFirst
-pub mod CheckSequence
-pub mod CheckOrder
-pub mod BareDecided
-pub mod TakesNoneDecided
-pub mod SameNumberFirst
-pub mod BareCycleFirst
-pub mod EmptyElementFirst
-pub mod OnlyConstructors
-pub mod BareMeanings
-pub mod Adding
-pub mod AddingParts
-pub mod ReferenceLists
-mod ReferenceCycles
-mod KnownNumbers
-mod OneBare
-mod EmptyNodes
-mod BareFields
-mod MarkedArguments
-mod HeadNames
-mod PlacedNames
 pub mod EntryNumbers
-mod TestedPlaces
-mod DeclaredPlaces
-mod DeclaredTypes
-mod MadeLists
-mod MeantTypes
-mod DeclaredEntries
-mod EmptyArguments
-pub mod OneSchema
-pub mod OneType
-mod TypeSteps

@@ -2,7 +2,7 @@
 use Rattle.std.proofs.Common.{◌≡◌, ℕ, zero, suc, ◌+◌, List, [], ◌∷◌, Option, Some, None, refl, ap, sym, ◌∙◌, arith, Bool, true, false, true≢false, eqb, ◌&&◌}
 use Rattle.std.specs.Prelude.{slice_get}
 use Rattle.std.proofs.lemmas.Bool.{eqb-true, eq-eqb}
-use Rattle.tl_types.specs.Schemas.{packed_number}
+use Rattle.tl_schema.specs.Schemas.{packed_number}
 use Rattle.tl_types.specs.PlainSchemas.{PlainDeclaration, IsPlainSchema, IsMember}
 use Rattle.tl_types.specs.Refusal.{IsMemberNumber}
 use Rattle.tl_types.specs.Reading.{is_head, fields_in, member_from}

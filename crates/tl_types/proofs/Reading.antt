@@ -8,7 +8,7 @@ use Rattle.tl_types.specs.PlainTypes.{PlainShape}
 use Rattle.tl_types.specs.PlainTypes as shape
 use Rattle.tl_types.specs.Values.{Tree, Trees, no_trees, tree, trees_of, depth, depth_of}
 use Rattle.tl_types.specs.Values as value
-use Rattle.tl_types.specs.Schemas.{packed_number}
+use Rattle.tl_schema.specs.Schemas.{packed_number}
 use Rattle.tl_types.specs.PlainSchemas.{PlainSlot, PlainDeclaration, IsMember}
 use Rattle.tl_types.specs.Words.{word, double_word}
 use Rattle.tl_types.specs.Spelling.{Spells, SpellFields}
@@ -121,11 +121,3 @@ read_as ds n shape.int p b lt bytes = plain_read ds n shape.int p b refl (int_re
 read_as ds n shape.long p b lt bytes = plain_read ds n shape.long p b refl (long_read ds n p b lt (begins_double b bytes))
 read_as ds zero (shape.boxed h) p b lt bytes = too_deep ds h p b lt
 read_as ds (suc n) (shape.boxed h) p b lt bytes = rw (value_is_deep ds n (shape.boxed h) (spot p b) refl) (boxed_read ds n (read_as ds n) h p b lt (begins_word b bytes))
-
--- ---- the two laws apart
-
-pub was_spelled : (ds : List PlainDeclaration) (n : ℕ) (T : PlainShape) (p : ℕ) (b : List ℕ) (t : Tree) (s : Spot) → p < 2 ^ 64 → AreBytes b → value_at ds n T (spot p b) ≡ Ok (t, s) → (x : List ℕ) × (b ≡ x ++ s.bytes) × Spells ds T t x × (depth t ≤ n) × (s.place ≡ moved p (length x))
-was_spelled ds n T p b t s lt bytes e = subst (ReadAs ds n T p b) e (read_as ds n T p b lt bytes)
-
-pub was_refused : (ds : List PlainDeclaration) (n : ℕ) (T : PlainShape) (p : ℕ) (b : List ℕ) (q : ℕ) (cause : Cause) → p < 2 ^ 64 → AreBytes b → value_at ds n T (spot p b) ≡ Err (q, cause) → (place : ℕ) × Refused ds n T b place cause × (q ≡ moved p place)
-was_refused ds n T p b q cause lt bytes e = subst (ReadAs ds n T p b) e (read_as ds n T p b lt bytes)

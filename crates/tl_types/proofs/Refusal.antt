@@ -7,7 +7,7 @@ use Rattle.tl_types.specs.PlainTypes.{PlainShape}
 use Rattle.tl_types.specs.PlainTypes as shape
 use Rattle.tl_types.specs.Values.{Tree, Trees}
 use Rattle.tl_types.specs.Values as value
-use Rattle.tl_types.specs.Schemas.{packed_number}
+use Rattle.tl_schema.specs.Schemas.{packed_number}
 use Rattle.tl_types.specs.PlainSchemas.{PlainSlot, PlainDeclaration, IsPlainSchema}
 use Rattle.tl_types.specs.Words.{word}
 use Rattle.tl_types.specs.Refusal.{WordRefused, FieldsRefused, IsMemberNumber, Refused}

@@ -1,13 +1,14 @@
 -- Types and values, seen.
 use Rattle.std.proofs.Common.{◌≡◌, ℕ, ℤ, map, ap, ◌∙◌, rules, Vec, Global}
-use Rattle.tl_types.specs.Seen.{shape, view}
-use Rattle.tl_types.specs.Types as type
+use Rattle.tl_schema.specs.Seen.{shape}
+use Rattle.tl_types.specs.Seen.{view}
+use Rattle.tl_schema.specs.Types as type
 use Rattle.tl_types.specs.PlainTypes as plain
 use Rattle.tl_types.specs.PlainViews.{plain_shape}
 use Rattle.tl_types.specs.Values as tree
 use Rattle.tl_types.specs.Values.{trees_of}
-use Rattle.tl_types.specs.declared.schema.TypeRef as ref
-use Rattle.tl_types.specs.declared.schema.TypeRef.{TypeRef}
+use Rattle.tl_schema.specs.declared.schema.TypeRef as ref
+use Rattle.tl_schema.specs.declared.schema.TypeRef.{TypeRef}
 use Rattle.tl_types.specs.declared.value.Value as value
 use Rattle.tl_types.specs.declared.value.Value.{Value}
 

@@ -4,7 +4,7 @@ use Rattle.std.specs.Int.{w32, w64, from_le_bytes, cast_signed}
 use Rattle.tl_types.specs.PlainTypes.{PlainShape, int, long, boxed}
 use Rattle.tl_types.specs.Values.{Tree, Trees, trees_of}
 use Rattle.tl_types.specs.Values as value
-use Rattle.tl_types.specs.Schemas.{packed_number}
+use Rattle.tl_schema.specs.Schemas.{packed_number}
 use Rattle.tl_types.specs.PlainSchemas.{PlainSlot, PlainDeclaration}
 use Rattle.tl_types.specs.declared.fault.Cause.{Cause}
 use Rattle.tl_types.specs.declared.fault.Cause.TheVariants.{TooDeep, Truncated, Packed, UnknownNumber}

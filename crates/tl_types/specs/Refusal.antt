@@ -3,7 +3,7 @@
 use Rattle.std.specs.Prelude.{◌≡◌, ◌≢◌, ◌⊎◌, ℕ, zero, suc, ◌+◌, ◌<◌, ◌≤◌, ◌^◌, List, [], ◌∷◌, ◌++◌, length}
 use Rattle.tl_types.specs.PlainTypes.{PlainShape, int, long, boxed}
 use Rattle.tl_types.specs.Values.{Tree, depth}
-use Rattle.tl_types.specs.Schemas.{packed_number}
+use Rattle.tl_schema.specs.Schemas.{packed_number}
 use Rattle.tl_types.specs.PlainSchemas.{PlainSlot, PlainDeclaration, IsMember}
 use Rattle.tl_types.specs.Words.{word}
 use Rattle.tl_types.specs.Spelling.{Spells}

@@ -1,9 +1,9 @@
 //! Laws of the definitions, each carried by a function that does nothing.
-ghost use Rattle.tl_types.specs.CheckedPrograms.{IsSchema};
+ghost use Rattle.tl_schema.specs.CheckedPrograms.{IsSchema};
 ghost use Rattle.tl_types.specs.Exactly.{EachIsSpelledOrRefused};
 ghost use Rattle.tl_types.specs.PlainSchemas.{IsPlainSchema};
 ghost use Rattle.tl_types.specs.PlainViews.{plain_decls};
-ghost use Rattle.tl_types.specs.Schemas.{Declared};
+ghost use Rattle.tl_schema.specs.Schemas.{Declared};
 
 /// Over each type and each list of bytes exactly one holds: one prefix spells one value, or the bytes are refused at one place for one cause.
 pub fn each_input_is_spelled_or_refused()

@@ -1,39 +1,14 @@
-//! Schemas, their types and their values.
+//! Values of a schema's types: which bytes spell them.
 #![tactic(auto)]
 
-mod bad_flag;
-mod bad_result;
-mod bare_cycle;
-mod checks;
-mod copies;
-mod declarations;
-mod empties;
-mod empty_element;
-mod entries;
 mod fault;
-mod index;
 mod laws;
-mod meanings;
-mod names;
-mod not_bare;
-mod parts;
-mod pass_checks;
-mod placed;
-mod references;
-mod same_name;
-mod same_number;
-mod schema;
-mod scope;
-mod terms;
-mod types;
-mod unknown_type;
-mod unknown_variable;
 mod value;
-mod wrong_arity;
 
-pub use checks::check;
-pub use fault::{Cause, CheckCause, CheckFault, TypeCause, TypeFault};
+pub use fault::Cause;
 pub use laws::{each_input_is_spelled_or_refused, schemas_are_plain_schemas};
-pub use schema::{Entry, Schema, SchemaField, TypeRef};
-pub use types::type_of;
+pub use tl_schema::{
+    CheckCause, CheckFault, Entry, Schema, SchemaField, TypeCause, TypeFault, TypeRef, check,
+    type_of,
+};
 pub use value::Value;

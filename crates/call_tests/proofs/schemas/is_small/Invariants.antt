@@ -1,6 +1,6 @@
 use Rattle.std.proofs.Common.{ℕ, ◌<◌, ◌≤◌, length}
 use Rattle.tl_combinators.specs.Program.{DeclText, program_text}
-use Rattle.tl_types.specs.Writing.{At}
+use Rattle.tl_schema.specs.Writing.{At}
 use Rattle.call_tests.proofs.schemas.is_small.Given as goal
 
 abbrev pub invariant-loop-decl : goal.invariant-loop-decl

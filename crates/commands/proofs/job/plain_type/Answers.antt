@@ -1,4 +1,4 @@
-use Rattle.tl_types.specs.Seen.{shape}
+use Rattle.tl_schema.specs.Seen.{shape}
 use Rattle.commands.specs.Loaded.{not_built}
 use Rattle.commands.proofs.TypeWords.{no_type_of}
 use Rattle.commands.proofs.job.plain_type.Goals as goal

@@ -1,5 +1,5 @@
 use Rattle.std.proofs.Common.{rules}
-use Rattle.tl_types.specs.Seen.{declaration}
+use Rattle.tl_schema.specs.Seen.{declaration}
 use Rattle.commands.proofs.ListedLines.{unlisted, listed_function, listed_constructor}
 use Rattle.commands.proofs.listing.listing.Goals as goal
 use Rattle.commands.proofs.listing.listing.Goals.{then-is_listed+then-entry, then-is_listed+else-entry, else-is_listed}

@@ -1,5 +1,5 @@
 use Rattle.std.proofs.Common.{◌≡◌, ℕ, ◌<◌, slice_get, Some}
-use Rattle.tl_types.specs.Schemas.{Declaration}
+use Rattle.tl_schema.specs.Schemas.{Declaration}
 use Rattle.tl_types.specs.PlainViews.{ArePlainSlots}
 use Rattle.commands.proofs.plain_types.is_plain_head.Given as goal
 

@@ -1,0 +1,123 @@
+-- The entries of a program's declarations, as they are made one after another, and the places of their names.
+use Rattle.std.proofs.Common.{◌≡◌, ◌⊎◌, inl, inr, ℕ, ◌+◌, ◌<◌, ◌^◌, List, [], ◌∷◌, ◌++◌, length, slice_get, Bool, true, false, not, bytes_eq, Option, Some, refl, ap, sym, ◌∙◌, subst, true≢false, length-append, arith, if◌then◌else◌}
+use Rattle.std.specs.Option.{unwrap_or}
+use Rattle.std.proofs.lemmas.Option.{none-some, same_Some}
+use Rattle.std.proofs.lemmas.Slice.Eq.{bytes_eq-Decides}
+use Rattle.tl_combinators.specs.Program.{DeclText}
+use Rattle.tl_schema.specs.Writing.{At}
+use Rattle.tl_schema.specs.Schemas.{Declaration, Declared}
+use Rattle.tl_schema.specs.Meanings.{IsEntry, IsSmall, types_of}
+use Rattle.tl_schema.specs.CheckCauses.{Passes}
+use Rattle.tl_schema.specs.CheckedPrograms.{HasName, Finds}
+use Rattle.tl_schema.specs.NamePlaces.{Notes, place_in}
+use Rattle.tl_schema.specs.NamesNoted.{NotesOne, among, Enters}
+use Rattle.tl_schema.specs.SchemaParts.{ArePlaces, IsSound}
+use Rattle.tl_schema.specs.declared.checks.Known.{Known}
+use Rattle.tl_schema.proofs.Places.{IsPlace, first_same, first_with, first_without, get_cases}
+
+-- ---- names
+
+abbrev IsNamed : List ℕ → Bool → Declaration → Type 0
+IsNamed name function e = (e.name ≡ name) × (e.function ≡ function)
+
+module _ (es : List Declaration) (name : List ℕ) (function : Bool) where
+  name_place : (j : ℕ) → HasName es name function j → IsPlace (IsNamed name function) es j
+  name_place j h = record { x = h.0; there = h.1; has = (h.2, h.3) }
+
+  place_name : (j : ℕ) → IsPlace (IsNamed name function) es j → HasName es name function j
+  place_name j p = (p.x, p.there, p.has.0, p.has.1)
+
+module _ (es : List Declaration) (e : Declaration) (function : Bool) where
+  found_without : (name : List ℕ) → (IsNamed name function e → ⊥) → (o : Option ℕ) → Finds es name function o → Finds (es ++ e ∷ []) name function o
+  found_without name lacks o first =
+      first_same _ _ (place_name (es ++ e ∷ []) name function) (name_place (es ++ e ∷ []) name function) o (first_without (IsNamed name function) es e lacks o (first_same _ _ (name_place es name function) (place_name es name function) o first))
+
+  found_with : (name : List ℕ) → IsNamed name function e → (o : Option ℕ) (at : ℕ) → length es ≡ at → Finds es name function o → Finds (es ++ e ∷ []) name function (Some (unwrap_or o at))
+  found_with name has o at count first =
+      first_same _ _ (place_name (es ++ e ∷ []) name function) (name_place (es ++ e ∷ []) name function) (Some (unwrap_or o at)) (first_with (IsNamed name function) es e has o at count (first_same _ _ (name_place es name function) (place_name es name function) o first))
+
+  -- an entry of the other kind
+  places_other : (places : List (List ℕ × ℕ)) → (e.function ≡ function → ⊥) → ArePlaces es function places → ArePlaces (es ++ e ∷ []) function places
+  places_other places lacks old name = found_without name (λ has. lacks has.1) (place_in places name) (old name)
+
+  -- one more entry of this kind
+  places_more : (old new : List (List ℕ × ℕ)) (at : ℕ) → e.function ≡ function → length es ≡ at → Notes old new e.name at → ArePlaces es function old → ArePlaces (es ++ e ∷ []) function new
+  places_more old new at kind count notes before name = by (bytes_eq name e.name) refl
+    where
+      by : (b : Bool) → bytes_eq name e.name ≡ b → Finds (es ++ e ∷ []) name function (place_in new name)
+      by true h =
+          let is = notes name ∙ ap (λ b. if b then Some (unwrap_or (place_in old name) at) else place_in old name) h in
+          subst (Finds (es ++ e ∷ []) name function) (sym is) (found_with name (sym ((bytes_eq-Decides name e.name).0 h), kind) (place_in old name) at count (before name))
+      by false h =
+          let is = notes name ∙ ap (λ b. if b then Some (unwrap_or (place_in old name) at) else place_in old name) h in
+          subst (Finds (es ++ e ∷ []) name function) (sym is) (found_without name (λ has. true≢false (sym ((bytes_eq-Decides name e.name).1 (sym has.0)) ∙ h)) (place_in old name) (before name))
+
+-- ---- both kinds
+
+abbrev AreKnown : List Declaration → Known → Type 0
+AreKnown es known = (function : Bool) → ArePlaces es function (among function known)
+
+one_of_two : (a b : Bool) → (a ≡ b) ⊎ (a ≡ not b)
+one_of_two true true = inl refl
+one_of_two true false = inr refl
+one_of_two false true = inr refl
+one_of_two false false = inl refl
+
+never_its_other : (b : Bool) → b ≡ not b → ⊥
+never_its_other true e = true≢false e
+never_its_other false e = true≢false (sym e)
+
+known_more : (es : List Declaration) (e : Declaration) (d : DeclText) (old new : Known) (at : ℕ) → e.name ≡ d.name → e.function ≡ d.function → length es ≡ at → NotesOne old new d at → AreKnown es old → AreKnown (es ++ e ∷ []) new
+known_more es e d old new at named kind count notes before function =
+    elim (one_of_two function d.function) [
+      | inl same ↦ subst (λ b. ArePlaces (es ++ e ∷ []) b (among b new)) (sym same) (
+          places_more es e d.function (among d.function old) (among d.function new) at kind count (subst (λ name. Notes (among d.function old) (among d.function new) name at) (sym named) notes.noted) (before d.function)
+          )
+      | inr other ↦ subst (λ b. ArePlaces (es ++ e ∷ []) b (among b new)) (sym other) (
+          subst (ArePlaces (es ++ e ∷ []) (not d.function)) (sym notes.others) (places_other es e (not d.function) (among (not d.function) old) (λ is. never_its_other d.function (sym kind ∙ is)) (before (not d.function)))
+          )
+    ]
+
+-- ---- the entries so far
+
+pub none_yet : (ds : List DeclText) (known : Known) → known.constructors ≡ [] → known.functions ≡ [] → Enters ds 0 [] known
+none_yet ds known no_constructors no_functions = record {
+  count = refl;
+  entries = λ k d e there at. absurd (none-some e at);
+  fits = λ k e at. absurd (none-some e at);
+  places = none_placed;
+}
+  where
+    none_placed : (function : Bool) → ArePlaces [] function (among function known)
+    none_placed true name = subst (λ places. Finds [] name true (place_in places name)) (sym no_functions) (λ k h. none-some h.0 h.1)
+    none_placed false name = subst (λ places. Finds [] name false (place_in places name)) (sym no_constructors) (λ k h. none-some h.0 h.1)
+
+-- one entry more
+pub enters_more : (ds : List DeclText) (at : ℕ) (es : List Declaration) (old new : Known) (d : DeclText) (e : Declaration) → At ds at d → IsEntry ds d e → e.number < 2 ^ 32 → NotesOne old new d at → Enters ds at es old → Enters ds (at + 1) (es ++ e ∷ []) new
+enters_more ds at es old new d e there is fits notes before = record {
+  count = omega (arith, length-append es (e ∷ []), before.count);
+  entries = λ k c f c_there f_there. elim (get_cases es e k f f_there) [
+    | inl earlier ↦ before.entries k c f c_there earlier
+    | inr last ↦
+        let here : slice_get ds k ≡ Some d = ap (slice_get ds) (last.0 ∙ before.count) ∙ there in
+        subst (IsEntry ds c) last.1 (subst (λ b. IsEntry ds b e) (same_Some d c (sym here ∙ c_there)) is)
+  ];
+  fits = λ k f f_there. elim (get_cases es e k f f_there) [ inl earlier ↦ before.fits k f earlier | inr last ↦ subst (λ (g : Declaration). g.number < 2 ^ 32) last.1 fits ];
+  places = known_more es e d old new at (ap (λ x. x.name) is.1) (ap (λ x. x.function) is.1) before.count notes before.places;
+}
+
+-- all declarations have their entries
+module _ (ds : List DeclText) (at : ℕ) (schema : Declared) (known : Known) (types : ℕ) where
+  pub entered : schema.program ≡ ds → at ≡ length ds → types ≡ length (types_of ds) → Passes ds → IsSmall ds → Enters ds at schema.decls known → IsSound schema known.constructors known.functions types
+  entered same all count passes small es = record {
+    good = record {
+      passes = subst Passes (sym same) passes;
+      small = subst IsSmall (sym same) small;
+      count = es.count ∙ all ∙ sym (ap length same);
+      entries = λ k d e there here. subst (λ program. IsEntry program d e) (sym same) (es.entries k d e (ap (λ program. slice_get program k) (sym same) ∙ there) here);
+      fits = es.fits;
+    };
+    of_constructors = es.places false;
+    of_functions = es.places true;
+    type_count = count ∙ ap (λ program. length (types_of program)) (sym same);
+  }

@@ -1,0 +1,13 @@
+use Rattle.std.proofs.Common.{◌∙◌, subst, sym, true≢false}
+use Rattle.tl_schema.specs.Indexed.{IsFamily}
+use Rattle.tl_schema.proofs.index.Index.is_uneven.Goals as goal
+
+pub returns-in-Some : goal.returns-in-Some
+returns-in-Some c =
+    let family = subst (IsFamily _ c.args.type_name.now) (sym c.find.ensures ∙ c.in-Some.is) (c.self.invariant.made c.args.type_name.now) in
+    rw (← c.self.view_is) family.uneven
+
+pub returns-in-None : goal.returns-in-None
+returns-in-None c =
+    let family = subst (IsFamily _ c.args.type_name.now) (sym c.find.ensures ∙ c.in-None.is) (c.self.invariant.made c.args.type_name.now) in
+    (λ h. absurd (true≢false (sym h)), λ uneven. absurd (family uneven.i (uneven.b, (rw (← c.self.view_is) at uneven.one))))

@@ -1,0 +1,82 @@
+-- What a text asks for as a type: a closed type of a schema, a call, or why it is none. This project's own.
+use Rattle.std.specs.Prelude.{◌≡◌, ◌⊎◌, ℕ, List, [], ◌∷◌, true, false, None, Result, Ok, Err}
+use Rattle.tl_lexer.specs.declared.token.Token.{Token}
+use Rattle.tl_lexer.specs.Tokens.{Tokens, LexRefused}
+use Rattle.tl_combinators.specs.Trees.{Tree, any_call}
+use Rattle.tl_combinators.specs.Program.{DeclText}
+use Rattle.tl_combinators.specs.Sentences.{ReadsType, TypeRefused}
+use Rattle.tl_schema.specs.Parts.{SomePart}
+use Rattle.tl_schema.specs.UnknownType.{BeginsUnknown}
+use Rattle.tl_schema.specs.WrongArity.{Misapplies}
+use Rattle.tl_schema.specs.NotBare.{HasNoBare}
+use Rattle.tl_schema.specs.EmptyElement.{AppliesToEmpty}
+use Rattle.tl_schema.specs.Types.{Shape}
+use Rattle.tl_schema.specs.Seen.{shape}
+use Rattle.tl_schema.specs.declared.schema.TypeRef.{TypeRef}
+use Rattle.tl_schema.specs.Meanings.{meaning}
+use Rattle.tl_schema.specs.declared.fault.TypeCause.{TypeCause}
+use Rattle.tl_schema.specs.declared.fault.TypeCause.TheVariants.{UnknownType, WrongArity, NotBare, EmptyElement}
+use Rattle.tl_schema.specs.declared.fault.TypeFault.{TypeFault}
+use Rattle.tl_schema.specs.declared.fault.TypeFault.TheVariants as type
+
+-- who asks: no declaration of the program, and one without variables
+abbrev pub asker : DeclText
+asker = record { name = []; number = None; vars = []; fields = []; result = any_call; function = true; builtin = false; text = [] }
+
+-- the type has the cause
+abbrev pub TypeHas : List DeclText → TypeCause → Tree → Type 0
+TypeHas ds UnknownType t = SomePart (BeginsUnknown ds asker) t
+TypeHas ds WrongArity t = SomePart (Misapplies ds asker) t
+TypeHas ds NotBare t = SomePart (HasNoBare ds asker) t
+TypeHas ds EmptyElement t = SomePart (AppliesToEmpty ds asker) t
+
+-- the causes in the order of the checks
+abbrev pub type_causes : List TypeCause
+type_causes = UnknownType ∷ WrongArity ∷ NotBare ∷ EmptyElement ∷ []
+
+-- the type has none of these causes
+abbrev pub PassesTypeBy : List DeclText → List TypeCause → Tree → Type 0
+PassesTypeBy ds [] t = Unit {0}
+PassesTypeBy ds (c ∷ cs) t = (TypeHas ds c t → ⊥) × PassesTypeBy ds cs t
+
+-- the first of these causes that it has is this one
+abbrev pub RefusedTypeBy : List DeclText → List TypeCause → Tree → TypeCause → Type 0
+RefusedTypeBy ds [] t found = ⊥
+RefusedTypeBy ds (c ∷ cs) t found = ((found ≡ c) × TypeHas ds c t) ⊎ ((TypeHas ds c t → ⊥) × RefusedTypeBy ds cs t found)
+
+-- the text is this type
+pub record AsksFor (text : List ℕ) (t : Tree) : Type 0 where
+  pub tokens : List Token
+  pub lexed : Tokens text tokens
+  pub read : ReadsType text tokens t
+
+-- the text is a type of the program, and means this
+pub record IsTypeText (ds : List DeclText) (text : List ℕ) (s : Shape) : Type 0 where
+  pub t : Tree
+  pub asks : AsksFor text t
+  pub passes : PassesTypeBy ds type_causes t
+  pub means : s ≡ meaning ds asker t
+
+-- what the checks of a type answer
+abbrev pub PassesType : List DeclText → Tree → Result (Unit {0}) TypeFault → Type 0
+PassesType ds t (Ok u) = PassesTypeBy ds type_causes t
+PassesType ds t (Err (type.Lex fault)) = ⊥
+PassesType ds t (Err (type.Syntax fault)) = ⊥
+PassesType ds t (Err (type.Refused cause)) = RefusedTypeBy ds type_causes t cause
+PassesType ds t (Err type.Memory) = Unit {0}
+
+-- what a type is, where a text asks for it
+abbrev pub ChecksType : List DeclText → Tree → Result TypeRef TypeFault → Type 0
+ChecksType ds t (Ok type) = PassesTypeBy ds type_causes t × (shape type ≡ meaning ds asker t)
+ChecksType ds t (Err (type.Lex fault)) = ⊥
+ChecksType ds t (Err (type.Syntax fault)) = ⊥
+ChecksType ds t (Err (type.Refused cause)) = RefusedTypeBy ds type_causes t cause
+ChecksType ds t (Err type.Memory) = Unit {0}
+
+-- what a text is as a type of the program
+abbrev pub NamesType : List DeclText → List ℕ → Result TypeRef TypeFault → Type 0
+NamesType ds text (Ok type) = IsTypeText ds text (shape type)
+NamesType ds text (Err (type.Lex fault)) = LexRefused text fault
+NamesType ds text (Err (type.Syntax fault)) = (tokens : List Token) × Tokens text tokens × TypeRefused text tokens fault
+NamesType ds text (Err (type.Refused cause)) = (t : Tree) × AsksFor text t × RefusedTypeBy ds type_causes t cause
+NamesType ds text (Err type.Memory) = Unit {0}

@@ -1,0 +1,41 @@
+-- The tenth check: arguments that take no bytes, of which a vector could hold any number in no space.
+-- This project's own, over the vectors and bare types of "TL language" (core.telegram.org/mtproto/TL).
+use Rattle.std.specs.Prelude.{◌≡◌, ◌⊎◌, ℕ, List, length, slice_get, Some, true}
+use Rattle.tl_combinators.specs.Trees.{Tree, Trees, named, percent, any_call, no_trees, tree}
+use Rattle.tl_combinators.specs.Program.{KindText, nat, flag, call, of, FieldText, DeclText}
+use Rattle.tl_graph.specs.Paths.{IsIn}
+use Rattle.tl_schema.specs.Writing.{At, is_constructor, FieldAt, DeclarationHas}
+use Rattle.tl_schema.specs.Parts.{SomeWritten}
+use Rattle.tl_schema.specs.BareReferences.{IsBareOf}
+
+-- what a field of d holds is the bare constructor j
+abbrev pub HoldsBare : List DeclText → DeclText → KindText → ℕ → Type 0
+HoldsBare ds d nat j = ⊥
+HoldsBare ds d flag j = ⊥
+HoldsBare ds d (call var) j = ⊥
+HoldsBare ds d (of t) j = IsBareOf ds d t j
+
+-- d is a constructor whose fields are these bare constructors, one each
+pub record HasBareFields (ds : List DeclText) (d : DeclText) (js : List ℕ) : Type 0 where
+  pub own : is_constructor d ≡ true
+  pub count : length js ≡ length d.fields
+  pub each : (i j : ℕ) (f : FieldText) → FieldAt d i f → slice_get js i ≡ Some j → HoldsBare ds d f.kind j
+
+-- constructor j takes no bytes: its fields are bare constructors that take none, or it has no fields
+pub data TakesNone (ds : List DeclText) : ℕ → Type 0 where
+  takes_none : (j : ℕ) (d : DeclText) (js : List ℕ) → At ds j d → HasBareFields ds d js → ((i : ℕ) → IsIn i js → TakesNone ds i) → TakesNone ds j
+
+-- t is one of the types
+abbrev pub IsOneOf : Tree → Trees → Type 0
+IsOneOf t no_trees = ⊥
+IsOneOf t (tree u us) = (t ≡ u) ⊎ IsOneOf t us
+
+-- where d writes it, the type applies a name to a bare constructor that takes no bytes
+abbrev pub AppliesToEmpty : List DeclText → DeclText → Tree → Type 0
+AppliesToEmpty ds d (named name args) = (t : Tree) × (j : ℕ) × IsOneOf t args × IsBareOf ds d t j × TakesNone ds j
+AppliesToEmpty ds d (percent t) = ⊥
+AppliesToEmpty ds d any_call = ⊥
+
+-- declaration k writes such a type
+abbrev pub EmptyElement : List DeclText → ℕ → Type 0
+EmptyElement ds = DeclarationHas (SomeWritten (AppliesToEmpty ds)) ds

@@ -1,0 +1,169 @@
+-- What the declarations of a program mean: their types, their fields and their entries.
+-- From "TL language" and "Formal description of TL" (core.telegram.org/mtproto/TL, /mtproto/TL-formal). That types and declarations go by
+-- their places is this project's own.
+-- In a program that passes the checks each name has a declaration, and each application the right number of arguments. What these
+-- definitions say where that is not so is of no use: a place past the end, or a call in place of a type.
+use Rattle.std.specs.Prelude.{◌≡◌, ℕ, ◌<◌, ◌^◌, List, [], length, map, fold, Bool, true, false, ◌&&◌, bytes_eq, codes, Option, Some, None, unwrap_or, if◌then◌else◌}
+use Rattle.std.specs.Option.{option_map}
+use Rattle.std.specs.List.{position_or_len}
+use Rattle.tl_combinators.specs.Trees.{Tree, Trees, named, percent, any_call, no_trees, tree}
+use Rattle.tl_combinators.specs.Program.{KindText, nat, flag, call, of, CondText, FieldText, DeclText}
+use Rattle.tl_schema.specs.Writing.{At, is_constructor, is_type_name, is_variable, own_type}
+use Rattle.tl_schema.specs.NameLists.{with_name}
+use Rattle.tl_schema.specs.Numbers.{IsNumberOf}
+use Rattle.tl_schema.specs.Types.{Shape, Shapes, no_shapes, shape}
+use Rattle.tl_schema.specs.Types as shape
+use Rattle.tl_schema.specs.Schemas.{Slot, Declaration, vector_number}
+
+-- ---- places
+
+-- the types with that of one declaration more
+abbrev pub with_type_of : List (List ℕ) → Option (List ℕ) → List (List ℕ)
+with_type_of types None = types
+with_type_of types (Some type) = with_name types type
+
+-- the types of a program by their names, in the order of their first constructors
+abbrev pub types_of : List DeclText → List (List ℕ)
+types_of ds = fold (λ types d. with_type_of types (own_type d)) [] ds
+
+-- the number of a type
+abbrev pub head_of : List DeclText → List ℕ → ℕ
+head_of ds type = position_or_len (bytes_eq type) (types_of ds)
+
+-- the place of the constructor with this name
+abbrev pub place_of : List DeclText → List ℕ → ℕ
+place_of ds name = position_or_len (λ d. is_constructor d && bytes_eq name d.name) ds
+
+abbrev pub is_type : List ℕ → Option (List ℕ) → Bool
+is_type type None = false
+is_type type (Some name) = bytes_eq type name
+
+-- the place of the first constructor of this type
+abbrev pub first_of : List DeclText → List ℕ → ℕ
+first_of ds type = position_or_len (λ d. is_type type (own_type d)) ds
+
+abbrev pub variable_of : DeclText → List ℕ → ℕ
+variable_of d name = position_or_len (bytes_eq name) d.vars
+
+-- ---- types
+
+-- the only type of an application
+abbrev pub item_of : Shapes → Shape
+item_of no_shapes = shape.call
+item_of (shape s ss) = s
+
+-- a type that the language has from the start, vectors aside
+abbrev pub base_shape : List ℕ → Option Shape
+base_shape name =
+    if bytes_eq name (codes "int") then Some shape.int else if bytes_eq name (codes "long") then Some shape.long
+    else if bytes_eq name (codes "double") then Some (shape.opaque 8) else if bytes_eq name (codes "string") then Some shape.str
+    else if bytes_eq name (codes "bytes") then Some shape.raw else if bytes_eq name (codes "int128") then Some (shape.opaque 16)
+    else if bytes_eq name (codes "int256") then Some (shape.opaque 32) else None
+
+-- what is declared under the name, boxed or bare
+abbrev pub declared_shape : List DeclText → List ℕ → Shapes → Shape
+declared_shape ds name args = if is_type_name name then shape.boxed (head_of ds name) args else shape.bare (place_of ds name) args
+
+-- a type that the language has, or what is declared
+abbrev pub known_shape : List DeclText → List ℕ → Shapes → Option Shape → Shape
+known_shape ds name args (Some s) = s
+known_shape ds name args None = declared_shape ds name args
+
+-- a name, applied to these types, where d writes it
+abbrev pub named_shape : List DeclText → DeclText → List ℕ → Shapes → Shape
+named_shape ds d name args =
+    if is_variable d name then shape.var (variable_of d name) else if bytes_eq name (codes "vector") then shape.vector false (item_of args)
+    else if bytes_eq name (codes "Vector") then shape.vector true (item_of args) else known_shape ds name args (base_shape name)
+
+-- the bare form of a type
+abbrev pub bare_shape : List DeclText → List ℕ → Shapes → Shape
+bare_shape ds name args = if bytes_eq name (codes "Vector") then shape.vector false (item_of args) else shape.bare (first_of ds name) args
+
+abbrev mutual
+  -- a type, where d writes it
+  pub meaning : List DeclText → DeclText → Tree → Shape
+  meaning ds d (named name ts) = named_shape ds d name (meanings ds d ts)
+  meaning ds d (percent t) = bare_meaning ds d t
+  meaning ds d any_call = shape.call
+
+  -- the same behind `%`
+  pub bare_meaning : List DeclText → DeclText → Tree → Shape
+  bare_meaning ds d (named name ts) = bare_shape ds name (meanings ds d ts)
+  bare_meaning ds d (percent t) = shape.call
+  bare_meaning ds d any_call = shape.call
+
+  pub meanings : List DeclText → DeclText → Trees → Shapes
+  meanings ds d no_trees = no_shapes
+  meanings ds d (tree t ts) = shape (meaning ds d t) (meanings ds d ts)
+
+-- ---- entries
+
+abbrev pub kind_shape : List DeclText → DeclText → KindText → Shape
+kind_shape ds d nat = shape.nat
+kind_shape ds d flag = shape.flag
+kind_shape ds d (call var) = shape.call
+kind_shape ds d (of t) = meaning ds d t
+
+-- the place of the variable that a call's result is
+abbrev pub kind_variable : DeclText → KindText → Option ℕ
+kind_variable d nat = None
+kind_variable d flag = None
+kind_variable d (call var) = Some (variable_of d var)
+kind_variable d (of t) = None
+
+-- the place of the field with this name
+abbrev pub field_place : DeclText → List ℕ → ℕ
+field_place d name = position_or_len (λ f. bytes_eq name f.name) d.fields
+
+-- the place of the `#` field, and the bit
+abbrev pub condition_of : DeclText → CondText → ℕ × ℕ
+condition_of d c = (field_place d c.flags, c.bit)
+
+abbrev pub slot_of : List DeclText → DeclText → FieldText → Slot
+slot_of ds d f = record { name = f.name; cond = option_map (condition_of d) f.cond; var = kind_variable d f.kind; of = kind_shape ds d f.kind }
+
+-- the type of the line of a built-in type
+abbrev pub line_shape : List ℕ → Shape
+line_shape name = if bytes_eq name (codes "vector") then shape.vector true (shape.var 0) else unwrap_or (base_shape name) shape.call
+
+abbrev pub result_shape : List DeclText → DeclText → Shape
+result_shape ds d = if d.builtin then line_shape d.name else meaning ds d d.result
+
+-- the number of the type that a declaration constructs, or the number of types
+abbrev pub head_in : List DeclText → Option (List ℕ) → ℕ
+head_in ds (Some type) = head_of ds type
+head_in ds None = length (types_of ds)
+
+-- the entry of declaration d, with this number
+abbrev pub declaration_of : List DeclText → DeclText → ℕ → Declaration
+declaration_of ds d n = record {
+  name = d.name;
+  number = n;
+  vars = length d.vars;
+  fields = map (slot_of ds d) d.fields;
+  function = d.function;
+  head = head_in ds (own_type d);
+  result = result_shape ds d;
+}
+
+-- the number of the line of a built-in type: 1cb5c415 for `vector`, and none that counts for the others
+abbrev pub line_number : List ℕ → ℕ
+line_number name = if bytes_eq name (codes "vector") then vector_number else 0
+
+abbrev pub IsNumberWhere : Bool → DeclText → ℕ → Type 0
+IsNumberWhere true d n = n ≡ line_number d.name
+IsNumberWhere false d n = IsNumberOf d n
+
+-- the number of an entry: the declaration's, or its line's
+abbrev pub IsEntryNumber : DeclText → ℕ → Type 0
+IsEntryNumber d n = IsNumberWhere d.builtin d n
+
+-- the parts of each declaration can be counted in 32 bits
+pub record IsSmall (ds : List DeclText) : Type 0 where
+  pub few : length ds < 2 ^ 32
+  pub variables : (k : ℕ) (d : DeclText) → At ds k d → length d.vars < 2 ^ 32
+  pub fields : (k : ℕ) (d : DeclText) → At ds k d → length d.fields < 2 ^ 32
+
+-- e is the entry of declaration d
+abbrev pub IsEntry : List DeclText → DeclText → Declaration → Type 0
+IsEntry ds d e = IsEntryNumber d e.number × (e ≡ declaration_of ds d e.number)

@@ -1,0 +1,42 @@
+-- What is kept of the declarations so far: their entries, and the places of their names. This project's own.
+use Rattle.std.specs.Prelude.{◌≡◌, ℕ, ◌<◌, ◌^◌, List, [], ◌∷◌, ◌++◌, length, map, Bool, true, false, not, slice_get, Some}
+use Rattle.tl_combinators.specs.Program.{DeclText}
+use Rattle.tl_schema.specs.Writing.{At}
+use Rattle.tl_schema.specs.Schemas.{Declaration}
+use Rattle.tl_schema.specs.Seen.{declaration}
+use Rattle.tl_schema.specs.Meanings.{IsEntry, types_of}
+use Rattle.tl_schema.specs.NamePlaces.{Notes}
+use Rattle.tl_schema.specs.SchemaParts.{ArePlaces}
+use Rattle.tl_schema.specs.declared.checks.Known.{Known}
+use Rattle.tl_schema.specs.declared.checks.Entered.{Entered}
+
+-- the places of functions, or those of constructors
+abbrev pub among : Bool → Known → List (List ℕ × ℕ)
+among true known = known.functions
+among false known = known.constructors
+
+-- the name of one declaration is noted among those of its kind, and the others are as before
+pub record NotesOne (old new : Known) (d : DeclText) (at : ℕ) : Type 0 where
+  pub noted : Notes (among d.function old) (among d.function new) d.name at
+  pub others : among (not d.function) new ≡ among (not d.function) old
+
+-- the entry of one declaration stands behind the others, and its name is noted
+pub record EntersOne (ds : List DeclText) (old new : Entered) (d : DeclText) (at : ℕ) : Type 0 where
+  pub entry : Declaration
+  pub last : map declaration new.entries.items ≡ map declaration old.entries.items ++ entry ∷ []
+  pub is : IsEntry ds d entry
+  pub fits : entry.number < 2 ^ 32
+  pub noted : NotesOne old.known new.known d at
+  pub types : new.types ≡ old.types
+
+-- the entries are those of the first declarations, as many as there are, and the places those of their names
+pub record Enters (ds : List DeclText) (at : ℕ) (es : List Declaration) (known : Known) : Type 0 where
+  pub count : length es ≡ at
+  pub entries : (k : ℕ) (d : DeclText) (e : Declaration) → At ds k d → slice_get es k ≡ Some e → IsEntry ds d e
+  pub fits : (k : ℕ) (e : Declaration) → slice_get es k ≡ Some e → e.number < 2 ^ 32
+  pub places : (function : Bool) → ArePlaces es function (among function known)
+
+-- all declarations have their entries
+pub record AreEntered (ds : List DeclText) (entered : Entered) : Type 0 where
+  pub all : Enters ds (length ds) (map declaration entered.entries.items) entered.known
+  pub types : entered.types ≡ length (types_of ds)

@@ -1,0 +1,80 @@
+//! The seventh check: conditions.
+ghost use Rattle.std.specs.Prelude.{◌≡◌, ◌<◌, ◌≤◌, ◌^◌, ◌↔◌, IsTrue, length};
+ghost use Rattle.tl_combinators.specs.Program.{cond_texts, decl_text, field_text, program_text};
+ghost use Rattle.tl_graph.specs.Firsts.{First};
+ghost use Rattle.tl_schema.specs.BadFlag.{BadFlag, HasBadCondition, IsBadCondition, IsFlagsBefore};
+ghost use Rattle.tl_schema.specs.ConditionSteps.{IsFlags};
+
+use crate::declarations::{DeclTest, first_that};
+use tl_combinators::{Cond, Decl, Field, FieldKind, Program};
+
+/// The highest bit of a `#` field.
+const LAST_BIT: u32 = 31;
+
+/// The first declaration that has a condition on no earlier `#` field, or on a bit above 31.
+pub fn first_bad_flag(program: &Program) -> Option<u32>
+    requires { length (program_text program.now) < 2 ^ 32 }
+    ensures { First (BadFlag (program_text program.now)) result }
+{
+    first_that(program, &BadCondition)
+}
+
+// Whether a declaration has such a condition.
+#[derive(Clone, Copy)]
+struct BadCondition;
+
+impl DeclTest for BadCondition {
+    ghost use Rattle.tl_schema.specs.BadFlag.{HasBadCondition};
+
+    ghost holds = { λ s. HasBadCondition };
+
+    fn passes(&self, decl: &Decl) -> bool {
+        has_bad_condition(decl)
+    }
+}
+
+fn has_bad_condition(decl: &Decl) -> bool
+    ensures { IsTrue result ↔ HasBadCondition (decl_text decl.now) }
+{
+    for (i, field) in decl.fields.iter().enumerate() {
+        if is_bad_condition(decl, i, &field.cond) {
+            return true;
+        }
+    }
+    false
+}
+
+// Whether the condition of field i is wrong.
+fn is_bad_condition(decl: &Decl, i: usize, cond: &Option<Cond>) -> bool
+    requires { i ≤ length (decl_text decl.now).fields }
+    ensures { IsTrue result ↔ IsBadCondition (decl_text decl.now) i (cond_texts cond.now) }
+{
+    match cond {
+        None => false,
+        Some(cond) => cond.bit > LAST_BIT || !has_flags_before(decl, i, cond.flags.as_slice()),
+    }
+}
+
+// Whether a field before field i is `#`, of this name.
+fn has_flags_before(decl: &Decl, i: usize, flags: &[u8]) -> bool
+    requires { i ≤ length (decl_text decl.now).fields }
+    ensures { IsTrue result ↔ IsFlagsBefore (decl_text decl.now) i flags.now }
+{
+    for field in &decl.fields[..i] {
+        if is_flags(field, flags) {
+            return true;
+        }
+    }
+    false
+}
+
+fn is_flags(field: &Field, flags: &[u8]) -> bool
+    ensures { IsTrue result ↔ IsFlags (field_text field.now) flags.now }
+{
+    match field.kind {
+        FieldKind::Nat => field.name.as_slice() == flags,
+        FieldKind::Flag => false,
+        FieldKind::Call { .. } => false,
+        FieldKind::Of { .. } => false,
+    }
+}

@@ -1,0 +1,35 @@
+//! Schemas: which programs are, and which types they have.
+#![tactic(auto)]
+
+mod bad_flag;
+mod bad_result;
+mod bare_cycle;
+mod checks;
+mod copies;
+mod declarations;
+mod empties;
+mod empty_element;
+mod entries;
+mod fault;
+mod index;
+mod meanings;
+mod names;
+mod not_bare;
+mod parts;
+mod pass_checks;
+mod placed;
+mod references;
+mod same_name;
+mod same_number;
+mod schema;
+mod scope;
+mod terms;
+mod types;
+mod unknown_type;
+mod unknown_variable;
+mod wrong_arity;
+
+pub use checks::check;
+pub use fault::{CheckCause, CheckFault, TypeCause, TypeFault};
+pub use schema::{Entry, Schema, SchemaField, TypeRef};
+pub use types::type_of;

@@ -1,0 +1,99 @@
+//! The first check: names.
+ghost use Rattle.std.specs.Prelude.{◌≡◌, ◌<◌, ◌^◌, ◌+◌, ◌↔◌, ℕ, IsTrue, IfOk, Some, length, slice_get};
+ghost use Rattle.tl_combinators.specs.Program.{decl_text, program_text};
+ghost use Rattle.tl_combinators.specs.Trees.{view};
+ghost use Rattle.tl_graph.specs.Firsts.{First};
+ghost use Rattle.tl_schema.specs.NameLists.{IsRepeat};
+ghost use Rattle.tl_schema.specs.SameName.{SameName, part_names};
+ghost use Rattle.tl_schema.specs.SameNameSteps.{AddsName, MakesVector, IsOf};
+
+use crate::meanings::is_variable;
+use crate::names::Names;
+use std::alloc::{AllocError, Global};
+use tl_combinators::{Decl, Program, TypeTree};
+
+/// The names of the declarations so far.
+#[derive(Drop)]
+struct Known {
+    constructors: Names,
+    functions: Names,
+}
+
+/// The first declaration with a name that is taken: an earlier constructor or function has its name, two of its
+/// variables and fields have one name, or it constructs `Vector`.
+pub fn first_same_name(alloc: Global, program: &Program) -> Result<Option<u32>, AllocError>
+    requires { length (program_text program.now) < 2 ^ 32 }
+    ensures { IfOk result (First (SameName (program_text program.now))) }
+{
+    let mut known = Known {
+        constructors: Names::new(alloc),
+        functions: Names::new(alloc),
+    };
+    for (k, decl) in program.decls.iter().enumerate() {
+        let is_old = add_name(alloc, &mut known, decl)?;
+        let is_repeated = repeats_part(alloc, decl)?;
+        if is_old || is_repeated || makes_vector(decl) {
+            return Ok(Some(k as u32));
+        }
+    }
+    Ok(None)
+}
+
+// Adds the name of a declaration, and gives whether it was known.
+fn add_name(alloc: Global, known: &mut Known, decl: &Decl) -> Result<bool, AllocError>
+    ensures { IfOk result (AddsName known.old known.new (decl_text decl.now)) }
+{
+    if decl.function {
+        let (_, is_new) = known.functions.add(alloc, decl.name.as_slice())?;
+        Ok(!is_new)
+    } else {
+        let (_, is_new) = known.constructors.add(alloc, decl.name.as_slice())?;
+        Ok(!is_new)
+    }
+}
+
+// The name of a variable or, behind them, of a field.
+fn part_name(decl: &Decl, i: usize) -> &[u8]
+    requires { i < length (part_names (decl_text decl.now)) }
+    ensures { slice_get (part_names (decl_text decl.now)) i ≡ Some result.now }
+{
+    let count = decl.vars.len();
+    if i < count {
+        decl.vars[i].as_slice()
+    } else {
+        decl.fields[i - count].name.as_slice()
+    }
+}
+
+// Whether two variables or fields have one name.
+fn repeats_part(alloc: Global, decl: &Decl) -> Result<bool, AllocError>
+    ensures { IfOk result (λ b. IsTrue b ↔ ((i : ℕ) × IsRepeat (part_names (decl_text decl.now)) i)) }
+{
+    let mut names = Names::new(alloc);
+    for i in 0..decl.vars.len() + decl.fields.len() {
+        let (_, is_new) = names.add(alloc, part_name(decl, i))?;
+        if !is_new {
+            return Ok(true);
+        }
+    }
+    Ok(false)
+}
+
+// Whether a declaration is a constructor of `Vector`.
+fn makes_vector(decl: &Decl) -> bool
+    ensures { IsTrue result ↔ MakesVector (decl_text decl.now) }
+{
+    let name = b"Vector".as_slice();
+    !decl.function && !decl.builtin && !is_variable(decl, name) && is_of(&decl.result, name)
+}
+
+// Whether a type is the name, applied to some types or none.
+fn is_of(tree: &TypeTree, name: &[u8]) -> bool
+    ensures { IsTrue result ↔ IsOf name.now (view tree.now) }
+{
+    match tree {
+        TypeTree::Named { name: head, .. } => head.as_slice() == name,
+        TypeTree::Percent { .. } => false,
+        TypeTree::AnyCall => false,
+    }
+}

@@ -1,0 +1,159 @@
+//! Declarations and types of a schema.
+ghost use Rattle.std.specs.Prelude.{◌≡◌, ◌<◌, length, map, slice_get, Some};
+ghost use Rattle.tl_combinators.specs.Program.{program_text};
+ghost use Rattle.tl_schema.specs.Seen.{declaration};
+ghost use Rattle.tl_schema.specs.CheckedPrograms.{Finds, IsSchema};
+ghost use Rattle.tl_schema.specs.Meanings.{types_of};
+ghost use Rattle.tl_schema.specs.SchemaParts.{IsSound};
+
+use crate::placed::Placed;
+use std::marker::Model;
+use tl_base::Bytes;
+use tl_combinators::Program;
+
+/// A type. From "TL language" (core.telegram.org/mtproto/TL): its boxed and bare types.
+#[derive(Debug, Drop)]
+pub enum TypeRef {
+    /// 32 bits, signed.
+    Int,
+    /// 64 bits, signed.
+    Long,
+    /// `#`: 32 bits, unsigned.
+    Nat,
+    /// Eight bytes.
+    Double,
+    /// Sixteen bytes.
+    Int128,
+    /// Thirty-two bytes.
+    Int256,
+    /// `string`.
+    Str,
+    /// `bytes`.
+    Raw,
+    /// `?true`: a flag, which stands behind a condition and takes no bytes.
+    Flag,
+    /// A call of any function.
+    Call,
+    /// A variable of the declaration, by its place.
+    Var { place: u32 },
+    Vector { boxed: bool, item: Box<TypeRef> },
+    /// One of the constructors of the type with this number. Types are numbered from 0, in the order of their first constructors.
+    Boxed { head: u32, args: Vec<TypeRef> },
+    /// The constructor at this place among the declarations, without its number.
+    Bare { entry: u32, args: Vec<TypeRef> },
+}
+
+/// A field of a declaration.
+#[derive(Drop)]
+pub struct SchemaField {
+    pub name: Bytes,
+    /// The place of the `#` field and its bit, from 0, where the field has a condition.
+    pub cond: Option<(u32, u32)>,
+    /// The place of the variable that the result of the call is, where the field is a call.
+    pub var: Option<u32>,
+    pub of: TypeRef,
+}
+
+/// A declaration: its name, its number, how many variables it has, its fields, and what it constructs or results in.
+#[derive(Drop)]
+pub struct Entry {
+    pub name: Bytes,
+    /// The line of a built-in type has the number 0, but that of `vector` 1cb5c415.
+    pub number: u32,
+    pub vars: u32,
+    pub fields: Vec<SchemaField>,
+    pub function: bool,
+    /// The number of the type that it constructs; of a function and of a built-in type's line the number of types.
+    pub head: u32,
+    pub result: TypeRef,
+}
+
+/// A schema: a program that passes the checks, and its entries.
+#[derive(Drop)]
+pub struct Schema {
+    program: Program,
+    entries: Vec<Entry>,
+    constructors: Placed,
+    functions: Placed,
+    types: u32,
+}
+
+impl Model for Schema {
+    ghost use Rattle.std.specs.Prelude.{map};
+    ghost use Rattle.tl_combinators.specs.Program.{program_text};
+    ghost use Rattle.tl_schema.specs.Schemas.{Declared};
+    ghost use Rattle.tl_schema.specs.Seen.{declaration};
+    ghost use Rattle.tl_schema.specs.SchemaCodes.{declared_code};
+    ghost use Rattle.tl_schema.specs.SchemaParts.{IsSound};
+
+    ghost Value = { Declared };
+
+    ghost coded = { declared_code };
+
+    ghost view = { λ s. record { program = program_text s.program; decls = map declaration s.entries.items } };
+
+    ghost invariant = { λ s. IsSound (record { program = program_text s.program; decls = map declaration s.entries.items }) s.constructors s.functions s.types };
+}
+
+impl Schema {
+    pub(crate) fn new(
+        program: Program,
+        entries: Vec<Entry>,
+        constructors: Placed,
+        functions: Placed,
+        types: u32,
+    ) -> Schema
+        requires { IsSound (record { program = program_text program; decls = map declaration entries.items }) constructors functions types }
+        ensures value { result ≡ record { program = program_text program; decls = map declaration entries.items } }
+    {
+        Schema {
+            program,
+            entries,
+            constructors,
+            functions,
+            types,
+        }
+    }
+
+    /// The number of declarations.
+    pub fn count(&self) -> u32
+        ensures count { result ≡ length self.now.decls }
+        ensures sound { IsSchema self.now }
+    {
+        self.entries.len() as u32
+    }
+
+    /// The number of types.
+    pub fn type_count(&self) -> u32
+        ensures { result ≡ length (types_of self.now.program) }
+    {
+        self.types
+    }
+
+    /// The entry of the declaration at a place.
+    pub fn entry(&self, i: u32) -> &Entry
+        requires { i < length self.now.decls }
+        ensures { slice_get self.now.decls i ≡ Some (declaration result.now) }
+    {
+        &self.entries[i as usize]
+    }
+
+    /// The place of the function with this name, or of the constructor; the line of a built-in type is a constructor.
+    pub fn find(&self, name: &[u8], function: bool) -> Option<u32>
+        ensures { Finds self.now.decls name.now function result }
+    {
+        if function {
+            self.functions.get(name)
+        } else {
+            self.constructors.get(name)
+        }
+    }
+
+    /// The program that it was made of.
+    pub(crate) fn program(&self) -> &Program
+        ensures same { program_text result.now ≡ self.now.program }
+        ensures sound { IsSchema self.now }
+    {
+        &self.program
+    }
+}

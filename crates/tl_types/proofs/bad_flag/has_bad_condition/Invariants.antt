@@ -1,7 +1,0 @@
-use Rattle.std.proofs.Common.{◌<◌}
-use Rattle.tl_combinators.specs.Program.{decl_text}
-use Rattle.tl_types.specs.BadFlag.{HasBadCondition}
-use Rattle.tl_types.proofs.bad_flag.has_bad_condition.Given as goal
-
-abbrev pub invariant-loop-i : goal.invariant-loop-i
-invariant-loop-i l = (h : HasBadCondition (decl_text l.decl)) → h.i < l.i → ⊥

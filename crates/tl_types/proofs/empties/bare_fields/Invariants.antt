@@ -1,6 +1,0 @@
-use Rattle.tl_combinators.specs.Program.{decl_text}
-use Rattle.tl_types.proofs.BareFields.{HoldsFirst}
-use Rattle.tl_types.proofs.empties.bare_fields.Given as goal
-
-abbrev pub invariant-loop-field : goal.invariant-loop-field
-invariant-loop-field l = HoldsFirst l.index (decl_text l.decl) l.field-index l.nodes.items

@@ -1,8 +1,0 @@
-use Rattle.std.proofs.Common.{take}
-use Rattle.tl_combinators.specs.Trees.{trees_of, views}
-use Rattle.tl_combinators.specs.Program.{decl_text}
-use Rattle.tl_types.specs.BareSteps.{HasMarkedArg}
-use Rattle.tl_types.proofs.empty_element.has_marked.Given as goal
-
-abbrev pub invariant-loop-tree : goal.invariant-loop-tree
-invariant-loop-tree l = HasMarkedArg l.index l.marks (decl_text l.decl) (trees_of (take l.tree-index (views l.trees))) → ⊥

@@ -1,4 +1,0 @@
-use Rattle.tl_types.proofs.references.add_held.Goals as goal
-
-pub returns-in-Of : goal.returns-in-Of
-returns-in-Of c = rw c.in-Of.is c.add_parts.ensures

@@ -1,7 +1,0 @@
-use Rattle.tl_combinators.specs.Program.{program_text}
-use Rattle.tl_graph.specs.Paths.{edges_in}
-use Rattle.tl_types.proofs.ReferenceLists.{AreFirst}
-use Rattle.tl_types.proofs.references.references.Given as goal
-
-abbrev pub invariant-loop-decl : goal.invariant-loop-decl
-invariant-loop-decl l = AreFirst (program_text l.program) l.decl-index (edges_in l.edges.items)
