@@ -7,7 +7,7 @@ use std::alloc::{AllocError, Global};
 use std::test::Fail;
 use tl_combinators::{Program, SyntaxFault, parse};
 use tl_lexer::lex;
-use tl_types::{Entry, Schema, SchemaField, check, type_of};
+use tl_schema::{Entry, Schema, SchemaField, check, type_of};
 
 // Whether there are few declarations, each of few parts. `check` asks for it.
 fn is_small(program: &Program) -> bool

@@ -4,12 +4,12 @@ use Rattle.tl_base.specs.Contents.{AreBytes, Files, HoldBytes}
 use Rattle.tl_base.specs.Outside.{HasFile}
 use Rattle.tl_lexer.proofs.Whole.{Decided}
 use Rattle.tl_combinators.proofs.Decided.{text_decided}
-use Rattle.tl_types.specs.PlainTypes.{boxed}
-use Rattle.tl_types.specs.PlainViews.{plain_decls}
-use Rattle.tl_types.specs.Values.{Tree, depth}
+use Rattle.plain_values.specs.PlainTypes.{boxed}
+use Rattle.plain_values.specs.PlainViews.{plain_decls}
+use Rattle.plain_values.specs.Values.{Tree, depth}
 use Rattle.tl_schema.specs.Schemas.{Declared}
-use Rattle.tl_types.specs.Spelling.{Spells}
-use Rattle.tl_types.proofs.Exactly.{either}
+use Rattle.plain_values.specs.Spelling.{Spells}
+use Rattle.plain_values.proofs.Exactly.{either}
 use Rattle.update_replay.specs.declared.profile.TheConstants.{PROFILE_TEXT}
 use Rattle.update_replay.proofs.Deciding.{each_replayed}
 use Rattle.commands.specs.declared.decoder.TheConstants.{MAX_LEVELS}

@@ -4,11 +4,11 @@ use Rattle.std.specs.Prelude.{IsErrAnd, IsErrOf}
 use Rattle.tl_base.specs.Contents.{Files}
 use Rattle.tl_base.specs.Outside.{View, HasFile, IsThere}
 use Rattle.tl_base.specs.Calls.{Told}
-use Rattle.tl_types.specs.PlainTypes.{boxed}
-use Rattle.tl_types.specs.PlainViews.{plain_decls}
+use Rattle.plain_values.specs.PlainTypes.{boxed}
+use Rattle.plain_values.specs.PlainViews.{plain_decls}
 use Rattle.tl_schema.specs.Schemas.{Declared}
-use Rattle.tl_types.specs.Seen.{view}
-use Rattle.tl_types.specs.declared.value.Value.{Value}
+use Rattle.plain_values.specs.Seen.{view}
+use Rattle.plain_values.specs.declared.value.Value.{Value}
 use Rattle.commands.specs.Shown.{line_text}
 use Rattle.commands.specs.declared.whole.InputFault.{InputFault}
 use Rattle.commands.specs.declared.whole.InputFault.TheVariants as input

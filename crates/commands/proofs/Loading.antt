@@ -16,13 +16,13 @@ use Rattle.tl_combinators.specs.declared.fault.SyntaxFault.{SyntaxFault}
 use Rattle.tl_combinators.specs.declared.fault.SyntaxFault.TheVariants as syntax
 use Rattle.tl_combinators.specs.Program.{DeclText}
 use Rattle.tl_combinators.specs.Sentences.{Reads, SyntaxRefused, FaultIs}
-use Rattle.tl_types.specs.PlainTypes.{PlainShape}
+use Rattle.plain_values.specs.PlainTypes.{PlainShape}
 use Rattle.tl_schema.specs.Schemas.{Declared}
-use Rattle.tl_types.specs.PlainSchemas.{PlainDeclaration}
+use Rattle.plain_values.specs.PlainSchemas.{PlainDeclaration}
 use Rattle.tl_schema.specs.CheckedPrograms.{Checks}
 use Rattle.tl_schema.specs.declared.fault.CheckFault.{CheckFault}
 use Rattle.tl_schema.specs.declared.fault.CheckFault.TheVariants as check
-use Rattle.tl_types.specs.declared.value.Value.{Value}
+use Rattle.plain_values.specs.declared.value.Value.{Value}
 use Rattle.commands.specs.Decoding.{DecodesWhole}
 use Rattle.commands.specs.declared.whole.InputFault.{InputFault}
 use Rattle.commands.specs.declared.whole.InputFault.TheVariants as input

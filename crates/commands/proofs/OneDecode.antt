@@ -2,17 +2,17 @@
 use Rattle.std.proofs.Common.{◌≡◌, ℕ, ◌+◌, ◌≤◌, List, [], ◌∷◌, ◌++◌, append-nil, length, sym, ap, ◌∙◌, subst, arith, codes}
 use Rattle.std.proofs.lemmas.List.{length-append}
 use Rattle.tl_base.specs.Contents.{Files}
-use Rattle.tl_types.specs.PlainTypes.{boxed}
-use Rattle.tl_types.specs.Values.{Tree, depth}
+use Rattle.plain_values.specs.PlainTypes.{boxed}
+use Rattle.plain_values.specs.Values.{Tree, depth}
 use Rattle.tl_schema.specs.Schemas.{Declared}
-use Rattle.tl_types.specs.PlainSchemas.{IsPlainSchema}
-use Rattle.tl_types.specs.PlainViews.{plain_decls}
+use Rattle.plain_values.specs.PlainSchemas.{IsPlainSchema}
+use Rattle.plain_values.specs.PlainViews.{plain_decls}
 use Rattle.tl_schema.specs.CheckedPrograms.{IsSchema}
-use Rattle.tl_types.specs.Spelling.{Spells}
-use Rattle.tl_types.specs.Reading.{moved}
-use Rattle.tl_types.specs.declared.fault.Cause.{Cause}
-use Rattle.tl_types.proofs.EntryNumbers.{plain_schema}
-use Rattle.tl_types.proofs.Exactly.{never_both, one_value, one_fault}
+use Rattle.plain_values.specs.Spelling.{Spells}
+use Rattle.plain_values.specs.Reading.{moved}
+use Rattle.plain_values.specs.declared.fault.Cause.{Cause}
+use Rattle.plain_values.proofs.EntryNumbers.{plain_schema}
+use Rattle.plain_values.proofs.Exactly.{never_both, one_value, one_fault}
 use Rattle.commands.specs.declared.decoder.TheConstants.{MAX_LEVELS}
 use Rattle.commands.specs.declared.stop.SchemaCause.{SchemaCause}
 use Rattle.commands.specs.declared.stop.TypeNameCause.{TypeNameCause}

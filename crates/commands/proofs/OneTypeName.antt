@@ -7,7 +7,7 @@ use Rattle.tl_combinators.proofs.Causes.{no_memory_of_type}
 use Rattle.tl_schema.specs.Types.{Shape}
 use Rattle.tl_schema.specs.Schemas.{Declared}
 use Rattle.tl_schema.specs.AskedTypes.{AsksFor, IsTypeText}
-use Rattle.tl_types.specs.PlainViews.{IsPlainType}
+use Rattle.plain_values.specs.PlainViews.{IsPlainType}
 use Rattle.tl_schema.specs.declared.fault.TypeCause.{TypeCause}
 use Rattle.tl_schema.specs.declared.fault.TypeFault.{TypeFault}
 use Rattle.tl_schema.specs.declared.fault.TypeFault.TheVariants as type

@@ -1,8 +1,8 @@
 -- Any type but `long` is seen as `int` by the reading of plain types.
 use Rattle.std.proofs.Common.{◌≡◌, refl, sym, ap, ◌∙◌}
 use Rattle.tl_schema.specs.Types.{Shape}
-use Rattle.tl_types.specs.PlainTypes as plain
-use Rattle.tl_types.specs.PlainViews.{plain_shape}
+use Rattle.plain_values.specs.PlainTypes as plain
+use Rattle.plain_values.specs.PlainViews.{plain_shape}
 use Rattle.tl_schema.specs.Seen.{shape, shape_step}
 use Rattle.tl_schema.specs.declared.schema.TypeRef as ref
 use Rattle.tl_schema.specs.declared.schema.TypeRef.{TypeRef, map-TypeRef}

@@ -1,18 +1,18 @@
 -- What decoding answers for bytes that begin with a spelling, and for bytes that are refused.
 use Rattle.std.proofs.Common.{◌≡◌, ℕ, ◌^◌, ◌≤◌, ◌<◌, List, ◌++◌, length, Option, Some, None, Result, Ok, Err, sym, ap, ◌∙◌}
 use Rattle.std.specs.Prelude.{IfSome}
-use Rattle.tl_types.specs.PlainTypes.{PlainShape}
-use Rattle.tl_types.specs.Values.{Tree, depth}
-use Rattle.tl_types.specs.PlainSchemas.{PlainDeclaration, IsPlainSchema}
-use Rattle.tl_types.specs.Seen.{view}
-use Rattle.tl_types.specs.Spelling.{Spells}
-use Rattle.tl_types.specs.Refusal.{Refused}
-use Rattle.tl_types.specs.Reading.{Spot, spot, moved, value_at}
-use Rattle.tl_types.specs.declared.fault.Cause.{Cause}
-use Rattle.tl_types.specs.declared.value.Value.{Value}
-use Rattle.tl_types.proofs.Spelling.{spelled}
-use Rattle.tl_types.proofs.Refusal.{refused}
-use Rattle.tl_types.proofs.Exactly.{same_ok, same_err, never_err}
+use Rattle.plain_values.specs.PlainTypes.{PlainShape}
+use Rattle.plain_values.specs.Values.{Tree, depth}
+use Rattle.plain_values.specs.PlainSchemas.{PlainDeclaration, IsPlainSchema}
+use Rattle.plain_values.specs.Seen.{view}
+use Rattle.plain_values.specs.Spelling.{Spells}
+use Rattle.plain_values.specs.Refusal.{Refused}
+use Rattle.plain_values.specs.Reading.{Spot, spot, moved, value_at}
+use Rattle.plain_values.specs.declared.fault.Cause.{Cause}
+use Rattle.plain_values.specs.declared.value.Value.{Value}
+use Rattle.plain_values.proofs.Spelling.{spelled}
+use Rattle.plain_values.proofs.Refusal.{refused}
+use Rattle.plain_values.proofs.Exactly.{same_ok, same_err, never_err}
 use Rattle.commands.specs.declared.decoder.DecodeFault.{DecodeFault}
 use Rattle.commands.specs.declared.decoder.DecodeFault.TheVariants as fault
 use Rattle.commands.specs.Decoding.{ReadsAs, GivesValue, GivesFault}

@@ -7,14 +7,14 @@ use Rattle.std.proofs.lemmas.List.{length-map}
 use Rattle.std.proofs.lemmas.Option.{slice_get-map}
 use Rattle.std.proofs.lemmas.Simd.{map-map}
 use Rattle.tl_schema.specs.Schemas.{Declaration, Declared}
-use Rattle.tl_types.specs.PlainSchemas.{PlainSlot}
+use Rattle.plain_values.specs.PlainSchemas.{PlainSlot}
 use Rattle.tl_schema.specs.Meanings.{types_of}
-use Rattle.tl_types.specs.PlainViews.{own_head, plain_slot, plain_declaration, plain_decls}
-use Rattle.tl_types.specs.Reading.{is_head, fields_in}
+use Rattle.plain_values.specs.PlainViews.{own_head, plain_slot, plain_declaration, plain_decls}
+use Rattle.plain_values.specs.Reading.{is_head, fields_in}
 use Rattle.tl_schema.specs.Seen.{slot, declaration}
 use Rattle.tl_schema.specs.declared.schema.Entry.{Entry}
 use Rattle.tl_schema.specs.declared.schema.SchemaField.{SchemaField}
-use Rattle.tl_types.proofs.Members.{fields_there}
+use Rattle.plain_values.proofs.Members.{fields_there}
 use Rattle.commands.specs.Shown.{name_in}
 use Rattle.commands.proofs.Forms.{name_there, name_past, fields_past}
 

@@ -1,7 +1,7 @@
 -- One step of decoding, and then another.
 use Rattle.std.proofs.Common.{◌≡◌, ℕ, List, Option, Some, None, Result, Ok, Err, refl, subst, sym, ◌∙◌}
-use Rattle.tl_types.specs.Reading.{Spot, spot, Read, ◌>>=◌}
-use Rattle.tl_types.specs.declared.fault.Cause.{Cause}
+use Rattle.plain_values.specs.Reading.{Spot, spot, Read, ◌>>=◌}
+use Rattle.plain_values.specs.declared.fault.Cause.{Cause}
 use Rattle.commands.specs.declared.decoder.DecodeFault.{DecodeFault}
 use Rattle.commands.specs.declared.decoder.DecodeFault.TheVariants.{Refused, ReadFault, Memory}
 use Rattle.commands.specs.Decoding.{ReadsAs}

@@ -3,19 +3,19 @@ use Rattle.std.proofs.Common.{◌≡◌, ℕ, zero, suc, ◌+◌, ◌<◌, ◌�
 use Rattle.std.specs.Prelude.{slice_get}
 use Rattle.std.proofs.lemmas.List.{drop_more, drop_all}
 use Rattle.std.proofs.lemmas.Option.{slice_get_within, get_or_from_slice_get}
-use Rattle.tl_types.specs.PlainTypes.{PlainShape}
-use Rattle.tl_types.specs.PlainTypes as shape
-use Rattle.tl_types.specs.Values.{Tree, Trees, trees_of}
-use Rattle.tl_types.specs.Values as value
+use Rattle.plain_values.specs.PlainTypes.{PlainShape}
+use Rattle.plain_values.specs.PlainTypes as shape
+use Rattle.plain_values.specs.Values.{Tree, Trees, trees_of}
+use Rattle.plain_values.specs.Values as value
 use Rattle.tl_schema.specs.Schemas.{Declaration, Declared}
-use Rattle.tl_types.specs.PlainSchemas.{PlainSlot, PlainDeclaration}
-use Rattle.tl_types.specs.PlainViews.{plain_slot, plain_decls}
-use Rattle.tl_types.specs.Seen.{view}
+use Rattle.plain_values.specs.PlainSchemas.{PlainSlot, PlainDeclaration}
+use Rattle.plain_values.specs.PlainViews.{plain_slot, plain_decls}
+use Rattle.plain_values.specs.Seen.{view}
 use Rattle.tl_schema.specs.Seen.{slot}
-use Rattle.tl_types.specs.Reading.{Spot, Read, Reader, ◌>>=◌, word_at, is_head, member_from, fields_in, fields_at, wrong_number, record_at, numbered_at, by_number_at, boxed_at, plain_at, deep_at, is_deep, value_at}
-use Rattle.tl_types.specs.declared.fault.Cause.{Cause}
+use Rattle.plain_values.specs.Reading.{Spot, Read, Reader, ◌>>=◌, word_at, is_head, member_from, fields_in, fields_at, wrong_number, record_at, numbered_at, by_number_at, boxed_at, plain_at, deep_at, is_deep, value_at}
+use Rattle.plain_values.specs.declared.fault.Cause.{Cause}
 use Rattle.tl_schema.specs.declared.schema.SchemaField.{SchemaField}
-use Rattle.tl_types.specs.declared.value.Value.{Value}
+use Rattle.plain_values.specs.declared.value.Value.{Value}
 use Rattle.commands.specs.declared.decoder.DecodeFault.{DecodeFault}
 use Rattle.commands.specs.declared.decoder.DecodeFault.TheVariants.{Refused}
 use Rattle.commands.specs.Decoding.{ReadsAs}

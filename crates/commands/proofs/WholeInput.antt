@@ -4,16 +4,16 @@ use Rattle.std.specs.Prelude.{IfSome}
 use Rattle.tl_base.specs.Contents.{AreBytes}
 use Rattle.tl_base.specs.Taking.{TakesEnd}
 use Rattle.tl_base.specs.declared.fault.Failed.{Failed}
-use Rattle.tl_types.specs.PlainTypes.{PlainShape}
-use Rattle.tl_types.specs.Values.{Tree, depth}
-use Rattle.tl_types.specs.PlainSchemas.{PlainDeclaration}
-use Rattle.tl_types.specs.Seen.{view}
-use Rattle.tl_types.specs.Spelling.{Spells}
-use Rattle.tl_types.specs.Refusal.{Refused}
-use Rattle.tl_types.specs.Reading.{moved}
-use Rattle.tl_types.specs.declared.fault.Cause.{Cause}
-use Rattle.tl_types.specs.declared.value.Value.{Value}
-use Rattle.tl_types.proofs.Exactly.{either}
+use Rattle.plain_values.specs.PlainTypes.{PlainShape}
+use Rattle.plain_values.specs.Values.{Tree, depth}
+use Rattle.plain_values.specs.PlainSchemas.{PlainDeclaration}
+use Rattle.plain_values.specs.Seen.{view}
+use Rattle.plain_values.specs.Spelling.{Spells}
+use Rattle.plain_values.specs.Refusal.{Refused}
+use Rattle.plain_values.specs.Reading.{moved}
+use Rattle.plain_values.specs.declared.fault.Cause.{Cause}
+use Rattle.plain_values.specs.declared.value.Value.{Value}
+use Rattle.plain_values.proofs.Exactly.{either}
 use Rattle.commands.specs.declared.decoder.DecodeFault.{DecodeFault}
 use Rattle.commands.specs.declared.decoder.DecodeFault.TheVariants as fault
 use Rattle.commands.specs.declared.whole.InputFault.{InputFault}

@@ -5,13 +5,13 @@ use Rattle.tl_base.specs.Outside.{HasFile}
 use Rattle.tl_schema.specs.Types.{Shape}
 use Rattle.tl_schema.specs.Schemas.{Declared}
 use Rattle.tl_schema.specs.AskedTypes.{IsTypeText}
-use Rattle.tl_types.specs.PlainTypes.{boxed}
-use Rattle.tl_types.specs.PlainViews.{IsPlainType, plain_decls}
-use Rattle.tl_types.specs.Values.{Tree, depth}
-use Rattle.tl_types.specs.Spelling.{Spells}
-use Rattle.tl_types.specs.Refusal.{Refused}
-use Rattle.tl_types.specs.Reading.{moved}
-use Rattle.tl_types.specs.declared.fault.Cause.{Cause}
+use Rattle.plain_values.specs.PlainTypes.{boxed}
+use Rattle.plain_values.specs.PlainViews.{IsPlainType, plain_decls}
+use Rattle.plain_values.specs.Values.{Tree, depth}
+use Rattle.plain_values.specs.Spelling.{Spells}
+use Rattle.plain_values.specs.Refusal.{Refused}
+use Rattle.plain_values.specs.Reading.{moved}
+use Rattle.plain_values.specs.declared.fault.Cause.{Cause}
 use Rattle.commands.specs.declared.decoder.TheConstants.{MAX_LEVELS}
 use Rattle.commands.specs.declared.stop.SchemaCause.{SchemaCause}
 use Rattle.commands.specs.declared.stop.TypeNameCause.{TypeNameCause}

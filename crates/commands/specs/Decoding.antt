@@ -1,14 +1,14 @@
 -- What decoding answers: the value that bytes spell, or the place and the cause at which they are refused. This project's own.
 use Rattle.std.specs.Prelude.{◌≡◌, ℕ, ◌≤◌, List, ◌∷◌, ◌++◌, length, Option, Some, None, Result, Ok, Err}
-use Rattle.tl_types.specs.PlainTypes.{PlainShape}
-use Rattle.tl_types.specs.Values.{Tree, depth}
-use Rattle.tl_types.specs.PlainSchemas.{PlainDeclaration}
-use Rattle.tl_types.specs.Seen.{view}
-use Rattle.tl_types.specs.Spelling.{Spells}
-use Rattle.tl_types.specs.Refusal.{Refused}
-use Rattle.tl_types.specs.Reading.{Spot, spot, Read, moved}
-use Rattle.tl_types.specs.declared.value.Value.{Value}
-use Rattle.tl_types.specs.declared.fault.Cause.{Cause}
+use Rattle.plain_values.specs.PlainTypes.{PlainShape}
+use Rattle.plain_values.specs.Values.{Tree, depth}
+use Rattle.plain_values.specs.PlainSchemas.{PlainDeclaration}
+use Rattle.plain_values.specs.Seen.{view}
+use Rattle.plain_values.specs.Spelling.{Spells}
+use Rattle.plain_values.specs.Refusal.{Refused}
+use Rattle.plain_values.specs.Reading.{Spot, spot, Read, moved}
+use Rattle.plain_values.specs.declared.value.Value.{Value}
+use Rattle.plain_values.specs.declared.fault.Cause.{Cause}
 use Rattle.commands.specs.declared.decoder.TheConstants.{MAX_LEVELS}
 use Rattle.commands.specs.declared.decoder.DecodeFault.{DecodeFault}
 use Rattle.commands.specs.declared.decoder.DecodeFault.TheVariants as decode

@@ -3,12 +3,12 @@ use Rattle.std.specs.Prelude.{◌≡◌, ◌⊎◌, ℕ, List, ◌++◌, Result,
 use Rattle.tl_base.specs.Contents.{Files}
 use Rattle.tl_base.specs.Outside.{View, HasFile}
 use Rattle.tl_schema.specs.Types.{Shape}
-use Rattle.tl_types.specs.PlainTypes.{PlainShape}
+use Rattle.plain_values.specs.PlainTypes.{PlainShape}
 use Rattle.tl_schema.specs.Schemas.{Declared}
-use Rattle.tl_types.specs.PlainSchemas.{PlainDeclaration}
+use Rattle.plain_values.specs.PlainSchemas.{PlainDeclaration}
 use Rattle.tl_schema.specs.AskedTypes.{IsTypeText}
-use Rattle.tl_types.specs.PlainViews.{IsPlainType}
-use Rattle.tl_types.specs.declared.value.Value.{Value}
+use Rattle.plain_values.specs.PlainViews.{IsPlainType}
+use Rattle.plain_values.specs.declared.value.Value.{Value}
 use Rattle.commands.specs.Decoding.{DecodesWhole}
 use Rattle.commands.specs.declared.whole.InputFault.{InputFault}
 use Rattle.commands.specs.declared.whole.InputFault.TheVariants as input

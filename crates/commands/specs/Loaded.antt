@@ -15,7 +15,7 @@ use Rattle.tl_schema.specs.Schemas.{Declared}
 use Rattle.tl_schema.specs.CheckCauses.{RefusedAt}
 use Rattle.tl_schema.specs.CheckedPrograms.{IsSchema}
 use Rattle.tl_schema.specs.AskedTypes.{AsksFor, IsTypeText, RefusedTypeBy, type_causes}
-use Rattle.tl_types.specs.PlainViews.{IsPlainType}
+use Rattle.plain_values.specs.PlainViews.{IsPlainType}
 use Rattle.tl_schema.specs.declared.fault.CheckCause.{CheckCause}
 use Rattle.tl_schema.specs.declared.fault.TypeCause.{TypeCause}
 use Rattle.commands.specs.declared.stop.TextCause.{TextCause}

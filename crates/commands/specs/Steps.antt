@@ -3,9 +3,9 @@ use Rattle.std.specs.Prelude.{List, Result}
 use Rattle.tl_base.specs.Outside.{View, left_of}
 use Rattle.tl_base.specs.Hosted.{OnlySlot}
 use Rattle.tl_base.specs.declared.host.Slot.TheVariants.{Input}
-use Rattle.tl_types.specs.PlainTypes.{PlainShape}
-use Rattle.tl_types.specs.PlainSchemas.{PlainDeclaration}
-use Rattle.tl_types.specs.declared.value.Value.{Value}
+use Rattle.plain_values.specs.PlainTypes.{PlainShape}
+use Rattle.plain_values.specs.PlainSchemas.{PlainDeclaration}
+use Rattle.plain_values.specs.declared.value.Value.{Value}
 use Rattle.commands.specs.Decoding.{DecodesWhole}
 use Rattle.commands.specs.declared.whole.InputFault.{InputFault}
 

@@ -2,21 +2,22 @@
 ghost use Rattle.std.specs.Prelude.{◌≡◌, ◌<◌, ◌≤◌, ◌++◌, ◌==◌, ◌&&◌, [], ℕ, List, IsErrOf, IfSome, length, map};
 ghost use Rattle.tl_base.specs.Using.{Used};
 ghost use Rattle.tl_schema.specs.Meanings.{types_of};
-ghost use Rattle.tl_types.specs.PlainTypes.{boxed, int, long};
-ghost use Rattle.tl_types.specs.PlainViews.{plain_decls, plain_shape, plain_slot};
-ghost use Rattle.tl_types.specs.Values.{Tree, depth};
-ghost use Rattle.tl_types.specs.Seen.{view};
+ghost use Rattle.plain_values.specs.PlainTypes.{boxed, int, long};
+ghost use Rattle.plain_values.specs.PlainViews.{plain_decls, plain_shape, plain_slot};
+ghost use Rattle.plain_values.specs.Values.{Tree, depth};
+ghost use Rattle.plain_values.specs.Seen.{view};
 ghost use Rattle.tl_schema.specs.Seen.{shape, slot, declaration};
-ghost use Rattle.tl_types.specs.Spelling.{Spells};
-ghost use Rattle.tl_types.specs.Refusal.{Refused};
-ghost use Rattle.tl_types.specs.Reading.{moved, word_at, double_at, plain_at, fields_at, boxed_at, value_at, member_from, wrong_number};
-ghost use Rattle.tl_types.specs.declared.fault.Cause.{Cause};
+ghost use Rattle.plain_values.specs.Spelling.{Spells};
+ghost use Rattle.plain_values.specs.Refusal.{Refused};
+ghost use Rattle.plain_values.specs.Reading.{moved, word_at, double_at, plain_at, fields_at, boxed_at, value_at, member_from, wrong_number};
+ghost use Rattle.plain_values.specs.declared.fault.Cause.{Cause};
 ghost use Rattle.commands.specs.Decoding.{GivesValue, GivesFault, ReadsAs};
 
 use std::alloc::{AllocError, AllocFailed, Global};
 use thiserror::Error;
 use tl_base::{Source, TakeFault, take_bytes, take_word};
-use tl_types::{Cause, Entry, Schema, SchemaField, TypeRef, Value};
+use plain_values::{Cause, Value};
+use tl_schema::{Entry, Schema, SchemaField, TypeRef};
 
 /// The most levels of records, one in the other, that a value may have.
 pub const MAX_LEVELS: u32 = 120;

@@ -5,8 +5,8 @@ ghost use Rattle.tl_base.specs.Outside.{IsThere};
 ghost use Rattle.tl_base.specs.Using.{MeetsFaults};
 ghost use Rattle.tl_base.specs.declared.counts.Kind.TheVariants as kinds;
 ghost use Rattle.tl_schema.specs.Meanings.{types_of};
-ghost use Rattle.tl_types.specs.PlainTypes.{boxed};
-ghost use Rattle.tl_types.specs.PlainViews.{plain_decls};
+ghost use Rattle.plain_values.specs.PlainTypes.{boxed};
+ghost use Rattle.plain_values.specs.PlainViews.{plain_decls};
 ghost use Rattle.commands.specs.Jobs.{LoadsSchema, LoadsValue, MakesOutput, NamesPlain, ReadsSchema, Works, bytes_of, check_command, decode_command};
 ghost use Rattle.commands.specs.Runs.{KeepsRest};
 ghost use Rattle.commands.specs.Steps.{TakesValue};
@@ -21,7 +21,8 @@ use std::alloc::Global;
 use tl_base::{Host, Out, Slot, SourceOf, read_file, write_out};
 use tl_combinators::parse;
 use tl_lexer::{TEXT_LIMIT, lex};
-use tl_types::{Schema, Value, check, type_of};
+use plain_values::Value;
+use tl_schema::{Schema, check, type_of};
 
 /// The most bytes that a schema's text may have.
 const SCHEMA_BYTES: u32 = 4_194_304;

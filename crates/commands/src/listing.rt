@@ -5,7 +5,7 @@ ghost use Rattle.commands.specs.CheckAnswers.{counts_line, entry_line, is_listed
 
 use std::alloc::{AllocError, Global};
 use tl_numbers::print_hex;
-use tl_types::{Entry, Schema};
+use tl_schema::{Entry, Schema};
 
 /// A line for each declaration, with its number and its name, and how many there are. The lines of built-in types are left out but for that of `vector`.
 pub fn listing(alloc: Global, schema: &Schema) -> Result<Vec<u8>, AllocError>

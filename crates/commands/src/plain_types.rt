@@ -1,9 +1,9 @@
 //! The types whose values are read so far: boxed types without arguments whose constructors have unconditional `int` and `long` fields alone.
 ghost use Rattle.std.specs.Prelude.{◌↔◌, IsTrue, map};
 ghost use Rattle.tl_schema.specs.Seen.{shape, slot};
-ghost use Rattle.tl_types.specs.PlainViews.{ArePlainSlots, IsPlainHead, IsPlainSlot, IsWhole, PlainIs};
+ghost use Rattle.plain_values.specs.PlainViews.{ArePlainSlots, IsPlainHead, IsPlainSlot, IsWhole, PlainIs};
 
-use tl_types::{Schema, SchemaField, TypeRef};
+use tl_schema::{Schema, SchemaField, TypeRef};
 
 /// The number of the type, where it is such a type.
 pub fn plain_head(schema: &Schema, of: &TypeRef) -> Option<u32>

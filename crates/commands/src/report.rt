@@ -11,7 +11,8 @@ use crate::stop::{JournalCause, Refusal, SchemaCause, Stop, TextCause, TypeNameC
 use std::alloc::{AllocError, Global};
 use tl_base::{Host, Out, write_out};
 use tl_combinators::Form;
-use tl_types::{Cause, CheckCause, TypeCause};
+use plain_values::Cause;
+use tl_schema::{CheckCause, TypeCause};
 
 // A cause, and its values.
 fn cause_name(alloc: Global, cause: Cause) -> Result<String, AllocError>

@@ -2,15 +2,16 @@
 ghost use Rattle.std.specs.Prelude.{◌≡◌, ◌++◌, IfOk, OnOk, string_bytes, map};
 ghost use Rattle.serde_json.specs.Data.{object, put};
 ghost use Rattle.serde_json.specs.View.{view as data_of, members_view};
-ghost use Rattle.tl_types.specs.PlainViews.{plain_decls, plain_slot};
-ghost use Rattle.tl_types.specs.Reading.{fields_in};
-ghost use Rattle.tl_types.specs.Seen.{view, views};
+ghost use Rattle.plain_values.specs.PlainViews.{plain_decls, plain_slot};
+ghost use Rattle.plain_values.specs.Reading.{fields_in};
+ghost use Rattle.plain_values.specs.Seen.{view, views};
 ghost use Rattle.tl_schema.specs.Seen.{slot};
 ghost use Rattle.commands.specs.Shown.{shown, named, name_text, name_in, with_fields, line_text};
 
 use serde_json::Map;
 use std::alloc::{AllocError, Global};
-use tl_types::{Schema, SchemaField, Value};
+use plain_values::Value;
+use tl_schema::{Schema, SchemaField};
 
 /// The JSON text of a value, and a line feed.
 pub fn line_of(alloc: Global, schema: &Schema, value: &Value) -> Result<String, AllocError>

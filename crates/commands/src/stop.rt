@@ -8,7 +8,8 @@ use thiserror::Error;
 use tl_base::{TextFault, WriteFault};
 use tl_combinators::{Form, SyntaxFault};
 use tl_lexer::LexFault;
-use tl_types::{Cause, CheckCause, CheckFault, TypeCause, TypeFault};
+use plain_values::Cause;
+use tl_schema::{CheckCause, CheckFault, TypeCause, TypeFault};
 use update_replay::ReplayFault;
 
 /// What is refused. A place counts bytes from the front of the input or journal.

@@ -2,15 +2,16 @@
 ghost use Rattle.std.specs.Prelude.{◌<◌, IsErrOf, IfSome, length};
 ghost use Rattle.tl_base.specs.Using.{Used};
 ghost use Rattle.tl_schema.specs.Meanings.{types_of};
-ghost use Rattle.tl_types.specs.PlainTypes.{boxed};
-ghost use Rattle.tl_types.specs.PlainViews.{plain_decls};
+ghost use Rattle.plain_values.specs.PlainTypes.{boxed};
+ghost use Rattle.plain_values.specs.PlainViews.{plain_decls};
 ghost use Rattle.commands.specs.Decoding.{DecodesWhole};
 
 use crate::decoder::{DecodeFault, decode};
 use std::alloc::Global;
 use thiserror::Error;
 use tl_base::{Failed, Source, take_end};
-use tl_types::{Cause, Schema, Value};
+use plain_values::{Cause, Value};
+use tl_schema::Schema;
 
 /// Why an input is no value of a type.
 #[derive(Clone, Copy, Debug, PartialEq, Eq, Error)]

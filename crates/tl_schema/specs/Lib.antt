@@ -33,3 +33,6 @@ pub mod NamePlaces
 pub mod NamesNoted
 pub mod SchemaParts
 pub mod SchemaCodes
+pub mod Formed
+pub mod Closing
+pub mod FormedLaws

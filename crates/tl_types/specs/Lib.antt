@@ -1,10 +1,8 @@
 pub mod Values
-pub mod PlainTypes
-pub mod PlainSchemas
-pub mod PlainViews
-pub mod Seen
-pub mod Words
+pub mod Texts
+pub mod Conditions
 pub mod Spelling
 pub mod Refusal
-pub mod Reading
 pub mod Exactly
+pub mod Reading
+pub mod Seen

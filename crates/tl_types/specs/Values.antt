@@ -1,27 +1,51 @@
--- Values: numbers, and records of a declaration with the values of its fields. This project's own.
+-- Values: what bytes spell.
+-- From "Binary data serialization" (core.telegram.org/mtproto/serialize).
 use Rattle.std.specs.Prelude.{ℕ, suc, max, ℤ, List, [], ◌∷◌}
 
 mutual
-  pub data Tree : Type 0 where
-    int : ℤ → Tree
-    long : ℤ → Tree
-    node : ℕ → Trees → Tree
+  pub data ValueView : Type 0 where
+    int : ℤ → ValueView
+    long : ℤ → ValueView
+    -- `#`
+    nat : ℕ → ValueView
+    -- the bytes of a double, an int128 or an int256
+    opaque : List ℕ → ValueView
+    -- the bytes of a `string` or of `bytes`
+    text : List ℕ → ValueView
+    -- a flag that is set
+    truth : ValueView
+    -- a field that isn't there, since its bit is clear
+    absent : ValueView
+    list : ValueViews → ValueView
+    -- a record of declaration i, with the values of its fields
+    node : ℕ → ValueViews → ValueView
+    -- a call of declaration i, likewise
+    call : ℕ → ValueViews → ValueView
 
-  pub data Trees : Type 0 where
-    no_trees : Trees
-    tree : Tree → Trees → Trees
+  pub data ValueViews : Type 0 where
+    no_values : ValueViews
+    value : ValueView → ValueViews → ValueViews
 
 abbrev mutual
-  -- the level of a value: 0 for a number, one more than the deepest part for a record
-  pub depth : Tree → ℕ
-  depth (int z) = 0
-  depth (long z) = 0
-  depth (node i ts) = suc (depth_of ts)
+  -- the levels of a value: of a list, record or call one more than of its deepest part
+  pub depth : ValueView → ℕ
+  depth (list vs) = suc (depth_of vs)
+  depth (node i vs) = suc (depth_of vs)
+  depth (call i vs) = suc (depth_of vs)
+  depth v = 0
 
-  pub depth_of : Trees → ℕ
-  depth_of no_trees = 0
-  depth_of (tree t ts) = max (depth t) (depth_of ts)
+  pub depth_of : ValueViews → ℕ
+  depth_of no_values = 0
+  depth_of (value v vs) = max (depth v) (depth_of vs)
 
-abbrev pub trees_of : List Tree → Trees
-trees_of [] = no_trees
-trees_of (t ∷ ts) = tree t (trees_of ts)
+abbrev pub values_of : List ValueView → ValueViews
+values_of [] = no_values
+values_of (v ∷ vs) = value v (values_of vs)
+
+abbrev pub list_of : ValueViews → List ValueView
+list_of no_values = []
+list_of (value v vs) = v ∷ list_of vs
+
+abbrev pub count : ValueViews → ℕ
+count no_values = 0
+count (value v vs) = suc (count vs)

@@ -1,12 +1,14 @@
-//! Values of a schema's types: which bytes spell them.
+//! Values of a schema's types, and the bytes that spell them.
 #![tactic(auto)]
 
-mod fault;
+mod cause;
+mod closing;
 mod laws;
 mod value;
 
-pub use fault::Cause;
-pub use laws::{each_input_is_spelled_or_refused, schemas_are_plain_schemas};
+pub use cause::Cause;
+pub use closing::close;
+pub use laws::each_input_is_spelled_or_refused;
 pub use tl_schema::{
     CheckCause, CheckFault, Entry, Schema, SchemaField, TypeCause, TypeFault, TypeRef, check,
     type_of,

@@ -1,7 +1,7 @@
 use Rattle.std.proofs.Common.{refl, arith}
-use Rattle.tl_types.specs.PlainTypes.{boxed}
-use Rattle.tl_types.specs.PlainViews.{plain_decls}
-use Rattle.tl_types.proofs.EntryNumbers.{plain_schema}
+use Rattle.plain_values.specs.PlainTypes.{boxed}
+use Rattle.plain_values.specs.PlainViews.{plain_decls}
+use Rattle.plain_values.proofs.EntryNumbers.{plain_schema}
 use Rattle.commands.proofs.Outcomes.{gives_value, gives_fault}
 use Rattle.commands.proofs.Values.{value_deep}
 use Rattle.commands.proofs.decoder.decode.Goals as goal

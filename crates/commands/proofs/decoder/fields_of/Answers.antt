@@ -2,11 +2,11 @@ use Rattle.std.proofs.Common.{◌+◌, [], ◌∷◌, ◌++◌, map, drop, refl,
 use Rattle.std.proofs.lemmas.Result.{err_from_is_err_and}
 use Rattle.std.proofs.lemmas.List.{map_push}
 use Rattle.tl_base.proofs.Uses.{used_none}
-use Rattle.tl_types.specs.Seen.{view}
+use Rattle.plain_values.specs.Seen.{view}
 use Rattle.tl_schema.specs.Seen.{slot}
-use Rattle.tl_types.specs.PlainViews.{plain_slot, plain_decls}
-use Rattle.tl_types.specs.Reading.{value_at, fields_at}
-use Rattle.tl_types.specs.declared.value.Value.{Value}
+use Rattle.plain_values.specs.PlainViews.{plain_slot, plain_decls}
+use Rattle.plain_values.specs.Reading.{value_at, fields_at}
+use Rattle.plain_values.specs.declared.value.Value.{Value}
 use Rattle.commands.proofs.Steps.{continues_none, continues_more, continues_fails, continues_done}
 use Rattle.commands.proofs.PlainEntries.{plain_slots}
 use Rattle.commands.proofs.Values.{next_field, no_field}

@@ -1,6 +1,6 @@
 use Rattle.std.proofs.Common.{◌≡◌, drop}
-use Rattle.tl_types.specs.Reading.{member_from}
-use Rattle.tl_types.specs.PlainViews.{plain_decls}
+use Rattle.plain_values.specs.Reading.{member_from}
+use Rattle.plain_values.specs.PlainViews.{plain_decls}
 use Rattle.commands.proofs.decoder.member.Given as goal
 
 abbrev pub invariant-loop-i : goal.invariant-loop-i

@@ -1,10 +1,10 @@
 use Rattle.std.proofs.Common.{[], map, sym, ap, ◌∙◌, Vec, Global}
 use Rattle.std.proofs.lemmas.Result.{err_from_is_err_and}
-use Rattle.tl_types.specs.Seen.{view}
-use Rattle.tl_types.specs.PlainViews.{plain_decls}
-use Rattle.tl_types.specs.Reading.{value_at, fields_at}
-use Rattle.tl_types.specs.declared.value.Value.{Value}
-use Rattle.tl_types.proofs.Views.{view-Node}
+use Rattle.plain_values.specs.Seen.{view}
+use Rattle.plain_values.specs.PlainViews.{plain_decls}
+use Rattle.plain_values.specs.Reading.{value_at, fields_at}
+use Rattle.plain_values.specs.declared.value.Value.{Value}
+use Rattle.plain_values.proofs.Views.{view-Node}
 use Rattle.commands.proofs.PlainEntries.{plain_slots, plain_fields}
 use Rattle.commands.proofs.Values.{boxed_fails, boxed_wrong, boxed_inner, boxed_read}
 use Rattle.commands.proofs.decoder.record_of.Goals as goal

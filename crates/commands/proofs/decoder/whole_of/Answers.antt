@@ -1,7 +1,7 @@
 use Rattle.std.proofs.Common.{refl}
-use Rattle.tl_types.specs.PlainTypes as plain
-use Rattle.tl_types.specs.PlainViews.{plain_decls}
-use Rattle.tl_types.proofs.Views.{plain-Long}
+use Rattle.plain_values.specs.PlainTypes as plain
+use Rattle.plain_values.specs.PlainViews.{plain_decls}
+use Rattle.plain_values.proofs.Views.{plain-Long}
 use Rattle.commands.proofs.OtherTypes.{plain-other}
 use Rattle.commands.proofs.Values.{value_plain}
 use Rattle.commands.proofs.decoder.whole_of.Goals as goal

@@ -1,5 +1,5 @@
 use Rattle.tl_base.specs.declared.fault.Failed.{Failed}
-use Rattle.tl_types.specs.PlainViews.{plain_decls}
+use Rattle.plain_values.specs.PlainViews.{plain_decls}
 use Rattle.commands.proofs.Loading.{value_loaded}
 use Rattle.commands.proofs.job.load_value.Goals as goal
 

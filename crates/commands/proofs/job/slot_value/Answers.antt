@@ -1,6 +1,6 @@
 use Rattle.std.proofs.Common.{rules, ap}
-use Rattle.tl_types.specs.PlainTypes.{boxed}
-use Rattle.tl_types.specs.PlainViews.{plain_decls}
+use Rattle.plain_values.specs.PlainTypes.{boxed}
+use Rattle.plain_values.specs.PlainViews.{plain_decls}
 use Rattle.tl_base.specs.declared.host.Slot.TheVariants.{Input}
 use Rattle.commands.specs.Decoding.{DecodesWhole}
 use Rattle.tl_base.proofs.Lends.{over_slot, slot_faults}

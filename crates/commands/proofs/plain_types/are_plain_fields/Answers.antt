@@ -2,7 +2,7 @@ use Rattle.std.proofs.Common.{◌≤◌, map, length, refl, sym, arith, true≢f
 use Rattle.std.proofs.lemmas.Bool.{iff_false}
 use Rattle.std.proofs.lemmas.List.{length-map}
 use Rattle.tl_schema.specs.Seen.{slot}
-use Rattle.tl_types.specs.PlainViews.{IsPlainSlot}
+use Rattle.plain_values.specs.PlainViews.{IsPlainSlot}
 use Rattle.commands.proofs.PlainParts.{seen_item, one_more_is, all_are}
 use Rattle.commands.proofs.plain_types.are_plain_fields.Goals as goal
 

@@ -1,7 +1,7 @@
 use Rattle.std.proofs.Common.{◌≡◌, ℕ, ◌<◌, slice_get, Some, map}
 use Rattle.tl_schema.specs.Seen.{slot}
 use Rattle.tl_schema.specs.Schemas.{Slot}
-use Rattle.tl_types.specs.PlainViews.{IsPlainSlot}
+use Rattle.plain_values.specs.PlainViews.{IsPlainSlot}
 use Rattle.commands.proofs.plain_types.are_plain_fields.Given as goal
 
 abbrev pub invariant-loop-field : goal.invariant-loop-field

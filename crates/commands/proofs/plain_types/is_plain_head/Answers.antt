@@ -2,7 +2,7 @@ use Rattle.std.proofs.Common.{◌≡◌, ◌≤◌, length, refl, sym, arith, tr
 use Rattle.std.proofs.lemmas.Bool.{iff_false}
 use Rattle.tl_schema.specs.Seen.{declaration}
 use Rattle.tl_schema.specs.Schemas.{Declaration}
-use Rattle.tl_types.specs.PlainViews.{ArePlainSlots}
+use Rattle.plain_values.specs.PlainViews.{ArePlainSlots}
 use Rattle.commands.proofs.PlainParts.{all_are}
 use Rattle.commands.proofs.plain_types.is_plain_head.Goals as goal
 

@@ -1,6 +1,6 @@
 use Rattle.std.proofs.Common.{◌≡◌, ℕ, ◌<◌, slice_get, Some}
 use Rattle.tl_schema.specs.Schemas.{Declaration}
-use Rattle.tl_types.specs.PlainViews.{ArePlainSlots}
+use Rattle.plain_values.specs.PlainViews.{ArePlainSlots}
 use Rattle.commands.proofs.plain_types.is_plain_head.Given as goal
 
 abbrev pub invariant-loop-i : goal.invariant-loop-i

@@ -1,8 +1,8 @@
 use Rattle.std.proofs.Common.{◌≡◌, drop}
 use Rattle.serde_json.specs.View.{members_view}
-use Rattle.tl_types.specs.PlainViews.{plain_decls}
-use Rattle.tl_types.specs.Reading.{fields_in}
-use Rattle.tl_types.specs.Seen.{views}
+use Rattle.plain_values.specs.PlainViews.{plain_decls}
+use Rattle.plain_values.specs.Reading.{fields_in}
+use Rattle.plain_values.specs.Seen.{views}
 use Rattle.commands.specs.Shown.{name_in, named, with_fields}
 use Rattle.commands.proofs.PlainEntries.{plain_slots}
 use Rattle.commands.proofs.shown.+show.Given as goal

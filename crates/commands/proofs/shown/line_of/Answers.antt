@@ -1,7 +1,7 @@
 use Rattle.std.proofs.Common.{refl, ap, ◌∙◌}
 use Rattle.serde_json.specs.Written.{has_float}
-use Rattle.tl_types.specs.PlainViews.{plain_decls}
-use Rattle.tl_types.specs.Seen.{view}
+use Rattle.plain_values.specs.PlainViews.{plain_decls}
+use Rattle.plain_values.specs.Seen.{view}
 use Rattle.commands.proofs.Forms.{no_float}
 use Rattle.commands.proofs.shown.line_of.Goals as goal
 

@@ -1,6 +1,6 @@
 use Rattle.std.proofs.lemmas.Result.{err_from_is_err_and}
-use Rattle.tl_types.specs.PlainTypes.{boxed}
-use Rattle.tl_types.specs.PlainViews.{plain_decls}
+use Rattle.plain_values.specs.PlainTypes.{boxed}
+use Rattle.plain_values.specs.PlainViews.{plain_decls}
 use Rattle.commands.proofs.WholeInput.{whole_fails, whole_read, whole_goes_on}
 use Rattle.commands.proofs.whole.decode_whole.Goals as goal
 

@@ -1,17 +1,17 @@
 -- What is spelled is read.
 use Rattle.std.proofs.Common.{◌≡◌, ℕ, zero, suc, ◌+◌, ◌^◌, ◌≤◌, ◌<◌, List, [], ◌∷◌, ◌++◌, append_assoc, append-nil, length, Option, Some, Ok, refl, sym, ap, ◌∙◌, arith, true, false}
 use Rattle.std.proofs.lemmas.List.{length-append}
-use Rattle.tl_types.specs.PlainTypes.{PlainShape}
-use Rattle.tl_types.specs.PlainTypes as shape
-use Rattle.tl_types.specs.Values.{Tree, Trees, no_trees, tree, trees_of, depth, depth_of}
-use Rattle.tl_types.specs.Values as value
-use Rattle.tl_types.specs.PlainSchemas.{PlainSlot, PlainDeclaration, IsPlainSchema}
-use Rattle.tl_types.specs.Words.{word}
-use Rattle.tl_types.specs.Spelling.{Begins, Spells, SpellFields}
-use Rattle.tl_types.specs.Spelling as begins
-use Rattle.tl_types.specs.Reading.{Spot, spot, Read, moved, fields_in, member_from, fields_at, record_at, numbered_at, by_number_at, plain_at, deep_at, is_deep, value_at}
-use Rattle.tl_types.proofs.Words.{moved_moved, stays, word_again, double_again}
-use Rattle.tl_types.proofs.Members.{member_found, fields_there}
+use Rattle.plain_values.specs.PlainTypes.{PlainShape}
+use Rattle.plain_values.specs.PlainTypes as shape
+use Rattle.plain_values.specs.Values.{Tree, Trees, no_trees, tree, trees_of, depth, depth_of}
+use Rattle.plain_values.specs.Values as value
+use Rattle.plain_values.specs.PlainSchemas.{PlainSlot, PlainDeclaration, IsPlainSchema}
+use Rattle.plain_values.specs.Words.{word}
+use Rattle.plain_values.specs.Spelling.{Begins, Spells, SpellFields}
+use Rattle.plain_values.specs.Spelling as begins
+use Rattle.plain_values.specs.Reading.{Spot, spot, Read, moved, fields_in, member_from, fields_at, record_at, numbered_at, by_number_at, plain_at, deep_at, is_deep, value_at}
+use Rattle.plain_values.proofs.Words.{moved_moved, stays, word_again, double_again}
+use Rattle.plain_values.proofs.Members.{member_found, fields_there}
 
 abbrev pub list_of : Trees → List Tree
 list_of no_trees = []

@@ -1,7 +1,7 @@
 -- A schema as those declarations see it whose values are read so far: constructors of whole numbers and records. This project's own.
 use Rattle.std.specs.Prelude.{◌≡◌, ◌≢◌, ℕ, ◌<◌, ◌^◌, List, length, Option, Some, slice_get}
 use Rattle.tl_schema.specs.Schemas.{packed_number}
-use Rattle.tl_types.specs.PlainTypes.{PlainShape}
+use Rattle.plain_values.specs.PlainTypes.{PlainShape}
 
 -- a field: its name and its type
 pub record PlainSlot : Type 0 where

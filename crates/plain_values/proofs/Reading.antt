@@ -3,24 +3,24 @@ use Rattle.std.proofs.Common.{◌≡◌, ℕ, zero, suc, ◌+◌, ◌^◌, ◌�
 use Rattle.std.proofs.lemmas.List.{length-append}
 use Rattle.std.proofs.lemmas.Bool.{eqb-true, eqb-false}
 use Rattle.tl_base.specs.Contents.{AreBytes}
-use Rattle.tl_types.specs.declared.fault.Cause.{Cause}
-use Rattle.tl_types.specs.PlainTypes.{PlainShape}
-use Rattle.tl_types.specs.PlainTypes as shape
-use Rattle.tl_types.specs.Values.{Tree, Trees, no_trees, tree, trees_of, depth, depth_of}
-use Rattle.tl_types.specs.Values as value
+use Rattle.plain_values.specs.declared.fault.Cause.{Cause}
+use Rattle.plain_values.specs.PlainTypes.{PlainShape}
+use Rattle.plain_values.specs.PlainTypes as shape
+use Rattle.plain_values.specs.Values.{Tree, Trees, no_trees, tree, trees_of, depth, depth_of}
+use Rattle.plain_values.specs.Values as value
 use Rattle.tl_schema.specs.Schemas.{packed_number}
-use Rattle.tl_types.specs.PlainSchemas.{PlainSlot, PlainDeclaration, IsMember}
-use Rattle.tl_types.specs.Words.{word, double_word}
-use Rattle.tl_types.specs.Spelling.{Spells, SpellFields}
-use Rattle.tl_types.specs.Spelling as begins
-use Rattle.tl_types.specs.Refusal.{FieldsRefused, IsMemberNumber, Refused}
-use Rattle.tl_types.specs.Refusal as no_word
-use Rattle.tl_types.specs.Reading.{Spot, spot, Read, ◌>>=◌, moved, fields_at, wrong_number, record_at, numbered_at, by_number_at, plain_at, deep_at, is_deep, value_at}
-use Rattle.tl_types.proofs.Words.{moved_moved, stays, word_again, word_short, double_again, double_short, bytes_behind, BeginsWord, begins_word, BeginsDouble, begins_double}
-use Rattle.tl_types.proofs.Words as front
-use Rattle.tl_types.proofs.Members.{by_test, Found, found_from, fields_there}
-use Rattle.tl_types.proofs.Members as member
-use Rattle.tl_types.proofs.Spelling.{list_of, list_again, value_is_plain, value_is_deep}
+use Rattle.plain_values.specs.PlainSchemas.{PlainSlot, PlainDeclaration, IsMember}
+use Rattle.plain_values.specs.Words.{word, double_word}
+use Rattle.plain_values.specs.Spelling.{Spells, SpellFields}
+use Rattle.plain_values.specs.Spelling as begins
+use Rattle.plain_values.specs.Refusal.{FieldsRefused, IsMemberNumber, Refused}
+use Rattle.plain_values.specs.Refusal as no_word
+use Rattle.plain_values.specs.Reading.{Spot, spot, Read, ◌>>=◌, moved, fields_at, wrong_number, record_at, numbered_at, by_number_at, plain_at, deep_at, is_deep, value_at}
+use Rattle.plain_values.proofs.Words.{moved_moved, stays, word_again, word_short, double_again, double_short, bytes_behind, BeginsWord, begins_word, BeginsDouble, begins_double}
+use Rattle.plain_values.proofs.Words as front
+use Rattle.plain_values.proofs.Members.{by_test, Found, found_from, fields_there}
+use Rattle.plain_values.proofs.Members as member
+use Rattle.plain_values.proofs.Spelling.{list_of, list_again, value_is_plain, value_is_deep}
 
 -- what was read from the bytes b at p, or why not, is as the relations say
 abbrev pub ReadAs : List PlainDeclaration → ℕ → PlainShape → ℕ → List ℕ → Read Tree → Type 0

@@ -1,16 +1,16 @@
 -- Types and values, seen.
 use Rattle.std.proofs.Common.{◌≡◌, ℕ, ℤ, map, ap, ◌∙◌, rules, Vec, Global}
 use Rattle.tl_schema.specs.Seen.{shape}
-use Rattle.tl_types.specs.Seen.{view}
+use Rattle.plain_values.specs.Seen.{view}
 use Rattle.tl_schema.specs.Types as type
-use Rattle.tl_types.specs.PlainTypes as plain
-use Rattle.tl_types.specs.PlainViews.{plain_shape}
-use Rattle.tl_types.specs.Values as tree
-use Rattle.tl_types.specs.Values.{trees_of}
+use Rattle.plain_values.specs.PlainTypes as plain
+use Rattle.plain_values.specs.PlainViews.{plain_shape}
+use Rattle.plain_values.specs.Values as tree
+use Rattle.plain_values.specs.Values.{trees_of}
 use Rattle.tl_schema.specs.declared.schema.TypeRef as ref
 use Rattle.tl_schema.specs.declared.schema.TypeRef.{TypeRef}
-use Rattle.tl_types.specs.declared.value.Value as value
-use Rattle.tl_types.specs.declared.value.Value.{Value}
+use Rattle.plain_values.specs.declared.value.Value as value
+use Rattle.plain_values.specs.declared.value.Value.{Value}
 
 pub plain-Long : (t : TypeRef) → t ≡ ref.Long → plain_shape (shape t) ≡ plain.long
 plain-Long t e = ap (λ (u : TypeRef). plain_shape (shape u)) e ∙ ap plain_shape long_shape

@@ -12,8 +12,8 @@ use Rattle.tl_schema.specs.Schemas.{Declaration, Declared, vector_number, packed
 use Rattle.tl_schema.specs.Meanings.{types_of, head_in, IsNumberWhere, IsEntry, line_number}
 use Rattle.tl_schema.specs.SameNumber.{SameNumber, earlier, packed}
 use Rattle.tl_schema.specs.CheckedPrograms.{IsSchema}
-use Rattle.tl_types.specs.PlainSchemas.{PlainDeclaration, IsPlainSchema}
-use Rattle.tl_types.specs.PlainViews.{own_head, plain_declaration, plain_decls}
+use Rattle.plain_values.specs.PlainSchemas.{PlainDeclaration, IsPlainSchema}
+use Rattle.plain_values.specs.PlainViews.{own_head, plain_declaration, plain_decls}
 
 -- ---- a list that was made of another
 

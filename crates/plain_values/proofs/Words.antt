@@ -5,9 +5,9 @@ use Rattle.std.proofs.lemmas.List.{take_at, drop_at, length-append, length-take-
 use Rattle.std.proofs.lemmas.Nat.{from_le_bytes-to_le_bytes_4, from_le_bytes-to_le_bytes_8, le_bytes_4, le_bytes_8}
 use Rattle.std.proofs.lemmas.Bool.{cases_lt}
 use Rattle.tl_base.specs.Contents.{AreBytes}
-use Rattle.tl_types.specs.Words.{word, double_word}
-use Rattle.tl_types.specs.Reading.{spot, moved, exact_at, word_at, double_at}
-use Rattle.tl_types.specs.declared.fault.Cause.TheVariants.{Truncated}
+use Rattle.plain_values.specs.Words.{word, double_word}
+use Rattle.plain_values.specs.Reading.{spot, moved, exact_at, word_at, double_at}
+use Rattle.plain_values.specs.declared.fault.Cause.TheVariants.{Truncated}
 
 pub moved_moved : (p m n k : ℕ) → k ≡ m + n → moved (moved p m) n ≡ moved p k
 moved_moved p m n k e = omega (arith, e)

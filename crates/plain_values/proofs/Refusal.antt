@@ -1,21 +1,21 @@
 -- What is refused is refused there.
 use Rattle.std.proofs.Common.{◌≡◌, ℕ, zero, suc, ◌^◌, ◌<◌, List, [], ◌∷◌, ◌++◌, length, Option, Some, None, Err, refl, ap, ◌∙◌, sym, arith, true, false, inl, inr}
 use Rattle.std.proofs.lemmas.Bool.{ne_eqb}
-use Rattle.tl_types.specs.declared.fault.Cause.{Cause}
-use Rattle.tl_types.specs.declared.fault.Cause.TheVariants.{TooDeep, Truncated, Packed, UnknownNumber}
-use Rattle.tl_types.specs.PlainTypes.{PlainShape}
-use Rattle.tl_types.specs.PlainTypes as shape
-use Rattle.tl_types.specs.Values.{Tree, Trees}
-use Rattle.tl_types.specs.Values as value
+use Rattle.plain_values.specs.declared.fault.Cause.{Cause}
+use Rattle.plain_values.specs.declared.fault.Cause.TheVariants.{TooDeep, Truncated, Packed, UnknownNumber}
+use Rattle.plain_values.specs.PlainTypes.{PlainShape}
+use Rattle.plain_values.specs.PlainTypes as shape
+use Rattle.plain_values.specs.Values.{Tree, Trees}
+use Rattle.plain_values.specs.Values as value
 use Rattle.tl_schema.specs.Schemas.{packed_number}
-use Rattle.tl_types.specs.PlainSchemas.{PlainSlot, PlainDeclaration, IsPlainSchema}
-use Rattle.tl_types.specs.Words.{word}
-use Rattle.tl_types.specs.Refusal.{WordRefused, FieldsRefused, IsMemberNumber, Refused}
-use Rattle.tl_types.specs.Refusal as no_word
-use Rattle.tl_types.specs.Reading.{Spot, spot, Fault, Read, moved, fields_in, member_from, fields_at, wrong_number, record_at, numbered_at, by_number_at, plain_at, deep_at, is_deep, value_at}
-use Rattle.tl_types.proofs.Words.{moved_moved, stays, word_again, word_short, double_short}
-use Rattle.tl_types.proofs.Members.{member_found, no_member, packed_is_none, fields_there}
-use Rattle.tl_types.proofs.Spelling.{spelled, value_is_plain, value_is_deep}
+use Rattle.plain_values.specs.PlainSchemas.{PlainSlot, PlainDeclaration, IsPlainSchema}
+use Rattle.plain_values.specs.Words.{word}
+use Rattle.plain_values.specs.Refusal.{WordRefused, FieldsRefused, IsMemberNumber, Refused}
+use Rattle.plain_values.specs.Refusal as no_word
+use Rattle.plain_values.specs.Reading.{Spot, spot, Fault, Read, moved, fields_in, member_from, fields_at, wrong_number, record_at, numbered_at, by_number_at, plain_at, deep_at, is_deep, value_at}
+use Rattle.plain_values.proofs.Words.{moved_moved, stays, word_again, word_short, double_short}
+use Rattle.plain_values.proofs.Members.{member_found, no_member, packed_is_none, fields_there}
+use Rattle.plain_values.proofs.Spelling.{spelled, value_is_plain, value_is_deep}
 
 fault_is : (p place : ℕ) (c d : Cause) → p < 2 ^ 64 → place ≡ 0 → d ≡ c → ◌≡◌ {A = Fault} (p, c) (moved p place, d)
 fault_is p place c d lt zero_place same = ap {B = Fault} (λ (k : ℕ). (k, c)) (stays p lt ∙ ap (moved p) (sym zero_place)) ∙ ap {B = Fault} (λ (x : Cause). (moved p place, x)) (sym same)

@@ -2,10 +2,10 @@
 -- This project's own.
 use Rattle.std.specs.Prelude.{◌≡◌, ◌⊎◌, ℕ, ◌<◌, List, length, map, nat_lt, slice_get, Option, Some, None, if◌then◌else◌}
 use Rattle.tl_schema.specs.Types.{Shape, int, long, boxed, no_shapes}
-use Rattle.tl_types.specs.PlainTypes.{PlainShape}
-use Rattle.tl_types.specs.PlainTypes as plain
+use Rattle.plain_values.specs.PlainTypes.{PlainShape}
+use Rattle.plain_values.specs.PlainTypes as plain
 use Rattle.tl_schema.specs.Schemas.{Slot, Declaration, Declared}
-use Rattle.tl_types.specs.PlainSchemas.{PlainSlot, PlainDeclaration}
+use Rattle.plain_values.specs.PlainSchemas.{PlainSlot, PlainDeclaration}
 use Rattle.tl_schema.specs.Meanings.{types_of}
 
 abbrev pub IsWhole : Shape → Type 0

@@ -2,22 +2,22 @@
 use Rattle.std.proofs.Common.{◌≡◌, ℕ, zero, suc, ◌^◌, ◌≤◌, ◌<◌, List, [], ◌∷◌, ◌++◌, length, Ok, Err, sym, ap, ◌∙◌, subst, arith, inl, inr, ◌⊎◌}
 use Rattle.std.proofs.lemmas.List.{append_cancel_left, append_cancel_right}
 use Rattle.tl_base.specs.Contents.{AreBytes}
-use Rattle.tl_types.specs.declared.fault.Cause.{Cause}
-use Rattle.tl_types.specs.declared.fault.Cause.TheVariants.{TooDeep}
-use Rattle.tl_types.specs.PlainTypes.{PlainShape}
-use Rattle.tl_types.specs.PlainTypes as shape
-use Rattle.tl_types.specs.Values.{Tree, depth}
-use Rattle.tl_types.specs.PlainSchemas.{PlainSlot, PlainDeclaration, IsPlainSchema, IsMember}
-use Rattle.tl_types.specs.Words.{word}
-use Rattle.tl_types.specs.Spelling.{Spells}
-use Rattle.tl_types.specs.Refusal.{WordRefused, FieldsRefused, Refused}
-use Rattle.tl_types.specs.Refusal as no_word
-use Rattle.tl_types.specs.Reading.{Spot, spot, Fault, Read, moved, word_at, value_at}
-use Rattle.tl_types.specs.Exactly.{BeginsWith, EachIsSpelledOrRefused}
-use Rattle.tl_types.proofs.Words.{word_again}
-use Rattle.tl_types.proofs.Spelling.{spelled}
-use Rattle.tl_types.proofs.Refusal.{refused}
-use Rattle.tl_types.proofs.Reading.{ReadAs, read_as}
+use Rattle.plain_values.specs.declared.fault.Cause.{Cause}
+use Rattle.plain_values.specs.declared.fault.Cause.TheVariants.{TooDeep}
+use Rattle.plain_values.specs.PlainTypes.{PlainShape}
+use Rattle.plain_values.specs.PlainTypes as shape
+use Rattle.plain_values.specs.Values.{Tree, depth}
+use Rattle.plain_values.specs.PlainSchemas.{PlainSlot, PlainDeclaration, IsPlainSchema, IsMember}
+use Rattle.plain_values.specs.Words.{word}
+use Rattle.plain_values.specs.Spelling.{Spells}
+use Rattle.plain_values.specs.Refusal.{WordRefused, FieldsRefused, Refused}
+use Rattle.plain_values.specs.Refusal as no_word
+use Rattle.plain_values.specs.Reading.{Spot, spot, Fault, Read, moved, word_at, value_at}
+use Rattle.plain_values.specs.Exactly.{BeginsWith, EachIsSpelledOrRefused}
+use Rattle.plain_values.proofs.Words.{word_again}
+use Rattle.plain_values.proofs.Spelling.{spelled}
+use Rattle.plain_values.proofs.Refusal.{refused}
+use Rattle.plain_values.proofs.Reading.{ReadAs, read_as}
 
 -- ---- results apart
 

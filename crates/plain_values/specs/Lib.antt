@@ -1,0 +1,10 @@
+pub mod Values
+pub mod PlainTypes
+pub mod PlainSchemas
+pub mod PlainViews
+pub mod Seen
+pub mod Words
+pub mod Spelling
+pub mod Refusal
+pub mod Reading
+pub mod Exactly

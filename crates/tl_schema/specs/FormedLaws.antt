@@ -1,0 +1,19 @@
+-- What holds of formed types. This project's own.
+use Rattle.std.specs.Prelude.{◌≡◌, ℕ, List, length, slice_get, Some}
+use Rattle.tl_schema.specs.Types.{Shape, Shapes}
+use Rattle.tl_schema.specs.Schemas.{Slot, Declaration, Declared}
+use Rattle.tl_schema.specs.CheckedPrograms.{IsSchema}
+use Rattle.tl_schema.specs.Closing.{closed, list_of_shapes}
+use Rattle.tl_schema.specs.Formed.{IsFormedOver, AreArguments, IsEmpty, count_of, HasFormedFields}
+
+-- in a schema each field of each declaration is formed
+abbrev pub FieldsAreFormed : Type 0
+FieldsAreFormed = (schema : Declared) → IsSchema schema → HasFormedFields schema
+
+-- a formed type stays formed where formed arguments stand in place of its variables, and one that takes bytes takes bytes
+pub record ClosesFormed (schema : Declared) (n m : ℕ) (args : Shapes) (s : Shape) : Type 0 where
+  pub formed : IsFormedOver schema m (closed (list_of_shapes args) s)
+  pub bytes : (IsEmpty schema s → ⊥) → IsEmpty schema (closed (list_of_shapes args) s) → ⊥
+
+abbrev pub ClosingKeepsFormed : Type 0
+ClosingKeepsFormed = (schema : Declared) (n m : ℕ) (args : Shapes) (s : Shape) → count_of args ≡ n → AreArguments schema m args → IsFormedOver schema n s → ClosesFormed schema n m args s
