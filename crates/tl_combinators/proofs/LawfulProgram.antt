@@ -16,10 +16,11 @@ use Rattle.tl_combinators.specs.Names.{NameText, IsObject, name_from, name, decl
 use Rattle.tl_combinators.specs.Trees.{Tree}
 use Rattle.tl_combinators.specs.Types.{level_limit, one_opens, opens, closes, in_parens, one_term, terms, one_listed, listed, applied, application, no_level, behind_percent, bare, core, type_in, term, expression, at_end, whole_type}
 use Rattle.tl_combinators.specs.Description.{Described}
-use Rattle.tl_combinators.specs.Fields.{bit_value, IsBit, HasBit, bit, condition, called, in_condition, held, where_field, field, field_too_many, FieldsText, fields_text, part_limit, one_field, fields}
+use Rattle.tl_combinators.specs.Program.{declaration_limit, part_limit}
+use Rattle.tl_combinators.specs.Fields.{bit_value, IsBit, HasBit, bit, condition, called, in_condition, held, where_field, field, field_too_many, FieldsText, fields_text, one_field, fields}
 use Rattle.tl_combinators.specs.BuiltIns.{this_type, sort, boxed, opaque, bracketed, repeated, element, vector_result, vector, line_form, line_number, built_in, built_in_line}
 use Rattle.tl_combinators.specs.Declarations.{variable, one_variable, variables, result_type, combinator, named_declaration, declaration, where_declaration, declaration_too_many}
-use Rattle.tl_combinators.specs.Sentences.{ProgramText, program_so_far, declaration_limit, section, mark, one_declaration, item, program}
+use Rattle.tl_combinators.specs.Sentences.{ProgramText, program_so_far, section, mark, one_declaration, item, program}
 use Rattle.tl_combinators.proofs.Rows.{Shorter, shorter_one, shorter_fails, shorter_choice, shorter_taken}
 use Rattle.tl_combinators.proofs.Lawful.{Lawful, lawful_gives, lawful_fails, lawful_here, lawful_one, lawful_chain, lawful_choice, lawful_loop, lawful_taken, shorter_first, shorter_then}
 use Rattle.tl_combinators.proofs.Decided.{decided_not, true_decided}

@@ -21,4 +21,5 @@ mod Exact
 pub mod Decided
 pub mod Values
 pub mod WrittenNumbers
+pub mod WithinLimits
 pub mod Causes

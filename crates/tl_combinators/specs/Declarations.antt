@@ -12,9 +12,9 @@ use Rattle.tl_combinators.specs.Tokens.{bytes_of, place, unexpected, not_profile
 use Rattle.tl_combinators.specs.Names.{NameText, declared_name, number}
 use Rattle.tl_combinators.specs.Trees.{Tree}
 use Rattle.tl_combinators.specs.Types.{expression}
-use Rattle.tl_combinators.specs.Program.{DeclText}
+use Rattle.tl_combinators.specs.Program.{part_limit, DeclText}
 use Rattle.tl_combinators.specs.Description.{Described, undescribed, all_shown, all_left_out}
-use Rattle.tl_combinators.specs.Fields.{fields, part_limit}
+use Rattle.tl_combinators.specs.Fields.{fields}
 use Rattle.tl_combinators.specs.BuiltIns.{sort, built_in, built_in_line}
 
 -- ---- variables

@@ -11,7 +11,7 @@ use Rattle.tl_combinators.specs.Tokens.{bytes_of, unexpected, not_profile, too_m
 use Rattle.tl_combinators.specs.Trees.{Tree, is_plain}
 use Rattle.tl_combinators.specs.Types.{term}
 use Rattle.tl_combinators.specs.declared.fields.Held.{Held}
-use Rattle.tl_combinators.specs.Program.{KindText, nat, flag, call, of, CondText, FieldText, cond_texts, kind_text}
+use Rattle.tl_combinators.specs.Program.{part_limit, KindText, nat, flag, call, of, CondText, FieldText, cond_texts, kind_text}
 use Rattle.tl_combinators.specs.Description.{Described, field_shown}
 
 -- ---- conditions
@@ -129,10 +129,6 @@ field text function =
 -- one field more than there may be
 unfoldable pub field_too_many : {A : Type 0} → List ℕ → Rule Token SyntaxFault A
 field_too_many text = where_field text (choice (Next (IsWord text is_letter)) (fails (too_many text)) (fails (unexpected text)))
-
--- a declaration has at most so many variables and fields together
-abbrev pub part_limit : ℕ
-part_limit = 256
 
 -- fields, and what is described with them
 pub record FieldsText : Type 0 where

@@ -2,6 +2,7 @@
 -- From "TL language" (core.telegram.org/mtproto/TL) and "Formal description of TL" (core.telegram.org/mtproto/TL-formal), its identifiers.
 use Rattle.std.specs.Prelude.{◌≡◌, ◌≢◌, ℕ, List, [], ◌∷◌, ◌++◌, Bool, Option, Some, None, codes}
 use Rattle.tl_numbers.specs.HexText.{IsHexText, hex_value}
+use Rattle.tl_base.specs.declared.numbers.TheConstants.{BOXED_VECTOR}
 use Rattle.tl_lexer.specs.Rule.{Rule, gives, fails, one, chain, choice, Next}
 use Rattle.tl_lexer.specs.declared.token.Token.{Token}
 use Rattle.tl_lexer.specs.declared.token.TokenKind.TheVariants.{Word, Hash, Dot}
@@ -72,7 +73,7 @@ hex text edge = chain (one (unexpected text) (IsHex text edge)) (λ t. gives (he
 
 -- the number of a boxed vector
 abbrev pub vector_number : ℕ
-vector_number = 0x1cb5c415
+vector_number = BOXED_VECTOR
 
 -- a Word of digits that is another number than a boxed vector's
 pub record IsOtherNumber (text : List ℕ) (edge : ℕ) (t : Token) : Type 0 where

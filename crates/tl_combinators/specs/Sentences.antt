@@ -9,7 +9,7 @@ use Rattle.tl_combinators.specs.declared.fault.SyntaxFault.TheVariants.{Unexpect
 use Rattle.tl_combinators.specs.Tokens.{Begins, token, IsThis, this_word}
 use Rattle.tl_combinators.specs.Trees.{Tree}
 use Rattle.tl_combinators.specs.Types.{whole_type}
-use Rattle.tl_combinators.specs.Program.{DeclText}
+use Rattle.tl_combinators.specs.Program.{declaration_limit, DeclText}
 use Rattle.tl_combinators.specs.Declarations.{declaration, where_declaration, declaration_too_many}
 
 -- ---- programs
@@ -33,10 +33,6 @@ section text =
 -- `---types---` or `---functions---`
 unfoldable pub mark : List ℕ → Rule Token SyntaxFault Bool
 mark text = chain (token text Dashes) (λ a. section text)
-
--- a program has at most so many declarations
-abbrev pub declaration_limit : ℕ
-declaration_limit = 16384
 
 -- one more declaration
 unfoldable pub one_declaration : List ℕ → ProgramText → Rule Token SyntaxFault ProgramText

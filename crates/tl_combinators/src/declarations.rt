@@ -150,7 +150,7 @@ fn declaration_at(
     let start = *at;
     let name = declared_name_at(alloc, text, tokens, at)?;
     described.show_all(text, tokens, start, *at)?;
-    match BuiltIn::of_name(name.bytes.as_slice()) {
+    match BuiltIn::of(name.bytes.as_slice()) {
         Some(line) => built_in_line_at(alloc, text, tokens, at, line, name),
         None => combinator_at(alloc, text, tokens, at, function, name, described),
     }

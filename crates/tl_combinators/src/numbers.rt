@@ -7,11 +7,9 @@ ghost use Rattle.tl_combinators.specs.Names.{IsHex, hex, IsOtherNumber, vector_h
 
 use crate::fault::{Form, SyntaxFault};
 use crate::reading::{begins_at, bytes_at, not_profile_at, same, take_token, unexpected_at};
+use tl_base::BOXED_VECTOR;
 use tl_lexer::{Token, TokenKind};
 use tl_numbers::read_hex;
-
-/// The number of a boxed vector.
-const VECTOR: u32 = 0x1cb5c415;
 
 // The number that a token is, if it adjoins the `#` before it.
 fn number_of(text: &[u8], token: Token, edge: u32) -> Option<u32>
@@ -54,7 +52,7 @@ fn is_other_number(text: &[u8], token: Token, edge: u32) -> bool
     ensures no { result ≡ false → IsOtherNumber text.now edge token → ⊥ }
 {
     match number_of(text, token, edge) {
-        Some(number) => number != VECTOR,
+        Some(number) => number != BOXED_VECTOR,
         None => false,
     }
 }

@@ -18,6 +18,7 @@ pub mod AppliedTypes
 pub mod SameNames
 pub mod Results
 pub mod FieldConditions
+pub mod SmallPrograms
 mod Maps
 mod NameKeys
 mod Repeats

@@ -18,8 +18,8 @@ returns-in_err-name-clause-read c = as_err c.from_residual.ensures.1 (then_ok _ 
 
 pub returns-in-Some-clause-read : goal.returns-in-Some-clause-read
 unfolding declaration
-returns-in-Some-clause-read c = then_ok _ (here_ok (place c.args.text.now) c.place_at.result _ c.place_at.ensures) (then_ok _ (taken_ok c.args.tokens.now c.args.at.now c.declared_name_at.new.at (omega (arith, c.in_ok-name.ensures.on)) c.in_ok-name.ensures.read) (named_as c.args.text.now c.args.function (name_text c.in_ok-name.name) _ (built_in c.in_ok-name.name.bytes) (named_by _ _ _ _ c.as_slice.ensures.value c.of_name.ensures c.in-Some.is) c.built_in_line_at.ensures.read))
+returns-in-Some-clause-read c = then_ok _ (here_ok (place c.args.text.now) c.place_at.result _ c.place_at.ensures) (then_ok _ (taken_ok c.args.tokens.now c.args.at.now c.declared_name_at.new.at (omega (arith, c.in_ok-name.ensures.on)) c.in_ok-name.ensures.read) (named_as c.args.text.now c.args.function (name_text c.in_ok-name.name) _ (built_in c.in_ok-name.name.bytes) (named_by _ _ _ _ c.as_slice.ensures.value c.of.ensures c.in-Some.is) c.built_in_line_at.ensures.read))
 
 pub returns-in-None-clause-read : goal.returns-in-None-clause-read
 unfolding declaration
-returns-in-None-clause-read c = then_ok _ (here_ok (place c.args.text.now) c.place_at.result _ c.place_at.ensures) (then_ok _ (taken_ok c.args.tokens.now c.args.at.now c.declared_name_at.new.at (omega (arith, c.in_ok-name.ensures.on)) c.in_ok-name.ensures.read) (named_as c.args.text.now c.args.function (name_text c.in_ok-name.name) _ (built_in c.in_ok-name.name.bytes) (named_by _ _ _ _ c.as_slice.ensures.value c.of_name.ensures c.in-None.is) (combinator_as c.args.text.now c.args.function (name_text c.in_ok-name.name) (then_shown c.args.text.now c.args.tokens.now c.args.at.now c.declared_name_at.new.at c.new-described.ensures c.in_ok-show_all.ensures) c.combinator_at.ensures.read)))
+returns-in-None-clause-read c = then_ok _ (here_ok (place c.args.text.now) c.place_at.result _ c.place_at.ensures) (then_ok _ (taken_ok c.args.tokens.now c.args.at.now c.declared_name_at.new.at (omega (arith, c.in_ok-name.ensures.on)) c.in_ok-name.ensures.read) (named_as c.args.text.now c.args.function (name_text c.in_ok-name.name) _ (built_in c.in_ok-name.name.bytes) (named_by _ _ _ _ c.as_slice.ensures.value c.of.ensures c.in-None.is) (combinator_as c.args.text.now c.args.function (name_text c.in_ok-name.name) (then_shown c.args.text.now c.args.tokens.now c.args.at.now c.declared_name_at.new.at c.new-described.ensures c.in_ok-show_all.ensures) c.combinator_at.ensures.read)))
