@@ -9,6 +9,8 @@ mod TokenParts
 pub mod AppliedNames
 mod Conditions
 mod Counts
+pub mod Describing
+pub mod DescribedRule
 mod EqualDescriptions
 mod Rows
 mod TakenRows

@@ -1,5 +1,5 @@
 -- A program that is read is within the limits.
-use Rattle.std.proofs.Common.{◌≢◌, ℕ, ◌+◌, ◌≤◌, Bool, List, [], ◌∷◌, ◌++◌, length, length-append, All, Option, Some, None, arith}
+use Rattle.std.proofs.Common.{◌≢◌, ℕ, ◌+◌, ◌≤◌, Bool, List, [], ◌∷◌, ◌++◌, length, length-append, Option, Some, None, arith}
 use Rattle.std.proofs.lemmas.List.Elements.{All-nil, All-push}
 use Rattle.tl_lexer.specs.Rule.{Rule}
 use Rattle.tl_lexer.specs.declared.token.Token.{Token}
@@ -7,7 +7,7 @@ use Rattle.tl_combinators.specs.declared.fault.SyntaxFault.{SyntaxFault}
 use Rattle.tl_combinators.specs.declared.built_in.BuiltIn.{BuiltIn}
 use Rattle.tl_combinators.specs.Names.{NameText}
 use Rattle.tl_combinators.specs.Program.{declaration_limit, part_limit, DeclText, HasFewParts, IsWithinLimits}
-use Rattle.tl_combinators.specs.Description.{Described}
+use Rattle.tl_combinators.specs.Description.{Piece}
 use Rattle.tl_combinators.specs.Fields.{FieldsText, where_field, field_too_many, one_field, fields}
 use Rattle.tl_combinators.specs.BuiltIns.{built_in_line}
 use Rattle.tl_combinators.specs.Declarations.{one_variable, variables, combinator, named_declaration, declaration, where_declaration, declaration_too_many}
@@ -53,31 +53,31 @@ module _ (text : List ℕ) where
   one_field_few function vars s few =
       only_choice _ _ _ _ (λ _ _. no_field_more (FewFields vars)) (λ ts other. only_chain _ _ _ (λ f _ _ _. only_gives (FewFields vars) _ (one_more_behind vars part_limit s.fields f.0 few other)))
 
-  fields_few : (function : Bool) (vars : ℕ) (d : Described) → vars ≤ part_limit → Only (fields text function vars d) (FewFields vars)
+  fields_few : (function : Bool) (vars : ℕ) (d : List Piece) → vars ≤ part_limit → Only (fields text function vars d) (FewFields vars)
   unfolding fields
   fields_few function vars d few = only_loop _ _ _ (one_field_few function vars) _ (omega (arith, few))
 
-  combinator_few : (function : Bool) (n : NameText) (d : Described) → Only (combinator text function n d) HasFewParts
+  combinator_few : (function : Bool) (n : NameText) (d : List Piece) → Only (combinator text function n d) HasFewParts
   unfolding combinator
   combinator_few function n d =
       only_chain _ _ _ (λ i _ _ _. only_chain _ _ _ (λ vs ts mid reads.
       let few : FewVariables vs.0 = (only_taken FewVariables _ variables_few).each ts mid vs reads in
       only_chain _ _ _ (λ fs us end more.
       let both : FewFields (length vs.0) fs = (fields_few function (length vs.0) _ (omega (arith, few))).each us end fs more in
-      only_chain _ _ _ (λ t _ _ _. only_chain _ _ _ (λ s _ _ _. only_gives HasFewParts _ both)))))
+      only_chain _ _ _ (λ t _ _ _. only_chain _ _ _ (λ s _ _ _. only_chain _ _ _ (λ _ _ _ _. only_gives HasFewParts _ both))))))
 
   -- the line of a built-in type has no parts
   line_few : (b : BuiltIn) (n : NameText) → Only (built_in_line text b n) HasFewParts
   unfolding built_in_line
   line_few b n = only_chain _ _ _ (λ i _ _ _. only_chain _ _ _ (λ _ _ _ _. only_gives HasFewParts _ (omega arith)))
 
-  named_few : (function : Bool) (n : NameText) (d : Described) (o : Option BuiltIn) → Only (named_declaration text function n d o) HasFewParts
+  named_few : (function : Bool) (n : NameText) (d : List Piece) (o : Option BuiltIn) → Only (named_declaration text function n d o) HasFewParts
   named_few function n d (Some b) = line_few b n
   named_few function n d None = combinator_few function n d
 
   declaration_few : (function : Bool) → Only (declaration text function) HasFewParts
   unfolding declaration
-  declaration_few function = only_chain _ _ _ (λ start _ _ _. only_chain _ _ _ (λ n _ _ _. named_few function n.0 _ _))
+  declaration_few function = only_chain _ _ _ (λ n _ _ _. named_few function n.0 _ _)
 
 -- ---- a program
 

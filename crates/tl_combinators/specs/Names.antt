@@ -13,7 +13,7 @@ use Rattle.tl_combinators.specs.Tokens.{bytes_of, unexpected, not_profile, token
 
 -- ---- names
 
--- a name, and the byte behind it
+-- a name, and the byte after it
 pub record NameText : Type 0 where
   pub bytes : List ℕ
   pub end : ℕ
@@ -26,7 +26,7 @@ name_text n = record { bytes = n.bytes; end = n.end }
 abbrev pub joined : List ℕ → List ℕ → List ℕ
 joined space last = (space ++ (46 ∷ [])) ++ last
 
--- behind the Word w, which begins in lower case, a `.` adjoins
+-- after the Word w, which begins in lower case, a `.` adjoins
 pub record IsSpace (text : List ℕ) (w : Token) (ts : List Token) : Type 0 where
   pub lower : IsWord text is_lower w
   pub dot : Next (IsAt w.end Dot) ts
@@ -84,7 +84,7 @@ pub record IsOtherNumber (text : List ℕ) (edge : ℕ) (t : Token) : Type 0 whe
 unfoldable pub vector_hex : List ℕ → ℕ → Rule Token SyntaxFault ℕ
 vector_hex text edge = choice (Next (IsOtherNumber text edge)) (fails (not_profile text VectorNumber)) (hex text edge)
 
--- `#` and digits that adjoin what ends at this byte, or nothing; digits reads those behind the `#`
+-- `#` and digits that adjoin what ends at this byte, or nothing; digits reads those after the `#`
 unfoldable pub number_by : List ℕ → (ℕ → Rule Token SyntaxFault ℕ) → ℕ → Rule Token SyntaxFault (Option ℕ)
 number_by text digits edge =
     choice (Next (IsAt edge Hash)) (chain (token text Hash) (λ h. chain (digits h.end) (λ n. gives (Some n)))) (gives None)

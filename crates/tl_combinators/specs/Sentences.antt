@@ -69,7 +69,7 @@ ReadsType text tokens t = (whole_type text).reads tokens t []
 abbrev pub TypeRefused : List ℕ → List Token → SyntaxFault → Type 0
 TypeRefused text tokens fault = (whole_type text).refused tokens fault
 
--- ---- answers; want of memory is free
+-- ---- answers; out of memory is free
 
 -- the fault is Refused's own
 abbrev pub FaultIs : (SyntaxFault → Type 0) → SyntaxFault → Type 0
@@ -83,12 +83,12 @@ abbrev pub Answers : {X A : Type 0} → (X → A) → (A → Type 0) → (Syntax
 Answers view Read Refused (Ok x) = Read (view x)
 Answers view Read Refused (Err fault) = FaultIs Refused fault
 
--- the answer is this, or want of memory
+-- the answer is this, or out of memory
 abbrev pub Accepts : {X A : Type 0} → (X → A) → A → Result X SyntaxFault → Type 0
 Accepts view a (Ok x) = view x ≡ a
 Accepts view a (Err fault) = fault ≡ Memory
 
--- the answer is this fault, or want of memory
+-- the answer is this fault, or out of memory
 abbrev pub Refuses : {X : Type 0} → SyntaxFault → Result X SyntaxFault → Type 0
 Refuses fault (Ok x) = ⊥
 Refuses fault (Err other) = FaultIs (λ f. f ≡ fault) other

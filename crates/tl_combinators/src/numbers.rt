@@ -25,7 +25,7 @@ fn number_of(text: &[u8], token: Token, edge: u32) -> Option<u32>
     }
 }
 
-// The digits behind a `#`.
+// The digits after a `#`.
 fn hex_at(text: &[u8], tokens: &[Token], at: &mut usize, edge: u32) -> Result<u32, SyntaxFault>
     requires { Fits text.now tokens.now }
     ensures read { Parses fault_of (λ (n : ℕ). n) (hex text.now edge) (drop at.old tokens.now) (drop at.new tokens.now) result }
@@ -66,7 +66,7 @@ fn begins_other_number(text: &[u8], tokens: &[Token], at: usize, edge: u32) -> b
     at < tokens.len() && is_other_number(text, tokens[at], edge)
 }
 
-// The digits behind the `#` of the vector line.
+// The digits after the `#` of the vector line.
 fn vector_hex_at(
     text: &[u8],
     tokens: &[Token],

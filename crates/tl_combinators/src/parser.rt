@@ -20,7 +20,7 @@ use tl_lexer::{Token, TokenKind};
 /// A program has at most so many declarations.
 pub const DECLARATION_LIMIT: usize = 16384;
 
-// What stands behind the first `---` of a section's mark: whether functions follow.
+// What stands after the first `---` of a section's mark: whether functions follow.
 fn section_at(text: &[u8], tokens: &[Token], at: &mut usize) -> Result<bool, SyntaxFault>
     requires { Fits text.now tokens.now }
     ensures read { Parses fault_of (λ (b : Bool). b) (section text.now) (drop at.old tokens.now) (drop at.new tokens.now) result }
