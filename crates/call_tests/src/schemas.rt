@@ -1,37 +1,15 @@
 //! Entries of schemas, and types by their names.
-ghost use Rattle.std.specs.Prelude.{IsTrue};
-ghost use Rattle.tl_combinators.specs.Program.{program_text};
-ghost use Rattle.tl_schema.specs.Meanings.{IsSmall};
-
 use std::alloc::{AllocError, Global};
 use std::test::Fail;
-use tl_combinators::{Program, SyntaxFault, parse};
+use tl_combinators::parse;
 use tl_lexer::lex;
 use tl_schema::{Entry, Schema, SchemaField, check, type_of};
-
-// Whether there are few declarations, each of few parts. `check` asks for it.
-fn is_small(program: &Program) -> bool
-    ensures { IsTrue result → IsSmall (program_text program.now) }
-{
-    if program.decls.len() > 16 {
-        return false;
-    }
-    for decl in &program.decls {
-        if decl.vars.len() > 16 || decl.fields.len() > 16 {
-            return false;
-        }
-    }
-    true
-}
 
 // The schema that a short text is.
 fn schema(alloc: Global, text: &str) -> Result<Schema, Fail> {
     let bytes = text.as_bytes();
     let tokens = lex(alloc, bytes)?;
     let program = parse(alloc, bytes, &tokens)?;
-    if !is_small(&program) {
-        return Err(SyntaxFault::Memory.into());
-    }
     Ok(check(alloc, &program)?)
 }
 

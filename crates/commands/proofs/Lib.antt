@@ -16,7 +16,6 @@ pub mod Lines
 pub mod Endings
 pub mod OneFault
 pub mod AnAnswer
-pub mod FewDeclarations
 pub mod PlainEntries
 pub mod OtherTypes
 pub mod SameFiles

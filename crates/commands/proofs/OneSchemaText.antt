@@ -8,6 +8,7 @@ use Rattle.tl_combinators.specs.declared.fault.SyntaxFault.{SyntaxFault}
 use Rattle.tl_combinators.specs.Program.{DeclText}
 use Rattle.tl_combinators.specs.Sentences.{Reads, SyntaxRefused}
 use Rattle.tl_combinators.proofs.OneProgram.{one_program}
+use Rattle.tl_combinators.proofs.WithinLimits.{within_limits}
 use Rattle.tl_combinators.proofs.WrittenNumbers.{numbers_fit}
 use Rattle.tl_combinators.proofs.Causes.{no_memory as no_memory_of_tokens}
 use Rattle.tl_schema.specs.Schemas.{Declared}
@@ -15,12 +16,12 @@ use Rattle.tl_schema.specs.CheckCauses.{Passes, RefusedAt}
 use Rattle.tl_schema.specs.CheckedPrograms.{IsSchema}
 use Rattle.tl_schema.specs.declared.fault.CheckCause.{CheckCause}
 use Rattle.tl_schema.proofs.CheckOrder.{passed_or_refused, one_refusal, never_refused_and_passed}
+use Rattle.tl_schema.proofs.SmallPrograms.{small_within_limits}
 use Rattle.tl_schema.proofs.OneSchema.{same_schema, some_schema}
 use Rattle.commands.specs.declared.stop.SchemaCause.{SchemaCause}
 use Rattle.commands.specs.declared.stop.SchemaCause.TheVariants.{Text, Checked}
 use Rattle.commands.specs.declared.stop.TextCause.{TextCause}
 use Rattle.commands.specs.Loaded.{TextRefused, IsSchemaText, SchemaRefused, by_text, by_checks}
-use Rattle.commands.proofs.FewDeclarations.{small_program}
 use Rattle.commands.proofs.OneText.{same_tokens, never_refused, one_text_cause, refused_bytes, refused_tokens}
 
 module _ (text : List ℕ) where
@@ -65,7 +66,7 @@ module _ (text : List ℕ) where
   schema_read ts ds t p (s, good, is) = inl (s, record { tokens = ts; lexed = t; parsed = subst (Reads text ts) (sym is) p; good = good })
 
   checks : (ts : List Token) (ds : List DeclText) → Tokens text ts → Reads text ts ds → Passes ds ⊎ ((k : ℕ) × (c : CheckCause) × RefusedAt ds k c) → Read
-  checks ts ds t p (inl passes) = schema_read ts ds t p (some_schema ds (small_program text ts ds p) passes (numbers_fit text ts ds p))
+  checks ts ds t p (inl passes) = schema_read ts ds t p (some_schema ds (small_within_limits ds (within_limits text ts ds p)) passes (numbers_fit text ts ds p))
   checks ts ds t p (inr (k, c, r)) = inr (Checked k c, by_checks ts ds k c t p r)
 
   parses : (ts : List Token) → Tokens text ts → ((ds : List DeclText) × Reads text ts ds) ⊎ ((f : SyntaxFault) × SyntaxRefused text ts f) → Read

@@ -1,6 +1,6 @@
 -- Want of memory is no fault of a text.
 use Rattle.std.proofs.Common.{ℕ, zero, suc, Bool, true, false, List, Option, Some, None, inl, inr, subst, sym}
-use Rattle.tl_lexer.specs.Rule.{Rule, gives, fails, here, one, chain, choice, loop}
+use Rattle.tl_lexer.specs.Rule.{Rule, gives, fails, one, chain, choice, loop}
 use Rattle.tl_lexer.specs.declared.token.Token.{Token}
 use Rattle.tl_lexer.specs.declared.token.TokenKind.{TokenKind}
 use Rattle.tl_combinators.specs.declared.fault.SyntaxFault.{SyntaxFault}
@@ -12,7 +12,7 @@ use Rattle.tl_combinators.specs.Tokens.{token, letter_word, this_word}
 use Rattle.tl_combinators.specs.Names.{NameText, name_from, name, declared_name, type_name, hex, vector_hex, number_by, number, vector_line_number}
 use Rattle.tl_combinators.specs.Trees.{Tree}
 use Rattle.tl_combinators.specs.Types.{level_limit, one_opens, opens, closes, in_parens, one_term, terms, one_listed, listed, applied, application, no_level, behind_percent, bare, core, term, expression, at_end, whole_type}
-use Rattle.tl_combinators.specs.Description.{Described}
+use Rattle.tl_combinators.specs.Description.{Piece, description}
 use Rattle.tl_combinators.specs.Fields.{bit, condition, called, in_condition, held, where_field, field, field_too_many, one_field, fields}
 use Rattle.tl_combinators.specs.BuiltIns.{this_type, sort, boxed, opaque, bracketed, repeated, element, vector_result, vector, line_form, line_number, built_in_line}
 use Rattle.tl_combinators.specs.Declarations.{variable, one_variable, variables, result_type, combinator, named_declaration, declaration, where_declaration, declaration_too_many}
@@ -33,9 +33,9 @@ at_gives : {A : Type 0} (a : A) → Placed (gives a)
 unfolding gives
 at_gives a = record { each = λ ts f h. absurd h }
 
-at_here : (place : List Token → ℕ) → Placed (here place)
-unfolding here
-at_here place = record { each = λ ts f h. absurd h }
+at_description : (ps : List Piece) → Placed (description ps)
+unfolding description
+at_description ps = record { each = λ ts f h. absurd h }
 
 at_fails : {A : Type 0} (fault_at : List Token → SyntaxFault) → ((ts : List Token) → IsPlaced (fault_at ts)) → Placed {A = A} (fails fault_at)
 unfolding fails
@@ -226,7 +226,7 @@ module _ (text : List ℕ) where
   unfolding field_too_many
   at_field_too_many = at_where_field _ (at_choice _ _ _ (at_fails _ (λ ts. tt)) (at_fails _ (λ ts. tt)))
 
-  at_fields : (function : Bool) (vars : ℕ) (d : Described) → Placed (fields text function vars d)
+  at_fields : (function : Bool) (vars : ℕ) (d : List Piece) → Placed (fields text function vars d)
   unfolding fields one_field
   at_fields function vars d = at_loop _ _ _ (λ s. at_choice _ _ _ at_field_too_many (at_chain _ _ (at_taken _ (at_field function)) (λ _. at_gives _)))
 
@@ -303,20 +303,20 @@ module _ (text : List ℕ) where
   unfolding result_type
   at_result_type = at_chain _ _ (at_token _) (λ _. at_expression)
 
-  at_combinator : (function : Bool) (n : NameText) (d : Described) → Placed (combinator text function n d)
+  at_combinator : (function : Bool) (n : NameText) (d : List Piece) → Placed (combinator text function n d)
   unfolding combinator
   at_combinator function n d =
       at_chain _ _ (at_taken _ (at_number _)) (λ _. at_chain _ _ (at_taken _ at_variables) (λ _. at_chain _ _ (at_fields _ _ _) (λ _.
-      at_chain _ _ (at_taken _ at_result_type) (λ _. at_chain _ _ (at_token _) (λ _. at_gives _)))))
+      at_chain _ _ (at_taken _ at_result_type) (λ _. at_chain _ _ (at_token _) (λ _. at_chain _ _ (at_description _) (λ _. at_gives _))))))
 
-  at_named : (function : Bool) (n : NameText) (d : Described) (o : Option BuiltIn) → Placed (named_declaration text function n d o)
+  at_named : (function : Bool) (n : NameText) (d : List Piece) (o : Option BuiltIn) → Placed (named_declaration text function n d o)
   unfolding built_in_line
   at_named function n d (Some b) = at_chain _ _ (at_line_number b _) (λ _. at_chain _ _ (at_line_form b) (λ _. at_gives _))
   at_named function n d None = at_combinator function n d
 
   at_declaration : (function : Bool) → Placed (declaration text function)
   unfolding declaration
-  at_declaration function = at_chain _ _ (at_here _) (λ _. at_chain _ _ (at_taken _ at_declared_name) (λ n. at_named function n.0 _ _))
+  at_declaration function = at_chain _ _ (at_taken _ at_declared_name) (λ n. at_named function n.0 _ _)
 
   at_where : {A : Type 0} (r : Rule Token SyntaxFault A) → Placed r → Placed (where_declaration text r)
   unfolding where_declaration

@@ -1,10 +1,10 @@
 -- The laws of a rule: it is sure, it is whole, and what it reads is a row of tokens.
-use Rattle.std.proofs.Common.{ℕ, List}
-use Rattle.tl_lexer.specs.Rule.{Rule, gives, fails, here, one, chain, choice, loop}
-use Rattle.tl_lexer.proofs.Sure.{Sure, sure_gives, sure_fails, sure_here, sure_one, sure_chain, sure_choice, sure_loop}
-use Rattle.tl_lexer.proofs.Whole.{Whole, Decided, whole_gives, whole_fails, whole_here, whole_one, whole_chain, whole_choice, whole_loop}
+use Rattle.std.proofs.Common.{List}
+use Rattle.tl_lexer.specs.Rule.{Rule, gives, fails, one, chain, choice, loop}
+use Rattle.tl_lexer.proofs.Sure.{Sure, sure_gives, sure_fails, sure_one, sure_chain, sure_choice, sure_loop}
+use Rattle.tl_lexer.proofs.Whole.{Whole, Decided, whole_gives, whole_fails, whole_one, whole_chain, whole_choice, whole_loop}
 use Rattle.tl_combinators.specs.Taken.{taken}
-use Rattle.tl_combinators.proofs.Rows.{Rows, Shorter, rows_gives, rows_fails, rows_here, rows_one, rows_chain, rows_choice, rows_loop, rows_taken, shorter_before, shorter_behind}
+use Rattle.tl_combinators.proofs.Rows.{Rows, Shorter, rows_gives, rows_fails, rows_one, rows_chain, rows_choice, rows_loop, rows_taken, shorter_before, shorter_behind}
 use Rattle.tl_combinators.proofs.TakenRows.{sure_taken, whole_taken}
 
 pub record Lawful {T F A : Type 0} (r : Rule T F A) : Type 0 where
@@ -17,9 +17,6 @@ lawful_gives a = record { sure = sure_gives a; rows = rows_gives a; whole = whol
 
 pub lawful_fails : {T F A : Type 0} (fault_at : List T → F) → Lawful {A = A} (fails fault_at)
 lawful_fails fault_at = record { sure = sure_fails fault_at; rows = rows_fails fault_at; whole = whole_fails fault_at }
-
-pub lawful_here : {T F : Type 0} (place : List T → ℕ) → Lawful {F = F} (here place)
-lawful_here place = record { sure = sure_here place; rows = rows_here place; whole = whole_here place }
 
 pub lawful_one : {T F : Type 0} (fault_at : List T → F) (P : T → Type 0) → ((t : T) → Decided (P t)) → Lawful (one fault_at P)
 lawful_one fault_at P test = record { sure = sure_one fault_at P; rows = rows_one fault_at P; whole = whole_one fault_at P test }

@@ -15,13 +15,15 @@ use Rattle.tl_combinators.specs.Tokens.{bytes_of, unexpected, is_letter, is_lowe
 use Rattle.tl_combinators.specs.Names.{NameText, IsObject, name_from, name, declared_name, type_name, hex, vector_hex, number_by, number, vector_line_number}
 use Rattle.tl_combinators.specs.Trees.{Tree}
 use Rattle.tl_combinators.specs.Types.{level_limit, one_opens, opens, closes, in_parens, one_term, terms, one_listed, listed, applied, application, no_level, behind_percent, bare, core, type_in, term, expression, at_end, whole_type}
-use Rattle.tl_combinators.specs.Description.{Described}
-use Rattle.tl_combinators.specs.Fields.{bit_value, IsBit, HasBit, bit, condition, called, in_condition, held, where_field, field, field_too_many, FieldsText, fields_text, part_limit, one_field, fields}
+use Rattle.tl_combinators.specs.Description.{Piece}
+use Rattle.tl_combinators.specs.Program.{declaration_limit, part_limit}
+use Rattle.tl_combinators.specs.Fields.{bit_value, IsBit, HasBit, bit, condition, called, in_condition, held, where_field, field, field_too_many, FieldsText, fields_text, one_field, fields}
 use Rattle.tl_combinators.specs.BuiltIns.{this_type, sort, boxed, opaque, bracketed, repeated, element, vector_result, vector, line_form, line_number, built_in, built_in_line}
 use Rattle.tl_combinators.specs.Declarations.{variable, one_variable, variables, result_type, combinator, named_declaration, declaration, where_declaration, declaration_too_many}
-use Rattle.tl_combinators.specs.Sentences.{ProgramText, program_so_far, declaration_limit, section, mark, one_declaration, item, program}
+use Rattle.tl_combinators.specs.Sentences.{ProgramText, program_so_far, section, mark, one_declaration, item, program}
 use Rattle.tl_combinators.proofs.Rows.{Shorter, shorter_one, shorter_fails, shorter_choice, shorter_taken}
-use Rattle.tl_combinators.proofs.Lawful.{Lawful, lawful_gives, lawful_fails, lawful_here, lawful_one, lawful_chain, lawful_choice, lawful_loop, lawful_taken, shorter_first, shorter_then}
+use Rattle.tl_combinators.proofs.Lawful.{Lawful, lawful_gives, lawful_fails, lawful_one, lawful_chain, lawful_choice, lawful_loop, lawful_taken, shorter_first, shorter_then}
+use Rattle.tl_combinators.proofs.DescribedRule.{lawful_description}
 use Rattle.tl_combinators.proofs.Decided.{decided_not, true_decided}
 use Rattle.tl_combinators.proofs.DecidedTokens.{kind_decided, begins_decided, place_decided, word_decided, this_decided, space_decided, last_decided, lifecycle_decided, hex_decided, other_number_decided, bit_decided, condition_decided, term_decided, type_decided, multiplicity_decided, unnamed_decided, end_decided}
 
@@ -313,7 +315,7 @@ shorter_one_field : (text : List ℕ) (function : Bool) (vars : ℕ) (s : Fields
 unfolding one_field
 shorter_one_field text function vars s = shorter_choice _ _ _ (shorter_field_too_many _) (shorter_first _ _ (shorter_taken _ (shorter_field _ _)) (λ f. lawful_gives _))
 
-lawful_fields : (text : List ℕ) (function : Bool) (vars : ℕ) (d : Described) → Lawful (fields text function vars d)
+lawful_fields : (text : List ℕ) (function : Bool) (vars : ℕ) (d : List Piece) → Lawful (fields text function vars d)
 unfolding fields
 lawful_fields text function vars d = lawful_loop _ (one_field text function vars) (λ ts. decided_not (begins_decided Equals ts)) (lawful_one_field text function vars) (shorter_one_field text function vars) (fields_text [] d)
 
@@ -412,24 +414,24 @@ lawful_result_type : (text : List ℕ) → Lawful (result_type text)
 unfolding result_type
 lawful_result_type text = lawful_chain _ _ (lawful_token _ _) (λ e. lawful_expression _)
 
-lawful_combinator : (text : List ℕ) (function : Bool) (n : NameText) (d : Described) → Lawful (combinator text function n d)
+lawful_combinator : (text : List ℕ) (function : Bool) (n : NameText) (d : List Piece) → Lawful (combinator text function n d)
 unfolding combinator
 lawful_combinator text function n d =
     lawful_chain _ _ (lawful_taken _ (lawful_number _ _)) (λ i. lawful_chain _ _ (lawful_taken _ (lawful_variables _)) (λ vs. lawful_chain _ _ (lawful_fields _ _ _ _) (λ fs.
-    lawful_chain _ _ (lawful_taken _ (lawful_result_type _)) (λ t. lawful_chain _ _ (lawful_token _ _) (λ s. lawful_gives _)))))
+    lawful_chain _ _ (lawful_taken _ (lawful_result_type _)) (λ t. lawful_chain _ _ (lawful_token _ _) (λ s. lawful_chain _ _ (lawful_description _) (λ d. lawful_gives _))))))
 
-lawful_named_declaration : (text : List ℕ) (function : Bool) (n : NameText) (d : Described) (o : Option BuiltIn) → Lawful (named_declaration text function n d o)
+lawful_named_declaration : (text : List ℕ) (function : Bool) (n : NameText) (d : List Piece) (o : Option BuiltIn) → Lawful (named_declaration text function n d o)
 lawful_named_declaration text function n d (Some b) = lawful_built_in_line text b n
 lawful_named_declaration text function n d None = lawful_combinator text function n d
 
 lawful_declaration : (text : List ℕ) (function : Bool) → Lawful (declaration text function)
 unfolding declaration
-lawful_declaration text function = lawful_chain _ _ (lawful_here _) (λ start. lawful_chain _ _ (lawful_taken _ (lawful_declared_name _)) (λ n. lawful_named_declaration text function n.0 _ (built_in n.0.bytes)))
+lawful_declaration text function = lawful_chain _ _ (lawful_taken _ (lawful_declared_name _)) (λ n. lawful_named_declaration text function n.0 _ (built_in n.0.bytes))
 
 shorter_declaration : (text : List ℕ) (function : Bool) → Shorter (declaration text function)
 unfolding declaration
 shorter_declaration text function =
-    shorter_then _ _ (lawful_here _) (λ start. shorter_first _ _ (shorter_taken _ (shorter_declared_name _)) (λ n. lawful_named_declaration text function n.0 _ (built_in n.0.bytes)))
+    shorter_first _ _ (shorter_taken _ (shorter_declared_name _)) (λ n. lawful_named_declaration text function n.0 _ (built_in n.0.bytes))
 
 lawful_where_declaration : {A : Type 0} (text : List ℕ) (r : Rule Token SyntaxFault A) → Lawful r → Lawful (where_declaration text r)
 unfolding where_declaration

@@ -9,6 +9,8 @@ mod TokenParts
 pub mod AppliedNames
 mod Conditions
 mod Counts
+pub mod Describing
+pub mod DescribedRule
 mod EqualDescriptions
 mod Rows
 mod TakenRows
@@ -21,4 +23,5 @@ mod Exact
 pub mod Decided
 pub mod Values
 pub mod WrittenNumbers
+pub mod WithinLimits
 pub mod Causes

@@ -1,7 +1,7 @@
 -- What a rule reads is the front of what stands there; with a token at least, what is left is shorter.
-use Rattle.std.proofs.Common.{◌≡◌, ℕ, ◌<◌, ◌≤◌, List, [], ◌∷◌, ◌++◌, length, refl, sym, ◌∙◌, ap, append_assoc, length-append, arith}
-use Rattle.tl_lexer.specs.Rule.{Rule, gives, fails, here, one, chain, choice, loop}
-use Rattle.tl_lexer.proofs.Behind.{Shrinks, Shortens, leads_fails, leads_choice, leads_gives, leads_here, leads_chain, leads_loop, shortens_one, shortens_first, shortens_then}
+use Rattle.std.proofs.Common.{◌≡◌, ◌<◌, ◌≤◌, List, [], ◌∷◌, ◌++◌, length, refl, sym, ◌∙◌, ap, append_assoc, length-append, arith}
+use Rattle.tl_lexer.specs.Rule.{Rule, gives, fails, one, chain, choice, loop}
+use Rattle.tl_lexer.proofs.Behind.{Shrinks, Shortens, leads_fails, leads_choice, leads_gives, leads_chain, leads_loop, shortens_one, shortens_first, shortens_then}
 use Rattle.tl_combinators.specs.Taken.{taken}
 
 -- some row stands before rest
@@ -24,9 +24,6 @@ two_rows a b c (xs, p) (ys, q) = (xs ++ ys, p ∙ ap (λ z. xs ++ z) q ∙ sym (
 
 pub rows_gives : {T F A : Type 0} (a : A) → Rows {T = T} {F = F} (gives a)
 rows_gives {F = F} a = record { given = leads_gives IsBehind no_row two_rows F a }
-
-pub rows_here : {T F : Type 0} (place : List T → ℕ) → Rows {F = F} (here place)
-rows_here {F = F} place = record { given = leads_here IsBehind no_row two_rows F place }
 
 pub rows_fails : {T F A : Type 0} (fault_at : List T → F) → Rows {A = A} (fails fault_at)
 rows_fails {A = A} fault_at = record { given = leads_fails A IsBehind fault_at }

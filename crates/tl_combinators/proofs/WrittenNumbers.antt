@@ -12,7 +12,7 @@ use Rattle.tl_combinators.specs.declared.built_in.BuiltIn.TheVariants.{Int, Long
 use Rattle.tl_combinators.specs.Tokens.{bytes_of}
 use Rattle.tl_combinators.specs.Names.{NameText, hex, vector_hex, number_by, number, vector_line_number}
 use Rattle.tl_combinators.specs.Program.{DeclText}
-use Rattle.tl_combinators.specs.Description.{Described}
+use Rattle.tl_combinators.specs.Description.{Piece}
 use Rattle.tl_combinators.specs.BuiltIns.{line_number, built_in_line}
 use Rattle.tl_combinators.specs.Declarations.{combinator, named_declaration, declaration, where_declaration, declaration_too_many}
 use Rattle.tl_combinators.specs.Sentences.{ProgramText, one_declaration, item, program, Reads}
@@ -99,19 +99,19 @@ module _ (text : List ℕ) where
   unfolding built_in_line
   built_in_small b n = only_chain _ _ _ (λ i ts mid p. only_chain _ _ _ (λ _ _ _ _. only_gives HasSmall _ ((line_number_small b n.end).each ts mid i p)))
 
-  combinator_small : (function : Bool) (n : NameText) (d : Described) → Only (combinator text function n d) HasSmall
+  combinator_small : (function : Bool) (n : NameText) (d : List Piece) → Only (combinator text function n d) HasSmall
   unfolding combinator
   combinator_small function n d =
-      only_chain _ _ _ (λ i ts mid p. only_chain _ _ _ (λ vs _ _ _. only_chain _ _ _ (λ fs _ _ _. only_chain _ _ _ (λ t _ _ _. only_chain _ _ _ (λ s _ _ _.
-      only_gives HasSmall _ ((only_taken IsSmall _ (number_small n.end)).each ts mid i p))))))
+      only_chain _ _ _ (λ i ts mid p. only_chain _ _ _ (λ vs _ _ _. only_chain _ _ _ (λ fs _ _ _. only_chain _ _ _ (λ t _ _ _. only_chain _ _ _ (λ s _ _ _. only_chain _ _ _ (λ _ _ _ _.
+      only_gives HasSmall _ ((only_taken IsSmall _ (number_small n.end)).each ts mid i p)))))))
 
-  named_small : (function : Bool) (n : NameText) (d : Described) (o : Option BuiltIn) → Only (named_declaration text function n d o) HasSmall
+  named_small : (function : Bool) (n : NameText) (d : List Piece) (o : Option BuiltIn) → Only (named_declaration text function n d o) HasSmall
   named_small function n d (Some b) = built_in_small b n
   named_small function n d None = combinator_small function n d
 
   declaration_small : (function : Bool) → Only (declaration text function) HasSmall
   unfolding declaration
-  declaration_small function = only_chain _ _ _ (λ start _ _ _. only_chain _ _ _ (λ n _ _ _. named_small function n.0 _ _))
+  declaration_small function = only_chain _ _ _ (λ n _ _ _. named_small function n.0 _ _)
 
   where_small : {A : Type 0} (I : A → Type 0) (r : Rule Token SyntaxFault A) → Only r I → Only (where_declaration text r) I
   unfolding where_declaration

@@ -24,7 +24,7 @@ own_name Vector = codes "vector"
 own_name Int128 = codes "int128"
 own_name Int256 = codes "int256"
 
--- its boxed type, which stands behind `=`
+-- its boxed type, which stands after `=`
 abbrev pub boxed_name : BuiltIn → List ℕ
 boxed_name Int = codes "Int"
 boxed_name Long = codes "Long"
@@ -47,7 +47,7 @@ built_in name =
 unfoldable pub this_type : List ℕ → List ℕ → Rule Token SyntaxFault Token
 this_type text bytes = choice (Next (IsObject text)) (fails (not_profile text ObjectType)) (this_word text bytes)
 
--- behind the colon in braces: the Word `Type`
+-- after the colon in braces: the Word `Type`
 unfoldable pub sort : List ℕ → Rule Token SyntaxFault Token
 sort text = choice (Begins Hash) (fails (not_profile text DependentNumber)) (this_word text (codes "Type"))
 
@@ -84,7 +84,7 @@ vector_result text =
 unfoldable pub vector : List ℕ → Rule Token SyntaxFault (Unit {0})
 vector text = chain (element text) (λ _. chain (token text Hash) (λ h. chain (bracketed text (codes "t")) (λ _. vector_result text)))
 
--- what stands behind the name and the number of a line
+-- what stands after the name and the number of a line
 abbrev pub line_form : List ℕ → BuiltIn → Rule Token SyntaxFault (Unit {0})
 line_form text Int = opaque text (boxed_name Int)
 line_form text Long = opaque text (boxed_name Long)
@@ -95,7 +95,7 @@ line_form text Vector = vector text
 line_form text Int128 = repeated text (codes "4") (boxed_name Int128)
 line_form text Int256 = repeated text (codes "8") (boxed_name Int256)
 
--- the number behind its name
+-- the number after its name
 abbrev pub line_number : List ℕ → BuiltIn → ℕ → Rule Token SyntaxFault (Option ℕ)
 line_number text Int edge = number text edge
 line_number text Long edge = number text edge
@@ -119,6 +119,6 @@ line_text b number = record {
   text = [];
 }
 
--- a line, behind its name
+-- a line, after its name
 unfoldable pub built_in_line : List ℕ → BuiltIn → NameText → Rule Token SyntaxFault DeclText
 built_in_line text b n = chain (line_number text b n.end) (λ i. chain (line_form text b) (λ _. gives (line_text b i)))

@@ -1,20 +1,20 @@
 -- Program text: declarations.
 -- From "TL language" (core.telegram.org/mtproto/TL) and "Formal description of TL" (core.telegram.org/mtproto/TL-formal), its combinator declarations.
 use Rattle.std.specs.Prelude.{◌≡◌, ◌⊎◌, ℕ, List, [], ◌∷◌, ◌++◌, length, Bool, false, Option, Some, None, codes}
-use Rattle.tl_lexer.specs.Rule.{Rule, gives, fails, here, chain, choice, loop, Next}
+use Rattle.tl_lexer.specs.Rule.{Rule, gives, fails, chain, choice, loop, Next}
 use Rattle.tl_lexer.specs.declared.token.Token.{Token}
 use Rattle.tl_lexer.specs.declared.token.TokenKind.TheVariants.{Colon, Semi, Equals, LBrace, RBrace}
 use Rattle.tl_combinators.specs.declared.fault.SyntaxFault.{SyntaxFault}
 use Rattle.tl_combinators.specs.declared.fault.Form.TheVariants.{Lifecycle, PartialApplication, Anonymous}
 use Rattle.tl_combinators.specs.declared.built_in.BuiltIn.{BuiltIn}
 use Rattle.tl_combinators.specs.Taken.{taken}
-use Rattle.tl_combinators.specs.Tokens.{bytes_of, place, unexpected, not_profile, too_many, Begins, token, IsWord, IsThis, is_lower, is_upper, letter_word}
+use Rattle.tl_combinators.specs.Tokens.{bytes_of, unexpected, not_profile, too_many, Begins, token, IsWord, IsThis, is_lower, is_upper, letter_word}
 use Rattle.tl_combinators.specs.Names.{NameText, declared_name, number}
 use Rattle.tl_combinators.specs.Trees.{Tree}
 use Rattle.tl_combinators.specs.Types.{expression}
-use Rattle.tl_combinators.specs.Program.{DeclText}
-use Rattle.tl_combinators.specs.Description.{Described, undescribed, all_shown, all_left_out}
-use Rattle.tl_combinators.specs.Fields.{fields, part_limit}
+use Rattle.tl_combinators.specs.Program.{part_limit, DeclText}
+use Rattle.tl_combinators.specs.Description.{Piece, pieces, left_out, description}
+use Rattle.tl_combinators.specs.Fields.{fields}
 use Rattle.tl_combinators.specs.BuiltIns.{sort, built_in, built_in_line}
 
 -- ---- variables
@@ -39,14 +39,15 @@ variables text = loop (Begins LBrace) (one_variable text) []
 unfoldable pub result_type : List ℕ → Rule Token SyntaxFault Tree
 result_type text = chain (token text Equals) (λ e. expression text)
 
--- a constructor or a function, behind its name, which is described
-unfoldable pub combinator : List ℕ → Bool → NameText → Described → Rule Token SyntaxFault DeclText
-combinator text function n d =
+-- a constructor or a function, after its name, which is these pieces
+unfoldable pub combinator : List ℕ → Bool → NameText → List Piece → Rule Token SyntaxFault DeclText
+combinator text function n ps =
     chain (taken (number text n.end)) (λ i.
     chain (taken (variables text)) (λ vs.
-    chain (fields text function (length vs.0) (all_shown text vs.1 (all_left_out i.1 d))) (λ fs.
+    chain (fields text function (length vs.0) ((ps ++ left_out i.1) ++ pieces text vs.1)) (λ fs.
     chain (taken (result_type text)) (λ t.
     chain (token text Semi) (λ s.
+    chain (description (fs.pieces ++ pieces text t.1)) (λ described.
     gives (record {
       name = n.bytes;
       number = i.0;
@@ -55,19 +56,18 @@ combinator text function n d =
       result = t.0;
       function = function;
       builtin = false;
-      text = (all_shown text t.1 fs.described).bytes;
-    }))))))
+      text = described;
+    })))))))
 
 -- what its name makes of a declaration: the line of a built-in type, or a combinator
-abbrev pub named_declaration : List ℕ → Bool → NameText → Described → Option BuiltIn → Rule Token SyntaxFault DeclText
-named_declaration text function n d (Some b) = built_in_line text b n
-named_declaration text function n d None = combinator text function n d
+abbrev pub named_declaration : List ℕ → Bool → NameText → List Piece → Option BuiltIn → Rule Token SyntaxFault DeclText
+named_declaration text function n ps (Some b) = built_in_line text b n
+named_declaration text function n ps None = combinator text function n ps
 
 -- a declaration; function says whether it stands in a section of functions
 unfoldable pub declaration : List ℕ → Bool → Rule Token SyntaxFault DeclText
 declaration text function =
-    chain (here (place text)) (λ start. chain (taken (declared_name text)) (λ n.
-    named_declaration text function n.0 (all_shown text n.1 (undescribed start)) (built_in n.0.bytes)))
+    chain (taken (declared_name text)) (λ n. named_declaration text function n.0 (pieces text n.1) (built_in n.0.bytes))
 
 -- ---- where a declaration is expected
 

@@ -1,9 +1,9 @@
--- Program text: the description of a declaration, on which an unwritten number rests.
--- This project's own: the declaration's tokens in order without the number, braces, `;`, `>` and flags. `<` is a space,
--- and a Word `bytes` that is a field's whole type is `string`. Between two tokens stands one space where white space, a
--- comment or `<` stands anywhere between them, and nothing otherwise.
-use Rattle.std.specs.Prelude.{ℕ, List, [], ◌∷◌, ◌++◌, take, drop, nat_lt, ◌||◌, Bool, true, false, Option, Some, None, bytes_eq, if◌then◌else◌, codes}
-use Rattle.std.specs.List.{fold}
+-- Program text: the description of a declaration, on which an unwritten number rests. This project's own.
+-- It is the kept tokens in order; one space exactly where white space, a comment or a `<` stands anywhere between two of
+-- them, and nothing otherwise.
+use Rattle.std.specs.Prelude.{◌≡◌, ◌⊎◌, ℕ, ◌<◌, List, [], ◌∷◌, ◌++◌, map, take, drop, Option, Some, None, bytes_eq, if◌then◌else◌, codes}
+use Rattle.std.specs.List.{All}
+use Rattle.tl_lexer.specs.Rule.{Rule}
 use Rattle.tl_lexer.specs.declared.token.Token.{Token}
 use Rattle.tl_lexer.specs.declared.token.TokenKind.{TokenKind}
 use Rattle.tl_lexer.specs.declared.token.TokenKind.TheVariants.{Word, Dashes, Hash, Colon, Semi, Equals, Query, Dot, Bang, Percent, LBrace, RBrace, LBracket, RBracket, Less, Greater, LParen, RParen, Star, Comma, Plus}
@@ -11,39 +11,64 @@ use Rattle.tl_combinators.specs.declared.description.Showing.{Showing}
 use Rattle.tl_combinators.specs.declared.description.Showing.TheVariants.{Itself, Nothing, Space}
 use Rattle.tl_combinators.specs.declared.description.FieldShowing.{FieldShowing}
 use Rattle.tl_combinators.specs.declared.description.FieldShowing.TheVariants.{Hidden, WithString, Written}
+use Rattle.tl_combinators.specs.declared.fault.SyntaxFault.{SyntaxFault}
 use Rattle.tl_combinators.specs.Tokens.{bytes_of}
 use Rattle.tl_combinators.specs.Trees.{is_plain}
 use Rattle.tl_combinators.specs.Program.{KindText, nat, flag, call, of, CondText, FieldText}
 
--- the description so far: its bytes, where its last token ends, and whether a space is due before the next one that is shown
-pub record Described : Type 0 where
-  pub bytes : List ℕ
-  pub edge : ℕ
-  pub gap : Bool
+-- ---- pieces, and what describes them
 
--- nothing is described of what begins at this byte
-abbrev pub undescribed : ℕ → Described
-undescribed edge = record { bytes = []; edge = edge; gap = false }
+-- a token of a declaration, and what it is in the description: kept as these bytes, left out, or a space, as `<` is
+pub data Piece : Type 0 where
+  kept : Token → List ℕ → Piece
+  omitted : Token → Piece
+  spaced : Token → Piece
 
--- a space is due before the token
-abbrev pub gap_before : Described → Token → Bool
-gap_before d t = d.gap || nat_lt d.edge t.start
+-- the token of a piece
+abbrev pub token_of : Piece → Token
+token_of (kept t bytes) = t
+token_of (omitted t) = t
+token_of (spaced t) = t
 
--- one space, where one is due
-abbrev pub space : Bool → List ℕ
-space gap = if gap then 32 ∷ [] else []
+-- no bytes of the piece are kept
+abbrev pub IsLeftOut : Piece → Type 0
+IsLeftOut (kept t bytes) = ⊥
+IsLeftOut (omitted t) = Unit {0}
+IsLeftOut (spaced t) = Unit {0}
 
--- the token is shown as these bytes
-abbrev pub shown_as : List ℕ → Described → Token → Described
-shown_as bytes d t = record { bytes = (d.bytes ++ space (gap_before d t)) ++ bytes; edge = t.end; gap = false }
+-- the piece is a space
+abbrev pub IsSpaced : Piece → Type 0
+IsSpaced (kept t bytes) = ⊥
+IsSpaced (omitted t) = ⊥
+IsSpaced (spaced t) = Unit {0}
 
--- the token is left out
-abbrev pub left_out : Described → Token → Described
-left_out d t = record { bytes = d.bytes; edge = t.end; gap = gap_before d t }
+-- white space or a comment stands between two neighbours
+abbrev pub AreParted : Token → Token → Type 0
+AreParted a b = a.end < b.start
 
--- the token is a space
-abbrev pub as_space : Described → Token → Described
-as_space d t = record { bytes = d.bytes; edge = t.end; gap = true }
+-- two tokens, with the pieces between them: white space, a comment or a `<` stands anywhere between the two
+abbrev pub AreApart : Token → List Piece → Token → Type 0
+AreApart a [] b = AreParted a b
+AreApart a (p ∷ ps) b = AreParted a (token_of p) ⊎ IsSpaced p ⊎ AreApart (token_of p) ps b
+
+-- one space exactly where P holds, and nothing otherwise
+abbrev pub IsSpaceWhere : Type 0 → List ℕ → Type 0
+IsSpaceWhere P space = (P × (space ≡ 32 ∷ [])) ⊎ ((P → ⊥) × (space ≡ []))
+
+-- no piece is kept: nothing; one is kept: its bytes; else the first kept one's bytes, one space where the next kept one is
+-- apart from it, and what describes the pieces from that one on
+pub data Describes : List Piece → List ℕ → Type 0 where
+  none_kept : (ps : List Piece) → All IsLeftOut ps → Describes ps []
+  one_kept : (before after : List Piece) (a : Token) (bytes : List ℕ) → All IsLeftOut before → All IsLeftOut after → Describes (before ++ (kept a bytes ∷ after)) bytes
+  next_kept : (before between after : List Piece) (a b : Token) (bytes others space text : List ℕ) → All IsLeftOut before → All IsLeftOut between → IsSpaceWhere (AreApart a between b) space
+      → Describes (kept b others ∷ after) text → Describes (before ++ (kept a bytes ∷ (between ++ (kept b others ∷ after)))) (bytes ++ (space ++ text))
+
+-- the description of the pieces, for which no token is taken
+unfoldable pub description : List Piece → Rule Token SyntaxFault (List ℕ)
+description ps = record { reads = λ ts text rest. Describes ps text × (rest ≡ ts); refused = λ ts fault. ⊥ }
+
+-- ---- the pieces of a declaration: its number, braces, `;`, `>` and flags are left out, `<` is a space, and a Word
+-- `bytes` that is a field's whole type is kept as `string`
 
 -- what becomes of a token of a kind
 abbrev pub showing : TokenKind → Showing
@@ -69,31 +94,31 @@ showing Star = Itself
 showing Comma = Itself
 showing Plus = Itself
 
--- what is described behind a token of which this becomes
-abbrev pub shown_by : Showing → List ℕ → Described → Token → Described
-shown_by Itself text d t = shown_as (bytes_of text t) d t
-shown_by Nothing text d t = left_out d t
-shown_by Space text d t = as_space d t
+-- the piece of a token of which this becomes
+abbrev pub piece_by : Showing → List ℕ → Token → Piece
+piece_by Itself text t = kept t (bytes_of text t)
+piece_by Nothing text t = omitted t
+piece_by Space text t = spaced t
 
--- one more token
-abbrev pub shown : List ℕ → Described → Token → Described
-shown text d t = shown_by (showing t.kind) text d t
+-- the piece of a token
+abbrev pub piece : List ℕ → Token → Piece
+piece text t = piece_by (showing t.kind) text t
 
--- one more token of a field's type that is `bytes` alone
-abbrev pub shown_as_string : List ℕ → Described → Token → Described
-shown_as_string text d t = if bytes_eq (bytes_of text t) (codes "bytes") then shown_as (codes "string") d t else shown text d t
+-- that of a token of a field's type that is `bytes` alone
+abbrev pub string_piece : List ℕ → Token → Piece
+string_piece text t = if bytes_eq (bytes_of text t) (codes "bytes") then kept t (codes "string") else piece text t
 
--- tokens one after the other
-abbrev pub all_shown : List ℕ → List Token → Described → Described
-all_shown text ts d = fold (shown text) d ts
+-- the pieces of tokens
+abbrev pub pieces : List ℕ → List Token → List Piece
+pieces text ts = map (piece text) ts
 
 -- those of a field's type that is `bytes` alone
-abbrev pub all_as_string : List ℕ → List Token → Described → Described
-all_as_string text ts d = fold (shown_as_string text) d ts
+abbrev pub string_pieces : List ℕ → List Token → List Piece
+string_pieces text ts = map (string_piece text) ts
 
--- none of them is shown
-abbrev pub all_left_out : List Token → Described → Described
-all_left_out ts d = fold left_out d ts
+-- none of the tokens is kept
+abbrev pub left_out : List Token → List Piece
+left_out ts = map (λ t. omitted t) ts
 
 -- ---- fields
 
@@ -109,12 +134,12 @@ abbrev pub before_type : Option CondText → ℕ
 before_type None = 2
 before_type (Some c) = 6
 
--- the tokens of a field, of which so many stand before its type
-abbrev pub field_shown_by : FieldShowing → List ℕ → ℕ → List Token → Described → Described
-field_shown_by Hidden text front ts d = all_left_out ts d
-field_shown_by WithString text front ts d = all_as_string text (drop front ts) (all_shown text (take front ts) d)
-field_shown_by Written text front ts d = all_shown text ts d
+-- the pieces of a field, of whose tokens so many stand before its type
+abbrev pub field_pieces_by : FieldShowing → List ℕ → ℕ → List Token → List Piece
+field_pieces_by Hidden text front ts = left_out ts
+field_pieces_by WithString text front ts = pieces text (take front ts) ++ string_pieces text (drop front ts)
+field_pieces_by Written text front ts = pieces text ts
 
--- the tokens of a field
-abbrev pub field_shown : List ℕ → FieldText → List Token → Described → Described
-field_shown text f ts d = field_shown_by (field_showing f.kind) text (before_type f.cond) ts d
+-- the pieces of a field
+abbrev pub field_pieces : List ℕ → FieldText → List Token → List Piece
+field_pieces text f ts = field_pieces_by (field_showing f.kind) text (before_type f.cond) ts

@@ -11,8 +11,8 @@ use Rattle.tl_combinators.specs.Tokens.{bytes_of, unexpected, not_profile, too_m
 use Rattle.tl_combinators.specs.Trees.{Tree, is_plain}
 use Rattle.tl_combinators.specs.Types.{term}
 use Rattle.tl_combinators.specs.declared.fields.Held.{Held}
-use Rattle.tl_combinators.specs.Program.{KindText, nat, flag, call, of, CondText, FieldText, cond_texts, kind_text}
-use Rattle.tl_combinators.specs.Description.{Described, field_shown}
+use Rattle.tl_combinators.specs.Program.{part_limit, KindText, nat, flag, call, of, CondText, FieldText, cond_texts, kind_text}
+use Rattle.tl_combinators.specs.Description.{Piece, field_pieces}
 
 -- ---- conditions
 
@@ -67,7 +67,7 @@ condition text =
 
 -- ---- what a field holds
 
--- behind a condition the type `true` is a flag
+-- after a condition the type `true` is a flag
 abbrev pub conditional : Tree → KindText
 conditional t = if is_plain (codes "true") t then flag else of t
 
@@ -91,7 +91,7 @@ called text function =
 unfoldable pub in_condition : List ℕ → Rule Token SyntaxFault HeldText
 in_condition text = chain (condition text) (λ c. chain (term text) (λ t. gives (record { cond = Some c; kind = conditional t })))
 
--- what stands behind the colon of a field
+-- what stands after the colon of a field
 unfoldable pub held : List ℕ → Bool → Rule Token SyntaxFault HeldText
 held text function =
     choice (Begins Hash) (chain (token text Hash) (λ h. gives (record { cond = None; kind = nat })))
@@ -105,7 +105,7 @@ held text function =
 abbrev pub BeginsMultiplicity : List ℕ → List Token → Type 0
 BeginsMultiplicity text ts = Begins LBracket ts ⊎ Begins Star ts ⊎ Next (IsWord text is_digit) ts
 
--- a Word without a `:` behind it
+-- a Word without a `:` after it
 abbrev pub IsLone : List ℕ → List Token → Type 0
 IsLone text [] = ⊥
 IsLone text (t ∷ ts) = IsWord text is_letter t × (Begins Colon ts → ⊥)
@@ -130,26 +130,22 @@ field text function =
 unfoldable pub field_too_many : {A : Type 0} → List ℕ → Rule Token SyntaxFault A
 field_too_many text = where_field text (choice (Next (IsWord text is_letter)) (fails (too_many text)) (fails (unexpected text)))
 
--- a declaration has at most so many variables and fields together
-abbrev pub part_limit : ℕ
-part_limit = 256
-
--- fields, and what is described with them
+-- fields, and the pieces of the declaration's description up to their end
 pub record FieldsText : Type 0 where
   pub fields : List FieldText
-  pub described : Described
+  pub pieces : List Piece
 
--- these fields, with this description
-abbrev pub fields_text : List FieldText → Described → FieldsText
-fields_text fs d = record { fields = fs; described = d }
+-- these fields, with these pieces
+abbrev pub fields_text : List FieldText → List Piece → FieldsText
+fields_text fs ps = record { fields = fs; pieces = ps }
 
 -- one more field, with so many variables before all of them
 unfoldable pub one_field : List ℕ → Bool → ℕ → FieldsText → Rule Token SyntaxFault FieldsText
 one_field text function vars s =
     choice (λ ts. vars + length s.fields ≡ part_limit) (field_too_many text)
     (chain (taken (field text function)) (λ f.
-    gives (fields_text (s.fields ++ (f.0 ∷ [])) (field_shown text f.0 f.1 s.described))))
+    gives (fields_text (s.fields ++ (f.0 ∷ [])) (s.pieces ++ field_pieces text f.0 f.1))))
 
 -- fields up to `=`
-unfoldable pub fields : List ℕ → Bool → ℕ → Described → Rule Token SyntaxFault FieldsText
-fields text function vars d = loop (λ ts. Begins Equals ts → ⊥) (one_field text function vars) (fields_text [] d)
+unfoldable pub fields : List ℕ → Bool → ℕ → List Piece → Rule Token SyntaxFault FieldsText
+fields text function vars ps = loop (λ ts. Begins Equals ts → ⊥) (one_field text function vars) (fields_text [] ps)

@@ -6,6 +6,7 @@ pub mod Types
 pub mod Program
 pub mod Description
 pub mod Fields
+pub mod DescriptionSoFar
 pub mod BuiltIns
 pub mod Declarations
 pub mod Sentences

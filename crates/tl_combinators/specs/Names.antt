@@ -2,6 +2,7 @@
 -- From "TL language" (core.telegram.org/mtproto/TL) and "Formal description of TL" (core.telegram.org/mtproto/TL-formal), its identifiers.
 use Rattle.std.specs.Prelude.{◌≡◌, ◌≢◌, ℕ, List, [], ◌∷◌, ◌++◌, Bool, Option, Some, None, codes}
 use Rattle.tl_numbers.specs.HexText.{IsHexText, hex_value}
+use Rattle.tl_base.specs.declared.numbers.TheConstants.{BOXED_VECTOR}
 use Rattle.tl_lexer.specs.Rule.{Rule, gives, fails, one, chain, choice, Next}
 use Rattle.tl_lexer.specs.declared.token.Token.{Token}
 use Rattle.tl_lexer.specs.declared.token.TokenKind.TheVariants.{Word, Hash, Dot}
@@ -12,7 +13,7 @@ use Rattle.tl_combinators.specs.Tokens.{bytes_of, unexpected, not_profile, token
 
 -- ---- names
 
--- a name, and the byte behind it
+-- a name, and the byte after it
 pub record NameText : Type 0 where
   pub bytes : List ℕ
   pub end : ℕ
@@ -25,7 +26,7 @@ name_text n = record { bytes = n.bytes; end = n.end }
 abbrev pub joined : List ℕ → List ℕ → List ℕ
 joined space last = (space ++ (46 ∷ [])) ++ last
 
--- behind the Word w, which begins in lower case, a `.` adjoins
+-- after the Word w, which begins in lower case, a `.` adjoins
 pub record IsSpace (text : List ℕ) (w : Token) (ts : List Token) : Type 0 where
   pub lower : IsWord text is_lower w
   pub dot : Next (IsAt w.end Dot) ts
@@ -72,7 +73,7 @@ hex text edge = chain (one (unexpected text) (IsHex text edge)) (λ t. gives (he
 
 -- the number of a boxed vector
 abbrev pub vector_number : ℕ
-vector_number = 0x1cb5c415
+vector_number = BOXED_VECTOR
 
 -- a Word of digits that is another number than a boxed vector's
 pub record IsOtherNumber (text : List ℕ) (edge : ℕ) (t : Token) : Type 0 where
@@ -83,7 +84,7 @@ pub record IsOtherNumber (text : List ℕ) (edge : ℕ) (t : Token) : Type 0 whe
 unfoldable pub vector_hex : List ℕ → ℕ → Rule Token SyntaxFault ℕ
 vector_hex text edge = choice (Next (IsOtherNumber text edge)) (fails (not_profile text VectorNumber)) (hex text edge)
 
--- `#` and digits that adjoin what ends at this byte, or nothing; digits reads those behind the `#`
+-- `#` and digits that adjoin what ends at this byte, or nothing; digits reads those after the `#`
 unfoldable pub number_by : List ℕ → (ℕ → Rule Token SyntaxFault ℕ) → ℕ → Rule Token SyntaxFault (Option ℕ)
 number_by text digits edge =
     choice (Next (IsAt edge Hash)) (chain (token text Hash) (λ h. chain (digits h.end) (λ n. gives (Some n)))) (gives None)

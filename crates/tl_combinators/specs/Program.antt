@@ -1,6 +1,7 @@
 -- Program text: what a text declares, as lists of names and numbers. These are the parts of the grammar's declarations.
 -- From "TL language" (core.telegram.org/mtproto/TL) and "Formal description of TL" (core.telegram.org/mtproto/TL-formal), its combinator declarations.
-use Rattle.std.specs.Prelude.{ℕ, List, map, Bool, Option, Some, None}
+use Rattle.std.specs.Prelude.{ℕ, ◌+◌, ◌≤◌, List, length, map, Bool, Option, Some, None}
+use Rattle.std.specs.List.{All}
 use Rattle.tl_combinators.specs.declared.program.FieldKind.{FieldKind}
 use Rattle.tl_combinators.specs.declared.program.FieldKind.TheVariants.{Nat, Flag, Call, Of}
 use Rattle.tl_combinators.specs.declared.program.Cond.{Cond}
@@ -8,6 +9,14 @@ use Rattle.tl_combinators.specs.declared.program.Field.{Field}
 use Rattle.tl_combinators.specs.declared.program.Decl.{Decl}
 use Rattle.tl_combinators.specs.declared.program.Program.{Program}
 use Rattle.tl_combinators.specs.Trees.{Tree, view}
+
+-- a program has at most so many declarations
+abbrev pub declaration_limit : ℕ
+declaration_limit = 16384
+
+-- a declaration has at most so many variables and fields together
+abbrev pub part_limit : ℕ
+part_limit = 256
 
 -- what a field holds: `#`, a flag `?true`, a call `!X`, or a type
 pub data KindText : Type 0 where
@@ -70,3 +79,14 @@ decl_text d = record {
 -- the declarations of a program, in order
 abbrev pub program_text : Program → List DeclText
 program_text p = map decl_text p.decls.items
+
+-- ---- limits
+
+-- the declaration has at most 256 variables and fields together
+abbrev pub HasFewParts : DeclText → Type 0
+HasFewParts d = length d.vars + length d.fields ≤ part_limit
+
+-- a program within the limits: at most 16,384 declarations, each of few parts
+pub record IsWithinLimits (ds : List DeclText) : Type 0 where
+  pub declarations : length ds ≤ declaration_limit
+  pub parts : All HasFewParts ds

@@ -9,7 +9,7 @@ use Rattle.tl_combinators.specs.declared.fault.SyntaxFault.TheVariants.{Unexpect
 use Rattle.tl_combinators.specs.Tokens.{Begins, token, IsThis, this_word}
 use Rattle.tl_combinators.specs.Trees.{Tree}
 use Rattle.tl_combinators.specs.Types.{whole_type}
-use Rattle.tl_combinators.specs.Program.{DeclText}
+use Rattle.tl_combinators.specs.Program.{declaration_limit, DeclText}
 use Rattle.tl_combinators.specs.Declarations.{declaration, where_declaration, declaration_too_many}
 
 -- ---- programs
@@ -33,10 +33,6 @@ section text =
 -- `---types---` or `---functions---`
 unfoldable pub mark : List ℕ → Rule Token SyntaxFault Bool
 mark text = chain (token text Dashes) (λ a. section text)
-
--- a program has at most so many declarations
-abbrev pub declaration_limit : ℕ
-declaration_limit = 16384
 
 -- one more declaration
 unfoldable pub one_declaration : List ℕ → ProgramText → Rule Token SyntaxFault ProgramText
@@ -73,7 +69,7 @@ ReadsType text tokens t = (whole_type text).reads tokens t []
 abbrev pub TypeRefused : List ℕ → List Token → SyntaxFault → Type 0
 TypeRefused text tokens fault = (whole_type text).refused tokens fault
 
--- ---- answers; want of memory is free
+-- ---- answers; out of memory is free
 
 -- the fault is Refused's own
 abbrev pub FaultIs : (SyntaxFault → Type 0) → SyntaxFault → Type 0
@@ -87,12 +83,12 @@ abbrev pub Answers : {X A : Type 0} → (X → A) → (A → Type 0) → (Syntax
 Answers view Read Refused (Ok x) = Read (view x)
 Answers view Read Refused (Err fault) = FaultIs Refused fault
 
--- the answer is this, or want of memory
+-- the answer is this, or out of memory
 abbrev pub Accepts : {X A : Type 0} → (X → A) → A → Result X SyntaxFault → Type 0
 Accepts view a (Ok x) = view x ≡ a
 Accepts view a (Err fault) = fault ≡ Memory
 
--- the answer is this fault, or want of memory
+-- the answer is this fault, or out of memory
 abbrev pub Refuses : {X : Type 0} → SyntaxFault → Result X SyntaxFault → Type 0
 Refuses fault (Ok x) = ⊥
 Refuses fault (Err other) = FaultIs (λ f. f ≡ fault) other

@@ -31,8 +31,8 @@ pub enum BuiltIn {
 }
 
 impl BuiltIn {
-    /// The line that a name begins.
-    pub fn of_name(name: &[u8]) -> Option<BuiltIn>
+    /// The built-in type of this name.
+    pub fn of(name: &[u8]) -> Option<BuiltIn>
         ensures { result ≡ built_in name.now }
     {
         if name == b"int".as_slice() {
@@ -53,6 +53,22 @@ impl BuiltIn {
             Some(BuiltIn::Int256)
         } else {
             None
+        }
+    }
+
+    /// Its name, with which its line begins.
+    pub fn name(self) -> &'static [u8]
+        ensures { result.now ≡ own_name self }
+    {
+        match self {
+            BuiltIn::Int => b"int".as_slice(),
+            BuiltIn::Long => b"long".as_slice(),
+            BuiltIn::Double => b"double".as_slice(),
+            BuiltIn::Str => b"string".as_slice(),
+            BuiltIn::Bytes => b"bytes".as_slice(),
+            BuiltIn::Vector => b"vector".as_slice(),
+            BuiltIn::Int128 => b"int128".as_slice(),
+            BuiltIn::Int256 => b"int256".as_slice(),
         }
     }
 }

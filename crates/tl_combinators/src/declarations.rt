@@ -6,6 +6,8 @@ ghost use Rattle.tl_combinators.specs.Names.{name_text};
 ghost use Rattle.tl_combinators.specs.Trees.{view};
 ghost use Rattle.tl_combinators.specs.Program.{decl_text};
 ghost use Rattle.tl_combinators.specs.Declarations.{variable, variables, result_type, combinator, declaration, IsLifecycle, where_declaration, declaration_too_many};
+ghost use Rattle.tl_combinators.specs.Description.{Piece};
+ghost use Rattle.tl_combinators.specs.DescriptionSoFar.{so_far};
 ghost use Rattle.tl_combinators.specs.Sentences.{ProgramText};
 
 use crate::built_in::{BuiltIn, built_in_line_at, sort_at};
@@ -16,8 +18,8 @@ use crate::names::{Name, declared_name_at};
 use crate::numbers::number_at;
 use crate::program::Decl;
 use crate::reading::{
-    First, begins, begins_this, begins_word, bytes_at, not_profile_at, place_at, take_token,
-    take_word, too_many_at, unexpected_at,
+    First, begins, begins_this, begins_word, bytes_at, not_profile_at, take_token, take_word,
+    too_many_at, unexpected_at,
 };
 use crate::tree::TypeTree;
 use crate::types::expression_at;
@@ -85,7 +87,7 @@ fn result_type_at(
     expression_at(alloc, text, tokens, at)
 }
 
-// A constructor or a function, behind its name, which is described.
+// A constructor or a function, after its name, which is described.
 fn combinator_at(
     alloc: Global,
     text: &[u8],
@@ -97,7 +99,7 @@ fn combinator_at(
 ) -> Result<Decl, SyntaxFault>
     requires fits { Fits text.now tokens.now }
     requires inside { at.old ≤ length tokens.now }
-    ensures read { Parses fault_of decl_text (combinator text.now function (name_text name) described) (drop at.old tokens.now) (drop at.new tokens.now) result }
+    ensures read { (ps : List Piece) → described ≡ so_far ps → Parses fault_of decl_text (combinator text.now function (name_text name) ps) (drop at.old tokens.now) (drop at.new tokens.now) result }
     ensures on { OnOk result (at.old < at.new) }
     ensures inside { OnOk result (at.new ≤ length tokens.now) }
 {
@@ -146,11 +148,11 @@ fn declaration_at(
     ensures on { OnOk result (at.old < at.new) }
     ensures inside { OnOk result (at.new ≤ length tokens.now) }
 {
-    let mut described = Description::new(alloc, place_at(text, tokens, *at));
+    let mut described = Description::new(alloc);
     let start = *at;
     let name = declared_name_at(alloc, text, tokens, at)?;
     described.show_all(text, tokens, start, *at)?;
-    match BuiltIn::of_name(name.bytes.as_slice()) {
+    match BuiltIn::of(name.bytes.as_slice()) {
         Some(line) => built_in_line_at(alloc, text, tokens, at, line, name),
         None => combinator_at(alloc, text, tokens, at, function, name, described),
     }
@@ -191,7 +193,7 @@ pub fn where_declaration_at(
     declaration_at(alloc, text, tokens, at, function)
 }
 
-/// Why no declaration stands behind the last that there may be.
+/// Why no declaration stands after the last that there may be.
 pub fn declaration_too_many_at(text: &[u8], tokens: &[Token], at: usize) -> SyntaxFault
     requires { Fits text.now tokens.now }
     ensures { Parses fault_of (λ (p : ProgramText). p) (declaration_too_many text.now) (drop at tokens.now) (drop at tokens.now) (Err result) }

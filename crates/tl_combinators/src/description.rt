@@ -1,9 +1,9 @@
 //! Descriptions, on which unwritten numbers rest.
 ghost use Rattle.std.specs.Prelude.{◌≡◌, ◌≤◌, ◌+◌, ◌-◌, length, take, drop, OnOk, Option, None, Some};
-ghost use Rattle.std.specs.List.{fold};
 ghost use Rattle.tl_combinators.specs.Tokens.{bytes_of, Fits};
 ghost use Rattle.tl_combinators.specs.Program.{field_text, kind_text, cond_texts};
-ghost use Rattle.tl_combinators.specs.Description.{undescribed, shown_as, left_out, as_space, showing, shown, shown_as_string, all_shown, all_as_string, all_left_out, field_showing, before_type, field_shown};
+ghost use Rattle.tl_combinators.specs.Description.{kept, omitted, spaced, showing, field_showing, before_type};
+ghost use Rattle.tl_combinators.specs.DescriptionSoFar.{undescribed, put, shown, shown_as_string, all_shown, all_as_string, all_left_out, field_shown};
 
 use crate::program::{Cond, Field, FieldKind};
 use crate::reading::bytes_at;
@@ -35,27 +35,30 @@ pub struct Description {
     bytes: Vec<u8>,
     // where the last token ends
     edge: u32,
-    // whether a space is due before the next token that is shown
+    // whether a space is due before the next token that is kept
     gap: bool,
+    // whether a token is kept
+    begun: bool,
 }
 
 impl Model for Description {
-    ghost use Rattle.tl_combinators.specs.Description.{Described};
+    ghost use Rattle.tl_combinators.specs.DescriptionSoFar.{Described};
 
     ghost Value = { Described };
 
-    ghost view = { λ d. record { bytes = d.bytes.items; edge = d.edge; gap = d.gap } };
+    ghost view = { λ d. record { bytes = d.bytes.items; edge = d.edge; gap = d.gap; begun = d.begun } };
 }
 
 impl Description {
-    /// Nothing is described of what begins at a byte.
-    pub fn new(alloc: Global, edge: u32) -> Description
-        ensures { result ≡ undescribed edge }
+    /// Nothing is described.
+    pub fn new(alloc: Global) -> Description
+        ensures { result ≡ undescribed }
     {
         Description {
             bytes: Vec::new(alloc),
-            edge,
+            edge: 0,
             gap: false,
+            begun: false,
         }
     }
 
@@ -68,20 +71,21 @@ impl Description {
 
     // The token is shown as these bytes.
     fn show_as(&mut self, token: Token, bytes: &[u8]) -> Result<(), AllocError>
-        ensures { OnOk result (self.new ≡ shown_as bytes.now self.old token) }
+        ensures { OnOk result (self.new ≡ put self.old (kept token bytes.now)) }
     {
-        if self.gap || self.edge < token.start {
+        if self.begun && (self.gap || self.edge < token.start) {
             self.bytes.push(b' ')?;
         }
         self.bytes.extend_from_slice(bytes)?;
         self.edge = token.end;
         self.gap = false;
+        self.begun = true;
         Ok(())
     }
 
     // The token is left out.
     fn leave_out(&mut self, token: Token)
-        ensures { self.new ≡ left_out self.old token }
+        ensures { self.new ≡ put self.old (omitted token) }
     {
         self.gap = self.gap || self.edge < token.start;
         self.edge = token.end;
@@ -89,7 +93,7 @@ impl Description {
 
     // The token is a space.
     fn show_space(&mut self, token: Token)
-        ensures { self.new ≡ as_space self.old token }
+        ensures { self.new ≡ put self.old (spaced token) }
     {
         self.gap = true;
         self.edge = token.end;
@@ -126,7 +130,7 @@ impl Description {
         self.show(text, token)
     }
 
-    /// The tokens from one place in their list up to another.
+    /// The tokens from one index in their list up to another.
     pub fn show_all(
         &mut self,
         text: &[u8],
@@ -164,7 +168,7 @@ impl Description {
         Ok(())
     }
 
-    /// The tokens from one place in their list up to another are left out.
+    /// The tokens from one index in their list up to another are left out.
     pub fn leave_all_out(&mut self, tokens: &[Token], from: usize, to: usize)
         requires order { from ≤ to }
         requires within { to ≤ length tokens.now }
@@ -175,7 +179,7 @@ impl Description {
         }
     }
 
-    /// The tokens of a field, which stand from one place in their list up to another.
+    /// The tokens of a field, which stand from one index in their list up to another.
     pub fn show_field(
         &mut self,
         text: &[u8],

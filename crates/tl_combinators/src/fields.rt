@@ -4,7 +4,8 @@ ghost use Rattle.tl_lexer.specs.Rule.{Parses, Next};
 ghost use Rattle.tl_combinators.specs.Tokens.{fault_of, Fits};
 ghost use Rattle.tl_combinators.specs.Trees.{view};
 ghost use Rattle.tl_combinators.specs.Program.{FieldText, cond_text, cond_texts, kind_text, field_text};
-ghost use Rattle.tl_combinators.specs.Description.{before_type};
+ghost use Rattle.tl_combinators.specs.Description.{Piece, before_type};
+ghost use Rattle.tl_combinators.specs.DescriptionSoFar.{so_far, ParsesFields};
 ghost use Rattle.tl_combinators.specs.Fields.{digit, bit_value, IsBit, HasBit, bit, BeginsCondition, condition, conditional, held_text, called, in_condition, held, BeginsMultiplicity, IsLone, BeginsUnnamed, field, field_too_many, fields, FieldsText, fields_text};
 
 use crate::description::Description;
@@ -118,7 +119,7 @@ pub struct Held {
     pub kind: FieldKind,
 }
 
-// What a field holds behind a condition: the type `true` alone is a flag.
+// What a field holds after a condition: the type `true` alone is a flag.
 fn conditional_kind(tree: TypeTree) -> FieldKind
     ensures { kind_text result ≡ conditional (view tree) }
 {
@@ -174,7 +175,7 @@ fn in_condition_at(
     })
 }
 
-// What stands behind the colon of a field.
+// What stands after the colon of a field.
 fn held_at(
     alloc: Global,
     text: &[u8],
@@ -217,7 +218,7 @@ fn begins_multiplicity(text: &[u8], tokens: &[Token], at: usize) -> bool
         || begins_word(text, tokens, at, First::Digit)
 }
 
-// Whether a Word without a `:` behind it begins here.
+// Whether a Word without a `:` after it begins here.
 fn is_lone(text: &[u8], tokens: &[Token], at: usize) -> bool
     requires { Fits text.now tokens.now }
     ensures yes { result ≡ true → IsLone text.now (drop at tokens.now) }
@@ -268,7 +269,7 @@ fn field_at(
     Ok(Field { name, cond, kind })
 }
 
-// Why no field stands behind the last that there may be.
+// Why no field stands after the last that there may be.
 fn field_too_many_at(text: &[u8], tokens: &[Token], at: usize) -> SyntaxFault
     requires { Fits text.now tokens.now }
     ensures { Parses fault_of (λ (s : FieldsText). s) (field_too_many text.now) (drop at tokens.now) (drop at tokens.now) (Err result) }
@@ -298,7 +299,7 @@ pub fn fields_at(
     requires fits { Fits text.now tokens.now }
     requires few { vars ≤ 256 }
     requires inside { at.old ≤ length tokens.now }
-    ensures read { Parses fault_of (λ v. fields_text (map field_text v.items) described.new) (fields text.now function vars described.old) (drop at.old tokens.now) (drop at.new tokens.now) result }
+    ensures read { (ps : List Piece) → described.old ≡ so_far ps → ParsesFields (λ v. map field_text v.items) text.now function vars ps (drop at.old tokens.now) (drop at.new tokens.now) described.new result }
     ensures on { OnOk result (at.old ≤ at.new) }
     ensures inside { OnOk result (at.new ≤ length tokens.now) }
 {

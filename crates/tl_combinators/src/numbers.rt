@@ -7,11 +7,9 @@ ghost use Rattle.tl_combinators.specs.Names.{IsHex, hex, IsOtherNumber, vector_h
 
 use crate::fault::{Form, SyntaxFault};
 use crate::reading::{begins_at, bytes_at, not_profile_at, same, take_token, unexpected_at};
+use tl_base::BOXED_VECTOR;
 use tl_lexer::{Token, TokenKind};
 use tl_numbers::read_hex;
-
-/// The number of a boxed vector.
-const VECTOR: u32 = 0x1cb5c415;
 
 // The number that a token is, if it adjoins the `#` before it.
 fn number_of(text: &[u8], token: Token, edge: u32) -> Option<u32>
@@ -27,7 +25,7 @@ fn number_of(text: &[u8], token: Token, edge: u32) -> Option<u32>
     }
 }
 
-// The digits behind a `#`.
+// The digits after a `#`.
 fn hex_at(text: &[u8], tokens: &[Token], at: &mut usize, edge: u32) -> Result<u32, SyntaxFault>
     requires { Fits text.now tokens.now }
     ensures read { Parses fault_of (λ (n : ℕ). n) (hex text.now edge) (drop at.old tokens.now) (drop at.new tokens.now) result }
@@ -54,7 +52,7 @@ fn is_other_number(text: &[u8], token: Token, edge: u32) -> bool
     ensures no { result ≡ false → IsOtherNumber text.now edge token → ⊥ }
 {
     match number_of(text, token, edge) {
-        Some(number) => number != VECTOR,
+        Some(number) => number != BOXED_VECTOR,
         None => false,
     }
 }
@@ -68,7 +66,7 @@ fn begins_other_number(text: &[u8], tokens: &[Token], at: usize, edge: u32) -> b
     at < tokens.len() && is_other_number(text, tokens[at], edge)
 }
 
-// The digits behind the `#` of the vector line.
+// The digits after the `#` of the vector line.
 fn vector_hex_at(
     text: &[u8],
     tokens: &[Token],

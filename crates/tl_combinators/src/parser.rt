@@ -4,7 +4,7 @@ ghost use Rattle.tl_lexer.specs.Rule.{Parses};
 ghost use Rattle.tl_lexer.specs.Tokens.{Tokens};
 ghost use Rattle.tl_combinators.specs.Tokens.{fault_of, Fits};
 ghost use Rattle.tl_combinators.specs.Trees.{Tree, view};
-ghost use Rattle.tl_combinators.specs.Program.{decl_text, DeclText, program_text};
+ghost use Rattle.tl_combinators.specs.Program.{decl_text, DeclText, program_text, IsWithinLimits};
 ghost use Rattle.tl_combinators.specs.Sentences.{program_so_far, section, mark, program, Reads, SyntaxRefused, ReadsType, TypeRefused, Answers, Accepts, Refuses};
 ghost use Rattle.tl_combinators.specs.declared.fault.SyntaxFault.{SyntaxFault};
 
@@ -20,7 +20,7 @@ use tl_lexer::{Token, TokenKind};
 /// A program has at most so many declarations.
 pub const DECLARATION_LIMIT: usize = 16384;
 
-// What stands behind the first `---` of a section's mark: whether functions follow.
+// What stands after the first `---` of a section's mark: whether functions follow.
 fn section_at(text: &[u8], tokens: &[Token], at: &mut usize) -> Result<bool, SyntaxFault>
     requires { Fits text.now tokens.now }
     ensures read { Parses fault_of (λ (b : Bool). b) (section text.now) (drop at.old tokens.now) (drop at.new tokens.now) result }
@@ -86,6 +86,7 @@ pub fn parse(alloc: Global, text: &[u8], tokens: &[Token]) -> Result<Program, Sy
     // What the grammar reads is answered, and what it refuses is refused for the same fault.
     ensures reads { (ds : List DeclText) → Reads text.now tokens.now ds → Accepts program_text ds result }
     ensures refuses { (fault : SyntaxFault) → SyntaxRefused text.now tokens.now fault → Refuses fault result }
+    ensures within { IfOk result (λ p. IsWithinLimits (program_text p)) }
 {
     let (decls, _) = program_at(alloc, text, tokens)?;
     Ok(Program { decls })

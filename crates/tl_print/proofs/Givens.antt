@@ -1,6 +1,6 @@
 -- What a rule gives: a property of all that it reads, where each token has one.
-use Rattle.std.proofs.Common.{◌≡◌, ℕ, List, [], ◌∷◌, ◌++◌, append_assoc, sym, ◌∙◌, ap, subst, inl, inr}
-use Rattle.tl_lexer.specs.Rule.{Rule, gives, fails, here, one, chain, choice, loop, Turns}
+use Rattle.std.proofs.Common.{◌≡◌, List, [], ◌∷◌, ◌++◌, append_assoc, sym, ◌∙◌, ap, subst, inl, inr}
+use Rattle.tl_lexer.specs.Rule.{Rule, gives, fails, one, chain, choice, loop, Turns}
 use Rattle.tl_combinators.specs.Taken.{taken}
 
 abbrev pub EachIs : {T : Type 0} → (T → Type 0) → List T → Type 0
@@ -42,10 +42,6 @@ module _ {T F : Type 0} (Is : T → Type 0) where
   pub gives_fails : {A : Type 0} (P : A → Type 0) (fault_at : List T → F) → Gives Is (fails fault_at) P
   unfolding fails
   gives_fails P fault_at = record { has = λ ts rest x w p. absurd p; behind = λ ts rest x w p. absurd p }
-
-  pub gives_here : (place : List T → ℕ) → Gives {F = F} Is (here place) (λ n. Unit {0})
-  unfolding here
-  gives_here place = record { has = λ ts rest x w p. tt; behind = λ ts rest x w p. behind_none ts rest p.1 }
 
   pub gives_one : (fault_at : List T → F) (P : T → Type 0) → Gives Is (one fault_at P) (λ t. Is t × P t)
   unfolding one

@@ -14,13 +14,13 @@ use Rattle.tl_combinators.specs.Tokens.{bytes_of, is_digit, is_letter, is_lower}
 use Rattle.tl_combinators.specs.Names.{NameText}
 use Rattle.tl_combinators.specs.Trees.{Tree, named, percent, any_call, no_trees, tree}
 use Rattle.tl_combinators.specs.Program.{flag, of, CondText, DeclText}
-use Rattle.tl_combinators.specs.Description.{Described}
+use Rattle.tl_combinators.specs.Description.{Piece, description}
 use Rattle.tl_combinators.specs.Fields.{digit, two_digits, bit_value, bit, condition, conditional, called, in_condition, held, where_field, field, field_too_many, FieldsText, one_field, fields}
 use Rattle.tl_combinators.specs.BuiltIns.{built_in, this_type, sort, boxed, opaque, bracketed, repeated, element, vector_result, vector, line_form, line_number, built_in_line}
 use Rattle.tl_combinators.specs.Declarations.{variable, one_variable, variables, result_type, combinator, named_declaration, declaration, where_declaration, declaration_too_many}
 use Rattle.tl_combinators.specs.Sentences.{ProgramText, program_so_far, section, mark, one_declaration, item, program}
 use Rattle.tl_print.specs.Printed.{CanBeRead}
-use Rattle.tl_print.proofs.Givens.{EachIs, all_push, Gives, gives_gives, gives_fails, gives_here, gives_chain, gives_choice, gives_if, gives_taken, gives_loop}
+use Rattle.tl_print.proofs.Givens.{EachIs, all_push, Gives, gives_gives, gives_fails, gives_chain, gives_choice, gives_if, gives_taken, gives_loop}
 use Rattle.tl_print.proofs.PrintableForm.{IsWordOf, IsName, IsLineNumber, IsTree, IsCond, IsHeld, IsField, IsDeclaration, line, combined, IsPrintable}
 use Rattle.tl_print.proofs.PrintableParts.{IsSpelt, row_spelt, any_token, any_this, letter_given, declared_given, number_given, vector_given, term_of_given, expression_given}
 
@@ -114,7 +114,7 @@ module _ (text : List ℕ) where
       (λ room. gives_chain _ _ (gives_taken _ (field_given function)) (λ f i.
       gives_gives _ _ _ (all_push (IsField function) s.fields f.0 h.0 i, omega (arith, h.1, room, length_push s.fields f.0))))
 
-  fields_given : (function : Bool) (vars : ℕ) (d : Described) → vars ≤ 256 → Gives (IsSpelt text) (fields text function vars d) (FewFields function vars)
+  fields_given : (function : Bool) (vars : ℕ) (d : List Piece) → vars ≤ 256 → Gives (IsSpelt text) (fields text function vars d) (FewFields function vars)
   unfolding fields FewFields
   fields_given function vars d w = gives_loop _ _ _ _ (λ s h. one_given function vars s h) _ (tt, omega (arith, w))
 
@@ -140,7 +140,11 @@ module _ (text : List ℕ) where
   unfolding result_type
   result_given = gives_chain _ _ (any_token text _) (λ e u. expression_given text)
 
-  combinator_given : (function : Bool) (n : NameText) (d : Described) → IsName is_lower n.bytes → built_in n.bytes ≡ None → Gives (IsSpelt text) (combinator text function n d) IsDeclaration
+  description_any : (d : List Piece) → Gives (IsSpelt text) (description d) (λ x. Unit {0})
+  unfolding description
+  description_any d = record { has = λ ts rest x w p. tt; behind = λ ts rest x w p. record { front = []; whole = sym p.1 } }
+
+  combinator_given : (function : Bool) (n : NameText) (d : List Piece) → IsName is_lower n.bytes → built_in n.bytes ≡ None → Gives (IsSpelt text) (combinator text function n d) IsDeclaration
   unfolding combinator FewFields
   combinator_given function n d i free =
       gives_chain _ _ (gives_taken _ (number_given text n.end)) (λ o small.
@@ -148,7 +152,8 @@ module _ (text : List ℕ) where
       gives_chain _ _ (fields_given function (length vs.0) _ are.1) (λ fs few.
       gives_chain _ _ (gives_taken _ result_given) (λ t tree.
       gives_chain _ _ (any_token text _) (λ s u.
-      gives_gives _ _ _ (combined (record { free = free; written = refl; name = i; number = small; vars = are.0; fields = few.0; few = few.1; result = tree })))))))
+      gives_chain _ _ (description_any _) (λ described v.
+      gives_gives _ _ _ (combined (record { free = free; written = refl; name = i; number = small; vars = are.0; fields = few.0; few = few.1; result = tree }))))))))
 
   -- ---- lines of built-in types
 
@@ -210,14 +215,14 @@ module _ (text : List ℕ) where
 
   -- ---- programs
 
-  named_given : (function : Bool) (n : NameText) (d : Described) (o : Option BuiltIn) → IsName is_lower n.bytes → built_in n.bytes ≡ o → Gives (IsSpelt text) (named_declaration text function n d o) IsDeclaration
+  named_given : (function : Bool) (n : NameText) (d : List Piece) (o : Option BuiltIn) → IsName is_lower n.bytes → built_in n.bytes ≡ o → Gives (IsSpelt text) (named_declaration text function n d o) IsDeclaration
   named_given function n d None i e = combinator_given function n d i e
   named_given function n d (Some b) i e = line_given b n
 
   declaration_given : (function : Bool) → Gives (IsSpelt text) (declaration text function) IsDeclaration
   unfolding declaration
   declaration_given function =
-      gives_chain _ _ (gives_here _ _) (λ start u. gives_chain _ _ (gives_taken _ (declared_given text)) (λ n i. named_given function n.0 _ (built_in n.0.bytes) i refl))
+      gives_chain _ _ (gives_taken _ (declared_given text)) (λ n i. named_given function n.0 _ (built_in n.0.bytes) i refl)
 
   where_declared : {A : Type 0} {P : A → Type 0} (r : Rule Token SyntaxFault A) → Gives (IsSpelt text) r P → Gives (IsSpelt text) (where_declaration text r) P
   unfolding where_declaration

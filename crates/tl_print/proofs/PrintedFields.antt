@@ -22,7 +22,7 @@ use Rattle.tl_combinators.specs.Names.{IsHex, hex, number_by, number, vector_num
 use Rattle.tl_combinators.specs.Trees.{Tree, named, percent, any_call, no_trees}
 use Rattle.tl_combinators.specs.Types.{term}
 use Rattle.tl_combinators.specs.Program.{KindText, nat, flag, call, of, CondText, FieldText}
-use Rattle.tl_combinators.specs.Description.{field_shown}
+use Rattle.tl_combinators.specs.Description.{field_pieces}
 use Rattle.tl_combinators.specs.Fields.{bit_value, bit, BeginsBit, BeginsCondition, condition, conditional, HeldText, called, in_condition, held, BeginsMultiplicity, IsLone, BeginsUnnamed, where_field, field, FieldsText, fields_text, one_field}
 use Rattle.tl_print.specs.Written.{written_tree, written_bit, written_condition, written_kind, written_field, written_fields, written_number}
 use Rattle.tl_print.proofs.Givens.{EachIs, Behind, rest_of}
@@ -439,7 +439,7 @@ module _ (function : Bool) (vars : ℕ) where
   }
 
   field_turn : (text : List ℕ) (s : FieldsText) (ts mid : List Token) (x : FieldText) → (vars + length s.fields ≡ 256 → ⊥) → (b : Behind ts mid) → (field text function).reads ts x mid
-      → (one_field text function vars s).reads ts (fields_text (s.fields ++ (x ∷ [])) (field_shown text x b.front s.described)) mid
+      → (one_field text function vars s).reads ts (fields_text (s.fields ++ (x ∷ [])) (s.pieces ++ field_pieces text x b.front)) mid
   unfolding one_field choice chain taken gives
   field_turn text s ts mid x room b h = inr (room, ((x, b.front), mid, (h, b.whole), (refl, refl)))
 
@@ -449,7 +449,7 @@ module _ (function : Bool) (vars : ℕ) where
   fields_more x fs k more i r h s w text p ts a st =
       let l = field_reads function x (white 32 ∷ r.pieces) more i text (h text) p ts st in
       let b = (field_given text function).behind ts l.rest x a l.reads in
-      let next = fields_text (s.fields ++ (x ∷ [])) (field_shown text x b.front s.described) in
+      let next = fields_text (s.fields ++ (x ∷ [])) (s.pieces ++ field_pieces text x b.front) in
       let room : vars + length next.fields + length fs ≤ 256 = omega (arith, w, length_push s.fields x) in
       let e = r.reads next room text (l.at + 1) l.rest (rest_of (IsSpelt text) ts l.rest b a) l.stands in
       record {

@@ -4,7 +4,7 @@ use Rattle.std.specs.Prelude.{◌⊎◌, codes, bytes_eq, if◌then◌else◌}
 use Rattle.std.proofs.lemmas.Bool.{both_ways}
 use Rattle.std.proofs.lemmas.Bool.Decides.{nat_tests}
 use Rattle.std.proofs.lemmas.List.{append-nil, length_push}
-use Rattle.tl_lexer.specs.Rule.{Rule, gives, here, chain, choice, loop}
+use Rattle.tl_lexer.specs.Rule.{Rule, gives, chain, choice, loop}
 use Rattle.tl_lexer.specs.declared.token.Token.{Token}
 use Rattle.tl_lexer.specs.declared.token.TokenKind.{TokenKind}
 use Rattle.tl_lexer.specs.declared.token.TokenKind.TheVariants.{Word, Dashes, Hash, Colon, Semi, Equals, Query, Dot, LBrace, RBrace, LBracket, RBracket, Star}
@@ -12,17 +12,18 @@ use Rattle.tl_combinators.specs.declared.fault.SyntaxFault.{SyntaxFault}
 use Rattle.tl_combinators.specs.declared.built_in.BuiltIn.{BuiltIn}
 use Rattle.tl_combinators.specs.declared.built_in.BuiltIn.TheVariants.{Int, Long, Double, Str, Bytes, Vector, Int128, Int256}
 use Rattle.tl_combinators.specs.Taken.{taken}
-use Rattle.tl_combinators.specs.Tokens.{place, Begins, OfKind, IsWord, IsThis, first_is, is_lower, is_upper, is_letter}
+use Rattle.tl_combinators.specs.Tokens.{Begins, OfKind, IsWord, IsThis, first_is, is_lower, is_upper, is_letter}
 use Rattle.tl_combinators.specs.Names.{IsObject, declared_name, number, vector_number}
 use Rattle.tl_combinators.specs.Trees.{Tree}
 use Rattle.tl_combinators.specs.Types.{expression}
 use Rattle.tl_combinators.specs.Program.{FieldText, DeclText}
-use Rattle.tl_combinators.specs.Description.{Described, all_shown, all_left_out}
-use Rattle.tl_combinators.specs.Description.{undescribed}
+use Rattle.tl_combinators.specs.Description.{Piece as DescribedPiece, pieces, left_out}
 use Rattle.tl_combinators.specs.Fields.{FieldsText, fields_text, fields}
 use Rattle.tl_combinators.specs.BuiltIns.{own_name, built_in, this_type, sort, boxed, opaque, bracketed, repeated, element, vector_result, vector, line_form, line_number, line_text, built_in_line}
 use Rattle.tl_combinators.specs.Declarations.{variable, one_variable, variables, result_type, combinator, named_declaration, declaration, IsLifecycle, where_declaration}
 use Rattle.tl_combinators.specs.Sentences.{ProgramText, program_so_far, section, mark, one_declaration, item, program}
+use Rattle.tl_combinators.proofs.Describing.{has_description}
+use Rattle.tl_combinators.proofs.DescribedRule.{describes_here}
 use Rattle.tl_print.specs.Printed.{CanBeRead, ReadsBack, without_description}
 use Rattle.tl_print.specs.Written.{written_tree, written_fields, written_number, written_variable, written_variables, written_line, written_rest, written_declaration, section_behind, written_mark, written_program}
 use Rattle.tl_print.proofs.Givens.{EachIs, Behind, rest_of}
@@ -366,19 +367,19 @@ module _ (text : List ℕ) (p : ℕ) (first : List ℕ) (ts : List Token) (low :
 
 -- behind its name
 declaration_reads : (text : List ℕ) (function : Bool) (d : DeclText) (k more : List Piece) (ts : List Token) → EachIs (IsSpelt text) ts → NameLeft text (declared_name text) ts d.name more
-    → ((q : ℕ) (us : List Token) (x : Described) → EachIs (IsSpelt text) us → Stands text q more us → DeclarationLeft text (named_declaration text function (record { bytes = d.name; end = q }) x (built_in d.name)) us d k)
+    → ((q : ℕ) (us : List Token) (x : List DescribedPiece) → EachIs (IsSpelt text) us → Stands text q more us → DeclarationLeft text (named_declaration text function (record { bytes = d.name; end = q }) x (built_in d.name)) us d k)
     → DeclarationLeft text (declaration text function) ts d k
-unfolding declaration chain here taken
+unfolding declaration chain taken
 declaration_reads text function d k more ts a l f =
     let b = (declared_given text).behind ts l.rest (record { bytes = d.name; end = l.at }) a l.reads in
-    let r = f l.at l.rest (all_shown text b.front (undescribed (place text ts))) (rest_of (IsSpelt text) ts l.rest b a) l.stands in
+    let r = f l.at l.rest (pieces text b.front) (rest_of (IsSpelt text) ts l.rest b a) l.stands in
     record {
       value = r.value;
       same = r.same;
       at = r.at;
       rest = r.rest;
       stands = r.stands;
-      reads = (place text ts, ts, (refl, refl), ((record { bytes = d.name; end = l.at }, b.front), l.rest, (l.reads, b.whole), r.reads));
+      reads = ((record { bytes = d.name; end = l.at }, b.front), l.rest, (l.reads, b.whole), r.reads);
     }
 
 -- ---- a line
@@ -392,7 +393,7 @@ module _ (b : BuiltIn) (i : Option ℕ) (k : List Piece) where
       let f = line_reads b k text (m.at + 1) m.rest m.stands in
       record { value = line_text b i; same = refl; at = f.at; rest = f.rest; stands = f.stands; reads = (i, m.rest, m.reads, (tt, f.rest, f.reads, (refl, refl))) }
 
-  line_named : (text : List ℕ) (function : Bool) (q : ℕ) (us : List Token) (x : Described) (n : PrintedNumber (λ text edge. line_number text b edge) i (white 32 ∷ line_pieces b k))
+  line_named : (text : List ℕ) (function : Bool) (q : ℕ) (us : List Token) (x : List DescribedPiece) (n : PrintedNumber (λ text edge. line_number text b edge) i (white 32 ∷ line_pieces b k))
       → Stands text q n.pieces us → DeclarationLeft text (named_declaration text function (record { bytes = own_name b; end = q }) x (built_in (own_name b))) us (line_text b i) k
   line_named text function q us x n st =
       subst (λ (o : Option BuiltIn). DeclarationLeft text (named_declaration text function (record { bytes = own_name b; end = q }) x o) us (line_text b i) k) (sym (own_built_in b)) (line_left text q us n st)
@@ -438,10 +439,10 @@ with_description d fs text = record {
   text = text;
 }
 
-module _ (text : List ℕ) (d : DeclText) (q : ℕ) (x : Described) where
+module _ (text : List ℕ) (d : DeclText) (q : ℕ) (x : List DescribedPiece) where
   combinator_row : (us ns bs cs es rest : List Token) (s : FieldsText) (t : Token) (i : Behind us ns) (v : Behind ns bs) (r : Behind cs es) → (number text q).reads us d.number ns → (variables text).reads ns d.vars bs
-      → (fields text d.function (length d.vars) (all_shown text v.front (all_left_out i.front x))).reads bs s cs → (result_type text).reads cs d.result es → es ≡ t ∷ rest → t.kind ≡ Semi
-      → (combinator text d.function (record { bytes = d.name; end = q }) x).reads us (with_description d s.fields (all_shown text r.front s.described).bytes) rest
+      → (fields text d.function (length d.vars) ((x ++ left_out i.front) ++ pieces text v.front)).reads bs s cs → (result_type text).reads cs d.result es → es ≡ t ∷ rest → t.kind ≡ Semi
+      → (combinator text d.function (record { bytes = d.name; end = q }) x).reads us (with_description d s.fields (has_description (s.pieces ++ pieces text r.front)).0) rest
   unfolding combinator chain taken gives
   combinator_row us ns bs cs es rest s t i v r a b c g e k = (
     (d.number, i.front),
@@ -455,16 +456,16 @@ module _ (text : List ℕ) (d : DeclText) (q : ℕ) (x : Described) where
         s,
         cs,
         c,
-        ((d.result, r.front), es, (g, r.whole), (t, rest, token_reads text Semi es rest t e k, (refl, refl))),
+        ((d.result, r.front), es, (g, r.whole), (t, rest, token_reads text Semi es rest t e k, (_, rest, describes_here (s.pieces ++ pieces text r.front) rest, (refl, refl)))),
       ),
     ),
   )
 
   parts_left : (k : List Piece) → d.builtin ≡ false → (us ns bs cs es : List Token) (s : FieldsText) (st : (p : ℕ) × Stands text p (sign Semi ∷ white 10 ∷ k) es) (i : Behind us ns) (v : Behind ns bs) (r : Behind cs es)
-      → (number text q).reads us d.number ns → (variables text).reads ns d.vars bs → (fields text d.function (length d.vars) (all_shown text v.front (all_left_out i.front x))).reads bs s cs → (result_type text).reads cs d.result es
+      → (number text q).reads us d.number ns → (variables text).reads ns d.vars bs → (fields text d.function (length d.vars) ((x ++ left_out i.front) ++ pieces text v.front)).reads bs s cs → (result_type text).reads cs d.result es
       → s.fields ≡ d.fields → DeclarationLeft text (combinator text d.function (record { bytes = d.name; end = q }) x) us d k
   parts_left k w us ns bs cs es s (p, (t, rest, e, f, st)) i v r a b c g are = record {
-    value = with_description d s.fields (all_shown text r.front s.described).bytes;
+    value = with_description d s.fields (has_description (s.pieces ++ pieces text r.front)).0;
     same = ap (λ (y : List FieldText). with_description d y []) are
         ∙ ap (λ (y : Bool). record { name = d.name; number = d.number; vars = d.vars; fields = d.fields; result = d.result; function = d.function; builtin = y; text = [] }) (sym w);
     at = t.end + 1;
@@ -491,7 +492,7 @@ module _ (d : DeclText) (h : IsCombinator d) (k : List Piece) where
 
   module _ (t : PrintedTree (λ text. expression text) d.result (sign Semi ∷ white 10 ∷ k)) (f : PrintedFields d.function (length d.vars) d.fields (sign Equals ∷ white 32 ∷ t.row.pieces))
       (v : PrintedVariables d.vars f.pieces) (n : PrintedNumber (λ text edge. number text edge) d.number (white 32 ∷ v.pieces)) where
-    combinator_left : (text : List ℕ) (q : ℕ) (us : List Token) (x : Described) → EachIs (IsSpelt text) us → Stands text q n.pieces us → DeclarationLeft text (combinator text d.function (record { bytes = d.name; end = q }) x) us d k
+    combinator_left : (text : List ℕ) (q : ℕ) (us : List Token) (x : List DescribedPiece) → EachIs (IsSpelt text) us → Stands text q n.pieces us → DeclarationLeft text (combinator text d.function (record { bytes = d.name; end = q }) x) us d k
     unfolding variables fields
     combinator_left text q us x a st =
         let i = n.reads text q us st in
@@ -500,12 +501,12 @@ module _ (d : DeclText) (h : IsCombinator d) (k : List Piece) where
         let vs = v.reads [] variables_few text (i.at + 1) i.rest i.stands in
         let vb = (variables_given text).behind i.rest vs.rest d.vars ia vs.reads in
         let va = rest_of (IsSpelt text) i.rest vs.rest vb ia in
-        let fs = f.reads (fields_text [] (all_shown text vb.front (all_left_out ib.front x))) fields_few text vs.at vs.rest va vs.stands in
+        let fs = f.reads (fields_text [] ((x ++ left_out ib.front) ++ pieces text vb.front)) fields_few text vs.at vs.rest va vs.stands in
         let r = result_reads text d.result (sign Semi ∷ white 10 ∷ k) t.row.pieces fs.at fs.rest (t.row.reads text) fs.stands in
         let rb = (result_given text).behind fs.rest r.rest d.result fs.spelt r.reads in
         parts_left text d q x k h.written us i.rest vs.rest fs.rest r.rest fs.state (r.at, r.stands) ib vb rb i.reads vs.reads fs.reads r.reads fs.fields_are
 
-    combinator_named : (text : List ℕ) (q : ℕ) (us : List Token) (x : Described) → EachIs (IsSpelt text) us → Stands text q n.pieces us
+    combinator_named : (text : List ℕ) (q : ℕ) (us : List Token) (x : List DescribedPiece) → EachIs (IsSpelt text) us → Stands text q n.pieces us
         → DeclarationLeft text (named_declaration text d.function (record { bytes = d.name; end = q }) x (built_in d.name)) us d k
     combinator_named text q us x a st =
         subst (λ (o : Option BuiltIn). DeclarationLeft text (named_declaration text d.function (record { bytes = d.name; end = q }) x o) us d k) (sym h.free) (combinator_left text q us x a st)

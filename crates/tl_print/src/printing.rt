@@ -199,7 +199,7 @@ fn put_declaration(out: &mut Vec<u8>, decl: &Decl) -> Result<(), AllocError>
     put(out, decl.name.as_slice())?;
     put_number(out, decl.number)?;
     put_byte(out, b' ')?;
-    match BuiltIn::of_name(decl.name.as_slice()) {
+    match BuiltIn::of(decl.name.as_slice()) {
         Some(line) => put(out, line_form(line)),
         None => put_parts(out, decl),
     }

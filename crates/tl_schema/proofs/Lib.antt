@@ -9,6 +9,7 @@ pub mod BareParts
 pub mod AppliedTypes
 pub mod SameNames
 pub mod Results
+pub mod SmallPrograms
 pub mod FieldConditions
 mod Maps
 mod NameKeys

@@ -1,6 +1,6 @@
 //! Checks of a program, and the schema that it declares.
 ghost use Rattle.std.specs.Prelude.{◌≡◌, ◌<◌, ◌^◌, IfOk, OnOk, length, map};
-ghost use Rattle.tl_combinators.specs.Program.{decl_text, program_text};
+ghost use Rattle.tl_combinators.specs.Program.{decl_text, program_text, IsWithinLimits};
 ghost use Rattle.tl_schema.specs.Meanings.{IsSmall};
 ghost use Rattle.tl_schema.specs.CheckCauses.{Passes};
 ghost use Rattle.tl_schema.specs.CheckedPrograms.{Checks, IsSchema};
@@ -35,7 +35,7 @@ struct Entered {
 
 /// Checks a program, and makes the schema that it declares.
 pub fn check(alloc: Global, program: &Program) -> Result<Schema, CheckFault>
-    requires { IsSmall (program_text program.now) }
+    requires { IsWithinLimits (program_text program.now) }
     ensures { Checks (program_text program.now) result }
 {
     let index = Index::of(alloc, program)?;

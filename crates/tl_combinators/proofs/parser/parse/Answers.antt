@@ -2,6 +2,7 @@ use Rattle.std.proofs.Common.{Ok, false}
 use Rattle.tl_lexer.proofs.Steps.{as_err, err_any}
 use Rattle.tl_combinators.proofs.Spanned.{fits_of}
 use Rattle.tl_combinators.proofs.Exact.{program_accepts, program_refuses}
+use Rattle.tl_combinators.proofs.WithinLimits.{within_limits}
 use Rattle.tl_combinators.proofs.parser.parse.Goals as goal
 
 pub program_at-requires : goal.program_at-requires
@@ -18,3 +19,6 @@ returns-clause-reads c = program_accepts _ _ c.in_ok-decls.field-0-1 (Ok (record
 
 pub returns-clause-refuses : goal.returns-clause-refuses
 returns-clause-refuses c = program_refuses _ _ c.in_ok-decls.field-0-1 (Ok (record { decls = c.in_ok-decls.decls })) (record { given = c.in_ok-decls.ensures.given })
+
+pub returns-clause-within : goal.returns-clause-within
+returns-clause-within c = within_limits c.args.text.now c.args.tokens.now _ (c.in_ok-decls.field-0-1, c.in_ok-decls.ensures.given)

@@ -1,9 +1,9 @@
 use Rattle.std.proofs.Common.{arith}
 use Rattle.tl_lexer.specs.declared.token.TokenKind.TheVariants.{Word}
-use Rattle.tl_combinators.specs.Description.{left_out}
+use Rattle.tl_combinators.specs.DescriptionSoFar.{one_left_out}
 use Rattle.tl_combinators.proofs.TokenParts.{fold_more}
 use Rattle.tl_combinators.proofs.description.Description.leave_all_out.Goals as goal
 
 pub loop-i-preserved : goal.loop-i-preserved
 loop-i-preserved c =
-    fold_more left_out c.args.self.now c.args.tokens.now c.args.from c.loop-i.i (record { kind = Word; start = 0; end = 0 }) _ _ c.loop-i.auto.i (omega (arith, c.requires.within, c.loop-i-test.true)) c.loop-i.invariant c.leave_out.ensures
+    fold_more one_left_out c.args.self.now c.args.tokens.now c.args.from c.loop-i.i (record { kind = Word; start = 0; end = 0 }) _ _ c.loop-i.auto.i (omega (arith, c.requires.within, c.loop-i-test.true)) c.loop-i.invariant c.leave_out.ensures

@@ -1,5 +1,5 @@
 use Rattle.std.proofs.Common.{◌≡◌, ◌-◌, take, drop}
-use Rattle.tl_combinators.specs.Description.{all_left_out}
+use Rattle.tl_combinators.specs.DescriptionSoFar.{all_left_out}
 use Rattle.tl_combinators.proofs.description.Description.leave_all_out.Given as goal
 
 abbrev pub invariant-loop-i : goal.invariant-loop-i

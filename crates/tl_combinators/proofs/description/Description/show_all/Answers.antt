@@ -1,6 +1,6 @@
 use Rattle.std.proofs.Common.{arith}
 use Rattle.tl_lexer.specs.declared.token.TokenKind.TheVariants.{Word}
-use Rattle.tl_combinators.specs.Description.{shown}
+use Rattle.tl_combinators.specs.DescriptionSoFar.{shown}
 use Rattle.tl_combinators.proofs.TokenParts.{fold_more}
 use Rattle.tl_combinators.proofs.description.Description.show_all.Goals as goal
 

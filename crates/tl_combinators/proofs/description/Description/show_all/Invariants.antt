@@ -1,5 +1,5 @@
 use Rattle.std.proofs.Common.{◌≡◌, ◌-◌, take, drop}
-use Rattle.tl_combinators.specs.Description.{all_shown}
+use Rattle.tl_combinators.specs.DescriptionSoFar.{all_shown}
 use Rattle.tl_combinators.proofs.description.Description.show_all.Given as goal
 
 abbrev pub invariant-loop-i : goal.invariant-loop-i

@@ -3,7 +3,7 @@ use Rattle.std.proofs.lemmas.Result.{on_ok_weaker}
 use Rattle.tl_lexer.specs.declared.token.Token.{Token}
 use Rattle.tl_combinators.specs.declared.description.FieldShowing.{FieldShowing}
 use Rattle.tl_combinators.specs.declared.description.FieldShowing.TheVariants.{WithString}
-use Rattle.tl_combinators.specs.Description.{Described, all_shown, all_as_string, field_shown_by}
+use Rattle.tl_combinators.specs.DescriptionSoFar.{Described, all_shown, all_as_string, field_shown_by}
 use Rattle.tl_combinators.proofs.TokenParts.{part_front, part_back}
 use Rattle.tl_combinators.proofs.description.Description.show_field.Goals as goal
 

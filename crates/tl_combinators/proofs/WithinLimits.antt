@@ -1,21 +1,18 @@
--- A program that is read has few declarations, and each of these few variables and fields.
-use Rattle.std.proofs.Common.{◌≢◌, ℕ, ◌+◌, ◌≤◌, Bool, List, [], ◌∷◌, ◌++◌, length, length-append, All, Option, Some, None, subst, arith}
-use Rattle.std.proofs.lemmas.List.Elements.{All-nil, All-push, All-get_or}
-use Rattle.std.proofs.lemmas.Option.{get_or_from_slice_get, slice_get_within}
+-- A program that is read is within the limits.
+use Rattle.std.proofs.Common.{◌≢◌, ℕ, ◌+◌, ◌≤◌, Bool, List, [], ◌∷◌, ◌++◌, length, length-append, Option, Some, None, arith}
+use Rattle.std.proofs.lemmas.List.Elements.{All-nil, All-push}
 use Rattle.tl_lexer.specs.Rule.{Rule}
 use Rattle.tl_lexer.specs.declared.token.Token.{Token}
 use Rattle.tl_combinators.specs.declared.fault.SyntaxFault.{SyntaxFault}
 use Rattle.tl_combinators.specs.declared.built_in.BuiltIn.{BuiltIn}
 use Rattle.tl_combinators.specs.Names.{NameText}
-use Rattle.tl_combinators.specs.Program.{DeclText}
-use Rattle.tl_combinators.specs.Description.{Described}
-use Rattle.tl_combinators.specs.Fields.{FieldsText, where_field, field_too_many, part_limit, one_field, fields}
+use Rattle.tl_combinators.specs.Program.{declaration_limit, part_limit, DeclText, HasFewParts, IsWithinLimits}
+use Rattle.tl_combinators.specs.Description.{Piece}
+use Rattle.tl_combinators.specs.Fields.{FieldsText, where_field, field_too_many, one_field, fields}
 use Rattle.tl_combinators.specs.BuiltIns.{built_in_line}
 use Rattle.tl_combinators.specs.Declarations.{one_variable, variables, combinator, named_declaration, declaration, where_declaration, declaration_too_many}
-use Rattle.tl_combinators.specs.Sentences.{ProgramText, declaration_limit, one_declaration, item, program, Reads}
+use Rattle.tl_combinators.specs.Sentences.{ProgramText, one_declaration, item, program, Reads}
 use Rattle.tl_combinators.proofs.Values.{Only, only_gives, only_fails, only_chain, only_choice, only_loop, only_taken}
-use Rattle.tl_schema.specs.Writing.{At}
-use Rattle.tl_schema.specs.Meanings.{IsSmall}
 
 -- one more, where the limit is not yet reached
 one_more : {A : Type 0} (limit : ℕ) (xs : List A) (x : A) → length xs ≤ limit → length xs ≢ limit → length (xs ++ (x ∷ [])) ≤ limit
@@ -33,10 +30,6 @@ FewVariables vs = length vs ≤ part_limit
 -- with so many variables before the fields
 abbrev FewFields : ℕ → FieldsText → Type 0
 FewFields vars s = vars + length s.fields ≤ part_limit
-
-record FewParts (d : DeclText) : Type 0 where
-  pub variables : length d.vars ≤ part_limit
-  pub fields : length d.fields ≤ part_limit
 
 module _ (text : List ℕ) where
   one_variable_few : (vs : List (List ℕ)) → FewVariables vs → Only (one_variable text vs) FewVariables
@@ -60,37 +53,36 @@ module _ (text : List ℕ) where
   one_field_few function vars s few =
       only_choice _ _ _ _ (λ _ _. no_field_more (FewFields vars)) (λ ts other. only_chain _ _ _ (λ f _ _ _. only_gives (FewFields vars) _ (one_more_behind vars part_limit s.fields f.0 few other)))
 
-  fields_few : (function : Bool) (vars : ℕ) (d : Described) → vars ≤ part_limit → Only (fields text function vars d) (FewFields vars)
+  fields_few : (function : Bool) (vars : ℕ) (d : List Piece) → vars ≤ part_limit → Only (fields text function vars d) (FewFields vars)
   unfolding fields
   fields_few function vars d few = only_loop _ _ _ (one_field_few function vars) _ (omega (arith, few))
 
-  combinator_few : (function : Bool) (n : NameText) (d : Described) → Only (combinator text function n d) FewParts
+  combinator_few : (function : Bool) (n : NameText) (d : List Piece) → Only (combinator text function n d) HasFewParts
   unfolding combinator
   combinator_few function n d =
       only_chain _ _ _ (λ i _ _ _. only_chain _ _ _ (λ vs ts mid reads.
       let few : FewVariables vs.0 = (only_taken FewVariables _ variables_few).each ts mid vs reads in
       only_chain _ _ _ (λ fs us end more.
       let both : FewFields (length vs.0) fs = (fields_few function (length vs.0) _ (omega (arith, few))).each us end fs more in
-      only_chain _ _ _ (λ t _ _ _. only_chain _ _ _ (λ s _ _ _. only_gives FewParts _ (record { variables = omega (arith, few); fields = omega (arith, both) }))))))
+      only_chain _ _ _ (λ t _ _ _. only_chain _ _ _ (λ s _ _ _. only_chain _ _ _ (λ _ _ _ _. only_gives HasFewParts _ both))))))
 
   -- the line of a built-in type has no parts
-  line_few : (b : BuiltIn) (n : NameText) → Only (built_in_line text b n) FewParts
+  line_few : (b : BuiltIn) (n : NameText) → Only (built_in_line text b n) HasFewParts
   unfolding built_in_line
-  line_few b n = only_chain _ _ _ (λ i _ _ _. only_chain _ _ _ (λ _ _ _ _. only_gives FewParts _ (record { variables = omega arith; fields = omega arith })))
+  line_few b n = only_chain _ _ _ (λ i _ _ _. only_chain _ _ _ (λ _ _ _ _. only_gives HasFewParts _ (omega arith)))
 
-  named_few : (function : Bool) (n : NameText) (d : Described) (o : Option BuiltIn) → Only (named_declaration text function n d o) FewParts
+  named_few : (function : Bool) (n : NameText) (d : List Piece) (o : Option BuiltIn) → Only (named_declaration text function n d o) HasFewParts
   named_few function n d (Some b) = line_few b n
   named_few function n d None = combinator_few function n d
 
-  declaration_few : (function : Bool) → Only (declaration text function) FewParts
+  declaration_few : (function : Bool) → Only (declaration text function) HasFewParts
   unfolding declaration
-  declaration_few function = only_chain _ _ _ (λ start _ _ _. only_chain _ _ _ (λ n _ _ _. named_few function n.0 _ _))
+  declaration_few function = only_chain _ _ _ (λ n _ _ _. named_few function n.0 _ _)
 
 -- ---- a program
 
-record Few (p : ProgramText) : Type 0 where
-  pub declarations : length p.decls ≤ declaration_limit
-  pub parts : All FewParts p.decls
+abbrev Few : ProgramText → Type 0
+Few p = IsWithinLimits p.decls
 
 module _ (text : List ℕ) where
   where_only : {A : Type 0} (I : A → Type 0) (r : Rule Token SyntaxFault A) → Only r I → Only (where_declaration text r) I
@@ -104,8 +96,8 @@ module _ (text : List ℕ) where
   one_few : (p : ProgramText) → Few p → Only (one_declaration text p) Few
   unfolding one_declaration
   one_few p few = only_choice _ _ _ _ (λ _ _. none_more) (λ _ other. only_chain _ _ _ (λ d ts mid reads.
-      let parts : FewParts d = (where_only FewParts _ (declaration_few text p.function)).each ts mid d reads in
-      only_gives Few _ (record { declarations = one_more declaration_limit p.decls d few.declarations other; parts = All-push FewParts p.decls d few.parts parts })))
+      let parts : HasFewParts d = (where_only HasFewParts _ (declaration_few text p.function)).each ts mid d reads in
+      only_gives Few _ (record { declarations = one_more declaration_limit p.decls d few.declarations other; parts = All-push HasFewParts p.decls d few.parts parts })))
 
   item_few : (p : ProgramText) → Few p → Only (item text p) Few
   unfolding item
@@ -113,17 +105,8 @@ module _ (text : List ℕ) where
 
   program_few : Only (program text) Few
   unfolding program
-  program_few = only_loop _ _ _ item_few _ (record { declarations = omega arith; parts = All-nil FewParts })
+  program_few = only_loop _ _ _ item_few _ (record { declarations = omega arith; parts = All-nil HasFewParts })
 
-parts_at : (ds : List DeclText) → All FewParts ds → (k : ℕ) (d : DeclText) → At ds k d → FewParts d
-parts_at ds all k d at = subst FewParts (get_or_from_slice_get ds k d d at) (All-get_or FewParts ds k d (slice_get_within ds k d at) all)
-
--- the parts of what is read can be counted in 32 bits
-pub small_program : (text : List ℕ) (tokens : List Token) (ds : List DeclText) → Reads text tokens ds → IsSmall ds
-small_program text tokens ds r =
-    let few : Few (record { decls = ds; function = r.0 }) = (program_few text).each tokens [] _ r.1 in
-    record {
-      few = omega (arith, few.declarations);
-      variables = λ k d at. omega (arith, (parts_at ds few.parts k d at).variables);
-      fields = λ k d at. omega (arith, (parts_at ds few.parts k d at).fields);
-    }
+-- what is read is within the limits
+pub within_limits : (text : List ℕ) (tokens : List Token) (ds : List DeclText) → Reads text tokens ds → IsWithinLimits ds
+within_limits text tokens ds r = (program_few text).each tokens [] _ r.1
