@@ -1,0 +1,11 @@
+pub mod LastWords
+pub mod Places
+pub mod Positions
+pub mod TypeNumbers
+pub mod UnevenTypes
+pub mod IndexSteps
+pub mod ChangedTypes
+pub mod Maps
+pub mod MadeLists
+pub mod MapEntries
+pub mod ResolvedNames

@@ -1,0 +1,12 @@
+pub mod NamePlaces
+pub mod NameLists
+pub mod Writing
+pub mod Places
+pub mod What
+pub mod DeclCodes
+pub mod Constructors
+pub mod Indexed
+pub mod Limits
+pub mod Meants
+pub mod MeantDecls
+pub mod MeantViews

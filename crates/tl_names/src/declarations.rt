@@ -1,0 +1,72 @@
+//! Declarations resolved.
+ghost use Rattle.std.specs.Prelude.{◌≡◌, ◌≤◌, IfOk, length, map};
+ghost use Rattle.tl_combinators.specs.Program.{decl_text, program_text};
+ghost use Rattle.tl_names.specs.Limits.{IsWithinLimits};
+ghost use Rattle.tl_names.specs.MeantDecls.{head_number, meant_decl};
+ghost use Rattle.tl_names.specs.MeantViews.{NumbersNames, decl_view};
+ghost use Rattle.tl_names.specs.Writing.{own_type};
+
+use crate::fields::{asked_names, meant_fields};
+use crate::index::Index;
+use crate::meant::MeantDecl;
+use crate::names::Names;
+use crate::types::meant_type;
+use crate::writing::own_type;
+use std::alloc::{AllocError, Global};
+use tl_base::Bytes;
+use tl_combinators::{Decl, Program};
+
+/// The declarations of a program in order, with each name resolved.
+pub fn resolve(
+    alloc: Global,
+    index: &Index,
+    program: &Program,
+) -> Result<Vec<MeantDecl>, AllocError>
+    requires { IsWithinLimits (program_text program.now) }
+    ensures { IfOk result (λ ms. map decl_view ms.items ≡ map (meant_decl index.now) (program_text program.now)) }
+{
+    let mut meant = Vec::new(alloc);
+    for decl in &program.decls {
+        meant.push(meant_decl(alloc, index, decl)?)?;
+    }
+    Ok(meant)
+}
+
+fn meant_decl(alloc: Global, index: &Index, decl: &Decl) -> Result<MeantDecl, AllocError>
+    requires vars { length (decl_text decl.now).vars ≤ 256 }
+    requires fields { length (decl_text decl.now).fields ≤ 256 }
+    ensures { IfOk result (λ m. decl_view m ≡ meant_decl index.now (decl_text decl.now)) }
+{
+    let vars = numbered(alloc, &decl.vars)?;
+    let names = asked_names(alloc, &decl.fields)?;
+    Ok(MeantDecl {
+        vars: decl.vars.len() as u32,
+        fields: meant_fields(alloc, index, &vars, &names, &decl.fields)?,
+        result: meant_type(alloc, index, &vars, &decl.result)?,
+        function: decl.function,
+        builtin: decl.builtin,
+        head: head_of(index, decl),
+    })
+}
+
+// The first index of each of the names.
+fn numbered(alloc: Global, names: &[Bytes]) -> Result<Names, AllocError>
+    requires { length names.now ≤ 256 }
+    ensures { IfOk result (NumbersNames names.now) }
+{
+    let mut numbers = Names::new(alloc);
+    for (at, name) in names.iter().enumerate() {
+        numbers.note(alloc, name.as_slice(), at as u32)?;
+    }
+    Ok(numbers)
+}
+
+// The number of the type that a declaration constructs.
+fn head_of(index: &Index, decl: &Decl) -> Option<u32>
+    ensures { result ≡ head_number index.now (own_type (decl_text decl.now)) }
+{
+    match own_type(decl) {
+        Some(name) => index.type_number(name),
+        None => None,
+    }
+}

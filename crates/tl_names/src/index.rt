@@ -1,0 +1,230 @@
+//! The declarations of a program by name.
+ghost use Rattle.std.specs.Prelude.{◌≡◌, ◌∷◌, [], ◌++◌, ◌<◌, ◌≤◌, ◌^◌, ℕ, List, length, IfOk, OnOk, Some};
+ghost use Rattle.tl_combinators.specs.Program.{DeclText, decl_text, program_text};
+ghost use Rattle.tl_names.specs.Constructors.{AreConstructors};
+ghost use Rattle.tl_names.specs.Indexed.{AreNumbered, Changes, IndexesNames, IndexesTypes, one_more};
+ghost use Rattle.tl_names.specs.NamePlaces.{place_in};
+ghost use Rattle.tl_names.specs.Places.{types_of};
+ghost use Rattle.tl_names.specs.What.{base_what, constructor_named, declared_what, known_what, type_named, unless_variable};
+ghost use Rattle.tl_names.specs.Writing.{own_type};
+
+use crate::names::Names;
+use crate::what::What;
+use crate::writing::{is_constructor, is_type_name, own_type};
+use std::alloc::{AllocError, Global};
+use std::marker::Model;
+use std::snapshot::Snapshot;
+use tl_combinators::{BuiltIn, Decl, Program};
+
+/// The constructors of a type: the index of the first and how many variables it has, whether it is the only one, and whether
+/// another has another number of variables.
+#[derive(Clone, Copy)]
+pub struct Constructors {
+    pub first: u32,
+    pub vars: usize,
+    pub only: bool,
+    pub uneven: bool,
+}
+
+/// The own constructors and the types of a program, to be found by name. It keeps the program's text for clauses alone.
+#[derive(Drop)]
+pub struct Index {
+    program: Snapshot<Program>,
+    names: Names,
+    types: Names,
+    families: Vec<Constructors>,
+}
+
+impl Model for Index {
+    ghost use Rattle.std.specs.Prelude.{List};
+    ghost use Rattle.tl_combinators.specs.Program.{DeclText, program_text};
+    ghost use Rattle.tl_names.specs.DeclCodes.{decls_code};
+
+    ghost Value = { List DeclText };
+
+    ghost coded = { decls_code };
+
+    ghost use Rattle.tl_names.specs.Indexed.{IsIndex};
+
+    ghost view = { λ x. program_text x.program.value };
+
+    ghost invariant = { λ x. IsIndex (program_text x.program.value) x.names x.types x.families.items };
+}
+
+impl Index {
+    /// Goes through a program once.
+    pub fn of(alloc: Global, program: &Program) -> Result<Index, AllocError>
+        requires { length (program_text program.now) < 2 ^ 32 }
+        ensures { IfOk result (λ x. x ≡ program_text program.now) }
+    {
+        let mut names = Names::new(alloc);
+        let mut types = Names::new(alloc);
+        let mut families = Vec::new(alloc);
+        for (at, decl) in program.decls.iter().enumerate() {
+            note_name(alloc, &mut names, decl, at as u32)?;
+            note_type(alloc, &mut types, &mut families, decl, at as u32)?;
+        }
+        Ok(Index {
+            program: Snapshot::of(program),
+            names,
+            types,
+            families,
+        })
+    }
+
+    /// What a name means where a declaration with these variables writes it.
+    pub fn what(&self, vars: &Names, name: &[u8]) -> What
+        ensures { result ≡ unless_variable (place_in vars.now name.now) (known_what self.now name.now) }
+    {
+        match vars.get(name) {
+            Some(index) => What::Variable { index },
+            None => self.known(name),
+        }
+    }
+
+    // What a name means that no variable has.
+    fn known(&self, name: &[u8]) -> What
+        ensures { result ≡ known_what self.now name.now }
+    {
+        match BuiltIn::of_name(name) {
+            Some(built_in) => base_what(built_in),
+            None => {
+                if name == b"Vector".as_slice() {
+                    What::Vector { is_boxed: true }
+                } else {
+                    self.declared(name)
+                }
+            }
+        }
+    }
+
+    // The type that is declared under a name, or the constructor.
+    fn declared(&self, name: &[u8]) -> What
+        ensures { result ≡ declared_what self.now name.now }
+    {
+        if is_type_name(name) {
+            match self.type_number(name) {
+                Some(number) => What::Type { number },
+                None => What::Unknown,
+            }
+        } else {
+            match self.constructor(name) {
+                Some(index) => What::Constructor { index },
+                None => What::Unknown,
+            }
+        }
+    }
+
+    /// The index of the first constructor with this name.
+    pub fn constructor(&self, name: &[u8]) -> Option<u32>
+        ensures { result ≡ constructor_named self.now name.now }
+    {
+        self.names.get(name)
+    }
+
+    /// The number of the type with this name.
+    pub fn type_number(&self, name: &[u8]) -> Option<u32>
+        ensures { result ≡ type_named self.now name.now }
+    {
+        self.types.get(name)
+    }
+
+    /// The number of types.
+    pub fn type_count(&self) -> u32
+        ensures { result ≡ length (types_of self.now) }
+    {
+        self.families.len() as u32
+    }
+
+    /// The constructors of the type with this number.
+    pub fn constructors(&self, number: u32) -> Constructors
+        requires { number < length (types_of self.now) }
+        ensures { (type : List ℕ) → type_named self.now type ≡ Some number → AreConstructors self.now type result }
+    {
+        self.families[number as usize]
+    }
+}
+
+// A built-in bare type, as what its name means.
+fn base_what(built_in: BuiltIn) -> What
+    ensures { result ≡ base_what built_in }
+{
+    match built_in {
+        BuiltIn::Vector => What::Vector { is_boxed: false },
+        _ => What::Base { built_in },
+    }
+}
+
+// Notes the name of one more declaration, which stands at this index, after the others.
+fn note_name(alloc: Global, names: &mut Names, decl: &Decl, at: u32) -> Result<(), AllocError>
+    ensures { OnOk result ((ds : List DeclText) → length ds ≡ at → IndexesNames ds names.old → IndexesNames (ds ++ decl_text decl.now ∷ []) names.new) }
+{
+    if is_constructor(decl) {
+        names.note(alloc, decl.name.as_slice(), at)?;
+    }
+    Ok(())
+}
+
+// Notes the type that one more declaration makes.
+fn note_type(
+    alloc: Global,
+    types: &mut Names,
+    families: &mut Vec<Constructors>,
+    decl: &Decl,
+    at: u32,
+) -> Result<(), AllocError>
+    requires numbered { AreNumbered types.old families.old.items }
+    requires few { length families.old.items ≤ at }
+    ensures { OnOk result ((ds : List DeclText) → length ds ≡ at → IndexesTypes ds types.old families.old.items → IndexesTypes (ds ++ decl_text decl.now ∷ []) types.new families.new.items) }
+{
+    match own_type(decl) {
+        Some(name) => add_type(alloc, types, families, name, at, decl.vars.len()),
+        None => Ok(()),
+    }
+}
+
+// The constructors of a type with one more, which has so many variables, at an index after the others.
+fn one_more(found: Option<Constructors>, at: u32, vars: usize) -> Constructors
+    ensures { result ≡ one_more at vars found }
+{
+    match found {
+        Some(constructors) => Constructors {
+            first: constructors.first,
+            vars: constructors.vars,
+            only: false,
+            uneven: constructors.uneven || constructors.vars != vars,
+        },
+        None => Constructors {
+            first: at,
+            vars,
+            only: true,
+            uneven: false,
+        },
+    }
+}
+
+// Adds one more constructor of a type.
+fn add_type(
+    alloc: Global,
+    types: &mut Names,
+    families: &mut Vec<Constructors>,
+    name: &[u8],
+    at: u32,
+    vars: usize,
+) -> Result<(), AllocError>
+    requires numbered { AreNumbered types.old families.old.items }
+    requires few { length families.old.items ≤ at }
+    ensures { OnOk result (Changes types.old families.old.items types.new families.new.items name.now (one_more at vars)) }
+{
+    match types.get(name) {
+        Some(number) => {
+            let known = families[number as usize];
+            families[number as usize] = one_more(Some(known), at, vars);
+        }
+        None => {
+            types.note(alloc, name, families.len() as u32)?;
+            families.push(one_more(None, at, vars))?;
+        }
+    }
+    Ok(())
+}

@@ -1,0 +1,52 @@
+//! Numbers by name.
+ghost use Rattle.std.specs.Prelude.{◌≡◌, [], IfOk, OnOk, OnErr, is_none};
+ghost use Rattle.tl_names.specs.NamePlaces.{Notes, place_in};
+
+use std::alloc::{AllocError, Global};
+use std::collections::BTreeMap;
+use std::marker::Model;
+
+/// For each name its number, in an ordered map: no text can make its look-ups slow.
+#[derive(Drop)]
+pub struct Names {
+    map: BTreeMap<Vec<u8>, u32>,
+}
+
+impl Model for Names {
+    ghost use Rattle.std.specs.Prelude.{List, ℕ};
+    ghost use Rattle.tl_names.specs.NamePlaces.{places_in};
+
+    ghost Value = { List (List ℕ × ℕ) };
+
+    ghost view = { λ p. places_in p.map.entries };
+}
+
+impl Names {
+    pub fn new(alloc: Global) -> Names
+        ensures { result ≡ [] }
+    {
+        Names {
+            map: BTreeMap::new(alloc),
+        }
+    }
+
+    /// The number of a name.
+    pub fn get(&self, name: &[u8]) -> Option<u32>
+        ensures { result ≡ place_in self.now name.now }
+    {
+        self.map.get(name).copied()
+    }
+
+    /// Notes the number of a name that has none yet, and tells whether it had none.
+    pub fn note(&mut self, alloc: Global, name: &[u8], at: u32) -> Result<bool, AllocError>
+        ensures noted { OnOk result (Notes self.old self.new name.now at) }
+        ensures fresh { IfOk result (λ fresh. fresh ≡ is_none (place_in self.old name.now)) }
+        ensures err { OnErr result (self.new ≡ self.old) }
+    {
+        if self.get(name).is_some() {
+            return Ok(false);
+        }
+        self.map.insert(Vec::from_slice(alloc, name)?, at)?;
+        Ok(true)
+    }
+}
