@@ -6,7 +6,7 @@ use Rattle.tl_lexer.proofs.Whole.{Decided}
 use Rattle.tl_combinators.proofs.Decided.{decided_as, decided_and}
 use Rattle.tl_schema.specs.Types.{Shape, int, long, nat, opaque, str, raw, flag, call, var, vector, boxed, bare, no_shapes, shape}
 use Rattle.tl_schema.specs.Schemas.{Slot, Declaration, Declared}
-use Rattle.tl_schema.specs.Meanings.{types_of}
+use Rattle.tl_names.specs.Places.{types_of}
 use Rattle.plain_values.specs.PlainViews.{IsWhole, IsPlainSlot, ArePlainSlots, IsPlainHead, IsPlainType}
 use Rattle.tl_schema.proofs.PlacesDecided.{less_decided}
 

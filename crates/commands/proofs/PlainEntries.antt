@@ -8,7 +8,7 @@ use Rattle.std.proofs.lemmas.Option.{slice_get-map}
 use Rattle.std.proofs.lemmas.Simd.{map-map}
 use Rattle.tl_schema.specs.Schemas.{Declaration, Declared}
 use Rattle.plain_values.specs.PlainSchemas.{PlainSlot}
-use Rattle.tl_schema.specs.Meanings.{types_of}
+use Rattle.tl_names.specs.Places.{types_of}
 use Rattle.plain_values.specs.PlainViews.{own_head, plain_slot, plain_declaration, plain_decls}
 use Rattle.plain_values.specs.Reading.{is_head, fields_in}
 use Rattle.tl_schema.specs.Seen.{slot, declaration}

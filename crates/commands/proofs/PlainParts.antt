@@ -7,7 +7,7 @@ use Rattle.tl_schema.specs.Types.{Shape, Shapes, boxed, no_shapes, shapes_of}
 use Rattle.tl_schema.specs.Types as shapes
 use Rattle.tl_schema.specs.Schemas.{Declared}
 use Rattle.tl_schema.specs.Seen.{shape}
-use Rattle.tl_schema.specs.Meanings.{types_of}
+use Rattle.tl_names.specs.Places.{types_of}
 use Rattle.plain_values.specs.PlainViews.{IsPlainHead, IsPlainType}
 use Rattle.tl_schema.specs.declared.schema.TypeRef.{TypeRef}
 use Rattle.tl_schema.specs.declared.schema.TypeRef as ref

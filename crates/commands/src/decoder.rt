@@ -1,7 +1,7 @@
 //! Values from bytes.
 ghost use Rattle.std.specs.Prelude.{◌≡◌, ◌<◌, ◌≤◌, ◌++◌, ◌==◌, ◌&&◌, [], ℕ, List, IsErrOf, IfSome, length, map};
 ghost use Rattle.tl_base.specs.Using.{Used};
-ghost use Rattle.tl_schema.specs.Meanings.{types_of};
+ghost use Rattle.tl_names.specs.Places.{types_of};
 ghost use Rattle.plain_values.specs.PlainTypes.{boxed, int, long};
 ghost use Rattle.plain_values.specs.PlainViews.{plain_decls, plain_shape, plain_slot};
 ghost use Rattle.plain_values.specs.Values.{Tree, depth};

@@ -4,7 +4,7 @@ ghost use Rattle.tl_base.specs.Calls.{Told};
 ghost use Rattle.tl_base.specs.Outside.{IsThere};
 ghost use Rattle.tl_base.specs.Using.{MeetsFaults};
 ghost use Rattle.tl_base.specs.declared.counts.Kind.TheVariants as kinds;
-ghost use Rattle.tl_schema.specs.Meanings.{types_of};
+ghost use Rattle.tl_names.specs.Places.{types_of};
 ghost use Rattle.plain_values.specs.PlainTypes.{boxed};
 ghost use Rattle.plain_values.specs.PlainViews.{plain_decls};
 ghost use Rattle.commands.specs.Jobs.{LoadsSchema, LoadsValue, MakesOutput, NamesPlain, ReadsSchema, Works, bytes_of, check_command, decode_command};

@@ -1,7 +1,7 @@
 //! Values that are whole inputs.
 ghost use Rattle.std.specs.Prelude.{◌<◌, IsErrOf, IfSome, length};
 ghost use Rattle.tl_base.specs.Using.{Used};
-ghost use Rattle.tl_schema.specs.Meanings.{types_of};
+ghost use Rattle.tl_names.specs.Places.{types_of};
 ghost use Rattle.plain_values.specs.PlainTypes.{boxed};
 ghost use Rattle.plain_values.specs.PlainViews.{plain_decls};
 ghost use Rattle.commands.specs.Decoding.{DecodesWhole};

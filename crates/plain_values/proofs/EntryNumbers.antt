@@ -5,11 +5,12 @@ use Rattle.std.proofs.lemmas.Bool.{cases_Bool, cases_order, ltb-true}
 use Rattle.std.proofs.lemmas.List.{length-map}
 use Rattle.std.proofs.lemmas.Option.{cond_some, none-some, same_Some, slice_get-map, slice_get_cases, slice_get_within}
 use Rattle.tl_combinators.specs.Program.{DeclText}
-use Rattle.tl_schema.specs.Writing.{At, is_constructor, result_head}
-use Rattle.tl_schema.specs.Writing.{own_type}
+use Rattle.tl_names.specs.Writing.{At, is_constructor, result_head}
+use Rattle.tl_names.specs.Writing.{own_type}
 use Rattle.tl_schema.specs.Numbers.{IsNumbered}
 use Rattle.tl_schema.specs.Schemas.{Declaration, Declared, vector_number, packed_number}
-use Rattle.tl_schema.specs.Meanings.{types_of, head_in, IsNumberWhere, IsEntry, line_number}
+use Rattle.tl_names.specs.Places.{types_of}
+use Rattle.tl_schema.specs.Meanings.{head_in, IsNumberWhere, IsEntry, line_number}
 use Rattle.tl_schema.specs.SameNumber.{SameNumber, earlier, packed}
 use Rattle.tl_schema.specs.CheckedPrograms.{IsSchema}
 use Rattle.plain_values.specs.PlainSchemas.{PlainDeclaration, IsPlainSchema}

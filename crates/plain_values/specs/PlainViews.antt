@@ -6,7 +6,7 @@ use Rattle.plain_values.specs.PlainTypes.{PlainShape}
 use Rattle.plain_values.specs.PlainTypes as plain
 use Rattle.tl_schema.specs.Schemas.{Slot, Declaration, Declared}
 use Rattle.plain_values.specs.PlainSchemas.{PlainSlot, PlainDeclaration}
-use Rattle.tl_schema.specs.Meanings.{types_of}
+use Rattle.tl_names.specs.Places.{types_of}
 
 abbrev pub IsWhole : Shape → Type 0
 IsWhole s = (s ≡ int) ⊎ (s ≡ long)

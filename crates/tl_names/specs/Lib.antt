@@ -6,7 +6,6 @@ pub mod What
 pub mod DeclCodes
 pub mod Constructors
 pub mod Indexed
-pub mod Limits
 pub mod Meants
 pub mod MeantDecls
 pub mod MeantViews

@@ -1,7 +1,7 @@
 //! Declarations resolved.
 ghost use Rattle.std.specs.Prelude.{◌≡◌, ◌≤◌, IfOk, length, map};
 ghost use Rattle.tl_combinators.specs.Program.{decl_text, program_text};
-ghost use Rattle.tl_names.specs.Limits.{IsWithinLimits};
+ghost use Rattle.tl_combinators.specs.Program.{IsWithinLimits};
 ghost use Rattle.tl_names.specs.MeantDecls.{head_number, meant_decl};
 ghost use Rattle.tl_names.specs.MeantViews.{NumbersNames, decl_view};
 ghost use Rattle.tl_names.specs.Writing.{own_type};

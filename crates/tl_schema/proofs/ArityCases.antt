@@ -3,7 +3,7 @@ use Rattle.std.proofs.Common.{◌≡◌, ℕ, true, false, List, length, Option,
 use Rattle.std.proofs.lemmas.Option.{same_Some, none-some}
 use Rattle.tl_combinators.specs.Program.{DeclText}
 use Rattle.tl_graph.specs.Firsts.{First}
-use Rattle.tl_schema.specs.Writing.{is_type_name, is_built_in, is_variable, IsConstructorOf, IsConstructorNamed}
+use Rattle.tl_names.specs.Writing.{is_type_name, is_built_in, is_variable, IsConstructorOf, IsConstructorNamed}
 use Rattle.tl_schema.specs.WrongArity.{HasArity}
 use Rattle.tl_schema.specs.WrongArity as has
 use Rattle.tl_schema.specs.Arities.{VarsOfFirst, IsArity}

@@ -3,9 +3,9 @@ use Rattle.std.proofs.Common.{◌≡◌, ℕ, List, Option, Some, true, false, r
 use Rattle.tl_combinators.specs.Trees.{Tree, Trees, named, percent, any_call}
 use Rattle.tl_combinators.specs.Program.{DeclText}
 use Rattle.tl_schema.proofs.HeadNames.{type_name}
-use Rattle.tl_schema.specs.Writing.{is_type_name, is_built_in, is_variable}
-use Rattle.tl_schema.specs.NotBare.{IsOnlyConstructor}
-use Rattle.tl_schema.specs.Indexed.{FirstNamed}
+use Rattle.tl_names.specs.Writing.{is_type_name, is_built_in, is_variable}
+use Rattle.tl_names.specs.Constructors.{IsOnlyConstructor}
+use Rattle.tl_names.specs.Constructors.{FirstNamed}
 use Rattle.tl_schema.specs.BareReferences.{IsBareOf, by_name, by_type}
 use Rattle.tl_schema.specs.BareSteps.{BareIs, OnlyOf}
 use Rattle.tl_schema.proofs.Firsts.{one_first}

@@ -3,7 +3,7 @@ use Rattle.std.proofs.Common.{◌≡◌, inl, inr, ℕ, List, Bool, true, false,
 use Rattle.tl_combinators.specs.Trees.{Tree, Trees, named, percent}
 use Rattle.tl_combinators.specs.Program.{DeclText}
 use Rattle.tl_schema.proofs.HeadNames.{type_name}
-use Rattle.tl_schema.specs.Writing.{is_variable}
+use Rattle.tl_names.specs.Writing.{is_variable}
 use Rattle.tl_schema.specs.NotBare.{HasBare, vector, single, HasNoBare}
 use Rattle.tl_schema.specs.BareForms.{IsBareName}
 

@@ -5,7 +5,7 @@ use Rattle.std.specs.List.{list_any}
 use Rattle.std.proofs.lemmas.Bool.{cases_Bool}
 use Rattle.std.proofs.lemmas.Option.{none-some}
 use Rattle.tl_lexer.proofs.Whole.{Decided}
-use Rattle.tl_schema.specs.NameLists.{IsRepeat}
+use Rattle.tl_names.specs.NameLists.{IsRepeat}
 use Rattle.tl_schema.proofs.Repeats.{repeat_found, repeat_not_found}
 
 module _ {X : Type 0} (eq : X → X → Bool) (same : (x y : X) → Decides (eq x y) (x ≡ y)) where

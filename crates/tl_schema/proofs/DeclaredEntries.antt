@@ -4,12 +4,13 @@ use Rattle.std.specs.Option.{unwrap_or}
 use Rattle.std.proofs.lemmas.Option.{none-some, same_Some}
 use Rattle.std.proofs.lemmas.Slice.Eq.{bytes_eq-Decides}
 use Rattle.tl_combinators.specs.Program.{DeclText}
-use Rattle.tl_schema.specs.Writing.{At}
+use Rattle.tl_names.specs.Writing.{At}
 use Rattle.tl_schema.specs.Schemas.{Declaration, Declared}
-use Rattle.tl_schema.specs.Meanings.{IsEntry, IsSmall, types_of}
+use Rattle.tl_schema.specs.Meanings.{IsEntry, IsSmall}
+use Rattle.tl_names.specs.Places.{types_of}
 use Rattle.tl_schema.specs.CheckCauses.{Passes}
 use Rattle.tl_schema.specs.CheckedPrograms.{HasName, Finds}
-use Rattle.tl_schema.specs.NamePlaces.{Notes, place_in}
+use Rattle.tl_names.specs.NamePlaces.{Notes, place_in}
 use Rattle.tl_schema.specs.NamesNoted.{NotesOne, among, Enters}
 use Rattle.tl_schema.specs.SchemaParts.{ArePlaces, IsSound}
 use Rattle.tl_schema.specs.declared.checks.Known.{Known}

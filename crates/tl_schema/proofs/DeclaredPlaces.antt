@@ -5,10 +5,10 @@ use Rattle.std.proofs.lemmas.Bool.Decides.{Decides-and, Decides-like}
 use Rattle.std.proofs.lemmas.Option.{none-some, same_Some}
 use Rattle.std.proofs.lemmas.Slice.Eq.{bytes_eq-Decides}
 use Rattle.tl_combinators.specs.Program.{DeclText}
-use Rattle.tl_schema.specs.Writing.{own_type}
-use Rattle.tl_schema.specs.Indexed.{FirstNamed, FirstOf}
-use Rattle.tl_schema.specs.Meanings.{first_of, is_type, place_of}
-use Rattle.tl_schema.specs.Writing.{is_constructor, result_head}
+use Rattle.tl_names.specs.Writing.{own_type}
+use Rattle.tl_names.specs.Constructors.{FirstNamed, FirstOf}
+use Rattle.tl_names.specs.Places.{first_of, is_type, place_of}
+use Rattle.tl_names.specs.Writing.{is_constructor, result_head}
 use Rattle.tl_schema.proofs.IndexSteps.{IsNamed, Makes, named_place, place_named, made_place, place_made}
 use Rattle.tl_schema.proofs.Places.{first_same}
 use Rattle.tl_schema.proofs.TestedPlaces.{first_passes, none_passes}

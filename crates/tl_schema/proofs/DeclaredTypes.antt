@@ -3,8 +3,8 @@ use Rattle.std.proofs.Common.{◌≡◌, ℕ, ◌+◌, ◌≤◌, List, [], ◌�
 use Rattle.std.specs.List.{fold}
 use Rattle.std.proofs.lemmas.List.Sums.{fold_push}
 use Rattle.tl_combinators.specs.Program.{DeclText}
-use Rattle.tl_schema.specs.Writing.{own_type}
-use Rattle.tl_schema.specs.Meanings.{types_of, with_type_of}
+use Rattle.tl_names.specs.Writing.{own_type}
+use Rattle.tl_names.specs.Places.{types_of, with_type_of}
 use Rattle.tl_schema.proofs.Maps.{take_push}
 use Rattle.tl_schema.proofs.TypeNames.{few_more}
 

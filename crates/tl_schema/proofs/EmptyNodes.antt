@@ -4,7 +4,7 @@ use Rattle.std.proofs.lemmas.Option.{slice_get_cases, slice_get_within}
 use Rattle.tl_combinators.specs.Program.{DeclText}
 use Rattle.tl_graph.specs.Paths.{IsIn}
 use Rattle.tl_graph.specs.Needs.{IsMarked, CanBeMet, can_be_met}
-use Rattle.tl_schema.specs.Writing.{At}
+use Rattle.tl_names.specs.Writing.{At}
 use Rattle.tl_schema.specs.EmptyElement.{HasBareFields, TakesNone, takes_none}
 use Rattle.tl_schema.specs.BareSteps.{BareFieldsAre, AreNeeds, MarksEmpty}
 use Rattle.tl_schema.proofs.OneBare.{same_fields}

@@ -6,7 +6,8 @@ use Rattle.tl_lexer.proofs.Whole.{Decided}
 use Rattle.tl_combinators.specs.Program.{DeclText}
 use Rattle.tl_combinators.proofs.Decided.{decided_as}
 use Rattle.tl_graph.specs.Firsts.{First}
-use Rattle.tl_schema.specs.Writing.{At, DeclarationHas}
+use Rattle.tl_names.specs.Writing.{At}
+use Rattle.tl_schema.specs.Writing.{DeclarationHas}
 use Rattle.tl_schema.proofs.PlacesDecided.{option_decided}
 
 -- no place below n has it

@@ -5,7 +5,7 @@ use Rattle.std.specs.List.{list_any, position_or_len}
 use Rattle.std.proofs.lemmas.Bool.{ltb-false}
 use Rattle.std.proofs.lemmas.List.Quantifiers.{position-Some}
 use Rattle.std.proofs.lemmas.Option.{none-some}
-use Rattle.tl_schema.specs.Writing.{last_word}
+use Rattle.tl_names.specs.Writing.{last_word}
 
 abbrev has_dot : List ℕ → Bool
 has_dot xs = list_any (λ c. c == 46) xs

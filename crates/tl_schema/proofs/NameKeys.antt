@@ -3,7 +3,7 @@ use Rattle.std.proofs.Common.{◌≡◌, ℕ, Bool, true, false, not, List, [], 
 use Rattle.std.specs.List.{list_any}
 use Rattle.std.proofs.lemmas.List.{map-append}
 use Rattle.indexmap.specs.IndexSet.{insert_key}
-use Rattle.tl_schema.specs.NameLists.{with_name}
+use Rattle.tl_names.specs.NameLists.{with_name}
 use Rattle.tl_schema.specs.NameLists.{lists}
 use Rattle.tl_schema.proofs.Maps.{list_any-map}
 

@@ -7,7 +7,7 @@ use Rattle.std.proofs.lemmas.Option.{none-some, same_Some, slice_get-map, slice_
 use Rattle.std.proofs.lemmas.List.Elements.{All-get_or}
 use Rattle.tl_combinators.specs.Program.{DeclText}
 use Rattle.tl_combinators.proofs.WrittenNumbers.{IsSmall as IsSmallNumber}
-use Rattle.tl_schema.specs.Writing.{At}
+use Rattle.tl_names.specs.Writing.{At}
 use Rattle.tl_schema.specs.Numbers.{IsWrittenOrCrc}
 use Rattle.tl_schema.specs.Schemas.{Declaration, Declared}
 use Rattle.tl_schema.specs.Meanings.{IsEntry, IsNumberWhere, IsSmall, declaration_of, line_number}

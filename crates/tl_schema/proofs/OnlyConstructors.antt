@@ -2,7 +2,7 @@
 use Rattle.std.proofs.Common.{ℕ, List, None}
 use Rattle.std.proofs.lemmas.Option.{none-some}
 use Rattle.tl_combinators.specs.Program.{DeclText}
-use Rattle.tl_schema.specs.Indexed.{FirstOf}
+use Rattle.tl_names.specs.Constructors.{FirstOf}
 use Rattle.tl_schema.specs.BareSteps.{OnlyOf}
 
 -- a type with no constructor has no only one

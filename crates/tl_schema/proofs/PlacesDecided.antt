@@ -6,7 +6,7 @@ use Rattle.std.proofs.lemmas.Slice.Eq.{bytes_eq-Decides}
 use Rattle.tl_lexer.proofs.Whole.{Decided}
 use Rattle.tl_combinators.proofs.Decided.{decided_as}
 use Rattle.tl_graph.proofs.Deciding.{below_decided}
-use Rattle.tl_schema.specs.NameLists.{IsRepeat}
+use Rattle.tl_names.specs.NameLists.{IsRepeat}
 use Rattle.tl_schema.proofs.Deciding.{repeat_decided}
 
 -- ---- numbers and tests

@@ -8,7 +8,7 @@ use Rattle.tl_combinators.specs.Trees.{Tree, Trees, named, tree, plain, trees_of
 use Rattle.tl_combinators.specs.Program.{DeclText, decl_text}
 use Rattle.tl_combinators.proofs.AppliedNames.{holds_of_applied}
 use Rattle.tl_combinators.proofs.TreeViews.{view-Named}
-use Rattle.tl_schema.specs.Writing.{is_type_name, is_variable, is_constructor}
+use Rattle.tl_names.specs.Writing.{is_type_name, is_variable, is_constructor}
 use Rattle.tl_schema.specs.BadResult.{IsGoodResult, HasBadResult}
 use Rattle.tl_schema.proofs.Maps.{take_push}
 

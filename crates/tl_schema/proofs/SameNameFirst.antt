@@ -6,8 +6,8 @@ use Rattle.tl_combinators.proofs.Decided.{decided_and, decided_or, text_decided}
 use Rattle.tl_combinators.specs.Trees.{Trees, named}
 use Rattle.tl_combinators.specs.Program.{DeclText}
 use Rattle.tl_graph.specs.Firsts.{First}
-use Rattle.tl_schema.specs.Writing.{At, is_variable}
-use Rattle.tl_schema.specs.NameLists.{IsRepeat}
+use Rattle.tl_names.specs.Writing.{At, is_variable}
+use Rattle.tl_names.specs.NameLists.{IsRepeat}
 use Rattle.tl_schema.specs.SameName.{SameName, declared, part, vector, part_names}
 use Rattle.tl_schema.proofs.PlacesDecided.{bool_decided, less_decided, names_repeat_decided}
 use Rattle.tl_schema.proofs.TypesDecided.{this_name_decided}

@@ -8,8 +8,8 @@ use Rattle.std.proofs.lemmas.Option.{slice_get_within, same_Some}
 use Rattle.std.proofs.lemmas.Slice.Eq.{bytes_eq-Decides}
 use Rattle.tl_combinators.specs.Program.{DeclText, FieldText, field_text}
 use Rattle.tl_combinators.specs.declared.program.Field.{Field}
-use Rattle.tl_schema.specs.Writing.{At}
-use Rattle.tl_schema.specs.NameLists.{IsRepeat, with_name}
+use Rattle.tl_names.specs.Writing.{At}
+use Rattle.tl_names.specs.NameLists.{IsRepeat, with_name}
 use Rattle.tl_schema.specs.SameName.{SameName, declared, part, vector, part_names}
 use Rattle.tl_schema.specs.SameNameSteps.{names_among, AddsName, MakesVector}
 use Rattle.tl_schema.specs.declared.same_name.Known.{Known}

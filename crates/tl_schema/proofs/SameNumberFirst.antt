@@ -6,7 +6,7 @@ use Rattle.tl_numbers.proofs.Division.{some_crc, one_crc}
 use Rattle.tl_combinators.proofs.Decided.{decided_as, decided_and, decided_or}
 use Rattle.tl_combinators.specs.Program.{DeclText}
 use Rattle.tl_graph.specs.Firsts.{First}
-use Rattle.tl_schema.specs.Writing.{At}
+use Rattle.tl_names.specs.Writing.{At}
 use Rattle.tl_schema.specs.Schemas.{packed_number, vector_number}
 use Rattle.tl_schema.specs.Numbers.{IsWrittenOrCrc, IsNumberOf}
 use Rattle.tl_schema.specs.SameNumber.{SameNumber, earlier, packed, vector}

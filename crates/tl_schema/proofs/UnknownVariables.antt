@@ -3,7 +3,7 @@ use Rattle.std.proofs.Common.{◌≡◌, ◌==◌, true, false, not, bytes_eq, s
 use Rattle.std.specs.List.{count_by}
 use Rattle.std.proofs.lemmas.Bool.{not-true, not-false, eqb-false, eqb-true}
 use Rattle.tl_combinators.specs.Program.{DeclText}
-use Rattle.tl_schema.specs.Writing.{is_variable}
+use Rattle.tl_names.specs.Writing.{is_variable}
 use Rattle.tl_schema.specs.Parts.{SomeInFields}
 use Rattle.tl_schema.specs.UnknownVariable.{NamesVariable, MisusesVariable, uncalled, no_variable, in_field, calls}
 use Rattle.tl_schema.specs.VariableSteps.{calls_another, leaves_uncalled}

@@ -6,8 +6,9 @@ use Rattle.tl_combinators.proofs.Decided.{decided_as, decided_not, decided_or}
 use Rattle.tl_combinators.specs.Trees.{Tree, named, percent, any_call}
 use Rattle.tl_combinators.specs.Program.{DeclText}
 use Rattle.tl_graph.specs.Firsts.{First}
-use Rattle.tl_schema.specs.Writing.{own_type, IsConstructorOf}
-use Rattle.tl_schema.specs.WrongArity.{count_of, Misapplies, IsUneven, ConstructsUneven, IsWrong, WrongArity}
+use Rattle.tl_names.specs.Writing.{own_type, IsConstructorOf}
+use Rattle.tl_schema.specs.WrongArity.{count_of, Misapplies, ConstructsUneven, IsWrong, WrongArity}
+use Rattle.tl_names.specs.Constructors.{IsUneven}
 use Rattle.tl_schema.proofs.PlacesDecided.{option_decided}
 use Rattle.tl_schema.proofs.WritingDecided.{constructor_that_decided, writes_decided}
 use Rattle.tl_schema.proofs.OneArity.{other_arity_decided}

@@ -2,7 +2,7 @@
 use Rattle.std.specs.Prelude.{◌≡◌, ℕ, ◌<◌, ◌^◌, List, length, Bool, Option, Some, None, Result, Ok, Err, slice_get}
 use Rattle.tl_combinators.specs.Program.{DeclText}
 use Rattle.tl_graph.specs.Firsts.{First}
-use Rattle.tl_schema.specs.Writing.{At}
+use Rattle.tl_names.specs.Writing.{At}
 use Rattle.tl_schema.specs.Schemas.{Declaration, Declared}
 use Rattle.tl_schema.specs.Meanings.{IsEntry, IsSmall}
 use Rattle.tl_schema.specs.CheckCauses.{causes, PassesBy, RefusedBy, Passes, RefusedAt}

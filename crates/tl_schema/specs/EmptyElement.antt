@@ -4,7 +4,8 @@ use Rattle.std.specs.Prelude.{◌≡◌, ◌⊎◌, ℕ, List, length, slice_get
 use Rattle.tl_combinators.specs.Trees.{Tree, Trees, named, percent, any_call, no_trees, tree}
 use Rattle.tl_combinators.specs.Program.{KindText, nat, flag, call, of, FieldText, DeclText}
 use Rattle.tl_graph.specs.Paths.{IsIn}
-use Rattle.tl_schema.specs.Writing.{At, is_constructor, FieldAt, DeclarationHas}
+use Rattle.tl_names.specs.Writing.{At, is_constructor}
+use Rattle.tl_schema.specs.Writing.{FieldAt, DeclarationHas}
 use Rattle.tl_schema.specs.Parts.{SomeWritten}
 use Rattle.tl_schema.specs.BareReferences.{IsBareOf}
 

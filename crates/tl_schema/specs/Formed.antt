@@ -4,7 +4,7 @@
 use Rattle.std.specs.Prelude.{◌≡◌, ℕ, zero, suc, ◌<◌, List, length, slice_get, Some, Option, None, Bool, true, if◌then◌else◌, ◌⊎◌}
 use Rattle.tl_schema.specs.Types.{Shape, int, long, nat, opaque, str, raw, flag, call, var, vector, boxed, bare, Shapes, no_shapes, shape}
 use Rattle.tl_schema.specs.Schemas.{Slot, Declaration, Declared}
-use Rattle.tl_schema.specs.Meanings.{types_of}
+use Rattle.tl_names.specs.Places.{types_of}
 use Rattle.tl_schema.specs.EmptyElement.{TakesNone}
 
 -- declaration i is d, a constructor of the type with the number h

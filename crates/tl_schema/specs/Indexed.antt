@@ -4,24 +4,10 @@
 use Rattle.std.specs.Prelude.{◌≡◌, ℕ, ◌<◌, ◌^◌, List, length, IsTrue, ◌↔◌, bytes_eq, Vec, Option, None, Some, true, false, not, ◌||◌, ◌==◌, if◌then◌else◌}
 use Rattle.indexmap.specs.IndexMap.{IndexMap, get_by}
 use Rattle.tl_combinators.specs.Program.{DeclText}
-use Rattle.tl_graph.specs.Firsts.{First}
-use Rattle.tl_schema.specs.Writing.{At, IsConstructorOf, IsConstructorNamed}
-use Rattle.tl_schema.specs.NotBare.{IsOnlyConstructor}
-use Rattle.tl_schema.specs.WrongArity.{IsUneven}
-use Rattle.tl_schema.specs.NamePlaces.{place_in}
+use Rattle.tl_names.specs.Writing.{At}
+use Rattle.tl_names.specs.Constructors.{FirstNamed, FirstOf, IsSingle, IsUneven}
+use Rattle.tl_names.specs.NamePlaces.{place_in}
 use Rattle.tl_schema.specs.declared.index.Constructors.{Constructors}
-
--- the first place of a constructor with this name
-abbrev pub FirstNamed : List DeclText → List ℕ → Option ℕ → Type 0
-FirstNamed ds name = First (λ j. (c : DeclText) × IsConstructorNamed ds name j c)
-
--- the first place of a constructor of this type
-abbrev pub FirstOf : List DeclText → List ℕ → Option ℕ → Type 0
-FirstOf ds type = First (λ j. (c : DeclText) × IsConstructorOf ds type j c)
-
--- the type has exactly one constructor
-abbrev pub IsSingle : List DeclText → List ℕ → Type 0
-IsSingle ds type = (j : ℕ) × (c : DeclText) × IsOnlyConstructor ds type j c
 
 -- the first constructor of this type with its number of variables, whether it is the only one, and whether two have different numbers
 pub record AreConstructors (ds : List DeclText) (type : List ℕ) (c : Constructors) : Type 0 where

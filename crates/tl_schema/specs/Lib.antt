@@ -16,7 +16,6 @@ pub mod BareReferences
 pub mod BareCycle
 pub mod EmptyElement
 pub mod BareSteps
-pub mod DeclCodes
 pub mod Indexed
 pub mod Parts
 pub mod BareForms
@@ -29,7 +28,6 @@ pub mod Meanings
 pub mod CheckedPrograms
 pub mod TypeFaults
 pub mod AskedTypes
-pub mod NamePlaces
 pub mod NamesNoted
 pub mod SchemaParts
 pub mod SchemaCodes

@@ -8,42 +8,12 @@ use Rattle.std.specs.Option.{option_map}
 use Rattle.std.specs.List.{position_or_len}
 use Rattle.tl_combinators.specs.Trees.{Tree, Trees, named, percent, any_call, no_trees, tree}
 use Rattle.tl_combinators.specs.Program.{KindText, nat, flag, call, of, CondText, FieldText, DeclText}
-use Rattle.tl_schema.specs.Writing.{At, is_constructor, is_type_name, is_variable, own_type}
-use Rattle.tl_schema.specs.NameLists.{with_name}
+use Rattle.tl_names.specs.Writing.{At, is_type_name, is_variable, own_type}
+use Rattle.tl_names.specs.Places.{types_of, head_of, place_of, first_of, variable_of}
 use Rattle.tl_schema.specs.Numbers.{IsNumberOf}
 use Rattle.tl_schema.specs.Types.{Shape, Shapes, no_shapes, shape}
 use Rattle.tl_schema.specs.Types as shape
 use Rattle.tl_schema.specs.Schemas.{Slot, Declaration, vector_number}
-
--- ---- places
-
--- the types with that of one declaration more
-abbrev pub with_type_of : List (List ℕ) → Option (List ℕ) → List (List ℕ)
-with_type_of types None = types
-with_type_of types (Some type) = with_name types type
-
--- the types of a program by their names, in the order of their first constructors
-abbrev pub types_of : List DeclText → List (List ℕ)
-types_of ds = fold (λ types d. with_type_of types (own_type d)) [] ds
-
--- the number of a type
-abbrev pub head_of : List DeclText → List ℕ → ℕ
-head_of ds type = position_or_len (bytes_eq type) (types_of ds)
-
--- the place of the constructor with this name
-abbrev pub place_of : List DeclText → List ℕ → ℕ
-place_of ds name = position_or_len (λ d. is_constructor d && bytes_eq name d.name) ds
-
-abbrev pub is_type : List ℕ → Option (List ℕ) → Bool
-is_type type None = false
-is_type type (Some name) = bytes_eq type name
-
--- the place of the first constructor of this type
-abbrev pub first_of : List DeclText → List ℕ → ℕ
-first_of ds type = position_or_len (λ d. is_type type (own_type d)) ds
-
-abbrev pub variable_of : DeclText → List ℕ → ℕ
-variable_of d name = position_or_len (bytes_eq name) d.vars
 
 -- ---- types
 

@@ -1,11 +1,12 @@
 -- What is kept of the declarations so far: their entries, and the places of their names. This project's own.
 use Rattle.std.specs.Prelude.{◌≡◌, ℕ, ◌<◌, ◌^◌, List, [], ◌∷◌, ◌++◌, length, map, Bool, true, false, not, slice_get, Some}
 use Rattle.tl_combinators.specs.Program.{DeclText}
-use Rattle.tl_schema.specs.Writing.{At}
+use Rattle.tl_names.specs.Writing.{At}
 use Rattle.tl_schema.specs.Schemas.{Declaration}
 use Rattle.tl_schema.specs.Seen.{declaration}
-use Rattle.tl_schema.specs.Meanings.{IsEntry, types_of}
-use Rattle.tl_schema.specs.NamePlaces.{Notes}
+use Rattle.tl_schema.specs.Meanings.{IsEntry}
+use Rattle.tl_names.specs.Places.{types_of}
+use Rattle.tl_names.specs.NamePlaces.{Notes}
 use Rattle.tl_schema.specs.SchemaParts.{ArePlaces}
 use Rattle.tl_schema.specs.declared.checks.Known.{Known}
 use Rattle.tl_schema.specs.declared.checks.Entered.{Entered}

@@ -3,13 +3,10 @@
 use Rattle.std.specs.Prelude.{◌≡◌, ℕ, List, true, false, codes}
 use Rattle.tl_combinators.specs.Trees.{Tree, Trees, named, percent, any_call}
 use Rattle.tl_combinators.specs.Program.{DeclText}
-use Rattle.tl_schema.specs.Writing.{is_type_name, is_variable, IsConstructorOf, DeclarationHas}
+use Rattle.tl_names.specs.Constructors.{IsOnlyConstructor}
+use Rattle.tl_names.specs.Writing.{is_type_name, is_variable, IsConstructorOf}
+use Rattle.tl_schema.specs.Writing.{DeclarationHas}
 use Rattle.tl_schema.specs.Parts.{SomeWritten}
-
--- declaration j is c, and the type of this name has no other constructor
-pub record IsOnlyConstructor (ds : List DeclText) (type : List ℕ) (j : ℕ) (c : DeclText) : Type 0 where
-  pub one : IsConstructorOf ds type j c
-  pub only : (i : ℕ) (b : DeclText) → IsConstructorOf ds type i b → i ≡ j
 
 -- the type has a bare form: it is `Vector`, or a type with exactly one constructor
 pub data HasBare (ds : List DeclText) (d : DeclText) (t : Tree) : Type 0 where

@@ -4,7 +4,7 @@
 use Rattle.std.specs.Prelude.{◌≡◌, ◌⊎◌, ℕ, List, Option, Some, None, false}
 use Rattle.tl_numbers.specs.Crc.{IsCrc}
 use Rattle.tl_combinators.specs.Program.{DeclText}
-use Rattle.tl_schema.specs.Writing.{At}
+use Rattle.tl_names.specs.Writing.{At}
 use Rattle.tl_schema.specs.Schemas.{packed_number, vector_number}
 
 -- the written number, else the text's CRC32

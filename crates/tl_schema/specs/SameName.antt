@@ -3,8 +3,8 @@
 use Rattle.std.specs.Prelude.{◌≡◌, ℕ, ◌<◌, List, ◌++◌, map, false, codes}
 use Rattle.tl_combinators.specs.Trees.{Trees, named}
 use Rattle.tl_combinators.specs.Program.{DeclText}
-use Rattle.tl_schema.specs.Writing.{At, is_variable}
-use Rattle.tl_schema.specs.NameLists.{IsRepeat}
+use Rattle.tl_names.specs.Writing.{At, is_variable}
+use Rattle.tl_names.specs.NameLists.{IsRepeat}
 
 -- the names of a declaration's variables, then those of its fields
 abbrev pub part_names : DeclText → List (List ℕ)

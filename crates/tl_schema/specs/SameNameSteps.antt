@@ -3,8 +3,8 @@ use Rattle.std.specs.Prelude.{◌≡◌, ℕ, List, Bool, true, false, not, byte
 use Rattle.std.specs.List.{list_any}
 use Rattle.tl_combinators.specs.Trees.{Tree, Trees, named}
 use Rattle.tl_combinators.specs.Program.{DeclText}
-use Rattle.tl_schema.specs.Writing.{is_variable}
-use Rattle.tl_schema.specs.NameLists.{with_name}
+use Rattle.tl_names.specs.Writing.{is_variable}
+use Rattle.tl_names.specs.NameLists.{with_name}
 use Rattle.tl_schema.specs.declared.same_name.Known.{Known}
 
 -- the names of the functions, or those of the constructors

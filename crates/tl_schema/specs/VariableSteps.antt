@@ -2,7 +2,7 @@
 use Rattle.std.specs.Prelude.{◌==◌, Bool, not, bytes_eq}
 use Rattle.std.specs.List.{count_by, list_any}
 use Rattle.tl_combinators.specs.Program.{DeclText}
-use Rattle.tl_schema.specs.Writing.{is_variable}
+use Rattle.tl_names.specs.Writing.{is_variable}
 use Rattle.tl_schema.specs.UnknownVariable.{calls}
 
 -- `!` stands before a name that is no variable

@@ -3,7 +3,9 @@
 use Rattle.std.specs.Prelude.{◌≡◌, ◌≢◌, ◌⊎◌, ℕ, suc, ◌<◌, List, length, true, false, Some}
 use Rattle.tl_combinators.specs.Trees.{Tree, Trees, named, percent, any_call, no_trees, tree}
 use Rattle.tl_combinators.specs.Program.{DeclText}
-use Rattle.tl_schema.specs.Writing.{is_type_name, is_vector_name, is_built_in, is_variable, own_type, IsConstructorOf, IsConstructorNamed, DeclarationHas}
+use Rattle.tl_names.specs.Constructors.{IsUneven}
+use Rattle.tl_names.specs.Writing.{is_type_name, is_vector_name, is_built_in, is_variable, own_type, IsConstructorOf, IsConstructorNamed}
+use Rattle.tl_schema.specs.Writing.{DeclarationHas}
 use Rattle.tl_schema.specs.Parts.{SomeWritten}
 
 abbrev pub count_of : Trees → ℕ
@@ -31,16 +33,6 @@ abbrev pub Misapplies : List DeclText → DeclText → Tree → Type 0
 Misapplies ds d (named name args) = IsMisapplied ds d name (count_of args)
 Misapplies ds d (percent t) = ⊥
 Misapplies ds d any_call = ⊥
-
--- two own constructors of the type have different numbers of variables
-pub record IsUneven (ds : List DeclText) (type : List ℕ) : Type 0 where
-  pub i : ℕ
-  pub b : DeclText
-  pub j : ℕ
-  pub c : DeclText
-  pub one : IsConstructorOf ds type i b
-  pub other : IsConstructorOf ds type j c
-  pub apart : length b.vars ≢ length c.vars
 
 -- d is an own constructor of such a type
 pub record ConstructsUneven (ds : List DeclText) (d : DeclText) : Type 0 where

@@ -2,7 +2,7 @@
 ghost use Rattle.std.specs.Prelude.{◌≡◌, ◌<◌, ◌^◌, IfOk, bytes_eq, length, map, position};
 ghost use Rattle.std.specs.Option.{option_map};
 ghost use Rattle.tl_combinators.specs.Program.{cond_texts, decl_text, field_text, kind_text};
-ghost use Rattle.tl_schema.specs.Writing.{own_type};
+ghost use Rattle.tl_names.specs.Writing.{own_type};
 ghost use Rattle.tl_schema.specs.Seen.{declaration, shape, slot};
 ghost use Rattle.tl_schema.specs.Meanings.{IsEntry, IsEntryNumber, condition_of, field_place, head_in, kind_shape, kind_variable, line_shape, result_shape, slot_of};
 

@@ -2,9 +2,10 @@
 ghost use Rattle.std.specs.Prelude.{◌≡◌, ◌∷◌, [], ◌++◌, ◌<◌, ◌^◌, ◌↔◌, IsTrue, List, length, IfOk, OnOk};
 ghost use Rattle.tl_combinators.specs.Program.{DeclText, decl_text, program_text};
 ghost use Rattle.tl_schema.specs.BareSteps.{OnlyOf};
-ghost use Rattle.tl_schema.specs.Indexed.{FirstNamed, FirstOf, IsSingle, IndexesNames, IndexesTypes, Changes, at_name, one_more};
-ghost use Rattle.tl_schema.specs.WrongArity.{IsUneven};
-ghost use Rattle.tl_schema.specs.Writing.{At};
+ghost use Rattle.tl_names.specs.Constructors.{FirstNamed, FirstOf, IsSingle};
+ghost use Rattle.tl_schema.specs.Indexed.{IndexesNames, IndexesTypes, Changes, at_name, one_more};
+ghost use Rattle.tl_names.specs.Constructors.{IsUneven};
+ghost use Rattle.tl_names.specs.Writing.{At};
 
 use crate::meanings::{is_constructor, result_head};
 use crate::placed::Placed;
@@ -34,7 +35,7 @@ pub struct Index<'a> {
 impl<'a> Model for Index<'a> {
     ghost use Rattle.std.specs.Prelude.{List};
     ghost use Rattle.tl_combinators.specs.Program.{DeclText, program_text};
-    ghost use Rattle.tl_schema.specs.DeclCodes.{decls_code};
+    ghost use Rattle.tl_names.specs.DeclCodes.{decls_code};
 
     ghost Value = { List DeclText };
 

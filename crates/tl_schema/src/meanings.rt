@@ -2,7 +2,7 @@
 ghost use Rattle.std.specs.Prelude.{◌≡◌, ◌==◌, ◌+◌, ◌<◌, drop, length, position};
 ghost use Rattle.std.specs.Option.{option_map};
 ghost use Rattle.tl_combinators.specs.Program.{decl_text};
-ghost use Rattle.tl_schema.specs.Writing.{is_built_in, is_constructor, is_type_name, is_variable, is_vector_name, last_word, own_type, result_head};
+ghost use Rattle.tl_names.specs.Writing.{is_built_in, is_constructor, is_type_name, is_variable, is_vector_name, last_word, own_type, result_head};
 
 use tl_combinators::{Decl, TypeTree};
 

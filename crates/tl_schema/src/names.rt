@@ -1,7 +1,7 @@
 //! Names in the order in which they came, each once.
 ghost use Rattle.std.specs.Prelude.{◌≡◌, [], bytes_eq, not, length, IfOk, OnOk, OnErr};
 ghost use Rattle.std.specs.List.{list_any, position_or_len};
-ghost use Rattle.tl_schema.specs.NameLists.{place, with_name};
+ghost use Rattle.tl_names.specs.NameLists.{place, with_name};
 
 use indexmap::IndexSet;
 use std::alloc::{AllocError, Global};

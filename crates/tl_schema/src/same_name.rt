@@ -3,7 +3,7 @@ ghost use Rattle.std.specs.Prelude.{◌≡◌, ◌<◌, ◌^◌, ◌+◌, ◌↔
 ghost use Rattle.tl_combinators.specs.Program.{decl_text, program_text};
 ghost use Rattle.tl_combinators.specs.Trees.{view};
 ghost use Rattle.tl_graph.specs.Firsts.{First};
-ghost use Rattle.tl_schema.specs.NameLists.{IsRepeat};
+ghost use Rattle.tl_names.specs.NameLists.{IsRepeat};
 ghost use Rattle.tl_schema.specs.SameName.{SameName, part_names};
 ghost use Rattle.tl_schema.specs.SameNameSteps.{AddsName, MakesVector, IsOf};
 

@@ -3,7 +3,7 @@ ghost use Rattle.std.specs.Prelude.{◌≡◌, ◌<◌, length, map, slice_get, 
 ghost use Rattle.tl_combinators.specs.Program.{program_text};
 ghost use Rattle.tl_schema.specs.Seen.{declaration};
 ghost use Rattle.tl_schema.specs.CheckedPrograms.{Finds, IsSchema};
-ghost use Rattle.tl_schema.specs.Meanings.{types_of};
+ghost use Rattle.tl_names.specs.Places.{types_of};
 ghost use Rattle.tl_schema.specs.SchemaParts.{IsSound};
 
 use crate::placed::Placed;

@@ -1,8 +1,8 @@
 //! Where the names of a program are declared.
 ghost use Rattle.std.specs.Prelude.{◌≡◌, ◌<◌, ◌^◌, List, length, IfOk, OnOk};
 ghost use Rattle.tl_combinators.specs.Program.{DeclText, decl_text, program_text};
-ghost use Rattle.tl_schema.specs.Writing.{own_type};
-ghost use Rattle.tl_schema.specs.Meanings.{first_of, head_of, place_of, types_of, with_type_of};
+ghost use Rattle.tl_names.specs.Writing.{own_type};
+ghost use Rattle.tl_names.specs.Places.{first_of, head_of, place_of, types_of, with_type_of};
 
 use crate::index::Index;
 use crate::meanings::own_type;
@@ -21,7 +21,7 @@ pub struct Scope<'t, 'a> {
 impl<'t, 'a> Model for Scope<'t, 'a> {
     ghost use Rattle.std.specs.Prelude.{List};
     ghost use Rattle.tl_combinators.specs.Program.{DeclText};
-    ghost use Rattle.tl_schema.specs.DeclCodes.{decls_code};
+    ghost use Rattle.tl_names.specs.DeclCodes.{decls_code};
     ghost use Rattle.tl_schema.specs.SchemaParts.{IsScope};
 
     ghost Value = { List DeclText };

@@ -3,10 +3,11 @@ ghost use Rattle.std.specs.Prelude.{◌≡◌, ◌<◌, ◌^◌, IfOk, length, m
 ghost use Rattle.std.specs.Option.{option_map};
 ghost use Rattle.tl_combinators.specs.Trees.{trees_of, view, views};
 ghost use Rattle.tl_combinators.specs.Program.{decl_text};
-ghost use Rattle.tl_schema.specs.NameLists.{place};
+ghost use Rattle.tl_names.specs.NameLists.{place};
 ghost use Rattle.tl_schema.specs.Types.{shapes_of, vector};
 ghost use Rattle.tl_schema.specs.Seen.{shape};
-ghost use Rattle.tl_schema.specs.Meanings.{bare_meaning, bare_shape, base_shape, declared_shape, item_of, meaning, meanings, named_shape, variable_of};
+ghost use Rattle.tl_schema.specs.Meanings.{bare_meaning, bare_shape, base_shape, declared_shape, item_of, meaning, meanings, named_shape};
+ghost use Rattle.tl_names.specs.Places.{variable_of};
 
 use crate::meanings::{is_type_name, is_variable};
 use crate::schema::TypeRef;

@@ -5,7 +5,7 @@ ghost use Rattle.tl_combinators.specs.Program.{decl_text, field_text, kind_text,
 ghost use Rattle.tl_graph.specs.Firsts.{First};
 ghost use Rattle.tl_schema.specs.UnknownVariable.{UnknownVariable, called_by};
 ghost use Rattle.tl_schema.specs.VariableSteps.{calls_another, leaves_uncalled};
-ghost use Rattle.tl_schema.specs.Writing.{is_variable};
+ghost use Rattle.tl_names.specs.Writing.{is_variable};
 
 use crate::declarations::{DeclTest, first_that};
 use crate::meanings::is_variable;

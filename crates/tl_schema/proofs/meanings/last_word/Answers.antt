@@ -1,6 +1,6 @@
 use Rattle.std.proofs.Common.{◌==◌, ◌+◌, ◌∙◌, ap, sym, length, length-drop, arith}
 use Rattle.std.proofs.lemmas.List.Quantifiers.{position-Some}
-use Rattle.tl_schema.specs.Writing.{last_word}
+use Rattle.tl_names.specs.Writing.{last_word}
 use Rattle.tl_schema.proofs.LastWords.{last_behind, last_whole}
 use Rattle.tl_schema.proofs.meanings.last_word.Goals as goal
 

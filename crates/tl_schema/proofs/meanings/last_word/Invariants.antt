@@ -1,5 +1,5 @@
 use Rattle.std.proofs.Common.{◌≡◌, length}
-use Rattle.tl_schema.specs.Writing.{last_word}
+use Rattle.tl_names.specs.Writing.{last_word}
 use Rattle.tl_schema.proofs.meanings.last_word.Given as goal
 
 abbrev pub invariant-loop-at : goal.invariant-loop-at

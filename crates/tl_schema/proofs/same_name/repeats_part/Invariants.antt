@@ -1,6 +1,6 @@
 use Rattle.std.proofs.Common.{◌≡◌, ◌<◌, ℕ, take}
 use Rattle.tl_combinators.specs.Program.{decl_text}
-use Rattle.tl_schema.specs.NameLists.{IsRepeat}
+use Rattle.tl_names.specs.NameLists.{IsRepeat}
 use Rattle.tl_schema.specs.SameName.{part_names}
 use Rattle.tl_schema.proofs.same_name.repeats_part.Given as goal
 

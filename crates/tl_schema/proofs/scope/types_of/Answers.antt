@@ -1,8 +1,8 @@
 use Rattle.std.proofs.Common.{◌≤◌, ◌∙◌, length, ap, sym, arith}
 use Rattle.std.proofs.lemmas.List.{length-map, take_all}
 use Rattle.tl_combinators.specs.Program.{decl_text, program_text}
-use Rattle.tl_schema.specs.Writing.{own_type}
-use Rattle.tl_schema.specs.Meanings.{types_of, with_type_of}
+use Rattle.tl_names.specs.Writing.{own_type}
+use Rattle.tl_names.specs.Places.{types_of, with_type_of}
 use Rattle.tl_schema.proofs.Maps.{slice_get_item}
 use Rattle.tl_schema.proofs.DeclaredTypes.{types_of-push}
 use Rattle.tl_schema.proofs.scope.types_of.Goals as goal

@@ -4,7 +4,7 @@ use Rattle.std.proofs.lemmas.Iterator.{YieldsList-from_slice}
 use Rattle.std.proofs.lemmas.Iterator.Search.{any_from_yields_List}
 use Rattle.tl_combinators.specs.declared.program.Field.{Field}
 use Rattle.tl_combinators.specs.Program.{decl_text, kind_text}
-use Rattle.tl_schema.specs.Writing.{is_variable}
+use Rattle.tl_names.specs.Writing.{is_variable}
 use Rattle.tl_schema.specs.UnknownVariable.{called_by}
 use Rattle.tl_schema.proofs.Calls.{any_call_passes}
 use Rattle.tl_schema.proofs.unknown_variable.calls_another.Goals as goal

@@ -1,5 +1,5 @@
 use Rattle.std.proofs.lemmas.Option.{slice_get_within}
-use Rattle.tl_schema.specs.Writing.{IsConstructorNamed}
+use Rattle.tl_names.specs.Writing.{IsConstructorNamed}
 use Rattle.tl_schema.proofs.ArityCases.{first_has, none_has}
 use Rattle.tl_schema.proofs.wrong_arity.constructor_arity.Goals as goal
 
