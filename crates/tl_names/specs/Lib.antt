@@ -10,3 +10,5 @@ pub mod Limits
 pub mod Meants
 pub mod MeantDecls
 pub mod MeantViews
+pub mod Parts
+pub mod MeantParts
