@@ -9,7 +9,7 @@ use Rattle.tl_types.specs.PlainSchemas.{IsPlainSchema}
 use Rattle.tl_types.specs.PlainViews.{plain_decls}
 use Rattle.tl_schema.specs.CheckedPrograms.{IsSchema}
 use Rattle.tl_types.specs.Spelling.{Spells}
-use Rattle.tl_types.specs.Reading.{moved}
+use Rattle.tl_types.specs.Offsets.{moved}
 use Rattle.tl_types.specs.declared.fault.Cause.{Cause}
 use Rattle.tl_types.proofs.EntryNumbers.{plain_schema}
 use Rattle.tl_types.proofs.Exactly.{never_both, one_value, one_fault}

@@ -7,7 +7,8 @@ use Rattle.tl_types.specs.PlainSchemas.{PlainDeclaration, IsPlainSchema}
 use Rattle.tl_types.specs.Seen.{view}
 use Rattle.tl_types.specs.Spelling.{Spells}
 use Rattle.tl_types.specs.Refusal.{Refused}
-use Rattle.tl_types.specs.Reading.{Spot, spot, moved, value_at}
+use Rattle.tl_types.specs.Offsets.{moved}
+use Rattle.tl_types.specs.inner.Reading.{Spot, spot, value_at}
 use Rattle.tl_types.specs.declared.fault.Cause.{Cause}
 use Rattle.tl_types.specs.declared.value.Value.{Value}
 use Rattle.tl_types.proofs.Spelling.{spelled}

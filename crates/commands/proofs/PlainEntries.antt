@@ -10,7 +10,8 @@ use Rattle.tl_schema.specs.Schemas.{Declaration, Declared}
 use Rattle.tl_types.specs.PlainSchemas.{PlainSlot}
 use Rattle.tl_schema.specs.Meanings.{types_of}
 use Rattle.tl_types.specs.PlainViews.{own_head, plain_slot, plain_declaration, plain_decls}
-use Rattle.tl_types.specs.Reading.{is_head, fields_in}
+use Rattle.tl_types.specs.PlainSchemas.{fields_in}
+use Rattle.tl_types.specs.inner.Reading.{is_head}
 use Rattle.tl_schema.specs.Seen.{slot, declaration}
 use Rattle.tl_schema.specs.declared.schema.Entry.{Entry}
 use Rattle.tl_schema.specs.declared.schema.SchemaField.{SchemaField}

@@ -10,7 +10,7 @@ use Rattle.tl_types.specs.PlainSchemas.{PlainDeclaration}
 use Rattle.tl_types.specs.Seen.{view}
 use Rattle.tl_types.specs.Spelling.{Spells}
 use Rattle.tl_types.specs.Refusal.{Refused}
-use Rattle.tl_types.specs.Reading.{moved}
+use Rattle.tl_types.specs.Offsets.{moved}
 use Rattle.tl_types.specs.declared.fault.Cause.{Cause}
 use Rattle.tl_types.specs.declared.value.Value.{Value}
 use Rattle.tl_types.proofs.Exactly.{either}

@@ -10,7 +10,7 @@ use Rattle.tl_types.specs.PlainViews.{IsPlainType, plain_decls}
 use Rattle.tl_types.specs.Values.{Tree, depth}
 use Rattle.tl_types.specs.Spelling.{Spells}
 use Rattle.tl_types.specs.Refusal.{Refused}
-use Rattle.tl_types.specs.Reading.{moved}
+use Rattle.tl_types.specs.Offsets.{moved}
 use Rattle.tl_types.specs.declared.fault.Cause.{Cause}
 use Rattle.commands.specs.declared.decoder.TheConstants.{MAX_LEVELS}
 use Rattle.commands.specs.declared.stop.SchemaCause.{SchemaCause}

@@ -9,7 +9,8 @@ ghost use Rattle.tl_types.specs.Seen.{view};
 ghost use Rattle.tl_schema.specs.Seen.{shape, slot, declaration};
 ghost use Rattle.tl_types.specs.Spelling.{Spells};
 ghost use Rattle.tl_types.specs.Refusal.{Refused};
-ghost use Rattle.tl_types.specs.Reading.{moved, word_at, double_at, plain_at, fields_at, boxed_at, value_at, member_from, wrong_number};
+ghost use Rattle.tl_types.specs.Offsets.{moved};
+ghost use Rattle.tl_types.specs.inner.Reading.{word_at, double_at, plain_at, fields_at, boxed_at, value_at, member_from, wrong_number};
 ghost use Rattle.tl_types.specs.declared.fault.Cause.{Cause};
 ghost use Rattle.commands.specs.Decoding.{GivesValue, GivesFault, ReadsAs};
 

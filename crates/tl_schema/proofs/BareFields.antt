@@ -5,7 +5,7 @@ use Rattle.std.proofs.lemmas.Option.{none-some, same_Some, slice_get_cases, slic
 use Rattle.tl_combinators.specs.Program.{FieldText, DeclText}
 use Rattle.tl_schema.specs.Writing.{At, is_constructor, FieldAt}
 use Rattle.tl_schema.specs.EmptyElement.{HoldsBare, HasBareFields}
-use Rattle.tl_schema.specs.BareSteps.{BareFieldsAre, HeldIs, AreNeeds}
+use Rattle.tl_schema.specs.inner.BareSteps.{BareFieldsAre, HeldIs, AreNeeds}
 use Rattle.tl_schema.proofs.Places.{get_cases}
 
 -- ---- of one declaration

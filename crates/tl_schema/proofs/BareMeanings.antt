@@ -5,9 +5,9 @@ use Rattle.tl_combinators.specs.Program.{DeclText}
 use Rattle.tl_schema.proofs.HeadNames.{type_name}
 use Rattle.tl_schema.specs.Writing.{is_type_name, is_built_in, is_variable}
 use Rattle.tl_schema.specs.NotBare.{IsOnlyConstructor}
-use Rattle.tl_schema.specs.Indexed.{FirstNamed}
+use Rattle.tl_schema.specs.inner.Indexed.{FirstNamed}
 use Rattle.tl_schema.specs.BareReferences.{IsBareOf, by_name, by_type}
-use Rattle.tl_schema.specs.BareSteps.{BareIs, OnlyOf}
+use Rattle.tl_schema.specs.inner.BareSteps.{BareIs, OnlyOf}
 use Rattle.tl_schema.proofs.Firsts.{one_first}
 
 -- what stands behind `%`

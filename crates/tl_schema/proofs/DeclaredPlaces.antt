@@ -6,7 +6,7 @@ use Rattle.std.proofs.lemmas.Option.{none-some, same_Some}
 use Rattle.std.proofs.lemmas.Slice.Eq.{bytes_eq-Decides}
 use Rattle.tl_combinators.specs.Program.{DeclText}
 use Rattle.tl_schema.specs.Writing.{own_type}
-use Rattle.tl_schema.specs.Indexed.{FirstNamed, FirstOf}
+use Rattle.tl_schema.specs.inner.Indexed.{FirstNamed, FirstOf}
 use Rattle.tl_schema.specs.Meanings.{first_of, is_type, place_of}
 use Rattle.tl_schema.specs.Writing.{is_constructor, result_head}
 use Rattle.tl_schema.proofs.IndexSteps.{IsNamed, Makes, named_place, place_named, made_place, place_made}

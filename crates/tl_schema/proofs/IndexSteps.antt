@@ -7,9 +7,9 @@ use Rattle.std.specs.Map.{lookup}
 use Rattle.indexmap.specs.IndexMap.{IndexMap}
 use Rattle.tl_combinators.specs.Program.{DeclText}
 use Rattle.tl_schema.specs.Writing.{At, is_constructor, result_head, IsConstructorOf, IsConstructorNamed}
-use Rattle.tl_schema.specs.NamePlaces.{place_in, Notes}
+use Rattle.tl_schema.specs.inner.NamePlaces.{place_in, Notes}
 use Rattle.tl_schema.specs.declared.index.Constructors.{Constructors}
-use Rattle.tl_schema.specs.Indexed.{FirstNamed, FirstOf, IsSingle, IsFamily, IsIndex, IndexesNames, IndexesTypes, Changes, at_name, one_more}
+use Rattle.tl_schema.specs.inner.Indexed.{FirstNamed, FirstOf, IsSingle, IsFamily, IsIndex, IndexesNames, IndexesTypes, Changes, at_name, one_more}
 use Rattle.tl_schema.proofs.Places.{IsPlace, HasOne, first_same, first_with, first_without, one_with, two_with, one_without, get_kept, get_last}
 use Rattle.tl_schema.proofs.UnevenTypes.{uneven_without, uneven_first, uneven_more}
 

@@ -61,4 +61,5 @@ mod DeclaredEntries
 mod EmptyArguments
 pub mod OneSchema
 pub mod OneType
+pub mod OneAnswer
 mod TypeSteps

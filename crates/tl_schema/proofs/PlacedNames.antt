@@ -3,7 +3,7 @@ use Rattle.std.proofs.Common.{◌≡◌, ℕ, List, [], ◌∷◌, bytes_eq, Vec
 use Rattle.std.specs.Map.{lookup}
 use Rattle.std.specs.Option.{unwrap_or}
 use Rattle.indexmap.specs.IndexMap.{IndexMap, insert_entry}
-use Rattle.tl_schema.specs.NamePlaces.{place_in, places_in, Notes}
+use Rattle.tl_schema.specs.inner.NamePlaces.{place_in, places_in, Notes}
 use Rattle.tl_schema.proofs.NamedEntries.{changes_inserted}
 
 -- the bytes of the names are looked up

@@ -3,7 +3,7 @@ use Rattle.std.proofs.Common.{◌≡◌, ℕ, List, Bool, true, false, not, is_s
 use Rattle.tl_combinators.specs.Program.{DeclText}
 use Rattle.tl_schema.specs.Writing.{is_type_name}
 use Rattle.tl_schema.specs.UnknownType.{IsUnknown, no_type, no_constructor}
-use Rattle.tl_schema.specs.Indexed.{FirstNamed, FirstOf}
+use Rattle.tl_schema.specs.inner.Indexed.{FirstNamed, FirstOf}
 
 module _ (ds : List DeclText) (name : List ℕ) where
   -- a type is unknown where no first constructor of it is found

@@ -1,18 +1,10 @@
 -- Lists of names. This project's own.
-use Rattle.std.specs.Prelude.{◌≡◌, ℕ, ◌<◌, List, [], ◌∷◌, ◌++◌, map, position, bytes_eq, slice_get, Option, Some, Vec, if◌then◌else◌}
+use Rattle.std.specs.Prelude.{◌≡◌, ℕ, ◌<◌, List, [], ◌∷◌, ◌++◌, bytes_eq, slice_get, Some, if◌then◌else◌}
 use Rattle.std.specs.List.{list_any}
-
--- the lists in a list of vectors
-abbrev pub lists : {A : Type 0} → List (Vec ℕ A) → List (List ℕ)
-lists names = map (λ name. name.items) names
 
 -- the names with this one at their end, if it isn't among them
 abbrev pub with_name : List (List ℕ) → List ℕ → List (List ℕ)
 with_name names name = if list_any (bytes_eq name) names then names else names ++ name ∷ []
-
--- the first place at which the name stands
-abbrev pub place : List ℕ → List (List ℕ) → Option ℕ
-place name names = position (bytes_eq name) names
 
 -- element k of the list stands earlier in it too
 pub record IsRepeat {X : Type 0} (xs : List X) (k : ℕ) : Type 0 where

@@ -1,8 +1,8 @@
 //! Own constructors by name and by type.
 ghost use Rattle.std.specs.Prelude.{◌≡◌, ◌∷◌, [], ◌++◌, ◌<◌, ◌^◌, ◌↔◌, IsTrue, List, length, IfOk, OnOk};
 ghost use Rattle.tl_combinators.specs.Program.{DeclText, decl_text, program_text};
-ghost use Rattle.tl_schema.specs.BareSteps.{OnlyOf};
-ghost use Rattle.tl_schema.specs.Indexed.{FirstNamed, FirstOf, IsSingle, IndexesNames, IndexesTypes, Changes, at_name, one_more};
+ghost use Rattle.tl_schema.specs.inner.BareSteps.{OnlyOf};
+ghost use Rattle.tl_schema.specs.inner.Indexed.{FirstNamed, FirstOf, IsSingle, IndexesNames, IndexesTypes, Changes, at_name, one_more};
 ghost use Rattle.tl_schema.specs.WrongArity.{IsUneven};
 ghost use Rattle.tl_schema.specs.Writing.{At};
 
@@ -34,13 +34,13 @@ pub struct Index<'a> {
 impl<'a> Model for Index<'a> {
     ghost use Rattle.std.specs.Prelude.{List};
     ghost use Rattle.tl_combinators.specs.Program.{DeclText, program_text};
-    ghost use Rattle.tl_schema.specs.DeclCodes.{decls_code};
+    ghost use Rattle.tl_schema.specs.inner.DeclCodes.{decls_code};
 
     ghost Value = { List DeclText };
 
     ghost coded = { decls_code };
 
-    ghost use Rattle.tl_schema.specs.Indexed.{IsIndex};
+    ghost use Rattle.tl_schema.specs.inner.Indexed.{IsIndex};
 
     ghost view = { λ x. program_text x.program.now };
 

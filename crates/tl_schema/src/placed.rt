@@ -1,6 +1,6 @@
 //! Places by name.
 ghost use Rattle.std.specs.Prelude.{◌≡◌, [], OnOk};
-ghost use Rattle.tl_schema.specs.NamePlaces.{Notes, place_in};
+ghost use Rattle.tl_schema.specs.inner.NamePlaces.{Notes, place_in};
 
 use indexmap::IndexMap;
 use std::alloc::{AllocError, Global};
@@ -14,7 +14,7 @@ pub struct Placed {
 
 impl Model for Placed {
     ghost use Rattle.std.specs.Prelude.{List, ℕ};
-    ghost use Rattle.tl_schema.specs.NamePlaces.{places_in};
+    ghost use Rattle.tl_schema.specs.inner.NamePlaces.{places_in};
 
     ghost Value = { List (List ℕ × ℕ) };
 

@@ -3,7 +3,7 @@ ghost use Rattle.std.specs.Prelude.{◌≡◌, ◌<◌, ◌^◌, IfOk, length, m
 ghost use Rattle.std.specs.Option.{option_map};
 ghost use Rattle.tl_combinators.specs.Trees.{trees_of, view, views};
 ghost use Rattle.tl_combinators.specs.Program.{decl_text};
-ghost use Rattle.tl_schema.specs.NameLists.{place};
+ghost use Rattle.tl_schema.specs.inner.NamesInOrder.{place};
 ghost use Rattle.tl_schema.specs.Types.{shapes_of, vector};
 ghost use Rattle.tl_schema.specs.Seen.{shape};
 ghost use Rattle.tl_schema.specs.Meanings.{bare_meaning, bare_shape, base_shape, declared_shape, item_of, meaning, meanings, named_shape, variable_of};

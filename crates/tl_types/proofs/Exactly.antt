@@ -12,7 +12,8 @@ use Rattle.tl_types.specs.Words.{word}
 use Rattle.tl_types.specs.Spelling.{Spells}
 use Rattle.tl_types.specs.Refusal.{WordRefused, FieldsRefused, Refused}
 use Rattle.tl_types.specs.Refusal as no_word
-use Rattle.tl_types.specs.Reading.{Spot, spot, Fault, Read, moved, word_at, value_at}
+use Rattle.tl_types.specs.Offsets.{moved}
+use Rattle.tl_types.specs.inner.Reading.{Spot, spot, Fault, Read, word_at, value_at}
 use Rattle.tl_types.specs.Exactly.{BeginsWith, EachIsSpelledOrRefused}
 use Rattle.tl_types.proofs.Words.{word_again}
 use Rattle.tl_types.proofs.Spelling.{spelled}

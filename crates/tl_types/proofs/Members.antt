@@ -5,7 +5,8 @@ use Rattle.std.proofs.lemmas.Bool.{eqb-true, eq-eqb}
 use Rattle.tl_schema.specs.Schemas.{packed_number}
 use Rattle.tl_types.specs.PlainSchemas.{PlainDeclaration, IsPlainSchema, IsMember}
 use Rattle.tl_types.specs.Refusal.{IsMemberNumber}
-use Rattle.tl_types.specs.Reading.{is_head, fields_in, member_from}
+use Rattle.tl_types.specs.PlainSchemas.{fields_in}
+use Rattle.tl_types.specs.inner.Reading.{is_head, member_from}
 
 some_is : {A : Type 0} (x y : A) → Some x ≡ Some y → x ≡ y
 some_is x y e = cc

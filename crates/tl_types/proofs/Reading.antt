@@ -15,7 +15,8 @@ use Rattle.tl_types.specs.Spelling.{Spells, SpellFields}
 use Rattle.tl_types.specs.Spelling as begins
 use Rattle.tl_types.specs.Refusal.{FieldsRefused, IsMemberNumber, Refused}
 use Rattle.tl_types.specs.Refusal as no_word
-use Rattle.tl_types.specs.Reading.{Spot, spot, Read, ◌>>=◌, moved, fields_at, wrong_number, record_at, numbered_at, by_number_at, plain_at, deep_at, is_deep, value_at}
+use Rattle.tl_types.specs.Offsets.{moved}
+use Rattle.tl_types.specs.inner.Reading.{Spot, spot, Read, ◌>>=◌, fields_at, wrong_number, record_at, numbered_at, by_number_at, plain_at, deep_at, is_deep, value_at}
 use Rattle.tl_types.proofs.Words.{moved_moved, stays, word_again, word_short, double_again, double_short, bytes_behind, BeginsWord, begins_word, BeginsDouble, begins_double}
 use Rattle.tl_types.proofs.Words as front
 use Rattle.tl_types.proofs.Members.{by_test, Found, found_from, fields_there}

@@ -12,7 +12,9 @@ use Rattle.tl_types.specs.PlainSchemas.{PlainSlot, PlainDeclaration, IsPlainSche
 use Rattle.tl_types.specs.Words.{word}
 use Rattle.tl_types.specs.Refusal.{WordRefused, FieldsRefused, IsMemberNumber, Refused}
 use Rattle.tl_types.specs.Refusal as no_word
-use Rattle.tl_types.specs.Reading.{Spot, spot, Fault, Read, moved, fields_in, member_from, fields_at, wrong_number, record_at, numbered_at, by_number_at, plain_at, deep_at, is_deep, value_at}
+use Rattle.tl_types.specs.PlainSchemas.{fields_in}
+use Rattle.tl_types.specs.Offsets.{moved}
+use Rattle.tl_types.specs.inner.Reading.{Spot, spot, Fault, Read, member_from, fields_at, wrong_number, record_at, numbered_at, by_number_at, plain_at, deep_at, is_deep, value_at}
 use Rattle.tl_types.proofs.Words.{moved_moved, stays, word_again, word_short, double_short}
 use Rattle.tl_types.proofs.Members.{member_found, no_member, packed_is_none, fields_there}
 use Rattle.tl_types.proofs.Spelling.{spelled, value_is_plain, value_is_deep}

@@ -9,7 +9,9 @@ use Rattle.tl_types.specs.PlainSchemas.{PlainSlot, PlainDeclaration, IsPlainSche
 use Rattle.tl_types.specs.Words.{word}
 use Rattle.tl_types.specs.Spelling.{Begins, Spells, SpellFields}
 use Rattle.tl_types.specs.Spelling as begins
-use Rattle.tl_types.specs.Reading.{Spot, spot, Read, moved, fields_in, member_from, fields_at, record_at, numbered_at, by_number_at, plain_at, deep_at, is_deep, value_at}
+use Rattle.tl_types.specs.PlainSchemas.{fields_in}
+use Rattle.tl_types.specs.Offsets.{moved}
+use Rattle.tl_types.specs.inner.Reading.{Spot, spot, Read, member_from, fields_at, record_at, numbered_at, by_number_at, plain_at, deep_at, is_deep, value_at}
 use Rattle.tl_types.proofs.Words.{moved_moved, stays, word_again, double_again}
 use Rattle.tl_types.proofs.Members.{member_found, fields_there}
 

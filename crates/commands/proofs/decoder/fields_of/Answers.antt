@@ -5,7 +5,7 @@ use Rattle.tl_base.proofs.Uses.{used_none}
 use Rattle.tl_types.specs.Seen.{view}
 use Rattle.tl_schema.specs.Seen.{slot}
 use Rattle.tl_types.specs.PlainViews.{plain_slot, plain_decls}
-use Rattle.tl_types.specs.Reading.{value_at, fields_at}
+use Rattle.tl_types.specs.inner.Reading.{value_at, fields_at}
 use Rattle.tl_types.specs.declared.value.Value.{Value}
 use Rattle.commands.proofs.Steps.{continues_none, continues_more, continues_fails, continues_done}
 use Rattle.commands.proofs.PlainEntries.{plain_slots}

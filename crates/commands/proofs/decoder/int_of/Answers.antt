@@ -3,7 +3,7 @@ use Rattle.std.specs.Int.{w32, cast_signed}
 use Rattle.std.proofs.lemmas.Result.{err_from_is_err_and}
 use Rattle.tl_types.specs.Seen.{view}
 use Rattle.tl_types.specs.Values as value
-use Rattle.tl_types.specs.Reading.{word_at, plain_at}
+use Rattle.tl_types.specs.inner.Reading.{word_at, plain_at}
 use Rattle.tl_types.proofs.Views.{view-Int}
 use Rattle.commands.proofs.Steps.{makes, then_fails}
 use Rattle.commands.proofs.decoder.int_of.Goals as goal

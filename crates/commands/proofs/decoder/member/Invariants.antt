@@ -1,5 +1,5 @@
 use Rattle.std.proofs.Common.{◌≡◌, drop}
-use Rattle.tl_types.specs.Reading.{member_from}
+use Rattle.tl_types.specs.inner.Reading.{member_from}
 use Rattle.tl_types.specs.PlainViews.{plain_decls}
 use Rattle.commands.proofs.decoder.member.Given as goal
 

@@ -2,7 +2,7 @@ use Rattle.std.proofs.Common.{[], map, sym, ap, ◌∙◌, Vec, Global}
 use Rattle.std.proofs.lemmas.Result.{err_from_is_err_and}
 use Rattle.tl_types.specs.Seen.{view}
 use Rattle.tl_types.specs.PlainViews.{plain_decls}
-use Rattle.tl_types.specs.Reading.{value_at, fields_at}
+use Rattle.tl_types.specs.inner.Reading.{value_at, fields_at}
 use Rattle.tl_types.specs.declared.value.Value.{Value}
 use Rattle.tl_types.proofs.Views.{view-Node}
 use Rattle.commands.proofs.PlainEntries.{plain_slots, plain_fields}

@@ -13,7 +13,7 @@ returns-in_err-program-clause-reads c =
 
 pub returns-in_err-schema-clause-reads : goal.returns-in_err-schema-clause-reads
 returns-in_err-schema-clause-reads c =
-    no_schema c.args.text.now c.deref.result.now _ c.in_err-schema.field-0.0 _ (rw c.deref.ensures.value c.in_ok-tokens.ensures.lexes) c.in_ok-program.ensures.parses c.in_err-schema.ensures c.from_residual-in_err-schema.ensures.1
+    no_schema c.args.text.now c.deref.result.now _ c.in_err-schema.field-0.0 _ (rw c.deref.ensures.value c.in_ok-tokens.ensures.lexes) c.in_ok-program.ensures.parses c.in_err-schema.ensures.checks c.from_residual-in_err-schema.ensures.1
 
 pub check-requires : goal.check-requires
 check-requires c = small_program c.args.text.now c.deref.result.now _ c.in_ok-program.ensures.parses

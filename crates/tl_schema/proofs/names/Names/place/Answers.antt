@@ -1,5 +1,5 @@
 use Rattle.std.proofs.Common.{◌∙◌, ap, sym, bytes_eq}
-use Rattle.tl_schema.specs.NameLists.{place}
+use Rattle.tl_schema.specs.inner.NamesInOrder.{place}
 use Rattle.tl_schema.proofs.Maps.{position-map}
 use Rattle.tl_schema.proofs.names.Names.place.Goals as goal
 

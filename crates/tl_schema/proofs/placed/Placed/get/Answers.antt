@@ -1,5 +1,5 @@
 use Rattle.std.proofs.Common.{◌∙◌, ap, sym}
-use Rattle.tl_schema.specs.NamePlaces.{place_in}
+use Rattle.tl_schema.specs.inner.NamePlaces.{place_in}
 use Rattle.tl_schema.proofs.PlacedNames.{place_in_entries}
 use Rattle.tl_schema.proofs.placed.Placed.get.Goals as goal
 

@@ -1,6 +1,6 @@
 use Rattle.std.proofs.Common.{◌∙◌, ap, sym, subst}
 use Rattle.std.specs.Option.{unwrap_or}
-use Rattle.tl_schema.specs.NamePlaces.{place_in, places_in, Notes}
+use Rattle.tl_schema.specs.inner.NamePlaces.{place_in, places_in, Notes}
 use Rattle.tl_schema.proofs.PlacedNames.{notes_inserted}
 use Rattle.tl_schema.proofs.placed.Placed.note.Goals as goal
 

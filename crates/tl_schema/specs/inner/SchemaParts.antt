@@ -4,7 +4,7 @@ use Rattle.tl_combinators.specs.Program.{DeclText}
 use Rattle.tl_schema.specs.Schemas.{Declaration, Declared}
 use Rattle.tl_schema.specs.Meanings.{types_of}
 use Rattle.tl_schema.specs.CheckedPrograms.{IsSchema, Finds}
-use Rattle.tl_schema.specs.NamePlaces.{place_in}
+use Rattle.tl_schema.specs.inner.NamePlaces.{place_in}
 
 -- the places are those of the functions among the entries, or of the constructors
 abbrev pub ArePlaces : List Declaration → Bool → List (List ℕ × ℕ) → Type 0

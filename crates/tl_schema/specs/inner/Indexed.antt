@@ -8,7 +8,7 @@ use Rattle.tl_graph.specs.Firsts.{First}
 use Rattle.tl_schema.specs.Writing.{At, IsConstructorOf, IsConstructorNamed}
 use Rattle.tl_schema.specs.NotBare.{IsOnlyConstructor}
 use Rattle.tl_schema.specs.WrongArity.{IsUneven}
-use Rattle.tl_schema.specs.NamePlaces.{place_in}
+use Rattle.tl_schema.specs.inner.NamePlaces.{place_in}
 use Rattle.tl_schema.specs.declared.index.Constructors.{Constructors}
 
 -- the first place of a constructor with this name

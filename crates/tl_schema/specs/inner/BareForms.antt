@@ -2,7 +2,7 @@
 use Rattle.std.specs.Prelude.{◌≡◌, ◌⊎◌, ℕ, List, true, false, codes}
 use Rattle.tl_combinators.specs.Program.{DeclText}
 use Rattle.tl_schema.specs.Writing.{is_type_name, is_variable}
-use Rattle.tl_schema.specs.Indexed.{IsSingle}
+use Rattle.tl_schema.specs.inner.Indexed.{IsSingle}
 
 -- the name of a type that has a bare form
 pub record IsBareName (ds : List DeclText) (d : DeclText) (name : List ℕ) : Type 0 where

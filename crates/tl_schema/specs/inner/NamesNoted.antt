@@ -5,8 +5,8 @@ use Rattle.tl_schema.specs.Writing.{At}
 use Rattle.tl_schema.specs.Schemas.{Declaration}
 use Rattle.tl_schema.specs.Seen.{declaration}
 use Rattle.tl_schema.specs.Meanings.{IsEntry, types_of}
-use Rattle.tl_schema.specs.NamePlaces.{Notes}
-use Rattle.tl_schema.specs.SchemaParts.{ArePlaces}
+use Rattle.tl_schema.specs.inner.NamePlaces.{Notes}
+use Rattle.tl_schema.specs.inner.SchemaParts.{ArePlaces}
 use Rattle.tl_schema.specs.declared.checks.Known.{Known}
 use Rattle.tl_schema.specs.declared.checks.Entered.{Entered}
 
