@@ -8,7 +8,7 @@ use Rattle.serde_json.specs.Find.{of_integer, is_float}
 use Rattle.serde_json.specs.Written.{has_float, members_have_float}
 use Rattle.plain_values.specs.Values.{Tree, int, long, node, Trees, no_trees, tree}
 use Rattle.plain_values.specs.PlainSchemas.{PlainSlot, PlainDeclaration}
-use Rattle.plain_values.specs.Reading.{fields_in}
+use Rattle.plain_values.specs.PlainSchemas.{fields_in}
 use Rattle.commands.specs.Shown.{shown, with_fields, named, name_in, name_text}
 
 -- ---- no float

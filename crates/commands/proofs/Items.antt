@@ -4,7 +4,8 @@ use Rattle.std.specs.Prelude.{IfSome}
 use Rattle.std.specs.Int.{w32, w64, from_le_bytes}
 use Rattle.tl_base.specs.Taking.{TakesBytes, TakesInto}
 use Rattle.tl_base.specs.declared.source.TakeFault.TheVariants as took
-use Rattle.plain_values.specs.Reading.{Spot, spot, Read, moved, exact_at, word_at, double_at}
+use Rattle.plain_values.specs.Offsets.{moved}
+use Rattle.plain_values.specs.inner.Reading.{Spot, spot, Read, exact_at, word_at, double_at}
 use Rattle.plain_values.specs.declared.fault.Cause.TheVariants.{Truncated}
 use Rattle.plain_values.proofs.Words.{exact_again, exact_short}
 use Rattle.commands.specs.declared.decoder.DecodeFault.TheVariants.{Refused}

@@ -9,7 +9,7 @@ use Rattle.plain_values.specs.PlainSchemas.{IsPlainSchema}
 use Rattle.plain_values.specs.PlainViews.{plain_decls}
 use Rattle.tl_schema.specs.CheckedPrograms.{IsSchema}
 use Rattle.plain_values.specs.Spelling.{Spells}
-use Rattle.plain_values.specs.Reading.{moved}
+use Rattle.plain_values.specs.Offsets.{moved}
 use Rattle.plain_values.specs.declared.fault.Cause.{Cause}
 use Rattle.plain_values.proofs.EntryNumbers.{plain_schema}
 use Rattle.plain_values.proofs.Exactly.{never_both, one_value, one_fault}

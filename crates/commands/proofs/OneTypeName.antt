@@ -6,12 +6,12 @@ use Rattle.tl_combinators.proofs.OneProgram.{one_type}
 use Rattle.tl_combinators.proofs.Causes.{no_memory_of_type}
 use Rattle.tl_schema.specs.Types.{Shape}
 use Rattle.tl_schema.specs.Schemas.{Declared}
-use Rattle.tl_schema.specs.AskedTypes.{AsksFor, IsTypeText}
+use Rattle.tl_schema.specs.AskedTypes.{AsksFor, IsTypeText, TypeTextRefused}
 use Rattle.plain_values.specs.PlainViews.{IsPlainType}
 use Rattle.tl_schema.specs.declared.fault.TypeCause.{TypeCause}
 use Rattle.tl_schema.specs.declared.fault.TypeFault.{TypeFault}
 use Rattle.tl_schema.specs.declared.fault.TypeFault.TheVariants as type
-use Rattle.tl_schema.proofs.OneType.{RefusesType, type_or_fault, one_meaning, never_type_and_fault, one_type_fault}
+use Rattle.tl_schema.proofs.OneType.{type_or_fault, one_meaning, never_type_and_fault, one_type_fault}
 use Rattle.commands.specs.declared.stop.TextCause.{TextCause}
 use Rattle.commands.specs.declared.stop.TypeNameCause.{TypeNameCause}
 use Rattle.commands.specs.declared.stop.TypeNameCause.TheVariants.{Text, Checked, NotYetBuilt}
@@ -61,13 +61,13 @@ module _ (schema : Declared) (text : List ℕ) where
   typed s is (inl (h, plain)) = inl (s, h, is, plain)
   typed s is (inr none) = inr (NotYetBuilt, not_built s is none)
 
-  faulty : (f : TypeFault) → RefusesType schema.program text f → Named
+  faulty : (f : TypeFault) → TypeTextRefused schema.program text f → Named
   faulty (type.Lex f) r = text_refused (refused_bytes text (TypeRefused text) f r)
   faulty (type.Syntax f) (ts, t, r) = text_refused (refused_tokens text (TypeRefused text) ts f t (no_memory_of_type text ts) r)
   faulty (type.Refused cause) (t, asks, r) = inr (Checked cause, by_checks t cause asks r)
   faulty type.Memory r = absurd r
 
-  named : ((s : Shape) × IsTypeText schema.program text s) ⊎ ((f : TypeFault) × RefusesType schema.program text f) → Named
+  named : ((s : Shape) × IsTypeText schema.program text s) ⊎ ((f : TypeFault) × TypeTextRefused schema.program text f) → Named
   named (inl (s, is)) = typed s is (plain_or_not schema s)
   named (inr (f, r)) = faulty f r
 

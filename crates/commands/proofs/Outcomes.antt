@@ -7,7 +7,8 @@ use Rattle.plain_values.specs.PlainSchemas.{PlainDeclaration, IsPlainSchema}
 use Rattle.plain_values.specs.Seen.{view}
 use Rattle.plain_values.specs.Spelling.{Spells}
 use Rattle.plain_values.specs.Refusal.{Refused}
-use Rattle.plain_values.specs.Reading.{Spot, spot, moved, value_at}
+use Rattle.plain_values.specs.Offsets.{moved}
+use Rattle.plain_values.specs.inner.Reading.{Spot, spot, value_at}
 use Rattle.plain_values.specs.declared.fault.Cause.{Cause}
 use Rattle.plain_values.specs.declared.value.Value.{Value}
 use Rattle.plain_values.proofs.Spelling.{spelled}

@@ -10,7 +10,8 @@ use Rattle.tl_schema.specs.Schemas.{Declaration, Declared}
 use Rattle.plain_values.specs.PlainSchemas.{PlainSlot}
 use Rattle.tl_names.specs.Places.{types_of}
 use Rattle.plain_values.specs.PlainViews.{own_head, plain_slot, plain_declaration, plain_decls}
-use Rattle.plain_values.specs.Reading.{is_head, fields_in}
+use Rattle.plain_values.specs.PlainSchemas.{fields_in}
+use Rattle.plain_values.specs.inner.Reading.{is_head}
 use Rattle.tl_schema.specs.Seen.{slot, declaration}
 use Rattle.tl_schema.specs.declared.schema.Entry.{Entry}
 use Rattle.tl_schema.specs.declared.schema.SchemaField.{SchemaField}

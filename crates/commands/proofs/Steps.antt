@@ -1,6 +1,6 @@
 -- One step of decoding, and then another.
 use Rattle.std.proofs.Common.{◌≡◌, ℕ, List, Option, Some, None, Result, Ok, Err, refl, subst, sym, ◌∙◌}
-use Rattle.plain_values.specs.Reading.{Spot, spot, Read, ◌>>=◌}
+use Rattle.plain_values.specs.inner.Reading.{Spot, spot, Read, ◌>>=◌}
 use Rattle.plain_values.specs.declared.fault.Cause.{Cause}
 use Rattle.commands.specs.declared.decoder.DecodeFault.{DecodeFault}
 use Rattle.commands.specs.declared.decoder.DecodeFault.TheVariants.{Refused, ReadFault, Memory}

@@ -12,7 +12,8 @@ use Rattle.plain_values.specs.PlainSchemas.{PlainSlot, PlainDeclaration}
 use Rattle.plain_values.specs.PlainViews.{plain_slot, plain_decls}
 use Rattle.plain_values.specs.Seen.{view}
 use Rattle.tl_schema.specs.Seen.{slot}
-use Rattle.plain_values.specs.Reading.{Spot, Read, Reader, ◌>>=◌, word_at, is_head, member_from, fields_in, fields_at, wrong_number, record_at, numbered_at, by_number_at, boxed_at, plain_at, deep_at, is_deep, value_at}
+use Rattle.plain_values.specs.PlainSchemas.{fields_in}
+use Rattle.plain_values.specs.inner.Reading.{Spot, Read, Reader, ◌>>=◌, word_at, is_head, member_from, fields_at, wrong_number, record_at, numbered_at, by_number_at, boxed_at, plain_at, deep_at, is_deep, value_at}
 use Rattle.plain_values.specs.declared.fault.Cause.{Cause}
 use Rattle.tl_schema.specs.declared.schema.SchemaField.{SchemaField}
 use Rattle.plain_values.specs.declared.value.Value.{Value}

@@ -10,7 +10,7 @@ use Rattle.plain_values.specs.PlainSchemas.{PlainDeclaration}
 use Rattle.plain_values.specs.Seen.{view}
 use Rattle.plain_values.specs.Spelling.{Spells}
 use Rattle.plain_values.specs.Refusal.{Refused}
-use Rattle.plain_values.specs.Reading.{moved}
+use Rattle.plain_values.specs.Offsets.{moved}
 use Rattle.plain_values.specs.declared.fault.Cause.{Cause}
 use Rattle.plain_values.specs.declared.value.Value.{Value}
 use Rattle.plain_values.proofs.Exactly.{either}

@@ -10,7 +10,7 @@ use Rattle.plain_values.specs.PlainViews.{IsPlainType, plain_decls}
 use Rattle.plain_values.specs.Values.{Tree, depth}
 use Rattle.plain_values.specs.Spelling.{Spells}
 use Rattle.plain_values.specs.Refusal.{Refused}
-use Rattle.plain_values.specs.Reading.{moved}
+use Rattle.plain_values.specs.Offsets.{moved}
 use Rattle.plain_values.specs.declared.fault.Cause.{Cause}
 use Rattle.commands.specs.declared.decoder.TheConstants.{MAX_LEVELS}
 use Rattle.commands.specs.declared.stop.SchemaCause.{SchemaCause}

@@ -6,7 +6,8 @@ use Rattle.plain_values.specs.PlainSchemas.{PlainDeclaration}
 use Rattle.plain_values.specs.Seen.{view}
 use Rattle.plain_values.specs.Spelling.{Spells}
 use Rattle.plain_values.specs.Refusal.{Refused}
-use Rattle.plain_values.specs.Reading.{Spot, spot, Read, moved}
+use Rattle.plain_values.specs.Offsets.{moved}
+use Rattle.plain_values.specs.inner.Reading.{Spot, spot, Read}
 use Rattle.plain_values.specs.declared.value.Value.{Value}
 use Rattle.plain_values.specs.declared.fault.Cause.{Cause}
 use Rattle.commands.specs.declared.decoder.TheConstants.{MAX_LEVELS}

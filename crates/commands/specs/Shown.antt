@@ -5,7 +5,7 @@ use Rattle.serde_json.specs.Find.{of_integer}
 use Rattle.serde_json.specs.Written.{compact_text}
 use Rattle.plain_values.specs.Values.{Tree, int, long, node, Trees, no_trees, tree}
 use Rattle.plain_values.specs.PlainSchemas.{PlainSlot, PlainDeclaration}
-use Rattle.plain_values.specs.Reading.{fields_in}
+use Rattle.plain_values.specs.PlainSchemas.{fields_in}
 
 -- The text of a name, each byte a character. Names are ASCII, so these are their bytes.
 abbrev pub name_text : List ℕ → List ℕ

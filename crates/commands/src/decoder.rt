@@ -9,7 +9,8 @@ ghost use Rattle.plain_values.specs.Seen.{view};
 ghost use Rattle.tl_schema.specs.Seen.{shape, slot, declaration};
 ghost use Rattle.plain_values.specs.Spelling.{Spells};
 ghost use Rattle.plain_values.specs.Refusal.{Refused};
-ghost use Rattle.plain_values.specs.Reading.{moved, word_at, double_at, plain_at, fields_at, boxed_at, value_at, member_from, wrong_number};
+ghost use Rattle.plain_values.specs.Offsets.{moved};
+ghost use Rattle.plain_values.specs.inner.Reading.{word_at, double_at, plain_at, fields_at, boxed_at, value_at, member_from, wrong_number};
 ghost use Rattle.plain_values.specs.declared.fault.Cause.{Cause};
 ghost use Rattle.commands.specs.Decoding.{GivesValue, GivesFault, ReadsAs};
 

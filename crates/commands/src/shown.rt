@@ -3,7 +3,7 @@ ghost use Rattle.std.specs.Prelude.{◌≡◌, ◌++◌, IfOk, OnOk, string_byte
 ghost use Rattle.serde_json.specs.Data.{object, put};
 ghost use Rattle.serde_json.specs.View.{view as data_of, members_view};
 ghost use Rattle.plain_values.specs.PlainViews.{plain_decls, plain_slot};
-ghost use Rattle.plain_values.specs.Reading.{fields_in};
+ghost use Rattle.plain_values.specs.PlainSchemas.{fields_in};
 ghost use Rattle.plain_values.specs.Seen.{view, views};
 ghost use Rattle.tl_schema.specs.Seen.{slot};
 ghost use Rattle.commands.specs.Shown.{shown, named, name_text, name_in, with_fields, line_text};

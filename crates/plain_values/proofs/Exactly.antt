@@ -12,7 +12,8 @@ use Rattle.plain_values.specs.Words.{word}
 use Rattle.plain_values.specs.Spelling.{Spells}
 use Rattle.plain_values.specs.Refusal.{WordRefused, FieldsRefused, Refused}
 use Rattle.plain_values.specs.Refusal as no_word
-use Rattle.plain_values.specs.Reading.{Spot, spot, Fault, Read, moved, word_at, value_at}
+use Rattle.plain_values.specs.Offsets.{moved}
+use Rattle.plain_values.specs.inner.Reading.{Spot, spot, Fault, Read, word_at, value_at}
 use Rattle.plain_values.specs.Exactly.{BeginsWith, EachIsSpelledOrRefused}
 use Rattle.plain_values.proofs.Words.{word_again}
 use Rattle.plain_values.proofs.Spelling.{spelled}

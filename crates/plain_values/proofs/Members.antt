@@ -5,7 +5,8 @@ use Rattle.std.proofs.lemmas.Bool.{eqb-true, eq-eqb}
 use Rattle.tl_schema.specs.Schemas.{packed_number}
 use Rattle.plain_values.specs.PlainSchemas.{PlainDeclaration, IsPlainSchema, IsMember}
 use Rattle.plain_values.specs.Refusal.{IsMemberNumber}
-use Rattle.plain_values.specs.Reading.{is_head, fields_in, member_from}
+use Rattle.plain_values.specs.PlainSchemas.{fields_in}
+use Rattle.plain_values.specs.inner.Reading.{is_head, member_from}
 
 some_is : {A : Type 0} (x y : A) → Some x ≡ Some y → x ≡ y
 some_is x y e = cc

@@ -15,7 +15,8 @@ use Rattle.plain_values.specs.Spelling.{Spells, SpellFields}
 use Rattle.plain_values.specs.Spelling as begins
 use Rattle.plain_values.specs.Refusal.{FieldsRefused, IsMemberNumber, Refused}
 use Rattle.plain_values.specs.Refusal as no_word
-use Rattle.plain_values.specs.Reading.{Spot, spot, Read, ◌>>=◌, moved, fields_at, wrong_number, record_at, numbered_at, by_number_at, plain_at, deep_at, is_deep, value_at}
+use Rattle.plain_values.specs.Offsets.{moved}
+use Rattle.plain_values.specs.inner.Reading.{Spot, spot, Read, ◌>>=◌, fields_at, wrong_number, record_at, numbered_at, by_number_at, plain_at, deep_at, is_deep, value_at}
 use Rattle.plain_values.proofs.Words.{moved_moved, stays, word_again, word_short, double_again, double_short, bytes_behind, BeginsWord, begins_word, BeginsDouble, begins_double}
 use Rattle.plain_values.proofs.Words as front
 use Rattle.plain_values.proofs.Members.{by_test, Found, found_from, fields_there}

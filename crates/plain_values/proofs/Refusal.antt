@@ -12,7 +12,9 @@ use Rattle.plain_values.specs.PlainSchemas.{PlainSlot, PlainDeclaration, IsPlain
 use Rattle.plain_values.specs.Words.{word}
 use Rattle.plain_values.specs.Refusal.{WordRefused, FieldsRefused, IsMemberNumber, Refused}
 use Rattle.plain_values.specs.Refusal as no_word
-use Rattle.plain_values.specs.Reading.{Spot, spot, Fault, Read, moved, fields_in, member_from, fields_at, wrong_number, record_at, numbered_at, by_number_at, plain_at, deep_at, is_deep, value_at}
+use Rattle.plain_values.specs.PlainSchemas.{fields_in}
+use Rattle.plain_values.specs.Offsets.{moved}
+use Rattle.plain_values.specs.inner.Reading.{Spot, spot, Fault, Read, member_from, fields_at, wrong_number, record_at, numbered_at, by_number_at, plain_at, deep_at, is_deep, value_at}
 use Rattle.plain_values.proofs.Words.{moved_moved, stays, word_again, word_short, double_short}
 use Rattle.plain_values.proofs.Members.{member_found, no_member, packed_is_none, fields_there}
 use Rattle.plain_values.proofs.Spelling.{spelled, value_is_plain, value_is_deep}

@@ -9,7 +9,9 @@ use Rattle.plain_values.specs.PlainSchemas.{PlainSlot, PlainDeclaration, IsPlain
 use Rattle.plain_values.specs.Words.{word}
 use Rattle.plain_values.specs.Spelling.{Begins, Spells, SpellFields}
 use Rattle.plain_values.specs.Spelling as begins
-use Rattle.plain_values.specs.Reading.{Spot, spot, Read, moved, fields_in, member_from, fields_at, record_at, numbered_at, by_number_at, plain_at, deep_at, is_deep, value_at}
+use Rattle.plain_values.specs.PlainSchemas.{fields_in}
+use Rattle.plain_values.specs.Offsets.{moved}
+use Rattle.plain_values.specs.inner.Reading.{Spot, spot, Read, member_from, fields_at, record_at, numbered_at, by_number_at, plain_at, deep_at, is_deep, value_at}
 use Rattle.plain_values.proofs.Words.{moved_moved, stays, word_again, double_again}
 use Rattle.plain_values.proofs.Members.{member_found, fields_there}
 

@@ -6,7 +6,8 @@ use Rattle.std.proofs.lemmas.Nat.{from_le_bytes-to_le_bytes_4, from_le_bytes-to_
 use Rattle.std.proofs.lemmas.Bool.{cases_lt}
 use Rattle.tl_base.specs.Contents.{AreBytes}
 use Rattle.plain_values.specs.Words.{word, double_word}
-use Rattle.plain_values.specs.Reading.{spot, moved, exact_at, word_at, double_at}
+use Rattle.plain_values.specs.Offsets.{moved}
+use Rattle.plain_values.specs.inner.Reading.{spot, exact_at, word_at, double_at}
 use Rattle.plain_values.specs.declared.fault.Cause.TheVariants.{Truncated}
 
 pub moved_moved : (p m n k : ℕ) → k ≡ m + n → moved (moved p m) n ≡ moved p k

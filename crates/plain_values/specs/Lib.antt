@@ -3,8 +3,9 @@ pub mod PlainTypes
 pub mod PlainSchemas
 pub mod PlainViews
 pub mod Seen
+pub mod Offsets
 pub mod Words
 pub mod Spelling
 pub mod Refusal
-pub mod Reading
 pub mod Exactly
+pub mod inner

@@ -1,5 +1,5 @@
 -- A schema as those declarations see it whose values are read so far: constructors of whole numbers and records. This project's own.
-use Rattle.std.specs.Prelude.{◌≡◌, ◌≢◌, ℕ, ◌<◌, ◌^◌, List, length, Option, Some, slice_get}
+use Rattle.std.specs.Prelude.{◌≡◌, ◌≢◌, ℕ, zero, suc, ◌<◌, ◌^◌, List, [], ◌∷◌, length, Option, Some, slice_get}
 use Rattle.tl_schema.specs.Schemas.{packed_number}
 use Rattle.plain_values.specs.PlainTypes.{PlainShape}
 
@@ -14,6 +14,12 @@ pub record PlainDeclaration : Type 0 where
   pub number : ℕ
   pub head : Option ℕ
   pub fields : List PlainSlot
+
+-- the fields of declaration i
+abbrev pub fields_in : List PlainDeclaration → ℕ → List PlainSlot
+fields_in [] i = []
+fields_in (d ∷ ds) zero = d.fields
+fields_in (d ∷ ds) (suc i) = fields_in ds i
 
 -- no two constructors of a type have one number, each number fits, and none is that of packed values
 pub record IsPlainSchema (ds : List PlainDeclaration) : Type 0 where

@@ -5,7 +5,7 @@ use Rattle.tl_combinators.specs.Trees.{Tree}
 use Rattle.tl_combinators.specs.Program.{DeclText}
 use Rattle.tl_graph.specs.Paths.{IsIn}
 use Rattle.tl_schema.specs.BareReferences.{IsBareOf}
-use Rattle.tl_schema.specs.BareSteps.{BareIs, RefersIn, Adds}
+use Rattle.tl_schema.specs.inner.BareSteps.{BareIs, RefersIn, Adds}
 use Rattle.tl_schema.proofs.Places.{get_kept, get_last, get_cases}
 
 -- one node more

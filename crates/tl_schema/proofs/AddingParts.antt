@@ -7,7 +7,7 @@ use Rattle.tl_combinators.specs.Trees.{Tree, Trees, named, percent, any_call, tr
 use Rattle.tl_combinators.specs.Program.{FieldText, DeclText}
 use Rattle.tl_schema.specs.Writing.{HeldBy, IsPart, IsPartOfOne}
 use Rattle.tl_names.specs.Writing.{is_constructor}
-use Rattle.tl_schema.specs.BareSteps.{Adds, Refers}
+use Rattle.tl_schema.specs.inner.BareSteps.{Adds, Refers}
 use Rattle.tl_schema.proofs.Maps.{take_push}
 use Rattle.tl_schema.proofs.PartsOfOne.{part_of_push}
 use Rattle.tl_schema.proofs.Adding.{adds_same, adds_then}

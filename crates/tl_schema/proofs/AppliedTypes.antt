@@ -4,7 +4,7 @@ use Rattle.std.proofs.lemmas.Slice.Eq.{bytes_eq-Decides}
 use Rattle.tl_combinators.specs.declared.tree.TypeTree.{TypeTree, Named}
 use Rattle.tl_combinators.specs.Trees.{Trees, named, trees_of, view, views}
 use Rattle.tl_combinators.proofs.TreeViews.{view-Named}
-use Rattle.tl_schema.specs.SameNameSteps.{IsOf}
+use Rattle.tl_schema.specs.inner.SameNameSteps.{IsOf}
 
 same_head : (m n : List ℕ) (ts us : Trees) → named m ts ≡ named n us → m ≡ n
 same_head m n ts us e = cc

@@ -6,7 +6,7 @@ use Rattle.tl_graph.specs.Firsts.{First}
 use Rattle.tl_names.specs.Writing.{is_type_name, is_built_in, is_variable, IsConstructorOf, IsConstructorNamed}
 use Rattle.tl_schema.specs.WrongArity.{HasArity}
 use Rattle.tl_schema.specs.WrongArity as has
-use Rattle.tl_schema.specs.Arities.{VarsOfFirst, IsArity}
+use Rattle.tl_schema.specs.inner.Arities.{VarsOfFirst, IsArity}
 use Rattle.tl_schema.proofs.OneArity.{one_arity, type_has, name_has}
 
 -- the number of variables of the first is that of the declaration at its place

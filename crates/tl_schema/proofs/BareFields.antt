@@ -6,7 +6,7 @@ use Rattle.tl_combinators.specs.Program.{FieldText, DeclText}
 use Rattle.tl_names.specs.Writing.{At, is_constructor}
 use Rattle.tl_schema.specs.Writing.{FieldAt}
 use Rattle.tl_schema.specs.EmptyElement.{HoldsBare, HasBareFields}
-use Rattle.tl_schema.specs.BareSteps.{BareFieldsAre, HeldIs, AreNeeds}
+use Rattle.tl_schema.specs.inner.BareSteps.{BareFieldsAre, HeldIs, AreNeeds}
 use Rattle.tl_schema.proofs.Places.{get_cases}
 
 -- ---- of one declaration

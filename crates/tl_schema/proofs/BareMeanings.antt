@@ -7,7 +7,7 @@ use Rattle.tl_names.specs.Writing.{is_type_name, is_built_in, is_variable}
 use Rattle.tl_names.specs.Constructors.{IsOnlyConstructor}
 use Rattle.tl_names.specs.Constructors.{FirstNamed}
 use Rattle.tl_schema.specs.BareReferences.{IsBareOf, by_name, by_type}
-use Rattle.tl_schema.specs.BareSteps.{BareIs, OnlyOf}
+use Rattle.tl_schema.specs.inner.BareSteps.{BareIs, OnlyOf}
 use Rattle.tl_schema.proofs.Firsts.{one_first}
 
 -- what stands behind `%`

@@ -5,7 +5,7 @@ use Rattle.tl_combinators.specs.Program.{DeclText}
 use Rattle.tl_schema.proofs.HeadNames.{type_name}
 use Rattle.tl_names.specs.Writing.{is_variable}
 use Rattle.tl_schema.specs.NotBare.{HasBare, vector, single, HasNoBare}
-use Rattle.tl_schema.specs.BareForms.{IsBareName}
+use Rattle.tl_schema.specs.inner.BareForms.{IsBareName}
 
 module _ (ds : List DeclText) (d : DeclText) where
   -- a name that is applied has the bare form of its type

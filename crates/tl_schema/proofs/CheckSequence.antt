@@ -4,7 +4,7 @@ use Rattle.std.specs.Prelude.{IsErrAnd}
 use Rattle.tl_combinators.specs.Program.{DeclText}
 use Rattle.tl_graph.specs.Firsts.{First}
 use Rattle.tl_schema.specs.CheckCauses.{HasCause, NoneHas, PassesBy, RefusedBy}
-use Rattle.tl_schema.specs.CheckedPrograms.{ChecksBy, Found}
+use Rattle.tl_schema.specs.inner.CheckSteps.{ChecksBy, Found}
 use Rattle.tl_schema.specs.declared.fault.CheckCause.{CheckCause}
 use Rattle.tl_schema.specs.declared.fault.CheckFault.{CheckFault}
 use Rattle.tl_schema.specs.declared.fault.CheckFault.TheVariants.{Refused, Memory}

@@ -11,8 +11,8 @@ use Rattle.tl_names.specs.Places.{types_of}
 use Rattle.tl_schema.specs.CheckCauses.{Passes}
 use Rattle.tl_schema.specs.CheckedPrograms.{HasName, Finds}
 use Rattle.tl_names.specs.NamePlaces.{Notes, place_in}
-use Rattle.tl_schema.specs.NamesNoted.{NotesOne, among, Enters}
-use Rattle.tl_schema.specs.SchemaParts.{ArePlaces, IsSound}
+use Rattle.tl_schema.specs.inner.NamesNoted.{NotesOne, among, Enters}
+use Rattle.tl_schema.specs.inner.SchemaParts.{ArePlaces, IsSound}
 use Rattle.tl_schema.specs.declared.checks.Known.{Known}
 use Rattle.tl_schema.proofs.Places.{IsPlace, first_same, first_with, first_without, get_cases}
 

@@ -6,7 +6,7 @@ use Rattle.tl_graph.specs.Firsts.{First}
 use Rattle.tl_schema.specs.Writing.{DeclarationHas}
 use Rattle.tl_schema.specs.Parts.{SomePart, SomeWritten}
 use Rattle.tl_schema.specs.EmptyElement.{AppliesToEmpty, EmptyElement}
-use Rattle.tl_schema.specs.BareSteps.{MarksEmpty, AppliesToMarked}
+use Rattle.tl_schema.specs.inner.BareSteps.{MarksEmpty, AppliesToMarked}
 use Rattle.tl_schema.proofs.Places.{first_same}
 
 module _ (ds : List DeclText) (marks : List Bool) (empty : MarksEmpty ds marks) (d : DeclText) where

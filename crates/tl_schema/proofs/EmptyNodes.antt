@@ -6,7 +6,7 @@ use Rattle.tl_graph.specs.Paths.{IsIn}
 use Rattle.tl_graph.specs.Needs.{IsMarked, CanBeMet, can_be_met}
 use Rattle.tl_names.specs.Writing.{At}
 use Rattle.tl_schema.specs.EmptyElement.{HasBareFields, TakesNone, takes_none}
-use Rattle.tl_schema.specs.BareSteps.{BareFieldsAre, AreNeeds, MarksEmpty}
+use Rattle.tl_schema.specs.inner.BareSteps.{BareFieldsAre, AreNeeds, MarksEmpty}
 use Rattle.tl_schema.proofs.OneBare.{same_fields}
 
 module _ (ds : List DeclText) (needs : List (Option (List ℕ))) (are : AreNeeds ds needs) where

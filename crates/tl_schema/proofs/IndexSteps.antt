@@ -10,7 +10,7 @@ use Rattle.tl_names.specs.Writing.{At, is_constructor, result_head, IsConstructo
 use Rattle.tl_names.specs.NamePlaces.{place_in, Notes}
 use Rattle.tl_schema.specs.declared.index.Constructors.{Constructors}
 use Rattle.tl_names.specs.Constructors.{FirstNamed, FirstOf, IsSingle}
-use Rattle.tl_schema.specs.Indexed.{IsFamily, IsIndex, IndexesNames, IndexesTypes, Changes, at_name, one_more}
+use Rattle.tl_schema.specs.inner.Indexed.{IsFamily, IsIndex, IndexesNames, IndexesTypes, Changes, at_name, one_more}
 use Rattle.tl_schema.proofs.Places.{IsPlace, HasOne, first_same, first_with, first_without, one_with, two_with, one_without, get_kept, get_last}
 use Rattle.tl_schema.proofs.UnevenTypes.{uneven_without, uneven_first, uneven_more}
 

@@ -7,7 +7,7 @@ use Rattle.indexmap.specs.IndexSet.{IndexSet, contains}
 use Rattle.tl_numbers.proofs.Division.{one_crc}
 use Rattle.tl_combinators.specs.Program.{DeclText}
 use Rattle.tl_names.specs.Writing.{At}
-use Rattle.tl_schema.specs.Numbers.{IsTaken}
+use Rattle.tl_schema.specs.inner.TakenNumbers.{IsTaken}
 use Rattle.tl_schema.specs.Numbers.{IsWrittenOrCrc, IsNumberOf, IsNumbered}
 use Rattle.tl_schema.specs.SameNumber.{SameNumber, earlier, packed, vector}
 use Rattle.tl_schema.proofs.NameKeys.{was_there, was_new}

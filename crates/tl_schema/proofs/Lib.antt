@@ -62,4 +62,5 @@ mod DeclaredEntries
 mod EmptyArguments
 pub mod OneSchema
 pub mod OneType
+pub mod OneAnswer
 mod TypeSteps

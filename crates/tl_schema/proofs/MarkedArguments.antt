@@ -7,7 +7,7 @@ use Rattle.tl_combinators.specs.Trees.{Tree, trees_of}
 use Rattle.tl_combinators.specs.Program.{DeclText}
 use Rattle.tl_graph.specs.Needs.{IsMarked}
 use Rattle.tl_schema.specs.EmptyElement.{IsOneOf}
-use Rattle.tl_schema.specs.BareSteps.{BareIs, IsMarkedBare, HasMarkedArg}
+use Rattle.tl_schema.specs.inner.BareSteps.{BareIs, IsMarkedBare, HasMarkedArg}
 use Rattle.tl_schema.proofs.Maps.{take_push}
 
 -- ---- one of several types

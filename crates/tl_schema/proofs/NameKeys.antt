@@ -4,7 +4,7 @@ use Rattle.std.specs.List.{list_any}
 use Rattle.std.proofs.lemmas.List.{map-append}
 use Rattle.indexmap.specs.IndexSet.{insert_key}
 use Rattle.tl_names.specs.NameLists.{with_name}
-use Rattle.tl_schema.specs.NameLists.{lists}
+use Rattle.tl_schema.specs.inner.NamesInOrder.{lists}
 use Rattle.tl_schema.proofs.Maps.{list_any-map}
 
 map-push_unless : {X Y : Type 0} (f : X → Y) (xs : List X) (x : X) (b : Bool) → map f (if b then xs else xs ++ x ∷ []) ≡ (if b then map f xs else map f xs ++ f x ∷ [])

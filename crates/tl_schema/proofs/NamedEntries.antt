@@ -3,7 +3,7 @@ use Rattle.std.proofs.Common.{◌≡◌, ℕ, Bool, true, false, cond, List, [],
 use Rattle.std.specs.Map.{lookup}
 use Rattle.std.proofs.lemmas.Slice.Eq.{bytes_eq-Decides}
 use Rattle.indexmap.specs.IndexMap.{IndexMap, insert_entry}
-use Rattle.tl_schema.specs.Indexed.{at_name, Changes}
+use Rattle.tl_schema.specs.inner.Indexed.{at_name, Changes}
 
 module _ {X : Type 0} (v w : X) (old : Option X) where
   one_test : (b : Bool) → cond b (Some v) old ≡ (if b then Some v else cond b (Some w) old)

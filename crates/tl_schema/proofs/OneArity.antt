@@ -10,7 +10,7 @@ use Rattle.tl_combinators.specs.Program.{DeclText}
 use Rattle.tl_graph.specs.Firsts.{First}
 use Rattle.tl_names.specs.Writing.{At, is_type_name, is_vector_name, is_built_in, is_variable, IsConstructorOf, IsConstructorNamed}
 use Rattle.tl_schema.specs.WrongArity.{HasArity, variable, vector, built_in, type, constructor}
-use Rattle.tl_schema.specs.Arities.{FirstAt}
+use Rattle.tl_schema.specs.inner.Arities.{FirstAt}
 use Rattle.tl_schema.proofs.WritingDecided.{constructor_at_decided, named_at_decided}
 use Rattle.tl_schema.proofs.Firsts.{first_of}
 

@@ -1,7 +1,7 @@
 -- A text is a type of a program or is refused: one of the two, and in one way.
-use Rattle.std.proofs.Common.{◌≡◌, ◌⊎◌, inl, inr, ℕ, List, [], ◌∷◌, refl, sym, ap, ◌∙◌, subst}
+use Rattle.std.proofs.Common.{◌≡◌, ◌⊎◌, inl, inr, ℕ, List, [], ◌∷◌, Result, Ok, Err, refl, sym, ap, ◌∙◌, subst}
 use Rattle.tl_lexer.specs.declared.token.Token.{Token}
-use Rattle.tl_lexer.specs.Tokens.{Tokens, LexRefused}
+use Rattle.tl_lexer.specs.Tokens.{Tokens}
 use Rattle.tl_lexer.specs.OneAnswer.{HasTokens, IsRefused}
 use Rattle.tl_lexer.proofs.Whole.{Decided}
 use Rattle.tl_lexer.proofs.WholePieces.{one_answer as lexer_law}
@@ -15,8 +15,10 @@ use Rattle.tl_schema.specs.WrongArity.{Misapplies}
 use Rattle.tl_schema.specs.NotBare.{HasNoBare}
 use Rattle.tl_schema.specs.EmptyElement.{AppliesToEmpty}
 use Rattle.tl_schema.specs.Types.{Shape}
+use Rattle.tl_schema.specs.Seen.{shape}
+use Rattle.tl_schema.specs.declared.schema.TypeRef.{TypeRef}
 use Rattle.tl_schema.specs.Meanings.{meaning}
-use Rattle.tl_schema.specs.AskedTypes.{asker, TypeHas, type_causes, PassesTypeBy, RefusedTypeBy, AsksFor, IsTypeText}
+use Rattle.tl_schema.specs.AskedTypes.{asker, TypeHas, type_causes, PassesTypeBy, RefusedTypeBy, AsksFor, IsTypeText, TypeTextRefused, NamesType, GivesType, RefusesType}
 use Rattle.tl_schema.specs.declared.fault.TypeCause.{TypeCause}
 use Rattle.tl_schema.specs.declared.fault.TypeCause.TheVariants.{UnknownType, WrongArity, NotBare, EmptyElement}
 use Rattle.tl_schema.specs.declared.fault.TypeFault.{TypeFault}
@@ -26,13 +28,6 @@ use Rattle.tl_schema.proofs.UnknownTypeFirst.{begins_unknown_decided}
 use Rattle.tl_schema.proofs.WrongArityFirst.{misapplies_decided}
 use Rattle.tl_schema.proofs.NotBareFirst.{no_bare_decided}
 use Rattle.tl_schema.proofs.EmptyElementFirst.{applies_to_empty_decided}
-
--- why a text is no type, want of memory aside: it has no tokens, these are no type, or the type has a cause
-abbrev pub RefusesType : List DeclText → List ℕ → TypeFault → Type 0
-RefusesType ds text (Lex fault) = LexRefused text fault
-RefusesType ds text (Syntax fault) = (tokens : List Token) × Tokens text tokens × TypeRefused text tokens fault
-RefusesType ds text (Refused cause) = (t : Tree) × AsksFor text t × RefusedTypeBy ds type_causes t cause
-RefusesType ds text Memory = ⊥
 
 -- ---- each cause is decided
 
@@ -101,7 +96,7 @@ module _ (ds : List DeclText) (text : List ℕ) where
   -- ---- a text is a type or has a fault
 
   abbrev Answer : Type 0
-  Answer = ((s : Shape) × IsTypeText ds text s) ⊎ ((fault : TypeFault) × RefusesType ds text fault)
+  Answer = ((s : Shape) × IsTypeText ds text s) ⊎ ((fault : TypeFault) × TypeTextRefused ds text fault)
 
   passes : (t : Tree) → AsksFor text t → PassesTypeBy ds type_causes t ⊎ ((c : TypeCause) × RefusedTypeBy ds type_causes t c) → Answer
   passes t asks (inl p) = inl (meaning ds asker t, record { t = t; asks = asks; passes = p; means = refl })
@@ -123,14 +118,14 @@ module _ (ds : List DeclText) (text : List ℕ) where
   pub one_meaning : (s u : Shape) → IsTypeText ds text s → IsTypeText ds text u → s ≡ u
   one_meaning s u h k = h.means ∙ ap (meaning ds asker) (one_asked text h.t k.t h.asks k.asks) ∙ sym k.means
 
-  pub never_type_and_fault : (s : Shape) (f : TypeFault) → IsTypeText ds text s → RefusesType ds text f → ⊥
+  pub never_type_and_fault : (s : Shape) (f : TypeFault) → IsTypeText ds text s → TypeTextRefused ds text f → ⊥
   never_type_and_fault s (Lex f) h r = (lexer_law text).never_both (h.asks.tokens, h.asks.lexed) (f, r)
   never_type_and_fault s (Syntax f) h (ts, k, r) = never_read text h.asks.tokens ts h.t f h.asks.lexed k h.asks.read r
   never_type_and_fault s (Refused c) h (t, asks, r) =
       never_passed_and_refused ds t c (subst (PassesTypeBy ds type_causes) (one_asked text h.t t h.asks asks) h.passes) r
   never_type_and_fault s Memory h r = r
 
-  pub one_type_fault : (f g : TypeFault) → RefusesType ds text f → RefusesType ds text g → f ≡ g
+  pub one_type_fault : (f g : TypeFault) → TypeTextRefused ds text f → TypeTextRefused ds text g → f ≡ g
   one_type_fault (Lex f) (Lex g) r s = ap Lex ((lexer_law text).same_fault f g r s)
   one_type_fault (Lex f) (Syntax g) r (ts, h, s) = absurd ((lexer_law text).never_both (ts, h) (f, r))
   one_type_fault (Lex f) (Refused c) r (t, asks, s) = absurd ((lexer_law text).never_both (asks.tokens, asks.lexed) (f, r))
@@ -145,3 +140,19 @@ module _ (ds : List DeclText) (text : List ℕ) where
       ap Refused (one_type_cause ds t c d r (subst (λ (x : Tree). RefusedTypeBy ds type_causes x d) (one_asked text u t also asks) s))
   one_type_fault (Refused c) Memory r s = absurd s
   one_type_fault Memory g r s = absurd r
+
+  -- ---- what is answered so is exactly this
+
+  pub gives_type : (r : Result TypeRef TypeFault) → NamesType ds text r → (s : Shape) → IsTypeText ds text s → GivesType s r
+  gives_type (Ok type) h s is = one_meaning (shape type) s h is
+  gives_type (Err (Lex f)) h s is = absurd (never_type_and_fault s (Lex f) is h)
+  gives_type (Err (Syntax f)) h s is = absurd (never_type_and_fault s (Syntax f) is h)
+  gives_type (Err (Refused c)) h s is = absurd (never_type_and_fault s (Refused c) is h)
+  gives_type (Err Memory) h s is = refl
+
+  pub refuses_type : (r : Result TypeRef TypeFault) → NamesType ds text r → (fault : TypeFault) → TypeTextRefused ds text fault → RefusesType fault r
+  refuses_type (Ok type) h fault r = never_type_and_fault (shape type) fault h r
+  refuses_type (Err (Lex f)) h fault r = inl (one_type_fault (Lex f) fault h r)
+  refuses_type (Err (Syntax f)) h fault r = inl (one_type_fault (Syntax f) fault h r)
+  refuses_type (Err (Refused c)) h fault r = inl (one_type_fault (Refused c) fault h r)
+  refuses_type (Err Memory) h fault r = inr refl

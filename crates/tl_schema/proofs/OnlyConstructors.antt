@@ -3,7 +3,7 @@ use Rattle.std.proofs.Common.{ℕ, List, None}
 use Rattle.std.proofs.lemmas.Option.{none-some}
 use Rattle.tl_combinators.specs.Program.{DeclText}
 use Rattle.tl_names.specs.Constructors.{FirstOf}
-use Rattle.tl_schema.specs.BareSteps.{OnlyOf}
+use Rattle.tl_schema.specs.inner.BareSteps.{OnlyOf}
 
 -- a type with no constructor has no only one
 pub only_of_none : (ds : List DeclText) (type : List ℕ) → FirstOf ds type None → OnlyOf ds type None

@@ -8,7 +8,7 @@ use Rattle.tl_graph.specs.Paths.{Edge, IsGraph, IsOnCycle}
 use Rattle.tl_graph.proofs.GraphPaths.{along}
 use Rattle.tl_schema.specs.BareReferences.{IsBareOf, by_name, by_type, PointsTo}
 use Rattle.tl_schema.specs.BareCycle.{BareCycle}
-use Rattle.tl_schema.specs.BareSteps.{AreReferences}
+use Rattle.tl_schema.specs.inner.BareSteps.{AreReferences}
 use Rattle.tl_schema.proofs.Places.{first_same}
 
 -- a constructor that is referred to stands in the list

@@ -1,12 +1,12 @@
 -- For each declaration the constructors that it refers to.
 use Rattle.std.proofs.Common.{◌≡◌, inl, inr, ℕ, ◌+◌, ◌<◌, List, [], ◌∷◌, ◌++◌, length, slice_get, Some, sym, ◌∙◌, subst, arith}
 use Rattle.std.proofs.lemmas.List.{length_push}
-use Rattle.std.proofs.lemmas.Option.{none-some, same_Some, slice_get_cases, slice_get_within}
+use Rattle.std.proofs.lemmas.Option.{same_Some, slice_get_cases, slice_get_within}
 use Rattle.tl_combinators.specs.Program.{DeclText}
 use Rattle.tl_graph.specs.Paths.{Edge}
 use Rattle.tl_names.specs.Writing.{At}
 use Rattle.tl_schema.specs.BareReferences.{PointsTo}
-use Rattle.tl_schema.specs.BareSteps.{Refers, AreReferences}
+use Rattle.tl_schema.specs.inner.BareSteps.{Refers, AreReferences}
 use Rattle.tl_schema.proofs.Places.{get_cases}
 
 -- the edges are those of the first declarations
@@ -18,9 +18,6 @@ item_within : {X : Type 0} (xs : List X) (k : ℕ) → k < length xs → (x : X)
 item_within xs k within = elim (slice_get_cases xs k).1 [ inl has ↦ (has.0, has.2) | inr past ↦ absurd (omega (arith, past.0, within)) ]
 
 module _ (ds : List DeclText) where
-  pub first_none : AreFirst ds 0 []
-  first_none = record { count = omega arith; each = λ k d js at there. absurd (none-some js there) }
-
   pub first_more : (n : ℕ) (edges : List (List ℕ)) (d : DeclText) (js : List ℕ) → At ds n d → AreFirst ds n edges → Refers ds d js → AreFirst ds (n + 1) (edges ++ js ∷ [])
   first_more n edges d js at first refers = record {
     count = omega (arith, length_push edges js, first.count);

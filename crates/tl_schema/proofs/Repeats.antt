@@ -1,8 +1,7 @@
 -- Elements that stand twice in a list.
-use Rattle.std.proofs.Common.{◌≡◌, ℕ, zero, suc, ◌<◌, Bool, true, false, ◌||◌, inl, inr, List, [], ◌∷◌, take, slice_get, Some, refl, ap, sym, ◌∙◌, true≢false, arith}
+use Rattle.std.proofs.Common.{◌≡◌, ℕ, zero, suc, ◌<◌, Bool, true, false, ◌||◌, List, [], ◌∷◌, take, slice_get, Some, refl, ap, sym, ◌∙◌, true≢false, arith}
 use Rattle.std.specs.Bool.{Decides}
 use Rattle.std.specs.List.{list_any}
-use Rattle.std.proofs.lemmas.Bool.{cases_order}
 use Rattle.std.proofs.lemmas.Option.{none-some, same_Some}
 use Rattle.tl_names.specs.NameLists.{IsRepeat}
 
@@ -36,12 +35,3 @@ module _ {X : Type 0} (eq : X → X → Bool) (same : (x y : X) → Decides (eq 
   repeat_not_found xs k x at h r =
       let is : r.item ≡ x = same_Some r.item x (sym r.here ∙ at) in
       true≢false (sym ((same x r.item).1 (sym is)) ∙ other xs k x r.item r.earlier h r.before r.there)
-
--- where no element stands twice, an element has one place
-pub one_place : {X : Type 0} (xs : List X) → ((k : ℕ) → ¬ IsRepeat xs k) → (i j : ℕ) (x : X) → slice_get xs i ≡ Some x → slice_get xs j ≡ Some x → i ≡ j
-one_place xs apart i j x first second =
-    elim (cases_order i j) [
-      | inl e ↦ e
-      | inr (inl below) ↦ absurd (apart j (record { earlier = i; item = x; before = below; there = first; here = second }))
-      | inr (inr below) ↦ absurd (apart i (record { earlier = j; item = x; before = below; there = second; here = first }))
-    ]

@@ -11,7 +11,7 @@ use Rattle.tl_combinators.specs.declared.program.Field.{Field}
 use Rattle.tl_names.specs.Writing.{At}
 use Rattle.tl_names.specs.NameLists.{IsRepeat, with_name}
 use Rattle.tl_schema.specs.SameName.{SameName, declared, part, vector, part_names}
-use Rattle.tl_schema.specs.SameNameSteps.{names_among, AddsName, MakesVector}
+use Rattle.tl_schema.specs.inner.SameNameSteps.{names_among, AddsName, MakesVector}
 use Rattle.tl_schema.specs.declared.same_name.Known.{Known}
 use Rattle.std.proofs.lemmas.List.{length-map}
 use Rattle.tl_schema.proofs.Maps.{slice_get_made, slice_get_item}
@@ -32,10 +32,6 @@ pub record IsKnown (ds : List DeclText) (i : ℕ) (function : Bool) (name : List
 -- the names of the first i declarations are known
 abbrev pub KnowsFirst : List DeclText → ℕ → Known → Type 0
 KnowsFirst ds i known = (function : Bool) (name : List ℕ) → Decides (list_any (bytes_eq name) (names_among function known)) (IsKnown ds i function name)
-
-pub knows_none : (ds : List DeclText) (known : Known) → known.functions ≡ [] → known.constructors ≡ [] → KnowsFirst ds 0 known
-knows_none ds known no_functions no_constructors true name = (λ h. absurd (true≢false (sym h ∙ ap (list_any (bytes_eq name)) no_functions)), λ k. absurd (let b = k.before in omega arith))
-knows_none ds known no_functions no_constructors false name = (λ h. absurd (true≢false (sym h ∙ ap (list_any (bytes_eq name)) no_constructors)), λ k. absurd (let b = k.before in omega arith))
 
 -- a name that is there with one more was there, or is that one
 was_there_or_is : (names : List (List ℕ)) (name other : List ℕ) → list_any (bytes_eq other) (with_name names name) ≡ true → (list_any (bytes_eq other) names ≡ true) ⊎ (other ≡ name)

@@ -3,17 +3,14 @@ use Rattle.std.proofs.Common.{◌≡◌, inl, inr, ℕ, List, Result, Ok, Err, r
 use Rattle.std.specs.Prelude.{IsErrAnd}
 use Rattle.tl_combinators.specs.Trees.{Tree}
 use Rattle.tl_combinators.specs.Program.{DeclText}
-use Rattle.tl_schema.specs.AskedTypes.{TypeHas, type_causes, RefusedTypeBy, AsksFor, PassesType, ChecksType, NamesType}
+use Rattle.tl_schema.specs.AskedTypes.{TypeHas, type_causes, RefusedTypeBy, AsksFor, NamesType}
+use Rattle.tl_schema.specs.inner.TypeSteps.{PassesType, ChecksType}
 use Rattle.tl_schema.specs.declared.schema.TypeRef.{TypeRef}
 use Rattle.tl_schema.specs.declared.fault.TypeCause.TheVariants.{UnknownType, WrongArity, NotBare, EmptyElement}
 use Rattle.tl_schema.specs.declared.fault.TypeFault.{TypeFault}
 use Rattle.tl_schema.specs.declared.fault.TypeFault.TheVariants.{Lex, Syntax, Refused, Memory}
 
 module _ (ds : List DeclText) (t : Tree) where
-  pub out_of_memory : (r : Result (Unit {0}) TypeFault) → IsErrAnd r (λ z. z ≡ Memory) → PassesType ds t r
-  out_of_memory (Ok u) h = absurd h
-  out_of_memory (Err z) h = subst (λ (y : TypeFault). PassesType ds t (Err y)) (sym h) tt
-
   -- the fault of a type is the answer
   pub stops : (e : TypeFault) (r : Result TypeRef TypeFault) → PassesType ds t (Err e) → IsErrAnd r (λ z. z ≡ e) → ChecksType ds t r
   stops e (Ok x) refused h = absurd h

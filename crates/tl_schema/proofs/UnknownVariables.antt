@@ -6,7 +6,7 @@ use Rattle.tl_combinators.specs.Program.{DeclText}
 use Rattle.tl_names.specs.Writing.{is_variable}
 use Rattle.tl_schema.specs.Parts.{SomeInFields}
 use Rattle.tl_schema.specs.UnknownVariable.{NamesVariable, MisusesVariable, uncalled, no_variable, in_field, calls}
-use Rattle.tl_schema.specs.VariableSteps.{calls_another, leaves_uncalled}
+use Rattle.tl_schema.specs.inner.VariableSteps.{calls_another, leaves_uncalled}
 use Rattle.tl_schema.proofs.ListParts.{any_found, any_none}
 
 module _ (d : DeclText) where

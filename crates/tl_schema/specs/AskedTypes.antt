@@ -57,26 +57,29 @@ pub record IsTypeText (ds : List DeclText) (text : List ℕ) (s : Shape) : Type 
   pub passes : PassesTypeBy ds type_causes t
   pub means : s ≡ meaning ds asker t
 
--- what the checks of a type answer
-abbrev pub PassesType : List DeclText → Tree → Result (Unit {0}) TypeFault → Type 0
-PassesType ds t (Ok u) = PassesTypeBy ds type_causes t
-PassesType ds t (Err (type.Lex fault)) = ⊥
-PassesType ds t (Err (type.Syntax fault)) = ⊥
-PassesType ds t (Err (type.Refused cause)) = RefusedTypeBy ds type_causes t cause
-PassesType ds t (Err type.Memory) = Unit {0}
+-- why the text is no type of the program: it has no tokens, these are no type, or the type has a cause
+abbrev pub TypeTextRefused : List DeclText → List ℕ → TypeFault → Type 0
+TypeTextRefused ds text (type.Lex fault) = LexRefused text fault
+TypeTextRefused ds text (type.Syntax fault) = (tokens : List Token) × Tokens text tokens × TypeRefused text tokens fault
+TypeTextRefused ds text (type.Refused cause) = (t : Tree) × AsksFor text t × RefusedTypeBy ds type_causes t cause
+TypeTextRefused ds text type.Memory = ⊥
 
--- what a type is, where a text asks for it
-abbrev pub ChecksType : List DeclText → Tree → Result TypeRef TypeFault → Type 0
-ChecksType ds t (Ok type) = PassesTypeBy ds type_causes t × (shape type ≡ meaning ds asker t)
-ChecksType ds t (Err (type.Lex fault)) = ⊥
-ChecksType ds t (Err (type.Syntax fault)) = ⊥
-ChecksType ds t (Err (type.Refused cause)) = RefusedTypeBy ds type_causes t cause
-ChecksType ds t (Err type.Memory) = Unit {0}
+-- ---- answers; out of memory is free
 
--- what a text is as a type of the program
+-- what is answered is so: what the text means, or why it is no type
 abbrev pub NamesType : List DeclText → List ℕ → Result TypeRef TypeFault → Type 0
 NamesType ds text (Ok type) = IsTypeText ds text (shape type)
-NamesType ds text (Err (type.Lex fault)) = LexRefused text fault
-NamesType ds text (Err (type.Syntax fault)) = (tokens : List Token) × Tokens text tokens × TypeRefused text tokens fault
-NamesType ds text (Err (type.Refused cause)) = (t : Tree) × AsksFor text t × RefusedTypeBy ds type_causes t cause
+NamesType ds text (Err (type.Lex fault)) = TypeTextRefused ds text (type.Lex fault)
+NamesType ds text (Err (type.Syntax fault)) = TypeTextRefused ds text (type.Syntax fault)
+NamesType ds text (Err (type.Refused cause)) = TypeTextRefused ds text (type.Refused cause)
 NamesType ds text (Err type.Memory) = Unit {0}
+
+-- the answer is this type, or out of memory
+abbrev pub GivesType : Shape → Result TypeRef TypeFault → Type 0
+GivesType s (Ok type) = shape type ≡ s
+GivesType s (Err fault) = fault ≡ type.Memory
+
+-- the answer is this fault, or out of memory
+abbrev pub RefusesType : TypeFault → Result TypeRef TypeFault → Type 0
+RefusesType fault (Ok type) = ⊥
+RefusesType fault (Err other) = (other ≡ fault) ⊎ (other ≡ type.Memory)

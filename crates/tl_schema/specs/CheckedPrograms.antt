@@ -1,11 +1,11 @@
 -- The programs that are schemas, and what a check answers. This project's own.
-use Rattle.std.specs.Prelude.{◌≡◌, ℕ, ◌<◌, ◌^◌, List, length, Bool, Option, Some, None, Result, Ok, Err, slice_get}
+use Rattle.std.specs.Prelude.{◌≡◌, ◌⊎◌, ℕ, ◌<◌, ◌^◌, List, length, Bool, Option, Some, Result, Ok, Err, slice_get}
 use Rattle.tl_combinators.specs.Program.{DeclText}
 use Rattle.tl_graph.specs.Firsts.{First}
 use Rattle.tl_names.specs.Writing.{At}
 use Rattle.tl_schema.specs.Schemas.{Declaration, Declared}
 use Rattle.tl_schema.specs.Meanings.{IsEntry, IsSmall}
-use Rattle.tl_schema.specs.CheckCauses.{causes, PassesBy, RefusedBy, Passes, RefusedAt}
+use Rattle.tl_schema.specs.CheckCauses.{Passes, RefusedAt}
 use Rattle.tl_schema.specs.declared.fault.CheckCause.{CheckCause}
 use Rattle.tl_schema.specs.declared.fault.CheckFault.{CheckFault}
 use Rattle.tl_schema.specs.declared.fault.CheckFault.TheVariants as check
@@ -18,26 +18,27 @@ pub record IsSchema (schema : Declared) : Type 0 where
   pub entries : (k : ℕ) (d : DeclText) (e : Declaration) → At schema.program k d → slice_get schema.decls k ≡ Some e → IsEntry schema.program d e
   pub fits : (k : ℕ) (e : Declaration) → slice_get schema.decls k ≡ Some e → e.number < 2 ^ 32
 
--- what the checks of these causes answer
-abbrev pub ChecksBy : List DeclText → List CheckCause → Result (Unit {0}) CheckFault → Type 0
-ChecksBy ds cs (Ok u) = PassesBy ds cs
-ChecksBy ds cs (Err (check.Refused k cause)) = RefusedBy ds cs k cause
-ChecksBy ds cs (Err check.Memory) = Unit {0}
+-- it is the schema of this program
+abbrev pub IsSchemaOf : List DeclText → Declared → Type 0
+IsSchemaOf ds schema = IsSchema schema × (schema.program ≡ ds)
 
--- what the checks answer
-abbrev pub PassesChecks : List DeclText → Result (Unit {0}) CheckFault → Type 0
-PassesChecks ds result = ChecksBy ds causes result
+-- ---- answers; out of memory is free
 
--- what comes of a place that was looked for: the first declaration with the cause, if there is one
-abbrev pub Found : Option ℕ → CheckCause → Result (Unit {0}) CheckFault → Type 0
-Found (Some k) cause result = result ≡ Err (check.Refused k cause)
-Found None cause result = result ≡ Ok tt
-
--- what a check answers
+-- what is answered is so: the program's schema, or the cause that it has
 abbrev pub Checks : List DeclText → Result Declared CheckFault → Type 0
-Checks ds (Ok schema) = IsSchema schema × (schema.program ≡ ds)
+Checks ds (Ok schema) = IsSchemaOf ds schema
 Checks ds (Err (check.Refused k cause)) = RefusedAt ds k cause
 Checks ds (Err check.Memory) = Unit {0}
+
+-- the answer is the program's schema, or out of memory
+abbrev pub GivesSchema : List DeclText → Result Declared CheckFault → Type 0
+GivesSchema ds (Ok schema) = IsSchemaOf ds schema
+GivesSchema ds (Err fault) = fault ≡ check.Memory
+
+-- the answer is this refusal, or out of memory
+abbrev pub RefusesProgram : ℕ → CheckCause → Result Declared CheckFault → Type 0
+RefusesProgram k cause (Ok schema) = ⊥
+RefusesProgram k cause (Err fault) = (fault ≡ check.Refused k cause) ⊎ (fault ≡ check.Memory)
 
 -- ---- looking for a declaration
 

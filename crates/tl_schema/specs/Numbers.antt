@@ -1,11 +1,10 @@
 -- Numbers of declarations.
 -- From "TL language" (core.telegram.org/mtproto/TL), its combinator names: a number that is not written is the CRC32 of the description.
 -- What the description is, is this project's own, and stands in the grammar.
-use Rattle.std.specs.Prelude.{◌≡◌, ◌⊎◌, ℕ, List, Option, Some, None, false}
+use Rattle.std.specs.Prelude.{◌≡◌, ℕ, List, Option, Some, None, false}
 use Rattle.tl_numbers.specs.Crc.{IsCrc}
 use Rattle.tl_combinators.specs.Program.{DeclText}
 use Rattle.tl_names.specs.Writing.{At}
-use Rattle.tl_schema.specs.Schemas.{packed_number, vector_number}
 
 -- the written number, else the text's CRC32
 abbrev pub IsWrittenOrCrc : Option ℕ → List ℕ → ℕ → Type 0
@@ -21,7 +20,3 @@ pub record IsNumbered (ds : List DeclText) (k n : ℕ) : Type 0 where
   pub here : At ds k d
   pub own : d.builtin ≡ false
   pub number : IsNumberOf d n
-
--- a number with a meaning of its own
-abbrev pub IsTaken : ℕ → Type 0
-IsTaken number = (number ≡ packed_number) ⊎ (number ≡ vector_number)

@@ -1,15 +1,12 @@
 -- Parts of types, and of what a declaration writes, that have a property. This project's own.
 use Rattle.std.specs.Prelude.{◌≡◌, ℕ, List, slice_get, Some}
-use Rattle.tl_combinators.specs.Trees.{Tree, Trees}
+use Rattle.tl_combinators.specs.Trees.{Tree}
 use Rattle.tl_combinators.specs.Program.{KindText, FieldText, DeclText}
-use Rattle.tl_schema.specs.Writing.{IsPart, IsPartOfOne, HeldBy, Writes}
+use Rattle.tl_schema.specs.Writing.{IsPart, HeldBy, Writes}
 
 -- the type or a part of it has the property
 abbrev pub SomePart : (Tree → Type 0) → Tree → Type 0
 SomePart P t = (u : Tree) × IsPart u t × P u
-
-abbrev pub SomePartOfOne : (Tree → Type 0) → Trees → Type 0
-SomePartOfOne P ts = (u : Tree) × IsPartOfOne u ts × P u
 
 abbrev pub SomeHeld : (Tree → Type 0) → KindText → Type 0
 SomeHeld P k = (u : Tree) × HeldBy u k × P u

@@ -3,7 +3,7 @@ ghost use Rattle.std.specs.Prelude.{◌≡◌, ◌<◌, ◌≤◌, ◌^◌, ◌�
 ghost use Rattle.tl_combinators.specs.Program.{cond_texts, decl_text, field_text, program_text};
 ghost use Rattle.tl_graph.specs.Firsts.{First};
 ghost use Rattle.tl_schema.specs.BadFlag.{BadFlag, HasBadCondition, IsBadCondition, IsFlagsBefore};
-ghost use Rattle.tl_schema.specs.ConditionSteps.{IsFlags};
+ghost use Rattle.tl_schema.specs.inner.ConditionSteps.{IsFlags};
 
 use crate::declarations::{DeclTest, first_that};
 use tl_combinators::{Cond, Decl, Field, FieldKind, Program};

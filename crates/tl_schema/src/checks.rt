@@ -1,11 +1,12 @@
 //! Checks of a program, and the schema that it declares.
-ghost use Rattle.std.specs.Prelude.{◌≡◌, ◌<◌, ◌^◌, IfOk, OnOk, length, map};
+ghost use Rattle.std.specs.Prelude.{◌≡◌, ℕ, ◌<◌, ◌^◌, IfOk, OnOk, length, map};
 ghost use Rattle.tl_combinators.specs.Program.{decl_text, program_text, IsWithinLimits};
 ghost use Rattle.tl_schema.specs.Meanings.{IsSmall};
-ghost use Rattle.tl_schema.specs.CheckCauses.{Passes};
-ghost use Rattle.tl_schema.specs.CheckedPrograms.{Checks, IsSchema};
-ghost use Rattle.tl_schema.specs.NamesNoted.{AreEntered, EntersOne, NotesOne};
-ghost use Rattle.tl_schema.specs.SchemaParts.{IsSound};
+ghost use Rattle.tl_schema.specs.CheckCauses.{Passes, RefusedAt};
+ghost use Rattle.tl_schema.specs.CheckedPrograms.{Checks, GivesSchema, IsSchemaOf, RefusesProgram};
+ghost use Rattle.tl_schema.specs.declared.fault.CheckCause.{CheckCause};
+ghost use Rattle.tl_schema.specs.inner.NamesNoted.{AreEntered, EntersOne, NotesOne};
+ghost use Rattle.tl_schema.specs.inner.SchemaParts.{IsSound};
 ghost use Rattle.tl_schema.specs.Seen.{declaration};
 
 use crate::copies::copy_program;
@@ -36,6 +37,18 @@ struct Entered {
 /// Checks a program, and makes the schema that it declares.
 pub fn check(alloc: Global, program: &Program) -> Result<Schema, CheckFault>
     requires { IsWithinLimits (program_text program.now) }
+    // What is answered is so by the definitions.
+    ensures checks { Checks (program_text program.now) result }
+    // A program that passes gives its schema, and one that is refused is refused at the same declaration for the same cause.
+    ensures passes { Passes (program_text program.now) → GivesSchema (program_text program.now) result }
+    ensures refuses { (k : ℕ) (cause : CheckCause) → RefusedAt (program_text program.now) k cause → RefusesProgram k cause result }
+{
+    checked_schema(alloc, program)
+}
+
+// The schema that a program declares, if it passes.
+fn checked_schema(alloc: Global, program: &Program) -> Result<Schema, CheckFault>
+    requires { IsWithinLimits (program_text program.now) }
     ensures { Checks (program_text program.now) result }
 {
     let index = Index::of(alloc, program)?;
@@ -49,7 +62,7 @@ fn declare(alloc: Global, index: &Index, program: &Program) -> Result<Schema, Al
     requires same { index.now ≡ program_text program.now }
     requires small { IsSmall (program_text program.now) }
     requires passes { Passes (program_text program.now) }
-    ensures { IfOk result (λ s. IsSchema s × (s.program ≡ program_text program.now)) }
+    ensures { IfOk result (IsSchemaOf (program_text program.now)) }
 {
     let program_copy = copy_program(alloc, program)?;
     let entered = entered_of(alloc, index, program)?;

@@ -4,7 +4,7 @@ ghost use Rattle.std.specs.Option.{option_map};
 ghost use Rattle.tl_combinators.specs.Program.{decl_text, kind_text, program_text};
 ghost use Rattle.tl_graph.specs.Needs.{IsMarked, needs_in};
 ghost use Rattle.tl_graph.specs.Steps.{IsMet, IsMetBy, MarksMore, unmarked};
-ghost use Rattle.tl_schema.specs.BareSteps.{AreNeeds, BareFieldsAre, HeldIs, MarksEmpty};
+ghost use Rattle.tl_schema.specs.inner.BareSteps.{AreNeeds, BareFieldsAre, HeldIs, MarksEmpty};
 
 use crate::index::Index;
 use crate::meanings::is_constructor;

@@ -5,7 +5,7 @@ ghost use Rattle.tl_combinators.specs.Program.{decl_text, program_text};
 ghost use Rattle.tl_graph.specs.Firsts.{First};
 ghost use Rattle.tl_schema.specs.EmptyElement.{AppliesToEmpty, EmptyElement};
 ghost use Rattle.tl_schema.specs.Parts.{SomePart};
-ghost use Rattle.tl_schema.specs.BareSteps.{HasMarkedArg, IsMarkedBare};
+ghost use Rattle.tl_schema.specs.inner.BareSteps.{HasMarkedArg, IsMarkedBare};
 
 use crate::declarations::first_that_writes;
 use crate::empties::empties;
@@ -62,7 +62,7 @@ struct EmptyArgument<'t, 'a> {
 }
 
 impl<'t, 'a> TypeTest for EmptyArgument<'t, 'a> {
-    ghost use Rattle.tl_schema.specs.BareSteps.{AppliesToMarked};
+    ghost use Rattle.tl_schema.specs.inner.BareSteps.{AppliesToMarked};
 
     ghost holds = { λ s. AppliesToMarked s.index.now s.marks.now };
 

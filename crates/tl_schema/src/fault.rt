@@ -92,7 +92,7 @@ impl<T: Drop> From<AllocFailed<T>> for CheckFault {
 
 impl From<LexFault> for TypeFault {
     ghost use Rattle.std.specs.Prelude.{◌≡◌};
-    ghost use Rattle.tl_schema.specs.TypeFaults.{of_lex};
+    ghost use Rattle.tl_schema.specs.inner.TypeFaults.{of_lex};
 
     ghost from_gives = { λ e fault. fault ≡ of_lex e };
 
@@ -106,7 +106,7 @@ impl From<LexFault> for TypeFault {
 
 impl From<SyntaxFault> for TypeFault {
     ghost use Rattle.std.specs.Prelude.{◌≡◌};
-    ghost use Rattle.tl_schema.specs.TypeFaults.{of_syntax};
+    ghost use Rattle.tl_schema.specs.inner.TypeFaults.{of_syntax};
 
     ghost from_gives = { λ e fault. fault ≡ of_syntax e };
 

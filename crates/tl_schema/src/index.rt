@@ -1,9 +1,9 @@
 //! Own constructors by name and by type.
 ghost use Rattle.std.specs.Prelude.{◌≡◌, ◌∷◌, [], ◌++◌, ◌<◌, ◌^◌, ◌↔◌, IsTrue, List, length, IfOk, OnOk};
 ghost use Rattle.tl_combinators.specs.Program.{DeclText, decl_text, program_text};
-ghost use Rattle.tl_schema.specs.BareSteps.{OnlyOf};
+ghost use Rattle.tl_schema.specs.inner.BareSteps.{OnlyOf};
 ghost use Rattle.tl_names.specs.Constructors.{FirstNamed, FirstOf, IsSingle};
-ghost use Rattle.tl_schema.specs.Indexed.{IndexesNames, IndexesTypes, Changes, at_name, one_more};
+ghost use Rattle.tl_schema.specs.inner.Indexed.{IndexesNames, IndexesTypes, Changes, at_name, one_more};
 ghost use Rattle.tl_names.specs.Constructors.{IsUneven};
 ghost use Rattle.tl_names.specs.Writing.{At};
 
@@ -41,7 +41,7 @@ impl<'a> Model for Index<'a> {
 
     ghost coded = { decls_code };
 
-    ghost use Rattle.tl_schema.specs.Indexed.{IsIndex};
+    ghost use Rattle.tl_schema.specs.inner.Indexed.{IsIndex};
 
     ghost view = { λ x. program_text x.program.now };
 

@@ -12,6 +12,7 @@ mod empty_element;
 mod entries;
 mod fault;
 mod index;
+mod laws;
 mod meanings;
 mod names;
 mod not_bare;
@@ -31,5 +32,6 @@ mod wrong_arity;
 
 pub use checks::check;
 pub use fault::{CheckCause, CheckFault, TypeCause, TypeFault};
+pub use laws::{each_program_is_a_schema_or_refused, each_text_is_a_type_or_refused};
 pub use schema::{Entry, Schema, SchemaField, TypeRef};
 pub use types::type_of;

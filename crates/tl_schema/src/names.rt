@@ -1,7 +1,8 @@
 //! Names in the order in which they came, each once.
 ghost use Rattle.std.specs.Prelude.{◌≡◌, [], bytes_eq, not, length, IfOk, OnOk, OnErr};
 ghost use Rattle.std.specs.List.{list_any, position_or_len};
-ghost use Rattle.tl_names.specs.NameLists.{place, with_name};
+ghost use Rattle.tl_names.specs.NameLists.{with_name};
+ghost use Rattle.tl_names.specs.NameLists.{place};
 
 use indexmap::IndexSet;
 use std::alloc::{AllocError, Global};
@@ -15,7 +16,7 @@ pub struct Names {
 
 impl Model for Names {
     ghost use Rattle.std.specs.Prelude.{List, ℕ, map};
-    ghost use Rattle.tl_schema.specs.NameLists.{lists};
+    ghost use Rattle.tl_schema.specs.inner.NamesInOrder.{lists};
 
     ghost Value = { List (List ℕ) };
 

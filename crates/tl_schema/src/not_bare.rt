@@ -4,7 +4,7 @@ ghost use Rattle.tl_combinators.specs.Trees.{view};
 ghost use Rattle.tl_combinators.specs.Program.{decl_text, program_text};
 ghost use Rattle.tl_graph.specs.Firsts.{First};
 ghost use Rattle.tl_schema.specs.NotBare.{HasBare, HasNoBare, NotBare};
-ghost use Rattle.tl_schema.specs.BareForms.{IsBareName};
+ghost use Rattle.tl_schema.specs.inner.BareForms.{IsBareName};
 ghost use Rattle.tl_schema.specs.Parts.{SomePart};
 
 use crate::declarations::first_that_writes;

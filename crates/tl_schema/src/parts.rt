@@ -2,7 +2,8 @@
 ghost use Rattle.std.specs.Prelude.{◌≡◌, ◌↔◌, IsTrue, map};
 ghost use Rattle.tl_combinators.specs.Trees.{Tree, trees_of, view, views};
 ghost use Rattle.tl_combinators.specs.Program.{DeclText, decl_text, field_text, kind_text};
-ghost use Rattle.tl_schema.specs.Parts.{SomePart, SomePartOfOne, SomeHeld, SomeInFields, SomeWritten};
+ghost use Rattle.tl_schema.specs.Parts.{SomePart, SomeHeld, SomeInFields, SomeWritten};
+ghost use Rattle.tl_schema.specs.inner.PartLists.{SomePartOfOne};
 
 use tl_combinators::{Decl, Field, FieldKind, TypeTree};
 

@@ -2,7 +2,7 @@
 ghost use Rattle.std.specs.Prelude.{◌≡◌, ◌<◌, ◌^◌, length};
 ghost use Rattle.tl_combinators.specs.Program.{program_text};
 ghost use Rattle.tl_schema.specs.CheckCauses.{meaning_causes, name_causes};
-ghost use Rattle.tl_schema.specs.CheckedPrograms.{ChecksBy, Found, PassesChecks};
+ghost use Rattle.tl_schema.specs.inner.CheckSteps.{ChecksBy, Found, PassesChecks};
 
 use crate::bad_flag::first_bad_flag;
 use crate::bad_result::first_bad_result;

@@ -4,7 +4,7 @@ ghost use Rattle.tl_combinators.specs.Trees.{Trees, named, percent, trees_of, vi
 ghost use Rattle.tl_combinators.specs.Program.{decl_text, kind_text, program_text};
 ghost use Rattle.tl_graph.specs.Paths.{edges_in};
 ghost use Rattle.tl_schema.specs.Writing.{HeldBy, IsPart, IsPartOfOne};
-ghost use Rattle.tl_schema.specs.BareSteps.{Adds, AreReferences, BareIs, Refers};
+ghost use Rattle.tl_schema.specs.inner.BareSteps.{Adds, AreReferences, BareIs, Refers};
 
 use crate::index::Index;
 use crate::meanings::{is_built_in, is_constructor, is_type_name, is_variable};

@@ -5,7 +5,7 @@ ghost use Rattle.tl_combinators.specs.Trees.{view};
 ghost use Rattle.tl_graph.specs.Firsts.{First};
 ghost use Rattle.tl_names.specs.NameLists.{IsRepeat};
 ghost use Rattle.tl_schema.specs.SameName.{SameName, part_names};
-ghost use Rattle.tl_schema.specs.SameNameSteps.{AddsName, MakesVector, IsOf};
+ghost use Rattle.tl_schema.specs.inner.SameNameSteps.{AddsName, MakesVector, IsOf};
 
 use crate::meanings::is_variable;
 use crate::names::Names;

@@ -2,7 +2,7 @@
 ghost use Rattle.std.specs.Prelude.{◌<◌, ◌^◌, ◌↔◌, IsTrue, IfOk, length};
 ghost use Rattle.tl_combinators.specs.Program.{decl_text, program_text};
 ghost use Rattle.tl_graph.specs.Firsts.{First};
-ghost use Rattle.tl_schema.specs.Numbers.{IsTaken};
+ghost use Rattle.tl_schema.specs.inner.TakenNumbers.{IsTaken};
 ghost use Rattle.tl_schema.specs.Numbers.{IsNumberOf};
 ghost use Rattle.tl_schema.specs.SameNumber.{SameNumber};
 

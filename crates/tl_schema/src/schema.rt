@@ -4,7 +4,7 @@ ghost use Rattle.tl_combinators.specs.Program.{program_text};
 ghost use Rattle.tl_schema.specs.Seen.{declaration};
 ghost use Rattle.tl_schema.specs.CheckedPrograms.{Finds, IsSchema};
 ghost use Rattle.tl_names.specs.Places.{types_of};
-ghost use Rattle.tl_schema.specs.SchemaParts.{IsSound};
+ghost use Rattle.tl_schema.specs.inner.SchemaParts.{IsSound};
 
 use crate::placed::Placed;
 use std::marker::Model;
@@ -83,8 +83,8 @@ impl Model for Schema {
     ghost use Rattle.tl_combinators.specs.Program.{program_text};
     ghost use Rattle.tl_schema.specs.Schemas.{Declared};
     ghost use Rattle.tl_schema.specs.Seen.{declaration};
-    ghost use Rattle.tl_schema.specs.SchemaCodes.{declared_code};
-    ghost use Rattle.tl_schema.specs.SchemaParts.{IsSound};
+    ghost use Rattle.tl_schema.specs.inner.SchemaCodes.{declared_code};
+    ghost use Rattle.tl_schema.specs.inner.SchemaParts.{IsSound};
 
     ghost Value = { Declared };
 

@@ -22,7 +22,7 @@ impl<'t, 'a> Model for Scope<'t, 'a> {
     ghost use Rattle.std.specs.Prelude.{List};
     ghost use Rattle.tl_combinators.specs.Program.{DeclText};
     ghost use Rattle.tl_names.specs.DeclCodes.{decls_code};
-    ghost use Rattle.tl_schema.specs.SchemaParts.{IsScope};
+    ghost use Rattle.tl_schema.specs.inner.SchemaParts.{IsScope};
 
     ghost Value = { List DeclText };
 

@@ -3,7 +3,10 @@ ghost use Rattle.std.specs.Prelude.{◌≡◌, ◌<◌, ◌^◌, length};
 ghost use Rattle.tl_combinators.specs.Trees.{view};
 ghost use Rattle.tl_combinators.specs.Program.{decl_text, program_text};
 ghost use Rattle.tl_schema.specs.Meanings.{IsSmall};
-ghost use Rattle.tl_schema.specs.AskedTypes.{ChecksType, NamesType, PassesType, asker};
+ghost use Rattle.tl_schema.specs.AskedTypes.{GivesType, IsTypeText, NamesType, RefusesType, TypeTextRefused, asker};
+ghost use Rattle.tl_schema.specs.Types.{Shape};
+ghost use Rattle.tl_schema.specs.declared.fault.TypeFault.{TypeFault};
+ghost use Rattle.tl_schema.specs.inner.TypeSteps.{ChecksType, PassesType};
 
 use crate::empty_element::has_empty_argument;
 use crate::index::Index;
@@ -20,6 +23,17 @@ use tl_lexer::lex;
 
 /// The type that a text names: a closed type of the schema, or `!` for a call of any of its functions.
 pub fn type_of(alloc: Global, schema: &Schema, text: &[u8]) -> Result<TypeRef, TypeFault>
+    // What is answered is so by the definitions.
+    ensures names { NamesType schema.now.program text.now result }
+    // A text that is a type gives this type, and one that is refused is refused for the same fault.
+    ensures gives { (s : Shape) → IsTypeText schema.now.program text.now s → GivesType s result }
+    ensures refuses { (fault : TypeFault) → TypeTextRefused schema.now.program text.now fault → RefusesType fault result }
+{
+    named_type(alloc, schema, text)
+}
+
+// The type that a text names, if it has no fault.
+fn named_type(alloc: Global, schema: &Schema, text: &[u8]) -> Result<TypeRef, TypeFault>
     ensures { NamesType schema.now.program text.now result }
 {
     let tokens = lex(alloc, text)?;

@@ -4,7 +4,7 @@ ghost use Rattle.std.specs.List.{count_by, list_any};
 ghost use Rattle.tl_combinators.specs.Program.{decl_text, field_text, kind_text, program_text};
 ghost use Rattle.tl_graph.specs.Firsts.{First};
 ghost use Rattle.tl_schema.specs.UnknownVariable.{UnknownVariable, called_by};
-ghost use Rattle.tl_schema.specs.VariableSteps.{calls_another, leaves_uncalled};
+ghost use Rattle.tl_schema.specs.inner.VariableSteps.{calls_another, leaves_uncalled};
 ghost use Rattle.tl_names.specs.Writing.{is_variable};
 
 use crate::declarations::{DeclTest, first_that};

@@ -5,7 +5,7 @@ use Rattle.tl_base.proofs.Uses.{used_none}
 use Rattle.plain_values.specs.Seen.{view}
 use Rattle.tl_schema.specs.Seen.{slot}
 use Rattle.plain_values.specs.PlainViews.{plain_slot, plain_decls}
-use Rattle.plain_values.specs.Reading.{value_at, fields_at}
+use Rattle.plain_values.specs.inner.Reading.{value_at, fields_at}
 use Rattle.plain_values.specs.declared.value.Value.{Value}
 use Rattle.commands.proofs.Steps.{continues_none, continues_more, continues_fails, continues_done}
 use Rattle.commands.proofs.PlainEntries.{plain_slots}

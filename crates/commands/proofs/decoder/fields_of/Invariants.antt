@@ -2,7 +2,7 @@ use Rattle.std.proofs.Common.{map, drop, []}
 use Rattle.tl_base.specs.Using.{Used}
 use Rattle.plain_values.specs.Seen.{view}
 use Rattle.plain_values.specs.PlainViews.{plain_decls}
-use Rattle.plain_values.specs.Reading.{value_at, fields_at}
+use Rattle.plain_values.specs.inner.Reading.{value_at, fields_at}
 use Rattle.commands.proofs.Steps.{Continues}
 use Rattle.commands.proofs.PlainEntries.{plain_slots}
 use Rattle.commands.proofs.decoder.fields_of.Given as goal

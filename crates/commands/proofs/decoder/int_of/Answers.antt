@@ -3,7 +3,7 @@ use Rattle.std.specs.Int.{w32, cast_signed}
 use Rattle.std.proofs.lemmas.Result.{err_from_is_err_and}
 use Rattle.plain_values.specs.Seen.{view}
 use Rattle.plain_values.specs.Values as value
-use Rattle.plain_values.specs.Reading.{word_at, plain_at}
+use Rattle.plain_values.specs.inner.Reading.{word_at, plain_at}
 use Rattle.plain_values.proofs.Views.{view-Int}
 use Rattle.commands.proofs.Steps.{makes, then_fails}
 use Rattle.commands.proofs.decoder.int_of.Goals as goal

@@ -3,7 +3,7 @@ use Rattle.std.specs.Int.{w64, cast_signed}
 use Rattle.std.proofs.lemmas.Result.{err_from_is_err_and}
 use Rattle.plain_values.specs.Seen.{view}
 use Rattle.plain_values.specs.Values as value
-use Rattle.plain_values.specs.Reading.{double_at, plain_at}
+use Rattle.plain_values.specs.inner.Reading.{double_at, plain_at}
 use Rattle.plain_values.proofs.Views.{view-Long}
 use Rattle.commands.proofs.Steps.{makes, then_fails}
 use Rattle.commands.proofs.decoder.long_of.Goals as goal

@@ -1,5 +1,5 @@
 use Rattle.std.proofs.Common.{◌≡◌, drop}
-use Rattle.plain_values.specs.Reading.{member_from}
+use Rattle.plain_values.specs.inner.Reading.{member_from}
 use Rattle.plain_values.specs.PlainViews.{plain_decls}
 use Rattle.commands.proofs.decoder.member.Given as goal
 

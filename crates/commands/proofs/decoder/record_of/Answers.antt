@@ -2,7 +2,7 @@ use Rattle.std.proofs.Common.{[], map, sym, ap, ◌∙◌, Vec, Global}
 use Rattle.std.proofs.lemmas.Result.{err_from_is_err_and}
 use Rattle.plain_values.specs.Seen.{view}
 use Rattle.plain_values.specs.PlainViews.{plain_decls}
-use Rattle.plain_values.specs.Reading.{value_at, fields_at}
+use Rattle.plain_values.specs.inner.Reading.{value_at, fields_at}
 use Rattle.plain_values.specs.declared.value.Value.{Value}
 use Rattle.plain_values.proofs.Views.{view-Node}
 use Rattle.commands.proofs.PlainEntries.{plain_slots, plain_fields}

@@ -1,5 +1,6 @@
 use Rattle.std.proofs.Common.{Vec, Global}
 use Rattle.tl_lexer.specs.declared.token.Token.{Token}
+use Rattle.commands.proofs.FewDeclarations.{small_program}
 use Rattle.commands.proofs.Loading.{no_tokens, no_program, no_schema}
 use Rattle.commands.proofs.job.schema_of.Goals as goal
 
@@ -12,4 +13,7 @@ returns-in_err-program-clause-reads c =
 
 pub returns-in_err-schema-clause-reads : goal.returns-in_err-schema-clause-reads
 returns-in_err-schema-clause-reads c =
-    no_schema c.args.text.now c.deref.result.now _ c.in_err-schema.field-0.0 _ (rw c.deref.ensures.value c.in_ok-tokens.ensures.lexes) c.in_ok-program.ensures.parses c.in_err-schema.ensures c.from_residual-in_err-schema.ensures.1
+    no_schema c.args.text.now c.deref.result.now _ c.in_err-schema.field-0.0 _ (rw c.deref.ensures.value c.in_ok-tokens.ensures.lexes) c.in_ok-program.ensures.parses c.in_err-schema.ensures.checks c.from_residual-in_err-schema.ensures.1
+
+pub check-requires : goal.check-requires
+check-requires c = small_program c.args.text.now c.deref.result.now _ c.in_ok-program.ensures.parses

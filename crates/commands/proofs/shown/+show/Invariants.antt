@@ -1,7 +1,7 @@
 use Rattle.std.proofs.Common.{◌≡◌, drop}
 use Rattle.serde_json.specs.View.{members_view}
 use Rattle.plain_values.specs.PlainViews.{plain_decls}
-use Rattle.plain_values.specs.Reading.{fields_in}
+use Rattle.plain_values.specs.PlainSchemas.{fields_in}
 use Rattle.plain_values.specs.Seen.{views}
 use Rattle.commands.specs.Shown.{name_in, named, with_fields}
 use Rattle.commands.proofs.PlainEntries.{plain_slots}

@@ -3,7 +3,7 @@ use Rattle.std.proofs.lemmas.List.{length-map}
 use Rattle.tl_combinators.specs.Program.{decl_text, program_text}
 use Rattle.tl_schema.specs.Seen.{declaration}
 use Rattle.tl_names.specs.Places.{types_of}
-use Rattle.tl_schema.specs.NamesNoted.{Enters}
+use Rattle.tl_schema.specs.inner.NamesNoted.{Enters}
 use Rattle.tl_schema.proofs.Maps.{slice_get_item}
 use Rattle.tl_schema.proofs.DeclaredEntries.{none_yet, enters_more}
 use Rattle.tl_schema.proofs.checks.entered_of.Goals as goal

@@ -2,7 +2,7 @@ use Rattle.std.proofs.Common.{◌≡◌, length, map}
 use Rattle.tl_combinators.specs.Program.{program_text}
 use Rattle.tl_schema.specs.Seen.{declaration}
 use Rattle.tl_names.specs.Places.{types_of}
-use Rattle.tl_schema.specs.NamesNoted.{Enters}
+use Rattle.tl_schema.specs.inner.NamesNoted.{Enters}
 use Rattle.tl_schema.proofs.checks.entered_of.Given as goal
 
 abbrev pub invariant-loop-at : goal.invariant-loop-at

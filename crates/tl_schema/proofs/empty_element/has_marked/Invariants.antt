@@ -1,7 +1,7 @@
 use Rattle.std.proofs.Common.{take}
 use Rattle.tl_combinators.specs.Trees.{trees_of, views}
 use Rattle.tl_combinators.specs.Program.{decl_text}
-use Rattle.tl_schema.specs.BareSteps.{HasMarkedArg}
+use Rattle.tl_schema.specs.inner.BareSteps.{HasMarkedArg}
 use Rattle.tl_schema.proofs.empty_element.has_marked.Given as goal
 
 abbrev pub invariant-loop-tree : goal.invariant-loop-tree

@@ -1,5 +1,5 @@
 use Rattle.std.proofs.Common.{ap, ◌∙◌}
-use Rattle.tl_schema.specs.Indexed.{one_more}
+use Rattle.tl_schema.specs.inner.Indexed.{one_more}
 use Rattle.tl_schema.proofs.NamedEntries.{changes_inserted}
 use Rattle.tl_schema.proofs.index.add_type.Goals as goal
 

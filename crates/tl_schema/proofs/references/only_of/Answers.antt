@@ -2,7 +2,7 @@ use Rattle.std.proofs.Common.{◌≡◌, ◌∙◌, ap, subst, sym}
 use Rattle.tl_combinators.specs.Trees.{named, percent, trees_of, view, views}
 use Rattle.tl_combinators.specs.Program.{decl_text}
 use Rattle.tl_combinators.proofs.TreeViews.{view-Named}
-use Rattle.tl_schema.specs.BareSteps.{BareIs}
+use Rattle.tl_schema.specs.inner.BareSteps.{BareIs}
 use Rattle.tl_schema.proofs.references.only_of.Goals as goal
 
 pub returns-in-Named : goal.returns-in-Named

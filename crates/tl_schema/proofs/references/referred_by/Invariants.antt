@@ -1,6 +1,6 @@
 use Rattle.std.proofs.Common.{[], map}
 use Rattle.tl_combinators.specs.Program.{decl_text, field_text}
-use Rattle.tl_schema.specs.BareSteps.{Adds}
+use Rattle.tl_schema.specs.inner.BareSteps.{Adds}
 use Rattle.tl_schema.proofs.AddingParts.{InFront}
 use Rattle.tl_schema.proofs.references.referred_by.Given as goal
 

@@ -2,7 +2,7 @@ use Rattle.std.proofs.Common.{◌≡◌, ◌↔◌, ◌∙◌, ap, subst, sym, I
 use Rattle.tl_combinators.specs.Trees.{Tree, named, trees_of, view, views}
 use Rattle.tl_combinators.specs.Program.{decl_text}
 use Rattle.tl_combinators.proofs.TreeViews.{view-Named}
-use Rattle.tl_schema.specs.BareSteps.{AppliesToMarked}
+use Rattle.tl_schema.specs.inner.BareSteps.{AppliesToMarked}
 use Rattle.tl_schema.proofs.empty_element.EmptyArgumentTypeTest.passes.Goals as goal
 
 pub returns-in-Named : goal.returns-in-Named

@@ -1,5 +1,5 @@
 use Rattle.std.proofs.Common.{◌∙◌, subst, sym, true≢false}
-use Rattle.tl_schema.specs.Indexed.{IsFamily}
+use Rattle.tl_schema.specs.inner.Indexed.{IsFamily}
 use Rattle.tl_schema.proofs.index.Index.is_uneven.Goals as goal
 
 pub returns-in-Some : goal.returns-in-Some

@@ -1,7 +1,7 @@
 use Rattle.std.proofs.Common.{◌≤◌, length, take, subst, arith}
 use Rattle.std.proofs.lemmas.List.{length-map, length-take-le, length_push, take_all}
 use Rattle.tl_combinators.specs.Program.{decl_text, program_text}
-use Rattle.tl_schema.specs.Indexed.{IsIndex}
+use Rattle.tl_schema.specs.inner.Indexed.{IsIndex}
 use Rattle.tl_schema.proofs.Maps.{slice_get_item, take_push}
 use Rattle.tl_schema.proofs.IndexSteps.{no_index}
 use Rattle.tl_schema.proofs.index.Index.of.Goals as goal

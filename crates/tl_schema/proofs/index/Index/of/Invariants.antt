@@ -1,6 +1,6 @@
 use Rattle.std.proofs.Common.{take}
 use Rattle.tl_combinators.specs.Program.{program_text}
-use Rattle.tl_schema.specs.Indexed.{IsIndex}
+use Rattle.tl_schema.specs.inner.Indexed.{IsIndex}
 use Rattle.tl_schema.proofs.index.Index.of.Given as goal
 
 abbrev pub invariant-loop-at : goal.invariant-loop-at

@@ -1,5 +1,5 @@
 use Rattle.std.proofs.Common.{◌∙◌, subst, sym}
-use Rattle.tl_schema.specs.Indexed.{IsFamily}
+use Rattle.tl_schema.specs.inner.Indexed.{IsFamily}
 use Rattle.tl_schema.proofs.OnlyConstructors.{only_of_none}
 use Rattle.tl_schema.proofs.index.Index.only_of.Goals as goal
 

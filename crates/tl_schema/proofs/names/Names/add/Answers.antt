@@ -1,7 +1,7 @@
 use Rattle.std.proofs.Common.{◌∙◌, ap, ap₂, sym, not, bytes_eq}
 use Rattle.std.specs.List.{list_any, position_or_len}
 use Rattle.tl_names.specs.NameLists.{with_name}
-use Rattle.tl_schema.specs.NameLists.{lists}
+use Rattle.tl_schema.specs.inner.NamesInOrder.{lists}
 use Rattle.tl_schema.proofs.Maps.{list_any-map, position_or_len-map}
 use Rattle.tl_schema.proofs.NameKeys.{lists-insert_key}
 use Rattle.tl_schema.proofs.names.Names.add.Goals as goal

@@ -1,11 +1,12 @@
 -- Reading from left to right, with the first fault that is met. This project's own.
-use Rattle.std.specs.Prelude.{ℕ, zero, suc, ◌+◌, ◌-◌, ◌^◌, min, List, [], ◌∷◌, ◌++◌, length, take, drop, Option, Some, None, Result, Ok, Err, ◌&&◌, Bool, true, false, nat_lt, ◌==◌, if◌then◌else◌}
+use Rattle.std.specs.Prelude.{ℕ, zero, suc, List, [], ◌∷◌, ◌++◌, length, take, drop, Option, Some, None, Result, Ok, Err, ◌&&◌, Bool, true, false, nat_lt, ◌==◌, if◌then◌else◌}
 use Rattle.std.specs.Int.{w32, w64, from_le_bytes, cast_signed}
 use Rattle.plain_values.specs.PlainTypes.{PlainShape, int, long, boxed}
 use Rattle.plain_values.specs.Values.{Tree, Trees, trees_of}
 use Rattle.plain_values.specs.Values as value
 use Rattle.tl_schema.specs.Schemas.{packed_number}
-use Rattle.plain_values.specs.PlainSchemas.{PlainSlot, PlainDeclaration}
+use Rattle.plain_values.specs.PlainSchemas.{PlainSlot, PlainDeclaration, fields_in}
+use Rattle.plain_values.specs.Offsets.{moved}
 use Rattle.plain_values.specs.declared.fault.Cause.{Cause}
 use Rattle.plain_values.specs.declared.fault.Cause.TheVariants.{TooDeep, Truncated, Packed, UnknownNumber}
 
@@ -28,10 +29,6 @@ infixl 10 ◌>>=◌
 abbrev pub ◌>>=◌ : {A B : Type 0} → Result A Fault → (A → Result B Fault) → Result B Fault
 (Ok x) >>= f = f x
 (Err e) >>= f = Err e
-
--- a place that stops at the type's end
-abbrev pub moved : ℕ → ℕ → ℕ
-moved place n = min (place + n) (2 ^ 64 - 1)
 
 -- the next n bytes; where the input ends inside, the fault is at the place
 unfoldable pub exact_at : ℕ → ℕ → Spot → Read (List ℕ)
@@ -63,12 +60,6 @@ is_head (Some g) h = g == h
 abbrev pub member_from : ℕ → List PlainDeclaration → ℕ → ℕ → Option ℕ
 member_from i [] h w = None
 member_from i (d ∷ ds) h w = if is_head d.head h && (d.number == w) then Some i else member_from (suc i) ds h w
-
--- the fields of declaration i
-abbrev pub fields_in : List PlainDeclaration → ℕ → List PlainSlot
-fields_in [] i = []
-fields_in (d ∷ ds) zero = d.fields
-fields_in (d ∷ ds) (suc i) = fields_in ds i
 
 -- ---- records
 

@@ -4,8 +4,8 @@
 use Rattle.std.specs.Prelude.{◌≡◌, ℕ, ◌<◌, ◌^◌, List, length, IsTrue, ◌↔◌, bytes_eq, Vec, Option, None, Some, true, false, not, ◌||◌, ◌==◌, if◌then◌else◌}
 use Rattle.indexmap.specs.IndexMap.{IndexMap, get_by}
 use Rattle.tl_combinators.specs.Program.{DeclText}
-use Rattle.tl_names.specs.Writing.{At}
 use Rattle.tl_names.specs.Constructors.{FirstNamed, FirstOf, IsSingle, IsUneven}
+use Rattle.tl_names.specs.Writing.{At}
 use Rattle.tl_names.specs.NamePlaces.{place_in}
 use Rattle.tl_schema.specs.declared.index.Constructors.{Constructors}
 

@@ -1,4 +1,4 @@
--- Lists of names. This project's own.
+-- Lists of names, as they are kept and searched. This project's own.
 use Rattle.std.specs.Prelude.{ℕ, List, map, Vec}
 
 -- the lists in a list of vectors

@@ -7,7 +7,7 @@ use Rattle.tl_schema.specs.Seen.{declaration}
 use Rattle.tl_schema.specs.Meanings.{IsEntry}
 use Rattle.tl_names.specs.Places.{types_of}
 use Rattle.tl_names.specs.NamePlaces.{Notes}
-use Rattle.tl_schema.specs.SchemaParts.{ArePlaces}
+use Rattle.tl_schema.specs.inner.SchemaParts.{ArePlaces}
 use Rattle.tl_schema.specs.declared.checks.Known.{Known}
 use Rattle.tl_schema.specs.declared.checks.Entered.{Entered}
 

@@ -1,0 +1,17 @@
+-- What inner clauses cite; a reader of the contracts needs none of it.
+pub mod NamesInOrder
+pub mod PartLists
+pub mod SchemaCodes
+pub mod Indexed
+pub mod SameNameSteps
+pub mod Arities
+pub mod VariableSteps
+pub mod BareForms
+pub mod ConditionSteps
+pub mod TakenNumbers
+pub mod BareSteps
+pub mod CheckSteps
+pub mod SchemaParts
+pub mod NamesNoted
+pub mod TypeFaults
+pub mod TypeSteps
