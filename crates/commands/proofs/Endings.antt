@@ -1,117 +1,100 @@
 -- How a run ends, from how its job ended and what was told.
-use Rattle.std.proofs.Common.{◌≡◌, ℕ, List, [], ◌++◌, append-nil, Option, Some, None, Result, Ok, Err, refl, sym, ap, ◌∙◌, subst, codes, inl, inr}
+use Rattle.std.proofs.Common.{◌≡◌, ℕ, List, [], ◌++◌, append-nil, Option, Some, None, Result, Ok, Err, refl, sym, ap, ◌∙◌, subst, inl, inr, string_bytes}
 use Rattle.std.specs.Prelude.{IfSome, IsErrOf, ◌⊎◌}
-use Rattle.tl_base.specs.Contents.{Files}
 use Rattle.tl_base.specs.Outside.{View}
 use Rattle.tl_base.specs.Calls.{Told}
-use Rattle.commands.specs.declared.stop.Refusal.{Refusal}
-use Rattle.commands.specs.declared.stop.Stop.{Stop}
-use Rattle.commands.specs.declared.stop.Stop.TheVariants as stop
-use Rattle.commands.specs.declared.status.Status.{Status}
-use Rattle.commands.specs.declared.status.Status.TheVariants as status
-use Rattle.commands.specs.Answer.{Answer, usage, usage_line, done, refused_after}
-use Rattle.commands.specs.Requests.{RequestText, replay, AsksFor, AsksNothing}
-use Rattle.commands.specs.Answers.{AnswerTo, no_request, requested}
-use Rattle.commands.specs.ReplayJobs.{Replays}
-use Rattle.commands.specs.Sound.{RequestFits, AnswerFits}
-use Rattle.commands.specs.Runs.{WritesFront, Tells, Ends, answered, read_failed, write_failed, out_of_memory}
-use Rattle.commands.specs.Jobs.{Command, Works, WritesSomeOf, WorksFor, TellsLine, Reports, refusal_line}
+use Rattle.command_base.specs.declared.stop.Stop.{Stop}
+use Rattle.command_base.specs.declared.stop.Stop.TheVariants as stop
+use Rattle.command_base.specs.declared.status.Status.{Status}
+use Rattle.command_base.specs.declared.status.Status.TheVariants as status
+use Rattle.command_base.specs.Answer.{Answer}
+use Rattle.command_base.specs.Jobs.{Works, WritesSomeOf}
+use Rattle.command_base.specs.Kept.{KeepsRest}
+use Rattle.command_base.specs.Sound.{Fits}
+use Rattle.command_base.specs.Telling.{Tells, TellsLine, Reports}
+use Rattle.command_base.proofs.Rests.{rest_then, rest_left, left_then}
+use Rattle.command_base.proofs.Views.{told_as, told_then}
+use Rattle.commands.specs.Requests.{RequestText, check, decode, replay, AsksFor, AsksNothing, job_of}
+use Rattle.commands.specs.Answers.{usage, usage_line, no_request, requested}
+use Rattle.commands.specs.Runs.{WritesPrefix, Ends, answered, read_failed, write_failed, out_of_memory, Keeps, AnswerFits}
 use Rattle.commands.proofs.OneAnswer.{answer_to}
-use Rattle.commands.proofs.Views.{told_as, told_then}
+use Rattle.commands.proofs.Rows.{one_request}
 
 -- ---- endings
 
 tells_on : {W : Type 0} (V : Type 0) (line : List ℕ) (v u w : View) → u.written.errors ≡ v.written.errors → (V → W) → Tells V line u w → Tells W line v w
 tells_on V line v u w e rose (inl h) = inl (h ∙ ap (λ (x : List ℕ). x ++ line) e)
-tells_on V line v u w e rose (inr (r, (front, rest, split, h))) = inr (rose r, (front, rest, split, h ∙ ap (λ (x : List ℕ). x ++ front) e))
+tells_on V line v u w e rose (inr (r, (prefix, rest, split, h))) = inr (rose r, (prefix, rest, split, h ∙ ap (λ (x : List ℕ). x ++ prefix) e))
 
-tells_none : {W : Type 0} (v w : View) → w.written.errors ≡ v.written.errors → Tells W [] v w
-tells_none v w e = inl (e ∙ sym (append-nil v.written.errors))
+tells_none : {W : Type 0} (line : List ℕ) (v w : View) → line ≡ [] → w.written.errors ≡ v.written.errors → Tells W line v w
+tells_none line v w none e = inl (e ∙ sym (append-nil v.written.errors) ∙ ap (λ (x : List ℕ). v.written.errors ++ x) (sym none))
 
 -- words that ask for this request
 module _ (words : List (List ℕ)) (r : RequestText) (asks : AsksFor words r) (R W V : Type 0) where
-  pub ends_done : (a b : Option View) (k : Status) → k ≡ status.Done → Told a b (WorksFor r (Ok tt)) → Told a b (Ends words R W k)
-  ends_done a b k is = told_as a b (WorksFor r (Ok tt)) (Ends words R W k) (λ v w h. answered (done h.0) (requested r asks h.1) is h.2 (tells_none v w h.3))
+  done_there : (k : Status) → k ≡ status.Done → (v w : View) → Works (job_of r) (Ok tt) v w → Ends words R W k v w
+  done_there k is v w (a, answer, good, silent, gives) = answered a (requested r asks answer) (is ∙ sym good) gives.output gives.leaves (tells_none a.errors v w silent gives.errors)
 
-  front_of : (v u w : View) → w.written.output ≡ u.written.output → WritesSomeOf r v u → WritesFront words v w
-  front_of v u w same (a, answer, (front, rest, split, put)) = (a, requested r asks answer, (front, rest, split, same ∙ put))
+  pub ends_done : (a b : Option View) (k : Status) → k ≡ status.Done → Told a b (Works (job_of r) (Ok tt)) → Told a b (Ends words R W k)
+  ends_done a b k is = told_as a b (Works (job_of r) (Ok tt)) (Ends words R W k) (done_there k is)
 
-  -- Refused with no memory for the line: the answer's Output was none, or it was written as it went.
-  ended : (e : Stop) (k : Status) → (V → W) → (e ≡ stop.ReadFault → R) → (e ≡ stop.WriteFault → W) → (v u w : View) → WorksFor r (Err e) v u → Reports V e k u w → Ends words R W k v w
-  ended (stop.Refused x) k rose read write v u w (output, answer, put, errors, goes) (inl (is, (same, told))) =
-      answered (refused_after output (refusal_line x)) (requested r asks answer) is (same ∙ put) (tells_on V (refusal_line x) v u w errors rose told)
-  ended (stop.Refused x) k rose read write v u w (output, answer, put, errors, inl e) (inr (is, (same, told))) =
-      out_of_memory is (inl (same ∙ e)) (tells_on V _ v u w errors rose told)
-  ended (stop.Refused x) k rose read write v u w (output, answer, put, errors, inr goes) (inr (is, (same, told))) =
-      let all = front_of v u w same (refused_after output (refusal_line x), answer, (output, [], append-nil output, put)) in
-      out_of_memory is (inr (r, asks, goes, all)) (tells_on V _ v u w errors rose told)
-  ended stop.ReadFault k rose read write v u w only (is, (same, told)) =
+  prefix_of : (v u w : View) → w.written.output ≡ u.written.output → WritesSomeOf (job_of r) v u → WritesPrefix words v w
+  prefix_of v u w same (a, answer, (prefix, rest, split, put)) = (a, requested r asks answer, (prefix, rest, split, same ∙ put))
+
+  ended : (e : Stop) (k : Status) → (V → W) → (e ≡ stop.ReadFault → R) → (e ≡ stop.WriteFault → W) → (v u w : View) → Works (job_of r) (Err e) v u → Reports V e k u w → KeepsRest u w → Ends words R W k v w
+  ended (stop.Refused line) k rose read write v u w (a, answer, bad, tells, gives, goes) (is, (same, told)) rest =
+      answered a (requested r asks answer) (is ∙ sym bad) (same ∙ gives.output) (left_then a v u w gives.leaves rest)
+      (subst (λ (x : List ℕ). Tells W x v w) (sym tells) (tells_on V (string_bytes line) v u w gives.errors rose told))
+  ended stop.ReadFault k rose read write v u w only (is, (same, told)) rest =
       read_failed (read refl) is (same ∙ only.output) (tells_on V _ v u w only.errors rose told)
-  ended stop.WriteFault k rose read write v u w (some, errors) (is, (same, told)) =
-      write_failed (write refl) is (front_of v u w same some) (tells_on V _ v u w errors rose told)
-  ended stop.Memory k rose read write v u w (inl e, errors) (is, (same, told)) =
+  ended stop.WriteFault k rose read write v u w (some, errors) (is, (same, told)) rest =
+      write_failed (write refl) is (prefix_of v u w same some) (tells_on V _ v u w errors rose told)
+  ended stop.Memory k rose read write v u w (inl e, errors) (is, (same, told)) rest =
       out_of_memory is (inl (same ∙ e)) (tells_on V _ v u w errors rose told)
-  ended stop.Memory k rose read write v u w (inr (goes, some), errors) (is, (same, told)) =
-      out_of_memory is (inr (r, asks, goes, front_of v u w same some)) (tells_on V _ v u w errors rose told)
+  ended stop.Memory k rose read write v u w (inr (goes, some), errors) (is, (same, told)) rest =
+      out_of_memory is (inr (r, asks, goes, prefix_of v u w same some)) (tells_on V _ v u w errors rose told)
 
-  pub ends_stopped : (e : Stop) (k : Status) (a m b : Option View) → (V → W) → (e ≡ stop.ReadFault → R) → (e ≡ stop.WriteFault → W) → Told a m (WorksFor r (Err e)) → Told m b (Reports V e k) → Told a b (Ends words R W k)
-  ends_stopped e k a m b rose read write = told_then a m b (WorksFor r (Err e)) (Reports V e k) (Ends words R W k) (ended e k rose read write)
+  -- both are told of the report
+  both : (e : Stop) (k : Status) (m b : Option View) → Told m b (Reports V e k) → Told m b KeepsRest → Told m b (λ v w. Reports V e k v w × KeepsRest v w)
+  both e k None None p q = tt
+  both e k None (Some w) p q = p
+  both e k (Some v) None p q = p
+  both e k (Some v) (Some w) p q = (p, q)
 
-pub ends_usage : (words : List (List ℕ)) (R W : Type 0) (a b : Option View) (k : Status) → AsksNothing words → k ≡ status.Usage → Told a b (TellsLine W usage_line) → Told a b (Ends words R W k)
-ends_usage words R W a b k none is = told_as a b (TellsLine W usage_line) (Ends words R W k) (λ v w h. answered usage (no_request none refl) is (h.0 ∙ sym (append-nil v.written.output)) h.1)
+  pub ends_stopped : (e : Stop) (k : Status) (a m b : Option View) → (V → W) → (e ≡ stop.ReadFault → R) → (e ≡ stop.WriteFault → W) → Told a m (Works (job_of r) (Err e)) → Told m b (Reports V e k) → Told m b KeepsRest → Told a b (Ends words R W k)
+  ends_stopped e k a m b rose read write works reports rest =
+      told_then a m b (Works (job_of r) (Err e)) (λ v w. Reports V e k v w × KeepsRest v w) (Ends words R W k) (λ v u w h p. ended e k rose read write v u w h p.0 p.1) works (both e k m b reports rest)
 
--- ---- the work of a request, from that of its job
+usage_both : (W : Type 0) (a b : Option View) → Told a b (TellsLine W usage_line) → Told a b KeepsRest → Told a b (λ v w. TellsLine W usage_line v w × KeepsRest v w)
+usage_both W None None p q = tt
+usage_both W None (Some w) p q = p
+usage_both W (Some v) None p q = p
+usage_both W (Some v) (Some w) p q = (p, q)
 
-module _ (r : RequestText) (command : Command) (answers : (files : Files) (a : Answer) → command files a → AnswerTo r files a) where
-  works_for : (result : Result (Unit {0}) Stop) (v w : View) → Works command result v w → WorksFor r result v w
-  works_for (Ok u) v w (output, answer, put, errors) = (output, answers v.files (done output) answer, put, errors)
-  works_for (Err (stop.Refused x)) v w (answer, only) = ([], answers v.files _ answer, only.output ∙ sym (append-nil v.written.output), only.errors, inl only.output)
-  works_for (Err stop.ReadFault) v w only = only
-  works_for (Err stop.WriteFault) v w (output, answer, front, errors) = ((done output, answers v.files (done output) answer, front), errors)
-  works_for (Err stop.Memory) v w only = (inl only.output, only.errors)
+pub ends_usage : (words : List (List ℕ)) (R W : Type 0) (a b : Option View) (k : Status) → AsksNothing words → k ≡ status.Usage → Told a b (TellsLine W usage_line) → Told a b KeepsRest → Told a b (Ends words R W k)
+ends_usage words R W a b k none is told rest =
+    told_as a b (λ v w. TellsLine W usage_line v w × KeepsRest v w) (Ends words R W k)
+    (λ v w h. answered usage (no_request none refl) is (h.0.0 ∙ sym (append-nil v.written.output)) (rest_left usage v w (refl, refl, refl) h.1) h.0.1) (usage_both W a b told rest)
 
-  pub told_works : (result : Result (Unit {0}) Stop) (a b : Option View) → Told a b (Works command result) → Told a b (WorksFor r result)
-  told_works result a b = told_as a b (Works command result) (WorksFor r result) (works_for result)
+-- ---- what is kept
 
-module _ (s j : List ℕ) where
-  replays_for : (result : Result (Unit {0}) Stop) (v w : View) → Replays s j result v w → WorksFor (replay s j) result v w
-  replays_for (Ok u) v w h = h
-  replays_for (Err (stop.Refused x)) v w (output, answer, put, errors) = (output, answer, put, errors, inr tt)
-  replays_for (Err stop.ReadFault) v w h = h
-  replays_for (Err stop.WriteFault) v w h = h
-  replays_for (Err stop.Memory) v w (inl e, errors) = (inl e, errors)
-  replays_for (Err stop.Memory) v w (inr some, errors) = (inr (tt, some), errors)
+pub none_kept : (words : List (List ℕ)) (a b : Option View) → AsksNothing words → Told a b KeepsRest → Told a b (Keeps words)
+none_kept words a b none = told_as a b KeepsRest (Keeps words) (λ v w rest. record { of_none = λ asks. rest; of_request = λ r asks. absurd (none r asks) })
 
-  pub told_replays : (result : Result (Unit {0}) Stop) (a b : Option View) → Told a b (Replays s j result) → Told a b (WorksFor (replay s j) result)
-  told_replays result a b = told_as a b (Replays s j result) (WorksFor (replay s j) result) (replays_for result)
+module _ (words : List (List ℕ)) (r : RequestText) (asks : AsksFor words r) where
+  job_kept : (v w : View) → (job_of r).keeps v w → Keeps words v w
+  job_kept v w h = record { of_none = λ none. absurd (none r asks); of_request = λ s also. subst (λ (x : RequestText). (job_of x).keeps v w) (one_request words r s asks also) h }
 
--- ---- what is told
+  -- what tells a line keeps what the job keeps
+  kept_then : (s : RequestText) (v u w : View) → (job_of s).keeps v u → KeepsRest u w → (job_of s).keeps v w
+  kept_then (check schema) = rest_then
+  kept_then (decode schema type input) = rest_then
+  kept_then (replay schema journal) = rest_then
 
--- the status is this, and the line was told
-line_told : (W : Type 0) (line : List ℕ) (e : Stop) (k : Status) (a b : Option View) → ((v w : View) → TellsLine W line v w → Reports W e k v w) → Told a b (TellsLine W line) → Told a b (Reports W e k)
-line_told W line e k None None f h = tt
-line_told W line e k None (Some w) f h = h
-line_told W line e k (Some v) None f h = h
-line_told W line e k (Some v) (Some w) f h = f v w h
+  pub done_kept : (a b : Option View) → Told a b (job_of r).keeps → Told a b (Keeps words)
+  done_kept a b = told_as a b (job_of r).keeps (Keeps words) job_kept
 
-at_stop : (W : Type 0) (e x : Stop) (k : Status) (v w : View) → e ≡ x → Reports W x k v w → Reports W e k v w
-at_stop W e x k v w is h = subst (λ (y : Stop). Reports W y k v w) (sym is) h
-
-module _ (W : Type 0) (e : Stop) (k : Status) (a b : Option View) where
-  pub told_refusal : (r : Refusal) (line : List ℕ) → e ≡ stop.Refused r → k ≡ status.Refused → line ≡ refusal_line r → Told a b (TellsLine W line) → Told a b (Reports W e k)
-  told_refusal r line is kind same = line_told W line e k a b (λ v w h. at_stop W e (stop.Refused r) k v w is (inl (kind, subst (λ (x : List ℕ). TellsLine W x v w) same h)))
-
-  pub told_no_line : (r : Refusal) → e ≡ stop.Refused r → k ≡ status.Memory → Told a b (TellsLine W (codes "tlbox: memory\n")) → Told a b (Reports W e k)
-  told_no_line r is kind = line_told W (codes "tlbox: memory\n") e k a b (λ v w h. at_stop W e (stop.Refused r) k v w is (inr (kind, h)))
-
-  pub told_read : e ≡ stop.ReadFault → k ≡ status.ReadFault → Told a b (TellsLine W (codes "tlbox: read fault\n")) → Told a b (Reports W e k)
-  told_read is kind = line_told W (codes "tlbox: read fault\n") e k a b (λ v w h. at_stop W e stop.ReadFault k v w is (kind, h))
-
-  pub told_write : e ≡ stop.WriteFault → k ≡ status.WriteFault → Told a b (TellsLine W (codes "tlbox: write fault\n")) → Told a b (Reports W e k)
-  told_write is kind = line_told W (codes "tlbox: write fault\n") e k a b (λ v w h. at_stop W e stop.WriteFault k v w is (kind, h))
-
-  pub told_memory : e ≡ stop.Memory → k ≡ status.Memory → Told a b (TellsLine W (codes "tlbox: memory\n")) → Told a b (Reports W e k)
-  told_memory is kind = line_told W (codes "tlbox: memory\n") e k a b (λ v w h. at_stop W e stop.Memory k v w is (kind, h))
+  pub stopped_kept : (a m b : Option View) → Told a m (job_of r).keeps → Told m b KeepsRest → Told a b (Keeps words)
+  stopped_kept a m b = told_then a m b (job_of r).keeps KeepsRest (Keeps words) (λ v u w h rest. job_kept v w (kept_then r v u w h rest))
 
 -- ---- where no fault ends a run
 
@@ -122,7 +105,7 @@ stop_failed e k read write (inl is) = inl (ap Err (read is))
 stop_failed e k read write (inr is) = inr (ap Err (write is))
 
 pub request_never : (words : List (List ℕ)) (r : RequestText) → AsksFor words r → (a : Option View) (S : Type 0) (e : Stop) (k : Status)
-    → IfSome a (λ v. S → RequestFits r v → IsErrOf {T = Unit {0}} (Err e) stop.ReadFault ⊎ IsErrOf {T = Unit {0}} (Err e) stop.WriteFault → ⊥)
+    → IfSome a (λ v. S → Fits (job_of r) v → IsErrOf {T = Unit {0}} (Err e) stop.ReadFault ⊎ IsErrOf {T = Unit {0}} (Err e) stop.WriteFault → ⊥)
     → (k ≡ status.ReadFault → e ≡ stop.ReadFault) → (k ≡ status.WriteFault → e ≡ stop.WriteFault) → IfSome a (λ v. S → AnswerFits words v → k ≡ status.ReadFault ⊎ k ≡ status.WriteFault → ⊥)
 request_never words r asks None S e k never read write = tt
-request_never words r asks (Some v) S e k never read write = λ sound fits failed. never sound (fits.0, answer_to words v.files r fits.0 asks fits.1, fits.2) (stop_failed e k read write failed)
+request_never words r asks (Some v) S e k never read write = λ sound fits failed. never sound (fits.0, answer_to words v r fits.0 asks fits.1, fits.2) (stop_failed e k read write failed)

@@ -3,8 +3,7 @@ use Rattle.std.proofs.Common.{get_or, map, ◌≡◌, ◌≢◌, ℕ, ◌<◌, �
 use Rattle.std.specs.Prelude.{if◌then◌else◌, ◌==◌}
 use Rattle.std.proofs.lemmas.Bool.{cases_eq}
 use Rattle.std.proofs.lemmas.List.{length-map}
-use Rattle.tl_lexer.proofs.Whole.{Decided}
-use Rattle.tl_combinators.proofs.Decided.{decided_as, decided_and, decided_not, text_decided}
+use Rattle.commands.proofs.Decided.{Decided, decided_as, decided_and, decided_not, text_decided}
 use Rattle.commands.specs.Requests.{RequestText, check, decode, replay, IsOperand, AsksFor, AsksNothing}
 use Rattle.commands.specs.Answers.{Asks, nothing, something}
 

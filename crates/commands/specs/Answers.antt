@@ -1,41 +1,44 @@
--- What the program answers: its status, what it writes to Output, and what it tells on Errors. This project's own.
-use Rattle.std.specs.Prelude.{◌≡◌, ℕ, List}
-use Rattle.tl_base.specs.Contents.{Files, HoldBytes}
-use Rattle.commands.specs.Answer.{Answer, usage}
-use Rattle.commands.specs.Requests.{RequestText, check, decode, replay, AsksFor, AsksNothing, HasFilesOf}
-use Rattle.commands.specs.CheckAnswers.{CheckAnswer}
-use Rattle.commands.specs.DecodeAnswers.{DecodeAnswer}
-use Rattle.commands.specs.ReplayAnswers.{ReplayAnswer}
+-- What the program answers: its status, what it writes, and what it leaves. This project's own.
+use Rattle.std.specs.Prelude.{◌≡◌, ℕ, List, codes}
+use Rattle.tl_base.specs.Contents.{HoldBytes}
+use Rattle.tl_base.specs.Outside.{View}
+use Rattle.command_base.specs.Answer.{Answer, misused}
+use Rattle.command_base.specs.Jobs.{Job}
+use Rattle.commands.specs.Requests.{RequestText, AsksFor, AsksNothing, HasFilesOf, job_of}
 
--- what a request is answered, over these files
-abbrev pub AnswerTo : RequestText → Files → Answer → Type 0
-AnswerTo (check schema) files a = CheckAnswer files schema a
-AnswerTo (decode schema type input) files a = DecodeAnswer files schema type input a
-AnswerTo (replay schema journal) files a = ReplayAnswer files schema journal a
+abbrev pub usage_line : List ℕ
+usage_line = codes "usage: tlbox check SCHEMA, decode SCHEMA TYPE INPUT, encode SCHEMA TYPE INPUT, replay SCHEMA JOURNAL CLIENTS, make SCHEMA NUMBER STEPS, serve SCHEMA ADDRESS SESSIONS, post SCHEMA ADDRESS INPUT, client SCHEMA ADDRESS STATE [CHANNEL ..]\n"
 
--- what the program answers to these words, over these files
-pub data Answers (words : List (List ℕ)) (files : Files) (a : Answer) : Type 0 where
-  no_request : AsksNothing words → a ≡ usage → Answers words files a
-  requested : (r : RequestText) → AsksFor words r → AnswerTo r files a → Answers words files a
+abbrev pub usage : Answer
+usage = misused usage_line
 
--- words and files have one answer at most
+-- what a request is answered, over this outside
+abbrev pub AnswerTo : RequestText → View → Answer → Type 0
+AnswerTo r v a = (job_of r).answers v a
+
+-- what the program answers to these words, over this outside
+pub data Answers (words : List (List ℕ)) (v : View) (a : Answer) : Type 0 where
+  no_request : AsksNothing words → a ≡ usage → Answers words v a
+  requested : (r : RequestText) → AsksFor words r → AnswerTo r v a → Answers words v a
+
+-- words and an outside have one answer at most
 abbrev pub HasOneAnswer : Type 0
-HasOneAnswer = (words : List (List ℕ)) (files : Files) (a b : Answer) → Answers words files a → Answers words files b → a ≡ b
+HasOneAnswer = (words : List (List ℕ)) (v : View) (a b : Answer) → Answers words v a → Answers words v b → a ≡ b
 
 -- words ask for nothing, or for a request
 pub data Asks (words : List (List ℕ)) : Type 0 where
   nothing : AsksNothing words → Asks words
   something : (r : RequestText) → AsksFor words r → Asks words
 
--- there is an answer to these words, over these files
-abbrev pub Answered : List (List ℕ) → Files → Type 0
-Answered words files = (a : Answer) × Answers words files a
+-- there is an answer to these words, over this outside
+abbrev pub Answered : List (List ℕ) → View → Type 0
+Answered words v = (a : Answer) × Answers words v a
 
 -- Words of no request have the answer `usage`. Those of a request have an answer where the files that it names are there.
-pub record AreAnswered (words : List (List ℕ)) (files : Files) : Type 0 where
-  pub of_none : AsksNothing words → Answers words files usage
-  pub of_request : (r : RequestText) → AsksFor words r → HasFilesOf files r → Answered words files
+pub record AreAnswered (words : List (List ℕ)) (v : View) : Type 0 where
+  pub of_none : AsksNothing words → Answers words v usage
+  pub of_request : (r : RequestText) → AsksFor words r → HasFilesOf v.files r → Answered words v
 
--- words and files of bytes have an answer
+-- words have an answer over an outside whose files hold bytes
 abbrev pub HasAnAnswer : Type 0
-HasAnAnswer = (words : List (List ℕ)) (files : Files) → HoldBytes files → AreAnswered words files
+HasAnAnswer = (words : List (List ℕ)) (v : View) → HoldBytes v.files → AreAnswered words v

@@ -1,15 +1,3 @@
-pub mod Steps
-pub mod Decoding
-pub mod Shown
-pub mod Answer
-pub mod DecodeAnswers
-pub mod ReplayAnswers
-pub mod Answers
-pub mod Sound
-pub mod Runs
-pub mod Stops
-pub mod Jobs
-pub mod ReplayJobs
-pub mod Loaded
-pub mod CheckAnswers
 pub mod Requests
+pub mod Answers
+pub mod Runs

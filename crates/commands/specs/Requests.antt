@@ -1,7 +1,11 @@
--- The table of requests: what words ask for, which files that takes, and whether it writes as it goes. This project's own.
+-- The table of requests: what words ask for, which files that takes, and the job that is done. This project's own.
 use Rattle.std.specs.Prelude.{◌≡◌, ◌≢◌, ℕ, List, [], ◌∷◌, Option, Some, None, codes}
 use Rattle.tl_base.specs.Contents.{Files}
 use Rattle.tl_base.specs.Outside.{HasFile}
+use Rattle.command_base.specs.Jobs.{Job}
+use Rattle.codec_commands.specs.Check.{check_job}
+use Rattle.codec_commands.specs.Decode.{decode_job}
+use Rattle.update_commands.specs.Replay.{replay_job}
 use Rattle.commands.specs.declared.request.Request.{Request}
 use Rattle.commands.specs.declared.request.Request.TheVariants.{Check, Decode, Replay}
 
@@ -36,11 +40,11 @@ HasFilesOf files (check schema) = IsFile files schema
 HasFilesOf files (decode schema type input) = IsFile files schema × IsFile files input
 HasFilesOf files (replay schema journal) = IsFile files schema × IsFile files journal
 
--- the request's work writes its Output in pieces, and may stop between them
-abbrev pub WritesAsItGoes : RequestText → Type 0
-WritesAsItGoes (check schema) = ⊥
-WritesAsItGoes (decode schema type input) = ⊥
-WritesAsItGoes (replay schema journal) = Unit {0}
+-- the job of a request
+abbrev pub job_of : RequestText → Job
+job_of (check schema) = check_job schema
+job_of (decode schema type input) = decode_job schema type input
+job_of (replay schema journal) = replay_job schema journal
 
 -- ---- the request of the program
 

@@ -2,19 +2,17 @@
 ghost use Rattle.std.specs.Prelude.{◌≡◌, ◌⊎◌, IfSome, IsErrOf, IsTrue, map, string_bytes};
 ghost use Rattle.tl_base.specs.Calls.{Told};
 ghost use Rattle.tl_base.specs.Causes.{Rose};
-ghost use Rattle.commands.specs.Jobs.{WorksFor};
-ghost use Rattle.commands.specs.Requests.{request_text};
-ghost use Rattle.commands.specs.Runs.{Ends, KeepsRest};
-ghost use Rattle.commands.specs.Sound.{AnswerFits, MeetsBothFaults, RequestFits};
+ghost use Rattle.command_base.specs.Jobs.{Works};
+ghost use Rattle.command_base.specs.Sound.{Fits, MeetsBothFaults};
+ghost use Rattle.commands.specs.Requests.{job_of, request_text};
+ghost use Rattle.commands.specs.Runs.{AnswerFits, Ends, Keeps};
 
-use crate::job::{check_schema, decode};
-use crate::replaying::replay;
-use crate::report::{report, tell};
 use crate::request::{Request, request_of};
-use crate::status::Status;
-use crate::stop::Stop;
+use codec_commands::{check_schema, decode_input};
+use command_base::{Status, Stop, report, tell};
 use std::alloc::Global;
 use tl_base::Host;
+use update_commands::replay_journal;
 
 /// What is told where the words are no row.
 const USAGE: &[u8] =
@@ -22,35 +20,38 @@ const USAGE: &[u8] =
 
 /// Runs the program over an outside: the words without the program's name, and the status that it ends with.
 pub fn run<H: Host>(alloc: Global, words: &[String], host: &mut H) -> Status
-    // Status, Output and Errors are those of the definition, or a fault's whose count rose, or memory's.
+    // Status, Output, Errors and what is left are those of the answer; or the status is a fault's whose count rose, or memory's.
     ensures ends { Told (H.state host.old).view (H.state host.new).view (Ends (map string_bytes words.now) (Rose (H.state host.old).counts.reads (H.state host.new).counts.reads) (Rose (H.state host.old).counts.writes (H.state host.new).counts.writes) result) }
-    // Files, State, links, addresses and moments are as before, and the links' count of faults.
-    ensures kept { Told (H.state host.old).view (H.state host.new).view KeepsRest }
+    // What the request's job keeps is kept: files, State, links, addresses and moments. So is the links' count of faults.
+    ensures kept { Told (H.state host.old).view (H.state host.new).view (Keeps (map string_bytes words.now)) }
     ensures links { (H.state host.new).counts.links ≡ (H.state host.old).counts.links }
     // A fault's status comes only where its count rose, told or not.
     ensures read { result ≡ Status.ReadFault → Rose (H.state host.old).counts.reads (H.state host.new).counts.reads }
     ensures write { result ≡ Status.WriteFault → Rose (H.state host.old).counts.writes (H.state host.new).counts.writes }
     // Over a sound host with the files that the words take and room enough, no fault's status comes.
     ensures sound { IfSome (H.state host.old).view (λ v. IsTrue (H.state host.old).sound → AnswerFits (map string_bytes words.now) v → (result ≡ Status.ReadFault) ⊎ (result ≡ Status.WriteFault) → ⊥) }
+    // No command takes a link yet, so these never come.
+    ensures never { result ≡ Status.LinkFault → ⊥ }
+    ensures never_peer { result ≡ Status.PeerFault → ⊥ }
 {
     match request_of(words) {
         None => tell(host, Status::Usage, USAGE),
         Some(request) => match answer(alloc, host, request) {
             Ok(()) => Status::Done,
-            Err(stop) => report(alloc, host, stop),
+            Err(stop) => report(host, &stop),
         },
     }
 }
 
 // Makes the work of a request.
 fn answer<H: Host>(alloc: Global, host: &mut H, request: Request) -> Result<(), Stop>
-    ensures works { Told (H.state host.old).view (H.state host.new).view (WorksFor (request_text request.entry) result) }
-    ensures kept { Told (H.state host.old).view (H.state host.new).view KeepsRest }
-    ensures faults { MeetsBothFaults (H.state host.old) (H.state host.new) (IsErrOf result Stop.ReadFault) (IsErrOf result Stop.WriteFault) (RequestFits (request_text request.entry)) }
+    ensures works { Told (H.state host.old).view (H.state host.new).view (Works (job_of (request_text request.entry)) result) }
+    ensures kept { Told (H.state host.old).view (H.state host.new).view (job_of (request_text request.entry)).keeps }
+    ensures faults { MeetsBothFaults (H.state host.old) (H.state host.new) (IsErrOf result Stop.ReadFault) (IsErrOf result Stop.WriteFault) (Fits (job_of (request_text request.entry))) }
 {
     match request {
         Request::Check { schema } => check_schema(alloc, host, schema),
-        Request::Decode { schema, of, input } => decode(alloc, host, schema, of, input),
-        Request::Replay { schema, journal } => replay(alloc, host, schema, journal),
+        Request::Decode { schema, of, input } => decode_input(alloc, host, schema, of, input),
+        Request::Replay { schema, journal } => replay_journal(alloc, host, schema, journal),
     }
 }

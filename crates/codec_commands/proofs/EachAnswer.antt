@@ -1,0 +1,64 @@
+-- Files of bytes have an answer to `check` and to `decode`.
+use Rattle.std.proofs.Common.{◌≡◌, ℕ, ◌≤◌, List, [], ◌∷◌, ◌++◌, append-nil, refl, sym, ◌∙◌, subst, inl, inr}
+use Rattle.tl_base.specs.Contents.{AreBytes, Files, HoldBytes}
+use Rattle.tl_base.specs.Outside.{HasFile}
+use Rattle.plain_values.specs.PlainTypes.{boxed}
+use Rattle.plain_values.specs.PlainViews.{plain_decls}
+use Rattle.plain_values.specs.Values.{Tree, depth}
+use Rattle.tl_schema.specs.Schemas.{Declared}
+use Rattle.plain_values.specs.Spelling.{Spells}
+use Rattle.plain_values.proofs.Exactly.{either}
+use Rattle.command_base.specs.Answer.{Answer}
+use Rattle.command_base.proofs.SameFiles.{file_bytes}
+use Rattle.codec_commands.specs.declared.decoder.TheConstants.{MAX_LEVELS}
+use Rattle.codec_commands.specs.Check.{OfChecked, no_schema, listed, CheckAnswer}
+use Rattle.codec_commands.specs.Decode.{OfInput, whole, longer, faulty, OfType, no_type, typed, OfSchema, schema_of, DecodeAnswer}
+use Rattle.codec_commands.specs.Decode as decoded
+use Rattle.codec_commands.proofs.OneSchemaText.{schema_or_refused}
+use Rattle.codec_commands.proofs.OneTypeName.{type_or_refused}
+
+-- some file has this name
+abbrev IsFile : Files → List ℕ → Type 0
+IsFile files name = (bytes : List ℕ) × HasFile files name bytes
+
+-- ---- check
+
+each_checked : (text : List ℕ) → (a : Answer) × OfChecked text a
+each_checked text = elim (schema_or_refused text) [
+  | inl (schema, is) ↦ (_, listed schema is refl)
+  | inr (cause, r) ↦ (_, no_schema cause r refl)
+]
+
+pub each_check : (files : Files) (schema : List ℕ) → IsFile files schema → (a : Answer) × CheckAnswer files schema a
+each_check files schema (text, has) = let tells = each_checked text in (tells.0, (text, has, tells.1))
+
+-- ---- an input
+
+module _ (schema : Declared) (head : ℕ) (bytes : List ℕ) where
+  spelled : (t : Tree) (x rest : List ℕ) → bytes ≡ x ++ rest → Spells (plain_decls schema) (boxed head) t x → depth t ≤ MAX_LEVELS → (a : Answer) × OfInput schema head bytes a
+  spelled t x [] split s d = (_, whole t (subst (Spells (plain_decls schema) (boxed head) t) (sym (split ∙ append-nil x)) s) d refl)
+  spelled t x (b ∷ rest) split s d = (_, longer t x rest b split s d refl)
+
+  each_input : AreBytes bytes → (a : Answer) × OfInput schema head bytes a
+  each_input are = elim (either (plain_decls schema) MAX_LEVELS (boxed head) bytes are) [
+    | inl (t, x, (rest, split, s, d)) ↦ spelled t x rest split s d
+    | inr (at, why, r) ↦ (_, faulty at why r refl)
+  ]
+
+-- ---- decode
+
+module _ (files : Files) (good : HoldBytes files) where
+  each_type : (schema : Declared) (type input : List ℕ) → IsFile files input → (a : Answer) × OfType schema type input files a
+  each_type schema type input (bytes, has) = elim (type_or_refused schema type) [
+    | inl (s, head, means, plain) ↦ (let tells = each_input schema head bytes (file_bytes files input bytes good has) in (tells.0, typed s head bytes means plain has tells.1))
+    | inr (cause, r) ↦ (_, no_type cause r refl)
+  ]
+
+  each_schema : (text type input : List ℕ) → IsFile files input → (a : Answer) × OfSchema text type input files a
+  each_schema text type input file = elim (schema_or_refused text) [
+    | inl (schema, is) ↦ (let tells = each_type schema type input file in (tells.0, schema_of schema is tells.1))
+    | inr (cause, r) ↦ (_, decoded.no_schema cause r refl)
+  ]
+
+  pub each_decode : (schema type input : List ℕ) → IsFile files schema → IsFile files input → (a : Answer) × DecodeAnswer files schema type input a
+  each_decode schema type input (text, has) file = let tells = each_schema text type input file in (tells.0, (text, has, tells.1))

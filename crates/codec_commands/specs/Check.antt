@@ -1,0 +1,53 @@
+-- What `check` answers: the list of the schema's declarations, or where and why its text is refused. This project's own.
+use Rattle.std.specs.Prelude.{◌≡◌, ℕ, List, [], ◌++◌, codes, decimal, flat_map, Bool, not, ◌&&◌, is_some, if◌then◌else◌}
+use Rattle.std.specs.List.{count_by}
+use Rattle.std.specs.Int.{w32, to_be_bytes}
+use Rattle.hex.specs.Hex.{encode_lower}
+use Rattle.tl_base.specs.Contents.{Files}
+use Rattle.tl_base.specs.Outside.{HasFile}
+use Rattle.tl_schema.specs.Schemas.{Declaration, Declared}
+use Rattle.tl_schema.specs.Meanings.{base_shape}
+use Rattle.codec_commands.specs.declared.causes.SchemaCause.{SchemaCause}
+use Rattle.codec_commands.specs.Loaded.{IsSchemaText, SchemaRefused}
+use Rattle.command_base.specs.Answer.{Answer, done, refused}
+use Rattle.command_base.specs.Jobs.{Job}
+use Rattle.command_base.specs.Kept.{KeepsRest}
+use Rattle.codec_commands.specs.Lines.{schema_line}
+
+-- ---- the list
+
+-- all but the lines of built-in types, of which that of `vector` is listed; no other declaration has one of their names
+abbrev pub is_listed : Declaration → Bool
+is_listed e = not (is_some (base_shape e.name))
+
+-- the number as eight hexadecimal digits, and the name
+abbrev pub entry_line : Declaration → List ℕ
+entry_line e = if is_listed e then ((encode_lower (to_be_bytes w32 e.number) ++ codes " ") ++ e.name) ++ codes "\n" else []
+
+abbrev pub is_listed_constructor : Declaration → Bool
+is_listed_constructor e = is_listed e && not e.function
+
+abbrev pub is_listed_function : Declaration → Bool
+is_listed_function e = is_listed e && e.function
+
+abbrev pub counts_line : ℕ → ℕ → List ℕ
+counts_line constructors functions = (((codes "constructors " ++ decimal constructors) ++ codes " functions ") ++ decimal functions) ++ codes "\n"
+
+-- a line for each declaration, in the order of the text, and how many there are
+abbrev pub listing : List Declaration → List ℕ
+listing es = flat_map entry_line es ++ counts_line (count_by is_listed_constructor es) (count_by is_listed_function es)
+
+-- ---- check
+
+-- the text is no schema's, or it is one's, and its list is the answer
+pub data OfChecked (text : List ℕ) (a : Answer) : Type 0 where
+  no_schema : (cause : SchemaCause) → SchemaRefused text cause → a ≡ refused (schema_line cause) → OfChecked text a
+  listed : (schema : Declared) → IsSchemaText text schema → a ≡ done (listing schema.decls) → OfChecked text a
+
+-- check's answer
+abbrev pub CheckAnswer : Files → List ℕ → Answer → Type 0
+CheckAnswer files schema a = (text : List ℕ) × HasFile files schema text × OfChecked text a
+
+-- `check SCHEMA`
+abbrev pub check_job : List ℕ → Job
+check_job schema = record { answers = λ v a. CheckAnswer v.files schema a; in_pieces = ⊥; keeps = KeepsRest }

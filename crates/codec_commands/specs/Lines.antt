@@ -1,0 +1,79 @@
+-- The lines of what `check` and `decode` refuse. This project's own.
+use Rattle.std.specs.Prelude.{ℕ, List, ◌++◌, codes}
+use Rattle.std.specs.Int.{w32, to_be_bytes}
+use Rattle.hex.specs.Hex.{encode_lower}
+use Rattle.plain_values.specs.declared.fault.Cause.{Cause}
+use Rattle.plain_values.specs.declared.fault.Cause.TheVariants.{TooDeep, Truncated, Packed, UnknownNumber}
+use Rattle.tl_schema.specs.declared.fault.CheckCause.{CheckCause}
+use Rattle.tl_schema.specs.declared.fault.CheckCause.TheVariants as check
+use Rattle.tl_combinators.specs.declared.fault.Form.{Form}
+use Rattle.tl_combinators.specs.declared.fault.Form.TheVariants as form
+use Rattle.tl_schema.specs.declared.fault.TypeCause.{TypeCause}
+use Rattle.tl_schema.specs.declared.fault.TypeCause.TheVariants as type
+use Rattle.command_base.specs.Answer.{placed_line, unplaced_line}
+use Rattle.codec_commands.specs.declared.causes.TextCause.{TextCause}
+use Rattle.codec_commands.specs.declared.causes.TextCause.TheVariants.{TextTooLong, BadByte, OpenComment, Unexpected, NotProfile, TooMany}
+use Rattle.codec_commands.specs.declared.causes.SchemaCause.{SchemaCause}
+use Rattle.codec_commands.specs.declared.causes.SchemaCause.TheVariants as schema
+use Rattle.codec_commands.specs.declared.causes.TypeNameCause.{TypeNameCause}
+use Rattle.codec_commands.specs.declared.causes.TypeNameCause.TheVariants as name
+
+abbrev pub form_name : Form → List ℕ
+form_name form.DependentNumber = codes "DependentNumber"
+form_name form.Multiplicity = codes "Multiplicity"
+form_name form.Lifecycle = codes "Lifecycle"
+form_name form.PartialApplication = codes "PartialApplication"
+form_name form.Anonymous = codes "Anonymous"
+form_name form.ObjectType = codes "ObjectType"
+form_name form.UnnamedField = codes "UnnamedField"
+form_name form.CallInConstructor = codes "CallInConstructor"
+form_name form.VectorNumber = codes "VectorNumber"
+
+abbrev pub check_name : CheckCause → List ℕ
+check_name check.SameName = codes "SameName"
+check_name check.UnknownType = codes "UnknownType"
+check_name check.UnknownVariable = codes "UnknownVariable"
+check_name check.WrongArity = codes "WrongArity"
+check_name check.BadResult = codes "BadResult"
+check_name check.NotBare = codes "NotBare"
+check_name check.BadFlag = codes "BadFlag"
+check_name check.SameNumber = codes "SameNumber"
+check_name check.BareCycle = codes "BareCycle"
+check_name check.EmptyElement = codes "EmptyElement"
+
+abbrev pub type_cause_name : TypeCause → List ℕ
+type_cause_name type.UnknownType = codes "UnknownType"
+type_cause_name type.WrongArity = codes "WrongArity"
+type_cause_name type.NotBare = codes "NotBare"
+type_cause_name type.EmptyElement = codes "EmptyElement"
+
+-- a refusal of what a text is read as
+abbrev pub text_line : List ℕ → TextCause → List ℕ
+text_line what TextTooLong = unplaced_line what (codes "TextTooLong")
+text_line what (BadByte at) = placed_line what at (codes "BadByte")
+text_line what (OpenComment at) = placed_line what at (codes "OpenComment")
+text_line what (Unexpected at) = placed_line what at (codes "Unexpected")
+text_line what (NotProfile at f) = placed_line what at (codes "NotProfile " ++ form_name f)
+text_line what (TooMany at) = placed_line what at (codes "TooMany")
+
+-- a refusal of the schema's text; where a declaration is refused its number stands in place of a byte's
+abbrev pub schema_line : SchemaCause → List ℕ
+schema_line (schema.Text c) = text_line (codes "schema") c
+schema_line (schema.Checked decl c) = placed_line (codes "schema decl") decl (check_name c)
+
+-- a refusal of the word that is a type
+abbrev pub type_line : TypeNameCause → List ℕ
+type_line (name.Text c) = text_line (codes "type") c
+type_line (name.Checked c) = unplaced_line (codes "type") (type_cause_name c)
+type_line name.NotYetBuilt = unplaced_line (codes "type") (codes "NotYetBuilt")
+
+-- a cause with its values; the word of an unknown number as eight hexadecimal digits
+abbrev pub cause_text : Cause → List ℕ
+cause_text TooDeep = codes "TooDeep"
+cause_text Truncated = codes "Truncated"
+cause_text Packed = codes "NotYetBuilt"
+cause_text (UnknownNumber w) = codes "UnknownNumber " ++ encode_lower (to_be_bytes w32 w)
+
+-- a refusal of the input
+abbrev pub input_line : ℕ → List ℕ → List ℕ
+input_line place why = placed_line (codes "input") place why

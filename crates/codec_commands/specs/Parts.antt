@@ -1,0 +1,52 @@
+-- What the parts of `check` and `decode` answer, and what they do to the outside. This project's own.
+use Rattle.std.specs.Prelude.{ℕ, List, Result, Ok, Err}
+use Rattle.tl_base.specs.Outside.{View, HasFile, left_of}
+use Rattle.tl_base.specs.Hosted.{OnlySlot}
+use Rattle.tl_base.specs.declared.host.Slot.TheVariants.{Input}
+use Rattle.tl_schema.specs.Types.{Shape}
+use Rattle.plain_values.specs.PlainTypes.{PlainShape}
+use Rattle.tl_schema.specs.Schemas.{Declared}
+use Rattle.plain_values.specs.PlainSchemas.{PlainDeclaration}
+use Rattle.tl_schema.specs.AskedTypes.{IsTypeText}
+use Rattle.plain_values.specs.PlainViews.{IsPlainType}
+use Rattle.plain_values.specs.declared.value.Value.{Value}
+use Rattle.command_base.specs.Kept.{OnlyReads}
+use Rattle.codec_commands.specs.Decoding.{DecodesWhole}
+use Rattle.codec_commands.specs.declared.whole.InputFault.{InputFault}
+use Rattle.codec_commands.specs.declared.whole.InputFault.TheVariants as input
+use Rattle.codec_commands.specs.declared.schema_text.SchemaTextFault.{SchemaTextFault}
+use Rattle.codec_commands.specs.declared.schema_text.SchemaTextFault.TheVariants as spelled
+use Rattle.codec_commands.specs.declared.schema_text.SchemaFault.{SchemaFault}
+use Rattle.codec_commands.specs.declared.schema_text.SchemaFault.TheVariants as schema
+use Rattle.codec_commands.specs.declared.type_word.TypeWordFault.{TypeWordFault}
+use Rattle.codec_commands.specs.declared.type_word.TypeWordFault.TheVariants as word
+use Rattle.codec_commands.specs.Loaded.{IsSchemaText, SchemaRefused, TypeNameRefused}
+
+-- the schema of a text
+abbrev pub ReadsSchema : List ℕ → Result Declared SchemaTextFault → Type 0
+ReadsSchema text (Ok schema) = IsSchemaText text schema
+ReadsSchema text (Err (spelled.Refused cause)) = SchemaRefused text cause
+ReadsSchema text (Err spelled.Memory) = Unit {0}
+
+-- the schema of a file
+abbrev pub LoadsSchema : List ℕ → Result Declared SchemaFault → View → View → Type 0
+LoadsSchema name (Ok schema) v w = ((text : List ℕ) × HasFile v.files name text × IsSchemaText text schema) × OnlyReads v w
+LoadsSchema name (Err (schema.Refused cause)) v w = ((text : List ℕ) × HasFile v.files name text × SchemaRefused text cause) × OnlyReads v w
+LoadsSchema name (Err schema.ReadFault) v w = OnlyReads v w
+LoadsSchema name (Err schema.Memory) v w = OnlyReads v w
+
+-- the number of the type that a word names, of which values are read
+abbrev pub NamesPlain : Declared → List ℕ → Result ℕ TypeWordFault → Type 0
+NamesPlain schema text (Ok head) = (s : Shape) × IsTypeText schema.program text s × IsPlainType schema s head
+NamesPlain schema text (Err (word.Refused cause)) = TypeNameRefused schema text cause
+NamesPlain schema text (Err word.Memory) = Unit {0}
+
+-- what was left of the input was taken as one value of the type
+abbrev pub TakesValue : List PlainDeclaration → PlainShape → Result Value InputFault → View → View → Type 0
+TakesValue ds T result v w = DecodesWhole ds T (left_of Input v) result × OnlySlot Input v w
+
+-- the value that is the whole of a file
+abbrev pub LoadsValue : List PlainDeclaration → PlainShape → List ℕ → Result Value InputFault → View → View → Type 0
+LoadsValue ds T name (Err input.ReadFault) v w = OnlyReads v w
+LoadsValue ds T name (Err input.Memory) v w = OnlyReads v w
+LoadsValue ds T name result v w = ((bytes : List ℕ) × HasFile v.files name bytes × DecodesWhole ds T bytes result) × OnlyReads v w

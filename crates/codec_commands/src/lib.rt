@@ -1,0 +1,18 @@
+//! The commands over schemas and the values that are spelled in them: `check` and `decode`.
+#![tactic(auto)]
+
+mod causes;
+mod check;
+mod decode;
+mod decoder;
+mod input;
+mod lines;
+mod listing;
+mod plain_types;
+mod schema_text;
+mod shown;
+mod type_word;
+mod whole;
+
+pub use check::check_schema;
+pub use decode::decode_input;

@@ -1,0 +1,146 @@
+//! The lines of refusals.
+ghost use Rattle.std.specs.Prelude.{◌≡◌, IfOk, string_bytes, codes};
+ghost use Rattle.command_base.specs.Answer.{placed_line, unplaced_line};
+ghost use Rattle.command_base.specs.Jobs.{TellsAs};
+ghost use Rattle.codec_commands.specs.Faults.{schema_making};
+ghost use Rattle.codec_commands.specs.Lines.{cause_text, check_name, form_name, input_line, schema_line, text_line, type_cause_name, type_line};
+
+use crate::causes::{SchemaCause, TextCause, TypeNameCause};
+use crate::schema_text::SchemaFault;
+use command_base::{Unmade, placed_line, unplaced_line};
+use std::alloc::{AllocError, Global};
+use tl_combinators::Form;
+use plain_values::Cause;
+use tl_schema::{CheckCause, TypeCause};
+
+// A cause, and its values.
+fn cause_name(alloc: Global, cause: Cause) -> Result<String, AllocError>
+    ensures { IfOk result (λ s. string_bytes s ≡ cause_text cause) }
+{
+    match cause {
+        Cause::TooDeep => String::from_str(alloc, "TooDeep"),
+        Cause::Truncated => String::from_str(alloc, "Truncated"),
+        Cause::Packed => String::from_str(alloc, "NotYetBuilt"),
+        Cause::UnknownNumber { word } => {
+            let digits = hex::encode(alloc, word.to_be_bytes())?;
+            format!(in alloc; "UnknownNumber {digits}")
+        }
+    }
+}
+
+// The name of a form that is left out.
+fn form_name(form: Form) -> &'static str
+    ensures { result.now ≡ form_name form }
+{
+    match form {
+        Form::DependentNumber => "DependentNumber",
+        Form::Multiplicity => "Multiplicity",
+        Form::Lifecycle => "Lifecycle",
+        Form::PartialApplication => "PartialApplication",
+        Form::Anonymous => "Anonymous",
+        Form::ObjectType => "ObjectType",
+        Form::UnnamedField => "UnnamedField",
+        Form::CallInConstructor => "CallInConstructor",
+        Form::VectorNumber => "VectorNumber",
+    }
+}
+
+// The name of what is wrong with a declaration.
+fn check_name(cause: CheckCause) -> &'static str
+    ensures { result.now ≡ check_name cause }
+{
+    match cause {
+        CheckCause::SameName => "SameName",
+        CheckCause::UnknownType => "UnknownType",
+        CheckCause::UnknownVariable => "UnknownVariable",
+        CheckCause::WrongArity => "WrongArity",
+        CheckCause::BadResult => "BadResult",
+        CheckCause::NotBare => "NotBare",
+        CheckCause::BadFlag => "BadFlag",
+        CheckCause::SameNumber => "SameNumber",
+        CheckCause::BareCycle => "BareCycle",
+        CheckCause::EmptyElement => "EmptyElement",
+    }
+}
+
+// The name of what is wrong with a type.
+fn type_cause_name(cause: TypeCause) -> &'static str
+    ensures { result.now ≡ type_cause_name cause }
+{
+    match cause {
+        TypeCause::UnknownType => "UnknownType",
+        TypeCause::WrongArity => "WrongArity",
+        TypeCause::NotBare => "NotBare",
+        TypeCause::EmptyElement => "EmptyElement",
+    }
+}
+
+// The line of a text that is refused.
+fn text_line(alloc: Global, what: &str, cause: TextCause) -> Result<String, AllocError>
+    ensures { IfOk result (λ s. string_bytes s ≡ text_line what.now cause) }
+{
+    match cause {
+        TextCause::TextTooLong => unplaced_line(alloc, what, "TextTooLong"),
+        TextCause::BadByte { at } => placed_line(alloc, what, at as u64, "BadByte"),
+        TextCause::OpenComment { at } => placed_line(alloc, what, at as u64, "OpenComment"),
+        TextCause::Unexpected { at } => placed_line(alloc, what, at as u64, "Unexpected"),
+        TextCause::NotProfile { at, form } => {
+            let mut why = String::from_str(alloc, "NotProfile ")?;
+            why.push_str(form_name(form))?;
+            placed_line(alloc, what, at as u64, why.as_str())
+        }
+        TextCause::TooMany { at } => placed_line(alloc, what, at as u64, "TooMany"),
+    }
+}
+
+/// The line of a schema's text that is refused.
+pub fn schema_line(alloc: Global, cause: SchemaCause) -> Result<String, AllocError>
+    ensures { IfOk result (λ s. string_bytes s ≡ schema_line cause) }
+{
+    match cause {
+        SchemaCause::Text { cause } => text_line(alloc, "schema", cause),
+        SchemaCause::Checked { decl, cause } => {
+            placed_line(alloc, "schema decl", decl as u64, check_name(cause))
+        }
+    }
+}
+
+/// The line of a word that is refused as a type.
+pub fn type_line(alloc: Global, cause: TypeNameCause) -> Result<String, AllocError>
+    ensures { IfOk result (λ s. string_bytes s ≡ type_line cause) }
+{
+    match cause {
+        TypeNameCause::Text { cause } => text_line(alloc, "type", cause),
+        TypeNameCause::Checked { cause } => {
+            unplaced_line(alloc, "type", type_cause_name(cause))
+        }
+        TypeNameCause::NotYetBuilt => unplaced_line(alloc, "type", "NotYetBuilt"),
+    }
+}
+
+/// The line of an input that is refused at an offset.
+pub fn input_line(alloc: Global, place: u64, cause: Cause) -> Result<String, AllocError>
+    ensures { IfOk result (λ s. string_bytes s ≡ input_line place (cause_text cause)) }
+{
+    let why = cause_name(alloc, cause)?;
+    placed_line(alloc, "input", place, why.as_str())
+}
+
+/// The line of an input that goes on after its value.
+pub fn trailing_line(alloc: Global, place: u64) -> Result<String, AllocError>
+    ensures { IfOk result (λ s. string_bytes s ≡ input_line place (codes "Trailing")) }
+{
+    placed_line(alloc, "input", place, "Trailing")
+}
+
+/// What is handed on where a file gives no schema.
+pub fn schema_unmade(alloc: Global, fault: SchemaFault) -> Unmade
+    ensures tells { TellsAs (schema_making fault) result }
+    ensures read { result ≡ Unmade.ReadFault → fault ≡ SchemaFault.ReadFault }
+{
+    match fault {
+        SchemaFault::Refused(cause) => Unmade::of_line(schema_line(alloc, cause)),
+        SchemaFault::ReadFault => Unmade::ReadFault,
+        SchemaFault::Memory => Unmade::Memory,
+    }
+}

@@ -1,0 +1,74 @@
+//! Values that are whole inputs.
+ghost use Rattle.std.specs.Prelude.{◌<◌, IsErrOf, IfSome, length};
+ghost use Rattle.tl_base.specs.Using.{Used};
+ghost use Rattle.tl_names.specs.Places.{types_of};
+ghost use Rattle.plain_values.specs.PlainTypes.{boxed};
+ghost use Rattle.plain_values.specs.PlainViews.{plain_decls};
+ghost use Rattle.codec_commands.specs.Decoding.{DecodesWhole};
+
+use crate::decoder::{DecodeFault, decode};
+use std::alloc::Global;
+use thiserror::Error;
+use tl_base::{Failed, Source, take_end};
+use plain_values::{Cause, Value};
+use tl_schema::Schema;
+
+/// Why an input is no value of a type.
+#[derive(Clone, Copy, Debug, PartialEq, Eq, Error)]
+pub enum InputFault {
+    /// The bytes begin no spelling of a value: the item at the place is none, for the cause.
+    #[error("refused at byte {place}: {cause}")]
+    Refused { place: u64, cause: Cause },
+    /// The input goes on at the place, behind the spelling of a value.
+    #[error("more bytes from byte {place} on")]
+    Trailing { place: u64 },
+    #[error("read fault")]
+    ReadFault,
+    #[error("out of memory")]
+    Memory,
+}
+
+impl From<DecodeFault> for InputFault {
+    ghost use Rattle.std.specs.Prelude.{◌≡◌};
+    ghost use Rattle.codec_commands.specs.Decoding.{input_fault};
+
+    ghost from_gives = { λ d e. e ≡ input_fault d };
+
+    fn from(fault: DecodeFault) -> InputFault {
+        match fault {
+            DecodeFault::Refused { place, cause } => InputFault::Refused { place, cause },
+            DecodeFault::ReadFault => InputFault::ReadFault,
+            DecodeFault::Memory => InputFault::Memory,
+        }
+    }
+}
+
+impl From<Failed> for InputFault {
+    ghost use Rattle.std.specs.Prelude.{◌≡◌};
+    ghost use Rattle.codec_commands.specs.declared.whole.InputFault.TheVariants.{ReadFault};
+
+    ghost from_gives = { λ _ e. e ≡ ReadFault };
+
+    fn from(_e: Failed) -> InputFault {
+        InputFault::ReadFault
+    }
+}
+
+/// Reads the one value that is the whole input.
+pub fn decode_whole<S: Source>(
+    alloc: Global,
+    schema: &Schema,
+    head: u32,
+    from: &mut S,
+) -> Result<Value, InputFault>
+    requires { head < length (types_of schema.now.program) }
+    ensures whole { IfSome (S.state from.old).left (λ bytes. DecodesWhole (plain_decls schema.now) (boxed head) bytes result) }
+    ensures used { Used (S.state from.old) (S.state from.new) (IsErrOf result InputFault.ReadFault) }
+{
+    let mut at = 0;
+    let value = decode(alloc, schema, head, &mut at, from)?;
+    if !take_end(from)? {
+        return Err(InputFault::Trailing { place: at });
+    }
+    Ok(value)
+}

@@ -1,0 +1,5 @@
+pub mod Views
+pub mod Rests
+pub mod SameFiles
+pub mod Faults
+pub mod Made

@@ -1,0 +1,135 @@
+-- The work of a job that makes its Output and then writes it.
+use Rattle.std.proofs.Common.{◌≡◌, ◌⊎◌, ℕ, List, ◌++◌, append-nil, length, IsTrue, Option, Some, None, Result, Ok, Err, Vec, Global, refl, sym, ap, ◌∙◌, subst, arith, inl, inr}
+use Rattle.std.specs.Prelude.{IfSome, IsErrOf}
+use Rattle.tl_base.specs.Outside.{View, HostState}
+use Rattle.tl_base.specs.Calls.{Told}
+use Rattle.tl_base.specs.Using.{MeetsFaults}
+use Rattle.tl_base.specs.declared.counts.Kind.TheVariants as kinds
+use Rattle.command_base.specs.declared.stop.Stop.{Stop}
+use Rattle.command_base.specs.declared.stop.Stop.TheVariants as stop
+use Rattle.command_base.specs.declared.stop.Unmade.{Unmade}
+use Rattle.command_base.specs.declared.stop.Unmade.TheVariants as unmade
+use Rattle.command_base.specs.Answer.{Answer, done, refused}
+use Rattle.command_base.specs.Kept.{KeepsRest, OnlyReads}
+use Rattle.command_base.specs.Jobs.{Job, Works, Making, made, refused_by, unread, no_memory, of_fault, making, MakesOutput, TellsAs, WritesMade}
+use Rattle.command_base.specs.Sound.{MeetsBothFaults, Answered, Fits, MadeFits}
+use Rattle.command_base.proofs.Views.{told_as, told_then}
+use Rattle.command_base.proofs.Rests.{rest_then, output_rest, same_rest, then_same, rest_left}
+use Rattle.command_base.proofs.Faults.{safe, then_fails}
+
+module _ (job : Job) where
+  only_read : (m : Making) (v w : View) → MakesOutput job m v w → OnlyReads v w
+  only_read (made text) v w h = h.1
+  only_read (refused_by line) v w h = h.1
+  only_read unread v w h = h
+  only_read no_memory v w h = h
+
+  -- a fault that tells what the making came to
+  told_by : (m : Making) (fault : Unmade) (v w : View) → TellsAs m fault → MakesOutput job m v w → MakesOutput job (of_fault fault) v w
+  told_by m fault v w (inl same) h = subst (λ (x : Making). MakesOutput job x v w) (sym same) h
+  told_by m fault v w (inr is) h = subst (λ (x : Unmade). MakesOutput job (of_fault x) v w) (sym is) (only_read m v w h)
+
+  pub not_made : (m : Making) (fault : Unmade) (a b : Option View) → TellsAs m fault → Told a b (MakesOutput job m) → Told a b (MakesOutput job (of_fault fault))
+  not_made m fault a b tells = told_as a b (MakesOutput job m) (MakesOutput job (of_fault fault)) (λ v w. told_by m fault v w tells)
+
+  -- ---- what is written
+
+  works : (m : Making) (r : Result (Unit {0}) Stop) (v u w : View) → MakesOutput job m v u → WritesMade m r u w → Works job r v w
+  works (made text) (Ok x) v u w (answer, only) put = (
+    done text,
+    answer,
+    refl,
+    refl,
+    record {
+      output = ap (λ (z : View). z.written.output) put ∙ ap (λ (z : List ℕ). z ++ text) only.output;
+      errors = ap (λ (z : View). z.written.errors) put ∙ only.errors;
+      leaves = rest_left (done text) v w (refl, refl, refl) (rest_then v u w only.rest (output_rest _ u w put));
+    },
+  )
+  works (made text) (Err e) v u w (answer, only) (is, prefix, rest, split, put) =
+      subst (λ (y : Stop). Works job (Err y) v w) (sym is) (
+        (done text, answer, (prefix, rest, split, ap (λ (z : View). z.written.output) put ∙ ap (λ (z : List ℕ). z ++ prefix) only.output)),
+        ap (λ (z : View). z.written.errors) put ∙ only.errors,
+      )
+  works (refused_by line) (Ok x) v u w h none = absurd none
+  works unread (Ok x) v u w h none = absurd none
+  works no_memory (Ok x) v u w h none = absurd none
+  works (refused_by line) (Err (stop.Refused told)) v u w (answer, only) (is, same) =
+      let all = then_same v u w only same in (
+        refused line,
+        answer,
+        refl,
+        sym is,
+        record {
+          output = all.output ∙ sym (append-nil v.written.output);
+          errors = all.errors;
+          leaves = rest_left (refused line) v w (refl, refl, refl) all.rest;
+        },
+        inl all.output,
+      )
+  works (refused_by line) (Err stop.ReadFault) v u w h none = absurd none
+  works (refused_by line) (Err stop.WriteFault) v u w h none = absurd none
+  works (refused_by line) (Err stop.Memory) v u w h none = absurd none
+  works unread (Err e) v u w only (is, same) = subst (λ (y : Stop). Works job (Err y) v w) (sym is) (then_same v u w only same)
+  works no_memory (Err e) v u w only (is, same) =
+      let all = then_same v u w only same in
+      subst (λ (y : Stop). Works job (Err y) v w) (sym is) (inl all.output, all.errors)
+
+  pub made_works : (m : Making) (r : Result (Unit {0}) Stop) (a b c : Option View) → Told a b (MakesOutput job m) → Told b c (WritesMade m r) → Told a c (Works job r)
+  made_works m r a b c = told_then a b c (MakesOutput job m) (WritesMade m r) (Works job r) (works m r)
+
+  kept : (m : Making) (r : Result (Unit {0}) Stop) (v u w : View) → MakesOutput job m v u → WritesMade m r u w → KeepsRest v w
+  kept (made text) (Ok x) v u w h put = rest_then v u w h.1.rest (output_rest _ u w put)
+  kept (made text) (Err e) v u w h put = rest_then v u w h.1.rest (output_rest _ u w put.4)
+  kept (refused_by line) (Ok x) v u w h none = absurd none
+  kept unread (Ok x) v u w h none = absurd none
+  kept no_memory (Ok x) v u w h none = absurd none
+  kept (refused_by line) (Err (stop.Refused told)) v u w h put = rest_then v u w h.1.rest (same_rest u w put.1)
+  kept (refused_by line) (Err stop.ReadFault) v u w h none = absurd none
+  kept (refused_by line) (Err stop.WriteFault) v u w h none = absurd none
+  kept (refused_by line) (Err stop.Memory) v u w h none = absurd none
+  kept unread (Err e) v u w h put = rest_then v u w h.rest (same_rest u w put.1)
+  kept no_memory (Err e) v u w h put = rest_then v u w h.rest (same_rest u w put.1)
+
+  pub made_kept : (m : Making) (r : Result (Unit {0}) Stop) (a b c : Option View) → Told a b (MakesOutput job m) → Told b c (WritesMade m r) → Told a c KeepsRest
+  made_kept m r a b c = told_then a b c (MakesOutput job m) (WritesMade m r) KeepsRest (kept m r)
+
+  -- ---- where writing can't fail
+
+  -- the job has one answer over an outside
+  abbrev pub HasOne : Type 0
+  HasOne = (v : View) (a c : Answer) → job.answers v a → job.answers v c → a ≡ c
+
+  -- what is made is the answer's Output: room for that is room for it
+  made_fits : HasOne → (m : Making) (v u : View) → MakesOutput job m v u → Fits job v → MadeFits m u
+  made_fits one (made text) v u (answer, only) (a, also, room) =
+      let is : a ≡ done text = one v a (done text) also answer in
+      omega (arith, ap (λ (b : Answer). length b.output) is, ap length only.output, ap (λ (x : View). x.room) only.rest, room)
+  made_fits one (refused_by line) v u h fits = tt
+  made_fits one unread v u h fits = tt
+  made_fits one no_memory v u h fits = tt
+
+  fits_answered : (v : View) → Fits job v → Answered job v
+  fits_answered v (a, answer, room) = (a, answer)
+
+  either_fails : (F G H : Type 0) (told : Option View) (S : Type 0) → (H → F) → IfSome told (λ v. S → Answered job v → F → ⊥) → IfSome told (λ v. S → Fits job v → G → ⊥) → IfSome told (λ v. S → Fits job v → H ⊎ G → ⊥)
+  either_fails F G H None S to first second = tt
+  either_fails F G H (Some v) S to first second = λ sound fits failed. elim failed [ inl h ↦ first sound (fits_answered v fits) (to h) | inr g ↦ second sound fits g ]
+
+  pub made_faults : HasOne → (text : Result (Vec ℕ Global) Unmade) (r : Result (Unit {0}) Stop) (a b c : HostState)
+      → Told a.view b.view (MakesOutput job (making text)) → MeetsFaults kinds.Reads a b (IsErrOf text unmade.ReadFault) (Answered job)
+      → MeetsFaults kinds.Writes b c (IsErrOf r stop.WriteFault) (MadeFits (making text)) → (IsErrOf r stop.ReadFault → IsErrOf text unmade.ReadFault)
+      → MeetsBothFaults a c (IsErrOf r stop.ReadFault) (IsErrOf r stop.WriteFault) (Fits job)
+  made_faults one text r a b c told reads writes same =
+      let both = then_fails a.view b.view a.sound b.sound c.sound _ (Fits job) (MadeFits (making text)) (MakesOutput job (making text)) told reads.stays (safe writes) (made_fits one (making text)) in
+      let reads_kept = ap (λ k. k.reads) writes.others in
+      let links_kept = ap (λ k. k.links) writes.others ∙ ap (λ k. k.links) reads.others in
+      record {
+        reads_later = omega (arith, reads.later, reads_kept);
+        writes_later = omega (arith, writes.later, ap (λ k. k.writes) reads.others);
+        links_kept = links_kept;
+        read = λ failed. omega (arith, reads.cause (same failed), reads_kept);
+        write = λ failed. omega (arith, writes.cause failed, ap (λ k. k.writes) reads.others);
+        stays = both.stays;
+        never = either_fails (IsErrOf text unmade.ReadFault) (IsErrOf r stop.WriteFault) (IsErrOf r stop.ReadFault) a.view (IsTrue a.sound) same reads.never both.never;
+      }

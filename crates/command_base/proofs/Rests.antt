@@ -1,0 +1,71 @@
+-- What calls leave as it was.
+use Rattle.std.proofs.Common.{◌≡◌, ℕ, List, [], ◌++◌, append-nil, None, sym, ap, ◌∙◌}
+use Rattle.tl_base.specs.Outside.{View, left_of, with_left, with_written}
+use Rattle.tl_base.specs.Hosted.{OnlySlot}
+use Rattle.tl_base.specs.declared.host.Slot.TheVariants.{Schema, Input}
+use Rattle.tl_base.specs.declared.host.Out.TheVariants.{Output}
+use Rattle.command_base.specs.Answer.{Answer}
+use Rattle.command_base.specs.Kept.{KeepsRest, OnlyReads, Leaves, name_after, bytes_after, address_after}
+
+-- what `KeepsRest` gives for the new view
+rest_of : View → View → View
+rest_of v w = record v { left = record v.left { schema = w.left.schema; input = w.left.input }; written = record v.written { output = w.written.output; errors = w.written.errors } }
+
+pub rest_then : (u v w : View) → KeepsRest u v → KeepsRest v w → KeepsRest u w
+unfolding rest_of
+rest_then u v w p q = q ∙ ap (λ (x : View). rest_of x w) p
+
+pub only_schema : (v w : View) → OnlySlot Schema v w → OnlyReads v w
+unfolding rest_of
+only_schema v w e = record { output = ap (λ (x : View). x.written.output) e; errors = ap (λ (x : View). x.written.errors) e; rest = e ∙ ap (rest_of v) (sym e) }
+
+pub opened_input : (bytes : List ℕ) (v w : View) → w ≡ with_left Input bytes v → OnlyReads v w
+unfolding rest_of
+opened_input bytes v w e = record { output = ap (λ (x : View). x.written.output) e; errors = ap (λ (x : View). x.written.errors) e; rest = e ∙ ap (rest_of v) (sym e) }
+
+pub only_input : (v w : View) → OnlySlot Input v w → OnlyReads v w
+only_input v w e = opened_input (left_of Input w) v w e
+
+-- what is written to Output leaves the rest
+pub output_rest : (bytes : List ℕ) (v w : View) → w ≡ with_written Output bytes v → KeepsRest v w
+unfolding rest_of
+output_rest bytes v w e = e ∙ ap (rest_of v) (sym e)
+
+-- a view keeps all of itself
+pub same_rest : (v w : View) → w ≡ v → KeepsRest v w
+unfolding rest_of
+same_rest v w e = e ∙ ap (rest_of v) (sym e)
+
+pub then_reads : (u v w : View) → OnlyReads u v → OnlyReads v w → OnlyReads u w
+then_reads u v w p q = record { output = q.output ∙ p.output; errors = q.errors ∙ p.errors; rest = rest_then u v w p.rest q.rest }
+
+pub then_same : (u v w : View) → OnlyReads u v → w ≡ v → OnlyReads u w
+then_same u v w p e =
+    record { output = ap (λ (x : View). x.written.output) e ∙ p.output; errors = ap (λ (x : View). x.written.errors) e ∙ p.errors; rest = rest_then u v w p.rest (same_rest v w e) }
+
+-- ---- what an answer leaves
+
+-- the answer creates no State, takes no link and uses no address
+abbrev pub IsPrinted : Answer → Type 0
+IsPrinted a = (a.state ≡ None) × (a.links ≡ []) × (a.address ≡ None)
+
+pub rest_left : (a : Answer) (v w : View) → IsPrinted a → KeepsRest v w → Leaves a v w
+rest_left a v w (no_state, no_links, no_address) rest = record {
+  files = ap (λ (x : View). x.files) rest;
+  moments = ap (λ (x : View). x.moments) rest;
+  state_name = ap (λ (x : View). x.state_name) rest ∙ ap (λ s. name_after s v.state_name) (sym no_state);
+  state = ap (λ (x : View). x.written.state) rest ∙ ap (λ s. bytes_after s v.written.state) (sym no_state);
+  links = ap (λ (x : View). x.written.links) rest ∙ sym (append-nil v.written.links) ∙ ap (λ (ls : List (List ℕ)). v.written.links ++ ls) (sym no_links);
+  address = ap (λ (x : View). x.address) rest ∙ ap (λ s. address_after s v.address) (sym no_address);
+}
+
+-- what is left is left after what keeps the rest
+pub left_then : (a : Answer) (v u w : View) → Leaves a v u → KeepsRest u w → Leaves a v w
+left_then a v u w left rest = record {
+  files = ap (λ (x : View). x.files) rest ∙ left.files;
+  moments = ap (λ (x : View). x.moments) rest ∙ left.moments;
+  state_name = ap (λ (x : View). x.state_name) rest ∙ left.state_name;
+  state = ap (λ (x : View). x.written.state) rest ∙ left.state;
+  links = ap (λ (x : View). x.written.links) rest ∙ left.links;
+  address = ap (λ (x : View). x.address) rest ∙ left.address;
+}

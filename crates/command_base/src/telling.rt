@@ -1,0 +1,43 @@
+//! How a run that stopped is told on Errors.
+ghost use Rattle.std.specs.Prelude.{◌≡◌, ◌≤◌};
+ghost use Rattle.tl_base.specs.Calls.{Told};
+ghost use Rattle.tl_base.specs.Causes.{Rose};
+ghost use Rattle.command_base.specs.Kept.{KeepsRest};
+ghost use Rattle.command_base.specs.Telling.{Reports, TellsLine};
+
+use crate::status::Status;
+use crate::stop::Stop;
+use tl_base::{Host, Out, write_out};
+
+/// Writes a line to Errors. A fault in writing it leaves the status.
+pub fn tell<H: Host>(host: &mut H, status: Status, line: &[u8]) -> Status
+    ensures status { result ≡ status }
+    ensures told { Told (H.state host.old).view (H.state host.new).view (TellsLine (Rose (H.state host.old).counts.writes (H.state host.new).counts.writes) line.now) }
+    ensures later { (H.state host.old).counts.writes ≤ (H.state host.new).counts.writes }
+    ensures others { (H.state host.new).counts.reads ≡ (H.state host.old).counts.reads }
+    ensures kept { Told (H.state host.old).view (H.state host.new).view KeepsRest }
+    ensures links { (H.state host.new).counts.links ≡ (H.state host.old).counts.links }
+{
+    let _ = write_out(host, Out::Errors, line);
+    status
+}
+
+/// Tells why a run stopped, and answers its status.
+pub fn report<H: Host>(host: &mut H, stop: &Stop) -> Status
+    ensures reports { Told (H.state host.old).view (H.state host.new).view (Reports (Rose (H.state host.old).counts.writes (H.state host.new).counts.writes) stop.now result) }
+    ensures later { (H.state host.old).counts.writes ≤ (H.state host.new).counts.writes }
+    ensures others { (H.state host.new).counts.reads ≡ (H.state host.old).counts.reads }
+    ensures kept { Told (H.state host.old).view (H.state host.new).view KeepsRest }
+    ensures links { (H.state host.new).counts.links ≡ (H.state host.old).counts.links }
+    ensures read { result ≡ Status.ReadFault → stop.now ≡ Stop.ReadFault }
+    ensures write { result ≡ Status.WriteFault → stop.now ≡ Stop.WriteFault }
+    ensures link { result ≡ Status.LinkFault → ⊥ }
+    ensures peer { result ≡ Status.PeerFault → ⊥ }
+{
+    match stop {
+        Stop::Refused(line) => tell(host, Status::Refused, line.as_bytes()),
+        Stop::ReadFault => tell(host, Status::ReadFault, b"tlbox: read fault\n"),
+        Stop::WriteFault => tell(host, Status::WriteFault, b"tlbox: write fault\n"),
+        Stop::Memory => tell(host, Status::Memory, b"tlbox: memory\n"),
+    }
+}

@@ -1,6 +1,0 @@
-use Rattle.std.proofs.Common.{◌∙◌, codes, decimal}
-use Rattle.commands.proofs.ListedLines.{regrouped}
-use Rattle.commands.proofs.listing.counts_line_of.Goals as goal
-
-pub returns : goal.returns
-returns c = c.in_ok-line.ensures.ok ∙ regrouped (codes "constructors ") (decimal c.args.constructors) (codes " functions ") (decimal c.args.functions) (codes "\n")

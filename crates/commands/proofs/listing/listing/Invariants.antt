@@ -1,5 +1,0 @@
-use Rattle.commands.proofs.ListedLines.{Listed}
-use Rattle.commands.proofs.listing.listing.Given as goal
-
-abbrev pub invariant-loop-i : goal.invariant-loop-i
-invariant-loop-i l = Listed l.schema.decls l.i l.text.items l.constructors l.functions

@@ -1,0 +1,4 @@
+pub mod OneReplay
+pub mod EachReplay
+pub mod Journals
+pub mod Reports

@@ -1,0 +1,7 @@
+//! The command over journals of updates: `replay`.
+#![tactic(auto)]
+
+mod fault;
+mod replay;
+
+pub use replay::replay_journal;

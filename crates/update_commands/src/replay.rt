@@ -1,0 +1,72 @@
+//! `replay`: a journal is loaded, its steps are made, and its report is written as they are.
+ghost use Rattle.std.specs.Prelude.{IsErrOf};
+ghost use Rattle.tl_base.specs.Calls.{Told};
+ghost use Rattle.tl_base.specs.Using.{MeetsFaults};
+ghost use Rattle.tl_base.specs.declared.counts.Kind.TheVariants as kinds;
+ghost use Rattle.command_base.specs.Jobs.{Works};
+ghost use Rattle.command_base.specs.Kept.{KeepsRest};
+ghost use Rattle.command_base.specs.Sound.{Answered, Fits, MeetsBothFaults};
+ghost use Rattle.update_commands.specs.Replay.{replay_job};
+ghost use Rattle.update_commands.specs.Replaying.{JournalFits, LoadsJournal, WritesReplay};
+
+use crate::fault::{LoadFault, load_stop, replay_stop};
+use command_base::Stop;
+use std::alloc::Global;
+use tl_base::{Bytes, Host, MemSource, Out, SinkOf, Slot, read_file};
+use update_replay::{PROFILE_TEXT, ReplayFault, World, replay_steps};
+
+/// The most bytes that a journal may have.
+const JOURNAL_BYTES: u32 = 33_554_432;
+
+// The journal's bytes, where the schema's text is the profile's.
+fn load_journal<H: Host>(
+    alloc: Global,
+    host: &mut H,
+    schema: &str,
+    journal: &str,
+) -> Result<Bytes, LoadFault>
+    ensures loads { Told (H.state host.old).view (H.state host.new).view (LoadsJournal schema.now journal.now result) }
+    ensures faults { MeetsFaults kinds.Reads (H.state host.old) (H.state host.new) (IsErrOf result LoadFault.ReadFault) (Answered (replay_job schema.now journal.now)) }
+{
+    let text = read_file(alloc, host, Slot::Schema, schema, PROFILE_TEXT.len() as u32)?;
+    if text.as_slice() != PROFILE_TEXT.as_bytes() {
+        return Err(LoadFault::Profile);
+    }
+    let bytes = read_file(alloc, host, Slot::Input, journal, JOURNAL_BYTES)?;
+    Ok(Bytes::from_vec(bytes))
+}
+
+// Makes the journal's steps, and writes their lines to Output.
+fn write_replay<H: Host>(alloc: Global, host: &mut H, journal: Bytes) -> Result<(), ReplayFault>
+    ensures writes { Told (H.state host.old).view (H.state host.new).view (WritesReplay journal result) }
+    ensures kept { Told (H.state host.old).view (H.state host.new).view KeepsRest }
+    ensures no_read { IsErrOf result ReplayFault.ReadFault → ⊥ }
+    ensures faults { MeetsFaults kinds.Writes (H.state host.old) (H.state host.new) (IsErrOf result ReplayFault.WriteFault) (JournalFits journal) }
+{
+    let mut world = World::new(alloc);
+    let mut from = MemSource::new(journal, Vec::new(alloc), Vec::new(alloc));
+    let mut to = SinkOf::new(host, Out::Output);
+    replay_steps(alloc, &mut world, &mut from, &mut to)?;
+    Ok(())
+}
+
+/// Replays the journal, and writes its report.
+pub fn replay_journal<H: Host>(
+    alloc: Global,
+    host: &mut H,
+    schema: &str,
+    journal: &str,
+) -> Result<(), Stop>
+    ensures works { Told (H.state host.old).view (H.state host.new).view (Works (replay_job schema.now journal.now) result) }
+    ensures kept { Told (H.state host.old).view (H.state host.new).view (replay_job schema.now journal.now).keeps }
+    ensures faults { MeetsBothFaults (H.state host.old) (H.state host.new) (IsErrOf result Stop.ReadFault) (IsErrOf result Stop.WriteFault) (Fits (replay_job schema.now journal.now)) }
+{
+    let bytes = match load_journal(alloc, host, schema, journal) {
+        Ok(bytes) => bytes,
+        Err(fault) => return Err(load_stop(alloc, fault)),
+    };
+    match write_replay(alloc, host, bytes) {
+        Ok(()) => Ok(()),
+        Err(fault) => Err(replay_stop(alloc, fault)),
+    }
+}
