@@ -12,3 +12,4 @@ pub mod ResolvedNames
 pub mod SomeParts
 pub mod FewParts
 pub mod NameMeanings
+pub mod BuiltMeants

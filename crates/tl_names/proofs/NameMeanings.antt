@@ -1,5 +1,5 @@
 -- What a name means, said by the declarations and not by numbers.
-use Rattle.std.proofs.Common.{◌≡◌, ◌≢◌, ℕ, Bool, true, false, ◌&&◌, ◌||◌, List, [], ◌∷◌, ◌++◌, bytes_eq, position, Option, Some, None, refl, ap, ap₂, sym, subst, ◌∙◌, if◌then◌else◌, true≢false}
+use Rattle.std.proofs.Common.{◌≡◌, ◌≢◌, ℕ, Bool, true, false, not, ◌&&◌, ◌||◌, List, [], ◌∷◌, ◌++◌, bytes_eq, position, Option, Some, None, refl, ap, ap₂, sym, subst, ◌∙◌, if◌then◌else◌, true≢false}
 use Rattle.std.specs.Prelude.{codes, is_some}
 use Rattle.std.specs.Bool.{Decides}
 use Rattle.std.specs.List.{fold, list_any, position_or_len}
@@ -7,14 +7,18 @@ use Rattle.std.proofs.lemmas.Bool.Decides.{Decides-and, Decides-like}
 use Rattle.std.proofs.lemmas.List.Folds.{list_any-append}
 use Rattle.std.proofs.lemmas.Option.{none-some, same_Some}
 use Rattle.std.proofs.lemmas.Slice.Eq.{bytes_eq-Decides}
+use Rattle.tl_combinators.specs.Trees.{Tree, named, percent, any_call}
 use Rattle.tl_combinators.specs.Program.{DeclText}
 use Rattle.tl_combinators.specs.BuiltIns.{built_in}
 use Rattle.tl_combinators.specs.declared.built_in.BuiltIn.{BuiltIn}
-use Rattle.tl_names.specs.Writing.{is_built_in, is_constructor, is_type_name, is_variable, own_type, result_head, IsConstructorNamed}
+use Rattle.tl_names.specs.Writing.{is_built_in, is_constructor, is_type_name, is_variable, own_type, head_in, result_head, IsConstructorNamed}
 use Rattle.tl_names.specs.NameLists.{with_name}
 use Rattle.tl_names.specs.Places.{is_type, types_of, with_type_of}
 use Rattle.tl_names.specs.Constructors.{FirstNamed, FirstOf}
-use Rattle.tl_names.specs.What.{base_what, constructor_named, constructor_what, declared_what, known_what, type_named, type_what, unless_built_in, unless_variable, variable_named, what_of}
+use Rattle.tl_names.specs.What.{base_what, constructor_named, constructor_what, declared_what, known_what, type_meant, type_named, type_what, unless_built_in, unless_variable, variable_named, what_of}
+use Rattle.tl_names.specs.Meants.{MeantView, meant}
+use Rattle.tl_names.specs.Meants as resolved
+use Rattle.tl_names.specs.MeantDecls.{head_number}
 use Rattle.tl_names.specs.declared.what.What.{What}
 use Rattle.tl_names.proofs.Places.{IsPlace, first_same}
 use Rattle.tl_names.proofs.Positions.{first_position, position_not_there, position_there}
@@ -123,7 +127,7 @@ pub data Means (ds : List DeclText) (d : DeclText) (name : List ℕ) : What → 
   boxed_vector : is_variable d name ≡ false → name ≡ codes "Vector" → Means ds d name (What.Vector true)
   type : (number first : ℕ) → is_variable d name ≡ false → is_built_in name ≡ false → is_type_name name ≡ true → type_named ds name ≡ Some number → FirstOf ds name (Some first) → Means ds d name (What.Type number)
   constructor : (index : ℕ) → is_variable d name ≡ false → is_built_in name ≡ false → is_type_name name ≡ false → FirstNamed ds name (Some index) → Means ds d name (What.Constructor index)
-  no_type : is_variable d name ≡ false → is_built_in name ≡ false → is_type_name name ≡ true → FirstOf ds name None → Means ds d name What.Unknown
+  no_type : is_variable d name ≡ false → is_built_in name ≡ false → is_type_name name ≡ true → type_named ds name ≡ None → FirstOf ds name None → Means ds d name What.Unknown
   no_constructor : is_variable d name ≡ false → is_built_in name ≡ false → is_type_name name ≡ false → FirstNamed ds name None → Means ds d name What.Unknown
 
 module _ (ds : List DeclText) (d : DeclText) (name : List ℕ) where
@@ -152,7 +156,7 @@ module _ (ds : List DeclText) (d : DeclText) (name : List ℕ) where
           by (Some number) at (Some first, is, e) = type number first v other upper at is
           by (Some number) at (None, is, e) = absurd (true≢false (sym e))
           by None at (Some first, is, e) = absurd (true≢false e)
-          by None at (None, is, e) = no_type v other upper is
+          by None at (None, is, e) = no_type v other upper at is
 
       is_constructor_of : is_type_name name ≡ false → (o : Option ℕ) → FirstNamed ds name o → Means ds d name (constructor_what o)
       is_constructor_of lower (Some index) is = constructor index v other lower is
@@ -185,3 +189,56 @@ module _ (ds : List DeclText) (d : DeclText) (name : List ℕ) where
           subst (λ o. Means ds d name (unless_variable o (known_what ds name))) (sym at) (variable (position_or_len (bytes_eq name) d.vars) e at)
       by false e =
           subst (λ o. Means ds d name (unless_variable o (known_what ds name))) (sym (position_not_there (bytes_eq name) d.vars e)) (is_known e)
+
+-- ---- the type that a declaration constructs
+
+is_lower : (name lower : List ℕ) → is_type_name name ≡ true → is_type_name lower ≡ false → bytes_eq name lower ≡ false
+is_lower name lower upper e = by (bytes_eq name lower) refl
+  where
+    by : (b : Bool) → bytes_eq name lower ≡ b → bytes_eq name lower ≡ false
+    by true h = absurd (true≢false (sym upper ∙ ap is_type_name ((bytes_eq-Decides name lower).0 h) ∙ e))
+    by false h = h
+
+-- no built-in bare type has a type's name
+upper_no_base : (name : List ℕ) → is_type_name name ≡ true → built_in name ≡ None
+upper_no_base name up =
+    rw (is_lower name (codes "int") up refl, is_lower name (codes "long") up refl, is_lower name (codes "double") up refl, is_lower name (codes "string") up refl, is_lower name (codes "bytes") up refl, is_lower name (codes "vector") up refl, is_lower name (codes "int128") up refl, is_lower name (codes "int256") up refl) refl
+
+module _ (ds : List DeclText) (d : DeclText) (name : List ℕ) where
+  abbrev pub head_by : Bool → Bool → Option ℕ
+  head_by upper taken = head_number ds (if upper && not taken then Some name else None)
+
+  no_head : (b : Bool) → None ≡ head_by b true
+  no_head true = refl
+  no_head false = refl
+
+  lower_base : (b : BuiltIn) → built_in name ≡ Some b → (upper taken : Bool) → is_type_name name ≡ upper → None ≡ head_by upper taken
+  lower_base b at true taken up = absurd (none-some b (sym (upper_no_base name up) ∙ at))
+  lower_base b at false taken low = refl
+
+  head_meant : (what : What) → Means ds d name what → type_meant ds what ≡ head_by (is_type_name name) (is_variable d name)
+  head_meant _ (variable index v at) = no_head (is_type_name name) ∙ sym (ap (head_by (is_type_name name)) v)
+  head_meant _ (base b v k at other) = lower_base b at (is_type_name name) (is_variable d name) refl
+  head_meant _ (bare_vector v e) = sym (ap (λ u. head_by u (is_variable d name)) (ap is_type_name e))
+  head_meant _ (boxed_vector v e) = ap (type_named ds) (sym e) ∙ sym (ap₂ head_by (ap is_type_name e) v)
+  head_meant _ (type number first v k up at is) = sym at ∙ sym (ap₂ head_by up v)
+  head_meant _ (constructor index v k low is) = sym (ap₂ head_by low v)
+  head_meant _ (no_type v k up at is) = sym at ∙ sym (ap₂ head_by up v)
+  head_meant _ (no_constructor v k low is) = sym (ap₂ head_by low v)
+
+-- the number of the type that a declaration constructs is that of what its result begins with
+abbrev pub head_in_meant : List DeclText → MeantView → Option ℕ
+head_in_meant ds (resolved.named what ms) = type_meant ds what
+head_in_meant ds (resolved.percent m) = None
+head_in_meant ds resolved.any_call = None
+
+result_meant : (ds : List DeclText) (d : DeclText) (t : Tree) → head_in_meant ds (meant ds d t) ≡ head_number ds (head_in d t)
+result_meant ds d (named name ts) = head_meant ds d name (what_of ds d name) (means ds d name)
+result_meant ds d (percent t) = refl
+result_meant ds d any_call = refl
+
+pub own_meant : (ds : List DeclText) (d : DeclText) → is_constructor d ≡ true → head_in_meant ds (meant ds d d.result) ≡ head_number ds (own_type d)
+own_meant ds d own = result_meant ds d d.result ∙ sym (ap (λ b. head_number ds (if b then result_head d else None)) own)
+
+pub no_own : (ds : List DeclText) (d : DeclText) → is_constructor d ≡ false → None ≡ head_number ds (own_type d)
+no_own ds d other = sym (ap (λ b. head_number ds (if b then result_head d else None)) other)

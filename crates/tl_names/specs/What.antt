@@ -62,3 +62,13 @@ unless_variable None what = what
 -- what the name means where d writes it
 abbrev pub what_of : List DeclText → DeclText → List ℕ → What
 what_of ds d name = unless_variable (variable_named d name) (known_what ds name)
+
+-- the number of the type that is meant, where a constructor makes one; `Vector` may have constructors too
+abbrev pub type_meant : List DeclText → What → Option ℕ
+type_meant ds (What.Variable index) = None
+type_meant ds (What.Base b) = None
+type_meant ds (What.Vector false) = None
+type_meant ds (What.Vector true) = type_named ds (codes "Vector")
+type_meant ds (What.Type number) = Some number
+type_meant ds (What.Constructor index) = None
+type_meant ds What.Unknown = None

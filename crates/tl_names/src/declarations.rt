@@ -2,15 +2,16 @@
 ghost use Rattle.std.specs.Prelude.{◌≡◌, ◌≤◌, IfOk, length, map};
 ghost use Rattle.tl_combinators.specs.Program.{HasFewParts, IsWithinLimits, decl_text, part_limit, program_text};
 ghost use Rattle.tl_names.specs.MeantDecls.{head_number, meant_decl};
-ghost use Rattle.tl_names.specs.MeantViews.{NumbersNames, decl_view};
+ghost use Rattle.tl_names.specs.Meants.{meant};
+ghost use Rattle.tl_names.specs.MeantViews.{NumbersNames, decl_view, meant_view};
 ghost use Rattle.tl_names.specs.Writing.{own_type};
 
 use crate::fields::{asked_names, meant_fields};
 use crate::index::Index;
-use crate::meant::MeantDecl;
+use crate::meant::{Meant, MeantDecl};
 use crate::names::Names;
 use crate::types::meant_type;
-use crate::writing::own_type;
+use crate::writing::is_constructor;
 use std::alloc::{AllocError, Global};
 use tl_base::Bytes;
 use tl_combinators::{Decl, Program};
@@ -37,13 +38,14 @@ fn meant_decl(alloc: Global, index: &Index, decl: &Decl) -> Result<MeantDecl, Al
 {
     let vars = numbered(alloc, &decl.vars)?;
     let names = asked_names(alloc, &decl.fields)?;
+    let result = meant_type(alloc, index, &vars, &decl.result)?;
     Ok(MeantDecl {
         vars: decl.vars.len() as u32,
         fields: meant_fields(alloc, index, &vars, &names, &decl.fields)?,
-        result: meant_type(alloc, index, &vars, &decl.result)?,
         function: decl.function,
         builtin: decl.builtin,
-        head: head_of(index, decl),
+        head: head_of(index, decl, &result),
+        result,
     })
 }
 
@@ -59,12 +61,17 @@ fn numbered(alloc: Global, names: &[Bytes]) -> Result<Names, AllocError>
     Ok(numbers)
 }
 
-// The number of the type that a declaration constructs.
-fn head_of(index: &Index, decl: &Decl) -> Option<u32>
+// The number of the type that a declaration constructs, by what its result means.
+fn head_of(index: &Index, decl: &Decl, resolved: &Meant) -> Option<u32>
+    requires { meant_view resolved.now ≡ meant index.now (decl_text decl.now) (decl_text decl.now).result }
     ensures { result ≡ head_number index.now (own_type (decl_text decl.now)) }
 {
-    match own_type(decl) {
-        Some(name) => index.type_number(name),
-        None => None,
+    if !is_constructor(decl) {
+        return None;
+    }
+    match resolved {
+        Meant::Named { what, .. } => index.type_meant(*what),
+        Meant::Percent { .. } => None,
+        Meant::AnyCall => None,
     }
 }

@@ -5,7 +5,7 @@ ghost use Rattle.tl_names.specs.Constructors.{AreConstructors};
 ghost use Rattle.tl_names.specs.Indexed.{AreNumbered, Changes, IndexesNames, IndexesTypes, one_more};
 ghost use Rattle.tl_names.specs.NamePlaces.{place_in};
 ghost use Rattle.tl_names.specs.Places.{types_of};
-ghost use Rattle.tl_names.specs.What.{base_what, constructor_named, declared_what, known_what, type_named, unless_variable};
+ghost use Rattle.tl_names.specs.What.{base_what, constructor_named, declared_what, known_what, type_meant, type_named, unless_variable};
 ghost use Rattle.tl_names.specs.Writing.{own_type};
 
 use crate::names::Names;
@@ -112,6 +112,17 @@ impl Index {
                 Some(index) => What::Constructor { index },
                 None => What::Unknown,
             }
+        }
+    }
+
+    /// The number of the type that a name means, where a constructor makes one.
+    pub fn type_meant(&self, what: What) -> Option<u32>
+        ensures { result ≡ type_meant self.now what }
+    {
+        match what {
+            What::Type { number } => Some(number),
+            What::Vector { is_boxed: true } => self.type_number(b"Vector".as_slice()),
+            _ => None,
         }
     }
 
