@@ -1,9 +1,8 @@
 -- What is read was spelled, and what fails was refused.
-use Rattle.std.proofs.Common.{◌≡◌, ℕ, zero, suc, ◌+◌, ◌^◌, ◌≤◌, ◌<◌, List, [], ◌∷◌, ◌++◌, append_assoc, append-nil, length, Option, Some, Ok, Err, refl, sym, ap, ◌∙◌, subst, arith, false, eqb, inl, inr}
+use Rattle.std.proofs.Common.{◌≡◌, ℕ, zero, suc, ◌+◌, ◌^◌, ◌≤◌, ◌<◌, List, [], ◌∷◌, ◌++◌, append_assoc, append-nil, length, Option, Some, Ok, Err, refl, sym, ap, ◌∙◌, arith, false, eqb, inl, inr}
 use Rattle.std.proofs.lemmas.List.{length-append}
 use Rattle.std.proofs.lemmas.Bool.{eqb-true, eqb-false}
 use Rattle.tl_base.specs.Contents.{AreBytes}
-use Rattle.tl_types.specs.declared.fault.Cause.{Cause}
 use Rattle.tl_types.specs.PlainTypes.{PlainShape}
 use Rattle.tl_types.specs.PlainTypes as shape
 use Rattle.tl_types.specs.Values.{Tree, Trees, no_trees, tree, trees_of, depth, depth_of}
