@@ -3,7 +3,6 @@ use Rattle.std.proofs.Common.{◌≡◌, ℕ, zero, suc, ◌+◌, ◌^◌, ◌�
 use Rattle.std.proofs.lemmas.List.{length-append}
 use Rattle.std.proofs.lemmas.Bool.{eqb-true, eqb-false}
 use Rattle.tl_base.specs.Contents.{AreBytes}
-use Rattle.plain_values.specs.declared.fault.Cause.{Cause}
 use Rattle.plain_values.specs.PlainTypes.{PlainShape}
 use Rattle.plain_values.specs.PlainTypes as shape
 use Rattle.plain_values.specs.Values.{Tree, Trees, no_trees, tree, trees_of, depth, depth_of}
