@@ -4,7 +4,7 @@ use Rattle.std.specs.Prelude.{IsErrAnd}
 use Rattle.std.proofs.lemmas.List.{length-append}
 use Rattle.std.proofs.lemmas.Bool.{cases_lt}
 use Rattle.tl_base.specs.Outside.{View, HasFile, left_of}
-use Rattle.tl_base.specs.Hosted.{OnlySlot, ReadsFile}
+use Rattle.tl_base.specs.Hosted.{ReadsFile}
 use Rattle.tl_base.specs.Calls.{Told, Opens}
 use Rattle.tl_base.specs.declared.host.Slot.TheVariants.{Schema, Input}
 use Rattle.tl_base.specs.declared.source.TextFault.{TextFault}
@@ -28,7 +28,6 @@ use Rattle.codec_commands.specs.declared.whole.InputFault.TheVariants as input
 use Rattle.codec_commands.specs.declared.schema_text.SchemaTextFault.{SchemaTextFault}
 use Rattle.codec_commands.specs.declared.schema_text.SchemaTextFault.TheVariants as spelled
 use Rattle.codec_commands.specs.declared.schema_text.SchemaFault.{SchemaFault}
-use Rattle.codec_commands.specs.declared.schema_text.SchemaFault.TheVariants as loading
 use Rattle.tl_lexer.specs.declared.fault.LexFault.{LexFault}
 use Rattle.tl_lexer.specs.Lexed.{Lexes}
 use Rattle.codec_commands.specs.Faults.{of_text, of_lex, of_syntax, of_check, of_schema}

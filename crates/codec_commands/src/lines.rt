@@ -111,9 +111,7 @@ pub fn type_line(alloc: Global, cause: TypeNameCause) -> Result<String, AllocErr
 {
     match cause {
         TypeNameCause::Text { cause } => text_line(alloc, "type", cause),
-        TypeNameCause::Checked { cause } => {
-            unplaced_line(alloc, "type", type_cause_name(cause))
-        }
+        TypeNameCause::Checked { cause } => { unplaced_line(alloc, "type", type_cause_name(cause)) }
         TypeNameCause::NotYetBuilt => unplaced_line(alloc, "type", "NotYetBuilt"),
     }
 }

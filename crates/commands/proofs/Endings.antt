@@ -1,5 +1,5 @@
 -- How a run ends, from how its job ended and what was told.
-use Rattle.std.proofs.Common.{◌≡◌, ℕ, List, [], ◌++◌, append-nil, Option, Some, None, Result, Ok, Err, refl, sym, ap, ◌∙◌, subst, inl, inr, string_bytes}
+use Rattle.std.proofs.Common.{◌≡◌, ℕ, List, [], ◌++◌, append-nil, Option, Some, None, Ok, Err, refl, sym, ap, ◌∙◌, subst, inl, inr, string_bytes}
 use Rattle.std.specs.Prelude.{IfSome, IsErrOf, ◌⊎◌}
 use Rattle.tl_base.specs.Outside.{View}
 use Rattle.tl_base.specs.Calls.{Told}
@@ -7,7 +7,6 @@ use Rattle.command_base.specs.declared.stop.Stop.{Stop}
 use Rattle.command_base.specs.declared.stop.Stop.TheVariants as stop
 use Rattle.command_base.specs.declared.status.Status.{Status}
 use Rattle.command_base.specs.declared.status.Status.TheVariants as status
-use Rattle.command_base.specs.Answer.{Answer}
 use Rattle.command_base.specs.Jobs.{Works, WritesSomeOf}
 use Rattle.command_base.specs.Kept.{KeepsRest}
 use Rattle.command_base.specs.Sound.{Fits}

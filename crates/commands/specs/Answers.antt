@@ -3,7 +3,6 @@ use Rattle.std.specs.Prelude.{◌≡◌, ℕ, List, codes}
 use Rattle.tl_base.specs.Contents.{HoldBytes}
 use Rattle.tl_base.specs.Outside.{View}
 use Rattle.command_base.specs.Answer.{Answer, misused}
-use Rattle.command_base.specs.Jobs.{Job}
 use Rattle.commands.specs.Requests.{RequestText, AsksFor, AsksNothing, HasFilesOf, job_of}
 
 abbrev pub usage_line : List ℕ

@@ -1,11 +1,10 @@
 -- How a run ends. This project's own.
-use Rattle.std.specs.Prelude.{◌≡◌, ℕ, ◌≤◌, List, ◌++◌, ◌⊎◌, length}
+use Rattle.std.specs.Prelude.{◌≡◌, ℕ, List, ◌++◌, ◌⊎◌, length}
 use Rattle.tl_base.specs.Outside.{View, HasRoom}
 use Rattle.tl_base.specs.declared.host.Out.TheVariants.{Output}
 use Rattle.command_base.specs.declared.status.Status.{Status}
 use Rattle.command_base.specs.declared.status.Status.TheVariants.{ReadFault, WriteFault, Memory}
 use Rattle.command_base.specs.Answer.{Answer, read_fault_line, write_fault_line, memory_line}
-use Rattle.command_base.specs.Jobs.{Job}
 use Rattle.command_base.specs.Kept.{KeepsRest, AddsPrefix, Leaves}
 use Rattle.command_base.specs.Telling.{Tells}
 use Rattle.commands.specs.Requests.{RequestText, AsksFor, AsksNothing, job_of}

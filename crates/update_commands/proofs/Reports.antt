@@ -1,6 +1,6 @@
 -- A journal's replay, written to Output.
 use Rattle.std.proofs.Common.{◌≡◌, ℕ, ◌+◌, ◌<◌, ◌≤◌, List, [], ◌∷◌, ◌++◌, append-nil, zero, suc, length, get_or, Option, Some, None, Result, Ok, Err, Bool, refl, sym, ap, ◌∙◌, subst, arith, inl, inr}
-use Rattle.std.specs.Prelude.{IfSome, IsSome, IsTrue, IsErrOf, IsErrAnd, ◌⊎◌}
+use Rattle.std.specs.Prelude.{IfSome, IsSome, IsTrue, IsErrOf, IsErrAnd}
 use Rattle.std.proofs.lemmas.Bool.{cases_lt}
 use Rattle.tl_base.specs.Contents.{AreBytes, HoldBytes}
 use Rattle.tl_base.specs.Outside.{View, HostState, ShowsBytes, written_of, with_written}
