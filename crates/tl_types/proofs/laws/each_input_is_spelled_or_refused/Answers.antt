@@ -1,0 +1,4 @@
+use Rattle.tl_types.proofs.laws.each_input_is_spelled_or_refused.Goals as goal
+
+pub returns : goal.returns
+returns c = ?
