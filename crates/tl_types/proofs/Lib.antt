@@ -5,3 +5,5 @@ pub mod Texts
 pub mod Records
 pub mod Lists
 pub mod Spelling
+pub mod FormedParts
+pub mod Refusal

@@ -1,9 +1,10 @@
 -- The declaration with a number: whether it is found.
-use Rattle.std.proofs.Common.{◌≡◌, ◌≢◌, ℕ, zero, suc, ◌+◌, ◌<◌, ◌^◌, List, [], ◌∷◌, Option, Some, None, refl, ap, sym, ◌∙◌, arith, Bool, true, false, true≢false, eqb, ◌&&◌}
+use Rattle.std.proofs.Common.{◌≡◌, ◌≢◌, ℕ, zero, suc, ◌+◌, ◌<◌, ◌^◌, List, [], ◌∷◌, length, Option, Some, None, refl, ap, sym, ◌∙◌, arith, Bool, true, false, true≢false, eqb, ◌&&◌}
 use Rattle.std.specs.Prelude.{slice_get}
 use Rattle.std.proofs.lemmas.Bool.{eqb-true, eq-eqb}
 use Rattle.tl_base.specs.declared.numbers.TheConstants.{PACKED}
 use Rattle.tl_schema.specs.Schemas.{Slot, Declaration, Declared}
+use Rattle.tl_schema.specs.Meanings.{types_of}
 use Rattle.tl_schema.specs.Formed.{IsMember, IsFunction}
 use Rattle.tl_types.specs.Refusal.{IsMemberNumber, IsFunctionNumber}
 use Rattle.tl_types.specs.Reading.{first_from, is_member, is_function, fields_in}
@@ -59,19 +60,19 @@ finds_none test (e ∷ ds) j none =
 
 -- one passes, or none does
 pub data Sought (test : Declaration → Bool) (ds : List Declaration) : Type 0 where
-  one : (i : ℕ) (d : Declaration) → slice_get ds i ≡ Some d → test d ≡ true → Sought test ds
-  none : ((i : ℕ) (d : Declaration) → slice_get ds i ≡ Some d → test d ≡ true → ⊥) → Sought test ds
+  found : (i : ℕ) (d : Declaration) → slice_get ds i ≡ Some d → test d ≡ true → Sought test ds
+  not_found : ((i : ℕ) (d : Declaration) → slice_get ds i ≡ Some d → test d ≡ true → ⊥) → Sought test ds
 
 pub seek : (test : Declaration → Bool) (ds : List Declaration) → Sought test ds
-seek test [] = none (λ i d there is. none_is_some d there)
+seek test [] = not_found (λ i d there is. none_is_some d there)
 seek test (e ∷ ds) =
     by_test (test e)
-    (λ is. one 0 e refl is)
+    (λ is. found 0 e refl is)
     (λ other. after (seek test ds) other)
   where
     after : Sought test ds → test e ≡ false → Sought test (e ∷ ds)
-    after (one i d there is) other = one (suc i) d there is
-    after (none not_there) other = none no_one
+    after (found i d there is) other = found (suc i) d there is
+    after (not_found not_there) other = not_found no_one
       where
         no_one : (i : ℕ) (d : Declaration) → slice_get (e ∷ ds) i ≡ Some d → test d ≡ true → ⊥
         no_one zero d there is = true≢false (sym is ∙ ap test (sym (some_is e d there)) ∙ other)
@@ -100,3 +101,17 @@ module _ (schema : Declared) (tell : NumbersTell schema) where
         let both = both_of _ _ p.2 in
         tell.functions k i p.0 d (record { there = p.1; function = both.0 }) m (eqb-true _ _ both.1))
       ∙ ap Some (omega arith)
+
+  pub no_member : (h w : ℕ) → h < length (types_of schema.program) → (IsMemberNumber schema h w → ⊥) → first_from (is_member h w) 0 schema.decls ≡ None
+  no_member h w known none =
+      finds_none (is_member h w) schema.decls 0
+      (λ i p.
+        let both = both_of _ _ p.2 in
+        none (i, p.0, record { there = p.1; head = eqb-true _ _ both.0; known = known }, eqb-true _ _ both.1))
+
+  pub no_function : (w : ℕ) → (IsFunctionNumber schema w → ⊥) → first_from (is_function w) 0 schema.decls ≡ None
+  no_function w none =
+      finds_none (is_function w) schema.decls 0
+      (λ i p.
+        let both = both_of _ _ p.2 in
+        none (i, p.0, record { there = p.1; function = both.0 }, eqb-true _ _ both.1))
