@@ -7,3 +7,5 @@ pub mod Lists
 pub mod Spelling
 pub mod FormedParts
 pub mod Refusal
+pub mod Deciding
+pub mod Reading

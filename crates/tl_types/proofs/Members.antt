@@ -85,6 +85,11 @@ fields_there (e ∷ ds) (suc i) d there = fields_there ds i d there
 
 -- ---- constructors of a type, and functions
 
+-- a declaration of this kind has the number w, or none has
+pub data SoughtNumber (Is : ℕ → Declaration → Type 0) (w : ℕ) : Type 0 where
+  has : (i : ℕ) (d : Declaration) → Is i d → d.number ≡ w → SoughtNumber Is w
+  lacks : ((i : ℕ) × (d : Declaration) × Is i d × (d.number ≡ w) → ⊥) → SoughtNumber Is w
+
 module _ (schema : Declared) (tell : NumbersTell schema) where
   pub member_found : (h i : ℕ) (d : Declaration) → IsMember schema h i d → first_from (is_member h d.number) 0 schema.decls ≡ Some i
   member_found h i d m =
@@ -115,3 +120,19 @@ module _ (schema : Declared) (tell : NumbersTell schema) where
       (λ i p.
         let both = both_of _ _ p.2 in
         none (i, p.0, record { there = p.1; function = both.0 }, eqb-true _ _ both.1))
+
+  -- a constructor of the type with the number w, or none
+  pub seek_member : (h w : ℕ) → h < length (types_of schema.program) → SoughtNumber (IsMember schema h) w
+  seek_member h w known = told (seek (is_member h w) schema.decls)
+    where
+      told : Sought (is_member h w) schema.decls → SoughtNumber (IsMember schema h) w
+      told (found i d there is) = let both = both_of _ _ is in has i d (record { there = there; head = eqb-true _ _ both.0; known = known }) (eqb-true _ _ both.1)
+      told (not_found no_one) = lacks (λ m. no_one m.0 m.1 m.2.there (both_true _ _ (eq-eqb _ _ m.2.head) (eq-eqb _ _ m.3)))
+
+  -- a function with the number w, or none
+  pub seek_function : (w : ℕ) → SoughtNumber (IsFunction schema) w
+  seek_function w = told (seek (is_function w) schema.decls)
+    where
+      told : Sought (is_function w) schema.decls → SoughtNumber (IsFunction schema) w
+      told (found i d there is) = let both = both_of _ _ is in has i d (record { there = there; function = both.0 }) (eqb-true _ _ both.1)
+      told (not_found no_one) = lacks (λ m. no_one m.0 m.1 m.2.there (both_true _ _ m.2.function (eq-eqb _ _ m.3)))
