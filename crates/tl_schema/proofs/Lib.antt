@@ -62,3 +62,4 @@ mod EmptyArguments
 pub mod OneSchema
 pub mod OneType
 mod TypeSteps
+pub mod ClosedFormed
