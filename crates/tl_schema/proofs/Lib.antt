@@ -62,3 +62,10 @@ mod EmptyArguments
 pub mod OneSchema
 pub mod OneType
 mod TypeSteps
+pub mod ClosedFormed
+mod TypePlaces
+mod BuiltInNames
+pub mod Members
+pub mod FormedTypes
+pub mod FieldsFormed
+pub mod AskedFormed

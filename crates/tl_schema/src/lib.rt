@@ -12,6 +12,7 @@ mod empty_element;
 mod entries;
 mod fault;
 mod index;
+mod laws;
 mod meanings;
 mod names;
 mod not_bare;
@@ -31,5 +32,6 @@ mod wrong_arity;
 
 pub use checks::check;
 pub use fault::{CheckCause, CheckFault, TypeCause, TypeFault};
+pub use laws::{closing_keeps_formed, fields_are_formed};
 pub use schema::{Entry, Schema, SchemaField, TypeRef};
 pub use types::type_of;

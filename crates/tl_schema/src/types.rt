@@ -1,8 +1,10 @@
 //! Types by their texts.
-ghost use Rattle.std.specs.Prelude.{◌≡◌, ◌<◌, ◌^◌, length};
+ghost use Rattle.std.specs.Prelude.{◌≡◌, ◌<◌, ◌^◌, IfOk, length};
 ghost use Rattle.tl_combinators.specs.Trees.{view};
 ghost use Rattle.tl_combinators.specs.Program.{decl_text, program_text};
+ghost use Rattle.tl_schema.specs.Seen.{shape};
 ghost use Rattle.tl_schema.specs.Meanings.{IsSmall};
+ghost use Rattle.tl_schema.specs.Formed.{IsFormed};
 ghost use Rattle.tl_schema.specs.AskedTypes.{ChecksType, NamesType, PassesType, asker};
 
 use crate::empty_element::has_empty_argument;
@@ -20,7 +22,8 @@ use tl_lexer::lex;
 
 /// The type that a text names: a closed type of the schema, or `!` for a call of any of its functions.
 pub fn type_of(alloc: Global, schema: &Schema, text: &[u8]) -> Result<TypeRef, TypeFault>
-    ensures { NamesType schema.now.program text.now result }
+    ensures names { NamesType schema.now.program text.now result }
+    ensures formed { IfOk result (λ t. IsFormed schema.now (shape t)) }
 {
     let tokens = lex(alloc, text)?;
     let tree = parse_type(alloc, text, &tokens)?;
