@@ -1,12 +1,12 @@
 -- In a schema each field has a good condition, and is a flag or has a formed type.
-use Rattle.std.proofs.Common.{◌≡◌, ◌⊎◌, inl, inr, ℕ, ◌+◌, ◌-◌, ◌<◌, Bool, true, false, List, length, map, slice_get, bytes_eq, Option, Some, None, refl, ap, sym, ◌∙◌, subst, arith, if◌then◌else◌}
+use Rattle.std.proofs.Common.{◌≡◌, ◌⊎◌, inl, inr, ℕ, ◌+◌, ◌-◌, ◌<◌, ◌&&◌, not, Bool, true, false, List, length, map, slice_get, bytes_eq, Option, Some, None, refl, ap, sym, ◌∙◌, subst, arith, if◌then◌else◌}
 use Rattle.std.specs.Option.{option_map}
 use Rattle.std.proofs.lemmas.Bool.{cases_order}
 use Rattle.std.proofs.lemmas.Option.{none-some, same_Some, slice_get_cases, slice_get-map}
 use Rattle.std.proofs.lemmas.Slice.Eq.{bytes_eq-Decides}
 use Rattle.tl_combinators.specs.Trees.{Tree, named, percent, any_call}
 use Rattle.tl_combinators.specs.Program.{KindText, nat, flag, call, of, CondText, FieldText, DeclText}
-use Rattle.tl_schema.specs.Writing.{At, FieldAt, HeldBy, InFields, Writes}
+use Rattle.tl_schema.specs.Writing.{At, is_function, FieldAt, HeldBy, InFields, Writes}
 use Rattle.tl_schema.specs.SameName.{part_names}
 use Rattle.tl_schema.specs.SameName as same_name
 use Rattle.tl_schema.specs.UnknownVariable.{NamesVariable, in_field}
@@ -34,6 +34,10 @@ field_of ds d k f at = elim (slice_get_cases d.fields k).1 [
   | inl (g, below, here, is) ↦ (g, here, same_Some (slot_of ds d g) f (sym (slice_get_made (slot_of ds d) d.fields k g here) ∙ at))
   | inr (past, none) ↦ absurd (none-some f (sym (slice_get-map (slot_of ds d) d.fields k ∙ ap (option_map (slot_of ds d)) none) ∙ at))
 ]
+
+both_first : (a b : Bool) → (a && b) ≡ true → a ≡ true
+both_first true b e = refl
+both_first false b e = e
 
 module _ (schema : Declared) (good : IsSchema schema) (i : ℕ) (d : DeclText) (here : At schema.program i d) where
   -- ---- conditions
@@ -142,14 +146,14 @@ module _ (schema : Declared) (good : IsSchema schema) (i : ℕ) (d : DeclText) (
     variable_below (percent t) is = absurd is
     variable_below any_call is = absurd is
 
-    below_by : (b : Bool) → d.function ≡ b → (u : Tree) → InFields d u → NamesVariable d u → variable_of d (type_name u) < (if b then 0 else length d.vars)
-    below_by true e u part is = absurd (no_variable e u part is)
+    below_by : (b : Bool) → is_function d ≡ b → (u : Tree) → InFields d u → NamesVariable d u → variable_of d (type_name u) < (if b then 0 else length d.vars)
+    below_by true e u part is = absurd (no_variable (both_first d.function (not d.builtin) e) u part is)
     below_by false e u part is = variable_below u is
 
     field_formed : (m k : ℕ) (g : FieldText) → FieldAt d k g → IsFormedField schema (declaration_of schema.program d m) k (slot_of schema.program d g)
     field_formed m k g at = record {
       cond = condition k g.cond (λ h. flags i (record { d = d; here = here; has = record { i = k; f = g; field = at; bad = h } }));
-      type = kind_formed (if d.function then 0 else length d.vars) (below_by d.function refl) k g at g.kind refl;
+      type = kind_formed (if is_function d then 0 else length d.vars) (below_by (is_function d) refl) k g at g.kind refl;
     }
 
 pub fields_are_formed : FieldsAreFormed
