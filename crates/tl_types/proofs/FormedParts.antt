@@ -5,7 +5,7 @@ use Rattle.tl_schema.specs.Types as type
 use Rattle.tl_schema.specs.Closing.{closed, list_of_shapes}
 use Rattle.tl_schema.specs.Schemas.{Slot, Declaration, Declared}
 use Rattle.tl_schema.specs.CheckedPrograms.{IsSchema}
-use Rattle.tl_schema.specs.Formed.{IsMember, IsFunction, IsFormed, AreArguments, count_of, field_variables}
+use Rattle.tl_schema.specs.Formed.{IsMember, IsFunction, IsOwn, IsFormed, AreArguments, count_of, field_variables}
 use Rattle.tl_schema.specs.FormedLaws.{FieldsAreFormed, ClosingKeepsFormed}
 use Rattle.tl_types.specs.Reading.{is_deep}
 use Rattle.tl_types.proofs.Members.{NumbersTell, some_is}
@@ -36,8 +36,8 @@ pub others_read : (schema : Declared) (args : List Shape) (f : Slot) (fs : List 
 others_read schema args f fs read k g at = read (suc k) g at
 
 module _ (fields : FieldsAreFormed) (closing : ClosingKeepsFormed) (schema : Declared) (good : IsSchema schema) (tell : NumbersTell schema) where
-  declared_read : (i : ℕ) (d : Declaration) (args : Shapes) → slice_get schema.decls i ≡ Some d → count_of args ≡ field_variables d → AreArguments schema 0 args → AreRead schema (list_of_shapes args) d.fields
-  declared_read i d args there count arguments k f at = elim (fields schema good i d k f there at).type [
+  declared_read : (i : ℕ) (d : Declaration) (args : Shapes) → IsOwn schema i → slice_get schema.decls i ≡ Some d → count_of args ≡ field_variables d → AreArguments schema 0 args → AreRead schema (list_of_shapes args) d.fields
+  declared_read i d args own there count arguments k f at = elim (fields schema good i d k f own there at).type [
     | inl flag ↦ inl (ap (closed (list_of_shapes args)) flag)
     | inr formed ↦ inr (closing schema (field_variables d) 0 args f.of count arguments formed).formed
   ]
@@ -49,17 +49,17 @@ module _ (fields : FieldsAreFormed) (closing : ClosingKeepsFormed) (schema : Dec
   no_variables d is = rw is refl
 
   boxed_read : (h i : ℕ) (d : Declaration) (args : Shapes) → IsFormed schema (type.boxed h args) → IsMember schema h i d → AreRead schema (list_of_shapes args) d.fields
-  boxed_read h i d args formed m = declared_read i d args m.there (sym (formed.0.arity i d m) ∙ sym (own_variables d (tell.constructs h i d m))) formed.1
+  boxed_read h i d args formed m = declared_read i d args (tell.own_members h i d m) m.there (sym (formed.0.arity i d m) ∙ sym (own_variables d (tell.constructs h i d m))) formed.1
 
   bare_read : (i : ℕ) (d : Declaration) (args : Shapes) → IsFormed schema (type.bare i args) → slice_get schema.decls i ≡ Some d → AreRead schema (list_of_shapes args) d.fields
   bare_read i d args formed there =
       let a = formed.0 in
       let same : a.d ≡ d = some_is a.d d (sym a.member.there ∙ there) in
       let count : count_of args ≡ field_variables a.d = sym a.arity ∙ sym (own_variables a.d (tell.constructs a.h i a.d a.member)) in
-      declared_read i d args there (count ∙ ap field_variables same) formed.1
+      declared_read i d args (tell.own_members a.h i a.d a.member) there (count ∙ ap field_variables same) formed.1
 
   call_read : (i : ℕ) (d : Declaration) → IsFunction schema i d → AreRead schema [] d.fields
-  call_read i d m = declared_read i d no_shapes m.there (sym (no_variables d m.function)) tt
+  call_read i d m = declared_read i d no_shapes (tell.own_functions i d m) m.there (sym (no_variables d m.function)) tt
 
   pub parts_tell : PartsTell schema
   parts_tell = record { numbers = tell; boxed = boxed_read; bare = bare_read; call = call_read }

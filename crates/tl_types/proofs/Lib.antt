@@ -9,3 +9,5 @@ pub mod FormedParts
 pub mod Refusal
 pub mod Deciding
 pub mod Reading
+pub mod SchemaNumbers
+pub mod Exactly

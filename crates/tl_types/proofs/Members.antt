@@ -5,7 +5,7 @@ use Rattle.std.proofs.lemmas.Bool.{eqb-true, eq-eqb}
 use Rattle.tl_base.specs.declared.numbers.TheConstants.{PACKED}
 use Rattle.tl_schema.specs.Schemas.{Slot, Declaration, Declared}
 use Rattle.tl_schema.specs.Meanings.{types_of}
-use Rattle.tl_schema.specs.Formed.{IsMember, IsFunction}
+use Rattle.tl_schema.specs.Formed.{IsMember, IsFunction, IsOwn}
 use Rattle.tl_types.specs.Refusal.{IsMemberNumber, IsFunctionNumber}
 use Rattle.tl_types.specs.Reading.{first_from, is_member, is_function, fields_in}
 
@@ -16,6 +16,8 @@ pub record NumbersTell (schema : Declared) : Type 0 where
   pub fits : (i : ℕ) (d : Declaration) → slice_get schema.decls i ≡ Some d → d.number < 2 ^ 32
   pub unpacked : (i : ℕ) (d : Declaration) → slice_get schema.decls i ≡ Some d → d.number ≢ PACKED
   pub constructs : (h i : ℕ) (d : Declaration) → IsMember schema h i d → d.function ≡ false
+  pub own_members : (h i : ℕ) (d : Declaration) → IsMember schema h i d → IsOwn schema i
+  pub own_functions : (i : ℕ) (d : Declaration) → IsFunction schema i d → IsOwn schema i
 
 pub some_is : {A : Type 0} (x y : A) → Some x ≡ Some y → x ≡ y
 some_is x y e = cc

@@ -50,7 +50,7 @@ fields_refused schema tell n one args before (f ∷ fs) read b at cause p lt (in
     let rest = fields_refused schema tell n one args (before ++ x ∷ []) fs (others_read schema args f fs read) v q cause p lt r in
     rw (same, there) (rw clear (rw (← none) rest))
 
-list_refused : (schema : Declared) → PartsTell schema → (n : ℕ) → One schema n → (T : Shape) → IsRead schema T → (b : List ℕ) (at : ℕ) (cause : Cause) (p : ℕ) → p < 2 ^ 64 → ListRefused schema n (Refused schema n) T b at cause → list_at (value_at schema.decls n T) (spot p b) ≡ Err (moved p at, cause)
+pub list_refused : (schema : Declared) → PartsTell schema → (n : ℕ) → One schema n → (T : Shape) → IsRead schema T → (b : List ℕ) (at : ℕ) (cause : Cause) (p : ℕ) → p < 2 ^ 64 → ListRefused schema n (Refused schema n) T b at cause → list_at (value_at schema.decls n T) (spot p b) ≡ Err (moved p at, cause)
 list_refused schema tell n one T read b at cause p lt (kind.short few here why) = list_short (value_at schema.decls n T) p b few ∙ ap Err (fault_is p at Truncated cause lt here why)
 list_refused schema tell n one T read b at cause p lt (kind.many w rest fits many is here why) =
     ap (λ (z : List ℕ). list_at (value_at schema.decls n T) (spot p z)) is ∙ list_many (value_at schema.decls n T) p w rest fits many ∙ ap Err (fault_is p at (BadCount w) cause lt here why)
