@@ -1,5 +1,5 @@
 -- Bytes begin with the spelling of a value, or they are refused.
-use Rattle.std.proofs.Common.{◌≡◌, ◌≢◌, ◌⊎◌, inl, inr, ℕ, zero, suc, ◌+◌, ◌^◌, ◌≤◌, ◌<◌, List, [], ◌∷◌, ◌++◌, append_assoc, length, slice_get, Some, refl, sym, ap, ◌∙◌, subst, arith, Bool, true, false, eqb}
+use Rattle.std.proofs.Common.{◌≡◌, ◌⊎◌, inl, inr, ℕ, zero, suc, ◌+◌, ◌^◌, ◌≤◌, ◌<◌, List, [], ◌∷◌, ◌++◌, append_assoc, length, slice_get, Some, refl, sym, ap, ◌∙◌, arith, true, false, eqb}
 use Rattle.std.proofs.lemmas.Bool.{eqb-true, eqb-false, cases_lt}
 use Rattle.tl_base.specs.Contents.{AreBytes}
 use Rattle.tl_base.specs.Numbers.{word, double_word}
@@ -8,7 +8,7 @@ use Rattle.tl_schema.specs.Types.{Shape, Shapes}
 use Rattle.tl_schema.specs.Types as type
 use Rattle.tl_schema.specs.Closing.{closed, list_of_shapes}
 use Rattle.tl_schema.specs.Schemas.{Slot, Declaration, Declared}
-use Rattle.tl_schema.specs.Formed.{IsMember, IsFunction, IsFormed}
+use Rattle.tl_schema.specs.Formed.{IsMember, IsFunction}
 use Rattle.tl_types.specs.declared.cause.Cause.{Cause}
 use Rattle.tl_types.specs.declared.cause.Cause.TheVariants.{TooDeep, Truncated, Packed, UnknownNumber, BadCount}
 use Rattle.tl_types.specs.Values.{ValueView, ValueViews, no_values, value, absent, depth, depth_of, count}
@@ -176,7 +176,7 @@ abbrev NumberDecided : Declared → ℕ → (ℕ → Declaration → Type 0) →
 NumberDecided schema n Is args b =
     ((i : ℕ) × (d : Declaration) × (vs : ValueViews) × (x : List ℕ) × (rest : List ℕ) × Is i d × (b ≡ (word d.number ++ x) ++ rest) × SpellFields schema args [] d.fields vs x × (depth_of vs ≤ n))
     ⊎ ((at : ℕ) × (cause : Cause) × (NumberRefused (λ w. (i : ℕ) × (d : Declaration) × Is i d × (d.number ≡ w)) b at cause
-        ⊎ ((i : ℕ) × (d : Declaration) × (rest : List ℕ) × (q : ℕ) × Is i d × (b ≡ word d.number ++ rest) × (at ≡ 4 + q) × FieldsRefused schema n (Refused schema n) args [] d.fields rest q cause)))
+    ⊎ ((i : ℕ) × (d : Declaration) × (rest : List ℕ) × (q : ℕ) × Is i d × (b ≡ word d.number ++ rest) × (at ≡ 4 + q) × FieldsRefused schema n (Refused schema n) args [] d.fields rest q cause)))
 
 numbered : (schema : Declared) (n : ℕ) (Is : ℕ → Declaration → Type 0) (args : List Shape) (b rest : List ℕ) (i : ℕ) (d : Declaration) → Is i d → b ≡ word d.number ++ rest → FieldsDecided schema n args [] d.fields rest → NumberDecided schema n Is args b
 numbered schema n Is args b rest i d m is (inl (vs, x, more, split, fields, deep)) =
@@ -233,7 +233,7 @@ decided schema tell (suc n) (type.boxed h args) read b bytes =
     let formed = deep_formed schema (type.boxed h args) refl read in
     boxed_record schema n h args b
     (number_decided schema n (IsMember schema h) (list_of_shapes args) (λ i d m. fields_decided schema n (decided schema tell n) (list_of_shapes args) d.fields (tell.boxed h i d args formed m) [])
-     (λ w. seek_member schema tell.numbers h w formed.0.known) b (begins_word b bytes))
+    (λ w. seek_member schema tell.numbers h w formed.0.known) b (begins_word b bytes))
 decided schema tell (suc n) (type.bare i args) read b bytes =
     let formed = deep_formed schema (type.bare i args) refl read in
     let d = formed.0.d in

@@ -1,5 +1,5 @@
 -- Bytes begin with the spelling of a value, or they are refused: one of the two, and in one way.
-use Rattle.std.proofs.Common.{◌≡◌, ◌⊎◌, inl, inr, ℕ, zero, suc, ◌+◌, ◌^◌, ◌≤◌, ◌<◌, List, [], ◌∷◌, ◌++◌, length, slice_get, Some, Ok, Err, refl, sym, ap, ◌∙◌, subst, arith, Bool, true, false, true≢false}
+use Rattle.std.proofs.Common.{◌≡◌, ◌⊎◌, inl, inr, ℕ, zero, suc, ◌+◌, ◌^◌, ◌≤◌, ◌<◌, List, [], ◌∷◌, ◌++◌, length, slice_get, Some, Ok, Err, refl, sym, ap, ◌∙◌, subst, arith, true, false, true≢false}
 use Rattle.std.proofs.lemmas.List.{append_cancel_left, append_cancel_right}
 use Rattle.tl_base.specs.Contents.{AreBytes}
 use Rattle.tl_base.specs.Numbers.{word}
@@ -9,7 +9,6 @@ use Rattle.tl_schema.specs.Types as type
 use Rattle.tl_schema.specs.Closing.{closed, list_of_shapes}
 use Rattle.tl_schema.specs.Schemas.{Slot, Declaration, Declared}
 use Rattle.tl_schema.specs.Formed.{IsMember, IsFunction}
-use Rattle.tl_schema.specs.FormedLaws.{FieldsAreFormed, ClosingKeepsFormed}
 use Rattle.tl_types.specs.declared.cause.Cause.{Cause}
 use Rattle.tl_types.specs.declared.cause.Cause.TheVariants.{TooDeep}
 use Rattle.tl_types.specs.Values.{ValueView, depth}
@@ -17,15 +16,15 @@ use Rattle.tl_types.specs.Conditions.{stands_by}
 use Rattle.tl_types.specs.Spelling.{Spells, SpellsField}
 use Rattle.tl_types.specs.Refusal.{TextRefused, NumberRefused, EachRefused, FieldsRefused, ListRefused, Refused}
 use Rattle.tl_types.specs.Refusal as kind
-use Rattle.tl_types.specs.Reading.{Spot, spot, Fault, Read, moved, value_at, list_at}
+use Rattle.tl_types.specs.Reading.{Spot, spot, Fault, Read, moved, value_at}
 use Rattle.tl_types.specs.Exactly.{BeginsWith, ExactlyOne, EachIsSpelledOrRefused}
 use Rattle.tl_types.proofs.Numbers.{same_number}
-use Rattle.tl_types.proofs.Members.{NumbersTell, some_is}
-use Rattle.tl_types.proofs.FormedParts.{PartsTell, IsRead, AreRead, deep_formed, first_read, others_read, parts_tell}
+use Rattle.tl_types.proofs.Members.{some_is}
+use Rattle.tl_types.proofs.FormedParts.{PartsTell, IsRead, AreRead, deep_formed, first_read, others_read}
 use Rattle.tl_types.proofs.Spelling.{spelled}
 use Rattle.tl_types.proofs.Refusal.{refused, list_refused}
 use Rattle.tl_types.proofs.Deciding.{decided}
-use Rattle.tl_types.proofs.SchemaNumbers.{numbers_tell}
+use Rattle.tl_types.proofs.SchemaTells.{schema_tells}
 
 -- ---- results apart
 
@@ -228,5 +227,5 @@ module _ (schema : Declared) (tell : PartsTell schema) where
     one_fault = λ p q c d r s. (offset n T read b p q c d r s, (same_fault n T read b p q c d r s).1);
   }
 
-pub exactly_one : FieldsAreFormed → ClosingKeepsFormed → EachIsSpelledOrRefused
-exactly_one fields closing schema good n T b formed bytes = exactly schema (parts_tell fields closing schema good (numbers_tell schema good)) n T (inr formed) b bytes
+pub exactly_one : EachIsSpelledOrRefused
+exactly_one schema good n T b formed bytes = exactly schema (schema_tells schema good) n T (inr formed) b bytes

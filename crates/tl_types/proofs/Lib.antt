@@ -10,4 +10,5 @@ pub mod Refusal
 pub mod Deciding
 pub mod Reading
 pub mod SchemaNumbers
+pub mod SchemaTells
 pub mod Exactly

@@ -1,9 +1,9 @@
 -- The declaration with a number: whether it is found.
-use Rattle.std.proofs.Common.{◌≡◌, ◌≢◌, ℕ, zero, suc, ◌+◌, ◌<◌, ◌^◌, List, [], ◌∷◌, length, Option, Some, None, refl, ap, sym, ◌∙◌, arith, Bool, true, false, true≢false, eqb, ◌&&◌}
+use Rattle.std.proofs.Common.{◌≡◌, ◌≢◌, ℕ, zero, suc, ◌+◌, ◌<◌, ◌^◌, List, [], ◌∷◌, length, Some, None, refl, ap, sym, ◌∙◌, arith, Bool, true, false, true≢false, ◌&&◌}
 use Rattle.std.specs.Prelude.{slice_get}
 use Rattle.std.proofs.lemmas.Bool.{eqb-true, eq-eqb}
 use Rattle.tl_base.specs.declared.numbers.TheConstants.{PACKED}
-use Rattle.tl_schema.specs.Schemas.{Slot, Declaration, Declared}
+use Rattle.tl_schema.specs.Schemas.{Declaration, Declared}
 use Rattle.tl_schema.specs.Meanings.{types_of}
 use Rattle.tl_schema.specs.Formed.{IsMember, IsFunction, IsOwn}
 use Rattle.tl_types.specs.Refusal.{IsMemberNumber, IsFunctionNumber}
@@ -97,31 +97,31 @@ module _ (schema : Declared) (tell : NumbersTell schema) where
   member_found h i d m =
       finds (is_member h d.number) schema.decls i 0 (d, m.there, both_true _ _ (eq-eqb _ _ m.head) (eq-eqb _ _ refl))
       (λ k p.
-        let both = both_of _ _ p.2 in
-        tell.members h k i p.0 d (record { there = p.1; head = eqb-true _ _ both.0; known = m.known }) m (eqb-true _ _ both.1))
+      let both = both_of _ _ p.2 in
+      tell.members h k i p.0 d (record { there = p.1; head = eqb-true _ _ both.0; known = m.known }) m (eqb-true _ _ both.1))
       ∙ ap Some (omega arith)
 
   pub function_found : (i : ℕ) (d : Declaration) → IsFunction schema i d → first_from (is_function d.number) 0 schema.decls ≡ Some i
   function_found i d m =
       finds (is_function d.number) schema.decls i 0 (d, m.there, both_true _ _ m.function (eq-eqb _ _ refl))
       (λ k p.
-        let both = both_of _ _ p.2 in
-        tell.functions k i p.0 d (record { there = p.1; function = both.0 }) m (eqb-true _ _ both.1))
+      let both = both_of _ _ p.2 in
+      tell.functions k i p.0 d (record { there = p.1; function = both.0 }) m (eqb-true _ _ both.1))
       ∙ ap Some (omega arith)
 
   pub no_member : (h w : ℕ) → h < length (types_of schema.program) → (IsMemberNumber schema h w → ⊥) → first_from (is_member h w) 0 schema.decls ≡ None
   no_member h w known none =
       finds_none (is_member h w) schema.decls 0
       (λ i p.
-        let both = both_of _ _ p.2 in
-        none (i, p.0, record { there = p.1; head = eqb-true _ _ both.0; known = known }, eqb-true _ _ both.1))
+      let both = both_of _ _ p.2 in
+      none (i, p.0, record { there = p.1; head = eqb-true _ _ both.0; known = known }, eqb-true _ _ both.1))
 
   pub no_function : (w : ℕ) → (IsFunctionNumber schema w → ⊥) → first_from (is_function w) 0 schema.decls ≡ None
   no_function w none =
       finds_none (is_function w) schema.decls 0
       (λ i p.
-        let both = both_of _ _ p.2 in
-        none (i, p.0, record { there = p.1; function = both.0 }, eqb-true _ _ both.1))
+      let both = both_of _ _ p.2 in
+      none (i, p.0, record { there = p.1; function = both.0 }, eqb-true _ _ both.1))
 
   -- a constructor of the type with the number w, or none
   pub seek_member : (h w : ℕ) → h < length (types_of schema.program) → SoughtNumber (IsMember schema h) w

@@ -1,12 +1,12 @@
 -- Items of a given number of bytes, and numbers: how they are read, and which bytes begin with one.
-use Rattle.std.proofs.Common.{◌≡◌, ◌≢◌, ℕ, ◌+◌, ◌^◌, ◌<◌, ◌≤◌, List, ◌++◌, length, take, drop, get_or, Ok, Err, refl, ap, sym, ◌∙◌, arith, ltb, lt-ltb, le-ltb, true, false, inl, inr, take-append-drop}
+use Rattle.std.proofs.Common.{◌≡◌, ℕ, ◌+◌, ◌^◌, ◌<◌, ◌≤◌, List, ◌++◌, length, take, drop, get_or, Ok, Err, refl, ap, sym, ◌∙◌, arith, ltb, lt-ltb, le-ltb, true, false, inl, inr, take-append-drop}
 use Rattle.std.specs.Int.{w32, w64, from_le_bytes}
 use Rattle.std.proofs.lemmas.List.{take_at, drop_at, length-append, length-take-le, get_or-take, get_or-append-add, get_or_past}
 use Rattle.std.proofs.lemmas.Nat.{from_le_bytes-to_le_bytes_4, from_le_bytes-to_le_bytes_8, le_bytes_4, le_bytes_8}
 use Rattle.std.proofs.lemmas.Bool.{cases_lt}
 use Rattle.tl_base.specs.Contents.{AreBytes}
 use Rattle.tl_base.specs.Numbers.{word, double_word}
-use Rattle.tl_types.specs.Reading.{Spot, spot, Fault, moved, exact_at, word_at, double_at}
+use Rattle.tl_types.specs.Reading.{spot, Fault, moved, exact_at, word_at, double_at}
 use Rattle.tl_types.specs.declared.cause.Cause.{Cause}
 use Rattle.tl_types.specs.declared.cause.Cause.TheVariants.{Truncated}
 

@@ -1,5 +1,5 @@
 -- What is spelled is read.
-use Rattle.std.proofs.Common.{◌≡◌, ℕ, zero, suc, ◌+◌, ◌^◌, ◌≤◌, ◌<◌, List, [], ◌∷◌, ◌++◌, append_assoc, append-nil, length, Some, Ok, refl, sym, ap, ◌∙◌, arith, Bool, true, false, inl, inr, ◌⊎◌}
+use Rattle.std.proofs.Common.{◌≡◌, ℕ, zero, suc, ◌+◌, ◌^◌, ◌≤◌, ◌<◌, List, [], ◌∷◌, ◌++◌, append_assoc, append-nil, length, Some, Ok, refl, sym, ap, ◌∙◌, arith, true, false, inl, inr, ◌⊎◌}
 use Rattle.std.proofs.lemmas.List.{length-append}
 use Rattle.tl_base.specs.Numbers.{word}
 use Rattle.tl_schema.specs.Types.{Shape, Shapes}
@@ -36,7 +36,7 @@ node_whole schema tell n T i p d args prefix more vs r lt (begins.boxed h e m is
     ap (λ (U : Shape). value_at schema.decls (suc n) U (spot p (prefix ++ more))) e ∙ value_is_deep schema.decls n (type.boxed h args) _ refl
     ∙ ap (λ (x : List ℕ). deep_at schema.decls (value_at schema.decls n) (type.boxed h args) (spot p (x ++ more))) is
     ∙ number_step (fields_at (value_at schema.decls n) (list_of_shapes args) []) view.node schema.decls (λ w. first_from (is_member h w) 0 schema.decls) p d.number i more d.fields vs r
-      (tell.fits i d m.there) (member_found schema tell h i d m) (fields_there schema.decls i d m.there) (rw four at fields)
+    (tell.fits i d m.there) (member_found schema tell h i d m) (fields_there schema.decls i d m.there) (rw four at fields)
 node_whole schema tell n T i p d args prefix more vs r lt (begins.bare e there is) fields =
     let none : length prefix ≡ 0 = ap length is in
     let here : moved p 0 ≡ p = omega (arith, lt) in

@@ -1,5 +1,5 @@
 -- Strings: how they are read, where they are refused, and that bytes begin with one or are refused.
-use Rattle.std.proofs.Common.{◌≡◌, ◌≢◌, ℕ, zero, suc, ◌+◌, ◌-◌, ◌*◌, ◌/◌, ◌%◌, ◌^◌, ◌≤◌, ◌<◌, List, [], ◌∷◌, ◌++◌, append_assoc, length, take, drop, replicate, Ok, Err, refl, sym, ap, ◌∙◌, subst, arith, true≢false, Bool, ◌&&◌, true, false, eqb, leb, take-append-drop, length-drop, inl, inr}
+use Rattle.std.proofs.Common.{◌≡◌, ◌≢◌, ℕ, zero, suc, ◌+◌, ◌*◌, ◌/◌, ◌%◌, ◌^◌, ◌≤◌, ◌<◌, List, [], ◌∷◌, ◌++◌, append_assoc, length, take, drop, replicate, Ok, Err, refl, sym, ap, ◌∙◌, subst, arith, true≢false, Bool, ◌&&◌, true, false, eqb, leb, take-append-drop, length-drop, inl, inr}
 use Rattle.std.proofs.lemmas.List.{take_at, drop_at, length-append, length-replicate, length-take-le}
 use Rattle.std.proofs.lemmas.Bool.{ne_eqb, cases_lt, le-leb, lt-leb}
 use Rattle.tl_base.specs.Contents.{AreBytes}
@@ -89,15 +89,15 @@ text_long s pad rest p gt few width =
 pub text_again : (s : List ℕ) (p : ℕ) (rest : List ℕ) → length s < 2 ^ 24 → text_at (spot p (text_bytes s ++ rest)) ≡ Ok (s, spot (moved p (length (text_bytes s))) rest)
 text_again s p rest few =
     elim (cases_lt 253 (length s)) [
-      inl gt ↦
-        let e : leb (length s) 253 ≡ false = lt-leb (length s) 253 gt in
-        let pad = replicate (missing (4 + length s)) 0 in
-        let same : 4 + length (s ++ pad) ≡ length ((254 ∷ three_bytes (length s)) ++ s ++ pad) = omega arith in
-        rw e (text_long s pad rest p gt few (length-replicate (missing (4 + length s)) 0) ∙ end_good p s pad _ (zeros_are (missing (4 + length s))) ∙ ap (λ (k : ℕ). Ok (s, spot (moved p k) rest)) same)
-    | inr le ↦
-        let e : leb (length s) 253 ≡ true = le-leb (length s) 253 le in
-        let pad = replicate (missing (1 + length s)) 0 in
-        rw e (text_short s pad rest p le (length-replicate (missing (1 + length s)) 0) ∙ end_good p s pad _ (zeros_are (missing (1 + length s))))
+      | inl gt ↦
+          let e : leb (length s) 253 ≡ false = lt-leb (length s) 253 gt in
+          let pad = replicate (missing (4 + length s)) 0 in
+          let same : 4 + length (s ++ pad) ≡ length ((254 ∷ three_bytes (length s)) ++ s ++ pad) = omega arith in
+          rw e (text_long s pad rest p gt few (length-replicate (missing (4 + length s)) 0) ∙ end_good p s pad _ (zeros_are (missing (4 + length s))) ∙ ap (λ (k : ℕ). Ok (s, spot (moved p k) rest)) same)
+      | inr le ↦
+          let e : leb (length s) 253 ≡ true = le-leb (length s) 253 le in
+          let pad = replicate (missing (1 + length s)) 0 in
+          rw e (text_short s pad rest p le (length-replicate (missing (1 + length s)) 0) ∙ end_good p s pad _ (zeros_are (missing (1 + length s))))
     ]
 
 -- ---- refused
@@ -205,11 +205,11 @@ head_decided c x y z rest lt lt_x lt_y lt_z =
     elim (cases_lt 253 c) [
       | inr le ↦ after_head _ (c ∷ []) (x ∷ y ∷ z ∷ rest) c (text.one le refl) (omega arith) refl
       | inl gt ↦ elim (cases_lt 254 c) [
-          | inl greater ↦ none 0 LongString (text.long_string (x ∷ y ∷ z ∷ rest) (omega arith) (ap (λ (k : ℕ). k ∷ x ∷ y ∷ z ∷ rest) (omega (arith, lt, greater))) refl refl)
-          | inr le ↦
-              let is : 254 ≡ c = omega (arith, gt, le) in
-              subst (λ (k : ℕ). TextDecided (k ∷ x ∷ y ∷ z ∷ rest)) is (long_decided x y z rest lt_x lt_y lt_z)
-        ]
+        | inl greater ↦ none 0 LongString (text.long_string (x ∷ y ∷ z ∷ rest) (omega arith) (ap (λ (k : ℕ). k ∷ x ∷ y ∷ z ∷ rest) (omega (arith, lt, greater))) refl refl)
+        | inr le ↦
+            let is : 254 ≡ c = omega (arith, gt, le) in
+            subst (λ (k : ℕ). TextDecided (k ∷ x ∷ y ∷ z ∷ rest)) is (long_decided x y z rest lt_x lt_y lt_z)
+      ]
     ]
 
 pub text_decided : (b : List ℕ) → AreBytes b → TextDecided b
