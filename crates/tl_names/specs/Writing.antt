@@ -39,6 +39,10 @@ At ds k d = slice_get ds k ≡ Some d
 abbrev pub is_constructor : DeclText → Bool
 is_constructor d = not d.function && not d.builtin
 
+-- an own function
+abbrev pub is_function : DeclText → Bool
+is_function d = d.function && not d.builtin
+
 -- the name of the type that a result begins with: a type's name that is no variable
 abbrev pub head_in : DeclText → Tree → Option (List ℕ)
 head_in d (named name ts) = if is_type_name name && not (is_variable d name) then Some name else None

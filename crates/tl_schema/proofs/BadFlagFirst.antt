@@ -14,7 +14,7 @@ nat_decided flag = inr (λ e. absurd cc)
 nat_decided (call var) = inr (λ e. absurd cc)
 nat_decided (of t) = inr (λ e. absurd cc)
 
-flags_before_decided : (d : DeclText) (i : ℕ) (flags : List ℕ) → Decided (IsFlagsBefore d i flags)
+pub flags_before_decided : (d : DeclText) (i : ℕ) (flags : List ℕ) → Decided (IsFlagsBefore d i flags)
 flags_before_decided d i flags =
     decided_as (λ h. record { earlier = h.0; f = h.1; before = h.3.0; there = h.2; number = h.3.1.0; name = h.3.1.1 }) (λ r. (r.earlier, r.f, r.there, (r.before, (r.number, r.name))))
     (some_decided d.fields (λ j f. (j < i) × ((f.kind ≡ nat) × (f.name ≡ flags))) (λ j f. decided_and (less_decided j i) (decided_and (nat_decided f.kind) (text_decided f.name flags))))

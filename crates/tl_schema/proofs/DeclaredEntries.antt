@@ -4,7 +4,7 @@ use Rattle.std.specs.Option.{unwrap_or}
 use Rattle.std.proofs.lemmas.Option.{none-some, same_Some}
 use Rattle.std.proofs.lemmas.Slice.Eq.{bytes_eq-Decides}
 use Rattle.tl_combinators.specs.Program.{DeclText}
-use Rattle.tl_names.specs.Writing.{At}
+use Rattle.tl_names.specs.Writing.{At, is_function}
 use Rattle.tl_schema.specs.Schemas.{Declaration, Declared}
 use Rattle.tl_schema.specs.Meanings.{IsEntry, IsSmall}
 use Rattle.tl_names.specs.Places.{types_of}
@@ -68,14 +68,14 @@ never_its_other : (b : Bool) → b ≡ not b → ⊥
 never_its_other true e = true≢false e
 never_its_other false e = true≢false (sym e)
 
-known_more : (es : List Declaration) (e : Declaration) (d : DeclText) (old new : Known) (at : ℕ) → e.name ≡ d.name → e.function ≡ d.function → length es ≡ at → NotesOne old new d at → AreKnown es old → AreKnown (es ++ e ∷ []) new
+known_more : (es : List Declaration) (e : Declaration) (d : DeclText) (old new : Known) (at : ℕ) → e.name ≡ d.name → e.function ≡ is_function d → length es ≡ at → NotesOne old new d at → AreKnown es old → AreKnown (es ++ e ∷ []) new
 known_more es e d old new at named kind count notes before function =
-    elim (one_of_two function d.function) [
+    elim (one_of_two function (is_function d)) [
       | inl same ↦ subst (λ b. ArePlaces (es ++ e ∷ []) b (among b new)) (sym same) (
-          places_more es e d.function (among d.function old) (among d.function new) at kind count (subst (λ name. Notes (among d.function old) (among d.function new) name at) (sym named) notes.noted) (before d.function)
+          places_more es e (is_function d) (among (is_function d) old) (among (is_function d) new) at kind count (subst (λ name. Notes (among (is_function d) old) (among (is_function d) new) name at) (sym named) notes.noted) (before (is_function d))
           )
       | inr other ↦ subst (λ b. ArePlaces (es ++ e ∷ []) b (among b new)) (sym other) (
-          subst (ArePlaces (es ++ e ∷ []) (not d.function)) (sym notes.others) (places_other es e (not d.function) (among (not d.function) old) (λ is. never_its_other d.function (sym kind ∙ is)) (before (not d.function)))
+          subst (ArePlaces (es ++ e ∷ []) (not (is_function d))) (sym notes.others) (places_other es e (not (is_function d)) (among (not (is_function d)) old) (λ is. never_its_other (is_function d) (sym kind ∙ is)) (before (not (is_function d))))
           )
     ]
 

@@ -64,3 +64,10 @@ pub mod OneSchema
 pub mod OneType
 pub mod OneAnswer
 mod TypeSteps
+pub mod ClosedFormed
+mod TypePlaces
+mod BuiltInNames
+pub mod Members
+pub mod FormedTypes
+pub mod FieldsFormed
+pub mod AskedFormed

@@ -34,7 +34,7 @@ module _ (ds : List DeclText) where
     of_bare (vector args free is) = inl (free, (args, is))
     of_bare (single type args j c free upper is only) = inr (type, args, is, (free, (upper, (j, c, only))))
 
-    bare_decided : Decided (HasBare ds d t)
+    pub bare_decided : Decided (HasBare ds d t)
     bare_decided =
         decided_as bare of_bare (decided_or (decided_and (bool_decided (is_variable d (codes "Vector")) false) (this_name_decided (codes "Vector") t))
         (named_decided _ (λ type args. decided_and (bool_decided (is_variable d type) false) (decided_and (bool_decided (is_type_name type) true) (only_constructor_decided ds type))) t))

@@ -8,7 +8,7 @@ use Rattle.std.specs.Option.{option_map}
 use Rattle.std.specs.List.{position_or_len}
 use Rattle.tl_combinators.specs.Trees.{Tree, Trees, named, percent, any_call, no_trees, tree}
 use Rattle.tl_combinators.specs.Program.{KindText, nat, flag, call, of, CondText, FieldText, DeclText}
-use Rattle.tl_names.specs.Writing.{At, is_type_name, is_variable, own_type}
+use Rattle.tl_names.specs.Writing.{At, is_function, is_type_name, is_variable, own_type}
 use Rattle.tl_names.specs.Places.{types_of, head_of, place_of, first_of, variable_of}
 use Rattle.tl_schema.specs.Numbers.{IsNumberOf}
 use Rattle.tl_schema.specs.Types.{Shape, Shapes, no_shapes, shape}
@@ -111,7 +111,7 @@ declaration_of ds d n = record {
   number = n;
   vars = length d.vars;
   fields = map (slot_of ds d) d.fields;
-  function = d.function;
+  function = is_function d;
   head = head_in ds (own_type d);
   result = result_shape ds d;
 }

@@ -122,7 +122,7 @@ fn enter(
 fn note(alloc: Global, known: &mut Known, decl: &Decl, at: u32) -> Result<(), AllocError>
     ensures { OnOk result (NotesOne known.old known.new (decl_text decl.now) at) }
 {
-    if decl.function {
+    if decl.function && !decl.builtin {
         known.functions.note(alloc, decl.name.as_slice(), at)
     } else {
         known.constructors.note(alloc, decl.name.as_slice(), at)

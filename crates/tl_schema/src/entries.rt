@@ -26,7 +26,7 @@ pub fn entry_of(alloc: Global, scope: &Scope, decl: &Decl) -> Result<Entry, Allo
         number: entry_number(decl),
         vars: decl.vars.len() as u32,
         fields: slots_of(alloc, scope, decl)?,
-        function: decl.function,
+        function: decl.function && !decl.builtin,
         head: head_of(scope, decl),
         result: result_of(alloc, scope, decl)?,
     })

@@ -1,8 +1,10 @@
 //! Types by their texts.
-ghost use Rattle.std.specs.Prelude.{◌≡◌, ◌<◌, ◌^◌, length};
+ghost use Rattle.std.specs.Prelude.{◌≡◌, ◌<◌, ◌^◌, IfOk, length};
 ghost use Rattle.tl_combinators.specs.Trees.{view};
 ghost use Rattle.tl_combinators.specs.Program.{decl_text, program_text};
+ghost use Rattle.tl_schema.specs.Seen.{shape};
 ghost use Rattle.tl_schema.specs.Meanings.{IsSmall};
+ghost use Rattle.tl_schema.specs.Formed.{IsFormed};
 ghost use Rattle.tl_schema.specs.AskedTypes.{GivesType, IsTypeText, NamesType, RefusesType, TypeTextRefused, asker};
 ghost use Rattle.tl_schema.specs.Types.{Shape};
 ghost use Rattle.tl_schema.specs.declared.fault.TypeFault.{TypeFault};
@@ -25,6 +27,7 @@ use tl_lexer::lex;
 pub fn type_of(alloc: Global, schema: &Schema, text: &[u8]) -> Result<TypeRef, TypeFault>
     // What is answered is so by the definitions.
     ensures names { NamesType schema.now.program text.now result }
+    ensures formed { IfOk result (λ t. IsFormed schema.now (shape t)) }
     // A text that is a type gives this type, and one that is refused is refused for the same fault.
     ensures gives { (s : Shape) → IsTypeText schema.now.program text.now s → GivesType s result }
     ensures refuses { (fault : TypeFault) → TypeTextRefused schema.now.program text.now fault → RefusesType fault result }
@@ -34,7 +37,8 @@ pub fn type_of(alloc: Global, schema: &Schema, text: &[u8]) -> Result<TypeRef, T
 
 // The type that a text names, if it has no fault.
 fn named_type(alloc: Global, schema: &Schema, text: &[u8]) -> Result<TypeRef, TypeFault>
-    ensures { NamesType schema.now.program text.now result }
+    ensures names { NamesType schema.now.program text.now result }
+    ensures formed { IfOk result (λ t. IsFormed schema.now (shape t)) }
 {
     let tokens = lex(alloc, text)?;
     let tree = parse_type(alloc, text, &tokens)?;

@@ -1,0 +1,14 @@
+pub mod ClosedLists
+pub mod Numbers
+pub mod Members
+pub mod Texts
+pub mod Records
+pub mod Lists
+pub mod Spelling
+pub mod FormedParts
+pub mod Refusal
+pub mod Deciding
+pub mod Reading
+pub mod SchemaNumbers
+pub mod SchemaTells
+pub mod Exactly

@@ -2,9 +2,9 @@
 use Rattle.std.specs.Prelude.{ℕ, zero, suc, ◌+◌, ◌-◌, ◌*◌, ◌^◌, min, List, [], ◌∷◌, ◌++◌, length, take, drop, get_or, Option, Some, None, Result, Ok, Err, ◌&&◌, Bool, true, false, nat_lt, nat_le, ◌==◌, if◌then◌else◌}
 use Rattle.std.specs.Int.{w32, w64, from_le_bytes, cast_signed}
 use Rattle.tl_base.specs.declared.numbers.TheConstants.{BOXED_VECTOR, PACKED}
-use Rattle.tl_schema.specs.Types.{Shape, int, long, nat, opaque, str, raw, flag, call, var, vector, boxed, bare}
+use Rattle.tl_schema.specs.Types.{Shape, int, long, nat, opaque, str, raw, flag, call, vector, boxed, bare}
 use Rattle.tl_schema.specs.Closing.{closed, list_of_shapes}
-use Rattle.tl_schema.specs.Schemas.{Slot, Declaration, Declared}
+use Rattle.tl_schema.specs.Schemas.{Slot, Declaration}
 use Rattle.tl_types.specs.Values.{ValueView, ValueViews, values_of, absent, truth}
 use Rattle.tl_types.specs.Values as value
 use Rattle.tl_types.specs.Texts.{missing}
@@ -17,6 +17,10 @@ pub record Spot : Type 0 where
   pub place : ℕ
   pub bytes : List ℕ
 
+abbrev pub spot : ℕ → List ℕ → Spot
+spot place bytes = record { place = place; bytes = bytes }
+
+-- a place, and the cause that was met there
 abbrev pub Fault : Type 0
 Fault = ℕ × Cause
 
@@ -39,7 +43,7 @@ exact_at place n s =
     then Err (place, Truncated)
     else Ok (take n s.bytes, record { place = moved s.place n; bytes = drop n s.bytes })
 
--- behind what is there
+-- the next n bytes, after those before
 abbrev pub added_at : List ℕ → ℕ → ℕ → Spot → Read (List ℕ)
 added_at before place n s = exact_at place n s >>= λ x. Ok (before ++ x.0, x.1)
 
@@ -68,7 +72,7 @@ text_head_of w =
     else if get_or w 0 0 == 254 then (if nat_le (long_length w) 253 then Err LooseString else Ok (4, long_length w))
     else Ok (1, get_or w 0 0)
 
--- how many bytes come behind the first four
+-- how many bytes come after the first four
 abbrev pub text_more : Head → ℕ
 text_more h = h.0 + h.1 + missing (h.0 + h.1) - 4
 
@@ -94,16 +98,20 @@ text_at s = do
 
 -- ---- declarations
 
--- the constructor of the type h whose number is w, counted from i
-abbrev pub member_from : ℕ → List Declaration → ℕ → ℕ → Option ℕ
-member_from i [] h w = None
-member_from i (d ∷ ds) h w = if d.head == h && d.number == w then Some i else member_from (suc i) ds h w
+-- the first declaration that passes the test, counted from i
+abbrev pub first_from : (Declaration → Bool) → ℕ → List Declaration → Option ℕ
+first_from test i [] = None
+first_from test i (d ∷ ds) = if test d then Some i else first_from test (suc i) ds
 
--- the function whose number is w
-abbrev pub function_from : ℕ → List Declaration → ℕ → Option ℕ
-function_from i [] w = None
-function_from i (d ∷ ds) w = if d.function && (d.number == w) then Some i else function_from (suc i) ds w
+-- a constructor of the type h with the number w
+abbrev pub is_member : ℕ → ℕ → Declaration → Bool
+is_member h w d = (d.head == h) && (d.number == w)
 
+-- a function with the number w
+abbrev pub is_function : ℕ → Declaration → Bool
+is_function w d = d.function && (d.number == w)
+
+-- the fields of declaration i
 abbrev pub fields_in : List Declaration → ℕ → List Slot
 fields_in [] i = []
 fields_in (d ∷ ds) zero = d.fields
@@ -170,10 +178,10 @@ by_number_at f make ds find s = do
   numbered_at f make ds s.place w.0 (find w.0) w.1
 
 abbrev pub boxed_at : List Declaration → (List Slot → Spot → Read (List ValueView)) → ℕ → Reader
-boxed_at ds f h = by_number_at f value.node ds (member_from 0 ds h)
+boxed_at ds f h = by_number_at f value.node ds (λ w. first_from (is_member h w) 0 ds)
 
 abbrev pub call_at : List Declaration → (List Slot → Spot → Read (List ValueView)) → Reader
-call_at ds f = by_number_at f value.call ds (function_from 0 ds)
+call_at ds f = by_number_at f value.call ds (λ w. first_from (is_function w) 0 ds)
 
 unfoldable pub bare_at : List Declaration → (List Slot → Spot → Read (List ValueView)) → ℕ → Reader
 bare_at ds f i s = record_at f (value.node i) (fields_in ds i) s

@@ -2,10 +2,10 @@
 -- What is refused follows from "Binary data serialization" (core.telegram.org/mtproto/serialize); offsets and causes are this project's own.
 -- An item is a number, a count, an opaque value or a whole string; the fault lies in the item that begins at the offset, and what is before is
 -- spelled right.
-use Rattle.std.specs.Prelude.{◌≡◌, ◌≢◌, ◌⊎◌, ℕ, zero, suc, ◌+◌, ◌<◌, ◌≤◌, ◌^◌, List, [], ◌∷◌, ◌++◌, length, replicate, Some, slice_get, Bool, true, false}
+use Rattle.std.specs.Prelude.{◌≡◌, ◌≢◌, ◌⊎◌, ℕ, zero, suc, ◌+◌, ◌<◌, ◌≤◌, ◌^◌, List, [], ◌∷◌, ◌++◌, length, replicate, Some, slice_get, true, false}
 use Rattle.tl_base.specs.Numbers.{word}
 use Rattle.tl_base.specs.declared.numbers.TheConstants.{BOXED_VECTOR, PACKED}
-use Rattle.tl_schema.specs.Types.{Shape, int, long, nat, opaque, str, raw, flag, call, var, vector, boxed, bare, Shapes}
+use Rattle.tl_schema.specs.Types.{Shape, int, long, nat, opaque, str, raw, flag, call, var, vector, boxed, bare}
 use Rattle.tl_schema.specs.Closing.{closed, list_of_shapes}
 use Rattle.tl_schema.specs.Schemas.{Slot, Declaration, Declared}
 use Rattle.tl_schema.specs.Formed.{IsMember, IsFunction}
@@ -96,10 +96,10 @@ Refused schema (suc n) (vector false T) b at cause = ListRefused schema n (Refus
 Refused schema (suc n) (boxed h args) b at cause =
     NumberRefused (IsMemberNumber schema h) b at cause
     ⊎ ((i : ℕ) × (d : Declaration) × (rest : List ℕ) × (q : ℕ) × IsMember schema h i d × (b ≡ word d.number ++ rest) × (at ≡ 4 + q)
-       × FieldsRefused schema n (Refused schema n) (list_of_shapes args) [] d.fields rest q cause)
+    × FieldsRefused schema n (Refused schema n) (list_of_shapes args) [] d.fields rest q cause)
 Refused schema (suc n) (bare i args) b at cause =
     (d : Declaration) × (slice_get schema.decls i ≡ Some d) × FieldsRefused schema n (Refused schema n) (list_of_shapes args) [] d.fields b at cause
 Refused schema (suc n) call b at cause =
     NumberRefused (IsFunctionNumber schema) b at cause
     ⊎ ((i : ℕ) × (d : Declaration) × (rest : List ℕ) × (q : ℕ) × IsFunction schema i d × (b ≡ word d.number ++ rest) × (at ≡ 4 + q)
-       × FieldsRefused schema n (Refused schema n) [] [] d.fields rest q cause)
+    × FieldsRefused schema n (Refused schema n) [] [] d.fields rest q cause)

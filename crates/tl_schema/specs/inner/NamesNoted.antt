@@ -1,7 +1,7 @@
 -- What is kept of the declarations so far: their entries, and the places of their names. This project's own.
 use Rattle.std.specs.Prelude.{◌≡◌, ℕ, ◌<◌, ◌^◌, List, [], ◌∷◌, ◌++◌, length, map, Bool, true, false, not, slice_get, Some}
 use Rattle.tl_combinators.specs.Program.{DeclText}
-use Rattle.tl_names.specs.Writing.{At}
+use Rattle.tl_names.specs.Writing.{At, is_function}
 use Rattle.tl_schema.specs.Schemas.{Declaration}
 use Rattle.tl_schema.specs.Seen.{declaration}
 use Rattle.tl_schema.specs.Meanings.{IsEntry}
@@ -18,8 +18,8 @@ among false known = known.constructors
 
 -- the name of one declaration is noted among those of its kind, and the others are as before
 pub record NotesOne (old new : Known) (d : DeclText) (at : ℕ) : Type 0 where
-  pub noted : Notes (among d.function old) (among d.function new) d.name at
-  pub others : among (not d.function) new ≡ among (not d.function) old
+  pub noted : Notes (among (is_function d) old) (among (is_function d) new) d.name at
+  pub others : among (not (is_function d)) new ≡ among (not (is_function d)) old
 
 -- the entry of one declaration stands behind the others, and its name is noted
 pub record EntersOne (ds : List DeclText) (old new : Entered) (d : DeclText) (at : ℕ) : Type 0 where

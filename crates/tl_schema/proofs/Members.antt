@@ -1,0 +1,128 @@
+-- The entries of a schema's declarations: own constructors are members of their types, which have one number of variables.
+use Rattle.std.proofs.Common.{◌≡◌, ◌≢◌, inl, inr, ℕ, ◌<◌, Bool, true, false, not, ◌&&◌, List, length, slice_get, Option, Some, None, refl, ap, ap₂, sym, ◌∙◌, subst, arith, if◌then◌else◌}
+use Rattle.std.proofs.lemmas.Bool.{cases_eq, both_ways}
+use Rattle.std.proofs.lemmas.Option.{none-some, slice_get_within, slice_get_cases}
+use Rattle.tl_combinators.specs.Program.{DeclText}
+use Rattle.tl_names.specs.Writing.{At, is_constructor, result_head, own_type, IsConstructorOf}
+use Rattle.tl_schema.specs.Writing as writing
+use Rattle.tl_schema.specs.BadResult.{IsGoodResult}
+use Rattle.tl_schema.specs.CheckCauses.{NoneHas}
+use Rattle.tl_schema.specs.declared.fault.CheckCause.TheVariants as cause
+use Rattle.tl_schema.specs.CheckedPrograms.{IsSchema}
+use Rattle.tl_schema.specs.Schemas.{Declaration, Declared}
+use Rattle.tl_schema.specs.Meanings.{IsEntry, head_in}
+use Rattle.tl_names.specs.Places.{types_of, head_of}
+use Rattle.tl_schema.specs.Formed.{IsMember, IsOwn, AppliesType, AppliesBare}
+use Rattle.tl_schema.proofs.TypePlaces.{head_known, one_head}
+
+-- ---- the type of a constructor
+
+made_by : (type : List ℕ) (b : Bool) (o : Option (List ℕ)) → (if b then o else None) ≡ Some type → (b ≡ true) × (o ≡ Some type)
+made_by type true o e = (refl, e)
+made_by type false o e = absurd (none-some type e)
+
+own_constructor : (function builtin : Bool) → (not function && not builtin) ≡ true → builtin ≡ false
+own_constructor true builtin h = cc
+own_constructor false true h = cc
+own_constructor false false h = refl
+
+module _ (ds : List DeclText) (type : List ℕ) (i : ℕ) (d : DeclText) where
+  pub own_of : IsConstructorOf ds type i d → own_type d ≡ Some type
+  own_of c = ap (λ b. if b then result_head d else None) c.own ∙ c.head
+
+  made_of : At ds i d → own_type d ≡ Some type → IsConstructorOf ds type i d
+  made_of at own = let made = made_by type (is_constructor d) (result_head d) own in record { there = at; own = made.0; head = made.1 }
+
+good_head : (d : DeclText) (g : IsGoodResult d) → result_head d ≡ Some g.type
+good_head d g = ap (writing.head_in d) g.applied ∙ ap₂ (λ a b. if a && not b then Some g.type else None) g.upper g.no_variable
+
+module _ (schema : Declared) (good : IsSchema schema) where
+  -- ---- declarations and their entries
+
+  pub declaration_at : (i : ℕ) (e : Declaration) → slice_get schema.decls i ≡ Some e → (d : DeclText) × At schema.program i d × IsEntry schema.program d e
+  declaration_at i e there = elim (slice_get_cases schema.program i).1 [
+    | inl (d, below, here, is) ↦ (d, here, good.entries i d e here there)
+    | inr (past, none) ↦ absurd (let within = slice_get_within schema.decls i e there in omega (arith, within, past, good.count))
+  ]
+
+  entry_at : (i : ℕ) (d : DeclText) → At schema.program i d → (e : Declaration) × (slice_get schema.decls i ≡ Some e) × IsEntry schema.program d e
+  entry_at i d at = elim (slice_get_cases schema.decls i).1 [
+    | inl (e, below, here, is) ↦ (e, here, good.entries i d e at here)
+    | inr (past, none) ↦ absurd (let within = slice_get_within schema.program i d at in omega (arith, within, past, good.count))
+  ]
+
+  -- ---- members of a type
+
+  even : NoneHas schema.program cause.WrongArity
+  even = good.passes.1.1.1.0
+
+  good_results : NoneHas schema.program cause.BadResult
+  good_results = good.passes.1.1.1.1.0
+
+  module _ (type : List ℕ) where
+    member : (i : ℕ) (d : DeclText) (e : Declaration) → IsConstructorOf schema.program type i d → slice_get schema.decls i ≡ Some e → IsEntry schema.program d e → IsMember schema (head_of schema.program type) i e
+    member i d e c there is = record {
+      there = there;
+      head = ap (λ (x : Declaration). x.head) is.1 ∙ ap (head_in schema.program) (own_of schema.program type i d c);
+      known = head_known schema.program type i d c.there (own_of schema.program type i d c);
+    }
+
+    module _ (j : ℕ) (c : DeclText) (one : IsConstructorOf schema.program type j c) where
+      -- an entry with the number of the type is that of a constructor of it
+      constructs : (i : ℕ) (d : DeclText) → At schema.program i d → (o : Option (List ℕ)) → own_type d ≡ o → head_in schema.program o ≡ head_of schema.program type → IsConstructorOf schema.program type i d
+      constructs i d at None own e =
+          absurd (let known = head_known schema.program type j c one.there (own_of schema.program type j c one) in omega (arith, known, e))
+      constructs i d at (Some other) own e =
+          let same : other ≡ type = one_head schema.program other type i j d c at own one.there (own_of schema.program type j c one) e in
+          made_of schema.program type i d at (own ∙ ap Some same)
+
+      same_count : (i : ℕ) (d : DeclText) → IsConstructorOf schema.program type i d → length d.vars ≡ length c.vars
+      same_count i d made = elim (cases_eq (length d.vars) (length c.vars)) [
+        | inl e ↦ e
+        | inr other ↦ absurd (even i (record {
+          d = d;
+          here = made.there;
+          has = inr (record { type = type; own = own_of schema.program type i d made; uneven = record { i = i; b = d; j = j; c = c; one = made; other = one; apart = other } });
+        }))
+      ]
+
+      member_count : (i : ℕ) (e : Declaration) → IsMember schema (head_of schema.program type) i e → e.vars ≡ length c.vars
+      member_count i e m =
+          let d = declaration_at i e m.there in
+          let head = sym (ap (λ (x : Declaration). x.head) d.2.1) ∙ m.head in
+          ap (λ (x : Declaration). x.vars) d.2.1 ∙ same_count i d.0 (constructs i d.0 d.1 (own_type d.0) refl head)
+
+      -- the type is applied to as many types as one of its constructors has variables
+      pub applies_type : (n : ℕ) → n ≡ length c.vars → AppliesType schema (head_of schema.program type) n
+      applies_type n count = record {
+        known = head_known schema.program type j c one.there (own_of schema.program type j c one);
+        arity = λ i e m. member_count i e m ∙ sym count;
+      }
+
+      -- likewise the constructor
+      pub applies_bare : (n : ℕ) → n ≡ length c.vars → AppliesBare schema j n
+      applies_bare n count =
+          let e = entry_at j c one.there in
+          record { h = head_of schema.program type; d = e.0; member = member j c e.0 one e.1 e.2; arity = ap (λ (x : Declaration). x.vars) e.2.1 ∙ sym count }
+
+  -- an own constructor is one of a type
+  pub type_made : (i : ℕ) (d : DeclText) → At schema.program i d → is_constructor d ≡ true → (type : List ℕ) × IsConstructorOf schema.program type i d
+  type_made i d at own = by (result_head d) refl
+    where
+      by : (o : Option (List ℕ)) → result_head d ≡ o → (type : List ℕ) × IsConstructorOf schema.program type i d
+      by (Some type) e = (type, record { there = at; own = own; head = e })
+      by None e =
+          absurd (good_results i (record { d = d; here = at; has = record { own = own; bad = λ g. none-some g.type (sym e ∙ good_head d g) } }))
+
+  -- a member of a type is no line of a built-in type
+  pub member_is_own : (h i : ℕ) (e : Declaration) → IsMember schema h i e → IsOwn schema i
+  member_is_own h i e m = by (own_type d.0) refl
+    where
+      d : (d : DeclText) × At schema.program i d × IsEntry schema.program d e
+      d = declaration_at i e m.there
+
+      by : (o : Option (List ℕ)) → own_type d.0 ≡ o → IsOwn schema i
+      by (Some type) own = (d.0, d.1, own_constructor d.0.function d.0.builtin (made_by type (is_constructor d.0) (result_head d.0) own).0)
+      by None own =
+          let head : e.head ≡ length (types_of schema.program) = ap (λ (x : Declaration). x.head) d.2.1 ∙ ap (head_in schema.program) own in
+          absurd (let known = m.known in let is = m.head in omega (arith, known, is, head))
