@@ -16,10 +16,10 @@ use crate::shown::line_of;
 use crate::type_word::{TypeWordFault, plain_type};
 use crate::whole::InputFault;
 use command_base::{Stop, Unmade, write_made};
+use plain_values::Cause;
 use std::alloc::{AllocError, Global};
 use thiserror::Error;
 use tl_base::Host;
-use plain_values::Cause;
 
 /// What `decode` refuses. A place is an offset in the input.
 #[derive(Clone, Copy, Debug, PartialEq, Eq, Error)]

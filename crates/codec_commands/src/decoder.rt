@@ -14,10 +14,10 @@ ghost use Rattle.plain_values.specs.inner.Reading.{word_at, double_at, plain_at,
 ghost use Rattle.plain_values.specs.declared.fault.Cause.{Cause};
 ghost use Rattle.codec_commands.specs.Decoding.{GivesValue, GivesFault, ReadsAs};
 
+use plain_values::{Cause, Value};
 use std::alloc::{AllocError, AllocFailed, Global};
 use thiserror::Error;
 use tl_base::{Source, TakeFault, take_bytes, take_word};
-use plain_values::{Cause, Value};
 use tl_schema::{Entry, Schema, SchemaField, TypeRef};
 
 /// The most levels of records, one in the other, that a value may have.

@@ -10,9 +10,9 @@ ghost use Rattle.plain_values.specs.PlainViews.{plain_decls};
 ghost use Rattle.codec_commands.specs.Parts.{LoadsValue, TakesValue};
 
 use crate::whole::{InputFault, decode_whole};
+use plain_values::Value;
 use std::alloc::Global;
 use tl_base::{Host, Slot, SourceOf};
-use plain_values::Value;
 use tl_schema::Schema;
 
 // The value that is what is left of the input.

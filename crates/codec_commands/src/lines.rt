@@ -8,9 +8,9 @@ ghost use Rattle.codec_commands.specs.Lines.{cause_text, check_name, form_name, 
 use crate::causes::{SchemaCause, TextCause, TypeNameCause};
 use crate::schema_text::SchemaFault;
 use command_base::{Unmade, placed_line, unplaced_line};
+use plain_values::Cause;
 use std::alloc::{AllocError, Global};
 use tl_combinators::Form;
-use plain_values::Cause;
 use tl_schema::{CheckCause, TypeCause};
 
 // A cause, and its values.

@@ -8,9 +8,9 @@ ghost use Rattle.plain_values.specs.Seen.{view, views};
 ghost use Rattle.tl_schema.specs.Seen.{slot};
 ghost use Rattle.codec_commands.specs.Shown.{shown, named, name_text, name_in, with_fields, line_text};
 
+use plain_values::Value;
 use serde_json::Map;
 use std::alloc::{AllocError, Global};
-use plain_values::Value;
 use tl_schema::{Schema, SchemaField};
 
 /// The JSON text of a value, and a line feed.

@@ -7,10 +7,10 @@ ghost use Rattle.plain_values.specs.PlainViews.{plain_decls};
 ghost use Rattle.codec_commands.specs.Decoding.{DecodesWhole};
 
 use crate::decoder::{DecodeFault, decode};
+use plain_values::{Cause, Value};
 use std::alloc::Global;
 use thiserror::Error;
 use tl_base::{Failed, Source, take_end};
-use plain_values::{Cause, Value};
 use tl_schema::Schema;
 
 /// Why an input is no value of a type.

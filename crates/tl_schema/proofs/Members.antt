@@ -4,7 +4,7 @@ use Rattle.std.proofs.lemmas.Bool.{cases_eq, both_ways}
 use Rattle.std.proofs.lemmas.Option.{none-some, slice_get_within, slice_get_cases}
 use Rattle.tl_combinators.specs.Program.{DeclText}
 use Rattle.tl_names.specs.Writing.{At, is_constructor, result_head, own_type, IsConstructorOf}
-use Rattle.tl_schema.specs.Writing as writing
+use Rattle.tl_names.specs.Writing as writing
 use Rattle.tl_schema.specs.BadResult.{IsGoodResult}
 use Rattle.tl_schema.specs.CheckCauses.{NoneHas}
 use Rattle.tl_schema.specs.declared.fault.CheckCause.TheVariants as cause
