@@ -2,8 +2,8 @@
 """Times how `tlbox check` reads and checks a schema.
 
 Each text has so many declarations of about 120 bytes, with conditions, vectors, namespaces and comments. Then come texts that are
-hard in one way each: a million parentheses around one type, and constructors of which each holds the next bare, in both orders, in
-one cycle, between two cycles, and without bytes.
+hard in one way each: a million parentheses around one type, constructors of which each holds the next bare, in both orders, in
+one cycle, between two cycles, and without bytes, names that collide, and mentions among 255 variables.
 """
 import os
 import sys
@@ -55,6 +55,34 @@ def empty(count):
     return links + "c%d = C;\nv x:Vector<c0> = V;\n" % count
 
 
+def colliding():
+    """Names that collide under the hash of `indexmap`, found by colliding.c."""
+    with open(os.path.join(os.path.dirname(__file__), "colliding.txt"), encoding="ascii") as file:
+        return file.read().split()
+
+
+def plain(count):
+    return ["T%07x" % (number * 2654435761 % 2**28) for number in range(count)]
+
+
+def mentioned(names):
+    """A type for each name, whose constructor mentions nineteen types of the list: 4 MB in all for 16,000 names."""
+    lines = []
+    for number, name in enumerate(names):
+        fields = "".join(" x%02d:%s" % (field, names[(number * 7919 + field * 104729) % len(names)]) for field in range(18))
+        lines.append("c%05d%s = %s;\n" % (number, fields, name))
+    return "".join(lines)
+
+
+def among_variables(variables):
+    """Declarations with so many variables, each with a field whose type mentions ten thousand names."""
+    pair = "p %s = P %s;\n" % (" ".join("{a%02d:Type}" % k for k in range(100)), " ".join("a%02d" % k for k in range(100)))
+    field = "P<%s>" % ",".join(["P<%s>" % ",".join(["int"] * 100)] * 100)
+    before = "".join("{v%03d:Type} " % k for k in range(variables))
+    after = "".join(" v%03d" % k for k in range(variables))
+    return pair + "".join("d%d %sx:%s = D%d%s;\n" % (k, before, field, k, after) for k in range(90))
+
+
 def listed(count):
     return "constructors %d functions 0" % count
 
@@ -74,6 +102,11 @@ def texts(counts):
     yield "cycle", cycle(most), refused(0, "BareCycle")
     yield "between", between_cycles(most), refused(most, "BareCycle")
     yield "empty", empty(most), refused(most + 1, "EmptyElement")
+    names = colliding()
+    yield "plain", mentioned(plain(len(names))), listed(len(names))
+    yield "colliding", mentioned(names), listed(len(names))
+    yield "none", among_variables(0), listed(91)
+    yield "255", among_variables(255), listed(91)
 
 
 def main():
