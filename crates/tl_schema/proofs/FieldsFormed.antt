@@ -83,8 +83,7 @@ module _ (schema : Declared) (good : IsSchema schema) (i : ℕ) (d : DeclText) (
     condition (Some c) good_one =
         let b = flags_before c good_one in
         let is : b.earlier ≡ field_place d c.flags = field_place_is b.earlier b.f c.flags b.there b.name in
-        let before = b.before in
-        (
+        let before = b.before in (
           omega (arith, is, before),
           bit_below c good_one,
           (
