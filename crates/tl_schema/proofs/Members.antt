@@ -1,6 +1,6 @@
 -- The entries of a schema's declarations: own constructors are members of their types, which have one number of variables.
-use Rattle.std.proofs.Common.{◌≡◌, ◌≢◌, inl, inr, ℕ, ◌<◌, Bool, true, false, not, ◌&&◌, List, length, slice_get, Option, Some, None, refl, ap, ap₂, sym, ◌∙◌, subst, arith, if◌then◌else◌}
-use Rattle.std.proofs.lemmas.Bool.{cases_eq, both_ways}
+use Rattle.std.proofs.Common.{◌≡◌, inl, inr, ℕ, Bool, true, false, not, ◌&&◌, List, length, slice_get, Option, Some, None, refl, ap, ap₂, sym, ◌∙◌, arith, if◌then◌else◌}
+use Rattle.std.proofs.lemmas.Bool.{cases_eq}
 use Rattle.std.proofs.lemmas.Option.{none-some, slice_get_within, slice_get_cases}
 use Rattle.tl_combinators.specs.Program.{DeclText}
 use Rattle.tl_schema.specs.Writing.{At, is_constructor, result_head, own_type, IsConstructorOf}
