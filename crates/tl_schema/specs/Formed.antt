@@ -77,7 +77,7 @@ pub record IsFormedField (schema : Declared) (d : Declaration) (k : ℕ) (f : Sl
   pub cond : IsCondition d.fields k f.cond
   pub type : (f.of ≡ flag) ⊎ IsFormedOver schema (field_variables d) f.of
 
--- declaration i is no line of a built-in type; the checks pass such a line over, which declares nothing
+-- declaration i is no line of a built-in type; the checks look at no type of such a line
 abbrev pub IsOwn : Declared → ℕ → Type 0
 IsOwn schema i = (t : DeclText) × At schema.program i t × (t.builtin ≡ false)
 

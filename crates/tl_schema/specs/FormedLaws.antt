@@ -6,7 +6,7 @@ use Rattle.tl_schema.specs.CheckedPrograms.{IsSchema}
 use Rattle.tl_schema.specs.Closing.{closed, list_of_shapes}
 use Rattle.tl_schema.specs.Formed.{IsFormedOver, AreArguments, IsEmpty, count_of, HasFormedFields}
 
--- in a schema each field of each declaration is formed
+-- in a schema each field of each declaration is formed, built-in types' lines aside
 abbrev pub FieldsAreFormed : Type 0
 FieldsAreFormed = (schema : Declared) → IsSchema schema → HasFormedFields schema
 
