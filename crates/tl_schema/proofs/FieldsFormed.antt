@@ -19,7 +19,7 @@ use Rattle.tl_schema.specs.Types as shape
 use Rattle.tl_schema.specs.Schemas.{Slot, Declaration, Declared}
 use Rattle.tl_names.specs.Places.{variable_of}
 use Rattle.tl_schema.specs.Meanings.{kind_shape, field_place, condition_of, slot_of, declaration_of}
-use Rattle.tl_schema.specs.Formed.{IsFormedOver, IsCondition, IsFormedField, HasFormedFields}
+use Rattle.tl_schema.specs.Formed.{IsFormedOver, IsCondition, IsFormedField}
 use Rattle.tl_schema.specs.FormedLaws.{FieldsAreFormed}
 use Rattle.tl_schema.proofs.HeadNames.{type_name}
 use Rattle.tl_schema.proofs.BadFlagFirst.{flags_before_decided}

@@ -15,7 +15,7 @@ pub fn each_text_is_a_type_or_refused()
     ensures { (ds : List DeclText) (text : List ℕ) → IsOneTypeOrRefused ds text }
 {}
 
-/// In a schema each field of each declaration has a good condition, and is a flag or has a formed type.
+/// In a schema each field has a good condition, and is a flag or has a formed type; the lines of built-in types aside.
 pub fn fields_are_formed()
     ensures { FieldsAreFormed }
 {}
