@@ -9,3 +9,6 @@ pub mod Maps
 pub mod MadeLists
 pub mod MapEntries
 pub mod ResolvedNames
+pub mod SomeParts
+pub mod FewParts
+pub mod NameMeanings

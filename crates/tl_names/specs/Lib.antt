@@ -9,3 +9,5 @@ pub mod Indexed
 pub mod Meants
 pub mod MeantDecls
 pub mod MeantViews
+pub mod Parts
+pub mod MeantParts

@@ -1,7 +1,6 @@
 //! Declarations resolved.
 ghost use Rattle.std.specs.Prelude.{◌≡◌, ◌≤◌, IfOk, length, map};
-ghost use Rattle.tl_combinators.specs.Program.{decl_text, program_text};
-ghost use Rattle.tl_combinators.specs.Program.{IsWithinLimits};
+ghost use Rattle.tl_combinators.specs.Program.{HasFewParts, IsWithinLimits, decl_text, part_limit, program_text};
 ghost use Rattle.tl_names.specs.MeantDecls.{head_number, meant_decl};
 ghost use Rattle.tl_names.specs.MeantViews.{NumbersNames, decl_view};
 ghost use Rattle.tl_names.specs.Writing.{own_type};
@@ -33,8 +32,7 @@ pub fn resolve(
 }
 
 fn meant_decl(alloc: Global, index: &Index, decl: &Decl) -> Result<MeantDecl, AllocError>
-    requires vars { length (decl_text decl.now).vars ≤ 256 }
-    requires fields { length (decl_text decl.now).fields ≤ 256 }
+    requires { HasFewParts (decl_text decl.now) }
     ensures { IfOk result (λ m. decl_view m ≡ meant_decl index.now (decl_text decl.now)) }
 {
     let vars = numbered(alloc, &decl.vars)?;
@@ -51,7 +49,7 @@ fn meant_decl(alloc: Global, index: &Index, decl: &Decl) -> Result<MeantDecl, Al
 
 // The first index of each of the names.
 fn numbered(alloc: Global, names: &[Bytes]) -> Result<Names, AllocError>
-    requires { length names.now ≤ 256 }
+    requires { length names.now ≤ part_limit }
     ensures { IfOk result (NumbersNames names.now) }
 {
     let mut numbers = Names::new(alloc);

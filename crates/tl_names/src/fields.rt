@@ -2,7 +2,7 @@
 ghost use Rattle.std.specs.Prelude.{◌≡◌, ◌≤◌, IfOk, is_some, length, map};
 ghost use Rattle.std.specs.List.{list_any};
 ghost use Rattle.std.specs.Option.{option_map};
-ghost use Rattle.tl_combinators.specs.Program.{FieldText, cond_texts, field_text, kind_text};
+ghost use Rattle.tl_combinators.specs.Program.{FieldText, cond_texts, field_text, kind_text, part_limit};
 ghost use Rattle.tl_names.specs.NamePlaces.{place_in};
 ghost use Rattle.tl_names.specs.MeantDecls.{cond_by, field_by, kind_by};
 ghost use Rattle.tl_names.specs.MeantViews.{NumbersAsked, NumbersFields, field_view, kind_view, what_in};
@@ -80,7 +80,7 @@ fn meant_kind(
 
 /// The indices of fields by name, where a condition asks for one.
 pub fn asked_names(alloc: Global, fields: &[Field]) -> Result<Names, AllocError>
-    requires { length fields.now ≤ 256 }
+    requires { length fields.now ≤ part_limit }
     ensures { IfOk result (NumbersAsked (map field_text fields.now)) }
 {
     if has_condition(fields) {
@@ -98,7 +98,7 @@ fn has_condition(fields: &[Field]) -> bool
 
 // The index of each field by its name.
 fn field_names(alloc: Global, fields: &[Field]) -> Result<Names, AllocError>
-    requires { length fields.now ≤ 256 }
+    requires { length fields.now ≤ part_limit }
     ensures { IfOk result (NumbersFields (map field_text fields.now)) }
 {
     let mut names = Names::new(alloc);

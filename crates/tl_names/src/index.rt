@@ -86,7 +86,7 @@ impl Index {
     fn known(&self, name: &[u8]) -> What
         ensures { result ≡ known_what self.now name.now }
     {
-        match BuiltIn::of_name(name) {
+        match BuiltIn::of(name) {
             Some(built_in) => base_what(built_in),
             None => {
                 if name == b"Vector".as_slice() {

@@ -2,7 +2,7 @@
 use crate::what::What;
 
 /// A type with each name resolved.
-#[derive(Debug, Drop)]
+#[derive(Drop)]
 pub enum Meant {
     Named { what: What, args: Vec<Meant> },
     /// What stands after `%`.
@@ -12,7 +12,7 @@ pub enum Meant {
 }
 
 /// The condition of a field.
-#[derive(Clone, Copy, Debug, PartialEq, Eq)]
+#[derive(Clone, Copy)]
 pub struct MeantCond {
     /// The index of the first field with the name that the condition asks for.
     pub flags: Option<u32>,
@@ -20,7 +20,7 @@ pub struct MeantCond {
 }
 
 /// What a field holds.
-#[derive(Debug, Drop)]
+#[derive(Drop)]
 pub enum MeantKind {
     /// `#`.
     Nat,
@@ -32,14 +32,14 @@ pub enum MeantKind {
 }
 
 /// A field of a declaration. Its name stands in the program.
-#[derive(Debug, Drop)]
+#[derive(Drop)]
 pub struct MeantField {
     pub cond: Option<MeantCond>,
     pub kind: MeantKind,
 }
 
 /// A declaration. Its name and those of its variables stand in the program.
-#[derive(Debug, Drop)]
+#[derive(Drop)]
 pub struct MeantDecl {
     pub vars: u32,
     pub fields: Vec<MeantField>,

@@ -2,7 +2,7 @@
 use tl_combinators::BuiltIn;
 
 /// What a name means where a declaration writes it.
-#[derive(Clone, Copy, Debug, PartialEq, Eq)]
+#[derive(Clone, Copy, PartialEq, Eq)]
 pub enum What {
     /// The variable of the declaration at this index.
     Variable { index: u32 },

@@ -2,18 +2,14 @@ use Rattle.tl_combinators.specs.Program.{decl_text, program_text}
 use Rattle.tl_names.specs.MeantDecls.{meant_decl}
 use Rattle.tl_names.specs.MeantViews.{decl_view}
 use Rattle.tl_names.proofs.Maps.{slice_get_item}
+use Rattle.tl_names.proofs.FewParts.{few_parts_at}
 use Rattle.tl_names.proofs.MadeLists.{made_more}
 use Rattle.tl_names.proofs.declarations.resolve.Goals as goal
 
-pub meant_decl-requires-clause-vars : goal.meant_decl-requires-clause-vars
-meant_decl-requires-clause-vars c =
+pub meant_decl-requires : goal.meant_decl-requires
+meant_decl-requires c =
     let at = slice_get_item decl_text c.args.program.now.decls.items c.loop-decl.decl-index c.decl-item.result (rw c.deref-decl-items.ensures.value at c.loop-decl-test.true) (rw c.deref-decl-items.ensures.value at c.decl-item.is) in
-    c.requires.variables c.loop-decl.decl-index (decl_text c.decl-item.result) at
-
-pub meant_decl-requires-clause-fields : goal.meant_decl-requires-clause-fields
-meant_decl-requires-clause-fields c =
-    let at = slice_get_item decl_text c.args.program.now.decls.items c.loop-decl.decl-index c.decl-item.result (rw c.deref-decl-items.ensures.value at c.loop-decl-test.true) (rw c.deref-decl-items.ensures.value at c.decl-item.is) in
-    c.requires.fields c.loop-decl.decl-index (decl_text c.decl-item.result) at
+    few_parts_at (program_text c.args.program.now) c.requires.parts c.loop-decl.decl-index (decl_text c.decl-item.result) at
 
 pub loop-decl-preserved : goal.loop-decl-preserved
 loop-decl-preserved c =
