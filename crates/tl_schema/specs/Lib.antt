@@ -17,7 +17,6 @@ pub mod BareCycle
 pub mod EmptyElement
 pub mod BareSteps
 pub mod Indexed
-pub mod Parts
 pub mod BareForms
 pub mod Arities
 pub mod SameNameSteps

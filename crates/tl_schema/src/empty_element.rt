@@ -4,7 +4,7 @@ ghost use Rattle.tl_combinators.specs.Trees.{trees_of, view, views};
 ghost use Rattle.tl_combinators.specs.Program.{decl_text, program_text};
 ghost use Rattle.tl_graph.specs.Firsts.{First};
 ghost use Rattle.tl_schema.specs.EmptyElement.{AppliesToEmpty, EmptyElement};
-ghost use Rattle.tl_schema.specs.Parts.{SomePart};
+ghost use Rattle.tl_names.specs.Parts.{SomePart};
 ghost use Rattle.tl_schema.specs.BareSteps.{HasMarkedArg, IsMarkedBare};
 
 use crate::declarations::first_that_writes;

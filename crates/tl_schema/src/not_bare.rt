@@ -5,7 +5,7 @@ ghost use Rattle.tl_combinators.specs.Program.{decl_text, program_text};
 ghost use Rattle.tl_graph.specs.Firsts.{First};
 ghost use Rattle.tl_schema.specs.NotBare.{HasBare, HasNoBare, NotBare};
 ghost use Rattle.tl_schema.specs.BareForms.{IsBareName};
-ghost use Rattle.tl_schema.specs.Parts.{SomePart};
+ghost use Rattle.tl_names.specs.Parts.{SomePart};
 
 use crate::declarations::first_that_writes;
 use crate::index::Index;

@@ -3,7 +3,7 @@ ghost use Rattle.std.specs.Prelude.{◌≡◌, IfOk, OnOk};
 ghost use Rattle.tl_combinators.specs.Trees.{Trees, named, percent, trees_of, view, views};
 ghost use Rattle.tl_combinators.specs.Program.{decl_text, kind_text, program_text};
 ghost use Rattle.tl_graph.specs.Paths.{edges_in};
-ghost use Rattle.tl_schema.specs.Writing.{HeldBy, IsPart, IsPartOfOne};
+ghost use Rattle.tl_names.specs.Parts.{HeldBy, IsPart, IsPartOfOne};
 ghost use Rattle.tl_schema.specs.BareSteps.{Adds, AreReferences, BareIs, Refers};
 
 use crate::index::Index;

@@ -4,7 +4,7 @@ ghost use Rattle.tl_combinators.specs.Trees.{view};
 ghost use Rattle.tl_combinators.specs.Program.{decl_text, program_text};
 ghost use Rattle.tl_graph.specs.Firsts.{First};
 ghost use Rattle.tl_schema.specs.Arities.{IsArity, VarsOfFirst};
-ghost use Rattle.tl_schema.specs.Parts.{SomePart};
+ghost use Rattle.tl_names.specs.Parts.{SomePart};
 ghost use Rattle.tl_names.specs.Writing.{IsConstructorNamed, IsConstructorOf};
 ghost use Rattle.tl_schema.specs.WrongArity.{ConstructsUneven, IsMisapplied, Misapplies, WrongArity};
 
