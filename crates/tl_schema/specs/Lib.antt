@@ -16,7 +16,6 @@ pub mod BareReferences
 pub mod BareCycle
 pub mod EmptyElement
 pub mod BareSteps
-pub mod Indexed
 pub mod BareForms
 pub mod Arities
 pub mod SameNameSteps

@@ -1,12 +1,11 @@
 //! Types by their texts.
-ghost use Rattle.std.specs.Prelude.{◌≡◌, ◌<◌, ◌^◌, length};
+ghost use Rattle.std.specs.Prelude.{◌≡◌};
 ghost use Rattle.tl_combinators.specs.Trees.{view};
-ghost use Rattle.tl_combinators.specs.Program.{decl_text, program_text};
-ghost use Rattle.tl_schema.specs.Meanings.{IsSmall};
+ghost use Rattle.tl_combinators.specs.Program.{decl_text};
+ghost use Rattle.tl_schema.specs.BareSteps.{MarksEmpty};
 ghost use Rattle.tl_schema.specs.AskedTypes.{ChecksType, NamesType, PassesType, asker};
 
 use crate::empty_element::has_empty_argument;
-use crate::index::Index;
 use crate::not_bare::writes_no_bare;
 use crate::scope::Scope;
 use crate::terms::type_term;
@@ -15,8 +14,9 @@ use crate::wrong_arity::writes_misapplied;
 use crate::{Schema, TypeCause, TypeFault, TypeRef};
 use std::alloc::Global;
 use tl_base::Bytes;
-use tl_combinators::{Decl, Program, TypeTree, parse_type};
+use tl_combinators::{Decl, TypeTree, parse_type};
 use tl_lexer::lex;
+use tl_names::Index;
 
 /// The type that a text names: a closed type of the schema, or `!` for a call of any of its functions.
 pub fn type_of(alloc: Global, schema: &Schema, text: &[u8]) -> Result<TypeRef, TypeFault>
@@ -24,7 +24,7 @@ pub fn type_of(alloc: Global, schema: &Schema, text: &[u8]) -> Result<TypeRef, T
 {
     let tokens = lex(alloc, text)?;
     let tree = parse_type(alloc, text, &tokens)?;
-    checked_type(alloc, schema.program(), &asker(alloc), &tree)
+    checked_type(alloc, schema.index(), schema.empties(), &tree)
 }
 
 // Who asks for a type: no declaration of the program, and one without variables.
@@ -46,33 +46,25 @@ fn asker(alloc: Global) -> Decl
 // The type, where it has none of the causes that a type alone can have.
 fn checked_type(
     alloc: Global,
-    program: &Program,
-    decl: &Decl,
+    index: &Index,
+    marks: &[bool],
     tree: &TypeTree,
 ) -> Result<TypeRef, TypeFault>
-    requires small { IsSmall (program_text program.now) }
-    requires asks { decl_text decl.now ≡ asker }
-    ensures { ChecksType (program_text program.now) (view tree.now) result }
+    requires { MarksEmpty index.now marks.now }
+    ensures { ChecksType index.now (view tree.now) result }
 {
-    let index = Index::of(alloc, program)?;
-    pass_type(alloc, &index, program, decl, tree)?;
-    let scope = Scope::of(alloc, &index, program)?;
-    let term = type_term(alloc, &scope, decl, tree)?;
+    let decl = asker(alloc);
+    pass_type(index, marks, &decl, tree)?;
+    let scope = Scope::of(alloc, index, &decl)?;
+    let term = type_term(alloc, &scope, tree)?;
     Ok(term)
 }
 
 // Refuses a type for the first cause that it has.
-fn pass_type(
-    alloc: Global,
-    index: &Index,
-    program: &Program,
-    decl: &Decl,
-    tree: &TypeTree,
-) -> Result<(), TypeFault>
-    requires same { index.now ≡ program_text program.now }
-    requires few { length (program_text program.now) < 2 ^ 32 }
+fn pass_type(index: &Index, marks: &[bool], decl: &Decl, tree: &TypeTree) -> Result<(), TypeFault>
+    requires marks { MarksEmpty index.now marks.now }
     requires asks { decl_text decl.now ≡ asker }
-    ensures { PassesType (program_text program.now) (view tree.now) result }
+    ensures { PassesType index.now (view tree.now) result }
 {
     if writes_unknown(index, decl, tree) {
         return Err(TypeFault::Refused {
@@ -89,8 +81,7 @@ fn pass_type(
             cause: TypeCause::NotBare,
         });
     }
-    let is_empty = has_empty_argument(alloc, index, program, decl, tree)?;
-    if is_empty {
+    if has_empty_argument(index, marks, decl, tree) {
         return Err(TypeFault::Refused {
             cause: TypeCause::EmptyElement,
         });
