@@ -1,5 +1,5 @@
 -- The index of a type's first constructor.
-use Rattle.std.proofs.Common.{◌≡◌, ℕ, Bool, true, false, List, length, bytes_eq, Option, Some, None, refl, ap, sym, true≢false, if◌then◌else◌}
+use Rattle.std.proofs.Common.{◌≡◌, ℕ, Bool, true, false, List, length, Option, Some, None, refl, ap, sym, true≢false, if◌then◌else◌}
 use Rattle.std.specs.Bool.{Decides}
 use Rattle.std.proofs.lemmas.Option.{none-some, same_Some}
 use Rattle.std.proofs.lemmas.Slice.Eq.{bytes_eq-Decides}

@@ -1,6 +1,5 @@
 -- Which declaration has a number, as declarations come.
 use Rattle.std.proofs.Common.{◌≡◌, ◌⊎◌, inl, inr, ℕ, ◌+◌, ◌<◌, Bool, true, false, cond, List, [], ◌∷◌, length, slice_get, Option, Some, None, refl, ap, sym, subst, ◌∙◌, true≢false, arith, nat_lt, Ordering, Less, Equal, Greater}
-use Rattle.std.specs.Map.{lookup}
 use Rattle.std.specs.Ordering.{is_eq, match_ordering, nat_cmp}
 use Rattle.std.specs.BTreeMap.{insert_entry}
 use borrow.Author.Tests.{ltb-true}

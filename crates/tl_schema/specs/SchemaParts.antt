@@ -1,5 +1,5 @@
 -- What a schema keeps beside its entries: the indices of names and of numbers, and which constructors take no bytes. This project's own.
-use Rattle.std.specs.Prelude.{◌≡◌, ℕ, List, Bool, true, false, Option}
+use Rattle.std.specs.Prelude.{ℕ, List, Bool, true, false, Option}
 use Rattle.std.specs.Map.{lookup}
 use Rattle.std.specs.Ordering.{is_eq, nat_cmp}
 use Rattle.tl_combinators.specs.Program.{DeclText, HasFewParts}
