@@ -5,7 +5,7 @@ use Rattle.std.proofs.lemmas.Option.{none-some, same_Some, slice_get_within}
 use Rattle.std.proofs.lemmas.List.{take_all}
 use Rattle.tl_combinators.specs.Trees.{Tree, Trees, named, percent, any_call, trees_of}
 use Rattle.tl_combinators.specs.Program.{FieldText, DeclText}
-use Rattle.tl_schema.specs.Writing.{HeldBy, IsPart, IsPartOfOne}
+use Rattle.tl_names.specs.Parts.{HeldBy, IsPart, IsPartOfOne}
 use Rattle.tl_names.specs.Writing.{is_constructor}
 use Rattle.tl_schema.specs.inner.BareSteps.{Adds, Refers}
 use Rattle.tl_schema.proofs.Maps.{take_push}

@@ -4,7 +4,7 @@ use Rattle.std.proofs.lemmas.List.{length_push}
 use Rattle.std.proofs.lemmas.Option.{none-some, same_Some, slice_get_cases, slice_get_within}
 use Rattle.tl_combinators.specs.Program.{FieldText, DeclText}
 use Rattle.tl_names.specs.Writing.{At, is_constructor}
-use Rattle.tl_schema.specs.Writing.{FieldAt}
+use Rattle.tl_names.specs.Parts.{FieldAt}
 use Rattle.tl_schema.specs.EmptyElement.{HoldsBare, HasBareFields}
 use Rattle.tl_schema.specs.inner.BareSteps.{BareFieldsAre, HeldIs, AreNeeds}
 use Rattle.tl_schema.proofs.Places.{get_cases}

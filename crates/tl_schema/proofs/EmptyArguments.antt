@@ -4,7 +4,7 @@ use Rattle.tl_combinators.specs.Trees.{Tree, named, percent, any_call}
 use Rattle.tl_combinators.specs.Program.{DeclText}
 use Rattle.tl_graph.specs.Firsts.{First}
 use Rattle.tl_schema.specs.Writing.{DeclarationHas}
-use Rattle.tl_schema.specs.Parts.{SomePart, SomeWritten}
+use Rattle.tl_names.specs.Parts.{SomePart, SomeWritten}
 use Rattle.tl_schema.specs.EmptyElement.{AppliesToEmpty, EmptyElement}
 use Rattle.tl_schema.specs.inner.BareSteps.{MarksEmpty, AppliesToMarked}
 use Rattle.tl_schema.proofs.Places.{first_same}

@@ -6,7 +6,7 @@ use Rattle.tl_combinators.specs.Trees.{Tree, Trees, named, percent, any_call, no
 use Rattle.tl_combinators.specs.Program.{DeclText}
 use Rattle.tl_graph.specs.Firsts.{First}
 use Rattle.tl_graph.proofs.Deciding.{below_decided}
-use Rattle.tl_schema.specs.Parts.{SomeWritten}
+use Rattle.tl_names.specs.Parts.{SomeWritten}
 use Rattle.tl_schema.specs.BareReferences.{IsBareOf}
 use Rattle.tl_schema.specs.EmptyElement.{TakesNone, IsOneOf, AppliesToEmpty, EmptyElement}
 use Rattle.tl_schema.proofs.WritingDecided.{writes_decided}

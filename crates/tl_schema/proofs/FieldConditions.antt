@@ -3,7 +3,7 @@ use Rattle.std.proofs.Common.{◌≡◌, inl, inr, ℕ, ◌+◌, ◌<◌, ◌≤
 use Rattle.std.proofs.lemmas.Bool.{cases_eq}
 use Rattle.std.proofs.lemmas.Option.{slice_get_within, same_Some}
 use Rattle.tl_combinators.specs.Program.{FieldText, DeclText}
-use Rattle.tl_schema.specs.Writing.{FieldAt}
+use Rattle.tl_names.specs.Parts.{FieldAt}
 use Rattle.tl_schema.specs.BadFlag.{IsFlagsBefore, IsBadCondition, HasBadCondition}
 use Rattle.tl_schema.specs.inner.ConditionSteps.{IsFlags}
 

@@ -7,7 +7,7 @@ use Rattle.std.proofs.lemmas.Slice.Eq.{bytes_eq-Decides}
 use Rattle.tl_combinators.specs.Trees.{Tree, named, percent, any_call}
 use Rattle.tl_combinators.specs.Program.{KindText, nat, flag, call, of, CondText, FieldText, DeclText}
 use Rattle.tl_names.specs.Writing.{At, is_function}
-use Rattle.tl_schema.specs.Writing.{FieldAt, HeldBy, InFields, Writes}
+use Rattle.tl_names.specs.Parts.{FieldAt, HeldBy, InFields, Writes}
 use Rattle.tl_schema.specs.SameName.{part_names}
 use Rattle.tl_schema.specs.SameName as same_name
 use Rattle.tl_schema.specs.UnknownVariable.{NamesVariable, in_field}

@@ -7,7 +7,7 @@ use Rattle.tl_combinators.specs.Trees.{Tree, Trees, named, percent, any_call, no
 use Rattle.tl_combinators.specs.Program.{DeclText}
 use Rattle.tl_graph.specs.Firsts.{First}
 use Rattle.tl_names.specs.Writing.{is_type_name, is_vector_name, is_built_in, is_variable, IsConstructorOf, IsConstructorNamed}
-use Rattle.tl_schema.specs.Writing.{IsPart, IsPartOfOne}
+use Rattle.tl_names.specs.Parts.{IsPart, IsPartOfOne}
 use Rattle.tl_schema.specs.UnknownType.{BeginsUnknown, no_type, no_constructor}
 use Rattle.tl_schema.specs.UnknownVariable.{NamesVariable}
 use Rattle.tl_schema.specs.WrongArity.{HasArity, Misapplies}

@@ -1,8 +1,5 @@
 pub mod Deciding
 pub mod Places
-pub mod NamedEntries
-pub mod IndexSteps
-pub mod LastWords
 pub mod PartsOfOne
 pub mod UnknownParts
 pub mod BareParts
@@ -15,7 +12,6 @@ mod Maps
 mod NameKeys
 mod Repeats
 mod TypeNames
-mod UnevenTypes
 mod ArityCases
 mod ListParts
 mod Misapplied
@@ -52,10 +48,10 @@ mod EmptyNodes
 mod BareFields
 mod MarkedArguments
 mod HeadNames
-mod PlacedNames
 mod TestedPlaces
-mod DeclaredPlaces
-mod DeclaredTypes
+mod FirstPlaces
+mod MeantEntries
+mod NumberedPlaces
 mod MadeLists
 mod MeantTypes
 mod DeclaredEntries

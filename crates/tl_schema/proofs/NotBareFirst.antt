@@ -7,7 +7,7 @@ use Rattle.tl_combinators.specs.Trees.{Tree, Trees, named, percent, any_call}
 use Rattle.tl_combinators.specs.Program.{DeclText}
 use Rattle.tl_graph.specs.Firsts.{First}
 use Rattle.tl_names.specs.Writing.{is_type_name, is_variable}
-use Rattle.tl_schema.specs.Parts.{SomeWritten}
+use Rattle.tl_names.specs.Parts.{SomeWritten}
 use Rattle.tl_names.specs.Constructors.{IsOnlyConstructor}
 use Rattle.tl_schema.specs.NotBare.{HasBare, vector, single, HasNoBare, NotBare}
 use Rattle.tl_schema.proofs.PlacesDecided.{bool_decided}

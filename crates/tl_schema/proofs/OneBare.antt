@@ -5,7 +5,7 @@ use Rattle.tl_combinators.specs.Trees.{Tree}
 use Rattle.tl_combinators.specs.Program.{KindText, nat, flag, call, of, FieldText, DeclText}
 use Rattle.tl_graph.specs.Firsts.{First}
 use Rattle.tl_graph.specs.Paths.{IsIn}
-use Rattle.tl_schema.specs.Writing.{FieldAt}
+use Rattle.tl_names.specs.Parts.{FieldAt}
 use Rattle.tl_names.specs.Writing.{IsConstructorNamed}
 use Rattle.tl_schema.specs.BareReferences.{IsBareOf, by_name, by_type}
 use Rattle.tl_schema.specs.EmptyElement.{HoldsBare, HasBareFields}

@@ -3,9 +3,8 @@ use Rattle.std.proofs.Common.{◌≡◌, ◌⊎◌, inl, inr, ℕ, zero, suc, �
 use Rattle.std.proofs.lemmas.Option.{none-some, same_Some}
 use Rattle.std.proofs.lemmas.List.{take_all}
 use Rattle.tl_combinators.specs.Trees.{Tree, trees_of}
-use Rattle.tl_schema.specs.Writing.{IsPart, IsPartOfOne}
-use Rattle.tl_schema.specs.Parts.{SomePart}
-use Rattle.tl_schema.specs.inner.PartLists.{SomePartOfOne}
+use Rattle.tl_names.specs.Parts.{IsPart, IsPartOfOne}
+use Rattle.tl_names.specs.Parts.{SomePart, SomePartOfOne}
 use Rattle.tl_schema.proofs.Maps.{take_push}
 
 part_of_item : (u : Tree) (ts : List Tree) (i : ℕ) (t : Tree) → slice_get ts i ≡ Some t → IsPart u t → IsPartOfOne u (trees_of ts)

@@ -3,7 +3,7 @@ use Rattle.std.proofs.Common.{◌≡◌, ◌⊎◌, inl, inr, ℕ, List, refl, a
 use Rattle.tl_lexer.proofs.Whole.{Decided}
 use Rattle.tl_combinators.proofs.Decided.{decided_as, decided_or, text_decided}
 use Rattle.tl_combinators.specs.Trees.{Tree, Trees, named, percent, any_call, no_trees, tree}
-use Rattle.tl_schema.specs.Writing.{IsPart, IsPartOfOne}
+use Rattle.tl_names.specs.Parts.{IsPart, IsPartOfOne}
 
 -- ---- equal types
 

@@ -6,7 +6,7 @@ use Rattle.tl_combinators.specs.Trees.{Tree, named, percent, any_call}
 use Rattle.tl_combinators.specs.Program.{DeclText}
 use Rattle.tl_graph.specs.Firsts.{First}
 use Rattle.tl_names.specs.Writing.{is_type_name, is_built_in, is_variable, IsConstructorOf, IsConstructorNamed}
-use Rattle.tl_schema.specs.Parts.{SomeWritten}
+use Rattle.tl_names.specs.Parts.{SomeWritten}
 use Rattle.tl_schema.specs.UnknownType.{IsUnknown, no_type, no_constructor, BeginsUnknown, UnknownType}
 use Rattle.tl_schema.proofs.PlacesDecided.{bool_decided}
 use Rattle.tl_schema.proofs.WritingDecided.{constructor_decided, named_constructor_decided, writes_decided}

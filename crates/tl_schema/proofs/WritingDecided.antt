@@ -7,7 +7,7 @@ use Rattle.tl_combinators.proofs.Decided.{decided_as, decided_not, decided_and, 
 use Rattle.tl_combinators.specs.Trees.{Tree}
 use Rattle.tl_combinators.specs.Program.{KindText, nat, flag, call, of, DeclText}
 use Rattle.tl_names.specs.Writing.{At, is_constructor, result_head, IsConstructorOf, IsConstructorNamed}
-use Rattle.tl_schema.specs.Writing.{IsPart, HeldBy, InFields, Writes}
+use Rattle.tl_names.specs.Parts.{IsPart, HeldBy, InFields, Writes}
 use Rattle.tl_names.specs.Constructors.{IsOnlyConstructor}
 use Rattle.tl_schema.proofs.PlacesDecided.{bool_decided, option_decided, some_decided}
 use Rattle.tl_schema.proofs.TypesDecided.{part_decided}

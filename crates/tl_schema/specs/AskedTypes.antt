@@ -5,7 +5,7 @@ use Rattle.tl_lexer.specs.Tokens.{Tokens, LexRefused}
 use Rattle.tl_combinators.specs.Trees.{Tree, any_call}
 use Rattle.tl_combinators.specs.Program.{DeclText}
 use Rattle.tl_combinators.specs.Sentences.{ReadsType, TypeRefused}
-use Rattle.tl_schema.specs.Parts.{SomePart}
+use Rattle.tl_names.specs.Parts.{SomePart}
 use Rattle.tl_schema.specs.UnknownType.{BeginsUnknown}
 use Rattle.tl_schema.specs.WrongArity.{Misapplies}
 use Rattle.tl_schema.specs.NotBare.{HasNoBare}

@@ -5,7 +5,7 @@ use Rattle.tl_combinators.specs.Trees.{Tree, Trees, named, percent}
 use Rattle.tl_combinators.specs.Program.{DeclText}
 use Rattle.tl_graph.specs.Firsts.{First}
 use Rattle.tl_names.specs.Writing.{At, is_constructor, is_type_name, is_built_in, is_variable, IsConstructorNamed}
-use Rattle.tl_schema.specs.Writing.{InFields}
+use Rattle.tl_names.specs.Parts.{InFields}
 use Rattle.tl_names.specs.Constructors.{IsOnlyConstructor}
 
 -- where d writes it, the type is the bare constructor j

@@ -5,8 +5,9 @@ use Rattle.tl_combinators.specs.Trees.{Tree, Trees, named, percent, any_call, no
 use Rattle.tl_combinators.specs.Program.{KindText, nat, flag, call, of, FieldText, DeclText}
 use Rattle.tl_graph.specs.Paths.{IsIn}
 use Rattle.tl_names.specs.Writing.{At, is_constructor}
-use Rattle.tl_schema.specs.Writing.{FieldAt, DeclarationHas}
-use Rattle.tl_schema.specs.Parts.{SomeWritten}
+use Rattle.tl_names.specs.Parts.{FieldAt}
+use Rattle.tl_schema.specs.Writing.{DeclarationHas}
+use Rattle.tl_names.specs.Parts.{SomeWritten}
 use Rattle.tl_schema.specs.BareReferences.{IsBareOf}
 
 -- what a field of d holds is the bare constructor j

@@ -14,7 +14,6 @@ pub mod SameNumber
 pub mod BareReferences
 pub mod BareCycle
 pub mod EmptyElement
-pub mod Parts
 pub mod CheckCauses
 pub mod Meanings
 pub mod CheckedPrograms

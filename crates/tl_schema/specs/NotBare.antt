@@ -6,7 +6,7 @@ use Rattle.tl_combinators.specs.Program.{DeclText}
 use Rattle.tl_names.specs.Constructors.{IsOnlyConstructor}
 use Rattle.tl_names.specs.Writing.{is_type_name, is_variable, IsConstructorOf}
 use Rattle.tl_schema.specs.Writing.{DeclarationHas}
-use Rattle.tl_schema.specs.Parts.{SomeWritten}
+use Rattle.tl_names.specs.Parts.{SomeWritten}
 
 -- the type has a bare form: it is `Vector`, or a type with exactly one constructor
 pub data HasBare (ds : List DeclText) (d : DeclText) (t : Tree) : Type 0 where

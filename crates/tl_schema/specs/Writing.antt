@@ -1,44 +1,7 @@
--- What the declarations of a program write: types and their parts.
--- From "TL language" and "Formal description of TL" (core.telegram.org/mtproto/TL, /mtproto/TL-formal).
-use Rattle.std.specs.Prelude.{◌≡◌, ◌⊎◌, ℕ, List, false, slice_get, Some}
-use Rattle.tl_combinators.specs.Trees.{Tree, Trees, named, percent, any_call, no_trees, tree}
-use Rattle.tl_combinators.specs.Program.{KindText, nat, flag, call, of, FieldText, DeclText}
+-- Declarations of a program with a property. This project's own.
+use Rattle.std.specs.Prelude.{ℕ, List}
+use Rattle.tl_combinators.specs.Program.{DeclText}
 use Rattle.tl_names.specs.Writing.{At}
-
--- ---- types and their parts
-
-abbrev mutual
-  -- u is the type itself, or a part of it at any depth
-  pub IsPart : Tree → Tree → Type 0
-  IsPart u (named name ts) = (u ≡ named name ts) ⊎ IsPartOfOne u ts
-  IsPart u (percent t) = (u ≡ percent t) ⊎ IsPart u t
-  IsPart u any_call = u ≡ any_call
-
-  -- u is a part of one of them
-  pub IsPartOfOne : Tree → Trees → Type 0
-  IsPartOfOne u no_trees = ⊥
-  IsPartOfOne u (tree t ts) = IsPart u t ⊎ IsPartOfOne u ts
-
--- u is a part of the type that the field holds
-abbrev pub HeldBy : Tree → KindText → Type 0
-HeldBy u nat = ⊥
-HeldBy u flag = ⊥
-HeldBy u (call var) = ⊥
-HeldBy u (of t) = IsPart u t
-
-abbrev pub FieldAt : DeclText → ℕ → FieldText → Type 0
-FieldAt d i f = slice_get d.fields i ≡ Some f
-
--- u is a part of a field's type
-abbrev pub InFields : DeclText → Tree → Type 0
-InFields d u = (i : ℕ) × (f : FieldText) × FieldAt d i f × HeldBy u f.kind
-
--- u is a part of a field's type or of the result; the line of a built-in type writes none
-pub record Writes (d : DeclText) (u : Tree) : Type 0 where
-  pub own : d.builtin ≡ false
-  pub there : InFields d u ⊎ IsPart u d.result
-
--- ---- declarations with a property
 
 -- declaration k has the property
 pub record DeclarationHas (P : DeclText → Type 0) (ds : List DeclText) (k : ℕ) : Type 0 where

@@ -1,8 +1,6 @@
 -- What inner clauses cite; a reader of the contracts needs none of it.
 pub mod NamesInOrder
-pub mod PartLists
 pub mod SchemaCodes
-pub mod Indexed
 pub mod SameNameSteps
 pub mod Arities
 pub mod VariableSteps

@@ -4,11 +4,11 @@ ghost use Rattle.tl_combinators.specs.Program.{program_text};
 ghost use Rattle.tl_graph.specs.Firsts.{First};
 ghost use Rattle.tl_schema.specs.BareCycle.{BareCycle};
 
-use crate::index::Index;
 use crate::references::references;
 use std::alloc::{AllocError, Global};
 use tl_combinators::Program;
 use tl_graph::{components_of, first_on_cycle};
+use tl_names::Index;
 
 /// The first declaration on a cycle of constructors of which each refers to the next, bare.
 pub fn first_bare_cycle(

@@ -2,7 +2,7 @@
 ghost use Rattle.std.specs.Prelude.{◌<◌, ◌^◌, ◌↔◌, IsTrue, length};
 ghost use Rattle.tl_combinators.specs.Program.{DeclText, decl_text, program_text};
 ghost use Rattle.tl_graph.specs.Firsts.{First};
-ghost use Rattle.tl_schema.specs.Parts.{SomeWritten};
+ghost use Rattle.tl_names.specs.Parts.{SomeWritten};
 ghost use Rattle.tl_schema.specs.Writing.{DeclarationHas};
 
 use crate::parts::{TypeTest, writes};
@@ -46,7 +46,7 @@ struct Writer<'t, T: TypeTest> {
 }
 
 impl<'t, T: TypeTest> DeclTest for Writer<'t, T> {
-    ghost use Rattle.tl_schema.specs.Parts.{SomeWritten};
+    ghost use Rattle.tl_names.specs.Parts.{SomeWritten};
 
     ghost holds = { λ s. SomeWritten (T.holds s.test.now) };
 

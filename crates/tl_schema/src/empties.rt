@@ -6,12 +6,12 @@ ghost use Rattle.tl_graph.specs.Needs.{IsMarked, needs_in};
 ghost use Rattle.tl_graph.specs.Steps.{IsMet, IsMetBy, MarksMore, unmarked};
 ghost use Rattle.tl_schema.specs.inner.BareSteps.{AreNeeds, BareFieldsAre, HeldIs, MarksEmpty};
 
-use crate::index::Index;
 use crate::meanings::is_constructor;
 use crate::references::{bare_of, references};
 use std::alloc::{AllocError, Global};
 use tl_combinators::{Decl, FieldKind, Program};
 use tl_graph::{components_of, marks_of};
+use tl_names::Index;
 
 /// Marks the constructors that take no bytes.
 pub fn empties(alloc: Global, index: &Index, program: &Program) -> Result<Vec<bool>, AllocError>

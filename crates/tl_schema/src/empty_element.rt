@@ -4,17 +4,17 @@ ghost use Rattle.tl_combinators.specs.Trees.{trees_of, view, views};
 ghost use Rattle.tl_combinators.specs.Program.{decl_text, program_text};
 ghost use Rattle.tl_graph.specs.Firsts.{First};
 ghost use Rattle.tl_schema.specs.EmptyElement.{AppliesToEmpty, EmptyElement};
-ghost use Rattle.tl_schema.specs.Parts.{SomePart};
-ghost use Rattle.tl_schema.specs.inner.BareSteps.{HasMarkedArg, IsMarkedBare};
+ghost use Rattle.tl_names.specs.Parts.{SomePart};
+ghost use Rattle.tl_schema.specs.inner.BareSteps.{HasMarkedArg, IsMarkedBare, MarksEmpty};
 
 use crate::declarations::first_that_writes;
 use crate::empties::empties;
-use crate::index::Index;
 use crate::parts::{TypeTest, has_part};
 use crate::references::bare_of;
 use std::alloc::{AllocError, Global};
 use tl_combinators::{Decl, Program, TypeTree};
 use tl_graph::is_marked;
+use tl_names::Index;
 
 /// The first declaration that applies a name to a bare constructor that takes no bytes.
 pub fn first_empty_element(
@@ -35,33 +35,21 @@ pub fn first_empty_element(
 }
 
 /// Whether a type or a part of it applies a name to a bare constructor that takes no bytes, where a declaration writes it.
-pub fn has_empty_argument(
-    alloc: Global,
-    index: &Index,
-    program: &Program,
-    decl: &Decl,
-    tree: &TypeTree,
-) -> Result<bool, AllocError>
-    requires same { index.now ≡ program_text program.now }
-    requires few { length (program_text program.now) < 2 ^ 32 }
-    ensures { IfOk result (λ b. IsTrue b ↔ SomePart (AppliesToEmpty (program_text program.now) (decl_text decl.now)) (view tree.now)) }
+pub fn has_empty_argument(index: &Index, marks: &[bool], decl: &Decl, tree: &TypeTree) -> bool
+    requires { MarksEmpty index.now marks.now }
+    ensures { IsTrue result ↔ SomePart (AppliesToEmpty index.now (decl_text decl.now)) (view tree.now) }
 {
-    let marks = empties(alloc, index, program)?;
-    let test = EmptyArgument {
-        index,
-        marks: marks.as_slice(),
-    };
-    Ok(has_part(tree, decl, &test))
+    has_part(tree, decl, &EmptyArgument { index, marks })
 }
 
 // Whether a type applies a name to a bare constructor that is marked.
 #[derive(Clone, Copy)]
-struct EmptyArgument<'t, 'a> {
-    index: &'t Index<'a>,
+struct EmptyArgument<'t> {
+    index: &'t Index,
     marks: &'t [bool],
 }
 
-impl<'t, 'a> TypeTest for EmptyArgument<'t, 'a> {
+impl<'t> TypeTest for EmptyArgument<'t> {
     ghost use Rattle.tl_schema.specs.inner.BareSteps.{AppliesToMarked};
 
     ghost holds = { λ s. AppliesToMarked s.index.now s.marks.now };

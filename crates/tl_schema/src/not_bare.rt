@@ -5,13 +5,14 @@ ghost use Rattle.tl_combinators.specs.Program.{decl_text, program_text};
 ghost use Rattle.tl_graph.specs.Firsts.{First};
 ghost use Rattle.tl_schema.specs.NotBare.{HasBare, HasNoBare, NotBare};
 ghost use Rattle.tl_schema.specs.inner.BareForms.{IsBareName};
-ghost use Rattle.tl_schema.specs.Parts.{SomePart};
+ghost use Rattle.tl_names.specs.Parts.{SomePart};
 
 use crate::declarations::first_that_writes;
-use crate::index::Index;
+use crate::families::is_single;
 use crate::meanings::{is_type_name, is_variable};
 use crate::parts::{TypeTest, has_part};
 use tl_combinators::{Decl, Program, TypeTree};
+use tl_names::Index;
 
 /// The first declaration that writes `%` before a type with no bare form, which `Vector` and each type with exactly one constructor have.
 /// From "TL language" (core.telegram.org/mtproto/TL), its bare types.
@@ -32,11 +33,11 @@ pub fn writes_no_bare(index: &Index, decl: &Decl, tree: &TypeTree) -> bool
 
 // Whether a type is `%` before one that has no bare form where a declaration writes it.
 #[derive(Clone, Copy)]
-struct NoBare<'t, 'a> {
-    index: &'t Index<'a>,
+struct NoBare<'t> {
+    index: &'t Index,
 }
 
-impl<'t, 'a> TypeTest for NoBare<'t, 'a> {
+impl<'t> TypeTest for NoBare<'t> {
     ghost use Rattle.tl_schema.specs.NotBare.{HasNoBare};
 
     ghost holds = { λ s. HasNoBare s.index.now };
@@ -66,5 +67,5 @@ fn is_bare_name(index: &Index, decl: &Decl, name: &[u8]) -> bool
     if is_variable(decl, name) {
         return false;
     }
-    name == b"Vector".as_slice() || (is_type_name(name) && index.is_single(name))
+    name == b"Vector".as_slice() || (is_type_name(name) && is_single(index, name))
 }

@@ -2,8 +2,7 @@
 ghost use Rattle.std.specs.Prelude.{◌≡◌, ◌↔◌, IsTrue, map};
 ghost use Rattle.tl_combinators.specs.Trees.{Tree, trees_of, view, views};
 ghost use Rattle.tl_combinators.specs.Program.{DeclText, decl_text, field_text, kind_text};
-ghost use Rattle.tl_schema.specs.Parts.{SomePart, SomeHeld, SomeInFields, SomeWritten};
-ghost use Rattle.tl_schema.specs.inner.PartLists.{SomePartOfOne};
+ghost use Rattle.tl_names.specs.Parts.{SomePart, SomePartOfOne, SomeHeld, SomeInFields, SomeWritten};
 
 use tl_combinators::{Decl, Field, FieldKind, TypeTree};
 

@@ -1,14 +1,17 @@
 //! The checks in their order.
-ghost use Rattle.std.specs.Prelude.{◌≡◌, ◌<◌, ◌^◌, length};
+ghost use Rattle.std.specs.Prelude.{◌≡◌, ◌<◌, ◌^◌, IfErr, IfOk, Err, length, map};
 ghost use Rattle.tl_combinators.specs.Program.{program_text};
-ghost use Rattle.tl_schema.specs.CheckCauses.{meaning_causes, name_causes};
+ghost use Rattle.tl_names.specs.MeantDecls.{meant_decl};
+ghost use Rattle.tl_names.specs.MeantViews.{decl_view};
+ghost use Rattle.tl_schema.specs.inner.BareSteps.{MarksEmpty};
+ghost use Rattle.tl_schema.specs.CheckCauses.{Passes, meaning_causes, name_causes};
 ghost use Rattle.tl_schema.specs.inner.CheckSteps.{ChecksBy, Found, PassesChecks};
 
 use crate::bad_flag::first_bad_flag;
 use crate::bad_result::first_bad_result;
 use crate::bare_cycle::first_bare_cycle;
+use crate::empties::empties;
 use crate::empty_element::first_empty_element;
-use crate::index::Index;
 use crate::not_bare::first_not_bare;
 use crate::same_name::first_same_name;
 use crate::same_number::first_same_number;
@@ -18,6 +21,7 @@ use crate::wrong_arity::first_wrong_arity;
 use crate::{CheckCause, CheckFault};
 use std::alloc::Global;
 use tl_combinators::Program;
+use tl_names::{Index, MeantDecl};
 
 // The fault of a declaration that was found, if one was.
 fn fault_at(found: Option<u32>, cause: CheckCause) -> Result<(), CheckFault>
@@ -29,8 +33,26 @@ fn fault_at(found: Option<u32>, cause: CheckCause) -> Result<(), CheckFault>
     }
 }
 
-/// Refuses a program for the first cause that any of its declarations has.
-pub fn pass_checks(alloc: Global, index: &Index, program: &Program) -> Result<(), CheckFault>
+/// Refuses a program for the first cause that any of its declarations has, or marks its constructors that take no bytes.
+pub fn pass_checks(
+    alloc: Global,
+    index: &Index,
+    program: &Program,
+    meant: &[MeantDecl],
+) -> Result<Vec<bool>, CheckFault>
+    requires same { index.now ≡ program_text program.now }
+    requires resolved { map decl_view meant.now ≡ map (meant_decl (program_text program.now)) (program_text program.now) }
+    requires few { length (program_text program.now) < 2 ^ 32 }
+    ensures passed { IfOk result (λ marks. Passes (program_text program.now) × MarksEmpty (program_text program.now) marks.items) }
+    ensures refused { IfErr result (λ fault. PassesChecks (program_text program.now) (Err fault)) }
+{
+    let _meant = meant;
+    pass_all(alloc, index, program)?;
+    let marks = empties(alloc, index, program)?;
+    Ok(marks)
+}
+
+fn pass_all(alloc: Global, index: &Index, program: &Program) -> Result<(), CheckFault>
     requires same { index.now ≡ program_text program.now }
     requires few { length (program_text program.now) < 2 ^ 32 }
     ensures { PassesChecks (program_text program.now) result }

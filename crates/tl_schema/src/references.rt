@@ -3,13 +3,14 @@ ghost use Rattle.std.specs.Prelude.{◌≡◌, IfOk, OnOk};
 ghost use Rattle.tl_combinators.specs.Trees.{Trees, named, percent, trees_of, view, views};
 ghost use Rattle.tl_combinators.specs.Program.{decl_text, kind_text, program_text};
 ghost use Rattle.tl_graph.specs.Paths.{edges_in};
-ghost use Rattle.tl_schema.specs.Writing.{HeldBy, IsPart, IsPartOfOne};
+ghost use Rattle.tl_names.specs.Parts.{HeldBy, IsPart, IsPartOfOne};
 ghost use Rattle.tl_schema.specs.inner.BareSteps.{Adds, AreReferences, BareIs, Refers};
 
-use crate::index::Index;
+use crate::families::{constructor, only_constructor};
 use crate::meanings::{is_built_in, is_constructor, is_type_name, is_variable};
 use std::alloc::{AllocError, Global};
 use tl_combinators::{Decl, FieldKind, Program, TypeTree};
+use tl_names::Index;
 
 /// The constructor that a type is, bare, where a declaration writes it.
 pub fn bare_of(index: &Index, decl: &Decl, tree: &TypeTree) -> Option<u32>
@@ -29,7 +30,7 @@ fn constructor_of(index: &Index, decl: &Decl, name: &[u8]) -> Option<u32>
     if is_variable(decl, name) || is_built_in(name) || is_type_name(name) {
         return None;
     }
-    index.constructor(name)
+    constructor(index, name)
 }
 
 // The constructor that a type means behind `%`.
@@ -50,7 +51,7 @@ fn only_named(index: &Index, decl: &Decl, name: &[u8]) -> Option<u32>
     if is_variable(decl, name) || is_built_in(name) || !is_type_name(name) {
         return None;
     }
-    index.only_of(name)
+    only_constructor(index, name)
 }
 
 /// For each declaration the constructors that it refers to, where it is a constructor; a declaration that is none refers to nothing.

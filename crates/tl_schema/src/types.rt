@@ -1,17 +1,16 @@
 //! Types by their texts.
-ghost use Rattle.std.specs.Prelude.{◌≡◌, ◌<◌, ◌^◌, IfOk, length};
+ghost use Rattle.std.specs.Prelude.{◌≡◌, IfOk};
 ghost use Rattle.tl_combinators.specs.Trees.{view};
-ghost use Rattle.tl_combinators.specs.Program.{decl_text, program_text};
+ghost use Rattle.tl_combinators.specs.Program.{decl_text};
 ghost use Rattle.tl_schema.specs.Seen.{shape};
-ghost use Rattle.tl_schema.specs.Meanings.{IsSmall};
 ghost use Rattle.tl_schema.specs.Formed.{IsFormed};
 ghost use Rattle.tl_schema.specs.AskedTypes.{GivesType, IsTypeText, NamesType, RefusesType, TypeTextRefused, asker};
 ghost use Rattle.tl_schema.specs.Types.{Shape};
 ghost use Rattle.tl_schema.specs.declared.fault.TypeFault.{TypeFault};
+ghost use Rattle.tl_schema.specs.inner.BareSteps.{MarksEmpty};
 ghost use Rattle.tl_schema.specs.inner.TypeSteps.{ChecksType, PassesType};
 
 use crate::empty_element::has_empty_argument;
-use crate::index::Index;
 use crate::not_bare::writes_no_bare;
 use crate::scope::Scope;
 use crate::terms::type_term;
@@ -20,8 +19,9 @@ use crate::wrong_arity::writes_misapplied;
 use crate::{Schema, TypeCause, TypeFault, TypeRef};
 use std::alloc::Global;
 use tl_base::Bytes;
-use tl_combinators::{Decl, Program, TypeTree, parse_type};
+use tl_combinators::{Decl, TypeTree, parse_type};
 use tl_lexer::lex;
+use tl_names::Index;
 
 /// The type that a text names: a closed type of the schema, or `!` for a call of any of its functions.
 pub fn type_of(alloc: Global, schema: &Schema, text: &[u8]) -> Result<TypeRef, TypeFault>
@@ -42,7 +42,7 @@ fn named_type(alloc: Global, schema: &Schema, text: &[u8]) -> Result<TypeRef, Ty
 {
     let tokens = lex(alloc, text)?;
     let tree = parse_type(alloc, text, &tokens)?;
-    checked_type(alloc, schema.program(), &asker(alloc), &tree)
+    checked_type(alloc, schema.index(), schema.empties(), &tree)
 }
 
 // Who asks for a type: no declaration of the program, and one without variables.
@@ -64,33 +64,25 @@ fn asker(alloc: Global) -> Decl
 // The type, where it has none of the causes that a type alone can have.
 fn checked_type(
     alloc: Global,
-    program: &Program,
-    decl: &Decl,
+    index: &Index,
+    marks: &[bool],
     tree: &TypeTree,
 ) -> Result<TypeRef, TypeFault>
-    requires small { IsSmall (program_text program.now) }
-    requires asks { decl_text decl.now ≡ asker }
-    ensures { ChecksType (program_text program.now) (view tree.now) result }
+    requires { MarksEmpty index.now marks.now }
+    ensures { ChecksType index.now (view tree.now) result }
 {
-    let index = Index::of(alloc, program)?;
-    pass_type(alloc, &index, program, decl, tree)?;
-    let scope = Scope::of(alloc, &index, program)?;
-    let term = type_term(alloc, &scope, decl, tree)?;
+    let decl = asker(alloc);
+    pass_type(index, marks, &decl, tree)?;
+    let scope = Scope::of(alloc, index, &decl)?;
+    let term = type_term(alloc, &scope, tree)?;
     Ok(term)
 }
 
 // Refuses a type for the first cause that it has.
-fn pass_type(
-    alloc: Global,
-    index: &Index,
-    program: &Program,
-    decl: &Decl,
-    tree: &TypeTree,
-) -> Result<(), TypeFault>
-    requires same { index.now ≡ program_text program.now }
-    requires few { length (program_text program.now) < 2 ^ 32 }
+fn pass_type(index: &Index, marks: &[bool], decl: &Decl, tree: &TypeTree) -> Result<(), TypeFault>
+    requires marks { MarksEmpty index.now marks.now }
     requires asks { decl_text decl.now ≡ asker }
-    ensures { PassesType (program_text program.now) (view tree.now) result }
+    ensures { PassesType index.now (view tree.now) result }
 {
     if writes_unknown(index, decl, tree) {
         return Err(TypeFault::Refused {
@@ -107,8 +99,7 @@ fn pass_type(
             cause: TypeCause::NotBare,
         });
     }
-    let is_empty = has_empty_argument(alloc, index, program, decl, tree)?;
-    if is_empty {
+    if has_empty_argument(index, marks, decl, tree) {
         return Err(TypeFault::Refused {
             cause: TypeCause::EmptyElement,
         });

@@ -4,13 +4,14 @@ ghost use Rattle.tl_combinators.specs.Program.{decl_text, program_text};
 ghost use Rattle.tl_combinators.specs.Trees.{view};
 ghost use Rattle.tl_graph.specs.Firsts.{First};
 ghost use Rattle.tl_schema.specs.UnknownType.{BeginsUnknown, IsUnknown, IsUnknownIn, UnknownType};
-ghost use Rattle.tl_schema.specs.Parts.{SomePart};
+ghost use Rattle.tl_names.specs.Parts.{SomePart};
 
 use crate::declarations::first_that_writes;
-use crate::index::Index;
+use crate::families::{constructor, first_of};
 use crate::meanings::{is_built_in, is_type_name, is_variable};
 use crate::parts::{TypeTest, has_part};
 use tl_combinators::{Decl, Program, TypeTree};
+use tl_names::Index;
 
 /// The first declaration that writes an unknown name: no variable, not built in, and declared by none.
 /// From "TL language" (core.telegram.org/mtproto/TL): a type has constructors, and a constructor is declared.
@@ -31,11 +32,11 @@ pub fn writes_unknown(index: &Index, decl: &Decl, tree: &TypeTree) -> bool
 
 // Whether a type begins with a name that is unknown where a declaration writes it.
 #[derive(Clone, Copy)]
-struct UnknownName<'t, 'a> {
-    index: &'t Index<'a>,
+struct UnknownName<'t> {
+    index: &'t Index,
 }
 
-impl<'t, 'a> TypeTest for UnknownName<'t, 'a> {
+impl<'t> TypeTest for UnknownName<'t> {
     ghost use Rattle.tl_schema.specs.UnknownType.{BeginsUnknown};
 
     ghost holds = { λ s. BeginsUnknown s.index.now };
@@ -63,8 +64,8 @@ fn is_undeclared(index: &Index, name: &[u8]) -> bool
     ensures { IsTrue result ↔ IsUnknown index.now name.now }
 {
     if is_type_name(name) {
-        index.first_of(name).is_none()
+        first_of(index, name).is_none()
     } else {
-        index.constructor(name).is_none()
+        constructor(index, name).is_none()
     }
 }

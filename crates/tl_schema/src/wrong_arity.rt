@@ -4,15 +4,16 @@ ghost use Rattle.tl_combinators.specs.Trees.{view};
 ghost use Rattle.tl_combinators.specs.Program.{decl_text, program_text};
 ghost use Rattle.tl_graph.specs.Firsts.{First};
 ghost use Rattle.tl_schema.specs.inner.Arities.{IsArity, VarsOfFirst};
-ghost use Rattle.tl_schema.specs.Parts.{SomePart};
+ghost use Rattle.tl_names.specs.Parts.{SomePart};
 ghost use Rattle.tl_names.specs.Writing.{IsConstructorNamed, IsConstructorOf};
 ghost use Rattle.tl_schema.specs.WrongArity.{ConstructsUneven, IsMisapplied, Misapplies, WrongArity};
 
 use crate::declarations::{DeclTest, first_that};
-use crate::index::Index;
+use crate::families::{constructor, first_of, is_uneven, var_count};
 use crate::meanings::{is_built_in, is_type_name, is_variable, is_vector_name, own_type};
 use crate::parts::{TypeTest, has_part, writes};
 use tl_combinators::{Decl, Program, TypeTree};
+use tl_names::Index;
 
 /// The first declaration that applies a name to another number of types than the name has variables, or is a constructor of a type
 /// whose constructors have different numbers of variables ("TL language", core.telegram.org/mtproto/TL).
@@ -33,11 +34,11 @@ pub fn writes_misapplied(index: &Index, decl: &Decl, tree: &TypeTree) -> bool
 
 // Whether a declaration has a wrong number of arguments or variables.
 #[derive(Clone, Copy)]
-struct WrongDecl<'t, 'a> {
-    index: &'t Index<'a>,
+struct WrongDecl<'t> {
+    index: &'t Index,
 }
 
-impl<'t, 'a> DeclTest for WrongDecl<'t, 'a> {
+impl<'t> DeclTest for WrongDecl<'t> {
     ghost use Rattle.tl_schema.specs.WrongArity.{IsWrong};
 
     ghost holds = { λ s. IsWrong s.index.now };
@@ -50,11 +51,11 @@ impl<'t, 'a> DeclTest for WrongDecl<'t, 'a> {
 
 // Whether a type is a name, applied to a wrong number of types.
 #[derive(Clone, Copy)]
-struct Application<'t, 'a> {
-    index: &'t Index<'a>,
+struct Application<'t> {
+    index: &'t Index,
 }
 
-impl<'t, 'a> TypeTest for Application<'t, 'a> {
+impl<'t> TypeTest for Application<'t> {
     ghost use Rattle.tl_schema.specs.WrongArity.{Misapplies};
 
     ghost holds = { λ s. Misapplies s.index.now };
@@ -104,8 +105,8 @@ fn arity(index: &Index, decl: &Decl, name: &[u8]) -> Option<usize>
 fn type_arity(index: &Index, name: &[u8]) -> Option<usize>
     ensures { VarsOfFirst (IsConstructorOf index.now name.now) result }
 {
-    match index.first_of(name) {
-        Some(at) => Some(index.var_count(at)),
+    match first_of(index, name) {
+        Some(at) => Some(var_count(index, at)),
         None => None,
     }
 }
@@ -114,8 +115,8 @@ fn type_arity(index: &Index, name: &[u8]) -> Option<usize>
 fn constructor_arity(index: &Index, name: &[u8]) -> Option<usize>
     ensures { VarsOfFirst (IsConstructorNamed index.now name.now) result }
 {
-    match index.constructor(name) {
-        Some(at) => Some(index.var_count(at)),
+    match constructor(index, name) {
+        Some(at) => Some(var_count(index, at)),
         None => None,
     }
 }
@@ -125,7 +126,7 @@ fn constructs_uneven(index: &Index, decl: &Decl) -> bool
     ensures { IsTrue result ↔ ConstructsUneven index.now (decl_text decl.now) }
 {
     match own_type(decl) {
-        Some(name) => index.is_uneven(name),
+        Some(name) => is_uneven(index, name),
         None => false,
     }
 }

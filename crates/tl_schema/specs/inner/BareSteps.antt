@@ -5,7 +5,7 @@ use Rattle.tl_combinators.specs.Program.{KindText, DeclText}
 use Rattle.tl_graph.specs.Paths.{Edge, IsIn}
 use Rattle.tl_graph.specs.Needs.{IsMarked}
 use Rattle.tl_names.specs.Writing.{At, is_constructor}
-use Rattle.tl_schema.specs.Writing.{InFields}
+use Rattle.tl_names.specs.Parts.{InFields}
 use Rattle.tl_names.specs.Constructors.{IsOnlyConstructor}
 use Rattle.tl_schema.specs.BareReferences.{IsBareOf, PointsTo}
 use Rattle.tl_schema.specs.EmptyElement.{HoldsBare, HasBareFields, TakesNone, IsOneOf}

@@ -1,7 +1,7 @@
 use Rattle.std.proofs.Common.{take}
 use Rattle.tl_combinators.specs.Trees.{trees_of, views}
 use Rattle.tl_combinators.specs.Program.{decl_text}
-use Rattle.tl_schema.specs.inner.PartLists.{SomePartOfOne}
+use Rattle.tl_names.specs.Parts.{SomePartOfOne}
 use Rattle.tl_schema.proofs.parts.+parts.Given as goal
 
 abbrev pub invariant-is_in_one-loop-tree : goal.invariant-is_in_one-loop-tree

@@ -2,7 +2,7 @@ use Rattle.std.proofs.Common.{◌<◌, ◌∙◌, map, refl, sym, subst, true≢
 use Rattle.std.proofs.lemmas.List.{length-map}
 use Rattle.std.proofs.lemmas.Option.{same_Some, slice_get_within}
 use Rattle.tl_combinators.specs.Program.{FieldText, decl_text, field_text}
-use Rattle.tl_schema.specs.Parts.{SomeHeld}
+use Rattle.tl_names.specs.Parts.{SomeHeld}
 use Rattle.tl_schema.proofs.Maps.{slice_get_item}
 use Rattle.tl_schema.proofs.parts.is_in_fields.Goals as goal
 

@@ -1,6 +1,6 @@
 use Rattle.std.proofs.Common.{◌≡◌, ℕ, ◌<◌, map, slice_get, Some}
 use Rattle.tl_combinators.specs.Program.{FieldText, decl_text, field_text}
-use Rattle.tl_schema.specs.Parts.{SomeHeld}
+use Rattle.tl_names.specs.Parts.{SomeHeld}
 use Rattle.tl_schema.proofs.parts.is_in_fields.Given as goal
 
 abbrev pub invariant-loop-field : goal.invariant-loop-field

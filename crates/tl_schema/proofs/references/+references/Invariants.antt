@@ -1,7 +1,7 @@
 use Rattle.std.proofs.Common.{take}
 use Rattle.tl_combinators.specs.Trees.{trees_of, views}
 use Rattle.tl_combinators.specs.Program.{decl_text}
-use Rattle.tl_schema.specs.Writing.{IsPartOfOne}
+use Rattle.tl_names.specs.Parts.{IsPartOfOne}
 use Rattle.tl_schema.specs.inner.BareSteps.{Adds}
 use Rattle.tl_schema.proofs.references.+references.Given as goal
 
