@@ -27,7 +27,7 @@ use Rattle.tl_schema.proofs.HeadNames.{type_name}
 use Rattle.tl_schema.proofs.WritingDecided.{constructor_at_decided, named_at_decided}
 use Rattle.tl_schema.proofs.NotBareFirst.{bare_decided}
 use Rattle.tl_schema.proofs.Firsts as firsts
-use Rattle.tl_schema.proofs.DeclaredPlaces.{place_found, first_found}
+use Rattle.tl_schema.proofs.FirstPlaces.{place_found, first_found}
 use Rattle.tl_schema.proofs.BuiltInNames.{if_by, base_by, type_not_built_in, shapeless_not_built_in}
 use Rattle.tl_schema.proofs.Members.{applies_type, applies_bare, type_made}
 
