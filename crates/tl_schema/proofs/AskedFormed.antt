@@ -1,16 +1,14 @@
 -- The type that a text asks for is formed.
-use Rattle.std.proofs.Common.{◌≡◌, ℕ, ◌<◌, List, Result, Ok, Err, true≢false, sym, subst}
+use Rattle.std.proofs.Common.{ℕ, ◌<◌, List, Result, Ok, Err, true≢false, sym, subst}
 use Rattle.std.specs.Prelude.{IfOk}
 use Rattle.tl_combinators.specs.Trees.{Tree, named, percent, any_call}
-use Rattle.tl_combinators.specs.Program.{DeclText}
 use Rattle.tl_schema.specs.Writing.{IsPart}
 use Rattle.tl_schema.specs.UnknownVariable.{NamesVariable}
-use Rattle.tl_schema.specs.Types.{Shape}
 use Rattle.tl_schema.specs.Seen.{shape}
 use Rattle.tl_schema.specs.Schemas.{Declared}
 use Rattle.tl_schema.specs.CheckedPrograms.{IsSchema}
 use Rattle.tl_schema.specs.Meanings.{variable_of, meaning}
-use Rattle.tl_schema.specs.AskedTypes.{asker, type_causes, PassesTypeBy, IsTypeText, ChecksType}
+use Rattle.tl_schema.specs.AskedTypes.{asker, type_causes, PassesTypeBy, NamesType}
 use Rattle.tl_schema.specs.Formed.{IsFormed}
 use Rattle.tl_schema.specs.declared.schema.TypeRef.{TypeRef}
 use Rattle.tl_schema.specs.declared.fault.TypeFault.{TypeFault}
@@ -37,6 +35,7 @@ module _ (schema : Declared) (good : IsSchema schema) where
     asked_formed : IsFormed schema (meaning schema.program asker t)
     asked_formed = type_formed schema good asker 0 t asked_part
 
-  pub checked_formed : (t : Tree) (r : Result TypeRef TypeFault) → ChecksType schema.program t r → IfOk r (λ type. IsFormed schema (shape type))
-  checked_formed t (Ok type) h = subst (IsFormed schema) (sym h.1) (asked_formed t h.0)
-  checked_formed t (Err fault) h = tt
+  -- what a text names is formed
+  pub named_formed : (text : List ℕ) (r : Result TypeRef TypeFault) → NamesType schema.program text r → IfOk r (λ type. IsFormed schema (shape type))
+  named_formed text (Ok type) h = subst (IsFormed schema) (sym h.means) (asked_formed h.t h.passes)
+  named_formed text (Err fault) h = tt

@@ -1,8 +1,8 @@
 -- A formed type stays formed where formed arguments stand in place of its variables.
-use Rattle.std.proofs.Common.{◌≡◌, ℕ, zero, suc, ◌<◌, get_or, refl, ap, sym, subst, arith}
+use Rattle.std.proofs.Common.{◌≡◌, ℕ, zero, suc, ◌<◌, get_or, refl, ap, subst, arith}
 use Rattle.tl_schema.specs.Types.{Shape, int, long, nat, opaque, str, raw, flag, call, var, vector, boxed, bare, Shapes, no_shapes, shape}
 use Rattle.tl_schema.specs.Schemas.{Declared}
-use Rattle.tl_schema.specs.Closing.{closed, closed_each, list_of_shapes}
+use Rattle.tl_schema.specs.Closing.{closed_each, list_of_shapes}
 use Rattle.tl_schema.specs.Formed.{IsFormedOver, AreArguments, AppliesType, AppliesBare, IsEmpty, count_of}
 use Rattle.tl_schema.specs.FormedLaws.{ClosesFormed, ClosingKeepsFormed}
 

@@ -17,7 +17,7 @@ use Rattle.tl_schema.specs.CheckedPrograms.{IsSchema}
 use Rattle.tl_schema.specs.Types as shape
 use Rattle.tl_schema.specs.Schemas.{Slot, Declaration, Declared}
 use Rattle.tl_schema.specs.Meanings.{variable_of, kind_shape, field_place, condition_of, slot_of, declaration_of}
-use Rattle.tl_schema.specs.Formed.{IsFormedOver, IsCondition, IsFormedField, HasFormedFields}
+use Rattle.tl_schema.specs.Formed.{IsFormedOver, IsCondition, IsFormedField}
 use Rattle.tl_schema.specs.FormedLaws.{FieldsAreFormed}
 use Rattle.tl_schema.proofs.HeadNames.{type_name}
 use Rattle.tl_schema.proofs.BadFlagFirst.{flags_before_decided}

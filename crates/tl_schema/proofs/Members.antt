@@ -1,6 +1,6 @@
 -- The entries of a schema's declarations: own constructors are members of their types, which have one number of variables.
-use Rattle.std.proofs.Common.{◌≡◌, ◌≢◌, inl, inr, ℕ, ◌<◌, Bool, true, false, not, ◌&&◌, List, length, slice_get, Option, Some, None, refl, ap, ap₂, sym, ◌∙◌, subst, arith, if◌then◌else◌}
-use Rattle.std.proofs.lemmas.Bool.{cases_eq, both_ways}
+use Rattle.std.proofs.Common.{◌≡◌, inl, inr, ℕ, Bool, true, false, not, ◌&&◌, List, length, slice_get, Option, Some, None, refl, ap, ap₂, sym, ◌∙◌, arith, if◌then◌else◌}
+use Rattle.std.proofs.lemmas.Bool.{cases_eq}
 use Rattle.std.proofs.lemmas.Option.{none-some, slice_get_within, slice_get_cases}
 use Rattle.tl_combinators.specs.Program.{DeclText}
 use Rattle.tl_schema.specs.Writing.{At, is_constructor, result_head, own_type, IsConstructorOf}
@@ -10,8 +10,8 @@ use Rattle.tl_schema.specs.CheckCauses.{NoneHas}
 use Rattle.tl_schema.specs.declared.fault.CheckCause.TheVariants as cause
 use Rattle.tl_schema.specs.CheckedPrograms.{IsSchema}
 use Rattle.tl_schema.specs.Schemas.{Declaration, Declared}
-use Rattle.tl_schema.specs.Meanings.{IsEntry, types_of, head_of, head_in}
-use Rattle.tl_schema.specs.Formed.{IsMember, IsOwn, AppliesType, AppliesBare}
+use Rattle.tl_schema.specs.Meanings.{IsEntry, head_of, head_in}
+use Rattle.tl_schema.specs.Formed.{IsMember, AppliesType, AppliesBare}
 use Rattle.tl_schema.proofs.TypePlaces.{head_known, one_head}
 
 -- ---- the type of a constructor
@@ -19,11 +19,6 @@ use Rattle.tl_schema.proofs.TypePlaces.{head_known, one_head}
 made_by : (type : List ℕ) (b : Bool) (o : Option (List ℕ)) → (if b then o else None) ≡ Some type → (b ≡ true) × (o ≡ Some type)
 made_by type true o e = (refl, e)
 made_by type false o e = absurd (none-some type e)
-
-own_constructor : (function builtin : Bool) → (not function && not builtin) ≡ true → builtin ≡ false
-own_constructor true builtin h = cc
-own_constructor false true h = cc
-own_constructor false false h = refl
 
 module _ (ds : List DeclText) (type : List ℕ) (i : ℕ) (d : DeclText) where
   pub own_of : IsConstructorOf ds type i d → own_type d ≡ Some type
@@ -112,16 +107,3 @@ module _ (schema : Declared) (good : IsSchema schema) where
       by (Some type) e = (type, record { there = at; own = own; head = e })
       by None e =
           absurd (good_results i (record { d = d; here = at; has = record { own = own; bad = λ g. none-some g.type (sym e ∙ good_head d g) } }))
-
-  -- a member of a type is no line of a built-in type
-  pub member_is_own : (h i : ℕ) (e : Declaration) → IsMember schema h i e → IsOwn schema i
-  member_is_own h i e m = by (own_type d.0) refl
-    where
-      d : (d : DeclText) × At schema.program i d × IsEntry schema.program d e
-      d = declaration_at i e m.there
-
-      by : (o : Option (List ℕ)) → own_type d.0 ≡ o → IsOwn schema i
-      by (Some type) own = (d.0, d.1, own_constructor d.0.function d.0.builtin (made_by type (is_constructor d.0) (result_head d.0) own).0)
-      by None own =
-          let head : e.head ≡ length (types_of schema.program) = ap (λ (x : Declaration). x.head) d.2.1 ∙ ap (head_in schema.program) own in
-          absurd (let known = m.known in let is = m.head in omega (arith, known, is, head))

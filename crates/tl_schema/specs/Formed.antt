@@ -1,9 +1,9 @@
 -- Formed types: those that have values.
 -- From "TL language" and "Formal description of TL" (core.telegram.org/mtproto/TL, /mtproto/TL-formal), their boxed and bare types and type
 -- expressions. That elements and arguments take bytes is this project's own.
-use Rattle.std.specs.Prelude.{◌≡◌, ℕ, zero, suc, ◌<◌, List, length, slice_get, Some, Option, None, Bool, true, false, if◌then◌else◌, ◌⊎◌}
+use Rattle.std.specs.Prelude.{◌≡◌, ℕ, suc, ◌<◌, List, length, slice_get, Some, Option, None, true, false, if◌then◌else◌, ◌⊎◌}
 use Rattle.tl_combinators.specs.Program.{DeclText}
-use Rattle.tl_schema.specs.Types.{Shape, int, long, nat, opaque, str, raw, flag, call, var, vector, boxed, bare, Shapes, no_shapes, shape}
+use Rattle.tl_schema.specs.Types.{Shape, nat, flag, var, vector, boxed, bare, Shapes, no_shapes, shape}
 use Rattle.tl_schema.specs.Schemas.{Slot, Declaration, Declared}
 use Rattle.tl_schema.specs.Writing.{At}
 use Rattle.tl_schema.specs.Meanings.{types_of}
@@ -77,7 +77,7 @@ pub record IsFormedField (schema : Declared) (d : Declaration) (k : ℕ) (f : Sl
   pub cond : IsCondition d.fields k f.cond
   pub type : (f.of ≡ flag) ⊎ IsFormedOver schema (field_variables d) f.of
 
--- declaration i is no line of a built-in type; the checks pass such a line over, which declares nothing
+-- declaration i is no line of a built-in type; the checks look at no type of such a line
 abbrev pub IsOwn : Declared → ℕ → Type 0
 IsOwn schema i = (t : DeclText) × At schema.program i t × (t.builtin ≡ false)
 

@@ -1,7 +1,7 @@
 //! Laws of formed types.
 ghost use Rattle.tl_schema.specs.FormedLaws.{ClosingKeepsFormed, FieldsAreFormed};
 
-/// In a schema each field of each declaration has a good condition, and is a flag or has a formed type.
+/// In a schema each field has a good condition, and is a flag or has a formed type; the lines of built-in types aside.
 pub fn fields_are_formed()
     ensures { FieldsAreFormed }
 {}

@@ -2,7 +2,7 @@ use Rattle.std.proofs.Common.{sym, subst}
 use Rattle.tl_combinators.specs.Trees.{view}
 use Rattle.tl_schema.specs.Meanings.{IsSmall}
 use Rattle.tl_schema.proofs.TypeSteps.{names_type}
-use Rattle.tl_schema.proofs.AskedFormed.{checked_formed}
+use Rattle.tl_schema.proofs.AskedFormed.{named_formed}
 use Rattle.tl_schema.proofs.types.type_of.Goals as goal
 
 pub checked_type-requires-clause-small : goal.checked_type-requires-clause-small
@@ -15,5 +15,4 @@ returns-clause-names c =
     c.checked_type.result (rw c.program.ensures.same at c.checked_type.ensures)
 
 pub returns-clause-formed : goal.returns-clause-formed
-returns-clause-formed c =
-    checked_formed c.args.schema.now c.program.ensures.sound (view c.in_ok-tree.tree) c.checked_type.result (rw c.program.ensures.same at c.checked_type.ensures)
+returns-clause-formed c = named_formed c.args.schema.now c.program.ensures.sound c.args.text.now c.checked_type.result (returns-clause-names c)
