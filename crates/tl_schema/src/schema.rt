@@ -62,6 +62,7 @@ pub struct Entry {
     pub number: u32,
     pub vars: u32,
     pub fields: Vec<SchemaField>,
+    /// Whether it is an own function; the line of a built-in type is none.
     pub function: bool,
     /// The number of the type that it constructs; of a function and of a built-in type's line the number of types.
     pub head: u32,
