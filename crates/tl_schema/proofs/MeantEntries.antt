@@ -1,5 +1,5 @@
 -- What an entry takes from a resolved declaration.
-use Rattle.std.proofs.Common.{◌≡◌, ℕ, List, length, map, slice_get, bytes_eq, Option, Some, None, refl, ap, sym, ◌∙◌}
+use Rattle.std.proofs.Common.{◌≡◌, Bool, ℕ, List, length, map, slice_get, bytes_eq, Option, Some, None, refl, ap, sym, ◌∙◌}
 use Rattle.std.specs.Option.{option_map, unwrap_or}
 use Rattle.std.proofs.lemmas.List.{length-map}
 use Rattle.std.proofs.lemmas.Option.{none-some, same_Some}
@@ -41,5 +41,5 @@ module _ {X Y Z : Type 0} (f : X → Z) (g : Y → Z) (xs : List X) (ys : List Y
       same_Some (f x) (g y) (sym (slice_get_made f xs i x x_at) ∙ ap (λ zs. slice_get zs i) same ∙ slice_get_made g ys i y y_at)
 
 -- an entry by its parts
-pub entry_is : (ds : List DeclText) (d : DeclText) (n : ℕ) (name : List ℕ) (vars : ℕ) (fields : List Slot) (head : ℕ) (result : Shape) → name ≡ d.name → vars ≡ length d.vars → fields ≡ map (slot_of ds d) d.fields → head ≡ head_in ds (own_type d) → result ≡ result_shape ds d → ◌≡◌ {A = Declaration} (record { name = name; number = n; vars = vars; fields = fields; function = is_function d; head = head; result = result }) (declaration_of ds d n)
-entry_is ds d n name vars fields head result name_is vars_are fields_are head_is result_is = rw (name_is, vars_are, fields_are, head_is, result_is) refl
+pub entry_is : (ds : List DeclText) (d : DeclText) (n : ℕ) (name : List ℕ) (vars : ℕ) (fields : List Slot) (function : Bool) (head : ℕ) (result : Shape) → name ≡ d.name → vars ≡ length d.vars → fields ≡ map (slot_of ds d) d.fields → function ≡ is_function d → head ≡ head_in ds (own_type d) → result ≡ result_shape ds d → ◌≡◌ {A = Declaration} (record { name = name; number = n; vars = vars; fields = fields; function = function; head = head; result = result }) (declaration_of ds d n)
+entry_is ds d n name vars fields function head result name_is vars_are fields_are function_is head_is result_is = rw (name_is, vars_are, fields_are, function_is, head_is, result_is) refl

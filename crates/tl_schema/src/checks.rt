@@ -13,6 +13,7 @@ ghost use Rattle.tl_schema.specs.Seen.{declaration};
 
 use crate::by_number::numbers_of;
 use crate::entries::entry_of;
+use crate::meanings::is_function;
 use crate::pass_checks::pass_checks;
 use crate::{CheckFault, Entry, Schema};
 use std::alloc::{AllocError, Global};
@@ -144,7 +145,7 @@ fn enter(
 fn note(alloc: Global, known: &mut Known, decl: &Decl, at: u32) -> Result<(), AllocError>
     ensures { OnOk result (NotesOne known.old known.new (decl_text decl.now) at) }
 {
-    if decl.function && !decl.builtin {
+    if is_function(decl) {
         known.functions.note(alloc, decl.name.as_slice(), at)?;
     } else {
         known.constructors.note(alloc, decl.name.as_slice(), at)?;

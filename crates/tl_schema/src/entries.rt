@@ -8,6 +8,7 @@ ghost use Rattle.tl_names.specs.What.{field_named};
 ghost use Rattle.tl_schema.specs.Seen.{declaration, shape, slot};
 ghost use Rattle.tl_schema.specs.Meanings.{IsEntry, IsEntryNumber, condition_of, kind_shape, kind_variable, line_shape, result_shape, slot_of};
 
+use crate::meanings::is_function;
 use crate::same_number::{VECTOR, number_of};
 use crate::schema::{Entry, SchemaField, TypeRef};
 use crate::scope::Scope;
@@ -34,7 +35,7 @@ pub fn entry_of(
         number: entry_number(decl),
         vars: decl.vars.len() as u32,
         fields: slots_of(alloc, &scope, &decl.fields, &meant.fields)?,
-        function: decl.function && !decl.builtin,
+        function: is_function(decl),
         head: meant.head.unwrap_or(index.type_count()),
         result: result_of(alloc, &scope, decl)?,
     })

@@ -1,8 +1,18 @@
 //! Names that need no declaration, and what else a declaration writes.
 ghost use Rattle.std.specs.Prelude.{◌≡◌};
-ghost use Rattle.tl_names.specs.Writing.{is_built_in, is_vector_name};
+ghost use Rattle.tl_combinators.specs.Program.{decl_text};
+ghost use Rattle.tl_names.specs.Writing.{is_built_in, is_function, is_vector_name};
+
+use tl_combinators::Decl;
 
 pub use tl_names::{is_constructor, is_type_name, is_variable, own_type};
+
+/// Whether a declaration is a function, and no line of a built-in type.
+pub fn is_function(decl: &Decl) -> bool
+    ensures { result ≡ is_function (decl_text decl.now) }
+{
+    decl.function && !decl.builtin
+}
 
 /// Whether a name is `vector` or `Vector`.
 pub fn is_vector_name(name: &[u8]) -> bool

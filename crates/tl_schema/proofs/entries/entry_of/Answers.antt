@@ -18,4 +18,4 @@ returns-clause-entry c =
     c.unwrap_or.ensures ∙ ap (λ n. unwrap_or c.args.meant.now.head n) c.type_count.ensures ∙ ap (λ (m : MeantDeclView). unwrap_or m.head (length (types_of ds))) c.requires.same ∙ head_unwrapped ds (own_type d) in
     let fields = rw (c.in_ok-scope.ensures.program, c.in_ok-scope.ensures.decl, c.deref.ensures.value) at c.in_ok-slots_of.ensures in
     let result = rw (c.in_ok-scope.ensures.program, c.in_ok-scope.ensures.decl) at c.in_ok-result_of.ensures in
-    (c.entry_number.ensures, entry_is ds d c.entry_number.result c.in_ok-copy.field-0 c.len.result (map slot c.in_ok-slots_of.field-0.items) c.unwrap_or.result (shape c.in_ok-result_of.field-0) c.in_ok-copy.ensures vars fields head result)
+    (c.entry_number.ensures, entry_is ds d c.entry_number.result c.in_ok-copy.field-0 c.len.result (map slot c.in_ok-slots_of.field-0.items) c.is_function.result c.unwrap_or.result (shape c.in_ok-result_of.field-0) c.in_ok-copy.ensures vars fields c.is_function.ensures head result)
