@@ -3,7 +3,7 @@ use Rattle.tl_schema.proofs.TypeSteps.{names_type}
 use Rattle.tl_schema.proofs.types.type_of.Goals as goal
 
 pub checked_type-requires : goal.checked_type-requires
-checked_type-requires c = rw c.index.ensures.same c.empties.ensures
+checked_type-requires c = rw c.index.ensures.same c.marks.ensures
 
 pub returns : goal.returns
 returns c =
