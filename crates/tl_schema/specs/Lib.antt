@@ -1,7 +1,6 @@
 pub mod Types
 pub mod Schemas
 pub mod Seen
-pub mod NameLists
 pub mod Writing
 pub mod SameName
 pub mod UnknownType

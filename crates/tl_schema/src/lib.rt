@@ -13,7 +13,6 @@ mod entries;
 mod families;
 mod fault;
 mod meanings;
-mod names;
 mod not_bare;
 mod parts;
 mod pass_checks;
