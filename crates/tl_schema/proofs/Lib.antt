@@ -9,9 +9,7 @@ pub mod Results
 pub mod SmallPrograms
 pub mod FieldConditions
 mod Maps
-mod NameKeys
 mod Repeats
-mod TypeNames
 mod ArityCases
 mod ListParts
 mod Misapplied
@@ -52,6 +50,7 @@ mod TestedPlaces
 mod FirstPlaces
 mod MeantEntries
 mod NumberedPlaces
+mod NumberTests
 mod MadeLists
 mod MeantTypes
 mod DeclaredEntries

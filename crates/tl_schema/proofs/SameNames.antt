@@ -1,22 +1,21 @@
 -- Names of declarations: which are known, and whether one more is taken.
-use Rattle.std.proofs.Common.{◌≡◌, ◌⊎◌, inl, inr, ℕ, ◌+◌, ◌-◌, ◌<◌, ◌≤◌, Bool, true, false, not, List, [], ◌∷◌, ◌++◌, map, length, bytes_eq, slice_get, Some, refl, ap, sym, ◌∙◌, subst, true≢false, get_or, length-append, arith}
+use Rattle.std.proofs.Common.{◌≡◌, ◌⊎◌, inl, inr, ℕ, ◌+◌, ◌-◌, ◌<◌, ◌≤◌, Bool, true, false, not, ◌||◌, Option, None, if◌then◌else◌, List, [], ◌∷◌, ◌++◌, map, length, bytes_eq, slice_get, Some, refl, ap, sym, ◌∙◌, subst, true≢false, get_or, length-append, arith}
 use Rattle.std.specs.Bool.{Decides}
-use Rattle.std.specs.List.{list_any}
-use Rattle.std.proofs.lemmas.Bool.{cases_Bool, cases_eq, or_cases}
-use Rattle.std.proofs.lemmas.List.Folds.{list_any-append}
+use Rattle.std.specs.Option.{is_none, is_some, unwrap_or}
+use Rattle.std.proofs.lemmas.Bool.{cases_eq, or_cases}
 use Rattle.std.proofs.lemmas.Option.{slice_get_within, same_Some}
 use Rattle.std.proofs.lemmas.Slice.Eq.{bytes_eq-Decides}
 use Rattle.tl_combinators.specs.Program.{DeclText, FieldText, field_text}
 use Rattle.tl_combinators.specs.declared.program.Field.{Field}
 use Rattle.tl_names.specs.Writing.{At}
-use Rattle.tl_names.specs.NameLists.{IsRepeat, with_name}
+use Rattle.tl_names.specs.NameLists.{IsRepeat}
+use Rattle.tl_names.specs.NamePlaces.{Notes, place_in}
 use Rattle.tl_schema.specs.SameName.{SameName, declared, part, vector, part_names}
-use Rattle.tl_schema.specs.inner.SameNameSteps.{names_among, AddsName, MakesVector}
+use Rattle.tl_schema.specs.inner.SameNameSteps.{is_noted, names_among, AddsName, MakesVector, NotesName}
 use Rattle.tl_schema.specs.declared.same_name.Known.{Known}
 use Rattle.std.proofs.lemmas.List.{length-map}
 use Rattle.tl_schema.proofs.Maps.{slice_get_made, slice_get_item}
 use Rattle.tl_schema.proofs.ListParts.{slice_get_behind}
-use Rattle.tl_schema.proofs.TypeNames.{with_new_name, with_old_name, there_kept, there_now}
 
 -- ---- names that are known
 
@@ -31,17 +30,33 @@ pub record IsKnown (ds : List DeclText) (i : ℕ) (function : Bool) (name : List
 
 -- the names of the first i declarations are known
 abbrev pub KnowsFirst : List DeclText → ℕ → Known → Type 0
-KnowsFirst ds i known = (function : Bool) (name : List ℕ) → Decides (list_any (bytes_eq name) (names_among function known)) (IsKnown ds i function name)
+KnowsFirst ds i known = (function : Bool) (name : List ℕ) → Decides (is_noted (names_among function known) name) (IsKnown ds i function name)
 
--- a name that is there with one more was there, or is that one
-was_there_or_is : (names : List (List ℕ)) (name other : List ℕ) → list_any (bytes_eq other) (with_name names name) ≡ true → (list_any (bytes_eq other) names ≡ true) ⊎ (other ≡ name)
-was_there_or_is names name other h = elim (cases_Bool (list_any (bytes_eq name) names)) [
-  | inl e ↦ inl (sym (ap (list_any (bytes_eq other)) (with_old_name names name e)) ∙ h)
-  | inr e ↦ elim (or_cases _ _ (sym (ap (list_any (bytes_eq other)) (with_new_name names name e) ∙ list_any-append (bytes_eq other) names (name ∷ [])) ∙ h)) [
-    | inl there ↦ inl there
-    | inr last ↦ elim (or_cases _ _ last) [ inl same ↦ inr ((bytes_eq-Decides other name).0 same) | inr past ↦ absurd (true≢false (sym past)) ]
-  ]
-]
+pub knows_none : (ds : List DeclText) (known : Known) → known.functions ≡ [] → known.constructors ≡ [] → KnowsFirst ds 0 known
+knows_none ds known no_functions no_constructors true name = (λ h. absurd (true≢false (sym h ∙ ap (λ ns. is_noted ns name) no_functions)), λ k. absurd (let b = k.before in omega arith))
+knows_none ds known no_functions no_constructors false name = (λ h. absurd (true≢false (sym h ∙ ap (λ ns. is_noted ns name) no_constructors)), λ k. absurd (let b = k.before in omega arith))
+
+-- what noting a name tells of each
+pub notes_name : (old new : List (List ℕ × ℕ)) (name : List ℕ) (at : ℕ) → Notes old new name at → NotesName old new name
+notes_name old new name at notes n = ap is_some (notes n) ∙ by (bytes_eq n name)
+  where
+    by : (b : Bool) → is_some (if b then Some (unwrap_or (place_in old n) at) else place_in old n) ≡ (b || is_noted old n)
+    by true = refl
+    by false = refl
+
+pub known_before : (o : Option ℕ) (fresh : Bool) → fresh ≡ is_none o → not fresh ≡ is_some o
+known_before None fresh is = ap not is
+known_before (Some k) fresh is = ap not is
+
+pub or_last : (a b : Bool) → (a || b) ≡ (b || (a || false))
+or_last true true = refl
+or_last true false = refl
+or_last false true = refl
+or_last false false = refl
+
+or_true : (b : Bool) → (b || true) ≡ true
+or_true true = refl
+or_true false = refl
 
 same_or_not : (f g : Bool) → (f ≡ g) ⊎ (f ≡ not g)
 same_or_not true true = inl refl
@@ -68,24 +83,24 @@ module _ (ds : List DeclText) (i : ℕ) (d : DeclText) (at : At ds i d) (old new
       | inr ne ↦ inl (record { j = k.j; c = k.c; before = (let b = k.before in omega arith); there = k.there; kind = k.kind; named = k.named })
     ]
 
-    of_its_kind : function ≡ d.function → Decides (list_any (bytes_eq name) (names_among function new)) (IsKnown ds (i + 1) function name)
+    of_its_kind : function ≡ d.function → Decides (is_noted (names_among function new) name) (IsKnown ds (i + 1) function name)
     of_its_kind e =
-        let now : names_among function new ≡ with_name (names_among function old) d.name = ap (λ f. names_among f new) e ∙ adds.added ∙ ap (λ f. with_name (names_among f old) d.name) (sym e) in (
-          λ h. elim (was_there_or_is (names_among function old) d.name name (sym (ap (list_any (bytes_eq name)) now) ∙ h)) [
-            | inl there ↦ before_more function name ((knows function name).0 there)
-            | inr is ↦ record { j = i; c = d; before = omega arith; there = at; kind = sym e; named = sym is }
+        let now : NotesName (names_among function old) (names_among function new) d.name = subst (λ f. NotesName (names_among f old) (names_among f new) d.name) (sym e) adds.added in (
+          λ h. elim (or_cases _ _ (sym (now name) ∙ h)) [
+            | inl is ↦ record { j = i; c = d; before = omega arith; there = at; kind = sym e; named = sym ((bytes_eq-Decides name d.name).0 is) }
+            | inr there ↦ before_more function name ((knows function name).0 there)
           ],
-          λ k. ap (list_any (bytes_eq name)) now ∙ elim (earlier_or_last k) [
-            | inl before ↦ there_kept (names_among function old) d.name name ((knows function name).1 before)
-            | inr last ↦ ap (λ n. list_any (bytes_eq n) (with_name (names_among function old) d.name)) (sym last.1) ∙ there_now (names_among function old) d.name
+          λ k. now name ∙ elim (earlier_or_last k) [
+            | inl before ↦ ap (λ b. bytes_eq name d.name || b) ((knows function name).1 before) ∙ or_true (bytes_eq name d.name)
+            | inr last ↦ ap (λ b. b || is_noted (names_among function old) name) ((bytes_eq-Decides name d.name).1 (sym last.1))
           ],
         )
 
-    of_the_other : function ≡ not d.function → Decides (list_any (bytes_eq name) (names_among function new)) (IsKnown ds (i + 1) function name)
+    of_the_other : function ≡ not d.function → Decides (is_noted (names_among function new) name) (IsKnown ds (i + 1) function name)
     of_the_other e =
         let now : names_among function new ≡ names_among function old = ap (λ f. names_among f new) e ∙ adds.others ∙ ap (λ f. names_among f old) (sym e) in (
-          λ h. before_more function name ((knows function name).0 (sym (ap (list_any (bytes_eq name)) now) ∙ h)),
-          λ k. ap (list_any (bytes_eq name)) now ∙ elim (earlier_or_last k) [
+          λ h. before_more function name ((knows function name).0 (sym (ap (λ ns. is_noted ns name) now) ∙ h)),
+          λ k. ap (λ ns. is_noted ns name) now ∙ elim (earlier_or_last k) [
             | inl before ↦ (knows function name).1 before
             | inr last ↦ absurd (never_not d.function (last.0 ∙ e))
           ],

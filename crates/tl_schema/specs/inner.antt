@@ -1,5 +1,4 @@
 -- What inner clauses cite; a reader of the contracts needs none of it.
-pub mod NamesInOrder
 pub mod SchemaCodes
 pub mod SameNameSteps
 pub mod Arities

@@ -54,8 +54,8 @@ fn checked_schema(alloc: Global, program: &Program) -> Result<Schema, CheckFault
 {
     let index = Index::of(alloc, program)?;
     let meant = resolve(alloc, &index, program)?;
-    let empties = pass_checks(alloc, &index, program, &meant)?;
-    let schema = declare(alloc, index, program, &meant, empties)?;
+    let marks = pass_checks(alloc, &index, program, &meant)?;
+    let schema = declare(alloc, index, program, &meant, marks)?;
     Ok(schema)
 }
 
@@ -65,27 +65,27 @@ fn declare(
     index: Index,
     program: &Program,
     meant: &[MeantDecl],
-    empties: Vec<bool>,
+    marks: Vec<bool>,
 ) -> Result<Schema, AllocError>
     requires same { index ≡ program_text program.now }
     requires limits { IsWithinLimits (program_text program.now) }
     requires resolved { map decl_view meant.now ≡ map (meant_decl (program_text program.now)) (program_text program.now) }
     requires passes { Passes (program_text program.now) }
-    requires empties { MarksEmpty (program_text program.now) empties.items }
+    requires empty { MarksEmpty (program_text program.now) marks.items }
     ensures { IfOk result (IsSchemaOf (program_text program.now)) }
 {
     let entered = entered_of(alloc, &index, program, meant)?;
     let numbers = numbers_of(alloc, program)?;
-    Ok(schema_of(index, entered, numbers, empties))
+    Ok(schema_of(index, entered, numbers, marks))
 }
 
 fn schema_of(
     index: Index,
     entered: Entered,
     numbers: BTreeMap<u32, u32>,
-    empties: Vec<bool>,
+    marks: Vec<bool>,
 ) -> Schema
-    requires { IsSound (record { program = index; decls = map declaration entered.entries.items }) entered.known.constructors entered.known.functions numbers.entries empties.items }
+    requires { IsSound (record { program = index; decls = map declaration entered.entries.items }) entered.known.constructors entered.known.functions numbers.entries marks.items }
     ensures { result ≡ record { program = index; decls = map declaration entered.entries.items } }
 {
     let Entered { entries, known } = entered;
@@ -95,7 +95,7 @@ fn schema_of(
         known.constructors,
         known.functions,
         numbers,
-        empties,
+        marks,
     )
 }
 

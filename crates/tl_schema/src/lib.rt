@@ -14,7 +14,6 @@ mod families;
 mod fault;
 mod laws;
 mod meanings;
-mod names;
 mod not_bare;
 mod parts;
 mod pass_checks;

@@ -1,11 +1,11 @@
 //! The checks in their order.
-ghost use Rattle.std.specs.Prelude.{◌≡◌, ◌<◌, ◌^◌, IfErr, IfOk, Err, length, map};
+ghost use Rattle.std.specs.Prelude.{◌≡◌, ◌<◌, ◌^◌, IfOk, length, map};
 ghost use Rattle.tl_combinators.specs.Program.{program_text};
 ghost use Rattle.tl_names.specs.MeantDecls.{meant_decl};
 ghost use Rattle.tl_names.specs.MeantViews.{decl_view};
 ghost use Rattle.tl_schema.specs.inner.BareSteps.{MarksEmpty};
-ghost use Rattle.tl_schema.specs.CheckCauses.{Passes, meaning_causes, name_causes};
-ghost use Rattle.tl_schema.specs.inner.CheckSteps.{ChecksBy, Found, PassesChecks};
+ghost use Rattle.tl_schema.specs.CheckCauses.{meaning_causes, name_causes};
+ghost use Rattle.tl_schema.specs.inner.CheckSteps.{ChecksBy, Found, PassesChecks, outcome};
 
 use crate::bad_flag::first_bad_flag;
 use crate::bad_result::first_bad_result;
@@ -43,8 +43,8 @@ pub fn pass_checks(
     requires same { index.now ≡ program_text program.now }
     requires resolved { map decl_view meant.now ≡ map (meant_decl (program_text program.now)) (program_text program.now) }
     requires few { length (program_text program.now) < 2 ^ 32 }
-    ensures passed { IfOk result (λ marks. Passes (program_text program.now) × MarksEmpty (program_text program.now) marks.items) }
-    ensures refused { IfErr result (λ fault. PassesChecks (program_text program.now) (Err fault)) }
+    ensures passes { PassesChecks (program_text program.now) (outcome result) }
+    ensures marks { IfOk result (λ marks. MarksEmpty (program_text program.now) marks.items) }
 {
     let _meant = meant;
     pass_all(alloc, index, program)?;

@@ -1,16 +1,16 @@
 //! The first check: names.
-ghost use Rattle.std.specs.Prelude.{◌≡◌, ◌<◌, ◌^◌, ◌+◌, ◌↔◌, ℕ, IsTrue, IfOk, Some, length, slice_get};
+ghost use Rattle.std.specs.Prelude.{◌≡◌, ◌<◌, ◌^◌, ◌+◌, ◌↔◌, ℕ, IsTrue, IfOk, OnOk, Some, length, slice_get};
 ghost use Rattle.tl_combinators.specs.Program.{decl_text, program_text};
 ghost use Rattle.tl_combinators.specs.Trees.{view};
 ghost use Rattle.tl_graph.specs.Firsts.{First};
 ghost use Rattle.tl_names.specs.NameLists.{IsRepeat};
 ghost use Rattle.tl_schema.specs.SameName.{SameName, part_names};
-ghost use Rattle.tl_schema.specs.inner.SameNameSteps.{AddsName, MakesVector, IsOf};
+ghost use Rattle.tl_schema.specs.inner.SameNameSteps.{AddsName, IsOf, MakesVector, NotesName, is_noted};
 
 use crate::meanings::is_variable;
-use crate::names::Names;
 use std::alloc::{AllocError, Global};
 use tl_combinators::{Decl, Program, TypeTree};
+use tl_names::Names;
 
 /// The names of the declarations so far.
 #[derive(Drop)]
@@ -39,16 +39,23 @@ pub fn first_same_name(alloc: Global, program: &Program) -> Result<Option<u32>, 
     Ok(None)
 }
 
+// Adds a name, and gives whether it was known.
+fn add(alloc: Global, names: &mut Names, name: &[u8]) -> Result<bool, AllocError>
+    ensures known { IfOk result (λ is_old. is_old ≡ is_noted names.old name.now) }
+    ensures added { OnOk result (NotesName names.old names.new name.now) }
+{
+    let is_new = names.note(alloc, name, 0)?;
+    Ok(!is_new)
+}
+
 // Adds the name of a declaration, and gives whether it was known.
 fn add_name(alloc: Global, known: &mut Known, decl: &Decl) -> Result<bool, AllocError>
     ensures { IfOk result (AddsName known.old known.new (decl_text decl.now)) }
 {
     if decl.function {
-        let (_, is_new) = known.functions.add(alloc, decl.name.as_slice())?;
-        Ok(!is_new)
+        add(alloc, &mut known.functions, decl.name.as_slice())
     } else {
-        let (_, is_new) = known.constructors.add(alloc, decl.name.as_slice())?;
-        Ok(!is_new)
+        add(alloc, &mut known.constructors, decl.name.as_slice())
     }
 }
 
@@ -71,8 +78,8 @@ fn repeats_part(alloc: Global, decl: &Decl) -> Result<bool, AllocError>
 {
     let mut names = Names::new(alloc);
     for i in 0..decl.vars.len() + decl.fields.len() {
-        let (_, is_new) = names.add(alloc, part_name(decl, i))?;
-        if !is_new {
+        let is_old = add(alloc, &mut names, part_name(decl, i))?;
+        if is_old {
             return Ok(true);
         }
     }

@@ -77,7 +77,7 @@ pub struct Schema {
     constructors: Names,
     functions: Names,
     numbers: BTreeMap<u32, u32>,
-    empties: Vec<bool>,
+    marks: Vec<bool>,
 }
 
 impl Model for Schema {
@@ -93,7 +93,7 @@ impl Model for Schema {
 
     ghost view = { λ s. record { program = s.index; decls = map declaration s.entries.items } };
 
-    ghost invariant = { λ s. IsSound (record { program = s.index; decls = map declaration s.entries.items }) s.constructors s.functions s.numbers.entries s.empties.items };
+    ghost invariant = { λ s. IsSound (record { program = s.index; decls = map declaration s.entries.items }) s.constructors s.functions s.numbers.entries s.marks.items };
 }
 
 impl Schema {
@@ -103,9 +103,9 @@ impl Schema {
         constructors: Names,
         functions: Names,
         numbers: BTreeMap<u32, u32>,
-        empties: Vec<bool>,
+        marks: Vec<bool>,
     ) -> Schema
-        requires { IsSound (record { program = index; decls = map declaration entries.items }) constructors functions numbers.entries empties.items }
+        requires { IsSound (record { program = index; decls = map declaration entries.items }) constructors functions numbers.entries marks.items }
         ensures value { result ≡ record { program = index; decls = map declaration entries.items } }
     {
         Schema {
@@ -114,7 +114,7 @@ impl Schema {
             constructors,
             functions,
             numbers,
-            empties,
+            marks,
         }
     }
 
@@ -167,10 +167,10 @@ impl Schema {
         &self.index
     }
 
-    /// Marks at the constructors that take no bytes.
-    pub(crate) fn empties(&self) -> &[bool]
+    /// Which constructors take no bytes.
+    pub(crate) fn marks(&self) -> &[bool]
         ensures { MarksEmpty self.now.program result.now }
     {
-        self.empties.as_slice()
+        self.marks.as_slice()
     }
 }

@@ -42,7 +42,7 @@ fn named_type(alloc: Global, schema: &Schema, text: &[u8]) -> Result<TypeRef, Ty
 {
     let tokens = lex(alloc, text)?;
     let tree = parse_type(alloc, text, &tokens)?;
-    checked_type(alloc, schema.index(), schema.empties(), &tree)
+    checked_type(alloc, schema.index(), schema.marks(), &tree)
 }
 
 // Who asks for a type: no declaration of the program, and one without variables.

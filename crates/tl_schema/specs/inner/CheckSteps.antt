@@ -20,3 +20,8 @@ PassesChecks ds result = ChecksBy ds causes result
 abbrev pub Found : Option ℕ → CheckCause → Result (Unit {0}) CheckFault → Type 0
 Found (Some k) cause result = result ≡ Err (check.Refused k cause)
 Found None cause result = result ≡ Ok tt
+
+-- the outcome of a check that gives more
+abbrev pub outcome : {X : Type 0} → Result X CheckFault → Result (Unit {0}) CheckFault
+outcome (Ok x) = Ok tt
+outcome (Err fault) = Err fault

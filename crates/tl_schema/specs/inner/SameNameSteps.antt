@@ -1,21 +1,27 @@
 -- Steps of the first check: the names that are known, and what one declaration adds. This project's own.
-use Rattle.std.specs.Prelude.{◌≡◌, ℕ, List, Bool, true, false, not, bytes_eq, codes}
-use Rattle.std.specs.List.{list_any}
+use Rattle.std.specs.Prelude.{◌≡◌, ℕ, List, Bool, true, false, not, ◌||◌, is_some, bytes_eq, codes}
 use Rattle.tl_combinators.specs.Trees.{Tree, Trees, named}
 use Rattle.tl_combinators.specs.Program.{DeclText}
 use Rattle.tl_names.specs.Writing.{is_variable}
-use Rattle.tl_names.specs.NameLists.{with_name}
+use Rattle.tl_names.specs.NamePlaces.{place_in}
 use Rattle.tl_schema.specs.declared.same_name.Known.{Known}
 
+abbrev pub is_noted : List (List ℕ × ℕ) → List ℕ → Bool
+is_noted names name = is_some (place_in names name)
+
+-- the name is noted, and each other that was
+abbrev pub NotesName : List (List ℕ × ℕ) → List (List ℕ × ℕ) → List ℕ → Type 0
+NotesName old new name = (n : List ℕ) → is_noted new n ≡ (bytes_eq n name || is_noted old n)
+
 -- the names of the functions, or those of the constructors
-abbrev pub names_among : Bool → Known → List (List ℕ)
+abbrev pub names_among : Bool → Known → List (List ℕ × ℕ)
 names_among true known = known.functions
 names_among false known = known.constructors
 
 -- what a declaration adds, and whether its name was known
 pub record AddsName (old new : Known) (d : DeclText) (is_old : Bool) : Type 0 where
-  pub known : is_old ≡ list_any (bytes_eq d.name) (names_among d.function old)
-  pub added : names_among d.function new ≡ with_name (names_among d.function old) d.name
+  pub known : is_old ≡ is_noted (names_among d.function old) d.name
+  pub added : NotesName (names_among d.function old) (names_among d.function new) d.name
   pub others : names_among (not d.function) new ≡ names_among (not d.function) old
 
 -- the type is the name, applied to some types or none

@@ -5,9 +5,12 @@ use Rattle.tl_combinators.specs.Program.{decl_text, program_text}
 use Rattle.tl_graph.proofs.FirstNodes.{first_none}
 use Rattle.tl_schema.specs.SameName.{SameName, part}
 use Rattle.tl_schema.proofs.Maps.{slice_get_item}
-use Rattle.tl_schema.proofs.SameNames.{knows_more, taken, free, makes_vector, same_name_within}
+use Rattle.tl_schema.proofs.SameNames.{knows_none, knows_more, taken, free, makes_vector, same_name_within}
 use Rattle.tl_schema.proofs.same_name.first_same_name.Goals as goal
 use Rattle.tl_schema.proofs.same_name.first_same_name.Goals.{then-is_old-via-then-is_old, then-is_old-via-else-is_old+then-is_repeated, then-is_old-via-else-is_old+else-is_repeated+then-makes_vector}
+
+pub loop-k-init : goal.loop-k-init
+loop-k-init c = (knows_none (program_text c.args.program.now) _ c.new-2.ensures c.new.ensures, λ j below. absurd (omega (arith, below)))
 
 pub returns-then-is_old : goal.returns-then-is_old
 returns-then-is_old c =

@@ -4,7 +4,7 @@ use Rattle.tl_schema.proofs.AskedFormed.{named_formed}
 use Rattle.tl_schema.proofs.types.named_type.Goals as goal
 
 pub checked_type-requires : goal.checked_type-requires
-checked_type-requires c = rw c.index.ensures.same c.empties.ensures
+checked_type-requires c = rw c.index.ensures.same c.marks.ensures
 
 pub returns-clause-names : goal.returns-clause-names
 returns-clause-names c =
