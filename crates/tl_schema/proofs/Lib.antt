@@ -6,6 +6,7 @@ pub mod BareParts
 pub mod AppliedTypes
 pub mod SameNames
 pub mod Results
+mod TypeNames
 pub mod SmallPrograms
 pub mod FieldConditions
 mod Maps
