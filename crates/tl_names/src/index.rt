@@ -1,8 +1,8 @@
 //! The declarations of a program by name.
-ghost use Rattle.std.specs.Prelude.{◌≡◌, ◌∷◌, [], ◌++◌, ◌<◌, ◌≤◌, ◌^◌, ℕ, List, length, IfOk, OnOk, Some};
+ghost use Rattle.std.specs.Prelude.{◌≡◌, ◌∷◌, [], ◌++◌, ◌<◌, ◌≤◌, ◌^◌, ℕ, List, length, slice_get, IfOk, OnOk, Some};
 ghost use Rattle.tl_combinators.specs.Program.{DeclText, decl_text, program_text};
-ghost use Rattle.tl_names.specs.Constructors.{AreConstructors};
-ghost use Rattle.tl_names.specs.Indexed.{AreNumbered, Changes, IndexesNames, IndexesTypes, one_more};
+ghost use Rattle.tl_names.specs.Constructors.{AreConstructors, IsFamily};
+ghost use Rattle.tl_names.specs.Indexed.{AreNumbered, Changes, IndexesNames, IndexesTypes, one_more, var_counts};
 ghost use Rattle.tl_names.specs.NamePlaces.{place_in};
 ghost use Rattle.tl_names.specs.Places.{types_of};
 ghost use Rattle.tl_names.specs.What.{base_what, constructor_named, declared_what, known_what, type_named, unless_variable};
@@ -33,6 +33,7 @@ pub struct Index {
     names: Names,
     types: Names,
     families: Vec<Constructors>,
+    vars: Vec<usize>,
 }
 
 impl Model for Index {
@@ -48,7 +49,7 @@ impl Model for Index {
 
     ghost view = { λ x. program_text x.program.value };
 
-    ghost invariant = { λ x. IsIndex (program_text x.program.value) x.names x.types x.families.items };
+    ghost invariant = { λ x. IsIndex (program_text x.program.value) x.names x.types x.families.items x.vars.items };
 }
 
 impl Index {
@@ -60,15 +61,18 @@ impl Index {
         let mut names = Names::new(alloc);
         let mut types = Names::new(alloc);
         let mut families = Vec::new(alloc);
+        let mut vars = Vec::new(alloc);
         for (at, decl) in program.decls.iter().enumerate() {
             note_name(alloc, &mut names, decl, at as u32)?;
             note_type(alloc, &mut types, &mut families, decl, at as u32)?;
+            vars.push(decl.vars.len())?;
         }
         Ok(Index {
             program: Snapshot::of(program),
             names,
             types,
             families,
+            vars,
         })
     }
 
@@ -142,6 +146,20 @@ impl Index {
         ensures { (type : List ℕ) → type_named self.now type ≡ Some number → AreConstructors self.now type result }
     {
         self.families[number as usize]
+    }
+
+    /// The constructors of the type with this number; none where no type has it.
+    pub fn family(&self, number: u32) -> Option<Constructors>
+        ensures { (type : List ℕ) → type_named self.now type ≡ Some number → IsFamily self.now type result }
+    {
+        self.families.get(number as usize).copied()
+    }
+
+    /// The number of variables of the declaration at an index; none after the last.
+    pub fn var_count(&self, at: u32) -> Option<usize>
+        ensures { result ≡ slice_get (var_counts self.now) at }
+    {
+        self.vars.get(at as usize).copied()
     }
 }
 

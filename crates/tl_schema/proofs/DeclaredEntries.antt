@@ -13,6 +13,7 @@ use Rattle.tl_schema.specs.CheckedPrograms.{HasName, Finds}
 use Rattle.tl_names.specs.NamePlaces.{Notes, place_in}
 use Rattle.tl_schema.specs.NamesNoted.{NotesOne, among, Enters}
 use Rattle.tl_schema.specs.SchemaParts.{ArePlaces, IsSound}
+use Rattle.tl_schema.specs.BareSteps.{MarksEmpty}
 use Rattle.tl_schema.specs.declared.checks.Known.{Known}
 use Rattle.tl_schema.proofs.Places.{IsPlace, first_same, first_with, first_without, get_cases}
 
@@ -108,9 +109,9 @@ enters_more ds at es old new d e there is fits notes before = record {
 }
 
 -- all declarations have their entries
-module _ (ds : List DeclText) (at : ℕ) (schema : Declared) (known : Known) (types : ℕ) where
-  pub entered : schema.program ≡ ds → at ≡ length ds → types ≡ length (types_of ds) → Passes ds → IsSmall ds → Enters ds at schema.decls known → IsSound schema known.constructors known.functions types
-  entered same all count passes small es = record {
+module _ (ds : List DeclText) (at : ℕ) (schema : Declared) (known : Known) (types : ℕ) (marks : List Bool) where
+  pub entered : MarksEmpty ds marks → schema.program ≡ ds → at ≡ length ds → types ≡ length (types_of ds) → Passes ds → IsSmall ds → Enters ds at schema.decls known → IsSound schema known.constructors known.functions types marks
+  entered empty same all count passes small es = record {
     good = record {
       passes = subst Passes (sym same) passes;
       small = subst IsSmall (sym same) small;
@@ -121,4 +122,5 @@ module _ (ds : List DeclText) (at : ℕ) (schema : Declared) (known : Known) (ty
     of_constructors = es.places false;
     of_functions = es.places true;
     type_count = count ∙ ap (λ program. length (types_of program)) (sym same);
+    empty = subst (λ program. MarksEmpty program marks) (sym same) empty;
   }

@@ -12,6 +12,10 @@ pub mod Results
 pub mod SmallPrograms
 pub mod FieldConditions
 mod Maps
+mod ForTypes
+mod ResolvedDecls
+mod NameCases
+mod HeadFamilies
 mod NameKeys
 mod Repeats
 mod TypeNames

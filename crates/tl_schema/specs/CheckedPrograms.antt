@@ -28,6 +28,11 @@ ChecksBy ds cs (Err check.Memory) = Unit {0}
 abbrev pub PassesChecks : List DeclText → Result (Unit {0}) CheckFault → Type 0
 PassesChecks ds result = ChecksBy ds causes result
 
+-- the outcome of a check that gives more
+abbrev pub outcome : {X : Type 0} → Result X CheckFault → Result (Unit {0}) CheckFault
+outcome (Ok x) = Ok tt
+outcome (Err fault) = Err fault
+
 -- what comes of a place that was looked for: the first declaration with the cause, if there is one
 abbrev pub Found : Option ℕ → CheckCause → Result (Unit {0}) CheckFault → Type 0
 Found (Some k) cause result = result ≡ Err (check.Refused k cause)

@@ -3,6 +3,7 @@ pub mod Schemas
 pub mod Seen
 pub mod NameLists
 pub mod Writing
+pub mod Resolved
 pub mod SameName
 pub mod UnknownType
 pub mod UnknownVariable
@@ -19,6 +20,7 @@ pub mod BareSteps
 pub mod Indexed
 pub mod BareForms
 pub mod Arities
+pub mod WhatSteps
 pub mod SameNameSteps
 pub mod ConditionSteps
 pub mod VariableSteps

@@ -2,6 +2,7 @@
 ghost use Rattle.std.specs.Prelude.{◌≡◌, ◌<◌, ◌^◌, IfOk, OnOk, length, map};
 ghost use Rattle.tl_combinators.specs.Program.{decl_text, program_text, IsWithinLimits};
 ghost use Rattle.tl_schema.specs.Meanings.{IsSmall};
+ghost use Rattle.tl_schema.specs.BareSteps.{MarksEmpty};
 ghost use Rattle.tl_schema.specs.CheckCauses.{Passes};
 ghost use Rattle.tl_schema.specs.CheckedPrograms.{Checks, IsSchema};
 ghost use Rattle.tl_schema.specs.NamesNoted.{AreEntered, EntersOne, NotesOne};
@@ -17,6 +18,7 @@ use crate::scope::Scope;
 use crate::{CheckFault, Entry, Schema};
 use std::alloc::{AllocError, Global};
 use tl_combinators::{Decl, Program};
+use tl_names::resolve;
 
 /// The places of the names of the declarations so far.
 #[derive(Drop)]
@@ -39,25 +41,33 @@ pub fn check(alloc: Global, program: &Program) -> Result<Schema, CheckFault>
     ensures { Checks (program_text program.now) result }
 {
     let index = Index::of(alloc, program)?;
-    pass_checks(alloc, &index, program)?;
-    let schema = declare(alloc, &index, program)?;
+    let names = tl_names::Index::of(alloc, program)?;
+    let meant = resolve(alloc, &names, program)?;
+    let marks = pass_checks(alloc, &names, program, &meant)?;
+    let schema = declare(alloc, &index, program, marks)?;
     Ok(schema)
 }
 
 // The schema that a program declares which passes the checks.
-fn declare(alloc: Global, index: &Index, program: &Program) -> Result<Schema, AllocError>
+fn declare(
+    alloc: Global,
+    index: &Index,
+    program: &Program,
+    marks: Vec<bool>,
+) -> Result<Schema, AllocError>
     requires same { index.now ≡ program_text program.now }
     requires small { IsSmall (program_text program.now) }
     requires passes { Passes (program_text program.now) }
+    requires empty { MarksEmpty (program_text program.now) marks.items }
     ensures { IfOk result (λ s. IsSchema s × (s.program ≡ program_text program.now)) }
 {
     let program_copy = copy_program(alloc, program)?;
     let entered = entered_of(alloc, index, program)?;
-    Ok(schema_of(program_copy, entered))
+    Ok(schema_of(program_copy, entered, marks))
 }
 
-fn schema_of(program: Program, entered: Entered) -> Schema
-    requires { IsSound (record { program = program_text program; decls = map declaration entered.entries.items }) entered.known.constructors entered.known.functions entered.types }
+fn schema_of(program: Program, entered: Entered, marks: Vec<bool>) -> Schema
+    requires { IsSound (record { program = program_text program; decls = map declaration entered.entries.items }) entered.known.constructors entered.known.functions entered.types marks.items }
     ensures { result ≡ record { program = program_text program; decls = map declaration entered.entries.items } }
 {
     let Entered {
@@ -65,7 +75,7 @@ fn schema_of(program: Program, entered: Entered) -> Schema
         known,
         types,
     } = entered;
-    Schema::new(program, entries, known.constructors, known.functions, types)
+    Schema::new(program, entries, known.constructors, known.functions, types, marks)
 }
 
 // The entries of all declarations.

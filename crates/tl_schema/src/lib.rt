@@ -3,7 +3,6 @@
 
 mod bad_flag;
 mod bad_result;
-mod bare_cycle;
 mod checks;
 mod copies;
 mod declarations;
@@ -17,6 +16,7 @@ mod names;
 mod not_bare;
 mod parts;
 mod pass_checks;
+mod pass_type;
 mod placed;
 mod references;
 mod same_name;

@@ -5,6 +5,7 @@ ghost use Rattle.tl_schema.specs.Seen.{declaration};
 ghost use Rattle.tl_schema.specs.CheckedPrograms.{Finds, IsSchema};
 ghost use Rattle.tl_names.specs.Places.{types_of};
 ghost use Rattle.tl_schema.specs.SchemaParts.{IsSound};
+ghost use Rattle.tl_schema.specs.BareSteps.{MarksEmpty};
 
 use crate::placed::Placed;
 use std::marker::Model;
@@ -76,6 +77,7 @@ pub struct Schema {
     constructors: Placed,
     functions: Placed,
     types: u32,
+    marks: Vec<bool>,
 }
 
 impl Model for Schema {
@@ -92,7 +94,7 @@ impl Model for Schema {
 
     ghost view = { λ s. record { program = program_text s.program; decls = map declaration s.entries.items } };
 
-    ghost invariant = { λ s. IsSound (record { program = program_text s.program; decls = map declaration s.entries.items }) s.constructors s.functions s.types };
+    ghost invariant = { λ s. IsSound (record { program = program_text s.program; decls = map declaration s.entries.items }) s.constructors s.functions s.types s.marks.items };
 }
 
 impl Schema {
@@ -102,8 +104,9 @@ impl Schema {
         constructors: Placed,
         functions: Placed,
         types: u32,
+        marks: Vec<bool>,
     ) -> Schema
-        requires { IsSound (record { program = program_text program; decls = map declaration entries.items }) constructors functions types }
+        requires { IsSound (record { program = program_text program; decls = map declaration entries.items }) constructors functions types marks.items }
         ensures value { result ≡ record { program = program_text program; decls = map declaration entries.items } }
     {
         Schema {
@@ -112,6 +115,7 @@ impl Schema {
             constructors,
             functions,
             types,
+            marks,
         }
     }
 
@@ -155,5 +159,11 @@ impl Schema {
         ensures sound { IsSchema self.now }
     {
         &self.program
+    }
+    /// Which constructors take no bytes.
+    pub(crate) fn marks(&self) -> &[bool]
+        ensures { MarksEmpty self.now.program result.now }
+    {
+        self.marks.as_slice()
     }
 }

@@ -1,22 +1,21 @@
 //! Types by their texts.
-ghost use Rattle.std.specs.Prelude.{◌≡◌, ◌<◌, ◌^◌, length};
+ghost use Rattle.std.specs.Prelude.{◌≡◌};
 ghost use Rattle.tl_combinators.specs.Trees.{view};
 ghost use Rattle.tl_combinators.specs.Program.{decl_text, program_text};
 ghost use Rattle.tl_schema.specs.Meanings.{IsSmall};
-ghost use Rattle.tl_schema.specs.AskedTypes.{ChecksType, NamesType, PassesType, asker};
+ghost use Rattle.tl_schema.specs.AskedTypes.{ChecksType, NamesType, asker};
+ghost use Rattle.tl_schema.specs.BareSteps.{MarksEmpty};
 
-use crate::empty_element::has_empty_argument;
 use crate::index::Index;
-use crate::not_bare::writes_no_bare;
+use crate::pass_type::pass_type;
 use crate::scope::Scope;
 use crate::terms::type_term;
-use crate::unknown_type::writes_unknown;
-use crate::wrong_arity::writes_misapplied;
-use crate::{Schema, TypeCause, TypeFault, TypeRef};
+use crate::{Schema, TypeFault, TypeRef};
 use std::alloc::Global;
 use tl_base::Bytes;
 use tl_combinators::{Decl, Program, TypeTree, parse_type};
 use tl_lexer::lex;
+use tl_names::resolve_type;
 
 /// The type that a text names: a closed type of the schema, or `!` for a call of any of its functions.
 pub fn type_of(alloc: Global, schema: &Schema, text: &[u8]) -> Result<TypeRef, TypeFault>
@@ -24,7 +23,7 @@ pub fn type_of(alloc: Global, schema: &Schema, text: &[u8]) -> Result<TypeRef, T
 {
     let tokens = lex(alloc, text)?;
     let tree = parse_type(alloc, text, &tokens)?;
-    checked_type(alloc, schema.program(), &asker(alloc), &tree)
+    checked_type(alloc, schema.program(), schema.marks(), &asker(alloc), &tree)
 }
 
 // Who asks for a type: no declaration of the program, and one without variables.
@@ -47,53 +46,20 @@ fn asker(alloc: Global) -> Decl
 fn checked_type(
     alloc: Global,
     program: &Program,
+    marks: &[bool],
     decl: &Decl,
     tree: &TypeTree,
 ) -> Result<TypeRef, TypeFault>
     requires small { IsSmall (program_text program.now) }
+    requires empty { MarksEmpty (program_text program.now) marks.now }
     requires asks { decl_text decl.now ≡ asker }
     ensures { ChecksType (program_text program.now) (view tree.now) result }
 {
     let index = Index::of(alloc, program)?;
-    pass_type(alloc, &index, program, decl, tree)?;
+    let names = tl_names::Index::of(alloc, program)?;
+    let meant = resolve_type(alloc, &names, tree)?;
+    pass_type(&names, marks, &meant)?;
     let scope = Scope::of(alloc, &index, program)?;
     let term = type_term(alloc, &scope, decl, tree)?;
     Ok(term)
-}
-
-// Refuses a type for the first cause that it has.
-fn pass_type(
-    alloc: Global,
-    index: &Index,
-    program: &Program,
-    decl: &Decl,
-    tree: &TypeTree,
-) -> Result<(), TypeFault>
-    requires same { index.now ≡ program_text program.now }
-    requires few { length (program_text program.now) < 2 ^ 32 }
-    requires asks { decl_text decl.now ≡ asker }
-    ensures { PassesType (program_text program.now) (view tree.now) result }
-{
-    if writes_unknown(index, decl, tree) {
-        return Err(TypeFault::Refused {
-            cause: TypeCause::UnknownType,
-        });
-    }
-    if writes_misapplied(index, decl, tree) {
-        return Err(TypeFault::Refused {
-            cause: TypeCause::WrongArity,
-        });
-    }
-    if writes_no_bare(index, decl, tree) {
-        return Err(TypeFault::Refused {
-            cause: TypeCause::NotBare,
-        });
-    }
-    let is_empty = has_empty_argument(alloc, index, program, decl, tree)?;
-    if is_empty {
-        return Err(TypeFault::Refused {
-            cause: TypeCause::EmptyElement,
-        });
-    }
-    Ok(())
 }

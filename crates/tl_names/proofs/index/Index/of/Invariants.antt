@@ -4,4 +4,4 @@ use Rattle.tl_names.specs.Indexed.{IsIndex}
 use Rattle.tl_names.proofs.index.Index.of.Given as goal
 
 abbrev pub invariant-loop-at : goal.invariant-loop-at
-invariant-loop-at l = IsIndex (take l.at (program_text l.program)) l.names l.types l.families.items
+invariant-loop-at l = IsIndex (take l.at (program_text l.program)) l.names l.types l.families.items l.vars.items
