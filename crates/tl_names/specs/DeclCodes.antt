@@ -95,7 +95,7 @@ field_code =
     code_by (List ℕ × (Option CondText × KindText)) (coded× name_code (coded× (coded_option cond_code) kind_code))
     (λ f. (f.name, (f.cond, f.kind))) (λ p. record { name = p.0; cond = p.1.0; kind = p.1.1 }) (λ _. refl)
 
-abbrev decl_code : Coded DeclText
+abbrev pub decl_code : Coded DeclText
 decl_code =
     code_by (((List ℕ × Option ℕ) × (List (List ℕ) × List FieldText)) × ((Tree × Bool) × (Bool × List ℕ)))
     (coded× (coded× (coded× name_code (coded_option coded_ℕ)) (coded× (coded_list name_code) (coded_list field_code))) (coded× (coded× tree_code coded_bool) (coded× coded_bool name_code)))

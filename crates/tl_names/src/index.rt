@@ -161,6 +161,23 @@ impl Index {
     {
         self.vars.get(at as usize).copied()
     }
+
+    /// The constructors of the type with this name.
+    pub fn constructors_of(&self, name: &[u8]) -> Option<Constructors>
+        ensures { IsFamily self.now name.now result }
+    {
+        match self.types.get(name) {
+            Some(number) => Some(self.families[number as usize]),
+            None => None,
+        }
+    }
+
+    /// The number of declarations.
+    pub fn count(&self) -> u32
+        ensures { result ≡ length self.now }
+    {
+        self.vars.len() as u32
+    }
 }
 
 // A built-in bare type, as what its name means.

@@ -10,9 +10,10 @@ mod types;
 mod what;
 mod writing;
 
-pub use declarations::resolve;
+pub use declarations::{numbered, resolve};
 pub use index::{Constructors, Index};
 pub use meant::{Meant, MeantCond, MeantDecl, MeantField, MeantKind};
 pub use names::Names;
 pub use types::resolve_type;
 pub use what::What;
+pub use writing::{is_constructor, is_type_name, is_variable, own_type, result_head};

@@ -3,18 +3,18 @@ use Rattle.std.proofs.Common.{◌≡◌, ◌⊎◌, inl, inr, ℕ, ◌+◌, ◌<
 use Rattle.std.specs.Option.{unwrap_or}
 use Rattle.std.proofs.lemmas.Option.{none-some, same_Some}
 use Rattle.std.proofs.lemmas.Slice.Eq.{bytes_eq-Decides}
-use Rattle.tl_combinators.specs.Program.{DeclText}
+use Rattle.tl_combinators.specs.Program.{DeclText, IsWithinLimits}
 use Rattle.tl_names.specs.Writing.{At}
 use Rattle.tl_schema.specs.Schemas.{Declaration, Declared}
 use Rattle.tl_schema.specs.Meanings.{IsEntry, IsSmall}
-use Rattle.tl_names.specs.Places.{types_of}
+use Rattle.tl_schema.specs.BareSteps.{MarksEmpty}
 use Rattle.tl_schema.specs.CheckCauses.{Passes}
 use Rattle.tl_schema.specs.CheckedPrograms.{HasName, Finds}
 use Rattle.tl_names.specs.NamePlaces.{Notes, place_in}
 use Rattle.tl_schema.specs.NamesNoted.{NotesOne, among, Enters}
-use Rattle.tl_schema.specs.SchemaParts.{ArePlaces, IsSound}
-use Rattle.tl_schema.specs.BareSteps.{MarksEmpty}
+use Rattle.tl_schema.specs.SchemaParts.{AreNumbers, ArePlaces, IsSound}
 use Rattle.tl_schema.specs.declared.checks.Known.{Known}
+use Rattle.tl_schema.proofs.SmallPrograms.{small_within_limits}
 use Rattle.tl_schema.proofs.Places.{IsPlace, first_same, first_with, first_without, get_cases}
 
 -- ---- names
@@ -109,18 +109,18 @@ enters_more ds at es old new d e there is fits notes before = record {
 }
 
 -- all declarations have their entries
-module _ (ds : List DeclText) (at : ℕ) (schema : Declared) (known : Known) (types : ℕ) (marks : List Bool) where
-  pub entered : MarksEmpty ds marks → schema.program ≡ ds → at ≡ length ds → types ≡ length (types_of ds) → Passes ds → IsSmall ds → Enters ds at schema.decls known → IsSound schema known.constructors known.functions types marks
-  entered empty same all count passes small es = record {
+module _ (ds : List DeclText) (schema : Declared) (known : Known) (numbers : List (ℕ × ℕ)) (empties : List Bool) where
+  pub entered : schema.program ≡ ds → IsWithinLimits ds → Passes ds → Enters ds (length ds) schema.decls known → AreNumbers ds numbers → MarksEmpty ds empties → IsSound schema known.constructors known.functions numbers empties
+  entered same limits passes es are_numbers marks = record {
     good = record {
       passes = subst Passes (sym same) passes;
-      small = subst IsSmall (sym same) small;
-      count = es.count ∙ all ∙ sym (ap length same);
+      small = subst IsSmall (sym same) (small_within_limits ds limits);
+      count = es.count ∙ sym (ap length same);
       entries = λ k d e there here. subst (λ program. IsEntry program d e) (sym same) (es.entries k d e (ap (λ program. slice_get program k) (sym same) ∙ there) here);
       fits = es.fits;
     };
     of_constructors = es.places false;
     of_functions = es.places true;
-    type_count = count ∙ ap (λ program. length (types_of program)) (sym same);
-    empty = subst (λ program. MarksEmpty program marks) (sym same) empty;
+    of_numbers = subst (λ program. AreNumbers program numbers) (sym same) are_numbers;
+    of_empties = subst (λ program. MarksEmpty program empties) (sym same) marks;
   }

@@ -1,7 +1,6 @@
 -- The types, fields and declarations that resolved ones stand for.
-use Rattle.std.proofs.Common.{◌≡◌, ℕ, zero, suc, ◌<◌, List, [], ◌∷◌, map, length, get_or, slice_get, Option, Some, None, Vec, Global, Box, refl, ap, ap₂, sym, subst, ◌∙◌, rules}
+use Rattle.std.proofs.Common.{◌≡◌, ℕ, zero, suc, ◌<◌, List, [], ◌∷◌, map, length, get_or, slice_get, Option, Some, Vec, Global, Box, refl, ap, ap₂, sym, subst, ◌∙◌, rules}
 use Rattle.std.specs.Box.{box_value}
-use Rattle.std.specs.Option.{option_map}
 use Rattle.std.proofs.lemmas.Option.{none-some, same_Some}
 use Rattle.tl_combinators.specs.Trees.{Tree, Trees, trees_of, no_trees, tree}
 use Rattle.tl_combinators.specs.Trees as written
@@ -9,8 +8,8 @@ use Rattle.tl_combinators.specs.Program.{KindText, FieldText, DeclText}
 use Rattle.tl_combinators.specs.Program as kind
 use Rattle.tl_names.specs.What.{what_of, variable_named}
 use Rattle.tl_names.specs.declared.what.What.{What}
-use Rattle.tl_names.specs.Meants.{MeantView, MeantViews, named, percent, any_call, no_meants, and_meant, meants_of, meant, meants}
-use Rattle.tl_names.specs.MeantDecls.{MeantKindView, nat, flag, call, of, kind_by}
+use Rattle.tl_names.specs.Meants.{MeantView, named, percent, any_call, meants_of, meant, meants}
+use Rattle.tl_names.specs.MeantDecls.{nat, flag, call, of, kind_by}
 use Rattle.tl_names.specs.MeantViews.{meant_view}
 use Rattle.tl_names.specs.declared.meant.Meant.{Meant, Named, Percent, AnyCall, the_lemmas}
 use Rattle.tl_schema.specs.Resolved.{ForType}

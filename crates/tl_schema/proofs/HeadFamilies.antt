@@ -1,10 +1,10 @@
 -- The constructors of a type by its number, and the type that a declaration constructs.
-use Rattle.std.proofs.Common.{◌≡◌, ◌↔◌, ℕ, Bool, true, false, not, ◌==◌, List, length, Option, Some, None, refl, ap, sym, subst, ◌∙◌, true≢false}
+use Rattle.std.proofs.Common.{◌≡◌, ◌↔◌, ℕ, Bool, true, false, not, ◌==◌, List, Option, Some, None, refl, ap, sym, subst, ◌∙◌, true≢false}
 use Rattle.std.specs.Prelude.{IsTrue, is_some}
-use Rattle.std.proofs.lemmas.Bool.{not-true, not-false, eqb-false, eqb-true}
+use Rattle.std.proofs.lemmas.Bool.{not-true, eqb-false, eqb-true}
 use Rattle.std.proofs.lemmas.Option.{none-some, same_Some}
 use Rattle.tl_combinators.specs.Program.{DeclText}
-use Rattle.tl_names.specs.Writing.{At, own_type, IsConstructorOf}
+use Rattle.tl_names.specs.Writing.{own_type, IsConstructorOf}
 use Rattle.tl_names.specs.Constructors.{FirstOf, IsFamily, IsSingle, IsUneven}
 use Rattle.tl_names.specs.MeantDecls.{head_number}
 use Rattle.tl_names.specs.What.{type_named}
@@ -12,7 +12,7 @@ use Rattle.tl_names.specs.declared.index.Constructors.{Constructors}
 use Rattle.tl_names.proofs.NameMeanings.{type_first}
 use Rattle.tl_schema.specs.Arities.{VarsOfFirst, IsArity}
 use Rattle.tl_schema.specs.BareSteps.{OnlyOf}
-use Rattle.tl_schema.specs.WrongArity.{ConstructsUneven, HasArity, IsMisapplied}
+use Rattle.tl_schema.specs.WrongArity.{ConstructsUneven, IsMisapplied}
 use Rattle.tl_names.specs.Constructors.{IsOnlyConstructor}
 use Rattle.tl_schema.proofs.ArityCases.{first_has, none_has}
 

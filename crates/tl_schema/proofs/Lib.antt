@@ -1,10 +1,6 @@
 pub mod Deciding
 pub mod Places
-pub mod NamedEntries
-pub mod IndexSteps
-pub mod LastWords
 pub mod PartsOfOne
-pub mod UnknownParts
 pub mod BareParts
 pub mod AppliedTypes
 pub mod SameNames
@@ -19,7 +15,6 @@ mod HeadFamilies
 mod NameKeys
 mod Repeats
 mod TypeNames
-mod UnevenTypes
 mod ArityCases
 mod ListParts
 mod Misapplied
@@ -44,7 +39,6 @@ pub mod TakesNoneDecided
 pub mod SameNumberFirst
 pub mod BareCycleFirst
 pub mod EmptyElementFirst
-pub mod OnlyConstructors
 pub mod BareMeanings
 pub mod Adding
 pub mod AddingParts
@@ -56,10 +50,10 @@ mod EmptyNodes
 mod BareFields
 mod MarkedArguments
 mod HeadNames
-mod PlacedNames
 mod TestedPlaces
-mod DeclaredPlaces
-mod DeclaredTypes
+mod FirstPlaces
+mod MeantEntries
+mod NumberedPlaces
 mod MadeLists
 mod MeantTypes
 mod DeclaredEntries

@@ -1,24 +1,23 @@
 -- What the checks ask of a name, by what it means.
-use Rattle.std.proofs.Common.{◌≡◌, ◌≢◌, ◌↔◌, if◌then◌else◌, inl, inr, ℕ, Bool, true, false, ◌||◌, List, length, map, slice_get, bytes_eq, Option, Some, None, refl, ap, sym, subst, ◌∙◌, true≢false}
+use Rattle.std.proofs.Common.{◌≡◌, ◌≢◌, ◌↔◌, if◌then◌else◌, inl, inr, ℕ, Bool, true, false, ◌||◌, List, length, bytes_eq, Option, Some, None, refl, ap, sym, subst, ◌∙◌, true≢false}
 use Rattle.std.specs.Prelude.{codes, IsTrue}
 use Rattle.std.proofs.lemmas.Bool.{both_ways}
 use Rattle.std.proofs.lemmas.Option.{none-some, same_Some, slice_get-map}
 use Rattle.std.proofs.lemmas.Slice.Eq.{bytes_eq-Decides}
 use Rattle.std.specs.Option.{option_map}
-use Rattle.tl_combinators.specs.Trees.{Tree, Trees, named, percent, any_call}
+use Rattle.tl_combinators.specs.Trees.{Tree, Trees, named, percent}
 use Rattle.tl_combinators.specs.Program.{DeclText}
 use Rattle.tl_combinators.specs.BuiltIns.{built_in}
 use Rattle.tl_combinators.specs.declared.built_in.BuiltIn.{BuiltIn}
 use Rattle.tl_names.specs.Writing.{is_built_in, is_type_name, is_variable, is_vector_name, IsConstructorOf, IsConstructorNamed}
-use Rattle.tl_names.specs.Constructors.{FirstNamed, FirstOf, IsFamily, IsSingle, IsOnlyConstructor}
+use Rattle.tl_names.specs.Constructors.{IsSingle, IsOnlyConstructor}
 use Rattle.tl_names.specs.What.{what_of}
 use Rattle.tl_names.specs.declared.what.What.{What}
-use Rattle.tl_names.specs.declared.index.Constructors.{Constructors}
 use Rattle.tl_names.proofs.NameMeanings.{Means, means, variable, base, bare_vector, boxed_vector, type, constructor, no_type, no_constructor}
-use Rattle.tl_schema.specs.Arities.{VarsOfFirst, IsArity}
+use Rattle.tl_schema.specs.Arities.{IsArity}
 use Rattle.tl_schema.specs.BareForms.{IsBareName}
 use Rattle.tl_schema.specs.BareReferences.{IsBareOf, by_name, by_type}
-use Rattle.tl_schema.specs.BareSteps.{BareIs, OnlyOf}
+use Rattle.tl_schema.specs.BareSteps.{BareIs}
 use Rattle.tl_schema.specs.UnknownType.{IsUnknown, IsUnknownIn}
 use Rattle.tl_schema.specs.UnknownType as unknown
 use Rattle.tl_schema.specs.WrongArity as has

@@ -1,11 +1,13 @@
 -- The first place at which a test passes, or the number of places.
-use Rattle.std.proofs.Common.{◌≡◌, ℕ, ◌<◌, ◌≤◌, Bool, true, false, cond, List, [], ◌∷◌, length, position, get_or, Some, None, refl, ap, sym, ◌∙◌, arith, ltb}
+use Rattle.std.proofs.Common.{◌≡◌, ℕ, ◌<◌, ◌≤◌, Bool, true, false, cond, List, [], ◌∷◌, length, position, get_or, Option, Some, None, refl, ap, sym, ◌∙◌, arith, ltb}
 use Rattle.std.specs.Bool.{Decides}
-use Rattle.std.specs.List.{position_or_len}
+use Rattle.std.specs.List.{list_any, position_or_len}
+use Rattle.std.specs.Option.{is_some, unwrap_or}
 use borrow.Author.Tests.{ltb-true}
 use Rattle.std.proofs.lemmas.Bool.{ltb-false, false_from_ne_true}
 use Rattle.std.proofs.lemmas.List.Sums.{position_or_len_is, prefix_len-le-length}
 use Rattle.std.proofs.lemmas.Option.{none-some, same_Some, slice_get-get_or, slice_get_within, get_or_from_slice_get}
+use Rattle.tl_names.proofs.Positions.{position_there, position_not_there}
 use Rattle.tl_graph.specs.Firsts.{First}
 use Rattle.tl_schema.proofs.Places.{IsPlace}
 
@@ -25,6 +27,22 @@ module _ {X : Type 0} (test : X → Bool) (xs : List X) where
 
   pub position_none : position test xs ≡ None → length xs ≡ position_or_len test xs
   position_none at = none_past (position_or_len test xs) (length xs) _ refl at (prefix_len-le-length _ xs)
+
+  -- the number of a place, or of all places
+  pub position_unwrapped : unwrap_or (position test xs) (length xs) ≡ position_or_len test xs
+  position_unwrapped = by (position test xs) refl
+    where
+      by : (o : Option ℕ) → position test xs ≡ o → unwrap_or o (length xs) ≡ position_or_len test xs
+      by (Some k) at = (position_some k at).0
+      by None at = position_none at
+
+  -- there is a place where a test passes
+  pub position_tells : is_some (position test xs) ≡ list_any test xs
+  position_tells = by (list_any test xs) refl
+    where
+      by : (b : Bool) → list_any test xs ≡ b → is_some (position test xs) ≡ b
+      by true there = ap is_some (position_there test xs there)
+      by false none = ap is_some (position_not_there test xs none)
 
 -- ---- the place of the first element that has a property, where the test decides it
 

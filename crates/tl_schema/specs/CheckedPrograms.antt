@@ -5,6 +5,7 @@ use Rattle.tl_graph.specs.Firsts.{First}
 use Rattle.tl_names.specs.Writing.{At}
 use Rattle.tl_schema.specs.Schemas.{Declaration, Declared}
 use Rattle.tl_schema.specs.Meanings.{IsEntry, IsSmall}
+use Rattle.tl_schema.specs.Numbers.{IsNumbered}
 use Rattle.tl_schema.specs.CheckCauses.{causes, PassesBy, RefusedBy, Passes, RefusedAt}
 use Rattle.tl_schema.specs.declared.fault.CheckCause.{CheckCause}
 use Rattle.tl_schema.specs.declared.fault.CheckFault.{CheckFault}
@@ -28,11 +29,6 @@ ChecksBy ds cs (Err check.Memory) = Unit {0}
 abbrev pub PassesChecks : List DeclText → Result (Unit {0}) CheckFault → Type 0
 PassesChecks ds result = ChecksBy ds causes result
 
--- the outcome of a check that gives more
-abbrev pub outcome : {X : Type 0} → Result X CheckFault → Result (Unit {0}) CheckFault
-outcome (Ok x) = Ok tt
-outcome (Err fault) = Err fault
-
 -- what comes of a place that was looked for: the first declaration with the cause, if there is one
 abbrev pub Found : Option ℕ → CheckCause → Result (Unit {0}) CheckFault → Type 0
 Found (Some k) cause result = result ≡ Err (check.Refused k cause)
@@ -53,3 +49,8 @@ HasName es name function i = (e : Declaration) × (slice_get es i ≡ Some e) ×
 -- the place of the function of this name, or of the constructor
 abbrev pub Finds : List Declaration → List ℕ → Bool → Option ℕ → Type 0
 Finds es name function = First (HasName es name function)
+
+-- the declaration that has this number and is no line of a built-in type
+abbrev pub FindsNumber : List DeclText → ℕ → Option ℕ → Type 0
+FindsNumber ds number (Some i) = IsNumbered ds i number
+FindsNumber ds number None = (i : ℕ) → IsNumbered ds i number → ⊥

@@ -1,6 +1,6 @@
 -- A type with others in place of its variables.
 -- From "TL language" (core.telegram.org/mtproto/TL), its polymorphic types.
-use Rattle.std.specs.Prelude.{ℕ, List, [], ◌∷◌, length, get_or}
+use Rattle.std.specs.Prelude.{List, [], ◌∷◌, get_or}
 use Rattle.tl_schema.specs.Types.{Shape, var, vector, boxed, bare, Shapes, no_shapes, shape}
 
 abbrev pub list_of_shapes : Shapes → List Shape

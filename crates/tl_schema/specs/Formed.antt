@@ -1,8 +1,8 @@
 -- Formed types: those that have values.
 -- From "TL language" and "Formal description of TL" (core.telegram.org/mtproto/TL, /mtproto/TL-formal), their boxed and bare types and type
 -- expressions. That elements and arguments take bytes is this project's own.
-use Rattle.std.specs.Prelude.{◌≡◌, ℕ, zero, suc, ◌<◌, List, length, slice_get, Some, Option, None, Bool, true, if◌then◌else◌, ◌⊎◌}
-use Rattle.tl_schema.specs.Types.{Shape, int, long, nat, opaque, str, raw, flag, call, var, vector, boxed, bare, Shapes, no_shapes, shape}
+use Rattle.std.specs.Prelude.{◌≡◌, ℕ, suc, ◌<◌, List, length, slice_get, Some, Option, None, true, if◌then◌else◌, ◌⊎◌}
+use Rattle.tl_schema.specs.Types.{Shape, nat, flag, var, vector, boxed, bare, Shapes, no_shapes, shape}
 use Rattle.tl_schema.specs.Schemas.{Slot, Declaration, Declared}
 use Rattle.tl_names.specs.Places.{types_of}
 use Rattle.tl_schema.specs.EmptyElement.{TakesNone}

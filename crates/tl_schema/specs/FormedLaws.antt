@@ -1,7 +1,7 @@
 -- What holds of formed types. This project's own.
-use Rattle.std.specs.Prelude.{◌≡◌, ℕ, List, length, slice_get, Some}
+use Rattle.std.specs.Prelude.{◌≡◌, ℕ}
 use Rattle.tl_schema.specs.Types.{Shape, Shapes}
-use Rattle.tl_schema.specs.Schemas.{Slot, Declaration, Declared}
+use Rattle.tl_schema.specs.Schemas.{Declared}
 use Rattle.tl_schema.specs.CheckedPrograms.{IsSchema}
 use Rattle.tl_schema.specs.Closing.{closed, list_of_shapes}
 use Rattle.tl_schema.specs.Formed.{IsFormedOver, AreArguments, IsEmpty, count_of, HasFormedFields}

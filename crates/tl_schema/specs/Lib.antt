@@ -17,7 +17,6 @@ pub mod BareReferences
 pub mod BareCycle
 pub mod EmptyElement
 pub mod BareSteps
-pub mod Indexed
 pub mod BareForms
 pub mod Arities
 pub mod WhatSteps

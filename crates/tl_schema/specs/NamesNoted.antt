@@ -5,7 +5,6 @@ use Rattle.tl_names.specs.Writing.{At}
 use Rattle.tl_schema.specs.Schemas.{Declaration}
 use Rattle.tl_schema.specs.Seen.{declaration}
 use Rattle.tl_schema.specs.Meanings.{IsEntry}
-use Rattle.tl_names.specs.Places.{types_of}
 use Rattle.tl_names.specs.NamePlaces.{Notes}
 use Rattle.tl_schema.specs.SchemaParts.{ArePlaces}
 use Rattle.tl_schema.specs.declared.checks.Known.{Known}
@@ -21,14 +20,13 @@ pub record NotesOne (old new : Known) (d : DeclText) (at : ℕ) : Type 0 where
   pub noted : Notes (among d.function old) (among d.function new) d.name at
   pub others : among (not d.function) new ≡ among (not d.function) old
 
--- the entry of one declaration stands behind the others, and its name is noted
+-- the entry of one declaration stands after the others, and its name is noted
 pub record EntersOne (ds : List DeclText) (old new : Entered) (d : DeclText) (at : ℕ) : Type 0 where
   pub entry : Declaration
   pub last : map declaration new.entries.items ≡ map declaration old.entries.items ++ entry ∷ []
   pub is : IsEntry ds d entry
   pub fits : entry.number < 2 ^ 32
   pub noted : NotesOne old.known new.known d at
-  pub types : new.types ≡ old.types
 
 -- the entries are those of the first declarations, as many as there are, and the places those of their names
 pub record Enters (ds : List DeclText) (at : ℕ) (es : List Declaration) (known : Known) : Type 0 where
@@ -38,6 +36,5 @@ pub record Enters (ds : List DeclText) (at : ℕ) (es : List Declaration) (known
   pub places : (function : Bool) → ArePlaces es function (among function known)
 
 -- all declarations have their entries
-pub record AreEntered (ds : List DeclText) (entered : Entered) : Type 0 where
-  pub all : Enters ds (length ds) (map declaration entered.entries.items) entered.known
-  pub types : entered.types ≡ length (types_of ds)
+abbrev pub AreEntered : List DeclText → Entered → Type 0
+AreEntered ds entered = Enters ds (length ds) (map declaration entered.entries.items) entered.known

@@ -6,6 +6,7 @@ use Rattle.tl_names.specs.What.{what_of, variable_named}
 use Rattle.tl_names.specs.declared.what.What.{What}
 use Rattle.tl_names.specs.Meants.{MeantView, meant}
 use Rattle.tl_names.specs.MeantDecls.{MeantKindView, MeantFieldView, MeantDeclView, kind_by, meant_field, meant_decl}
+use Rattle.tl_schema.specs.AskedTypes.{asker}
 
 -- where w is what the name means, as d writes it
 abbrev pub ForName : List DeclText → What → (DeclText → List ℕ → Type 0) → Type 0
@@ -14,6 +15,10 @@ ForName ds w P = (d : DeclText) (name : List ℕ) → w ≡ what_of ds d name �
 -- where m is the type t, as d writes it
 abbrev pub ForType : List DeclText → MeantView → (DeclText → Tree → Type 0) → Type 0
 ForType ds m P = (d : DeclText) (t : Tree) → m ≡ meant ds d t → P d t
+
+-- where m is the type t, as who asks for it writes it
+abbrev pub ForAsked : List DeclText → MeantView → (Tree → Type 0) → Type 0
+ForAsked ds m P = (t : Tree) → m ≡ meant ds asker t → P t
 
 abbrev pub ForTypes : List DeclText → List MeantView → (DeclText → List Tree → Type 0) → Type 0
 ForTypes ds ms P = (d : DeclText) (ts : List Tree) → ms ≡ map (meant ds d) ts → P d ts

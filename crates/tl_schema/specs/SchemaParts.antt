@@ -1,26 +1,37 @@
--- What stands behind a schema: beside its entries the places of their names. This project's own.
-use Rattle.std.specs.Prelude.{◌≡◌, ℕ, ◌<◌, ◌^◌, List, length, Bool, true, false}
-use Rattle.tl_combinators.specs.Program.{DeclText}
-use Rattle.tl_schema.specs.Schemas.{Declaration, Declared}
-use Rattle.tl_names.specs.Places.{types_of}
-use Rattle.tl_schema.specs.CheckedPrograms.{IsSchema, Finds}
+-- What a schema keeps beside its entries: the indices of names and of numbers, and which constructors take no bytes. This project's own.
+use Rattle.std.specs.Prelude.{ℕ, List, Bool, true, false, Option}
+use Rattle.std.specs.Map.{lookup}
+use Rattle.std.specs.Ordering.{is_eq, nat_cmp}
+use Rattle.tl_combinators.specs.Program.{DeclText, HasFewParts}
+use Rattle.tl_names.specs.MeantViews.{NumbersNames}
 use Rattle.tl_names.specs.NamePlaces.{place_in}
 use Rattle.tl_schema.specs.BareSteps.{MarksEmpty}
+use Rattle.tl_schema.specs.CheckedPrograms.{IsSchema, Finds, FindsNumber}
+use Rattle.tl_schema.specs.Schemas.{Declaration, Declared}
 
 -- the places are those of the functions among the entries, or of the constructors
 abbrev pub ArePlaces : List Declaration → Bool → List (List ℕ × ℕ) → Type 0
 ArePlaces es function places = (name : List ℕ) → Finds es name function (place_in places name)
 
+abbrev pub number_in : List (ℕ × ℕ) → ℕ → Option ℕ
+number_in numbers number = lookup (λ k. is_eq (nat_cmp number k)) numbers
+
+-- each number has the declaration that has it
+abbrev pub AreNumbers : List DeclText → List (ℕ × ℕ) → Type 0
+AreNumbers ds numbers = (number : ℕ) → FindsNumber ds number (number_in numbers number)
+
 -- ---- a schema
 
-pub record IsSound (schema : Declared) (constructors functions : List (List ℕ × ℕ)) (types : ℕ) (marks : List Bool) : Type 0 where
+pub record IsSound (schema : Declared) (constructors functions : List (List ℕ × ℕ)) (numbers : List (ℕ × ℕ)) (empties : List Bool) : Type 0 where
   pub good : IsSchema schema
   pub of_constructors : ArePlaces schema.decls false constructors
   pub of_functions : ArePlaces schema.decls true functions
-  pub type_count : types ≡ length (types_of schema.program)
-  pub empty : MarksEmpty schema.program marks
+  pub of_numbers : AreNumbers schema.program numbers
+  pub of_empties : MarksEmpty schema.program empties
 
--- the types are those of the program
-pub record IsScope (ds : List DeclText) (types : List (List ℕ)) : Type 0 where
-  pub types_are : types ≡ types_of ds
-  pub few : length ds < 2 ^ 32
+-- ---- a declaration
+
+-- the variables of a declaration of few parts, by name
+pub record IsScope (d : DeclText) (vars : List (List ℕ × ℕ)) : Type 0 where
+  pub numbers : NumbersNames d.vars vars
+  pub few : HasFewParts d

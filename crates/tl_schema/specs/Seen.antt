@@ -1,5 +1,5 @@
 -- The type and the declaration that the code's own stand for. This project's own.
-use Rattle.std.specs.Prelude.{List, map}
+use Rattle.std.specs.Prelude.{map}
 use Rattle.std.specs.Box.{box_value}
 use Rattle.tl_schema.specs.Types.{Shape, shapes_of}
 use Rattle.tl_schema.specs.Types as types

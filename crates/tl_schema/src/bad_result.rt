@@ -5,10 +5,9 @@ ghost use Rattle.tl_combinators.specs.Trees.{plain, view, views};
 ghost use Rattle.tl_schema.specs.BadResult.{IsGoodResult};
 
 use crate::declarations::DeclTest;
-use crate::meanings::{is_constructor, is_type_name, is_variable};
 use tl_base::Bytes;
 use tl_combinators::{Decl, TypeTree};
-use tl_names::{Index, MeantDecl};
+use tl_names::{Index, MeantDecl, is_constructor, is_type_name, is_variable};
 
 /// Whether a declaration is an own constructor whose result isn't a type applied to the declaration's variables in order.
 #[derive(Clone, Copy)]

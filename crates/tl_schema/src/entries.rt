@@ -1,34 +1,42 @@
 //! Entries of declarations.
-ghost use Rattle.std.specs.Prelude.{◌≡◌, ◌<◌, ◌^◌, IfOk, bytes_eq, length, map, position};
+ghost use Rattle.std.specs.Prelude.{◌≡◌, ◌<◌, ◌^◌, IfOk, map};
 ghost use Rattle.std.specs.Option.{option_map};
-ghost use Rattle.tl_combinators.specs.Program.{cond_texts, decl_text, field_text, kind_text};
-ghost use Rattle.tl_names.specs.Writing.{own_type};
+ghost use Rattle.tl_combinators.specs.Program.{HasFewParts, cond_texts, decl_text, field_text, kind_text};
+ghost use Rattle.tl_names.specs.MeantDecls.{cond_by, meant_decl, meant_field};
+ghost use Rattle.tl_names.specs.MeantViews.{decl_view, field_view};
+ghost use Rattle.tl_names.specs.What.{field_named};
 ghost use Rattle.tl_schema.specs.Seen.{declaration, shape, slot};
-ghost use Rattle.tl_schema.specs.Meanings.{IsEntry, IsEntryNumber, condition_of, field_place, head_in, kind_shape, kind_variable, line_shape, result_shape, slot_of};
+ghost use Rattle.tl_schema.specs.Meanings.{IsEntry, IsEntryNumber, condition_of, kind_shape, kind_variable, line_shape, result_shape, slot_of};
 
-use crate::meanings::own_type;
 use crate::same_number::{VECTOR, number_of};
 use crate::schema::{Entry, SchemaField, TypeRef};
 use crate::scope::Scope;
-use crate::terms::{base_term, type_term, variable_place};
+use crate::terms::{base_term, type_term};
 use std::alloc::{AllocError, Global};
-use tl_combinators::{Cond, Decl, Field, FieldKind};
+use tl_combinators::{Decl, Field, FieldKind};
+use tl_names::{Index, MeantCond, MeantDecl, MeantField};
 
-/// The entry of a declaration.
-pub fn entry_of(alloc: Global, scope: &Scope, decl: &Decl) -> Result<Entry, AllocError>
-    requires vars { length (decl_text decl.now).vars < 2 ^ 32 }
-    requires fields { length (decl_text decl.now).fields < 2 ^ 32 }
-    ensures entry { IfOk result (λ e. IsEntry scope.now (decl_text decl.now) (declaration e)) }
+/// The entry of a declaration, of which the names of fields and of its own type are resolved.
+pub fn entry_of(
+    alloc: Global,
+    index: &Index,
+    decl: &Decl,
+    meant: &MeantDecl,
+) -> Result<Entry, AllocError>
+    requires few { HasFewParts (decl_text decl.now) }
+    requires same { decl_view meant.now ≡ meant_decl index.now (decl_text decl.now) }
+    ensures entry { IfOk result (λ e. IsEntry index.now (decl_text decl.now) (declaration e)) }
     ensures fits { IfOk result (λ e. e.number < 2 ^ 32) }
 {
+    let scope = Scope::of(alloc, index, decl)?;
     Ok(Entry {
         name: decl.name.copy()?,
         number: entry_number(decl),
         vars: decl.vars.len() as u32,
-        fields: slots_of(alloc, scope, decl)?,
+        fields: slots_of(alloc, &scope, &decl.fields, &meant.fields)?,
         function: decl.function,
-        head: head_of(scope, decl),
-        result: result_of(alloc, scope, decl)?,
+        head: meant.head.unwrap_or(index.type_count()),
+        result: result_of(alloc, &scope, decl)?,
     })
 }
 
@@ -46,24 +54,14 @@ fn entry_number(decl: &Decl) -> u32
     }
 }
 
-// The number of the type that a declaration constructs, or the number of types.
-fn head_of(scope: &Scope, decl: &Decl) -> u32
-    ensures { result ≡ head_in scope.now (own_type (decl_text decl.now)) }
-{
-    match own_type(decl) {
-        Some(name) => scope.head(name),
-        None => scope.type_count(),
-    }
-}
-
 fn result_of(alloc: Global, scope: &Scope, decl: &Decl) -> Result<TypeRef, AllocError>
-    requires { length (decl_text decl.now).vars < 2 ^ 32 }
-    ensures { IfOk result (λ t. shape t ≡ result_shape scope.now (decl_text decl.now)) }
+    requires { scope.now.1 ≡ decl_text decl.now }
+    ensures { IfOk result (λ t. shape t ≡ result_shape scope.now.0 scope.now.1) }
 {
     if decl.builtin {
         line_result(alloc, decl.name.as_slice())
     } else {
-        type_term(alloc, scope, decl, &decl.result)
+        type_term(alloc, scope, &decl.result)
     }
 }
 
@@ -80,14 +78,18 @@ fn line_result(alloc: Global, name: &[u8]) -> Result<TypeRef, AllocError>
     Ok(base_term(name).unwrap_or(TypeRef::Call))
 }
 
-fn slots_of(alloc: Global, scope: &Scope, decl: &Decl) -> Result<Vec<SchemaField>, AllocError>
-    requires vars { length (decl_text decl.now).vars < 2 ^ 32 }
-    requires fields { length (decl_text decl.now).fields < 2 ^ 32 }
-    ensures { IfOk result (λ slots. map slot slots.items ≡ map (slot_of scope.now (decl_text decl.now)) (decl_text decl.now).fields) }
+fn slots_of(
+    alloc: Global,
+    scope: &Scope,
+    fields: &[Field],
+    meant: &[MeantField],
+) -> Result<Vec<SchemaField>, AllocError>
+    requires { map field_view meant.now ≡ map (meant_field scope.now.0 scope.now.1) (map field_text fields.now) }
+    ensures { IfOk result (λ slots. map slot slots.items ≡ map (slot_of scope.now.0 scope.now.1) (map field_text fields.now)) }
 {
     let mut slots = Vec::new(alloc);
-    for field in &decl.fields {
-        slots.push(slot_of(alloc, scope, decl, field)?)?;
+    for (at, field) in fields.iter().enumerate() {
+        slots.push(slot_of(alloc, scope, field, meant[at].cond)?)?;
     }
     Ok(slots)
 }
@@ -95,79 +97,51 @@ fn slots_of(alloc: Global, scope: &Scope, decl: &Decl) -> Result<Vec<SchemaField
 fn slot_of(
     alloc: Global,
     scope: &Scope,
-    decl: &Decl,
     field: &Field,
+    cond: Option<MeantCond>,
 ) -> Result<SchemaField, AllocError>
-    requires vars { length (decl_text decl.now).vars < 2 ^ 32 }
-    requires fields { length (decl_text decl.now).fields < 2 ^ 32 }
-    ensures { IfOk result (λ s. slot s ≡ slot_of scope.now (decl_text decl.now) (field_text field.now)) }
+    requires { cond ≡ option_map (cond_by (field_named scope.now.1)) (cond_texts field.now.cond) }
+    ensures { IfOk result (λ s. slot s ≡ slot_of scope.now.0 scope.now.1 (field_text field.now)) }
 {
     Ok(SchemaField {
         name: field.name.copy()?,
-        cond: condition_of(decl, &field.cond),
-        var: kind_variable(decl, &field.kind),
-        of: kind_term(alloc, scope, decl, &field.kind)?,
+        cond: condition_of(scope, field, cond),
+        var: kind_variable(scope, &field.kind),
+        of: kind_term(alloc, scope, &field.kind)?,
     })
 }
 
+// The index of the `#` field of a condition, or the number of fields where there is none, and its bit.
+fn condition_of(scope: &Scope, field: &Field, cond: Option<MeantCond>) -> Option<(u32, u32)>
+    requires { cond ≡ option_map (cond_by (field_named scope.now.1)) (cond_texts field.now.cond) }
+    ensures { result ≡ option_map (condition_of scope.now.1) (cond_texts field.now.cond) }
+{
+    match cond {
+        Some(cond) => Some((cond.flags.unwrap_or(scope.field_count()), cond.bit)),
+        None => None,
+    }
+}
+
 // The type of what a field holds.
-fn kind_term(
-    alloc: Global,
-    scope: &Scope,
-    decl: &Decl,
-    kind: &FieldKind,
-) -> Result<TypeRef, AllocError>
-    requires { length (decl_text decl.now).vars < 2 ^ 32 }
-    ensures { IfOk result (λ t. shape t ≡ kind_shape scope.now (decl_text decl.now) (kind_text kind.now)) }
+fn kind_term(alloc: Global, scope: &Scope, kind: &FieldKind) -> Result<TypeRef, AllocError>
+    ensures { IfOk result (λ t. shape t ≡ kind_shape scope.now.0 scope.now.1 (kind_text kind.now)) }
 {
     match kind {
         FieldKind::Nat => Ok(TypeRef::Nat),
         FieldKind::Flag => Ok(TypeRef::Flag),
         FieldKind::Call { .. } => Ok(TypeRef::Call),
-        FieldKind::Of { tree } => type_term(alloc, scope, decl, tree),
+        FieldKind::Of { tree } => type_term(alloc, scope, tree),
     }
 }
 
-// The place of the variable that a call's result is.
-fn kind_variable(decl: &Decl, kind: &FieldKind) -> Option<u32>
-    requires { length (decl_text decl.now).vars < 2 ^ 32 }
-    ensures { result ≡ kind_variable (decl_text decl.now) (kind_text kind.now) }
+// The index of the variable that a call's result is.
+fn kind_variable(scope: &Scope, kind: &FieldKind) -> Option<u32>
+    ensures { result ≡ kind_variable scope.now.1 (kind_text kind.now) }
 {
     match kind {
         FieldKind::Nat => None,
         FieldKind::Flag => None,
-        FieldKind::Call { var } => Some(variable_place(decl, var.as_slice())),
+        FieldKind::Call { var } => Some(scope.variable(var.as_slice())),
         FieldKind::Of { .. } => None,
     }
-}
-
-// The place of the `#` field of a condition, and its bit.
-fn condition_of(decl: &Decl, cond: &Option<Cond>) -> Option<(u32, u32)>
-    requires { length (decl_text decl.now).fields < 2 ^ 32 }
-    ensures { result ≡ option_map (condition_of (decl_text decl.now)) (cond_texts cond.now) }
-{
-    match cond {
-        Some(cond) => Some((field_place(decl, cond.flags.as_slice()), cond.bit)),
-        None => None,
-    }
-}
-
-// The place of a field, or the number of fields for a name that is none's.
-fn field_place(decl: &Decl, name: &[u8]) -> u32
-    requires { length (decl_text decl.now).fields < 2 ^ 32 }
-    ensures { result ≡ field_place (decl_text decl.now) name.now }
-{
-    match field_in(&decl.fields, name) {
-        Some(place) => place as u32,
-        None => decl.fields.len() as u32,
-    }
-}
-
-// The first place at which a field has this name.
-fn field_in(fields: &[Field], name: &[u8]) -> Option<usize>
-    ensures { result ≡ position (λ f. bytes_eq name.now f.name) fields.now }
-{
-    fields
-        .iter()
-        .position(|field| name == field.name.as_slice())
 }

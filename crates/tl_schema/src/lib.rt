@@ -3,21 +3,18 @@
 
 mod bad_flag;
 mod bad_result;
+mod by_number;
 mod checks;
-mod copies;
 mod declarations;
 mod empties;
 mod empty_element;
 mod entries;
 mod fault;
-mod index;
-mod meanings;
 mod names;
 mod not_bare;
 mod parts;
 mod pass_checks;
 mod pass_type;
-mod placed;
 mod references;
 mod same_name;
 mod same_number;

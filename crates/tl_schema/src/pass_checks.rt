@@ -1,10 +1,11 @@
 //! The checks in their order.
-ghost use Rattle.std.specs.Prelude.{◌≡◌, ◌<◌, ◌^◌, IfOk, length, map};
+ghost use Rattle.std.specs.Prelude.{◌≡◌, ◌<◌, ◌^◌, Err, IfErr, IfOk, length, map};
 ghost use Rattle.tl_combinators.specs.Program.{program_text};
+ghost use Rattle.tl_names.specs.MeantDecls.{meant_decl};
 ghost use Rattle.tl_names.specs.MeantViews.{decl_view};
 ghost use Rattle.tl_schema.specs.BareSteps.{MarksEmpty};
-ghost use Rattle.tl_schema.specs.CheckCauses.{meaning_causes, name_causes, reference_causes};
-ghost use Rattle.tl_schema.specs.CheckedPrograms.{ChecksBy, Found, PassesChecks, outcome};
+ghost use Rattle.tl_schema.specs.CheckCauses.{Passes, PassesBy, meaning_causes, name_causes, reference_causes};
+ghost use Rattle.tl_schema.specs.CheckedPrograms.{ChecksBy, Found, PassesChecks};
 ghost use Rattle.tl_schema.specs.Resolved.{AreResolved};
 
 use crate::bad_flag::BadCondition;
@@ -43,10 +44,10 @@ pub fn pass_checks(
     meant: &[MeantDecl],
 ) -> Result<Vec<bool>, CheckFault>
     requires same { index.now ≡ program_text program.now }
-    requires few { length index.now < 2 ^ 32 }
-    requires resolved { AreResolved index.now (map decl_view meant.now) }
-    ensures passes { PassesChecks (program_text program.now) (outcome result) }
-    ensures marks { IfOk result (λ marks. MarksEmpty (program_text program.now) marks.items) }
+    requires resolved { map decl_view meant.now ≡ map (meant_decl (program_text program.now)) (program_text program.now) }
+    requires few { length (program_text program.now) < 2 ^ 32 }
+    ensures passed { IfOk result (λ marks. Passes (program_text program.now) × MarksEmpty (program_text program.now) marks.items) }
+    ensures refused { IfErr result (λ fault. PassesChecks (program_text program.now) (Err fault)) }
 {
     pass_names(alloc, index, program, meant)?;
     pass_meanings(alloc, index, program, meant)?;
@@ -117,8 +118,8 @@ fn pass_references(
     requires same { index.now ≡ program_text program.now }
     requires few { length index.now < 2 ^ 32 }
     requires resolved { AreResolved index.now (map decl_view meant.now) }
-    ensures passes { ChecksBy index.now reference_causes (outcome result) }
-    ensures marks { IfOk result (λ marks. MarksEmpty index.now marks.items) }
+    ensures passed { IfOk result (λ marks. PassesBy index.now reference_causes × MarksEmpty index.now marks.items) }
+    ensures refused { IfErr result (λ fault. ChecksBy index.now reference_causes (Err fault)) }
 {
     let edges = references(alloc, index, meant)?;
     let found = components_of(alloc, &edges)?;

@@ -1,10 +1,9 @@
 //! The checks of a type alone.
-ghost use Rattle.std.specs.Prelude.{◌≡◌};
-ghost use Rattle.tl_combinators.specs.Trees.{Tree};
-ghost use Rattle.tl_names.specs.Meants.{meant};
+ghost use Rattle.std.specs.Prelude.{◌≡◌, Err};
 ghost use Rattle.tl_names.specs.MeantViews.{meant_view};
-ghost use Rattle.tl_schema.specs.AskedTypes.{PassesType, asker};
+ghost use Rattle.tl_schema.specs.AskedTypes.{PassesType};
 ghost use Rattle.tl_schema.specs.BareSteps.{MarksEmpty};
+ghost use Rattle.tl_schema.specs.Resolved.{ForAsked};
 
 use crate::empty_element::EmptyArgument;
 use crate::not_bare::NoBare;
@@ -17,7 +16,7 @@ use tl_names::{Index, Meant};
 /// Refuses a type for the first cause that it has, where these constructors take no bytes.
 pub fn pass_type(index: &Index, marks: &[bool], meant: &Meant) -> Result<(), TypeFault>
     requires { MarksEmpty index.now marks.now }
-    ensures { (t : Tree) → meant_view meant.now ≡ meant index.now asker t → PassesType index.now t result }
+    ensures { ForAsked index.now (meant_view meant.now) (λ t. PassesType index.now t result) }
 {
     if has_part(index, meant, &UnknownName) {
         return refused(TypeCause::UnknownType);

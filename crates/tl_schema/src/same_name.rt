@@ -7,10 +7,10 @@ ghost use Rattle.tl_names.specs.NameLists.{IsRepeat};
 ghost use Rattle.tl_schema.specs.SameName.{SameName, part_names};
 ghost use Rattle.tl_schema.specs.SameNameSteps.{AddsName, MakesVector, IsOf};
 
-use crate::meanings::is_variable;
 use crate::names::Names;
 use std::alloc::{AllocError, Global};
 use tl_combinators::{Decl, Program, TypeTree};
+use tl_names::is_variable;
 
 /// The names of the declarations so far.
 #[derive(Drop)]

@@ -1,16 +1,15 @@
 //! Declarations and types of a schema.
 ghost use Rattle.std.specs.Prelude.{◌≡◌, ◌<◌, length, map, slice_get, Some};
-ghost use Rattle.tl_combinators.specs.Program.{program_text};
 ghost use Rattle.tl_schema.specs.Seen.{declaration};
-ghost use Rattle.tl_schema.specs.CheckedPrograms.{Finds, IsSchema};
+ghost use Rattle.tl_schema.specs.BareSteps.{MarksEmpty};
+ghost use Rattle.tl_schema.specs.CheckedPrograms.{Finds, FindsNumber, IsSchema};
 ghost use Rattle.tl_names.specs.Places.{types_of};
 ghost use Rattle.tl_schema.specs.SchemaParts.{IsSound};
-ghost use Rattle.tl_schema.specs.BareSteps.{MarksEmpty};
 
-use crate::placed::Placed;
+use std::collections::BTreeMap;
 use std::marker::Model;
 use tl_base::Bytes;
-use tl_combinators::Program;
+use tl_names::{Index, Names};
 
 /// A type. From "TL language" (core.telegram.org/mtproto/TL): its boxed and bare types.
 #[derive(Debug, Drop)]
@@ -31,16 +30,16 @@ pub enum TypeRef {
     Str,
     /// `bytes`.
     Raw,
-    /// `?true`: a flag, which stands behind a condition and takes no bytes.
+    /// `?true`: a flag, which stands after a condition and takes no bytes.
     Flag,
     /// A call of any function.
     Call,
-    /// A variable of the declaration, by its place.
+    /// A variable of the declaration, by its index.
     Var { place: u32 },
     Vector { boxed: bool, item: Box<TypeRef> },
     /// One of the constructors of the type with this number. Types are numbered from 0, in the order of their first constructors.
     Boxed { head: u32, args: Vec<TypeRef> },
-    /// The constructor at this place among the declarations, without its number.
+    /// The constructor at this index among the declarations, without its number.
     Bare { entry: u32, args: Vec<TypeRef> },
 }
 
@@ -48,9 +47,9 @@ pub enum TypeRef {
 #[derive(Drop)]
 pub struct SchemaField {
     pub name: Bytes,
-    /// The place of the `#` field and its bit, from 0, where the field has a condition.
+    /// The index of the `#` field and its bit, from 0, where the field has a condition.
     pub cond: Option<(u32, u32)>,
-    /// The place of the variable that the result of the call is, where the field is a call.
+    /// The index of the variable that the result of the call is, where the field is a call.
     pub var: Option<u32>,
     pub of: TypeRef,
 }
@@ -69,20 +68,19 @@ pub struct Entry {
     pub result: TypeRef,
 }
 
-/// A schema: a program that passes the checks, and its entries.
+/// A schema: a program that passes the checks, and its entries. It keeps the program's text for clauses alone.
 #[derive(Drop)]
 pub struct Schema {
-    program: Program,
+    index: Index,
     entries: Vec<Entry>,
-    constructors: Placed,
-    functions: Placed,
-    types: u32,
-    marks: Vec<bool>,
+    constructors: Names,
+    functions: Names,
+    numbers: BTreeMap<u32, u32>,
+    empties: Vec<bool>,
 }
 
 impl Model for Schema {
     ghost use Rattle.std.specs.Prelude.{map};
-    ghost use Rattle.tl_combinators.specs.Program.{program_text};
     ghost use Rattle.tl_schema.specs.Schemas.{Declared};
     ghost use Rattle.tl_schema.specs.Seen.{declaration};
     ghost use Rattle.tl_schema.specs.SchemaCodes.{declared_code};
@@ -92,30 +90,30 @@ impl Model for Schema {
 
     ghost coded = { declared_code };
 
-    ghost view = { λ s. record { program = program_text s.program; decls = map declaration s.entries.items } };
+    ghost view = { λ s. record { program = s.index; decls = map declaration s.entries.items } };
 
-    ghost invariant = { λ s. IsSound (record { program = program_text s.program; decls = map declaration s.entries.items }) s.constructors s.functions s.types s.marks.items };
+    ghost invariant = { λ s. IsSound (record { program = s.index; decls = map declaration s.entries.items }) s.constructors s.functions s.numbers.entries s.empties.items };
 }
 
 impl Schema {
     pub(crate) fn new(
-        program: Program,
+        index: Index,
         entries: Vec<Entry>,
-        constructors: Placed,
-        functions: Placed,
-        types: u32,
-        marks: Vec<bool>,
+        constructors: Names,
+        functions: Names,
+        numbers: BTreeMap<u32, u32>,
+        empties: Vec<bool>,
     ) -> Schema
-        requires { IsSound (record { program = program_text program; decls = map declaration entries.items }) constructors functions types marks.items }
-        ensures value { result ≡ record { program = program_text program; decls = map declaration entries.items } }
+        requires { IsSound (record { program = index; decls = map declaration entries.items }) constructors functions numbers.entries empties.items }
+        ensures value { result ≡ record { program = index; decls = map declaration entries.items } }
     {
         Schema {
-            program,
+            index,
             entries,
             constructors,
             functions,
-            types,
-            marks,
+            numbers,
+            empties,
         }
     }
 
@@ -131,10 +129,10 @@ impl Schema {
     pub fn type_count(&self) -> u32
         ensures { result ≡ length (types_of self.now.program) }
     {
-        self.types
+        self.index.type_count()
     }
 
-    /// The entry of the declaration at a place.
+    /// The entry of the declaration at an index.
     pub fn entry(&self, i: u32) -> &Entry
         requires { i < length self.now.decls }
         ensures { slice_get self.now.decls i ≡ Some (declaration result.now) }
@@ -142,7 +140,7 @@ impl Schema {
         &self.entries[i as usize]
     }
 
-    /// The place of the function with this name, or of the constructor; the line of a built-in type is a constructor.
+    /// The index of the function with this name, or of the constructor; the line of a built-in type is a constructor.
     pub fn find(&self, name: &[u8], function: bool) -> Option<u32>
         ensures { Finds self.now.decls name.now function result }
     {
@@ -153,17 +151,25 @@ impl Schema {
         }
     }
 
-    /// The program that it was made of.
-    pub(crate) fn program(&self) -> &Program
-        ensures same { program_text result.now ≡ self.now.program }
+    /// The index of the declaration with this number, which the lines of built-in types have not.
+    pub fn numbered(&self, number: u32) -> Option<u32>
+        ensures { FindsNumber self.now.program number result }
+    {
+        self.numbers.get(&number).copied()
+    }
+
+    /// The constructors and the types of its program, by name.
+    pub(crate) fn index(&self) -> &Index
+        ensures same { result.now ≡ self.now.program }
         ensures sound { IsSchema self.now }
     {
-        &self.program
+        &self.index
     }
-    /// Which constructors take no bytes.
-    pub(crate) fn marks(&self) -> &[bool]
+
+    /// Marks at the constructors that take no bytes.
+    pub(crate) fn empties(&self) -> &[bool]
         ensures { MarksEmpty self.now.program result.now }
     {
-        self.marks.as_slice()
+        self.empties.as_slice()
     }
 }

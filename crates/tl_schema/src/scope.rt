@@ -1,111 +1,99 @@
-//! Where the names of a program are declared.
-ghost use Rattle.std.specs.Prelude.{◌≡◌, ◌<◌, ◌^◌, List, length, IfOk, OnOk};
-ghost use Rattle.tl_combinators.specs.Program.{DeclText, decl_text, program_text};
-ghost use Rattle.tl_names.specs.Writing.{own_type};
-ghost use Rattle.tl_names.specs.Places.{first_of, head_of, place_of, types_of, with_type_of};
+//! What the names mean that a declaration writes.
+ghost use Rattle.std.specs.Prelude.{◌≡◌, IfOk, length};
+ghost use Rattle.tl_combinators.specs.Program.{HasFewParts, decl_text};
+ghost use Rattle.tl_names.specs.Places.{first_of, head_of, place_of, variable_of};
+ghost use Rattle.tl_names.specs.Writing.{is_variable};
 
-use crate::index::Index;
-use crate::meanings::own_type;
-use crate::names::Names;
 use std::alloc::{AllocError, Global};
 use std::marker::Model;
-use tl_combinators::{Decl, Program};
+use tl_combinators::Decl;
+use tl_names::{Index, Names, numbered};
 
-/// The own constructors and the types of a program, by their names.
+/// A declaration with its variables by name, and the constructors and types of a program.
 #[derive(Drop)]
-pub struct Scope<'t, 'a> {
-    index: &'t Index<'a>,
-    types: Names,
+pub struct Scope<'t> {
+    index: &'t Index,
+    decl: &'t Decl,
+    vars: Names,
 }
 
-impl<'t, 'a> Model for Scope<'t, 'a> {
+impl<'t> Model for Scope<'t> {
     ghost use Rattle.std.specs.Prelude.{List};
-    ghost use Rattle.tl_combinators.specs.Program.{DeclText};
-    ghost use Rattle.tl_names.specs.DeclCodes.{decls_code};
+    ghost use Rattle.std.specs.Coded.{coded×};
+    ghost use Rattle.tl_combinators.specs.Program.{DeclText, decl_text};
+    ghost use Rattle.tl_names.specs.DeclCodes.{decl_code, decls_code};
     ghost use Rattle.tl_schema.specs.SchemaParts.{IsScope};
 
-    ghost Value = { List DeclText };
+    ghost Value = { List DeclText × DeclText };
 
-    ghost coded = { decls_code };
+    ghost coded = { coded× decls_code decl_code };
 
-    ghost view = { λ s. s.index.now };
+    ghost view = { λ s. (s.index.now, decl_text s.decl.now) };
 
-    ghost invariant = { λ s. IsScope s.index.now s.types };
+    ghost invariant = { λ s. IsScope (decl_text s.decl.now) s.vars };
 }
 
-impl<'t, 'a> Scope<'t, 'a> {
-    /// Goes through a program.
-    pub fn of(
-        alloc: Global,
-        index: &'t Index<'a>,
-        program: &Program,
-    ) -> Result<Scope<'t, 'a>, AllocError>
-        requires same { index.now ≡ program_text program.now }
-        requires few { length (program_text program.now) < 2 ^ 32 }
-        ensures { IfOk result (λ s. s ≡ program_text program.now) }
+impl<'t> Scope<'t> {
+    pub fn of(alloc: Global, index: &'t Index, decl: &'t Decl) -> Result<Scope<'t>, AllocError>
+        requires { HasFewParts (decl_text decl.now) }
+        ensures program { IfOk result (λ s. s.0 ≡ index.now) }
+        ensures decl { IfOk result (λ s. s.1 ≡ decl_text decl.now) }
     {
-        let types = types_of(alloc, program)?;
-        Ok(Scope { index, types })
+        let vars = numbered(alloc, &decl.vars)?;
+        Ok(Scope { index, decl, vars })
     }
 
-    /// The number of types.
-    pub fn type_count(&self) -> u32
-        ensures { result ≡ length (types_of self.now) }
+    /// Whether a name is a variable.
+    pub fn is_variable(&self, name: &[u8]) -> bool
+        ensures { result ≡ is_variable self.now.1 name.now }
     {
-        self.types.len() as u32
+        self.vars.get(name).is_some()
     }
 
-    /// The number of a type.
-    pub fn head(&self, type_name: &[u8]) -> u32
-        ensures { result ≡ head_of self.now type_name.now }
+    /// The index of a variable, or the number of variables for a name that is none.
+    pub fn variable(&self, name: &[u8]) -> u32
+        ensures { result ≡ variable_of self.now.1 name.now }
     {
-        match self.types.place(type_name) {
-            Some(head) => head as u32,
-            None => self.type_count(),
+        match self.vars.get(name) {
+            Some(index) => index,
+            None => self.decl.vars.len() as u32,
         }
     }
 
-    /// The place of the constructor with this name.
+    /// The number of fields.
+    pub fn field_count(&self) -> u32
+        ensures { result ≡ length self.now.1.fields }
+    {
+        self.decl.fields.len() as u32
+    }
+
+    /// The number of a type, or the number of types for a name that is none's.
+    pub fn head(&self, type_name: &[u8]) -> u32
+        ensures { result ≡ head_of self.now.0 type_name.now }
+    {
+        match self.index.type_number(type_name) {
+            Some(number) => number,
+            None => self.index.type_count(),
+        }
+    }
+
+    /// The index of the constructor with this name, or the number of declarations.
     pub fn place(&self, name: &[u8]) -> u32
-        ensures { result ≡ place_of self.now name.now }
+        ensures { result ≡ place_of self.now.0 name.now }
     {
         match self.index.constructor(name) {
-            Some(place) => place,
+            Some(index) => index,
             None => self.index.count(),
         }
     }
 
-    /// The place of the first constructor of this type.
+    /// The index of the first constructor of this type, or the number of declarations.
     pub fn first(&self, type_name: &[u8]) -> u32
-        ensures { result ≡ first_of self.now type_name.now }
+        ensures { result ≡ first_of self.now.0 type_name.now }
     {
-        match self.index.first_of(type_name) {
-            Some(place) => place,
+        match self.index.constructors_of(type_name) {
+            Some(constructors) => constructors.first,
             None => self.index.count(),
         }
-    }
-}
-
-// The types in the order of their first constructors.
-fn types_of(alloc: Global, program: &Program) -> Result<Names, AllocError>
-    ensures { IfOk result (λ types. types ≡ types_of (program_text program.now)) }
-{
-    let mut types = Names::new(alloc);
-    for decl in &program.decls {
-        add_type_of(alloc, &mut types, decl)?;
-    }
-    Ok(types)
-}
-
-// Adds the type that a declaration constructs.
-fn add_type_of(alloc: Global, types: &mut Names, decl: &Decl) -> Result<(), AllocError>
-    ensures { OnOk result (types.new ≡ with_type_of types.old (own_type (decl_text decl.now))) }
-{
-    match own_type(decl) {
-        Some(name) => {
-            types.add(alloc, name)?;
-            Ok(())
-        }
-        None => Ok(()),
     }
 }

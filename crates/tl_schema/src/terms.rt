@@ -1,56 +1,40 @@
 //! What types mean where a declaration writes them.
-ghost use Rattle.std.specs.Prelude.{◌≡◌, ◌<◌, ◌^◌, IfOk, length, map};
+ghost use Rattle.std.specs.Prelude.{◌≡◌, IfOk, map};
 ghost use Rattle.std.specs.Option.{option_map};
 ghost use Rattle.tl_combinators.specs.Trees.{trees_of, view, views};
-ghost use Rattle.tl_combinators.specs.Program.{decl_text};
-ghost use Rattle.tl_names.specs.NameLists.{place};
 ghost use Rattle.tl_schema.specs.Types.{shapes_of, vector};
 ghost use Rattle.tl_schema.specs.Seen.{shape};
 ghost use Rattle.tl_schema.specs.Meanings.{bare_meaning, bare_shape, base_shape, declared_shape, item_of, meaning, meanings, named_shape};
-ghost use Rattle.tl_names.specs.Places.{variable_of};
 
-use crate::meanings::{is_type_name, is_variable};
 use crate::schema::TypeRef;
 use crate::scope::Scope;
 use std::alloc::{AllocError, Global};
-use tl_base::Bytes;
-use tl_combinators::{Decl, TypeTree};
+use tl_combinators::TypeTree;
+use tl_names::is_type_name;
 
 /// A type, where a declaration writes it.
 #[cycle(terms)]
-pub fn type_term(
-    alloc: Global,
-    scope: &Scope,
-    decl: &Decl,
-    tree: &TypeTree,
-) -> Result<TypeRef, AllocError>
-    requires { length (decl_text decl.now).vars < 2 ^ 32 }
-    ensures { IfOk result (λ t. shape t ≡ meaning scope.now (decl_text decl.now) (view tree.now)) }
+pub fn type_term(alloc: Global, scope: &Scope, tree: &TypeTree) -> Result<TypeRef, AllocError>
+    ensures { IfOk result (λ t. shape t ≡ meaning scope.now.0 scope.now.1 (view tree.now)) }
 {
     match tree {
         TypeTree::Named { name, args } => {
-            let args = type_terms(alloc, scope, decl, args)?;
-            named_term(alloc, scope, decl, name.as_slice(), args)
+            let args = type_terms(alloc, scope, args)?;
+            named_term(alloc, scope, name.as_slice(), args)
         }
-        TypeTree::Percent { tree } => bare_term(alloc, scope, decl, tree),
+        TypeTree::Percent { tree } => bare_term(alloc, scope, tree),
         TypeTree::AnyCall => Ok(TypeRef::Call),
     }
 }
 
 // A type behind `%`.
 #[cycle(terms)]
-fn bare_term(
-    alloc: Global,
-    scope: &Scope,
-    decl: &Decl,
-    tree: &TypeTree,
-) -> Result<TypeRef, AllocError>
-    requires { length (decl_text decl.now).vars < 2 ^ 32 }
-    ensures { IfOk result (λ t. shape t ≡ bare_meaning scope.now (decl_text decl.now) (view tree.now)) }
+fn bare_term(alloc: Global, scope: &Scope, tree: &TypeTree) -> Result<TypeRef, AllocError>
+    ensures { IfOk result (λ t. shape t ≡ bare_meaning scope.now.0 scope.now.1 (view tree.now)) }
 {
     match tree {
         TypeTree::Named { name, args } => {
-            let args = type_terms(alloc, scope, decl, args)?;
+            let args = type_terms(alloc, scope, args)?;
             bare_named(alloc, scope, name.as_slice(), args)
         }
         TypeTree::Percent { .. } => Ok(TypeRef::Call),
@@ -59,18 +43,12 @@ fn bare_term(
 }
 
 #[cycle(terms)]
-fn type_terms(
-    alloc: Global,
-    scope: &Scope,
-    decl: &Decl,
-    trees: &[TypeTree],
-) -> Result<Vec<TypeRef>, AllocError>
-    requires { length (decl_text decl.now).vars < 2 ^ 32 }
-    ensures { IfOk result (λ ts. shapes_of (map shape ts.items) ≡ meanings scope.now (decl_text decl.now) (trees_of (views trees.now))) }
+fn type_terms(alloc: Global, scope: &Scope, trees: &[TypeTree]) -> Result<Vec<TypeRef>, AllocError>
+    ensures { IfOk result (λ ts. shapes_of (map shape ts.items) ≡ meanings scope.now.0 scope.now.1 (trees_of (views trees.now))) }
 {
     let mut terms = Vec::new(alloc);
     for tree in trees {
-        terms.push(type_term(alloc, scope, decl, tree)?)?;
+        terms.push(type_term(alloc, scope, tree)?)?;
     }
     Ok(terms)
 }
@@ -79,16 +57,14 @@ fn type_terms(
 fn named_term(
     alloc: Global,
     scope: &Scope,
-    decl: &Decl,
     name: &[u8],
     args: Vec<TypeRef>,
 ) -> Result<TypeRef, AllocError>
-    requires { length (decl_text decl.now).vars < 2 ^ 32 }
-    ensures { IfOk result (λ t. shape t ≡ named_shape scope.now (decl_text decl.now) name.now (shapes_of (map shape args.items))) }
+    ensures { IfOk result (λ t. shape t ≡ named_shape scope.now.0 scope.now.1 name.now (shapes_of (map shape args.items))) }
 {
-    if is_variable(decl, name) {
+    if scope.is_variable(name) {
         return Ok(TypeRef::Var {
-            place: variable_place(decl, name),
+            place: scope.variable(name),
         });
     }
     if name == b"vector".as_slice() {
@@ -110,7 +86,7 @@ fn bare_named(
     name: &[u8],
     args: Vec<TypeRef>,
 ) -> Result<TypeRef, AllocError>
-    ensures { IfOk result (λ t. shape t ≡ bare_shape scope.now name.now (shapes_of (map shape args.items))) }
+    ensures { IfOk result (λ t. shape t ≡ bare_shape scope.now.0 name.now (shapes_of (map shape args.items))) }
 {
     if name == b"Vector".as_slice() {
         return vector_term(alloc, false, args);
@@ -123,7 +99,7 @@ fn bare_named(
 
 // A declared type or constructor, applied to these types.
 fn declared_term(scope: &Scope, name: &[u8], args: Vec<TypeRef>) -> TypeRef
-    ensures { shape result ≡ declared_shape scope.now name.now (shapes_of (map shape args.items)) }
+    ensures { shape result ≡ declared_shape scope.now.0 name.now (shapes_of (map shape args.items)) }
 {
     if is_type_name(name) {
         TypeRef::Boxed {
@@ -173,22 +149,4 @@ pub fn base_term(name: &[u8]) -> Option<TypeRef>
     } else {
         None
     }
-}
-
-/// The place of a variable, or the number of variables for a name that is none.
-pub fn variable_place(decl: &Decl, name: &[u8]) -> u32
-    requires { length (decl_text decl.now).vars < 2 ^ 32 }
-    ensures { result ≡ variable_of (decl_text decl.now) name.now }
-{
-    match place_in(&decl.vars, name) {
-        Some(place) => place as u32,
-        None => decl.vars.len() as u32,
-    }
-}
-
-// The first place at which a name stands.
-fn place_in(names: &[Bytes], name: &[u8]) -> Option<usize>
-    ensures { result ≡ place name.now names.now }
-{
-    names.iter().position(|other| name == other.as_slice())
 }

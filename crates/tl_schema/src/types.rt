@@ -1,21 +1,19 @@
 //! Types by their texts.
 ghost use Rattle.std.specs.Prelude.{◌≡◌};
 ghost use Rattle.tl_combinators.specs.Trees.{view};
-ghost use Rattle.tl_combinators.specs.Program.{decl_text, program_text};
-ghost use Rattle.tl_schema.specs.Meanings.{IsSmall};
-ghost use Rattle.tl_schema.specs.AskedTypes.{ChecksType, NamesType, asker};
+ghost use Rattle.tl_combinators.specs.Program.{decl_text};
 ghost use Rattle.tl_schema.specs.BareSteps.{MarksEmpty};
+ghost use Rattle.tl_schema.specs.AskedTypes.{ChecksType, NamesType, asker};
 
-use crate::index::Index;
 use crate::pass_type::pass_type;
 use crate::scope::Scope;
 use crate::terms::type_term;
 use crate::{Schema, TypeFault, TypeRef};
 use std::alloc::Global;
 use tl_base::Bytes;
-use tl_combinators::{Decl, Program, TypeTree, parse_type};
+use tl_combinators::{Decl, TypeTree, parse_type};
 use tl_lexer::lex;
-use tl_names::resolve_type;
+use tl_names::{Index, resolve_type};
 
 /// The type that a text names: a closed type of the schema, or `!` for a call of any of its functions.
 pub fn type_of(alloc: Global, schema: &Schema, text: &[u8]) -> Result<TypeRef, TypeFault>
@@ -23,7 +21,7 @@ pub fn type_of(alloc: Global, schema: &Schema, text: &[u8]) -> Result<TypeRef, T
 {
     let tokens = lex(alloc, text)?;
     let tree = parse_type(alloc, text, &tokens)?;
-    checked_type(alloc, schema.program(), schema.marks(), &asker(alloc), &tree)
+    checked_type(alloc, schema.index(), schema.empties(), &tree)
 }
 
 // Who asks for a type: no declaration of the program, and one without variables.
@@ -45,21 +43,17 @@ fn asker(alloc: Global) -> Decl
 // The type, where it has none of the causes that a type alone can have.
 fn checked_type(
     alloc: Global,
-    program: &Program,
+    index: &Index,
     marks: &[bool],
-    decl: &Decl,
     tree: &TypeTree,
 ) -> Result<TypeRef, TypeFault>
-    requires small { IsSmall (program_text program.now) }
-    requires empty { MarksEmpty (program_text program.now) marks.now }
-    requires asks { decl_text decl.now ≡ asker }
-    ensures { ChecksType (program_text program.now) (view tree.now) result }
+    requires { MarksEmpty index.now marks.now }
+    ensures { ChecksType index.now (view tree.now) result }
 {
-    let index = Index::of(alloc, program)?;
-    let names = tl_names::Index::of(alloc, program)?;
-    let meant = resolve_type(alloc, &names, tree)?;
-    pass_type(&names, marks, &meant)?;
-    let scope = Scope::of(alloc, &index, program)?;
-    let term = type_term(alloc, &scope, decl, tree)?;
+    let meant = resolve_type(alloc, index, tree)?;
+    pass_type(index, marks, &meant)?;
+    let decl = asker(alloc);
+    let scope = Scope::of(alloc, index, &decl)?;
+    let term = type_term(alloc, &scope, tree)?;
     Ok(term)
 }

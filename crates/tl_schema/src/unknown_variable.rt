@@ -8,10 +8,9 @@ ghost use Rattle.tl_schema.specs.VariableSteps.{calls_another, leaves_uncalled};
 ghost use Rattle.tl_names.specs.Writing.{is_variable};
 
 use crate::declarations::DeclTest;
-use crate::meanings::is_variable;
 use crate::parts::{TypeTest, is_in_fields};
 use tl_combinators::{Decl, Field, FieldKind};
-use tl_names::{Index, Meant, MeantDecl, What};
+use tl_names::{Index, Meant, MeantDecl, What, is_variable};
 
 /// Whether a declaration calls a name that is no variable, or is a function with a variable that doesn't stand in
 /// exactly one field `!X`, or in the type of another.
@@ -20,7 +19,7 @@ pub struct Misuse;
 
 impl DeclTest for Misuse {
     ghost use Rattle.tl_schema.specs.WhatSteps.{means_variable};
-ghost use Rattle.tl_schema.specs.UnknownVariable.{MisusesVariable};
+    ghost use Rattle.tl_schema.specs.UnknownVariable.{MisusesVariable};
 
     ghost holds = { λ s ds. MisusesVariable };
 
@@ -44,7 +43,7 @@ struct VariableName;
 
 impl TypeTest for VariableName {
     ghost use Rattle.tl_schema.specs.WhatSteps.{means_variable};
-ghost use Rattle.tl_schema.specs.UnknownVariable.{NamesVariable};
+    ghost use Rattle.tl_schema.specs.UnknownVariable.{NamesVariable};
 
     ghost holds = { λ s ds. NamesVariable };
 

@@ -1,4 +1,4 @@
-use Rattle.std.proofs.Common.{refl, ◌∙◌, ap, map}
+use Rattle.std.proofs.Common.{◌∙◌, ap, map}
 use Rattle.std.proofs.lemmas.List.{map_push}
 use Rattle.std.proofs.lemmas.Result.{on_ok_weaker}
 use Rattle.tl_schema.specs.Seen.{declaration}
@@ -13,6 +13,5 @@ returns c =
       is = c.in_ok-entry_of.ensures.entry;
       fits = c.in_ok-entry_of.ensures.fits;
       noted = noted;
-      types = refl;
     })
     c.note.ensures

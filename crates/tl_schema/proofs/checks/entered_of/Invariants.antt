@@ -1,12 +1,8 @@
-use Rattle.std.proofs.Common.{◌≡◌, length, map}
+use Rattle.std.proofs.Common.{map}
 use Rattle.tl_combinators.specs.Program.{program_text}
 use Rattle.tl_schema.specs.Seen.{declaration}
-use Rattle.tl_names.specs.Places.{types_of}
 use Rattle.tl_schema.specs.NamesNoted.{Enters}
 use Rattle.tl_schema.proofs.checks.entered_of.Given as goal
 
 abbrev pub invariant-loop-at : goal.invariant-loop-at
-invariant-loop-at l = record {
-  entered : Enters (program_text l.program) l.at (map declaration l.entered.entries.items) l.entered.known;
-  types : l.entered.types ≡ length (types_of (program_text l.program));
-}
+invariant-loop-at l = Enters (program_text l.program) l.at (map declaration l.entered.entries.items) l.entered.known

@@ -1,4 +1,3 @@
-use Rattle.std.proofs.Common.{ℕ}
 use Rattle.tl_names.specs.MeantViews.{decl_view}
 use Rattle.tl_schema.specs.Resolved.{ForDecl}
 use Rattle.tl_schema.proofs.BareFields.{HoldsFirst}

@@ -1,4 +1,4 @@
-use Rattle.std.proofs.Common.{◌≡◌, ◌≤◌, ap, length, refl, sym, true≢false, arith}
+use Rattle.std.proofs.Common.{◌≤◌, ap, length, refl, sym, true≢false, arith}
 use Rattle.std.proofs.lemmas.Bool.{iff_false}
 use Rattle.std.proofs.lemmas.List.{length-map}
 use Rattle.tl_names.specs.Meants.{meant}

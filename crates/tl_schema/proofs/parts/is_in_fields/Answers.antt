@@ -1,4 +1,4 @@
-use Rattle.std.proofs.Common.{◌≡◌, ◌<◌, ◌∙◌, ap, length, refl, sym, subst, true≢false, below_more, arith}
+use Rattle.std.proofs.Common.{◌<◌, ◌∙◌, ap, length, refl, sym, subst, true≢false, below_more, arith}
 use Rattle.std.proofs.lemmas.Bool.{iff_false}
 use Rattle.std.proofs.lemmas.List.{length-map}
 use Rattle.std.proofs.lemmas.Option.{same_Some, slice_get_within}

@@ -1,9 +1,8 @@
-use Rattle.std.proofs.Common.{[], ◌≡◌, ◌≤◌, ◌∙◌, length, map, ap, sym, true, false, true≢false, arith}
+use Rattle.std.proofs.Common.{[], ◌≤◌, ◌∙◌, length, ap, arith}
 use Rattle.std.proofs.lemmas.Bool.{both_ways}
 use Rattle.std.proofs.lemmas.List.{length-map}
 use Rattle.tl_names.specs.MeantDecls.{MeantDeclView, MeantFieldView, meant_field}
 use Rattle.tl_names.specs.MeantViews.{field_view}
-use Rattle.tl_names.specs.Writing.{is_constructor}
 use Rattle.tl_schema.proofs.Adding.{adds_nothing}
 use Rattle.tl_schema.proofs.AddingParts.{InFront, adds_field, refers_all, refers_none}
 use Rattle.tl_schema.proofs.ForTypes.{item_for}

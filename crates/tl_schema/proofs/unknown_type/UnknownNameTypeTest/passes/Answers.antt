@@ -1,6 +1,5 @@
-use Rattle.std.proofs.Common.{◌≡◌, ◌↔◌, subst, sym}
+use Rattle.std.proofs.Common.{◌↔◌, subst, sym}
 use Rattle.std.specs.Prelude.{IsTrue, Bool}
-use Rattle.tl_combinators.specs.Trees.{trees_of}
 use Rattle.tl_schema.specs.UnknownType.{BeginsUnknown, IsUnknownIn}
 use Rattle.tl_schema.proofs.ForTypes.{for_named}
 use Rattle.tl_schema.proofs.NameCases.{unknown_name}

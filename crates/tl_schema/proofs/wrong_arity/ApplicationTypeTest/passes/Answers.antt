@@ -1,4 +1,4 @@
-use Rattle.std.proofs.Common.{◌≡◌, ◌↔◌, ◌∙◌, ap, length, refl, arith}
+use Rattle.std.proofs.Common.{◌≡◌, ◌↔◌, ap, length, refl, arith}
 use Rattle.std.specs.Prelude.{IsTrue}
 use Rattle.std.proofs.lemmas.List.{length-map}
 use Rattle.tl_combinators.specs.Trees.{named, trees_of}

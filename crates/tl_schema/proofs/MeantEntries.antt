@@ -1,0 +1,45 @@
+-- What an entry takes from a resolved declaration.
+use Rattle.std.proofs.Common.{◌≡◌, ℕ, List, length, map, slice_get, bytes_eq, Option, Some, None, refl, ap, sym, ◌∙◌}
+use Rattle.std.specs.Option.{option_map, unwrap_or}
+use Rattle.std.proofs.lemmas.List.{length-map}
+use Rattle.std.proofs.lemmas.Option.{none-some, same_Some}
+use Rattle.tl_combinators.specs.Program.{CondText, DeclText, FieldText}
+use Rattle.tl_names.specs.Places.{types_of}
+use Rattle.tl_names.specs.Writing.{own_type}
+use Rattle.tl_names.specs.MeantDecls.{cond_by, head_number}
+use Rattle.tl_names.specs.What.{field_named}
+use Rattle.tl_names.specs.declared.meant.MeantCond.{MeantCond}
+use Rattle.tl_names.proofs.Maps.{slice_get_made}
+use Rattle.tl_schema.specs.Meanings.{condition_of, declaration_of, head_in, result_shape, slot_of}
+use Rattle.tl_schema.specs.Schemas.{Declaration, Slot}
+use Rattle.tl_schema.specs.Types.{Shape}
+use Rattle.tl_schema.proofs.TestedPlaces.{position_unwrapped}
+
+-- the number of its type, or the number of types
+pub head_unwrapped : (ds : List DeclText) (o : Option (List ℕ)) → unwrap_or (head_number ds o) (length (types_of ds)) ≡ head_in ds o
+head_unwrapped ds (Some type) = position_unwrapped (bytes_eq type) (types_of ds)
+head_unwrapped ds None = refl
+
+-- the index of the field of a condition, or the number of fields
+pub condition_meant : (d : DeclText) (c : Option CondText) (m : MeantCond) → Some m ≡ option_map (cond_by (field_named d)) c → Some (unwrap_or m.flags (length d.fields), m.bit) ≡ option_map (condition_of d) c
+condition_meant d None m is = absurd (none-some m (sym is))
+condition_meant d (Some c) m is =
+    let same = same_Some m (cond_by (field_named d) c) is in
+    ap (λ (n : MeantCond). Some (unwrap_or n.flags (length d.fields), n.bit)) same ∙ ap (λ (n : ℕ). Some (n, c.bit)) (position_unwrapped (λ (f : FieldText). bytes_eq c.flags f.name) d.fields)
+
+pub no_condition_meant : (d : DeclText) (c : Option CondText) → None ≡ option_map (cond_by (field_named d)) c → None ≡ option_map (condition_of d) c
+no_condition_meant d None is = refl
+no_condition_meant d (Some c) is = absurd (none-some (cond_by (field_named d) c) is)
+
+-- lists of which the same is made have the same length, and the same is made of each two elements
+module _ {X Y Z : Type 0} (f : X → Z) (g : Y → Z) (xs : List X) (ys : List Y) (same : map f xs ≡ map g ys) where
+  pub same_length : length xs ≡ length ys
+  same_length = sym (length-map xs f) ∙ ap length same ∙ length-map ys g
+
+  pub same_made : (i : ℕ) (x : X) (y : Y) → slice_get xs i ≡ Some x → slice_get ys i ≡ Some y → f x ≡ g y
+  same_made i x y x_at y_at =
+      same_Some (f x) (g y) (sym (slice_get_made f xs i x x_at) ∙ ap (λ zs. slice_get zs i) same ∙ slice_get_made g ys i y y_at)
+
+-- an entry by its parts
+pub entry_is : (ds : List DeclText) (d : DeclText) (n : ℕ) (name : List ℕ) (vars : ℕ) (fields : List Slot) (head : ℕ) (result : Shape) → name ≡ d.name → vars ≡ length d.vars → fields ≡ map (slot_of ds d) d.fields → head ≡ head_in ds (own_type d) → result ≡ result_shape ds d → ◌≡◌ {A = Declaration} (record { name = name; number = n; vars = vars; fields = fields; function = d.function; head = head; result = result }) (declaration_of ds d n)
+entry_is ds d n name vars fields head result name_is vars_are fields_are head_is result_is = rw (name_is, vars_are, fields_are, head_is, result_is) refl

@@ -1,7 +1,0 @@
-use Rattle.std.proofs.Common.{take}
-use Rattle.tl_combinators.specs.Program.{program_text}
-use Rattle.tl_schema.specs.Indexed.{IsIndex}
-use Rattle.tl_schema.proofs.index.Index.of.Given as goal
-
-abbrev pub invariant-loop-at : goal.invariant-loop-at
-invariant-loop-at l = IsIndex (take l.at (program_text l.program)) l.names l.types

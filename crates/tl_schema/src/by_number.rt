@@ -1,0 +1,23 @@
+//! Declarations by their numbers.
+ghost use Rattle.std.specs.Prelude.{◌<◌, ◌^◌, IfOk, length};
+ghost use Rattle.tl_combinators.specs.Program.{program_text};
+ghost use Rattle.tl_schema.specs.SchemaParts.{AreNumbers};
+
+use crate::same_number::number_of;
+use std::alloc::{AllocError, Global};
+use std::collections::BTreeMap;
+use tl_combinators::Program;
+
+/// For each number the index of the declaration that has it, the lines of built-in types aside.
+pub fn numbers_of(alloc: Global, program: &Program) -> Result<BTreeMap<u32, u32>, AllocError>
+    requires { length (program_text program.now) < 2 ^ 32 }
+    ensures { IfOk result (λ numbers. AreNumbers (program_text program.now) numbers.entries) }
+{
+    let mut numbers = BTreeMap::new(alloc);
+    for (at, decl) in program.decls.iter().enumerate() {
+        if !decl.builtin {
+            numbers.insert(number_of(decl), at as u32)?;
+        }
+    }
+    Ok(numbers)
+}
