@@ -16,4 +16,4 @@ pub use meant::{Meant, MeantCond, MeantDecl, MeantField, MeantKind};
 pub use names::Names;
 pub use types::resolve_type;
 pub use what::What;
-pub use writing::{is_constructor, is_type_name, is_variable, own_type, result_head};
+pub use writing::{is_constructor, is_function, is_type_name, is_variable, own_type, result_head};

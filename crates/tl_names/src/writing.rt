@@ -2,7 +2,7 @@
 ghost use Rattle.std.specs.Prelude.{◌≡◌, ◌==◌, ◌+◌, ◌<◌, drop, length, position};
 ghost use Rattle.std.specs.Option.{option_map};
 ghost use Rattle.tl_combinators.specs.Program.{decl_text};
-ghost use Rattle.tl_names.specs.Writing.{is_constructor, is_type_name, is_variable, last_word, own_type, result_head};
+ghost use Rattle.tl_names.specs.Writing.{is_constructor, is_function, is_type_name, is_variable, last_word, own_type, result_head};
 
 use tl_combinators::{Decl, TypeTree};
 
@@ -11,6 +11,13 @@ pub fn is_constructor(decl: &Decl) -> bool
     ensures { result ≡ is_constructor (decl_text decl.now) }
 {
     !decl.function && !decl.builtin
+}
+
+/// Whether a declaration is a function, and no line of a built-in type.
+pub fn is_function(decl: &Decl) -> bool
+    ensures { result ≡ is_function (decl_text decl.now) }
+{
+    decl.function && !decl.builtin
 }
 
 /// Whether a name is a variable of the declaration.

@@ -67,3 +67,7 @@ module _ (ds : List DeclText) (d : DeclText) where
         from : IsIn j old ⊎ RefersIn ds d (λ u. u ≡ t) j → IsIn j old
         from (inl was) = was
         from (inr more) = absurd (none-some j ((bare j).0 (subst (λ (u : Tree). IsBareOf ds d u j) more.1 more.2)))
+
+  -- where no type is such
+  pub adds_nothing : (Such : Tree → Type 0) (old : List ℕ) → ((u : Tree) → Such u → ⊥) → Adds ds d Such old old
+  adds_nothing Such old none j = (λ was. inl was, λ either. elim either as (λ _. IsIn j old) [ inl was ↦ was | inr more ↦ absurd (none more.0 more.1) ])

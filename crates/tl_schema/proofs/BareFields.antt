@@ -1,5 +1,5 @@
 -- The fields of declarations as bare constructors, one after another.
-use Rattle.std.proofs.Common.{◌≡◌, inl, inr, ℕ, ◌+◌, true, List, [], ◌∷◌, ◌++◌, length, slice_get, Option, Some, None, refl, ap, sym, subst, ◌∙◌, arith}
+use Rattle.std.proofs.Common.{◌≡◌, ◌↔◌, inl, inr, ℕ, ◌+◌, true, List, [], ◌∷◌, ◌++◌, length, slice_get, Option, Some, None, refl, ap, sym, subst, ◌∙◌, arith}
 use Rattle.std.proofs.lemmas.List.{length_push}
 use Rattle.std.proofs.lemmas.Option.{none-some, same_Some, slice_get_cases, slice_get_within}
 use Rattle.tl_combinators.specs.Program.{FieldText, DeclText}
@@ -10,6 +10,9 @@ use Rattle.tl_schema.specs.inner.BareSteps.{BareFieldsAre, HeldIs, AreNeeds}
 use Rattle.tl_schema.proofs.Places.{get_cases}
 
 -- ---- of one declaration
+
+pub holds_no_bare : (j : ℕ) → ⊥ ↔ (None ≡ Some j)
+holds_no_bare j = (λ h. absurd h, λ e. absurd (none-some j e))
 
 -- its first fields are these bare constructors
 pub record HoldsFirst (ds : List DeclText) (d : DeclText) (n : ℕ) (js : List ℕ) : Type 0 where

@@ -1,6 +1,6 @@
 -- The checks, one after another.
 use Rattle.std.proofs.Common.{◌≡◌, ℕ, List, [], ◌∷◌, ◌++◌, Option, Some, None, Result, Ok, Err, refl, sym, subst, inl, inr}
-use Rattle.std.specs.Prelude.{IsErrAnd}
+use Rattle.std.specs.Prelude.{IfErr, IfOk, IsErrAnd}
 use Rattle.tl_combinators.specs.Program.{DeclText}
 use Rattle.tl_graph.specs.Firsts.{First}
 use Rattle.tl_schema.specs.CheckCauses.{HasCause, NoneHas, PassesBy, RefusedBy}
@@ -81,3 +81,41 @@ module _ (ds : List DeclText) where
       of_fault : (cs more : List CheckCause) (e : CheckFault) → ChecksBy ds cs (Err e) → ChecksBy ds (cs ++ more) (Err e)
       of_fault cs more (Refused k found) h = refused_first cs more k found h
       of_fault cs more Memory h = tt
+
+-- ---- checks that give more where they are passed
+
+module _ (ds : List DeclText) {X : Type 0} (cs : List CheckCause) where
+  -- the fault of a check is the answer
+  pub gives_fault : (e : CheckFault) (r : Result X CheckFault) → ChecksBy ds cs (Err e) → IsErrAnd r (λ z. z ≡ e) → IfErr r (λ f. ChecksBy ds cs (Err f))
+  gives_fault e (Ok x) h is = tt
+  gives_fault e (Err z) h is = subst (λ (y : CheckFault). ChecksBy ds cs (Err y)) (sym is) h
+
+  pub gives_memory : (r : Result X CheckFault) → IsErrAnd r (λ z. z ≡ Memory) → IfErr r (λ f. ChecksBy ds cs (Err f))
+  gives_memory r is = gives_fault Memory r tt is
+
+  pub fault_then : (before : List CheckCause) (r : Result X CheckFault) → PassesBy ds before → IfErr r (λ f. ChecksBy ds cs (Err f)) → IfErr r (λ f. ChecksBy ds (before ++ cs) (Err f))
+  fault_then before (Ok x) p h = tt
+  fault_then before (Err e) p h = checked_then ds before cs (Err e) p h
+
+  pub passed_then : (before : List CheckCause) (Q : X → Type 0) (r : Result X CheckFault) → PassesBy ds before → IfOk r (λ x. PassesBy ds cs × Q x) → IfOk r (λ x. PassesBy ds (before ++ cs) × Q x)
+  passed_then before Q (Ok x) p h = (passed_both ds before cs p h.0, h.1)
+  passed_then before Q (Err e) p h = tt
+
+  pub fault_first : (before : List CheckCause) (e : CheckFault) (r : Result X CheckFault) → ChecksBy ds before (Err e) → IsErrAnd r (λ z. z ≡ e) → IfErr r (λ f. ChecksBy ds (before ++ cs) (Err f))
+  fault_first before e (Ok x) h is = tt
+  fault_first before e (Err z) h is = checked_first ds before cs e (Err z) h is
+
+-- the last of two checks gives more
+module _ (ds : List DeclText) (c d : CheckCause) (o p : Option ℕ) (first : First (HasCause ds c) o) (second : First (HasCause ds d) p) where
+  pub both_passed : {u v : Unit {0}} → Found o c (Ok u) → Found p d (Ok v) → PassesBy ds (c ∷ d ∷ [])
+  both_passed {u} {v} one other = (none_of ds c o {u = u} first one, (none_of ds d p {u = v} second other, tt))
+
+  pub second_fault : {u : Unit {0}} (e : CheckFault) → Found o c (Ok u) → Found p d (Err e) → ChecksBy ds (c ∷ d ∷ []) (Err e)
+  second_fault {u} e one other = next ds c (d ∷ []) (Err e) (none_of ds c o {u = u} first one) (at_fault ds d [] p e second other)
+
+pub first_fault : (ds : List DeclText) (c : CheckCause) (cs : List CheckCause) (o : Option ℕ) (e : CheckFault) → First (HasCause ds c) o → Found o c (Err e) → ChecksBy ds (c ∷ cs) (Err e)
+first_fault ds c cs o e first found = at_fault ds c cs o e first found
+
+-- what was found in the same program
+pub of_same : {ds es : List DeclText} → ds ≡ es → (c : CheckCause) (o : Option ℕ) → First (HasCause es c) o → First (HasCause ds c) o
+of_same {ds} {es} same c o first = subst (λ (x : List DeclText). First (HasCause x c) o) (sym same) first

@@ -1,7 +1,6 @@
 pub mod Deciding
 pub mod Places
 pub mod PartsOfOne
-pub mod UnknownParts
 pub mod BareParts
 pub mod AppliedTypes
 pub mod SameNames
@@ -10,6 +9,10 @@ mod TypeNames
 pub mod SmallPrograms
 pub mod FieldConditions
 mod Maps
+mod ForTypes
+mod ResolvedDecls
+mod NameCases
+mod HeadFamilies
 mod Repeats
 mod ArityCases
 mod ListParts
@@ -35,7 +38,6 @@ pub mod TakesNoneDecided
 pub mod SameNumberFirst
 pub mod BareCycleFirst
 pub mod EmptyElementFirst
-pub mod OnlyConstructors
 pub mod BareMeanings
 pub mod Adding
 pub mod AddingParts

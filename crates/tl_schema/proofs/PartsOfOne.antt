@@ -1,8 +1,9 @@
 -- Parts of types in a list.
-use Rattle.std.proofs.Common.{◌≡◌, ◌⊎◌, inl, inr, ℕ, zero, suc, ◌+◌, ◌≤◌, List, [], ◌∷◌, ◌++◌, length, take, slice_get, Some, subst, sym}
+use Rattle.std.proofs.Common.{◌≡◌, ◌⊎◌, inl, inr, ℕ, zero, suc, ◌+◌, ◌≤◌, List, [], ◌∷◌, ◌++◌, length, take, slice_get, Some, subst, sym, refl, ◌↔◌, Bool, false, true≢false}
 use Rattle.std.proofs.lemmas.Option.{none-some, same_Some}
 use Rattle.std.proofs.lemmas.List.{take_all}
-use Rattle.tl_combinators.specs.Trees.{Tree, trees_of}
+use Rattle.std.specs.Prelude.{IsTrue}
+use Rattle.tl_combinators.specs.Trees.{Tree, Trees, named, percent, any_call, trees_of}
 use Rattle.tl_names.specs.Parts.{IsPart, IsPartOfOne}
 use Rattle.tl_names.specs.Parts.{SomePart, SomePartOfOne}
 use Rattle.tl_schema.proofs.Maps.{take_push}
@@ -34,3 +35,30 @@ module _ (P : Tree → Type 0) (ts : List Tree) (i : ℕ) where
   -- none of them has one
   pub none_done : length ts ≤ i → (SomePartOfOne P (trees_of (take i ts)) → ⊥) → SomePartOfOne P (trees_of ts) → ⊥
   none_done all none some = none (subst (λ us. SomePartOfOne P (trees_of us)) (sym (take_all i ts all)) some)
+
+-- ---- parts of a type, by its form
+
+is_own_part : (t : Tree) → IsPart t t
+is_own_part (named name ts) = inl refl
+is_own_part (percent t) = inl refl
+is_own_part any_call = refl
+
+module _ (P : Tree → Type 0) where
+  pub some_itself : (t : Tree) → P t → SomePart P t
+  some_itself t p = (t, is_own_part t, p)
+
+  module _ (b : Bool) where
+    pub some_named : (name : List ℕ) (ts : Trees) → (P (named name ts) → ⊥) → IsTrue b ↔ SomePartOfOne P ts → IsTrue b ↔ SomePart P (named name ts)
+    some_named name ts none told = (
+      λ h. let some = told.0 h in (some.0, inr some.1, some.2),
+      λ some. elim some.1 [ inl here ↦ absurd (none (subst P here some.2)) | inr later ↦ told.1 (some.0, later, some.2) ],
+    )
+
+    pub some_percent : (t : Tree) → (P (percent t) → ⊥) → IsTrue b ↔ SomePart P t → IsTrue b ↔ SomePart P (percent t)
+    some_percent t none told = (
+      λ h. let some = told.0 h in (some.0, inr some.1, some.2),
+      λ some. elim some.1 [ inl here ↦ absurd (none (subst P here some.2)) | inr later ↦ told.1 (some.0, later, some.2) ],
+    )
+
+  pub some_any_call : (P any_call → ⊥) → IsTrue false ↔ SomePart P any_call
+  some_any_call none = (λ h. absurd (true≢false (sym h)), λ some. absurd (none (subst P some.1 some.2)))

@@ -28,15 +28,18 @@ HasCause ds cause.SameNumber k = SameNumber ds k
 HasCause ds cause.BareCycle k = BareCycle ds k
 HasCause ds cause.EmptyElement k = EmptyElement ds k
 
--- the causes in the order of the checks: those of names and of what these are applied to, then those of what names mean
+-- the causes in the order of the checks: those of names and of what these are applied to, those of what names mean, and those of bare references
 abbrev pub name_causes : List CheckCause
 name_causes = cause.SameName ∷ cause.UnknownType ∷ cause.UnknownVariable ∷ cause.WrongArity ∷ cause.BadResult ∷ []
 
 abbrev pub meaning_causes : List CheckCause
-meaning_causes = cause.NotBare ∷ cause.BadFlag ∷ cause.SameNumber ∷ cause.BareCycle ∷ cause.EmptyElement ∷ []
+meaning_causes = cause.NotBare ∷ cause.BadFlag ∷ cause.SameNumber ∷ []
+
+abbrev pub reference_causes : List CheckCause
+reference_causes = cause.BareCycle ∷ cause.EmptyElement ∷ []
 
 abbrev pub causes : List CheckCause
-causes = name_causes ++ meaning_causes
+causes = name_causes ++ (meaning_causes ++ reference_causes)
 
 abbrev pub NoneHas : List DeclText → CheckCause → Type 0
 NoneHas ds c = (k : ℕ) → HasCause ds c k → ⊥

@@ -3,7 +3,7 @@
 -- their places is this project's own.
 -- In a program that passes the checks each name has a declaration, and each application the right number of arguments. What these
 -- definitions say where that is not so is of no use: a place past the end, or a call in place of a type.
-use Rattle.std.specs.Prelude.{◌≡◌, ℕ, ◌<◌, ◌^◌, List, [], length, map, fold, Bool, true, false, ◌&&◌, bytes_eq, codes, Option, Some, None, unwrap_or, if◌then◌else◌}
+use Rattle.std.specs.Prelude.{◌≡◌, ℕ, ◌<◌, ◌^◌, List, length, map, Bool, true, false, bytes_eq, codes, Option, Some, None, unwrap_or, if◌then◌else◌}
 use Rattle.std.specs.Option.{option_map}
 use Rattle.std.specs.List.{position_or_len}
 use Rattle.tl_combinators.specs.Trees.{Tree, Trees, named, percent, any_call, no_trees, tree}

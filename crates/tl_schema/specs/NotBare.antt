@@ -4,7 +4,7 @@ use Rattle.std.specs.Prelude.{◌≡◌, ℕ, List, true, false, codes}
 use Rattle.tl_combinators.specs.Trees.{Tree, Trees, named, percent, any_call}
 use Rattle.tl_combinators.specs.Program.{DeclText}
 use Rattle.tl_names.specs.Constructors.{IsOnlyConstructor}
-use Rattle.tl_names.specs.Writing.{is_type_name, is_variable, IsConstructorOf}
+use Rattle.tl_names.specs.Writing.{is_type_name, is_variable}
 use Rattle.tl_schema.specs.Writing.{DeclarationHas}
 use Rattle.tl_names.specs.Parts.{SomeWritten}
 

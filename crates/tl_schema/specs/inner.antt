@@ -3,6 +3,8 @@ pub mod SchemaCodes
 pub mod SameNameSteps
 pub mod Arities
 pub mod VariableSteps
+pub mod WhatSteps
+pub mod Resolved
 pub mod BareForms
 pub mod ConditionSteps
 pub mod TakenNumbers

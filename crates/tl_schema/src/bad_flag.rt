@@ -1,34 +1,26 @@
 //! The seventh check: conditions.
-ghost use Rattle.std.specs.Prelude.{◌≡◌, ◌<◌, ◌≤◌, ◌^◌, ◌↔◌, IsTrue, length};
-ghost use Rattle.tl_combinators.specs.Program.{cond_texts, decl_text, field_text, program_text};
-ghost use Rattle.tl_graph.specs.Firsts.{First};
-ghost use Rattle.tl_schema.specs.BadFlag.{BadFlag, HasBadCondition, IsBadCondition, IsFlagsBefore};
+ghost use Rattle.std.specs.Prelude.{◌≤◌, ◌↔◌, IsTrue, length};
+ghost use Rattle.tl_combinators.specs.Program.{cond_texts, decl_text, field_text};
+ghost use Rattle.tl_schema.specs.BadFlag.{HasBadCondition, IsBadCondition, IsFlagsBefore};
 ghost use Rattle.tl_schema.specs.inner.ConditionSteps.{IsFlags};
 
-use crate::declarations::{DeclTest, first_that};
-use tl_combinators::{Cond, Decl, Field, FieldKind, Program};
+use crate::declarations::DeclTest;
+use tl_combinators::{Cond, Decl, Field, FieldKind};
+use tl_names::{Index, MeantDecl};
 
 /// The highest bit of a `#` field.
 const LAST_BIT: u32 = 31;
 
-/// The first declaration that has a condition on no earlier `#` field, or on a bit above 31.
-pub fn first_bad_flag(program: &Program) -> Option<u32>
-    requires { length (program_text program.now) < 2 ^ 32 }
-    ensures { First (BadFlag (program_text program.now)) result }
-{
-    first_that(program, &BadCondition)
-}
-
-// Whether a declaration has such a condition.
+/// Whether a declaration has a condition on no earlier `#` field, or on a bit above 31.
 #[derive(Clone, Copy)]
-struct BadCondition;
+pub struct BadCondition;
 
 impl DeclTest for BadCondition {
     ghost use Rattle.tl_schema.specs.BadFlag.{HasBadCondition};
 
-    ghost holds = { λ s. HasBadCondition };
+    ghost holds = { λ s ds. HasBadCondition };
 
-    fn passes(&self, decl: &Decl) -> bool {
+    fn passes(&self, _index: &Index, decl: &Decl, _meant: &MeantDecl) -> bool {
         has_bad_condition(decl)
     }
 }

@@ -1,33 +1,24 @@
 //! The fifth check: results of constructors.
-ghost use Rattle.std.specs.Prelude.{◌≡◌, ◌<◌, ◌^◌, ◌↔◌, IsTrue, length, map};
-ghost use Rattle.tl_combinators.specs.Program.{decl_text, program_text};
+ghost use Rattle.std.specs.Prelude.{◌≡◌, ◌↔◌, IsTrue, map};
+ghost use Rattle.tl_combinators.specs.Program.{decl_text};
 ghost use Rattle.tl_combinators.specs.Trees.{plain, view, views};
-ghost use Rattle.tl_graph.specs.Firsts.{First};
-ghost use Rattle.tl_schema.specs.BadResult.{BadResult, IsGoodResult};
+ghost use Rattle.tl_schema.specs.BadResult.{IsGoodResult};
 
-use crate::declarations::{DeclTest, first_that};
-use crate::meanings::{is_constructor, is_type_name, is_variable};
+use crate::declarations::DeclTest;
 use tl_base::Bytes;
-use tl_combinators::{Decl, Program, TypeTree};
+use tl_combinators::{Decl, TypeTree};
+use tl_names::{Index, MeantDecl, is_constructor, is_type_name, is_variable};
 
-/// The first own constructor whose result isn't a type applied to the declaration's variables in order.
-pub fn first_bad_result(program: &Program) -> Option<u32>
-    requires { length (program_text program.now) < 2 ^ 32 }
-    ensures { First (BadResult (program_text program.now)) result }
-{
-    first_that(program, &OtherResult)
-}
-
-// Whether a declaration is an own constructor with another result.
+/// Whether a declaration is an own constructor whose result isn't a type applied to the declaration's variables in order.
 #[derive(Clone, Copy)]
-struct OtherResult;
+pub struct OtherResult;
 
 impl DeclTest for OtherResult {
     ghost use Rattle.tl_schema.specs.BadResult.{HasBadResult};
 
-    ghost holds = { λ s. HasBadResult };
+    ghost holds = { λ s ds. HasBadResult };
 
-    fn passes(&self, decl: &Decl) -> bool {
+    fn passes(&self, _index: &Index, decl: &Decl, _meant: &MeantDecl) -> bool {
         if !is_constructor(decl) {
             return false;
         }

@@ -13,13 +13,12 @@ ghost use Rattle.tl_schema.specs.Seen.{declaration};
 
 use crate::by_number::numbers_of;
 use crate::entries::entry_of;
-use crate::meanings::is_function;
 use crate::pass_checks::pass_checks;
 use crate::{CheckFault, Entry, Schema};
 use std::alloc::{AllocError, Global};
 use std::collections::BTreeMap;
 use tl_combinators::{Decl, Program};
-use tl_names::{Index, MeantDecl, Names, resolve};
+use tl_names::{Index, MeantDecl, Names, is_function, resolve};
 
 /// The indices of the declarations so far by their names.
 #[derive(Drop)]

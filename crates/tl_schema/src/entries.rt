@@ -8,14 +8,13 @@ ghost use Rattle.tl_names.specs.What.{field_named};
 ghost use Rattle.tl_schema.specs.Seen.{declaration, shape, slot};
 ghost use Rattle.tl_schema.specs.Meanings.{IsEntry, IsEntryNumber, condition_of, kind_shape, kind_variable, line_shape, result_shape, slot_of};
 
-use crate::meanings::is_function;
 use crate::same_number::{VECTOR, number_of};
 use crate::schema::{Entry, SchemaField, TypeRef};
 use crate::scope::Scope;
 use crate::terms::{base_term, type_term};
 use std::alloc::{AllocError, Global};
 use tl_combinators::{Decl, Field, FieldKind};
-use tl_names::{Index, MeantCond, MeantDecl, MeantField};
+use tl_names::{Index, MeantCond, MeantDecl, MeantField, is_function};
 
 /// The entry of a declaration, of which the names of fields and of its own type are resolved.
 pub fn entry_of(

@@ -3,20 +3,18 @@
 
 mod bad_flag;
 mod bad_result;
-mod bare_cycle;
 mod by_number;
 mod checks;
 mod declarations;
 mod empties;
 mod empty_element;
 mod entries;
-mod families;
 mod fault;
 mod laws;
-mod meanings;
 mod not_bare;
 mod parts;
 mod pass_checks;
+mod pass_type;
 mod references;
 mod same_name;
 mod same_number;

@@ -1,71 +1,52 @@
-//! The sixth check: what stands behind `%`.
-ghost use Rattle.std.specs.Prelude.{◌≡◌, ◌<◌, ◌^◌, ◌↔◌, IsTrue, length};
-ghost use Rattle.tl_combinators.specs.Trees.{view};
-ghost use Rattle.tl_combinators.specs.Program.{decl_text, program_text};
-ghost use Rattle.tl_graph.specs.Firsts.{First};
-ghost use Rattle.tl_schema.specs.NotBare.{HasBare, HasNoBare, NotBare};
-ghost use Rattle.tl_schema.specs.inner.BareForms.{IsBareName};
-ghost use Rattle.tl_names.specs.Parts.{SomePart};
+//! The sixth check: what stands after `%`.
+ghost use Rattle.std.specs.Prelude.{◌↔◌, IsTrue};
+ghost use Rattle.tl_names.specs.MeantViews.{meant_view};
+ghost use Rattle.tl_schema.specs.NotBare.{HasBare};
+ghost use Rattle.tl_schema.specs.inner.Resolved.{ForType};
+ghost use Rattle.tl_schema.specs.inner.WhatSteps.{HasForm};
 
-use crate::declarations::first_that_writes;
-use crate::families::is_single;
-use crate::meanings::{is_type_name, is_variable};
-use crate::parts::{TypeTest, has_part};
-use tl_combinators::{Decl, Program, TypeTree};
-use tl_names::Index;
+use crate::parts::TypeTest;
+use tl_names::{Index, Meant, What};
 
-/// The first declaration that writes `%` before a type with no bare form, which `Vector` and each type with exactly one constructor have.
+/// Whether a type is `%` before one with no bare form, which `Vector` and each type with exactly one constructor have.
 /// From "TL language" (core.telegram.org/mtproto/TL), its bare types.
-pub fn first_not_bare(index: &Index, program: &Program) -> Option<u32>
-    requires same { index.now ≡ program_text program.now }
-    requires few { length (program_text program.now) < 2 ^ 32 }
-    ensures { First (NotBare (program_text program.now)) result }
-{
-    first_that_writes(program, &NoBare { index })
-}
-
-/// Whether a type or a part of it is `%` before one that has no bare form where a declaration writes it.
-pub fn writes_no_bare(index: &Index, decl: &Decl, tree: &TypeTree) -> bool
-    ensures { IsTrue result ↔ SomePart (HasNoBare index.now (decl_text decl.now)) (view tree.now) }
-{
-    has_part(tree, decl, &NoBare { index })
-}
-
-// Whether a type is `%` before one that has no bare form where a declaration writes it.
 #[derive(Clone, Copy)]
-struct NoBare<'t> {
-    index: &'t Index,
-}
+pub struct NoBare;
 
-impl<'t> TypeTest for NoBare<'t> {
+impl TypeTest for NoBare {
     ghost use Rattle.tl_schema.specs.NotBare.{HasNoBare};
 
-    ghost holds = { λ s. HasNoBare s.index.now };
+    ghost holds = { λ s ds. HasNoBare ds };
 
-    fn passes(&self, decl: &Decl, tree: &TypeTree) -> bool {
-        match tree {
-            TypeTree::Named { .. } => false,
-            TypeTree::Percent { tree } => !has_bare(self.index, decl, tree),
-            TypeTree::AnyCall => false,
+    fn passes(&self, index: &Index, meant: &Meant) -> bool {
+        match meant {
+            Meant::Named { .. } => false,
+            Meant::Percent { meant } => !has_bare(index, meant),
+            Meant::AnyCall => false,
         }
     }
 }
 
-fn has_bare(index: &Index, decl: &Decl, tree: &TypeTree) -> bool
-    ensures { IsTrue result ↔ HasBare index.now (decl_text decl.now) (view tree.now) }
+fn has_bare(index: &Index, meant: &Meant) -> bool
+    ensures { ForType index.now (meant_view meant.now) (λ d t. IsTrue result ↔ HasBare index.now d t) }
 {
-    match tree {
-        TypeTree::Named { name, .. } => is_bare_name(index, decl, name.as_slice()),
-        TypeTree::Percent { .. } => false,
-        TypeTree::AnyCall => false,
+    match meant {
+        Meant::Named { what, .. } => is_bare_what(index, *what),
+        Meant::Percent { .. } => false,
+        Meant::AnyCall => false,
     }
 }
 
-fn is_bare_name(index: &Index, decl: &Decl, name: &[u8]) -> bool
-    ensures { IsTrue result ↔ IsBareName index.now (decl_text decl.now) name.now }
+// Whether a name that means this has a bare form.
+fn is_bare_what(index: &Index, what: What) -> bool
+    ensures { HasForm index.now what result }
 {
-    if is_variable(decl, name) {
-        return false;
+    match what {
+        What::Vector { is_boxed } => is_boxed,
+        What::Type { number } => match index.family(number) {
+            Some(constructors) => constructors.only,
+            None => false,
+        },
+        _ => false,
     }
-    name == b"Vector".as_slice() || (is_type_name(name) && is_single(index, name))
 }

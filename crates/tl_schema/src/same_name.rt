@@ -7,10 +7,9 @@ ghost use Rattle.tl_names.specs.NameLists.{IsRepeat};
 ghost use Rattle.tl_schema.specs.SameName.{SameName, part_names};
 ghost use Rattle.tl_schema.specs.inner.SameNameSteps.{AddsName, IsOf, MakesVector, NotesName, is_noted};
 
-use crate::meanings::is_variable;
 use std::alloc::{AllocError, Global};
 use tl_combinators::{Decl, Program, TypeTree};
-use tl_names::Names;
+use tl_names::{Names, is_variable};
 
 /// The names of the declarations so far.
 #[derive(Drop)]

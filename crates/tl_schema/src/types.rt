@@ -8,20 +8,17 @@ ghost use Rattle.tl_schema.specs.AskedTypes.{GivesType, IsTypeText, NamesType, R
 ghost use Rattle.tl_schema.specs.Types.{Shape};
 ghost use Rattle.tl_schema.specs.declared.fault.TypeFault.{TypeFault};
 ghost use Rattle.tl_schema.specs.inner.BareSteps.{MarksEmpty};
-ghost use Rattle.tl_schema.specs.inner.TypeSteps.{ChecksType, PassesType};
+ghost use Rattle.tl_schema.specs.inner.TypeSteps.{ChecksType};
 
-use crate::empty_element::has_empty_argument;
-use crate::not_bare::writes_no_bare;
+use crate::pass_type::pass_type;
 use crate::scope::Scope;
 use crate::terms::type_term;
-use crate::unknown_type::writes_unknown;
-use crate::wrong_arity::writes_misapplied;
-use crate::{Schema, TypeCause, TypeFault, TypeRef};
+use crate::{Schema, TypeFault, TypeRef};
 use std::alloc::Global;
 use tl_base::Bytes;
 use tl_combinators::{Decl, TypeTree, parse_type};
 use tl_lexer::lex;
-use tl_names::Index;
+use tl_names::{Index, resolve_type};
 
 /// The type that a text names: a closed type of the schema, or `!` for a call of any of its functions.
 pub fn type_of(alloc: Global, schema: &Schema, text: &[u8]) -> Result<TypeRef, TypeFault>
@@ -71,38 +68,10 @@ fn checked_type(
     requires { MarksEmpty index.now marks.now }
     ensures { ChecksType index.now (view tree.now) result }
 {
+    let meant = resolve_type(alloc, index, tree)?;
+    pass_type(index, marks, &meant)?;
     let decl = asker(alloc);
-    pass_type(index, marks, &decl, tree)?;
     let scope = Scope::of(alloc, index, &decl)?;
     let term = type_term(alloc, &scope, tree)?;
     Ok(term)
-}
-
-// Refuses a type for the first cause that it has.
-fn pass_type(index: &Index, marks: &[bool], decl: &Decl, tree: &TypeTree) -> Result<(), TypeFault>
-    requires marks { MarksEmpty index.now marks.now }
-    requires asks { decl_text decl.now ≡ asker }
-    ensures { PassesType index.now (view tree.now) result }
-{
-    if writes_unknown(index, decl, tree) {
-        return Err(TypeFault::Refused {
-            cause: TypeCause::UnknownType,
-        });
-    }
-    if writes_misapplied(index, decl, tree) {
-        return Err(TypeFault::Refused {
-            cause: TypeCause::WrongArity,
-        });
-    }
-    if writes_no_bare(index, decl, tree) {
-        return Err(TypeFault::Refused {
-            cause: TypeCause::NotBare,
-        });
-    }
-    if has_empty_argument(index, marks, decl, tree) {
-        return Err(TypeFault::Refused {
-            cause: TypeCause::EmptyElement,
-        });
-    }
-    Ok(())
 }

@@ -1,36 +1,29 @@
 //! The third check: variables of functions, and calls.
-ghost use Rattle.std.specs.Prelude.{◌≡◌, ◌<◌, ◌^◌, bytes_eq, flat_map, length, map, not};
+ghost use Rattle.std.specs.Prelude.{◌≡◌, bytes_eq, flat_map, map, not};
 ghost use Rattle.std.specs.List.{count_by, list_any};
-ghost use Rattle.tl_combinators.specs.Program.{decl_text, field_text, kind_text, program_text};
-ghost use Rattle.tl_graph.specs.Firsts.{First};
-ghost use Rattle.tl_schema.specs.UnknownVariable.{UnknownVariable, called_by};
+ghost use Rattle.tl_combinators.specs.Program.{decl_text, field_text, kind_text};
+ghost use Rattle.tl_schema.specs.inner.WhatSteps.{means_variable};
+ghost use Rattle.tl_schema.specs.UnknownVariable.{called_by};
 ghost use Rattle.tl_schema.specs.inner.VariableSteps.{calls_another, leaves_uncalled};
 ghost use Rattle.tl_names.specs.Writing.{is_variable};
 
-use crate::declarations::{DeclTest, first_that};
-use crate::meanings::is_variable;
+use crate::declarations::DeclTest;
 use crate::parts::{TypeTest, is_in_fields};
-use tl_combinators::{Decl, Field, FieldKind, Program, TypeTree};
+use tl_combinators::{Decl, Field, FieldKind};
+use tl_names::{Index, Meant, MeantDecl, What, is_variable};
 
-/// The first declaration that calls a name that is no variable, or a function with a variable that doesn't stand in
+/// Whether a declaration calls a name that is no variable, or is a function with a variable that doesn't stand in
 /// exactly one field `!X`, or in the type of another.
-pub fn first_unknown_variable(program: &Program) -> Option<u32>
-    requires { length (program_text program.now) < 2 ^ 32 }
-    ensures { First (UnknownVariable (program_text program.now)) result }
-{
-    first_that(program, &Misuse)
-}
-
-// Whether a declaration has a variable or a call that is wrong.
 #[derive(Clone, Copy)]
-struct Misuse;
+pub struct Misuse;
 
 impl DeclTest for Misuse {
+    ghost use Rattle.tl_schema.specs.inner.WhatSteps.{means_variable};
     ghost use Rattle.tl_schema.specs.UnknownVariable.{MisusesVariable};
 
-    ghost holds = { λ s. MisusesVariable };
+    ghost holds = { λ s ds. MisusesVariable };
 
-    fn passes(&self, decl: &Decl) -> bool {
+    fn passes(&self, index: &Index, decl: &Decl, meant: &MeantDecl) -> bool {
         if calls_another(decl) {
             return true;
         }
@@ -40,7 +33,7 @@ impl DeclTest for Misuse {
         if leaves_uncalled(decl) {
             return true;
         }
-        is_in_fields(&decl.fields, decl, &VariableName)
+        is_in_fields(index, &meant.fields, &VariableName)
     }
 }
 
@@ -49,16 +42,27 @@ impl DeclTest for Misuse {
 struct VariableName;
 
 impl TypeTest for VariableName {
+    ghost use Rattle.tl_schema.specs.inner.WhatSteps.{means_variable};
     ghost use Rattle.tl_schema.specs.UnknownVariable.{NamesVariable};
 
-    ghost holds = { λ s. NamesVariable };
+    ghost holds = { λ s ds. NamesVariable };
 
-    fn passes(&self, decl: &Decl, tree: &TypeTree) -> bool {
-        match tree {
-            TypeTree::Named { name, .. } => is_variable(decl, name.as_slice()),
-            TypeTree::Percent { .. } => false,
-            TypeTree::AnyCall => false,
+    fn passes(&self, _index: &Index, meant: &Meant) -> bool {
+        match meant {
+            Meant::Named { what, .. } => means_variable(*what),
+            Meant::Percent { .. } => false,
+            Meant::AnyCall => false,
         }
+    }
+}
+
+// Whether a name that means this is a variable.
+fn means_variable(what: What) -> bool
+    ensures { result ≡ means_variable what }
+{
+    match what {
+        What::Variable { .. } => true,
+        _ => false,
     }
 }
 

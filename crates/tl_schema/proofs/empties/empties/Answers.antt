@@ -2,7 +2,6 @@ use Rattle.std.proofs.Common.{arith}
 use Rattle.std.proofs.lemmas.Result.{IfOk-weaker}
 use Rattle.std.specs.Option.{option_map}
 use Rattle.std.proofs.lemmas.List.{length-map}
-use Rattle.tl_combinators.specs.Program.{program_text}
 use Rattle.tl_graph.specs.Needs.{needs_in}
 use Rattle.tl_schema.proofs.EmptyNodes.{marks_empty}
 use Rattle.tl_schema.proofs.empties.empties.Goals as goal
@@ -14,5 +13,5 @@ marks_of-requires c =
 
 pub returns : goal.returns
 returns c =
-    IfOk-weaker c.marks_of.result _ _ (λ marks. marks_empty (program_text c.args.program.now) (needs_in c.in_ok-needs.needs.items) c.in_ok-needs.ensures marks.items)
+    IfOk-weaker c.marks_of.result _ _ (λ marks. marks_empty c.args.index.now (needs_in c.in_ok-needs.needs.items) c.in_ok-needs.ensures marks.items)
     (rw c.deref.ensures.value at c.marks_of.ensures)

@@ -1,26 +1,26 @@
-use Rattle.std.proofs.Common.{◌≤◌, length, refl, sym, true≢false, arith}
+use Rattle.std.proofs.Common.{◌≤◌, ap, length, refl, sym, true≢false, arith}
 use Rattle.std.proofs.lemmas.Bool.{iff_false}
 use Rattle.std.proofs.lemmas.List.{length-map}
-use Rattle.tl_combinators.specs.Program.{decl_text}
-use Rattle.tl_combinators.specs.Trees.{view, views}
-use Rattle.tl_schema.proofs.Maps.{slice_get_item}
+use Rattle.tl_names.specs.Meants.{meant}
+use Rattle.tl_names.specs.MeantViews.{meant_view}
+use Rattle.tl_schema.proofs.ForTypes.{item_for}
 use Rattle.tl_schema.proofs.MarkedArguments.{marked_item, none_marked_more, none_marked}
 use Rattle.tl_schema.proofs.empty_element.has_marked.Goals as goal
 
-pub loop-tree-init : goal.loop-tree-init
-loop-tree-init c = λ m. m.1
+pub loop-meant-init : goal.loop-meant-init
+loop-meant-init c = λ d ts same m. m.1
 
-pub loop-tree-preserved : goal.loop-tree-preserved
-loop-tree-preserved c =
-    let at = slice_get_item view c.args.trees.now c.loop-tree.tree-index c.tree-item.result c.loop-tree-test.true c.tree-item.is in
-    none_marked_more c.args.index.now c.args.marks.now (decl_text c.args.decl.now) (views c.args.trees.now) c.loop-tree.tree-index (view c.tree-item.result) at c.loop-tree.invariant (iff_false c.is_marked_bare.ensures c.if-is_marked_bare.false)
+pub loop-meant-preserved : goal.loop-meant-preserved
+loop-meant-preserved c = λ d ts same.
+    let item = item_for meant_view (meant c.args.index.now d) c.args.meants.now ts c.loop-meant.meant-index c.meant-item.result same c.loop-meant-test.true c.meant-item.is in
+    none_marked_more c.args.index.now c.args.marks.now d ts c.loop-meant.meant-index item.0 item.1 (c.loop-meant.invariant d ts same) (iff_false (c.is_marked_bare.ensures d item.0 item.2) c.if-is_marked_bare.false)
 
 pub returns-then-is_marked_bare : goal.returns-then-is_marked_bare
-returns-then-is_marked_bare c =
-    let at = slice_get_item view c.args.trees.now c.loop-tree.tree-index c.tree-item.result c.loop-tree-test.true c.tree-item.is in
-    (λ h. marked_item c.args.index.now c.args.marks.now (decl_text c.args.decl.now) (views c.args.trees.now) c.loop-tree.tree-index (view c.tree-item.result) at (c.is_marked_bare.ensures.0 c.if-is_marked_bare.true), λ m. refl)
+returns-then-is_marked_bare c = λ d ts same.
+    let item = item_for meant_view (meant c.args.index.now d) c.args.meants.now ts c.loop-meant.meant-index c.meant-item.result same c.loop-meant-test.true c.meant-item.is in
+    (λ h. marked_item c.args.index.now c.args.marks.now d ts c.loop-meant.meant-index item.0 item.1 ((c.is_marked_bare.ensures d item.0 item.2).0 c.if-is_marked_bare.true), λ m. refl)
 
 pub returns : goal.returns
-returns c =
-    let all : length (views c.args.trees.now) ≤ c.loop-tree.tree-index = omega (arith, c.loop-tree-test.false, length-map c.args.trees.now view) in
-    (λ h. absurd (true≢false (sym h)), λ m. absurd (none_marked c.args.index.now c.args.marks.now (decl_text c.args.decl.now) (views c.args.trees.now) c.loop-tree.tree-index all c.loop-tree.invariant m))
+returns c = λ d ts same.
+    let all : length ts ≤ c.loop-meant.meant-index = omega (arith, c.loop-meant-test.false, length-map c.args.meants.now meant_view, length-map ts (meant c.args.index.now d), ap length same) in
+    (λ h. absurd (true≢false (sym h)), λ m. absurd (none_marked c.args.index.now c.args.marks.now d ts c.loop-meant.meant-index all (c.loop-meant.invariant d ts same) m))

@@ -1,8 +1,9 @@
-use Rattle.std.proofs.Common.{take}
-use Rattle.tl_combinators.specs.Trees.{trees_of, views}
-use Rattle.tl_combinators.specs.Program.{decl_text}
+use Rattle.std.proofs.Common.{map, take}
+use Rattle.tl_combinators.specs.Trees.{trees_of}
+use Rattle.tl_names.specs.MeantViews.{meant_view}
 use Rattle.tl_schema.specs.inner.BareSteps.{HasMarkedArg}
+use Rattle.tl_schema.specs.inner.Resolved.{ForTypes}
 use Rattle.tl_schema.proofs.empty_element.has_marked.Given as goal
 
-abbrev pub invariant-loop-tree : goal.invariant-loop-tree
-invariant-loop-tree l = HasMarkedArg l.index l.marks (decl_text l.decl) (trees_of (take l.tree-index (views l.trees))) → ⊥
+abbrev pub invariant-loop-meant : goal.invariant-loop-meant
+invariant-loop-meant l = ForTypes l.index (map meant_view l.meants) (λ d ts. HasMarkedArg l.index l.marks d (trees_of (take l.meant-index ts)) → ⊥)

@@ -1,17 +1,16 @@
-use Rattle.std.proofs.Common.{◌≡◌, ◌∙◌, ap, subst, sym}
-use Rattle.tl_combinators.specs.Trees.{named, percent, trees_of, view, views}
-use Rattle.tl_combinators.specs.Program.{decl_text}
-use Rattle.tl_combinators.proofs.TreeViews.{view-Named, view-Percent}
+use Rattle.std.proofs.Common.{sym, subst}
+use Rattle.std.specs.Prelude.{Option, ℕ}
+use Rattle.tl_combinators.specs.Trees.{named, trees_of}
 use Rattle.tl_schema.specs.inner.BareSteps.{BareIs}
+use Rattle.tl_schema.proofs.ForTypes.{for_named, for_percent}
+use Rattle.tl_schema.proofs.NameCases.{name_bare}
 use Rattle.tl_schema.proofs.references.bare_of.Goals as goal
 
 pub returns-in-Named : goal.returns-in-Named
 returns-in-Named c =
-    let seen : view c.args.tree.now ≡ named c.in-Named.name (trees_of (views c.in-Named.args.items)) = ap view c.in-Named.is ∙ view-Named c.in-Named.name c.in-Named.args in
-    let told = rw c.as_slice.ensures.value at c.constructor_of.ensures in
-    subst (λ t. BareIs c.args.index.now (decl_text c.args.decl.now) t c.constructor_of.result) (sym seen) (told (trees_of (views c.in-Named.args.items)))
+    for_named c.args.index.now c.args.meant.now (λ d u. BareIs c.args.index.now d u c.constructor_in.result) c.in-Named.what c.in-Named.args c.in-Named.is (λ d name ts same what args.
+    subst (λ (o : Option ℕ). BareIs c.args.index.now d (named name (trees_of ts)) o) (sym c.constructor_in.ensures) (name_bare c.args.index.now d name (trees_of ts) c.in-Named.what what))
 
 pub returns-in-Percent : goal.returns-in-Percent
 returns-in-Percent c =
-    let seen : view c.args.tree.now ≡ percent (view c.deref.result.now) = ap view c.in-Percent.is ∙ view-Percent c.deref.result.now c.in-Percent.tree (sym c.deref.ensures) in
-    subst (λ t. BareIs c.args.index.now (decl_text c.args.decl.now) t c.only_of.result) (sym seen) c.only_of.ensures
+    for_percent c.args.index.now c.args.meant.now (λ d u. BareIs c.args.index.now d u c.only_of.result) c.in-Percent.meant c.deref.result.now c.in-Percent.is (sym c.deref.ensures) (λ d u same inner. c.only_of.ensures d u inner)

@@ -1,19 +1,17 @@
 use Rattle.std.proofs.Common.{◌≡◌, ◌∙◌, ap, length, arith}
-use Rattle.std.proofs.lemmas.List.{length-map, map_push}
-use Rattle.tl_combinators.specs.Program.{decl_text, program_text}
+use Rattle.std.proofs.lemmas.List.{map_push}
 use Rattle.tl_graph.specs.Paths.{edges_in}
-use Rattle.tl_schema.proofs.Maps.{slice_get_item}
+use Rattle.tl_schema.proofs.ResolvedDecls.{as_many, resolved_at}
 use Rattle.tl_schema.proofs.ReferenceLists.{first_more, first_all}
 use Rattle.tl_schema.proofs.references.references.Goals as goal
 
 pub loop-decl-preserved : goal.loop-decl-preserved
 loop-decl-preserved c =
-    let at = slice_get_item decl_text c.args.program.now.decls.items c.loop-decl.decl-index c.decl-item.result (rw c.deref-decl-items.ensures.value at c.loop-decl-test.true) (rw c.deref-decl-items.ensures.value at c.decl-item.is) in
+    let at = resolved_at c.args.index.now c.args.decls.now c.requires c.loop-decl.decl-index c.decl-item.result c.loop-decl-test.true c.decl-item.is in
     rw (ap edges_in c.in_ok-push.ensures.items ∙ map_push (λ js. js.items) c.loop-decl.edges.items c.in_ok-referred_by.field-0)
-    (first_more (program_text c.args.program.now) c.loop-decl.decl-index (edges_in c.loop-decl.edges.items) (decl_text c.decl-item.result) c.in_ok-referred_by.field-0.items at c.loop-decl.invariant (rw c.requires.same at c.in_ok-referred_by.ensures))
+    (first_more c.args.index.now c.loop-decl.decl-index (edges_in c.loop-decl.edges.items) at.0 c.in_ok-referred_by.field-0.items at.1 c.loop-decl.invariant (c.in_ok-referred_by.ensures at.0 at.2))
 
 pub returns : goal.returns
 returns c =
-    let past = rw c.deref-decl-items.ensures.value at c.loop-decl-test.false in
-    let all : length (program_text c.args.program.now) ≡ c.loop-decl.decl-index = omega (arith, past, length-map c.args.program.now.decls.items decl_text) in
-    first_all (program_text c.args.program.now) c.loop-decl.decl-index (edges_in c.loop-decl.edges.items) all c.loop-decl.invariant
+    let all : length c.args.index.now ≡ c.loop-decl.decl-index = omega (arith, c.loop-decl-test.false, c.loop-decl.auto.decl-index-end, as_many c.args.index.now c.args.decls.now c.requires) in
+    first_all c.args.index.now c.loop-decl.decl-index (edges_in c.loop-decl.edges.items) all c.loop-decl.invariant

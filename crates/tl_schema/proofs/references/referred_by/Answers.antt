@@ -1,22 +1,30 @@
-use Rattle.std.proofs.Common.{[], ◌≤◌, ◌∙◌, length, map, sym, true≢false, arith}
+use Rattle.std.proofs.Common.{[], ◌≤◌, ◌∙◌, length, ap, arith}
+use Rattle.std.proofs.lemmas.Bool.{both_ways}
 use Rattle.std.proofs.lemmas.List.{length-map}
-use Rattle.tl_combinators.specs.Program.{decl_text, field_text}
-use Rattle.tl_schema.proofs.Maps.{slice_get_item}
-use Rattle.tl_schema.proofs.AddingParts.{adds_field, refers_all, refers_none}
+use Rattle.tl_names.specs.MeantDecls.{MeantDeclView, MeantFieldView, meant_field}
+use Rattle.tl_names.specs.MeantViews.{field_view}
+use Rattle.tl_schema.proofs.Adding.{adds_nothing}
+use Rattle.tl_schema.proofs.AddingParts.{InFront, adds_field, refers_all, refers_none}
+use Rattle.tl_schema.proofs.ForTypes.{item_for}
+use Rattle.tl_schema.proofs.ResolvedDecls.{own_is}
 use Rattle.tl_schema.proofs.references.referred_by.Goals as goal
-use Rattle.tl_schema.proofs.references.referred_by.Goals.{then-is_constructor+else-loop-field-test, else-is_constructor}
+
+pub returns-then-not-is_own : goal.returns-then-not-is_own
+returns-then-not-is_own c = λ d same.
+    rw c.new-nodes.ensures.items (refers_none c.args.index.now d (λ own. both_ways _ (own_is c.args.index.now d c.args.decl.now c.is_own.result c.is_own.ensures same ∙ c.if-not-is_own.true) own))
+
+pub loop-field-init : goal.loop-field-init
+loop-field-init c = λ d fs same.
+    rw c.new-nodes.ensures.items (adds_nothing c.args.index.now d (InFront fs 0) [] (λ u held. absurd (omega (arith, held.3))))
 
 pub loop-field-preserved : goal.loop-field-preserved
-loop-field-preserved c =
-    let at = slice_get_item field_text c.args.decl.now.fields.items c.loop-field.field-index c.field-item.result (rw c.deref-field-items.ensures.value at c.loop-field-test.true) (rw c.deref-field-items.ensures.value at c.field-item.is) in
-    adds_field c.args.index.now (decl_text c.args.decl.now) (map field_text c.args.decl.now.fields.items) c.loop-field.field-index (field_text c.field-item.result) [] c.loop-field.nodes.items c.add_held.new.nodes.items at c.loop-field.invariant c.in_ok-add_held.ensures
+loop-field-preserved c = λ d fs same.
+    let item = item_for field_view (meant_field c.args.index.now d) c.args.decl.now.fields.items fs c.loop-field.field-index c.field-item.result same (rw c.deref-field-items.ensures.value at c.loop-field-test.true) (rw c.deref-field-items.ensures.value at c.field-item.is) in
+    adds_field c.args.index.now d fs c.loop-field.field-index item.0 [] c.loop-field.nodes.items c.add_held.new.nodes.items item.1 (c.loop-field.invariant d fs same) (c.in_ok-add_held.ensures d item.0.kind (ap (λ (f : MeantFieldView). f.kind) item.2))
 
 pub returns : goal.returns
-returns c = elim c.if-is_constructor.branch [
-  | then-is_constructor+else-loop-field-test w ↦
-      let past = rw w.deref-field-items.ensures.value at w.loop-field-test.false in
-      let all : length (map field_text c.args.decl.now.fields.items) ≤ w.loop-field.field-index = omega (arith, past, length-map c.args.decl.now.fields.items field_text) in
-      rw w.nodes-is (refers_all c.args.index.now (decl_text c.args.decl.now) w.loop-field.field-index w.loop-field.nodes.items (sym c.is_constructor.ensures ∙ w.if-is_constructor.true) all w.loop-field.invariant)
-  | else-is_constructor w ↦
-      rw (w.nodes-is, c.new-nodes.ensures.items) (refers_none c.args.index.now (decl_text c.args.decl.now) (λ own. true≢false (sym own ∙ sym c.is_constructor.ensures ∙ w.if-is_constructor.false)))
-]
+returns c = λ d same.
+    let fields = ap (λ (m : MeantDeclView). m.fields) same in
+    let past = rw c.deref-field-items.ensures.value at c.loop-field-test.false in
+    let all : length d.fields ≤ c.loop-field.field-index = omega (arith, past, length-map c.args.decl.now.fields.items field_view, length-map d.fields (meant_field c.args.index.now d), ap length fields) in
+    refers_all c.args.index.now d c.loop-field.field-index c.loop-field.nodes.items (own_is c.args.index.now d c.args.decl.now c.is_own.result c.is_own.ensures same ∙ c.if-not-is_own.false) all (c.loop-field.invariant d d.fields fields)

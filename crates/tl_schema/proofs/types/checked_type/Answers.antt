@@ -1,10 +1,15 @@
+use Rattle.std.proofs.Common.{refl}
 use Rattle.tl_combinators.specs.Trees.{view}
+use Rattle.tl_schema.specs.AskedTypes.{asker}
 use Rattle.tl_schema.proofs.TypeSteps.{stops, no_memory}
 use Rattle.tl_schema.proofs.types.checked_type.Goals as goal
 
+pub returns-in_err-meant : goal.returns-in_err-meant
+returns-in_err-meant c = no_memory c.args.index.now (view c.args.tree.now) c.from_residual.result c.from_residual.ensures.1
+
 pub returns-in_err-pass_type : goal.returns-in_err-pass_type
 returns-in_err-pass_type c =
-    stops c.args.index.now (view c.args.tree.now) c.in_err-pass_type.field-0.0 c.from_residual.result c.in_err-pass_type.ensures c.from_residual.ensures.1
+    stops c.args.index.now (view c.args.tree.now) c.in_err-pass_type.field-0.0 c.from_residual-in_err-pass_type.result (c.in_err-pass_type.ensures (view c.args.tree.now) (c.in_ok-meant.ensures asker refl)) c.from_residual-in_err-pass_type.ensures.1
 
 pub returns-in_err-scope : goal.returns-in_err-scope
 returns-in_err-scope c = no_memory c.args.index.now (view c.args.tree.now) c.from_residual-in_err-scope.result c.from_residual-in_err-scope.ensures.1
@@ -13,4 +18,5 @@ pub returns-in_err-term : goal.returns-in_err-term
 returns-in_err-term c = no_memory c.args.index.now (view c.args.tree.now) c.from_residual-in_err-term.result c.from_residual-in_err-term.ensures.1
 
 pub returns : goal.returns
-returns c = (c.in_ok-pass_type.ensures, rw (c.in_ok-scope.ensures.program, c.in_ok-scope.ensures.decl, c.asker-decl.ensures) at c.in_ok-term.ensures)
+returns c =
+    (c.in_ok-pass_type.ensures (view c.args.tree.now) (c.in_ok-meant.ensures asker refl), rw (c.in_ok-scope.ensures.program, c.in_ok-scope.ensures.decl, c.asker-decl.ensures) at c.in_ok-term.ensures)

@@ -1,25 +1,13 @@
-use Rattle.std.proofs.Common.{◌∙◌, sym}
-use Rattle.tl_combinators.specs.Program.{decl_text}
-use Rattle.tl_schema.specs.WrongArity as has
-use Rattle.tl_schema.proofs.ArityCases.{is_arity, of_type, of_constructor}
+use Rattle.std.proofs.Common.{Some, None, subst, sym}
+use Rattle.tl_names.specs.declared.what.What.{What}
+use Rattle.tl_schema.specs.inner.WhatSteps.{HasVars}
+use Rattle.tl_schema.proofs.HeadFamilies.{some_vars, none_vars}
 use Rattle.tl_schema.proofs.wrong_arity.arity.Goals as goal
 
-pub returns-then-is_variable : goal.returns-then-is_variable
-returns-then-is_variable c =
-    is_arity c.args.index.now (decl_text c.args.decl.now) c.args.name.now 0 (has.variable (sym c.is_variable.ensures ∙ c.if-is_variable.true))
+pub returns-in-Some : goal.returns-in-Some
+returns-in-Some c =
+    subst (λ (w : What). HasVars c.args.index.now w (Some c.in-Some.constructors.vars)) (sym c.in-Type.is) (λ type at. some_vars c.args.index.now type c.in-Some.constructors (c.in-Some.ensures type at))
 
-pub returns-then-is_vector_name : goal.returns-then-is_vector_name
-returns-then-is_vector_name c =
-    is_arity c.args.index.now (decl_text c.args.decl.now) c.args.name.now 1 (has.vector (sym c.is_variable.ensures ∙ c.if-is_variable.false) (sym c.is_vector_name.ensures ∙ c.if-is_vector_name.true))
-
-pub returns-then-is_built_in : goal.returns-then-is_built_in
-returns-then-is_built_in c =
-    is_arity c.args.index.now (decl_text c.args.decl.now) c.args.name.now 0 (has.built_in (sym c.is_variable.ensures ∙ c.if-is_variable.false) (sym c.is_vector_name.ensures ∙ c.if-is_vector_name.false) (sym c.is_built_in.ensures ∙ c.if-is_built_in.true))
-
-pub returns-then-is_type_name : goal.returns-then-is_type_name
-returns-then-is_type_name c =
-    of_type c.args.index.now (decl_text c.args.decl.now) c.args.name.now (sym c.is_variable.ensures ∙ c.if-is_variable.false) (sym c.is_built_in.ensures ∙ c.if-is_built_in.false) (sym c.is_type_name.ensures ∙ c.if-is_type_name.true) c.type_arity.result c.type_arity.ensures
-
-pub returns-else-is_type_name : goal.returns-else-is_type_name
-returns-else-is_type_name c =
-    of_constructor c.args.index.now (decl_text c.args.decl.now) c.args.name.now (sym c.is_variable.ensures ∙ c.if-is_variable.false) (sym c.is_built_in.ensures ∙ c.if-is_built_in.false) (sym c.is_type_name.ensures ∙ c.if-is_type_name.false) c.constructor_arity.result c.constructor_arity.ensures
+pub returns-in-None : goal.returns-in-None
+returns-in-None c =
+    subst (λ (w : What). HasVars c.args.index.now w None) (sym c.in-Type.is) (λ type at. none_vars c.args.index.now type (c.in-None.ensures type at))

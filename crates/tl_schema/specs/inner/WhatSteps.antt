@@ -1,0 +1,66 @@
+-- Steps of the checks: what they ask of the meaning of a name. This project's own.
+use Rattle.std.specs.Prelude.{◌≡◌, ◌↔◌, ℕ, List, Bool, true, false, IsTrue, slice_get, Option, Some, None}
+use Rattle.tl_combinators.specs.Program.{DeclText}
+use Rattle.tl_names.specs.Constructors.{IsSingle}
+use Rattle.tl_names.specs.Indexed.{var_counts}
+use Rattle.tl_names.specs.What.{type_named}
+use Rattle.tl_names.specs.Writing.{IsConstructorOf}
+use Rattle.tl_names.specs.declared.what.What.{What}
+use Rattle.tl_schema.specs.inner.Arities.{VarsOfFirst}
+use Rattle.tl_schema.specs.inner.BareSteps.{OnlyOf}
+
+abbrev pub is_unknown : What → Bool
+is_unknown (What.Variable i) = false
+is_unknown (What.Base b) = false
+is_unknown (What.Vector b) = false
+is_unknown (What.Type n) = false
+is_unknown (What.Constructor k) = false
+is_unknown What.Unknown = true
+
+abbrev pub means_variable : What → Bool
+means_variable (What.Variable i) = true
+means_variable (What.Base b) = false
+means_variable (What.Vector b) = false
+means_variable (What.Type n) = false
+means_variable (What.Constructor k) = false
+means_variable What.Unknown = false
+
+-- the constructor, if it is one
+abbrev pub constructor_in : What → Option ℕ
+constructor_in (What.Variable i) = None
+constructor_in (What.Base b) = None
+constructor_in (What.Vector b) = None
+constructor_in (What.Type n) = None
+constructor_in (What.Constructor k) = Some k
+constructor_in What.Unknown = None
+
+-- so of each type with this number
+abbrev pub OfNumber : List DeclText → ℕ → (List ℕ → Type 0) → Type 0
+OfNumber ds n P = (type : List ℕ) → type_named ds type ≡ Some n → P type
+
+-- the number of variables
+abbrev pub HasVars : List DeclText → What → Option ℕ → Type 0
+HasVars ds (What.Variable i) o = o ≡ Some 0
+HasVars ds (What.Base b) o = o ≡ Some 0
+HasVars ds (What.Vector b) o = o ≡ Some 1
+HasVars ds (What.Type n) o = OfNumber ds n (λ type. VarsOfFirst (IsConstructorOf ds type) o)
+HasVars ds (What.Constructor k) o = o ≡ slice_get (var_counts ds) k
+HasVars ds What.Unknown o = o ≡ None
+
+-- whether it has a bare form
+abbrev pub HasForm : List DeclText → What → Bool → Type 0
+HasForm ds (What.Variable i) b = b ≡ false
+HasForm ds (What.Base x) b = b ≡ false
+HasForm ds (What.Vector boxed) b = b ≡ boxed
+HasForm ds (What.Type n) b = OfNumber ds n (λ type. IsTrue b ↔ IsSingle ds type)
+HasForm ds (What.Constructor k) b = b ≡ false
+HasForm ds What.Unknown b = b ≡ false
+
+-- the only constructor of the type, if it is one
+abbrev pub HasOnly : List DeclText → What → Option ℕ → Type 0
+HasOnly ds (What.Variable i) o = o ≡ None
+HasOnly ds (What.Base x) o = o ≡ None
+HasOnly ds (What.Vector boxed) o = o ≡ None
+HasOnly ds (What.Type n) o = OfNumber ds n (λ type. OnlyOf ds type o)
+HasOnly ds (What.Constructor k) o = o ≡ None
+HasOnly ds What.Unknown o = o ≡ None
