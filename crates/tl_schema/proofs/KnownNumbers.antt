@@ -3,12 +3,14 @@ use Rattle.std.proofs.Common.{◌≡◌, ◌⊎◌, inl, inr, ℕ, ◌+◌, ◌<
 use Rattle.std.specs.Bool.{Decides}
 use Rattle.std.proofs.lemmas.Bool.{cases_eq, eq-eqb, ne_eqb}
 use Rattle.std.proofs.lemmas.Option.{same_Some, slice_get_within}
-use Rattle.indexmap.specs.IndexSet.{IndexSet, contains}
+use Rattle.std.specs.Ordering.{is_eq, nat_cmp}
+use Rattle.std.specs.BTreeSet.{BTreeSet, contains}
 use Rattle.tl_numbers.proofs.Division.{one_crc}
 use Rattle.tl_combinators.specs.Program.{DeclText}
 use Rattle.tl_names.specs.Writing.{At}
 use Rattle.tl_schema.specs.Numbers.{IsTaken}
 use Rattle.tl_schema.specs.Numbers.{IsWrittenOrCrc, IsNumberOf, IsNumbered}
+use Rattle.tl_schema.proofs.NumberTests.{number_same, number_other}
 use Rattle.tl_schema.specs.SameNumber.{SameNumber, earlier, packed, vector}
 use Rattle.tl_schema.proofs.NameKeys.{was_there, was_new}
 
@@ -31,8 +33,12 @@ IsKnown ds i n = (j : ℕ) × (j < i) × IsNumbered ds j n
 abbrev pub Knows : List DeclText → ℕ → (ℕ → Bool) → Type 0
 Knows ds i has = (n : ℕ) → Decides (has n) (IsKnown ds i n)
 
-abbrev pub KnowsNumbers : {S : Type 0} → List DeclText → ℕ → IndexSet ℕ S → Type 0
-KnowsNumbers ds i known = Knows ds i (contains nat_eq known)
+abbrev pub KnowsNumbers : List DeclText → ℕ → BTreeSet ℕ → Type 0
+KnowsNumbers ds i known = Knows ds i (contains nat_cmp known)
+
+-- numbers that compare as equal
+pub same_test : (n q : ℕ) → is_eq (nat_cmp n q) ≡ nat_eq n q
+same_test n q = elim (cases_eq n q) [ inl e ↦ number_same n q e ∙ sym (eq-eqb n q e) | inr other ↦ number_other n q other ∙ sym (ne_eqb n q other) ]
 
 pub knows_none : (ds : List DeclText) (has : ℕ → Bool) → ((n : ℕ) → has n ≡ false) → Knows ds 0 has
 knows_none ds has empty n = (λ h. absurd (true≢false (sym h ∙ empty n)), λ k. absurd (omega (arith, k.1)))

@@ -53,6 +53,7 @@ mod HeadNames
 mod TestedPlaces
 mod FirstPlaces
 mod MeantEntries
+mod NumberTests
 mod NumberedPlaces
 mod MadeLists
 mod MeantTypes

@@ -4,32 +4,16 @@ use Rattle.std.specs.Ordering.{is_eq, match_ordering, nat_cmp}
 use Rattle.std.specs.BTreeMap.{insert_entry}
 use borrow.Author.Tests.{ltb-true}
 use Rattle.std.proofs.lemmas.Bool.{ltb-false}
-use Rattle.std.proofs.lemmas.Bool.Decides.{nat_tests}
 use Rattle.std.proofs.lemmas.Option.{none-some, same_Some, slice_get_within}
 use Rattle.tl_combinators.specs.Program.{DeclText}
 use Rattle.tl_names.specs.Writing.{At}
 use Rattle.tl_schema.specs.CheckedPrograms.{FindsNumber}
 use Rattle.tl_schema.specs.Numbers.{IsNumberOf, IsNumbered}
 use Rattle.tl_schema.specs.SchemaParts.{AreNumbers, number_in}
+use Rattle.tl_schema.proofs.NumberTests.{same_number, number_same, number_other}
 use Rattle.tl_schema.proofs.KnownNumbers.{one_number}
 
 -- ---- one number more in an ordered map
-
-same_number : (m n : ℕ) → is_eq (nat_cmp m n) ≡ true → m ≡ n
-same_number m n h = grind (arith, nat_tests)
-
-number_itself : (n : ℕ) → is_eq (nat_cmp n n) ≡ true
-number_itself n = grind (arith, nat_tests)
-
-number_same : (m n : ℕ) → m ≡ n → is_eq (nat_cmp m n) ≡ true
-number_same m n same = ap (λ k. is_eq (nat_cmp m k)) (sym same) ∙ number_itself m
-
-number_other : (m n : ℕ) → (m ≡ n → ⊥) → is_eq (nat_cmp m n) ≡ false
-number_other m n other = by (is_eq (nat_cmp m n)) refl
-  where
-    by : (b : Bool) → is_eq (nat_cmp m n) ≡ b → is_eq (nat_cmp m n) ≡ false
-    by true h = absurd (other (same_number m n h))
-    by false h = h
 
 module _ (key v n : ℕ) where
   abbrev inserted : List (ℕ × ℕ) → List (ℕ × ℕ)

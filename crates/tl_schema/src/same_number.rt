@@ -6,8 +6,8 @@ ghost use Rattle.tl_schema.specs.Numbers.{IsTaken};
 ghost use Rattle.tl_schema.specs.Numbers.{IsNumberOf};
 ghost use Rattle.tl_schema.specs.SameNumber.{SameNumber};
 
-use indexmap::IndexSet;
 use std::alloc::{AllocError, Global};
+use std::collections::BTreeSet;
 use tl_combinators::{Decl, Program};
 use tl_numbers::crc32;
 
@@ -21,7 +21,7 @@ pub fn first_same_number(alloc: Global, program: &Program) -> Result<Option<u32>
     requires { length (program_text program.now) < 2 ^ 32 }
     ensures { IfOk result (First (SameNumber (program_text program.now))) }
 {
-    let mut numbers = IndexSet::new(alloc);
+    let mut numbers = BTreeSet::new(alloc);
     for (k, decl) in program.decls.iter().enumerate() {
         if !decl.builtin {
             let number = number_of(decl);
