@@ -52,6 +52,7 @@ mod HeadNames
 mod TestedPlaces
 mod FirstPlaces
 mod MeantEntries
+mod NumberTests
 mod NumberedPlaces
 mod NumberTests
 mod MadeLists
