@@ -1,5 +1,5 @@
 -- Names of declarations: which are known, and whether one more is taken.
-use Rattle.std.proofs.Common.{◌≡◌, ◌⊎◌, inl, inr, ℕ, ◌+◌, ◌-◌, ◌<◌, ◌≤◌, Bool, true, false, not, ◌||◌, Option, None, if◌then◌else◌, List, [], ◌∷◌, ◌++◌, map, length, bytes_eq, slice_get, Some, refl, ap, sym, ◌∙◌, subst, true≢false, get_or, length-append, arith}
+use Rattle.std.proofs.Common.{◌≡◌, ◌⊎◌, inl, inr, ℕ, ◌+◌, ◌-◌, ◌<◌, ◌≤◌, Bool, true, false, not, ◌||◌, Option, None, if◌then◌else◌, List, [], ◌++◌, map, length, bytes_eq, slice_get, Some, refl, ap, sym, ◌∙◌, subst, true≢false, get_or, length-append, arith}
 use Rattle.std.specs.Bool.{Decides}
 use Rattle.std.specs.Option.{is_none, is_some, unwrap_or}
 use Rattle.std.proofs.lemmas.Bool.{cases_eq, or_cases}

@@ -1,4 +1,4 @@
-use Rattle.std.proofs.Common.{◌∙◌, ◌||◌, take, [], ◌∷◌, ◌++◌, ap, sym, bytes_eq, below_more, rules, true≢false, map, arith, length-append}
+use Rattle.std.proofs.Common.{◌∙◌, ◌||◌, take, [], ◌∷◌, ap, sym, bytes_eq, below_more, rules, true≢false, map, arith, length-append}
 use Rattle.std.specs.List.{list_any}
 use Rattle.std.proofs.lemmas.List.{length-map}
 use Rattle.std.proofs.lemmas.List.Folds.{list_any-append}
