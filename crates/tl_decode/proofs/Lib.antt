@@ -6,3 +6,5 @@ pub mod FirstDeclarations
 pub mod Loops
 pub mod Values
 pub mod Opaques
+pub mod Closings
+pub mod Outcomes

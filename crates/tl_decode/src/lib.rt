@@ -2,10 +2,13 @@
 #![tactic(auto)]
 
 mod conditions;
+mod decoder;
 mod fault;
 mod items;
 mod members;
 mod plain;
 mod texts;
+mod walk;
 
 pub use fault::DecodeFault;
+pub use walk::{MAX_LEVELS, decode_walk};
