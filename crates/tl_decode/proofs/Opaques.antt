@@ -1,5 +1,5 @@
 -- An opaque value: its bytes after none.
-use Rattle.std.proofs.Common.{◌≡◌, ℕ, List, [], Option, Some, None, Result, Ok, Err, refl, sym, ap, ◌∙◌, subst}
+use Rattle.std.proofs.Common.{◌≡◌, ℕ, List, [], Option, Some, None, Result, Ok, Err, refl, sym, ◌∙◌, subst}
 use Rattle.tl_types.specs.Values as value
 use Rattle.tl_schema.specs.Types.{opaque}
 use Rattle.tl_types.specs.Seen.{view}

@@ -16,7 +16,6 @@ use Rattle.tl_types.specs.declared.cause.Cause.TheVariants.{TooDeep}
 use Rattle.tl_types.specs.declared.value.Value.{Value}
 use Rattle.tl_types.proofs.Spelling.{spelled}
 use Rattle.tl_types.proofs.Refusal.{refused}
-use Rattle.tl_types.proofs.FormedParts.{PartsTell}
 use Rattle.tl_types.proofs.SchemaTells.{schema_tells}
 use Rattle.tl_decode.specs.declared.fault.DecodeFault.{DecodeFault}
 use Rattle.tl_decode.specs.declared.fault.DecodeFault.TheVariants as fault

@@ -1,12 +1,12 @@
 -- Bytes of an announced number, taken in pieces.
-use Rattle.std.proofs.Common.{◌≡◌, ℕ, ◌+◌, ◌-◌, ◌^◌, ◌<◌, ◌≤◌, List, [], ◌++◌, length, take, drop, Option, Some, None, Result, Ok, Err, refl, ap, sym, ◌∙◌, arith, ltb, lt-ltb, le-ltb, true, false, append_assoc, append-nil, take-add, inl, inr}
+use Rattle.std.proofs.Common.{◌≡◌, ℕ, ◌+◌, ◌-◌, ◌^◌, ◌<◌, ◌≤◌, List, [], ◌++◌, length, take, drop, Option, Some, None, Ok, Err, refl, ap, sym, ◌∙◌, arith, ltb, lt-ltb, le-ltb, true, false, append_assoc, append-nil, take-add, inl, inr}
 use Rattle.std.specs.Prelude.{IfSome}
 use Rattle.std.proofs.lemmas.List.{take_at, drop_at, length-append, drop-drop}
 use Rattle.std.proofs.lemmas.Bool.{cases_lt}
 use Rattle.tl_base.specs.Taking.{TakesInto}
 use Rattle.tl_base.specs.declared.source.TakeFault.TheVariants as took
 use Rattle.tl_types.specs.Offsets.{moved}
-use Rattle.tl_types.specs.inner.Reading.{spot, ◌>>=◌, exact_at, added_at}
+use Rattle.tl_types.specs.inner.Reading.{spot, exact_at, added_at}
 use Rattle.tl_types.specs.declared.cause.Cause.TheVariants.{Truncated}
 use Rattle.tl_types.proofs.Numbers.{moved_moved, exact_again, exact_short}
 use Rattle.tl_types.proofs.Members.{some_is}

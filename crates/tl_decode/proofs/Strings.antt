@@ -1,10 +1,10 @@
 -- A string, read by parts.
-use Rattle.std.proofs.Common.{◌≡◌, ℕ, ◌+◌, ◌-◌, List, ◌++◌, length, take, drop, Option, Some, None, Result, Ok, Err, refl, sym, ap, subst, ◌∙◌, true, false}
-use Rattle.tl_types.specs.inner.Reading.{Spot, Fault, Read, ◌>>=◌, added_at, text_at, text_rest, text_head_of, text_more, text_end, all_zero, Head}
+use Rattle.std.proofs.Common.{◌≡◌, ℕ, List, take, drop, Option, Result, Ok, Err, subst, true, false}
+use Rattle.tl_types.specs.inner.Reading.{added_at, text_at, text_rest, text_head_of, text_more, text_end, all_zero, Head}
 use Rattle.tl_types.specs.declared.cause.Cause.{Cause}
 use Rattle.tl_types.specs.declared.cause.Cause.TheVariants.{BadPadding}
 use Rattle.tl_decode.specs.declared.fault.DecodeFault.{DecodeFault}
-use Rattle.tl_decode.specs.declared.fault.DecodeFault.TheVariants.{Refused, ReadFault, Memory}
+use Rattle.tl_decode.specs.declared.fault.DecodeFault.TheVariants.{Refused}
 use Rattle.tl_decode.specs.inner.Steps.{ReadsAs, four_at}
 use Rattle.tl_decode.proofs.Steps.{then_read, then_fails, gives, refuses}
 

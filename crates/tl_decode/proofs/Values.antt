@@ -1,5 +1,5 @@
 -- Values, read by parts.
-use Rattle.std.proofs.Common.{◌≡◌, ℕ, zero, suc, ◌<◌, ◌≤◌, ◌^◌, List, [], ◌∷◌, length, map, get_or, Option, Some, None, Result, Ok, Err, refl, sym, ap, ◌∙◌, subst, arith, Bool, true, false, eqb, ltb, lt-ltb, le-ltb}
+use Rattle.std.proofs.Common.{◌≡◌, ℕ, zero, suc, ◌<◌, ◌≤◌, ◌^◌, List, [], ◌∷◌, length, map, Option, Some, None, Result, Ok, Err, refl, ap, ◌∙◌, arith, Bool, true, false, lt-ltb, le-ltb}
 use Rattle.std.proofs.lemmas.Bool.{eq-eqb, ne_eqb}
 use Rattle.std.specs.Prelude.{◌≢◌, slice_get}
 use Rattle.tl_types.specs.Values.{ValueView, ValueViews, list, values_of, no_values}
@@ -12,13 +12,13 @@ use Rattle.tl_schema.specs.Seen.{slot, declaration}
 use Rattle.tl_types.proofs.Members.{fields_there}
 use Rattle.tl_types.specs.Seen.{view}
 use Rattle.tl_base.specs.declared.numbers.TheConstants.{BOXED_VECTOR}
-use Rattle.tl_types.specs.inner.Reading.{Spot, Fault, Read, Reader, ◌>>=◌, word_at, plain_at, deep_at, value_at, is_deep, long_list_at, wide_at, list_at, elements_at, each_at, fields_at, boxed_at, by_number_at, numbered_at, record_at, bare_at, fields_in, wrong_number}
+use Rattle.tl_types.specs.inner.Reading.{Spot, Read, Reader, ◌>>=◌, word_at, plain_at, deep_at, value_at, is_deep, long_list_at, wide_at, list_at, elements_at, each_at, fields_at, boxed_at, by_number_at, numbered_at, record_at, bare_at, fields_in, wrong_number}
 use Rattle.tl_types.specs.declared.cause.Cause.{Cause}
 use Rattle.tl_types.specs.declared.cause.Cause.TheVariants.{TooDeep, BadCount}
 use Rattle.tl_schema.specs.declared.schema.Entry.{Entry}
 use Rattle.tl_types.specs.declared.value.Value.{Value}
 use Rattle.tl_decode.specs.declared.fault.DecodeFault.{DecodeFault}
-use Rattle.tl_decode.specs.declared.fault.DecodeFault.TheVariants.{Refused, ReadFault, Memory}
+use Rattle.tl_decode.specs.declared.fault.DecodeFault.TheVariants.{Refused}
 use Rattle.tl_decode.specs.inner.Steps.{ReadsAs}
 use Rattle.tl_decode.proofs.Steps.{then_read, then_fails, makes, gives, refuses, as_read}
 

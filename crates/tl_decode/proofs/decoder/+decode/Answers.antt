@@ -1,4 +1,4 @@
-use Rattle.std.proofs.Common.{◌≡◌, ◌-◌, ◌+◌, ◌≤◌, ◌<◌, List, [], ◌∷◌, ◌++◌, map, length, take, drop, refl, sym, ap, ◌∙◌, rules, arith, Vec, Global, Bool, true, false}
+use Rattle.std.proofs.Common.{◌≡◌, ◌-◌, ◌+◌, List, [], ◌∷◌, ◌++◌, map, drop, refl, sym, ap, ◌∙◌, rules, arith, Vec, Global, Bool, true, false}
 use Rattle.std.specs.Prelude.{Box}
 use Rattle.tl_schema.specs.declared.schema.TypeRef.{TypeRef, Vector, the_lemmas}
 use Rattle.tl_types.specs.Values.{ValueView}
@@ -10,11 +10,10 @@ use Rattle.tl_types.specs.Seen.{view}
 use Rattle.tl_types.specs.Values as value
 use Rattle.tl_schema.specs.Types as type
 use Rattle.tl_schema.specs.Types.{Shape, shapes_of}
-use Rattle.tl_schema.specs.Closing.{list_of_shapes, closed}
-use Rattle.tl_types.specs.inner.Reading.{value_at, plain_at, deep_at, each_at, fields_at, at_field, first_from, is_member, is_function, ◌>>=◌}
+use Rattle.tl_types.specs.inner.Reading.{value_at, deep_at, each_at, fields_at, at_field, first_from, is_member, is_function, ◌>>=◌}
 use Rattle.tl_types.specs.declared.value.Value.{Value}
-use Rattle.tl_types.proofs.Views.{shape-Vector, shape-Boxed, shape-Bare, shape-Call, view-List, view-Node, view-Call, view-Absent}
-use Rattle.tl_decode.proofs.Steps.{as_read, continues_none, continues_more, continues_fails, continues_done}
+use Rattle.tl_types.proofs.Views.{shape-Vector, shape-Boxed, shape-Bare, shape-Call, view-List, view-Node, view-Call}
+use Rattle.tl_decode.proofs.Steps.{continues_none, continues_more, continues_fails, continues_done}
 use Rattle.tl_decode.proofs.Loops.{next_element, no_element, next_field, no_field}
 use Rattle.tl_decode.proofs.Values.{deep_as, deep_plain, deep_boxed, deep_bare, value_plain, value_too_deep, value_deep, wide_fails, wide_wrong, wide_read, list_fails, list_many, list_inner, list_read, number_fails, number_wrong, number_inner, number_read, bare_fails, bare_read, bare_none, fields_are, fields_past}
 use Rattle.tl_decode.proofs.Closings.{no_arguments, field_as_it_is}

@@ -1,4 +1,4 @@
-use Rattle.std.proofs.Common.{rules, refl, arith, ap, ◌∙◌, sym, length, ◌≡◌, ◌≤◌, take, drop, ◌++◌}
+use Rattle.std.proofs.Common.{rules, refl, arith, length, ◌≡◌, ◌≤◌, drop}
 use Rattle.std.proofs.lemmas.List.{take_at, length-append}
 use Rattle.std.proofs.lemmas.Grind.{common_steps}
 use Rattle.tl_base.proofs.Uses.{used_none}

@@ -1,4 +1,4 @@
-use Rattle.std.proofs.Common.{◌≤◌, ◌+◌, ◌<◌, ◌^◌, ◌≡◌, length}
+use Rattle.std.proofs.Common.{◌+◌, ◌<◌, ◌^◌, ◌≡◌, length}
 use Rattle.tl_base.specs.Using.{Used}
 use Rattle.tl_decode.proofs.Pieces.{Adding}
 use Rattle.tl_decode.proofs.items.exact_of.Given as goal

@@ -1,4 +1,4 @@
-use Rattle.std.proofs.Common.{rules, refl, ap, Ok}
+use Rattle.std.proofs.Common.{Ok}
 use Rattle.std.proofs.lemmas.Result.{err_from_is_err_and}
 use Rattle.std.specs.Int.{w32, from_le_bytes}
 use Rattle.tl_types.specs.inner.Reading.{word_at}

@@ -1,7 +1,6 @@
 use Rattle.std.proofs.Common.{◌≡◌, ℕ, List, ◌-◌, length, take, drop, ◌∙◌, sym, rules, arith, ap, refl, length-drop, Bool}
 use Rattle.tl_types.specs.inner.Reading.{all_zero}
 use Rattle.std.proofs.lemmas.List.{take_all}
-use Rattle.std.proofs.lemmas.Grind.{common_steps}
 use Rattle.std.proofs.lemmas.Result.{err_from_is_err_and}
 use Rattle.tl_decode.proofs.Strings.{rest_fails, rest_padding, rest_read}
 use Rattle.tl_decode.proofs.texts.rest_of.Goals as goal
