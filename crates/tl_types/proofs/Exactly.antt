@@ -16,7 +16,8 @@ use Rattle.tl_types.specs.Conditions.{stands_by}
 use Rattle.tl_types.specs.Spelling.{Spells, SpellsField}
 use Rattle.tl_types.specs.Refusal.{TextRefused, NumberRefused, EachRefused, FieldsRefused, ListRefused, Refused}
 use Rattle.tl_types.specs.Refusal as kind
-use Rattle.tl_types.specs.Reading.{Spot, spot, Fault, Read, moved, value_at}
+use Rattle.tl_types.specs.Offsets.{moved}
+use Rattle.tl_types.specs.inner.Reading.{Spot, spot, Fault, Read, value_at}
 use Rattle.tl_types.specs.Exactly.{BeginsWith, ExactlyOne, EachIsSpelledOrRefused}
 use Rattle.tl_types.proofs.Numbers.{same_number}
 use Rattle.tl_types.proofs.Members.{some_is}

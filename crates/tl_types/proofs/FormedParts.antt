@@ -7,7 +7,7 @@ use Rattle.tl_schema.specs.Schemas.{Slot, Declaration, Declared}
 use Rattle.tl_schema.specs.CheckedPrograms.{IsSchema}
 use Rattle.tl_schema.specs.Formed.{IsMember, IsFunction, IsOwn, IsFormed, AreArguments, count_of, field_variables}
 use Rattle.tl_schema.specs.FormedLaws.{FieldsAreFormed, ClosingKeepsFormed}
-use Rattle.tl_types.specs.Reading.{is_deep}
+use Rattle.tl_types.specs.inner.Reading.{is_deep}
 use Rattle.tl_types.proofs.Members.{NumbersTell, some_is}
 
 -- a flag or a formed type

@@ -1,3 +1,4 @@
+pub mod Views
 pub mod ClosedLists
 pub mod Numbers
 pub mod Members

@@ -13,7 +13,8 @@ use Rattle.tl_types.specs.Values as view
 use Rattle.tl_types.specs.Spelling.{vector_prefix}
 use Rattle.tl_types.specs.Refusal.{NumberRefused}
 use Rattle.tl_types.specs.Refusal as refused
-use Rattle.tl_types.specs.Reading.{Spot, spot, Fault, Reader, moved, deep_at, each_at, list_at, elements_at, long_list_at, wide_at, wrong_number}
+use Rattle.tl_types.specs.Offsets.{moved}
+use Rattle.tl_types.specs.inner.Reading.{Spot, spot, Fault, Reader, deep_at, each_at, list_at, elements_at, long_list_at, wide_at, wrong_number}
 use Rattle.tl_types.proofs.Numbers.{fault_is, word_again, word_short}
 use Rattle.tl_types.proofs.Records.{list_again}
 

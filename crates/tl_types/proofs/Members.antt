@@ -7,7 +7,7 @@ use Rattle.tl_schema.specs.Schemas.{Declaration, Declared}
 use Rattle.tl_names.specs.Places.{types_of}
 use Rattle.tl_schema.specs.Formed.{IsMember, IsFunction, IsOwn}
 use Rattle.tl_types.specs.Refusal.{IsMemberNumber, IsFunctionNumber}
-use Rattle.tl_types.specs.Reading.{first_from, is_member, is_function, fields_in}
+use Rattle.tl_types.specs.inner.Reading.{first_from, is_member, is_function, fields_in}
 
 -- what is used of the numbers of a schema's declarations
 pub record NumbersTell (schema : Declared) : Type 0 where

@@ -6,7 +6,8 @@ use Rattle.std.proofs.lemmas.Nat.{from_le_bytes-to_le_bytes_4, from_le_bytes-to_
 use Rattle.std.proofs.lemmas.Bool.{cases_lt}
 use Rattle.tl_base.specs.Contents.{AreBytes}
 use Rattle.tl_base.specs.Numbers.{word, double_word}
-use Rattle.tl_types.specs.Reading.{spot, Fault, moved, exact_at, word_at, double_at}
+use Rattle.tl_types.specs.Offsets.{moved}
+use Rattle.tl_types.specs.inner.Reading.{spot, Fault, exact_at, word_at, double_at}
 use Rattle.tl_types.specs.declared.cause.Cause.{Cause}
 use Rattle.tl_types.specs.declared.cause.Cause.TheVariants.{Truncated}
 

@@ -6,7 +6,8 @@ use Rattle.tl_schema.specs.Schemas.{Declared}
 use Rattle.tl_types.specs.Values.{ValueView, depth}
 use Rattle.tl_types.specs.Spelling.{Spells}
 use Rattle.tl_types.specs.Refusal.{Refused}
-use Rattle.tl_types.specs.Reading.{spot, Read, moved, value_at}
+use Rattle.tl_types.specs.Offsets.{moved}
+use Rattle.tl_types.specs.inner.Reading.{spot, Read, value_at}
 use Rattle.tl_types.proofs.Spelling.{spelled}
 use Rattle.tl_types.proofs.Refusal.{refused}
 use Rattle.tl_types.proofs.FormedParts.{PartsTell, IsRead}

@@ -9,7 +9,8 @@ use Rattle.tl_types.specs.declared.cause.Cause.TheVariants.{Truncated, Packed, U
 use Rattle.tl_types.specs.Values.{ValueView, ValueViews, no_values, value, values_of, list_of}
 use Rattle.tl_types.specs.Refusal.{NumberRefused}
 use Rattle.tl_types.specs.Refusal as refused
-use Rattle.tl_types.specs.Reading.{Spot, spot, Fault, Read, moved, by_number_at, numbered_at, record_at, fields_in, wrong_number}
+use Rattle.tl_types.specs.Offsets.{moved}
+use Rattle.tl_types.specs.inner.Reading.{Spot, spot, Fault, Read, by_number_at, numbered_at, record_at, fields_in, wrong_number}
 use Rattle.tl_types.proofs.Numbers.{fault_is, word_again, word_short}
 
 pub list_again : (vs : ValueViews) → values_of (list_of vs) ≡ vs

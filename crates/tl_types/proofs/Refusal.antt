@@ -12,7 +12,8 @@ use Rattle.tl_types.specs.Values.{ValueView}
 use Rattle.tl_types.specs.Values as view
 use Rattle.tl_types.specs.Refusal.{EachRefused, FieldsRefused, ListRefused, IsMemberNumber, IsFunctionNumber, Refused}
 use Rattle.tl_types.specs.Refusal as kind
-use Rattle.tl_types.specs.Reading.{spot, moved, first_from, is_member, is_function, plain_at, deep_at, is_deep, value_at, long_list_at, list_at, each_at, fields_at, record_at, bare_at}
+use Rattle.tl_types.specs.Offsets.{moved}
+use Rattle.tl_types.specs.inner.Reading.{spot, first_from, is_member, is_function, plain_at, deep_at, is_deep, value_at, long_list_at, list_at, each_at, fields_at, record_at, bare_at}
 use Rattle.tl_types.proofs.Numbers.{moved_moved, fault_is, exact_short, word_short, double_short}
 use Rattle.tl_types.proofs.Texts.{text_refused}
 use Rattle.tl_types.proofs.Members.{member_found, function_found, no_member, no_function, fields_there}

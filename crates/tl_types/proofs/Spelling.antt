@@ -11,7 +11,8 @@ use Rattle.tl_types.specs.Values as view
 use Rattle.tl_types.specs.Texts.{text_bytes}
 use Rattle.tl_types.specs.Spelling.{Begins, vector_prefix, Spells, SpellEach, SpellFields}
 use Rattle.tl_types.specs.Spelling as begins
-use Rattle.tl_types.specs.Reading.{Spot, spot, moved, first_from, is_member, is_function, plain_at, deep_at, is_deep, value_at, each_at, fields_at, fields_in, record_at, bare_at}
+use Rattle.tl_types.specs.Offsets.{moved}
+use Rattle.tl_types.specs.inner.Reading.{Spot, spot, first_from, is_member, is_function, plain_at, deep_at, is_deep, value_at, each_at, fields_at, fields_in, record_at, bare_at}
 use Rattle.tl_types.proofs.Numbers.{moved_moved, stays, exact_again, word_again, double_again}
 use Rattle.tl_types.proofs.Texts.{text_again}
 use Rattle.tl_types.proofs.Members.{NumbersTell, member_found, function_found, fields_there}

@@ -8,7 +8,8 @@ use Rattle.tl_types.specs.declared.cause.Cause.TheVariants.{Truncated, LongStrin
 use Rattle.tl_types.specs.Texts.{text_bytes, text_head, three_bytes, missing}
 use Rattle.tl_types.specs.Refusal.{TextRefused, TextHead}
 use Rattle.tl_types.specs.Refusal as text
-use Rattle.tl_types.specs.Reading.{Spot, spot, moved, exact_at, text_at, text_head_of, text_rest, text_end, text_more, all_zero, Head}
+use Rattle.tl_types.specs.Offsets.{moved}
+use Rattle.tl_types.specs.inner.Reading.{Spot, spot, exact_at, text_at, text_head_of, text_rest, text_end, text_more, all_zero, Head}
 use Rattle.tl_types.proofs.Numbers.{moved_moved, fault_is, exact_again, exact_short}
 use Rattle.tl_types.proofs.Members.{by_test}
 

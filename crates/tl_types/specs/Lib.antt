@@ -1,8 +1,9 @@
 pub mod Values
+pub mod Offsets
 pub mod Texts
 pub mod Conditions
 pub mod Spelling
 pub mod Refusal
 pub mod Exactly
-pub mod Reading
 pub mod Seen
+pub mod inner

@@ -1,5 +1,5 @@
--- Reading from left to right, with the first fault that is met: what inner clauses cite. A reader of the contracts needs none of it. This project's own.
-use Rattle.std.specs.Prelude.{ℕ, zero, suc, ◌+◌, ◌-◌, ◌*◌, ◌^◌, min, List, [], ◌∷◌, ◌++◌, length, take, drop, get_or, Option, Some, None, Result, Ok, Err, ◌&&◌, Bool, true, false, nat_lt, nat_le, ◌==◌, if◌then◌else◌}
+-- Reading from left to right, with the first fault that is met. This project's own.
+use Rattle.std.specs.Prelude.{ℕ, zero, suc, ◌+◌, ◌-◌, ◌*◌, ◌^◌, List, [], ◌∷◌, ◌++◌, length, take, drop, get_or, Option, Some, None, Result, Ok, Err, ◌&&◌, Bool, true, false, nat_lt, nat_le, ◌==◌, if◌then◌else◌}
 use Rattle.std.specs.Int.{w32, w64, from_le_bytes, cast_signed}
 use Rattle.tl_base.specs.declared.numbers.TheConstants.{BOXED_VECTOR, PACKED}
 use Rattle.tl_schema.specs.Types.{Shape, int, long, nat, opaque, str, raw, flag, call, vector, boxed, bare}
@@ -8,6 +8,7 @@ use Rattle.tl_schema.specs.Schemas.{Slot, Declaration}
 use Rattle.tl_types.specs.Values.{ValueView, ValueViews, values_of, absent, truth}
 use Rattle.tl_types.specs.Values as value
 use Rattle.tl_types.specs.Texts.{missing}
+use Rattle.tl_types.specs.Offsets.{moved}
 use Rattle.tl_types.specs.Conditions.{stands_by}
 use Rattle.tl_types.specs.declared.cause.Cause.{Cause}
 use Rattle.tl_types.specs.declared.cause.Cause.TheVariants.{TooDeep, Truncated, Packed, UnknownNumber, BadCount, LongString, LooseString, BadPadding}
@@ -31,10 +32,6 @@ infixl 10 ◌>>=◌
 abbrev pub ◌>>=◌ : {A B : Type 0} → Result A Fault → (A → Result B Fault) → Result B Fault
 (Ok x) >>= f = f x
 (Err e) >>= f = Err e
-
--- a place that stops at the type's end
-abbrev pub moved : ℕ → ℕ → ℕ
-moved place n = min (place + n) (2 ^ 64 - 1)
 
 -- the next n bytes; where the input ends inside, the fault is at the place
 unfoldable pub exact_at : ℕ → ℕ → Spot → Read (List ℕ)
