@@ -54,7 +54,6 @@ mod FirstPlaces
 mod MeantEntries
 mod NumberTests
 mod NumberedPlaces
-mod NumberTests
 mod MadeLists
 mod MeantTypes
 mod DeclaredEntries
