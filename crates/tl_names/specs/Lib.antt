@@ -10,4 +10,6 @@ pub mod Meants
 pub mod MeantDecls
 pub mod MeantViews
 pub mod Parts
-pub mod MeantParts
+pub mod BareReferences
+pub mod BareFields
+pub mod inner

@@ -35,6 +35,12 @@ is_variable d name = list_any (bytes_eq name) d.vars
 abbrev pub At : List DeclText → ℕ → DeclText → Type 0
 At ds k d = slice_get ds k ≡ Some d
 
+-- declaration k has the property
+pub record DeclarationHas (P : DeclText → Type 0) (ds : List DeclText) (k : ℕ) : Type 0 where
+  pub d : DeclText
+  pub here : At ds k d
+  pub has : P d
+
 -- an own constructor: no function, and no line of a built-in type
 abbrev pub is_constructor : DeclText → Bool
 is_constructor d = not d.function && not d.builtin

@@ -13,7 +13,7 @@ use Rattle.tl_schema.specs.AskedTypes.{asker, type_causes, PassesTypeBy, NamesTy
 use Rattle.tl_schema.specs.Formed.{IsFormed}
 use Rattle.tl_schema.specs.declared.schema.TypeRef.{TypeRef}
 use Rattle.tl_schema.specs.declared.fault.TypeFault.{TypeFault}
-use Rattle.tl_schema.proofs.HeadNames.{type_name}
+use Rattle.tl_names.proofs.HeadNames.{type_name}
 use Rattle.tl_schema.proofs.FormedTypes.{IsFine, type_formed}
 
 -- who asks has no variables

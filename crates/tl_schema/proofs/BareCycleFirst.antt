@@ -3,7 +3,7 @@ use Rattle.std.proofs.Common.{ℕ, ◌<◌, List, length, Option}
 use Rattle.tl_combinators.specs.Program.{DeclText}
 use Rattle.tl_graph.specs.Firsts.{First}
 use Rattle.tl_graph.proofs.PathsDecided.{first_step, path_decided}
-use Rattle.tl_schema.specs.BareReferences.{PointsTo}
+use Rattle.tl_names.specs.BareReferences.{PointsTo}
 use Rattle.tl_schema.specs.BareCycle.{BareCycle}
 use Rattle.tl_schema.proofs.BareDecided.{points_decided, source_within, target_within}
 use Rattle.tl_schema.proofs.Firsts.{first_of}

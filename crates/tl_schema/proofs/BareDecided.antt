@@ -10,11 +10,12 @@ use Rattle.tl_graph.specs.Firsts.{First}
 use Rattle.tl_names.specs.Writing.{is_constructor, is_type_name, is_built_in, is_variable, IsConstructorNamed}
 use Rattle.tl_names.specs.Parts.{InFields}
 use Rattle.tl_names.specs.Constructors.{IsOnlyConstructor}
-use Rattle.tl_schema.specs.BareReferences.{IsBareOf, by_name, by_type, PointsTo}
+use Rattle.tl_names.specs.BareReferences.{IsBareOf, by_name, by_type, PointsTo}
 use Rattle.tl_schema.proofs.PlacesDecided.{bool_decided}
 use Rattle.tl_schema.proofs.TypesDecided.{named_decided, percent_decided}
 use Rattle.tl_schema.proofs.WritingDecided.{at_decided, named_at_decided, only_constructor_decided, in_fields_decided}
-use Rattle.tl_schema.proofs.Firsts.{first_of, one_first}
+use Rattle.tl_schema.proofs.Firsts.{first_of}
+use Rattle.tl_names.proofs.Firsts.{one_first}
 
 -- ---- the first, and the only one
 

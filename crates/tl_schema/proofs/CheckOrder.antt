@@ -6,7 +6,7 @@ use Rattle.tl_graph.specs.Firsts.{First}
 use Rattle.tl_schema.specs.CheckCauses.{HasCause, causes, PassesBy, RefusedBy, Passes, RefusedAt}
 use Rattle.tl_schema.specs.declared.fault.CheckCause.{CheckCause}
 use Rattle.tl_schema.specs.declared.fault.CheckCause.TheVariants.{SameName, UnknownType, UnknownVariable, WrongArity, BadResult, NotBare, BadFlag, SameNumber, BareCycle, EmptyElement}
-use Rattle.tl_schema.proofs.Firsts.{one_first}
+use Rattle.tl_names.proofs.Firsts.{one_first}
 use Rattle.tl_schema.proofs.SameNameFirst.{same_name_first}
 use Rattle.tl_schema.proofs.UnknownTypeFirst.{unknown_type_first}
 use Rattle.tl_schema.proofs.UnknownVariableFirst.{unknown_variable_first}

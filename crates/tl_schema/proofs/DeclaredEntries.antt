@@ -7,7 +7,7 @@ use Rattle.tl_combinators.specs.Program.{DeclText, IsWithinLimits}
 use Rattle.tl_names.specs.Writing.{At, is_function}
 use Rattle.tl_schema.specs.Schemas.{Declaration, Declared}
 use Rattle.tl_schema.specs.Meanings.{IsEntry, IsSmall}
-use Rattle.tl_schema.specs.inner.BareSteps.{MarksEmpty}
+use Rattle.tl_names.specs.inner.BareSteps.{MarksEmpty}
 use Rattle.tl_schema.specs.CheckCauses.{Passes}
 use Rattle.tl_schema.specs.CheckedPrograms.{HasName, Finds}
 use Rattle.tl_names.specs.NamePlaces.{Notes, place_in}
@@ -15,7 +15,7 @@ use Rattle.tl_schema.specs.inner.NamesNoted.{NotesOne, among, Enters}
 use Rattle.tl_schema.specs.inner.SchemaParts.{AreNumbers, ArePlaces, IsSound}
 use Rattle.tl_schema.specs.declared.checks.Known.{Known}
 use Rattle.tl_schema.proofs.SmallPrograms.{small_within_limits}
-use Rattle.tl_schema.proofs.Places.{IsPlace, first_same, first_with, first_without, get_cases}
+use Rattle.tl_names.proofs.Places.{IsPlace, first_same, first_with, first_without, get_cases}
 
 -- ---- names
 

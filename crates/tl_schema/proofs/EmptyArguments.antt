@@ -3,11 +3,12 @@ use Rattle.std.proofs.Common.{◌↔◌, ℕ, Bool, List, Option}
 use Rattle.tl_combinators.specs.Trees.{Tree, named, percent, any_call}
 use Rattle.tl_combinators.specs.Program.{DeclText}
 use Rattle.tl_graph.specs.Firsts.{First}
-use Rattle.tl_schema.specs.Writing.{DeclarationHas}
+use Rattle.tl_names.specs.Writing.{DeclarationHas}
 use Rattle.tl_names.specs.Parts.{SomePart, SomeWritten}
 use Rattle.tl_schema.specs.EmptyElement.{AppliesToEmpty, EmptyElement}
-use Rattle.tl_schema.specs.inner.BareSteps.{MarksEmpty, AppliesToMarked}
-use Rattle.tl_schema.proofs.Places.{first_same}
+use Rattle.tl_names.specs.inner.BareSteps.{MarksEmpty}
+use Rattle.tl_schema.specs.inner.MarkedSteps.{AppliesToMarked}
+use Rattle.tl_names.proofs.Places.{first_same}
 
 module _ (ds : List DeclText) (marks : List Bool) (empty : MarksEmpty ds marks) (d : DeclText) where
   applies_to_empty : (u : Tree) → AppliesToMarked ds marks d u → AppliesToEmpty ds d u

@@ -7,8 +7,9 @@ use Rattle.tl_combinators.specs.Program.{DeclText}
 use Rattle.tl_graph.specs.Firsts.{First}
 use Rattle.tl_graph.proofs.Deciding.{below_decided}
 use Rattle.tl_names.specs.Parts.{SomeWritten}
-use Rattle.tl_schema.specs.BareReferences.{IsBareOf}
-use Rattle.tl_schema.specs.EmptyElement.{TakesNone, IsOneOf, AppliesToEmpty, EmptyElement}
+use Rattle.tl_names.specs.BareReferences.{IsBareOf}
+use Rattle.tl_names.specs.BareFields.{TakesNone}
+use Rattle.tl_schema.specs.EmptyElement.{IsOneOf, AppliesToEmpty, EmptyElement}
 use Rattle.tl_schema.proofs.WritingDecided.{writes_decided}
 use Rattle.tl_schema.proofs.BareDecided.{bare_of_decided, bare_within}
 use Rattle.tl_schema.proofs.TakesNoneDecided.{takes_none_decided}

@@ -21,11 +21,11 @@ use Rattle.tl_names.specs.Places.{variable_of}
 use Rattle.tl_schema.specs.Meanings.{kind_shape, field_place, condition_of, slot_of, declaration_of}
 use Rattle.tl_schema.specs.Formed.{IsFormedOver, IsCondition, IsFormedField}
 use Rattle.tl_schema.specs.FormedLaws.{FieldsAreFormed}
-use Rattle.tl_schema.proofs.HeadNames.{type_name}
+use Rattle.tl_names.proofs.HeadNames.{type_name}
 use Rattle.tl_schema.proofs.BadFlagFirst.{flags_before_decided}
 use Rattle.tl_schema.proofs.ListParts.{slice_get_behind}
-use Rattle.tl_schema.proofs.Maps.{slice_get_made}
-use Rattle.tl_schema.proofs.TestedPlaces.{first_passes}
+use Rattle.tl_names.proofs.Maps.{slice_get_made}
+use Rattle.tl_names.proofs.TestedPlaces.{first_passes}
 use Rattle.tl_schema.proofs.TypePlaces.{first_that_passes}
 use Rattle.tl_schema.proofs.Members.{declaration_at}
 use Rattle.tl_schema.proofs.FormedTypes.{IsFine, type_formed}

@@ -7,7 +7,7 @@ use Rattle.tl_combinators.specs.Program.{DeclText}
 use Rattle.tl_combinators.proofs.Decided.{decided_as}
 use Rattle.tl_graph.specs.Firsts.{First}
 use Rattle.tl_names.specs.Writing.{At}
-use Rattle.tl_schema.specs.Writing.{DeclarationHas}
+use Rattle.tl_names.specs.Writing.{DeclarationHas}
 use Rattle.tl_schema.proofs.PlacesDecided.{option_decided}
 
 -- no place below n has it
@@ -38,16 +38,6 @@ module _ (P : ℕ → Type 0) where
   -- a decided property that no place from n on has
   pub first_of : (n : ℕ) → ((k : ℕ) → Decided (P k)) → ((k : ℕ) → P k → k < n) → (o : Option ℕ) × First P o
   first_of n test within = answered n within (first_below test n)
-
-  pub one_first : (o p : Option ℕ) → First P o → First P p → o ≡ p
-  one_first None None f g = refl
-  one_first None (Some k) f g = absurd (f k g.0)
-  one_first (Some k) None f g = absurd (g k f.0)
-  one_first (Some k) (Some l) f g = elim (cases_order k l) [
-    | inl e ↦ ap Some e
-    | inr (inl less) ↦ absurd (g.1 k less f.0)
-    | inr (inr more) ↦ absurd (f.1 l more g.0)
-  ]
 
 -- the first declaration that is such: where P says of a place that its declaration is Q
 module _ (ds : List DeclText) (P : ℕ → Type 0) (Q : ℕ → DeclText → Type 0) (made : (k : ℕ) (d : DeclText) → At ds k d → Q k d → P k) (of : (k : ℕ) → P k → (d : DeclText) × At ds k d × Q k d) where

@@ -15,19 +15,20 @@ use Rattle.tl_schema.specs.WrongArity as has
 use Rattle.tl_names.specs.Constructors.{IsOnlyConstructor}
 use Rattle.tl_schema.specs.NotBare.{HasBare, HasNoBare}
 use Rattle.tl_schema.specs.NotBare as only
-use Rattle.tl_schema.specs.EmptyElement.{AppliesToEmpty, IsOneOf, TakesNone}
-use Rattle.tl_schema.specs.BareReferences.{IsBareOf, by_name, by_type}
+use Rattle.tl_schema.specs.EmptyElement.{AppliesToEmpty, IsOneOf}
+use Rattle.tl_names.specs.BareFields.{TakesNone}
+use Rattle.tl_names.specs.BareReferences.{IsBareOf, by_name, by_type}
 use Rattle.tl_schema.specs.Types.{Shape, var, vector, boxed, bare, Shapes, no_shapes, shape}
 use Rattle.tl_schema.specs.Schemas.{Declared}
 use Rattle.tl_schema.specs.CheckedPrograms.{IsSchema}
 use Rattle.tl_names.specs.Places.{head_of, place_of, first_of, variable_of}
 use Rattle.tl_schema.specs.Meanings.{item_of, base_shape, declared_shape, known_shape, named_shape, bare_shape, meaning, meanings}
 use Rattle.tl_schema.specs.Formed.{AppliesBare, IsFormedOver, AreArguments, IsEmpty, count_of}
-use Rattle.tl_schema.proofs.HeadNames.{type_name}
+use Rattle.tl_names.proofs.HeadNames.{type_name}
 use Rattle.tl_schema.proofs.WritingDecided.{constructor_at_decided, named_at_decided}
 use Rattle.tl_schema.proofs.NotBareFirst.{bare_decided}
 use Rattle.tl_schema.proofs.Firsts as firsts
-use Rattle.tl_schema.proofs.FirstPlaces.{place_found, first_found}
+use Rattle.tl_names.proofs.FirstPlaces.{place_found, first_found}
 use Rattle.tl_schema.proofs.BuiltInNames.{if_by, base_by, type_not_built_in, shapeless_not_built_in}
 use Rattle.tl_schema.proofs.Members.{applies_type, applies_bare, type_made}
 

@@ -11,9 +11,7 @@ use Rattle.tl_names.specs.What.{type_named}
 use Rattle.tl_names.specs.declared.index.Constructors.{Constructors}
 use Rattle.tl_names.proofs.NameMeanings.{type_first}
 use Rattle.tl_schema.specs.inner.Arities.{VarsOfFirst, IsArity}
-use Rattle.tl_schema.specs.inner.BareSteps.{OnlyOf}
 use Rattle.tl_schema.specs.WrongArity.{ConstructsUneven, IsMisapplied}
-use Rattle.tl_names.specs.Constructors.{IsOnlyConstructor}
 use Rattle.tl_schema.proofs.ArityCases.{first_has, none_has}
 
 module _ (ds : List DeclText) (type : List ℕ) where
@@ -28,20 +26,6 @@ module _ (ds : List DeclText) (type : List ℕ) where
 
   pub none_vars : IsFamily ds type None → VarsOfFirst (IsConstructorOf ds type) None
   none_vars none = none_has (IsConstructorOf ds type) none
-
-  pub some_only : (c : Constructors) → IsFamily ds type (Some c) → c.only ≡ true → OnlyOf ds type (Some c.first)
-  some_only c family only j =
-      let one = family.only.0 only in
-      let first = one.2.only c.first family.first.0.0 family.first.0.1 in (
-        λ has. ap Some (first ∙ has.1.only one.0 one.1 one.2.one),
-        λ e. let same : one.0 ≡ j = sym first ∙ same_Some c.first j e in (one.1, subst (λ k. IsOnlyConstructor ds type k one.1) same one.2),
-      )
-
-  pub some_others : (c : Constructors) → IsFamily ds type (Some c) → c.only ≡ false → OnlyOf ds type None
-  some_others c family several j = (λ has. absurd (true≢false (sym (family.only.1 (j, has.0, has.1)) ∙ several)), λ e. absurd (none-some j e))
-
-  pub none_only : IsFamily ds type None → OnlyOf ds type None
-  none_only none j = (λ has. absurd (none j (has.0, has.1.one)), λ e. absurd (none-some j e))
 
 -- ---- the type that d constructs
 

@@ -1,6 +1,4 @@
 pub mod Deciding
-pub mod Places
-pub mod PartsOfOne
 pub mod BareParts
 pub mod AppliedTypes
 pub mod SameNames
@@ -8,9 +6,6 @@ pub mod Results
 mod TypeNames
 pub mod SmallPrograms
 pub mod FieldConditions
-mod Maps
-mod ForTypes
-mod ResolvedDecls
 mod NameCases
 mod HeadFamilies
 mod Repeats
@@ -38,23 +33,12 @@ pub mod TakesNoneDecided
 pub mod SameNumberFirst
 pub mod BareCycleFirst
 pub mod EmptyElementFirst
-pub mod BareMeanings
-pub mod Adding
-pub mod AddingParts
-pub mod ReferenceLists
 mod ReferenceCycles
 mod KnownNumbers
-mod OneBare
-mod EmptyNodes
-mod BareFields
 mod MarkedArguments
-mod HeadNames
-mod TestedPlaces
-mod FirstPlaces
 mod MeantEntries
 mod NumberTests
 mod NumberedPlaces
-mod MadeLists
 mod MeantTypes
 mod DeclaredEntries
 mod EmptyArguments

@@ -7,8 +7,9 @@ use Rattle.tl_combinators.specs.Trees.{Tree, trees_of}
 use Rattle.tl_combinators.specs.Program.{DeclText}
 use Rattle.tl_graph.specs.Needs.{IsMarked}
 use Rattle.tl_schema.specs.EmptyElement.{IsOneOf}
-use Rattle.tl_schema.specs.inner.BareSteps.{BareIs, IsMarkedBare, HasMarkedArg}
-use Rattle.tl_schema.proofs.Maps.{take_push}
+use Rattle.tl_names.specs.inner.BareSteps.{BareIs}
+use Rattle.tl_schema.specs.inner.MarkedSteps.{IsMarkedBare, HasMarkedArg}
+use Rattle.tl_names.proofs.Maps.{take_push}
 
 -- ---- one of several types
 

@@ -13,7 +13,7 @@ use Rattle.tl_names.proofs.Maps.{slice_get_made}
 use Rattle.tl_schema.specs.Meanings.{condition_of, declaration_of, head_in, result_shape, slot_of}
 use Rattle.tl_schema.specs.Schemas.{Declaration, Slot}
 use Rattle.tl_schema.specs.Types.{Shape}
-use Rattle.tl_schema.proofs.TestedPlaces.{position_unwrapped}
+use Rattle.tl_names.proofs.TestedPlaces.{position_unwrapped}
 
 -- the number of its type, or the number of types
 pub head_unwrapped : (ds : List DeclText) (o : Option (List ℕ)) → unwrap_or (head_number ds o) (length (types_of ds)) ≡ head_in ds o

@@ -6,10 +6,10 @@ use Rattle.tl_combinators.specs.Program.{DeclText}
 use Rattle.tl_graph.specs.Firsts.{First}
 use Rattle.tl_graph.specs.Paths.{Edge, IsGraph, IsOnCycle}
 use Rattle.tl_graph.proofs.GraphPaths.{along}
-use Rattle.tl_schema.specs.BareReferences.{IsBareOf, by_name, by_type, PointsTo}
+use Rattle.tl_names.specs.BareReferences.{IsBareOf, by_name, by_type, PointsTo}
 use Rattle.tl_schema.specs.BareCycle.{BareCycle}
-use Rattle.tl_schema.specs.inner.BareSteps.{AreReferences}
-use Rattle.tl_schema.proofs.Places.{first_same}
+use Rattle.tl_names.specs.inner.BareSteps.{AreReferences}
+use Rattle.tl_names.proofs.Places.{first_same}
 
 -- a constructor that is referred to stands in the list
 bare_within : (ds : List DeclText) (d : DeclText) (t : Tree) (j : ℕ) → IsBareOf ds d t j → j < length ds

@@ -10,7 +10,7 @@ use Rattle.tl_combinators.proofs.AppliedNames.{holds_of_applied}
 use Rattle.tl_combinators.proofs.TreeViews.{view-Named}
 use Rattle.tl_names.specs.Writing.{is_type_name, is_variable, is_constructor}
 use Rattle.tl_schema.specs.BadResult.{IsGoodResult, HasBadResult}
-use Rattle.tl_schema.proofs.Maps.{take_push}
+use Rattle.tl_names.proofs.Maps.{take_push}
 
 -- ---- types in order
 

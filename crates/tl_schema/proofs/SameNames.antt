@@ -14,7 +14,7 @@ use Rattle.tl_schema.specs.SameName.{SameName, declared, part, vector, part_name
 use Rattle.tl_schema.specs.inner.SameNameSteps.{is_noted, names_among, AddsName, MakesVector, NotesName}
 use Rattle.tl_schema.specs.declared.same_name.Known.{Known}
 use Rattle.std.proofs.lemmas.List.{length-map}
-use Rattle.tl_schema.proofs.Maps.{slice_get_made, slice_get_item}
+use Rattle.tl_names.proofs.Maps.{slice_get_made, slice_get_item}
 use Rattle.tl_schema.proofs.ListParts.{slice_get_behind}
 
 -- ---- names that are known

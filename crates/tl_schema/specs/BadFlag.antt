@@ -3,7 +3,7 @@
 use Rattle.std.specs.Prelude.{◌≡◌, ◌⊎◌, ℕ, ◌<◌, List, Option, Some, None}
 use Rattle.tl_combinators.specs.Program.{nat, CondText, FieldText, DeclText}
 use Rattle.tl_names.specs.Parts.{FieldAt}
-use Rattle.tl_schema.specs.Writing.{DeclarationHas}
+use Rattle.tl_names.specs.Writing.{DeclarationHas}
 
 -- a field before the place i is `#`, and has this name
 pub record IsFlagsBefore (d : DeclText) (i : ℕ) (flags : List ℕ) : Type 0 where

@@ -4,7 +4,7 @@ use Rattle.std.specs.Prelude.{◌≡◌, ℕ, List, map, true, false}
 use Rattle.tl_combinators.specs.Trees.{named, plain, trees_of}
 use Rattle.tl_combinators.specs.Program.{DeclText}
 use Rattle.tl_names.specs.Writing.{is_type_name, is_variable, is_constructor}
-use Rattle.tl_schema.specs.Writing.{DeclarationHas}
+use Rattle.tl_names.specs.Writing.{DeclarationHas}
 
 -- the result is the name of a type, applied to exactly the declaration's variables in order
 pub record IsGoodResult (d : DeclText) : Type 0 where

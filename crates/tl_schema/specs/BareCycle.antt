@@ -3,7 +3,7 @@
 use Rattle.std.specs.Prelude.{ℕ, List}
 use Rattle.tl_combinators.specs.Program.{DeclText}
 use Rattle.tl_graph.specs.Paths.{IsOnCycle}
-use Rattle.tl_schema.specs.BareReferences.{PointsTo}
+use Rattle.tl_names.specs.BareReferences.{PointsTo}
 
 -- declaration k stands on a cycle of constructors of which each refers to the next
 abbrev pub BareCycle : List DeclText → ℕ → Type 0

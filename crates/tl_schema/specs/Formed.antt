@@ -7,7 +7,7 @@ use Rattle.tl_schema.specs.Types.{Shape, nat, flag, var, vector, boxed, bare, Sh
 use Rattle.tl_schema.specs.Schemas.{Slot, Declaration, Declared}
 use Rattle.tl_names.specs.Writing.{At}
 use Rattle.tl_names.specs.Places.{types_of}
-use Rattle.tl_schema.specs.EmptyElement.{TakesNone}
+use Rattle.tl_names.specs.BareFields.{TakesNone}
 
 -- declaration i is d, a constructor of the type with the number h
 pub record IsMember (schema : Declared) (h i : ℕ) (d : Declaration) : Type 0 where

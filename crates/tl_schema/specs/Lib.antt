@@ -1,7 +1,6 @@
 pub mod Types
 pub mod Schemas
 pub mod Seen
-pub mod Writing
 pub mod SameName
 pub mod UnknownType
 pub mod UnknownVariable
@@ -11,7 +10,6 @@ pub mod NotBare
 pub mod BadFlag
 pub mod Numbers
 pub mod SameNumber
-pub mod BareReferences
 pub mod BareCycle
 pub mod EmptyElement
 pub mod CheckCauses

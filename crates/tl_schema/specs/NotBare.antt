@@ -5,7 +5,7 @@ use Rattle.tl_combinators.specs.Trees.{Tree, Trees, named, percent, any_call}
 use Rattle.tl_combinators.specs.Program.{DeclText}
 use Rattle.tl_names.specs.Constructors.{IsOnlyConstructor}
 use Rattle.tl_names.specs.Writing.{is_type_name, is_variable}
-use Rattle.tl_schema.specs.Writing.{DeclarationHas}
+use Rattle.tl_names.specs.Writing.{DeclarationHas}
 use Rattle.tl_names.specs.Parts.{SomeWritten}
 
 -- the type has a bare form: it is `Vector`, or a type with exactly one constructor

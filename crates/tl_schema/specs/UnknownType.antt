@@ -4,7 +4,7 @@ use Rattle.std.specs.Prelude.{◌≡◌, ℕ, List, true, false}
 use Rattle.tl_combinators.specs.Trees.{Tree, named, percent, any_call}
 use Rattle.tl_combinators.specs.Program.{DeclText}
 use Rattle.tl_names.specs.Writing.{is_type_name, is_built_in, is_variable, IsConstructorOf, IsConstructorNamed}
-use Rattle.tl_schema.specs.Writing.{DeclarationHas}
+use Rattle.tl_names.specs.Writing.{DeclarationHas}
 use Rattle.tl_names.specs.Parts.{SomeWritten}
 
 -- no constructor makes the type, or no constructor has the name

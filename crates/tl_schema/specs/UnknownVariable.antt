@@ -5,7 +5,7 @@ use Rattle.std.specs.List.{count_by}
 use Rattle.tl_combinators.specs.Trees.{Tree, named, percent, any_call}
 use Rattle.tl_combinators.specs.Program.{KindText, nat, flag, call, of, DeclText}
 use Rattle.tl_names.specs.Writing.{is_variable}
-use Rattle.tl_schema.specs.Writing.{DeclarationHas}
+use Rattle.tl_names.specs.Writing.{DeclarationHas}
 use Rattle.tl_names.specs.Parts.{SomeInFields}
 
 abbrev pub called_by : KindText → List (List ℕ)

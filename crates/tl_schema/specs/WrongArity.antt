@@ -5,7 +5,7 @@ use Rattle.tl_combinators.specs.Trees.{Tree, Trees, named, percent, any_call, no
 use Rattle.tl_combinators.specs.Program.{DeclText}
 use Rattle.tl_names.specs.Constructors.{IsUneven}
 use Rattle.tl_names.specs.Writing.{is_type_name, is_vector_name, is_built_in, is_variable, own_type, IsConstructorOf, IsConstructorNamed}
-use Rattle.tl_schema.specs.Writing.{DeclarationHas}
+use Rattle.tl_names.specs.Writing.{DeclarationHas}
 use Rattle.tl_names.specs.Parts.{SomeWritten}
 
 abbrev pub count_of : Trees → ℕ

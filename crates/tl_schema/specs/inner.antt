@@ -4,11 +4,11 @@ pub mod SameNameSteps
 pub mod Arities
 pub mod VariableSteps
 pub mod WhatSteps
-pub mod Resolved
+pub mod AskedForms
 pub mod BareForms
 pub mod ConditionSteps
 pub mod TakenNumbers
-pub mod BareSteps
+pub mod MarkedSteps
 pub mod CheckSteps
 pub mod SchemaParts
 pub mod NamesNoted

@@ -4,9 +4,8 @@ ghost use Rattle.tl_combinators.specs.Program.{cond_texts, decl_text, field_text
 ghost use Rattle.tl_schema.specs.BadFlag.{HasBadCondition, IsBadCondition, IsFlagsBefore};
 ghost use Rattle.tl_schema.specs.inner.ConditionSteps.{IsFlags};
 
-use crate::declarations::DeclTest;
 use tl_combinators::{Cond, Decl, Field, FieldKind};
-use tl_names::{Index, MeantDecl};
+use tl_names::{DeclTest, Index, MeantDecl};
 
 /// The highest bit of a `#` field.
 const LAST_BIT: u32 = 31;

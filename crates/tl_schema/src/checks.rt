@@ -3,7 +3,7 @@ ghost use Rattle.std.specs.Prelude.{◌≡◌, ℕ, IfOk, OnOk, map};
 ghost use Rattle.tl_combinators.specs.Program.{HasFewParts, IsWithinLimits, decl_text, program_text};
 ghost use Rattle.tl_names.specs.MeantDecls.{meant_decl};
 ghost use Rattle.tl_names.specs.MeantViews.{decl_view};
-ghost use Rattle.tl_schema.specs.inner.BareSteps.{MarksEmpty};
+ghost use Rattle.tl_names.specs.inner.BareSteps.{MarksEmpty};
 ghost use Rattle.tl_schema.specs.CheckCauses.{Passes, RefusedAt};
 ghost use Rattle.tl_schema.specs.CheckedPrograms.{Checks, GivesSchema, IsSchemaOf, RefusesProgram};
 ghost use Rattle.tl_schema.specs.declared.fault.CheckCause.{CheckCause};

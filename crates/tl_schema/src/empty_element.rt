@@ -2,13 +2,11 @@
 ghost use Rattle.std.specs.Prelude.{◌↔◌, IsTrue, map};
 ghost use Rattle.tl_combinators.specs.Trees.{trees_of};
 ghost use Rattle.tl_names.specs.MeantViews.{meant_view};
-ghost use Rattle.tl_schema.specs.inner.BareSteps.{HasMarkedArg, IsMarkedBare};
-ghost use Rattle.tl_schema.specs.inner.Resolved.{ForType, ForTypes};
+ghost use Rattle.tl_schema.specs.inner.MarkedSteps.{HasMarkedArg, IsMarkedBare};
+ghost use Rattle.tl_names.specs.inner.Resolved.{ForType, ForTypes};
 
-use crate::parts::TypeTest;
-use crate::references::bare_of;
 use tl_graph::is_marked;
-use tl_names::{Index, Meant};
+use tl_names::{Index, Meant, TypeTest, bare_of};
 
 /// Whether a type applies a name to a bare constructor that is marked.
 #[derive(Clone, Copy)]
@@ -17,7 +15,7 @@ pub struct EmptyArgument<'t> {
 }
 
 impl<'t> TypeTest for EmptyArgument<'t> {
-    ghost use Rattle.tl_schema.specs.inner.BareSteps.{AppliesToMarked};
+    ghost use Rattle.tl_schema.specs.inner.MarkedSteps.{AppliesToMarked};
 
     ghost holds = { λ s ds. AppliesToMarked ds s.marks.now };
 

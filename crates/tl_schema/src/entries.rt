@@ -10,11 +10,10 @@ ghost use Rattle.tl_schema.specs.Meanings.{IsEntry, IsEntryNumber, condition_of,
 
 use crate::same_number::{VECTOR, number_of};
 use crate::schema::{Entry, SchemaField, TypeRef};
-use crate::scope::Scope;
 use crate::terms::{base_term, type_term};
 use std::alloc::{AllocError, Global};
 use tl_combinators::{Decl, Field, FieldKind};
-use tl_names::{Index, MeantCond, MeantDecl, MeantField, is_function};
+use tl_names::{Index, MeantCond, MeantDecl, MeantField, Scope, is_function};
 
 /// The entry of a declaration, of which the names of fields and of its own type are resolved.
 pub fn entry_of(

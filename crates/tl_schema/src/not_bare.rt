@@ -2,11 +2,10 @@
 ghost use Rattle.std.specs.Prelude.{◌↔◌, IsTrue};
 ghost use Rattle.tl_names.specs.MeantViews.{meant_view};
 ghost use Rattle.tl_schema.specs.NotBare.{HasBare};
-ghost use Rattle.tl_schema.specs.inner.Resolved.{ForType};
+ghost use Rattle.tl_names.specs.inner.Resolved.{ForType};
 ghost use Rattle.tl_schema.specs.inner.WhatSteps.{HasForm};
 
-use crate::parts::TypeTest;
-use tl_names::{Index, Meant, What};
+use tl_names::{Index, Meant, TypeTest, What};
 
 /// Whether a type is `%` before one with no bare form, which `Vector` and each type with exactly one constructor have.
 /// From "TL language" (core.telegram.org/mtproto/TL), its bare types.

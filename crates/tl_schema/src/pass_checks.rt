@@ -3,18 +3,15 @@ ghost use Rattle.std.specs.Prelude.{◌≡◌, ◌<◌, ◌^◌, Err, IfErr, IfO
 ghost use Rattle.tl_combinators.specs.Program.{program_text};
 ghost use Rattle.tl_names.specs.MeantDecls.{meant_decl};
 ghost use Rattle.tl_names.specs.MeantViews.{decl_view};
-ghost use Rattle.tl_schema.specs.inner.BareSteps.{MarksEmpty};
+ghost use Rattle.tl_names.specs.inner.BareSteps.{MarksEmpty};
 ghost use Rattle.tl_schema.specs.CheckCauses.{Passes, PassesBy, meaning_causes, name_causes, reference_causes};
 ghost use Rattle.tl_schema.specs.inner.CheckSteps.{ChecksBy, Found, PassesChecks};
-ghost use Rattle.tl_schema.specs.inner.Resolved.{AreResolved};
+ghost use Rattle.tl_names.specs.inner.Resolved.{AreResolved};
 
 use crate::bad_flag::BadCondition;
 use crate::bad_result::OtherResult;
-use crate::declarations::{first_that, first_that_writes};
-use crate::empties::empties;
 use crate::empty_element::EmptyArgument;
 use crate::not_bare::NoBare;
-use crate::references::references;
 use crate::same_name::first_same_name;
 use crate::same_number::first_same_number;
 use crate::unknown_type::UnknownName;
@@ -24,7 +21,7 @@ use crate::{CheckCause, CheckFault};
 use std::alloc::Global;
 use tl_combinators::Program;
 use tl_graph::{components_of, first_on_cycle};
-use tl_names::{Index, MeantDecl};
+use tl_names::{Index, MeantDecl, empties, first_that, first_that_writes, references};
 
 // The fault of a declaration that was found, if one was.
 fn fault_at(found: Option<u32>, cause: CheckCause) -> Result<(), CheckFault>

@@ -2,16 +2,15 @@
 ghost use Rattle.std.specs.Prelude.{◌≡◌, Err};
 ghost use Rattle.tl_names.specs.MeantViews.{meant_view};
 ghost use Rattle.tl_schema.specs.inner.TypeSteps.{PassesType};
-ghost use Rattle.tl_schema.specs.inner.BareSteps.{MarksEmpty};
-ghost use Rattle.tl_schema.specs.inner.Resolved.{ForAsked};
+ghost use Rattle.tl_names.specs.inner.BareSteps.{MarksEmpty};
+ghost use Rattle.tl_schema.specs.inner.AskedForms.{ForAsked};
 
 use crate::empty_element::EmptyArgument;
 use crate::not_bare::NoBare;
-use crate::parts::has_part;
 use crate::unknown_type::UnknownName;
 use crate::wrong_arity::Application;
 use crate::{TypeCause, TypeFault};
-use tl_names::{Index, Meant};
+use tl_names::{Index, Meant, has_part};
 
 /// Refuses a type for the first cause that it has, where these constructors take no bytes.
 pub fn pass_type(index: &Index, marks: &[bool], meant: &Meant) -> Result<(), TypeFault>

@@ -1,7 +1,7 @@
 //! Declarations and types of a schema.
 ghost use Rattle.std.specs.Prelude.{◌≡◌, ◌<◌, length, map, slice_get, Some};
 ghost use Rattle.tl_schema.specs.Seen.{declaration};
-ghost use Rattle.tl_schema.specs.inner.BareSteps.{MarksEmpty};
+ghost use Rattle.tl_names.specs.inner.BareSteps.{MarksEmpty};
 ghost use Rattle.tl_schema.specs.CheckedPrograms.{Finds, FindsNumber, IsSchema};
 ghost use Rattle.tl_names.specs.Places.{types_of};
 ghost use Rattle.tl_schema.specs.inner.SchemaParts.{IsSound};

@@ -7,10 +7,9 @@ ghost use Rattle.tl_schema.specs.Seen.{shape};
 ghost use Rattle.tl_schema.specs.Meanings.{bare_meaning, bare_shape, base_shape, declared_shape, item_of, meaning, meanings, named_shape};
 
 use crate::schema::TypeRef;
-use crate::scope::Scope;
 use std::alloc::{AllocError, Global};
 use tl_combinators::TypeTree;
-use tl_names::is_type_name;
+use tl_names::{Scope, is_type_name};
 
 /// A type, where a declaration writes it.
 #[cycle(terms)]

@@ -7,18 +7,17 @@ ghost use Rattle.tl_schema.specs.Formed.{IsFormed};
 ghost use Rattle.tl_schema.specs.AskedTypes.{GivesType, IsTypeText, NamesType, RefusesType, TypeTextRefused, asker};
 ghost use Rattle.tl_schema.specs.Types.{Shape};
 ghost use Rattle.tl_schema.specs.declared.fault.TypeFault.{TypeFault};
-ghost use Rattle.tl_schema.specs.inner.BareSteps.{MarksEmpty};
+ghost use Rattle.tl_names.specs.inner.BareSteps.{MarksEmpty};
 ghost use Rattle.tl_schema.specs.inner.TypeSteps.{ChecksType};
 
 use crate::pass_type::pass_type;
-use crate::scope::Scope;
 use crate::terms::type_term;
 use crate::{Schema, TypeFault, TypeRef};
 use std::alloc::Global;
 use tl_base::Bytes;
 use tl_combinators::{Decl, TypeTree, parse_type};
 use tl_lexer::lex;
-use tl_names::{Index, resolve_type};
+use tl_names::{Index, Scope, resolve_type};
 
 /// The type that a text names: a closed type of the schema, or `!` for a call of any of its functions.
 pub fn type_of(alloc: Global, schema: &Schema, text: &[u8]) -> Result<TypeRef, TypeFault>

@@ -2,8 +2,7 @@
 ghost use Rattle.std.specs.Prelude.{◌≡◌};
 ghost use Rattle.tl_schema.specs.inner.WhatSteps.{is_unknown};
 
-use crate::parts::TypeTest;
-use tl_names::{Index, Meant, What};
+use tl_names::{Index, Meant, TypeTest, What};
 
 /// Whether a type begins with an unknown name: no variable, not built in, and declared by none.
 /// From "TL language" (core.telegram.org/mtproto/TL): a type has constructors, and a constructor is declared.

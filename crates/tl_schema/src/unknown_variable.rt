@@ -7,10 +7,8 @@ ghost use Rattle.tl_schema.specs.UnknownVariable.{called_by};
 ghost use Rattle.tl_schema.specs.inner.VariableSteps.{calls_another, leaves_uncalled};
 ghost use Rattle.tl_names.specs.Writing.{is_variable};
 
-use crate::declarations::DeclTest;
-use crate::parts::{TypeTest, is_in_fields};
 use tl_combinators::{Decl, Field, FieldKind};
-use tl_names::{Index, Meant, MeantDecl, What, is_variable};
+use tl_names::{DeclTest, Index, Meant, MeantDecl, TypeTest, What, is_in_fields, is_variable};
 
 /// Whether a declaration calls a name that is no variable, or is a function with a variable that doesn't stand in
 /// exactly one field `!X`, or in the type of another.

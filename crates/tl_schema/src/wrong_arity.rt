@@ -1,14 +1,12 @@
 //! The fourth check: numbers of arguments and of variables.
 ghost use Rattle.std.specs.Prelude.{◌↔◌, IsTrue};
 ghost use Rattle.tl_names.specs.MeantViews.{decl_view};
-ghost use Rattle.tl_schema.specs.inner.Resolved.{ForDecl, ForName};
+ghost use Rattle.tl_names.specs.inner.Resolved.{ForDecl, ForName};
 ghost use Rattle.tl_schema.specs.inner.WhatSteps.{HasVars};
 ghost use Rattle.tl_schema.specs.WrongArity.{ConstructsUneven, IsMisapplied};
 
-use crate::declarations::DeclTest;
-use crate::parts::{TypeTest, writes};
 use tl_combinators::Decl;
-use tl_names::{Index, Meant, MeantDecl, What};
+use tl_names::{DeclTest, Index, Meant, MeantDecl, TypeTest, What, writes};
 
 /// Whether a declaration applies a name to another number of types than the name has variables, or is a constructor of a type
 /// whose constructors have different numbers of variables ("TL language", core.telegram.org/mtproto/TL).

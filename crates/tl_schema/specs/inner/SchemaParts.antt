@@ -2,10 +2,9 @@
 use Rattle.std.specs.Prelude.{ℕ, List, Bool, true, false, Option}
 use Rattle.std.specs.Map.{lookup}
 use Rattle.std.specs.Ordering.{is_eq, nat_cmp}
-use Rattle.tl_combinators.specs.Program.{DeclText, HasFewParts}
-use Rattle.tl_names.specs.MeantViews.{NumbersNames}
+use Rattle.tl_combinators.specs.Program.{DeclText}
 use Rattle.tl_names.specs.NamePlaces.{place_in}
-use Rattle.tl_schema.specs.inner.BareSteps.{MarksEmpty}
+use Rattle.tl_names.specs.inner.BareSteps.{MarksEmpty}
 use Rattle.tl_schema.specs.CheckedPrograms.{IsSchema, Finds, FindsNumber}
 use Rattle.tl_schema.specs.Schemas.{Declaration, Declared}
 
@@ -28,10 +27,3 @@ pub record IsSound (schema : Declared) (constructors functions : List (List ℕ 
   pub of_functions : ArePlaces schema.decls true functions
   pub of_numbers : AreNumbers schema.program numbers
   pub of_empties : MarksEmpty schema.program empties
-
--- ---- a declaration
-
--- the variables of a declaration of few parts, by name
-pub record IsScope (d : DeclText) (vars : List (List ℕ × ℕ)) : Type 0 where
-  pub numbers : NumbersNames d.vars vars
-  pub few : HasFewParts d

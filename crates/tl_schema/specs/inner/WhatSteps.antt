@@ -3,11 +3,10 @@ use Rattle.std.specs.Prelude.{◌≡◌, ◌↔◌, ℕ, List, Bool, true, false
 use Rattle.tl_combinators.specs.Program.{DeclText}
 use Rattle.tl_names.specs.Constructors.{IsSingle}
 use Rattle.tl_names.specs.Indexed.{var_counts}
-use Rattle.tl_names.specs.What.{type_named}
 use Rattle.tl_names.specs.Writing.{IsConstructorOf}
 use Rattle.tl_names.specs.declared.what.What.{What}
 use Rattle.tl_schema.specs.inner.Arities.{VarsOfFirst}
-use Rattle.tl_schema.specs.inner.BareSteps.{OnlyOf}
+use Rattle.tl_names.specs.inner.WhatSteps.{OfNumber}
 
 abbrev pub is_unknown : What → Bool
 is_unknown (What.Variable i) = false
@@ -24,19 +23,6 @@ means_variable (What.Vector b) = false
 means_variable (What.Type n) = false
 means_variable (What.Constructor k) = false
 means_variable What.Unknown = false
-
--- the constructor, if it is one
-abbrev pub constructor_in : What → Option ℕ
-constructor_in (What.Variable i) = None
-constructor_in (What.Base b) = None
-constructor_in (What.Vector b) = None
-constructor_in (What.Type n) = None
-constructor_in (What.Constructor k) = Some k
-constructor_in What.Unknown = None
-
--- so of each type with this number
-abbrev pub OfNumber : List DeclText → ℕ → (List ℕ → Type 0) → Type 0
-OfNumber ds n P = (type : List ℕ) → type_named ds type ≡ Some n → P type
 
 -- the number of variables
 abbrev pub HasVars : List DeclText → What → Option ℕ → Type 0
@@ -55,12 +41,3 @@ HasForm ds (What.Vector boxed) b = b ≡ boxed
 HasForm ds (What.Type n) b = OfNumber ds n (λ type. IsTrue b ↔ IsSingle ds type)
 HasForm ds (What.Constructor k) b = b ≡ false
 HasForm ds What.Unknown b = b ≡ false
-
--- the only constructor of the type, if it is one
-abbrev pub HasOnly : List DeclText → What → Option ℕ → Type 0
-HasOnly ds (What.Variable i) o = o ≡ None
-HasOnly ds (What.Base x) o = o ≡ None
-HasOnly ds (What.Vector boxed) o = o ≡ None
-HasOnly ds (What.Type n) o = OfNumber ds n (λ type. OnlyOf ds type o)
-HasOnly ds (What.Constructor k) o = o ≡ None
-HasOnly ds What.Unknown o = o ≡ None

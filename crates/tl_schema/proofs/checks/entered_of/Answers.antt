@@ -7,7 +7,7 @@ use Rattle.tl_names.specs.MeantViews.{decl_view}
 use Rattle.tl_names.proofs.FewParts.{few_parts_at}
 use Rattle.tl_schema.specs.Seen.{declaration}
 use Rattle.tl_schema.specs.inner.NamesNoted.{Enters}
-use Rattle.tl_schema.proofs.Maps.{slice_get_item}
+use Rattle.tl_names.proofs.Maps.{slice_get_item}
 use Rattle.tl_schema.proofs.DeclaredEntries.{none_yet, enters_more}
 use Rattle.tl_schema.proofs.MeantEntries.{same_length, same_made}
 use Rattle.tl_schema.proofs.checks.entered_of.Goals as goal

@@ -3,7 +3,7 @@ use Rattle.std.proofs.lemmas.Bool.{iff_false}
 use Rattle.std.proofs.lemmas.List.{length-map}
 use Rattle.tl_names.specs.Meants.{meant}
 use Rattle.tl_names.specs.MeantViews.{meant_view}
-use Rattle.tl_schema.proofs.ForTypes.{item_for}
+use Rattle.tl_names.proofs.ForTypes.{item_for}
 use Rattle.tl_schema.proofs.MarkedArguments.{marked_item, none_marked_more, none_marked}
 use Rattle.tl_schema.proofs.empty_element.has_marked.Goals as goal
 

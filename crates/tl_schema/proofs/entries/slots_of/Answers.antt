@@ -7,8 +7,8 @@ use Rattle.tl_names.specs.MeantViews.{field_view}
 use Rattle.tl_names.specs.declared.meant.MeantField.{MeantField}
 use Rattle.tl_schema.specs.Seen.{slot}
 use Rattle.tl_schema.specs.Meanings.{slot_of}
-use Rattle.tl_schema.proofs.Maps.{slice_get_item}
-use Rattle.tl_schema.proofs.MadeLists.{made_more}
+use Rattle.tl_names.proofs.Maps.{slice_get_item}
+use Rattle.tl_names.proofs.MadeLists.{made_more}
 use Rattle.tl_schema.proofs.MeantEntries.{same_length, same_made}
 use Rattle.tl_schema.proofs.entries.slots_of.Goals as goal
 

@@ -3,7 +3,7 @@ use Rattle.std.specs.Prelude.{IsTrue}
 use Rattle.tl_combinators.specs.Trees.{trees_of}
 use Rattle.tl_schema.specs.NotBare.{HasBare}
 use Rattle.tl_schema.proofs.BareParts.{bare_named}
-use Rattle.tl_schema.proofs.ForTypes.{for_named}
+use Rattle.tl_names.proofs.ForTypes.{for_named}
 use Rattle.tl_schema.proofs.NameCases.{name_form}
 use Rattle.tl_schema.proofs.not_bare.has_bare.Goals as goal
 

@@ -2,7 +2,7 @@ use Rattle.std.proofs.Common.{◌++◌, List, Err, subst}
 use Rattle.std.specs.Prelude.{IfErr}
 use Rattle.tl_combinators.specs.Program.{DeclText, program_text}
 use Rattle.tl_schema.specs.inner.CheckSteps.{ChecksBy}
-use Rattle.tl_schema.specs.inner.BareSteps.{MarksEmpty}
+use Rattle.tl_names.specs.inner.BareSteps.{MarksEmpty}
 use Rattle.tl_schema.specs.CheckCauses.{name_causes, meaning_causes, reference_causes}
 use Rattle.tl_schema.proofs.CheckSequence.{fault_first, fault_then, passed_then}
 use Rattle.tl_schema.proofs.pass_checks.pass_checks.Goals as goal

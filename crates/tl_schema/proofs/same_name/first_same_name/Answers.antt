@@ -4,7 +4,7 @@ use Rattle.std.proofs.lemmas.List.{length-map}
 use Rattle.tl_combinators.specs.Program.{decl_text, program_text}
 use Rattle.tl_graph.proofs.FirstNodes.{first_none}
 use Rattle.tl_schema.specs.SameName.{SameName, part}
-use Rattle.tl_schema.proofs.Maps.{slice_get_item}
+use Rattle.tl_names.proofs.Maps.{slice_get_item}
 use Rattle.tl_schema.proofs.SameNames.{knows_none, knows_more, taken, free, makes_vector, same_name_within}
 use Rattle.tl_schema.proofs.same_name.first_same_name.Goals as goal
 use Rattle.tl_schema.proofs.same_name.first_same_name.Goals.{then-is_old-via-then-is_old, then-is_old-via-else-is_old+then-is_repeated, then-is_old-via-else-is_old+else-is_repeated+then-makes_vector}

@@ -7,7 +7,7 @@ use Rattle.std.proofs.lemmas.Slice.Eq.{bytes_eq-Decides}
 use Rattle.tl_combinators.specs.Program.{decl_text, field_text, FieldText}
 use Rattle.tl_schema.specs.SameName.{part_names}
 use Rattle.tl_schema.specs.inner.SameNameSteps.{is_noted}
-use Rattle.tl_schema.proofs.Maps.{take_push}
+use Rattle.tl_names.proofs.Maps.{take_push}
 use Rattle.tl_schema.proofs.SameNames.{or_last}
 use Rattle.tl_schema.proofs.Repeats.{repeat_found, repeat_not_found}
 use Rattle.tl_schema.proofs.same_name.repeats_part.Goals as goal

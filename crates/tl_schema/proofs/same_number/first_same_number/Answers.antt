@@ -8,7 +8,7 @@ use Rattle.std.specs.BTreeSet.{BTreeSet, contains}
 use Rattle.tl_combinators.specs.Program.{decl_text, program_text}
 use Rattle.tl_graph.proofs.FirstNodes.{first_none}
 use Rattle.tl_schema.specs.SameNumber.{SameNumber}
-use Rattle.tl_schema.proofs.Maps.{slice_get_item}
+use Rattle.tl_names.proofs.Maps.{slice_get_item}
 use Rattle.tl_schema.proofs.KnownNumbers.{knows_none, knows_uncounted, free_uncounted, knows_more, taken_before, taken_always, free, same_number_within}
 use Rattle.tl_schema.proofs.same_number.first_same_number.Goals as goal
 use Rattle.tl_schema.proofs.same_number.first_same_number.Goals.{then-not-decl+in_ok-is_new+else-is_taken+else-not-is_new, else-not-decl, then-is_taken-via-then-is_taken, then-is_taken-via-else-is_taken+then-not-is_new}

@@ -4,8 +4,8 @@ use Rattle.tl_combinators.specs.Trees.{view, views}
 use Rattle.tl_schema.specs.Types.{shapes_of}
 use Rattle.tl_schema.specs.Seen.{shape}
 use Rattle.tl_schema.specs.Meanings.{meaning}
-use Rattle.tl_schema.proofs.Maps.{slice_get_item}
-use Rattle.tl_schema.proofs.MadeLists.{made_more, made_all}
+use Rattle.tl_names.proofs.Maps.{slice_get_item}
+use Rattle.tl_names.proofs.MadeLists.{made_more, made_all}
 use Rattle.tl_schema.proofs.MeantTypes.{meanings_of_each}
 use Rattle.tl_schema.proofs.terms.+terms.Goals as goal
 

@@ -1,7 +1,7 @@
 use Rattle.std.proofs.Common.{◌↔◌}
 use Rattle.std.specs.Prelude.{IsTrue}
-use Rattle.tl_schema.specs.inner.BareSteps.{AppliesToMarked}
-use Rattle.tl_schema.proofs.ForTypes.{for_named}
+use Rattle.tl_schema.specs.inner.MarkedSteps.{AppliesToMarked}
+use Rattle.tl_names.proofs.ForTypes.{for_named}
 use Rattle.tl_schema.proofs.empty_element.EmptyArgumentTypeTest.passes.Goals as goal
 
 pub returns-in-Named : goal.returns-in-Named

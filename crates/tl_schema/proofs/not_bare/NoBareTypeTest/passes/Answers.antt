@@ -2,7 +2,7 @@ use Rattle.std.proofs.Common.{◌↔◌, not, sym}
 use Rattle.std.specs.Prelude.{IsTrue}
 use Rattle.tl_schema.specs.NotBare.{HasNoBare}
 use Rattle.tl_schema.proofs.BareParts.{no_bare}
-use Rattle.tl_schema.proofs.ForTypes.{for_percent}
+use Rattle.tl_names.proofs.ForTypes.{for_percent}
 use Rattle.tl_schema.proofs.not_bare.NoBareTypeTest.passes.Goals as goal
 
 pub returns-in-Percent : goal.returns-in-Percent

@@ -1,7 +1,7 @@
 use Rattle.std.proofs.Common.{◌↔◌, subst, sym}
 use Rattle.std.specs.Prelude.{IsTrue, Bool}
 use Rattle.tl_schema.specs.UnknownType.{BeginsUnknown, IsUnknownIn}
-use Rattle.tl_schema.proofs.ForTypes.{for_named}
+use Rattle.tl_names.proofs.ForTypes.{for_named}
 use Rattle.tl_schema.proofs.NameCases.{unknown_name}
 use Rattle.tl_schema.proofs.unknown_type.UnknownNameTypeTest.passes.Goals as goal
 

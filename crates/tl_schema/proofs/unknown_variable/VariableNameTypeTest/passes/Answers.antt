@@ -1,7 +1,7 @@
 use Rattle.std.proofs.Common.{◌↔◌, ◌∙◌, sym}
 use Rattle.std.specs.Prelude.{IsTrue}
 use Rattle.tl_schema.specs.UnknownVariable.{NamesVariable}
-use Rattle.tl_schema.proofs.ForTypes.{for_named}
+use Rattle.tl_names.proofs.ForTypes.{for_named}
 use Rattle.tl_schema.proofs.NameCases.{variable_name}
 use Rattle.tl_schema.proofs.unknown_variable.VariableNameTypeTest.passes.Goals as goal
 

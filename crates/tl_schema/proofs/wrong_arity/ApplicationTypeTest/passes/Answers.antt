@@ -5,7 +5,7 @@ use Rattle.tl_combinators.specs.Trees.{named, trees_of}
 use Rattle.tl_names.specs.Meants.{meant}
 use Rattle.tl_names.specs.MeantViews.{meant_view}
 use Rattle.tl_schema.specs.WrongArity.{Misapplies}
-use Rattle.tl_schema.proofs.ForTypes.{for_named}
+use Rattle.tl_names.proofs.ForTypes.{for_named}
 use Rattle.tl_schema.proofs.Misapplied.{misapplied}
 use Rattle.tl_schema.proofs.wrong_arity.ApplicationTypeTest.passes.Goals as goal
 

@@ -1,6 +1,0 @@
-use Rattle.tl_graph.specs.Paths.{edges_in}
-use Rattle.tl_schema.proofs.ReferenceLists.{AreFirst}
-use Rattle.tl_schema.proofs.references.references.Given as goal
-
-abbrev pub invariant-loop-decl : goal.invariant-loop-decl
-invariant-loop-decl l = AreFirst l.index l.decl-index (edges_in l.edges.items)
