@@ -64,7 +64,7 @@ deep_of-returns-in_default-clause-read g t c =
 pub wide_of-returns-in_err-word-clause-read : goal.wide_of-returns-in_err-word-clause-read
 wide_of-returns-in_err-word-clause-read g t c =
     let p = err_from_is_err_and c.from_residual.result c.from_residual.ensures.1 in
-    rw (p.1, p.2) (wide_fails _ _ c.args.at.now _ _ c.in_err-word.field-0.0 (value_at c.args.schema.now.decls c.args.levels (shape c.args.item.now)) c.in_err-word.ensures.read)
+    rw (p.1, p.2) (wide_fails _ _ c.args.at.now c.word_of.new.at c.word_of.new.at c.in_err-word.field-0.0 (value_at c.args.schema.now.decls c.args.levels (shape c.args.item.now)) c.in_err-word.ensures.read)
 
 pub wide_of-returns-then-word-ne-BOXED_VECTOR-clause-read : goal.wide_of-returns-then-word-ne-BOXED_VECTOR-clause-read
 wide_of-returns-then-word-ne-BOXED_VECTOR-clause-read g t c =
@@ -77,7 +77,7 @@ wide_of-returns-clause-read g t c =
 pub list_of-returns-in_err-count-clause-read : goal.list_of-returns-in_err-count-clause-read
 list_of-returns-in_err-count-clause-read g t c =
     let p = err_from_is_err_and c.from_residual.result c.from_residual.ensures.1 in
-    rw (p.1, p.2) (list_fails _ _ c.args.at.now _ _ c.in_err-count.field-0.0 (value_at c.args.schema.now.decls c.args.levels (shape c.args.item.now)) c.in_err-count.ensures.read)
+    rw (p.1, p.2) (list_fails _ _ c.args.at.now c.word_of.new.at c.word_of.new.at c.in_err-count.field-0.0 (value_at c.args.schema.now.decls c.args.levels (shape c.args.item.now)) c.in_err-count.ensures.read)
 
 pub list_of-returns-then-count-ge2147483648-clause-read : goal.list_of-returns-then-count-ge2147483648-clause-read
 list_of-returns-then-count-ge2147483648-clause-read g t c =
@@ -86,7 +86,7 @@ list_of-returns-then-count-ge2147483648-clause-read g t c =
 pub list_of-returns-in_err-items-clause-read : goal.list_of-returns-in_err-items-clause-read
 list_of-returns-in_err-items-clause-read g t c =
     let p = err_from_is_err_and c.from_residual-in_err-items.result c.from_residual-in_err-items.ensures.1 in
-    rw (p.1, p.2) (list_inner (λ (v : Vec Value Global). map view v.items) _ _ _ c.args.at.now _ _ _ c.in_ok-count.count c.in_err-items.field-0.0 (value_at c.args.schema.now.decls c.args.levels (shape c.args.item.now)) c.in_ok-count.ensures.read (omega arith) c.in_err-items.ensures.read)
+    rw (p.1, p.2) (list_inner (λ (v : Vec Value Global). map view v.items) _ _ _ c.args.at.now c.word_of.new.at c.elements_of.new.at c.elements_of.new.at c.in_ok-count.count c.in_err-items.field-0.0 (value_at c.args.schema.now.decls c.args.levels (shape c.args.item.now)) c.in_ok-count.ensures.read (omega arith) c.in_err-items.ensures.read)
 
 pub list_of-returns-clause-read : goal.list_of-returns-clause-read
 list_of-returns-clause-read g t c =
@@ -107,16 +107,16 @@ elements_of-loop-i-preserved g t c =
 pub elements_of-returns-in_err-value-clause-read : goal.elements_of-returns-in_err-value-clause-read
 elements_of-returns-in_err-value-clause-read g t c =
     let p = err_from_is_err_and c.from_residual.result c.from_residual.ensures.1 in
-    rw (p.1, p.2) (continues_fails view (λ (v : Vec Value Global). map view v.items) (each_at (value_at c.args.schema.now.decls c.args.levels (shape c.args.item.now)) c.args.count []) _ _ _ _ c.args.at.now _ _ _ c.in_err-value.field-0.0 (value_at c.args.schema.now.decls c.args.levels (shape c.args.item.now)) (λ x. each_at (value_at c.args.schema.now.decls c.args.levels (shape c.args.item.now)) (c.args.count - (c.loop-i.i + 1)) (map view c.loop-i.items.items ++ x.0 ∷ []) x.1) c.loop-i.invariant.read c.in_err-value.ensures.read (λ s. next_element (value_at c.args.schema.now.decls c.args.levels (shape c.args.item.now)) c.args.count c.loop-i.i (map view c.loop-i.items.items) s (omega arith)))
+    rw (p.1, p.2) (continues_fails view (λ (v : Vec Value Global). map view v.items) (each_at (value_at c.args.schema.now.decls c.args.levels (shape c.args.item.now)) c.args.count []) (each_at (value_at c.args.schema.now.decls c.args.levels (shape c.args.item.now)) (c.args.count - c.loop-i.i) (map view c.loop-i.items.items)) _ _ _ c.args.at.now c.loop-i.at c.value_of.new.at c.value_of.new.at c.in_err-value.field-0.0 (value_at c.args.schema.now.decls c.args.levels (shape c.args.item.now)) (λ x. each_at (value_at c.args.schema.now.decls c.args.levels (shape c.args.item.now)) (c.args.count - (c.loop-i.i + 1)) (map view c.loop-i.items.items ++ x.0 ∷ []) x.1) c.loop-i.invariant.read c.in_err-value.ensures.read (λ s. next_element (value_at c.args.schema.now.decls c.args.levels (shape c.args.item.now)) c.args.count c.loop-i.i (map view c.loop-i.items.items) s (omega arith)))
 
 pub elements_of-returns-clause-read : goal.elements_of-returns-clause-read
 elements_of-returns-clause-read g t c =
-    continues_done (λ (v : Vec Value Global). map view v.items) (each_at (value_at c.args.schema.now.decls c.args.levels (shape c.args.item.now)) c.args.count []) _ _ _ c.args.at.now _ c.loop-i.items c.loop-i.invariant.read (λ s. no_element (value_at c.args.schema.now.decls c.args.levels (shape c.args.item.now)) c.args.count c.loop-i.i _ s (omega arith))
+    continues_done (λ (v : Vec Value Global). map view v.items) (each_at (value_at c.args.schema.now.decls c.args.levels (shape c.args.item.now)) c.args.count []) (each_at (value_at c.args.schema.now.decls c.args.levels (shape c.args.item.now)) (c.args.count - c.loop-i.i) (map view c.loop-i.items.items)) _ _ c.args.at.now _ c.loop-i.items c.loop-i.invariant.read (λ s. no_element (value_at c.args.schema.now.decls c.args.levels (shape c.args.item.now)) c.args.count c.loop-i.i _ s (omega arith))
 
 pub boxed_of-returns-in_err-word-clause-read : goal.boxed_of-returns-in_err-word-clause-read
 boxed_of-returns-in_err-word-clause-read g t c =
     let p = err_from_is_err_and c.from_residual.result c.from_residual.ensures.1 in
-    rw (p.1, p.2) (number_fails _ _ c.args.at.now _ _ c.in_err-word.field-0.0 (fields_at (value_at c.args.schema.now.decls c.args.levels) (map shape c.args.args.now) []) value.node c.args.schema.now.decls (λ w. first_from (is_member c.args.head w) 0 c.args.schema.now.decls) c.in_err-word.ensures.read)
+    rw (p.1, p.2) (number_fails _ _ c.args.at.now c.word_of.new.at c.word_of.new.at c.in_err-word.field-0.0 (fields_at (value_at c.args.schema.now.decls c.args.levels) (map shape c.args.args.now) []) value.node c.args.schema.now.decls (λ w. first_from (is_member c.args.head w) 0 c.args.schema.now.decls) c.in_err-word.ensures.read)
 
 pub boxed_of-returns-in-None-clause-read : goal.boxed_of-returns-in-None-clause-read
 boxed_of-returns-in-None-clause-read g t c =
@@ -126,7 +126,7 @@ pub boxed_of-returns-in_err-fields-in-Some-clause-read : goal.boxed_of-returns-i
 boxed_of-returns-in_err-fields-in-Some-clause-read g t c =
     let kinds = fields_are c.args.schema.now.decls c.in-Some.i c.entry.result.now c.entry.ensures in
     let p = err_from_is_err_and c.from_residual-in_err-fields-in-Some.result c.from_residual-in_err-fields-in-Some.ensures.1 in
-    rw (p.1, p.2) (number_inner (λ (v : Vec Value Global). map view v.items) _ _ _ c.args.at.now _ _ _ c.in_ok-word.word c.in-Some.i c.in_err-fields-in-Some.field-0.0 (fields_at (value_at c.args.schema.now.decls c.args.levels) (map shape c.args.args.now) []) value.node c.args.schema.now.decls (λ w. first_from (is_member c.args.head w) 0 c.args.schema.now.decls) _ c.in_ok-word.ensures.read c.in-Some.ensures.found (kinds ∙ sym (ap (map slot) c.deref.ensures.value)) c.in_err-fields-in-Some.ensures.read)
+    rw (p.1, p.2) (number_inner (λ (v : Vec Value Global). map view v.items) _ _ _ c.args.at.now c.word_of.new.at c.fields_of.new.at c.fields_of.new.at c.in_ok-word.word c.in-Some.i c.in_err-fields-in-Some.field-0.0 (fields_at (value_at c.args.schema.now.decls c.args.levels) (map shape c.args.args.now) []) value.node c.args.schema.now.decls (λ w. first_from (is_member c.args.head w) 0 c.args.schema.now.decls) _ c.in_ok-word.ensures.read c.in-Some.ensures.found (kinds ∙ sym (ap (map slot) c.deref.ensures.value)) c.in_err-fields-in-Some.ensures.read)
 
 pub boxed_of-returns-in_ok-fields-in-Some-clause-read : goal.boxed_of-returns-in_ok-fields-in-Some-clause-read
 boxed_of-returns-in_ok-fields-in-Some-clause-read g t c =
@@ -136,7 +136,7 @@ boxed_of-returns-in_ok-fields-in-Some-clause-read g t c =
 pub call_of-returns-in_err-word-clause-read : goal.call_of-returns-in_err-word-clause-read
 call_of-returns-in_err-word-clause-read g t c =
     let p = err_from_is_err_and c.from_residual.result c.from_residual.ensures.1 in
-    rw (p.1, p.2) (number_fails _ _ c.args.at.now _ _ c.in_err-word.field-0.0 (fields_at (value_at c.args.schema.now.decls c.args.levels) [] []) value.call c.args.schema.now.decls (λ w. first_from (is_function w) 0 c.args.schema.now.decls) c.in_err-word.ensures.read)
+    rw (p.1, p.2) (number_fails _ _ c.args.at.now c.word_of.new.at c.word_of.new.at c.in_err-word.field-0.0 (fields_at (value_at c.args.schema.now.decls c.args.levels) [] []) value.call c.args.schema.now.decls (λ w. first_from (is_function w) 0 c.args.schema.now.decls) c.in_err-word.ensures.read)
 
 pub call_of-returns-in-None-clause-read : goal.call_of-returns-in-None-clause-read
 call_of-returns-in-None-clause-read g t c =
@@ -146,7 +146,7 @@ pub call_of-returns-in_err-fields-in-Some-clause-read : goal.call_of-returns-in_
 call_of-returns-in_err-fields-in-Some-clause-read g t c =
     let kinds = fields_are c.args.schema.now.decls c.in-Some.i c.entry.result.now c.entry.ensures in
     let p = err_from_is_err_and c.from_residual-in_err-fields-in-Some.result c.from_residual-in_err-fields-in-Some.ensures.1 in
-    rw (p.1, p.2) (number_inner (λ (v : Vec Value Global). map view v.items) _ _ _ c.args.at.now _ _ _ c.in_ok-word.word c.in-Some.i c.in_err-fields-in-Some.field-0.0 (fields_at (value_at c.args.schema.now.decls c.args.levels) [] []) value.call c.args.schema.now.decls (λ w. first_from (is_function w) 0 c.args.schema.now.decls) _ c.in_ok-word.ensures.read c.in-Some.ensures.found (kinds ∙ sym (ap (map slot) c.deref.ensures.value)) c.in_err-fields-in-Some.ensures.read)
+    rw (p.1, p.2) (number_inner (λ (v : Vec Value Global). map view v.items) _ _ _ c.args.at.now c.word_of.new.at c.fields_of.new.at c.fields_of.new.at c.in_ok-word.word c.in-Some.i c.in_err-fields-in-Some.field-0.0 (fields_at (value_at c.args.schema.now.decls c.args.levels) [] []) value.call c.args.schema.now.decls (λ w. first_from (is_function w) 0 c.args.schema.now.decls) _ c.in_ok-word.ensures.read c.in-Some.ensures.found (kinds ∙ sym (ap (map slot) c.deref.ensures.value)) c.in_err-fields-in-Some.ensures.read)
 
 pub call_of-returns-in_ok-fields-in-Some-clause-read : goal.call_of-returns-in_ok-fields-in-Some-clause-read
 call_of-returns-in_ok-fields-in-Some-clause-read g t c =
@@ -162,7 +162,7 @@ pub bare_of-returns-in_err-fields-clause-read : goal.bare_of-returns-in_err-fiel
 bare_of-returns-in_err-fields-clause-read g t c =
     let kinds = fields_are c.args.schema.now.decls c.args.entry c.entry.result.now c.entry.ensures in
     let p = err_from_is_err_and c.from_residual.result c.from_residual.ensures.1 in
-    rw (p.1, p.2) (bare_fails (λ (v : Vec Value Global). map view v.items) _ _ c.args.at.now _ _ c.args.entry c.in_err-fields.field-0.0 (fields_at (value_at c.args.schema.now.decls c.args.levels) (map shape c.args.args.now) []) c.args.schema.now.decls _ (kinds ∙ sym (ap (map slot) c.deref.ensures.value)) c.in_err-fields.ensures.read)
+    rw (p.1, p.2) (bare_fails (λ (v : Vec Value Global). map view v.items) _ _ c.args.at.now c.fields_of.new.at c.fields_of.new.at c.args.entry c.in_err-fields.field-0.0 (fields_at (value_at c.args.schema.now.decls c.args.levels) (map shape c.args.args.now) []) c.args.schema.now.decls _ (kinds ∙ sym (ap (map slot) c.deref.ensures.value)) c.in_err-fields.ensures.read)
 
 pub bare_of-returns-clause-read : goal.bare_of-returns-clause-read
 bare_of-returns-clause-read g t c =
@@ -183,11 +183,11 @@ fields_of-loop-field-preserved g t c =
 pub fields_of-returns-in_err-value-clause-read : goal.fields_of-returns-in_err-value-clause-read
 fields_of-returns-in_err-value-clause-read g t c =
     let p = err_from_is_err_and c.from_residual.result c.from_residual.ensures.1 in
-    rw (p.1, p.2) (continues_fails view (λ (v : Vec Value Global). map view v.items) (fields_at (value_at c.args.schema.now.decls c.args.levels) (map shape c.args.args.now) [] (map slot c.args.slots.now)) (fields_at (value_at c.args.schema.now.decls c.args.levels) (map shape c.args.args.now) (map view c.loop-field.fields.items) (map slot (drop c.loop-field.field-index c.args.slots.now))) _ _ _ c.args.at.now _ _ _ c.in_err-value.field-0.0 (at_field (value_at c.args.schema.now.decls c.args.levels) (map shape c.args.args.now) (map view c.deref.result.now) (slot c.field-item.result)) (λ x. fields_at (value_at c.args.schema.now.decls c.args.levels) (map shape c.args.args.now) ((map view c.loop-field.fields.items) ++ x.0 ∷ []) (map slot (drop (c.loop-field.field-index + 1) c.args.slots.now)) x.1) c.loop-field.invariant.read c.in_err-value.ensures.read (λ s. next_field (value_at c.args.schema.now.decls c.args.levels) (map shape c.args.args.now) c.args.slots.now c.loop-field.field-index c.field-item.result (map view c.loop-field.fields.items) s (omega arith) c.field-item.is ∙ ap (λ (b : List ValueView). at_field (value_at c.args.schema.now.decls c.args.levels) (map shape c.args.args.now) b (slot c.field-item.result) s >>= (λ x. fields_at (value_at c.args.schema.now.decls c.args.levels) (map shape c.args.args.now) ((map view c.loop-field.fields.items) ++ x.0 ∷ []) (map slot (drop (c.loop-field.field-index + 1) c.args.slots.now)) x.1)) (sym (ap (map view) c.deref.ensures.value))))
+    rw (p.1, p.2) (continues_fails view (λ (v : Vec Value Global). map view v.items) (fields_at (value_at c.args.schema.now.decls c.args.levels) (map shape c.args.args.now) [] (map slot c.args.slots.now)) (fields_at (value_at c.args.schema.now.decls c.args.levels) (map shape c.args.args.now) (map view c.loop-field.fields.items) (map slot (drop c.loop-field.field-index c.args.slots.now))) _ _ _ c.args.at.now c.loop-field.at c.field_of.new.at c.field_of.new.at c.in_err-value.field-0.0 (at_field (value_at c.args.schema.now.decls c.args.levels) (map shape c.args.args.now) (map view c.deref.result.now) (slot c.field-item.result)) (λ x. fields_at (value_at c.args.schema.now.decls c.args.levels) (map shape c.args.args.now) ((map view c.loop-field.fields.items) ++ x.0 ∷ []) (map slot (drop (c.loop-field.field-index + 1) c.args.slots.now)) x.1) c.loop-field.invariant.read c.in_err-value.ensures.read (λ s. next_field (value_at c.args.schema.now.decls c.args.levels) (map shape c.args.args.now) c.args.slots.now c.loop-field.field-index c.field-item.result (map view c.loop-field.fields.items) s (omega arith) c.field-item.is ∙ ap (λ (b : List ValueView). at_field (value_at c.args.schema.now.decls c.args.levels) (map shape c.args.args.now) b (slot c.field-item.result) s >>= (λ x. fields_at (value_at c.args.schema.now.decls c.args.levels) (map shape c.args.args.now) ((map view c.loop-field.fields.items) ++ x.0 ∷ []) (map slot (drop (c.loop-field.field-index + 1) c.args.slots.now)) x.1)) (sym (ap (map view) c.deref.ensures.value))))
 
 pub fields_of-returns-clause-read : goal.fields_of-returns-clause-read
 fields_of-returns-clause-read g t c =
-    continues_done (λ (v : Vec Value Global). map view v.items) (fields_at (value_at c.args.schema.now.decls c.args.levels) (map shape c.args.args.now) [] (map slot c.args.slots.now)) _ _ _ c.args.at.now _ c.loop-field.fields c.loop-field.invariant.read (λ s. no_field (value_at c.args.schema.now.decls c.args.levels) (map shape c.args.args.now) c.args.slots.now c.loop-field.field-index _ s (omega arith))
+    continues_done (λ (v : Vec Value Global). map view v.items) (fields_at (value_at c.args.schema.now.decls c.args.levels) (map shape c.args.args.now) [] (map slot c.args.slots.now)) (fields_at (value_at c.args.schema.now.decls c.args.levels) (map shape c.args.args.now) (map view c.loop-field.fields.items) (map slot (drop c.loop-field.field-index c.args.slots.now))) _ _ c.args.at.now _ c.loop-field.fields c.loop-field.invariant.read (λ s. no_field (value_at c.args.schema.now.decls c.args.levels) (map shape c.args.args.now) c.args.slots.now c.loop-field.field-index _ s (omega arith))
 
 pub field_of-returns-then-is_empty-clause-read : goal.field_of-returns-then-is_empty-clause-read
 field_of-returns-then-is_empty-clause-read g t c =
