@@ -4,7 +4,7 @@ use Rattle.std.specs.Option.{unwrap_or, is_some}
 use Rattle.std.proofs.lemmas.List.{length_push, length-set}
 use Rattle.std.proofs.lemmas.Slice.Eq.{bytes_eq-Decides}
 use Rattle.tl_names.specs.NamePlaces.{place_in, Notes}
-use Rattle.tl_names.specs.Indexed.{AreNumbered, Changes, at_number, at_type}
+use Rattle.tl_names.specs.inner.Indexed.{AreNumbered, Changes, at_number, at_type}
 use Rattle.tl_names.specs.declared.index.Constructors.{Constructors}
 use Rattle.tl_names.proofs.Places.{get_last}
 use Rattle.tl_names.proofs.MapEntries.{notes_known}

@@ -1,5 +1,5 @@
 -- One declaration more in an index.
-use Rattle.std.proofs.Common.{◌≡◌, ℕ, List, [], ◌∷◌, ◌++◌, length, slice_get, ◌+◌, Bool, true, false, ◌&&◌, bytes_eq, Option, None, Some, refl, ap, ap₂, map, sym, ◌∙◌, subst, true≢false, arith, if◌then◌else◌}
+use Rattle.std.proofs.Common.{◌≡◌, ℕ, List, [], ◌∷◌, ◌++◌, length, slice_get, ◌+◌, Bool, true, false, ◌&&◌, bytes_eq, Option, None, Some, refl, ap, ap₂, sym, ◌∙◌, subst, true≢false, if◌then◌else◌}
 use Rattle.std.specs.Option.{unwrap_or, is_some}
 use Rattle.std.proofs.lemmas.Option.{none-some, same_Some}
 use Rattle.std.proofs.lemmas.List.{map_push}
@@ -11,8 +11,8 @@ use Rattle.tl_names.specs.NameLists.{place, with_name}
 use Rattle.tl_names.specs.Places.{types_of, with_type_of}
 use Rattle.tl_names.specs.What.{constructor_named, type_named}
 use Rattle.tl_names.specs.declared.index.Constructors.{Constructors}
-use Rattle.tl_names.specs.Constructors.{FirstOf, IsSingle, IsFamily}
-use Rattle.tl_names.specs.Indexed.{IsIndex, IndexesNames, IndexesTypes, Changes, at_type, one_more, var_counts}
+use Rattle.tl_names.specs.Constructors.{FirstOf, IsSingle, IsFamily, var_counts}
+use Rattle.tl_names.specs.inner.Indexed.{IndexesNames, IndexesTypes, Changes, at_type, one_more}
 use Rattle.tl_names.proofs.Places.{IsPlace, HasOne, first_same, first_with, first_without, one_with, two_with, one_without, get_kept, get_last}
 use Rattle.tl_names.proofs.Positions.{position_push}
 use Rattle.tl_names.proofs.TypeNumbers.{types_of-push, place_with_name, length_with_name}
@@ -151,16 +151,3 @@ module _ (ds : List DeclText) (d : DeclText) where
 pub counted_more : (ds : List DeclText) (d : DeclText) (vars : List ℕ) (n : ℕ) → n ≡ length d.vars → vars ≡ var_counts ds → vars ++ n ∷ [] ≡ var_counts (ds ++ d ∷ [])
 counted_more ds d vars n is before =
     ap₂ (λ (xs : List ℕ) (k : ℕ). xs ++ k ∷ []) before is ∙ sym (map_push (λ (c : DeclText). length c.vars) ds d)
-
--- no declaration
-pub no_index : (names types : List (List ℕ × ℕ)) (families : List Constructors) (vars : List ℕ) → names ≡ [] → types ≡ [] → families ≡ [] → vars ≡ [] → IsIndex [] names types families vars
-no_index names types families vars no_names no_types no_families no_vars = record {
-  named = λ name. ap (λ places. place_in places name) no_names;
-  made = record {
-    numbers = λ type. ap (λ places. place_in places type) no_types;
-    count = ap length no_families;
-    made = λ type. subst (IsFamily [] type) (sym (ap (λ places. at_type places families type) no_types)) (λ k c. none-some c.0 c.1.there);
-  };
-  counted = no_vars;
-  few = omega arith;
-}

@@ -1,21 +1,8 @@
--- Elements of lists by their places, and tests of the elements that a function made.
-use Rattle.std.proofs.Common.{◌≡◌, ℕ, zero, suc, ◌+◌, ◌<◌, Bool, cond, not, ◌||◌, List, [], ◌∷◌, ◌++◌, map, take, length, get_or, slice_get, Some, refl, ap, ap₂, ◌∙◌, nat_lt, arith, position, None}
-use Rattle.std.specs.List.{list_any, position_or_len}
+-- Elements of lists by their places.
+use Rattle.std.proofs.Common.{◌≡◌, ℕ, zero, suc, ◌+◌, ◌<◌, List, [], ◌∷◌, ◌++◌, map, take, length, get_or, slice_get, Some, refl, ap, ap₂, ◌∙◌, arith}
 use Rattle.std.specs.Option.{option_map}
-use Rattle.std.proofs.lemmas.List.{take_more, length-map}
+use Rattle.std.proofs.lemmas.List.{take_more}
 use Rattle.std.proofs.lemmas.Option.{slice_get-map, slice_get_read, slice_get_within, get_or_from_slice_get}
-
-module _ {X Y : Type 0} (f : X → Y) (test : Y → Bool) where
-  pub list_any-map : (xs : List X) → list_any test (map f xs) ≡ list_any (λ x. test (f x)) xs
-  list_any-map [] = refl
-  list_any-map (x ∷ xs) = ap (λ b. test (f x) || b) (list_any-map xs)
-
-  pub position_or_len-map : (xs : List X) → position_or_len test (map f xs) ≡ position_or_len (λ x. test (f x)) xs
-  position_or_len-map [] = refl
-  position_or_len-map (x ∷ xs) = ap (λ n. cond (not (test (f x))) (1 + n) 0) (position_or_len-map xs)
-
-  pub position-map : (xs : List X) → position test (map f xs) ≡ position (λ x. test (f x)) xs
-  position-map xs = ap₂ (λ i n. cond (nat_lt i n) (Some i) None) (position_or_len-map xs) (length-map xs f)
 
 -- the element at a place, as a function makes it
 pub slice_get_made : {X Y : Type 0} (f : X → Y) (xs : List X) (i : ℕ) (x : X) → slice_get xs i ≡ Some x → slice_get (map f xs) i ≡ Some (f x)

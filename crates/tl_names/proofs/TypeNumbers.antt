@@ -9,7 +9,7 @@ use Rattle.tl_combinators.specs.Program.{DeclText}
 use Rattle.tl_names.specs.Writing.{own_type}
 use Rattle.tl_names.specs.NameLists.{place, with_name}
 use Rattle.tl_names.specs.Places.{types_of, with_type_of}
-use Rattle.tl_names.specs.Indexed.{AreNumbered, IndexesTypes}
+use Rattle.tl_names.specs.inner.Indexed.{AreNumbered, IndexesTypes}
 use Rattle.tl_names.specs.declared.index.Constructors.{Constructors}
 use Rattle.tl_names.proofs.Positions.{position_push, position_there, position_not_there}
 

@@ -1,6 +1,6 @@
 -- The constructors of a name and of a type.
 -- From "TL language" (core.telegram.org/mtproto/TL): a type is what its constructors make.
-use Rattle.std.specs.Prelude.{◌≡◌, ◌≢◌, ℕ, List, length, IsTrue, ◌↔◌, Option, None, Some}
+use Rattle.std.specs.Prelude.{◌≡◌, ◌≢◌, ℕ, List, length, map, IsTrue, ◌↔◌, Option, None, Some}
 use Rattle.tl_combinators.specs.Program.{DeclText}
 use Rattle.tl_graph.specs.Firsts.{First}
 use Rattle.tl_names.specs.Writing.{At, IsConstructorOf, IsConstructorNamed}
@@ -22,6 +22,10 @@ pub record IsOnlyConstructor (ds : List DeclText) (type : List ℕ) (j : ℕ) (c
 -- the type has exactly one constructor
 abbrev pub IsSingle : List DeclText → List ℕ → Type 0
 IsSingle ds type = (j : ℕ) × (c : DeclText) × IsOnlyConstructor ds type j c
+
+-- how many variables each declaration has
+abbrev pub var_counts : List DeclText → List ℕ
+var_counts ds = map (λ d. length d.vars) ds
 
 -- two own constructors of the type have different numbers of variables
 pub record IsUneven (ds : List DeclText) (type : List ℕ) : Type 0 where

@@ -3,9 +3,7 @@ pub mod NameLists
 pub mod Writing
 pub mod Places
 pub mod What
-pub mod DeclCodes
 pub mod Constructors
-pub mod Indexed
 pub mod Meants
 pub mod MeantDecls
 pub mod MeantViews

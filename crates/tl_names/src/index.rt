@@ -1,8 +1,8 @@
 //! The declarations of a program by name.
 ghost use Rattle.std.specs.Prelude.{◌≡◌, ◌∷◌, [], ◌++◌, ◌<◌, ◌≤◌, ◌^◌, ℕ, List, length, slice_get, IfOk, OnOk, Some};
 ghost use Rattle.tl_combinators.specs.Program.{DeclText, decl_text, program_text};
-ghost use Rattle.tl_names.specs.Constructors.{AreConstructors, IsFamily};
-ghost use Rattle.tl_names.specs.Indexed.{AreNumbered, Changes, IndexesNames, IndexesTypes, one_more, var_counts};
+ghost use Rattle.tl_names.specs.Constructors.{AreConstructors, IsFamily, var_counts};
+ghost use Rattle.tl_names.specs.inner.Indexed.{AreNumbered, Changes, IndexesNames, IndexesTypes, one_more};
 ghost use Rattle.tl_names.specs.NamePlaces.{place_in};
 ghost use Rattle.tl_names.specs.Places.{types_of};
 ghost use Rattle.tl_names.specs.What.{base_what, constructor_named, declared_what, known_what, type_meant, type_named, unless_variable};
@@ -39,13 +39,13 @@ pub struct Index {
 impl Model for Index {
     ghost use Rattle.std.specs.Prelude.{List};
     ghost use Rattle.tl_combinators.specs.Program.{DeclText, program_text};
-    ghost use Rattle.tl_names.specs.DeclCodes.{decls_code};
+    ghost use Rattle.tl_names.specs.inner.DeclCodes.{decls_code};
 
     ghost Value = { List DeclText };
 
     ghost coded = { decls_code };
 
-    ghost use Rattle.tl_names.specs.Indexed.{IsIndex};
+    ghost use Rattle.tl_names.specs.inner.Indexed.{IsIndex};
 
     ghost view = { λ x. program_text x.program.value };
 

@@ -23,7 +23,7 @@ impl<'t> Model for Scope<'t> {
     ghost use Rattle.std.specs.Prelude.{List};
     ghost use Rattle.std.specs.Coded.{coded×};
     ghost use Rattle.tl_combinators.specs.Program.{DeclText, decl_text};
-    ghost use Rattle.tl_names.specs.DeclCodes.{decl_code, decls_code};
+    ghost use Rattle.tl_names.specs.inner.DeclCodes.{decl_code, decls_code};
     ghost use Rattle.tl_names.specs.inner.Scopes.{IsScope};
 
     ghost Value = { List DeclText × DeclText };

@@ -90,9 +90,6 @@ module _ (ds : List DeclText) {X : Type 0} (cs : List CheckCause) where
   gives_fault e (Ok x) h is = tt
   gives_fault e (Err z) h is = subst (λ (y : CheckFault). ChecksBy ds cs (Err y)) (sym is) h
 
-  pub gives_memory : (r : Result X CheckFault) → IsErrAnd r (λ z. z ≡ Memory) → IfErr r (λ f. ChecksBy ds cs (Err f))
-  gives_memory r is = gives_fault Memory r tt is
-
   pub fault_then : (before : List CheckCause) (r : Result X CheckFault) → PassesBy ds before → IfErr r (λ f. ChecksBy ds cs (Err f)) → IfErr r (λ f. ChecksBy ds (before ++ cs) (Err f))
   fault_then before (Ok x) p h = tt
   fault_then before (Err e) p h = checked_then ds before cs (Err e) p h

@@ -1,6 +1,6 @@
--- The first place with a property: there is one or none, and only one answer.
-use Rattle.std.proofs.Common.{◌≡◌, ◌⊎◌, inl, inr, ℕ, zero, suc, ◌<◌, List, length, slice_get, Option, Some, None, refl, ap, subst, arith}
-use Rattle.std.proofs.lemmas.Bool.{cases_eq, cases_order}
+-- The first place with a property that is decided: there is one or none.
+use Rattle.std.proofs.Common.{◌⊎◌, inl, inr, ℕ, zero, suc, ◌<◌, List, length, slice_get, Option, Some, None, subst, arith}
+use Rattle.std.proofs.lemmas.Bool.{cases_eq}
 use Rattle.std.proofs.lemmas.Option.{slice_get_within}
 use Rattle.tl_lexer.proofs.Whole.{Decided}
 use Rattle.tl_combinators.specs.Program.{DeclText}

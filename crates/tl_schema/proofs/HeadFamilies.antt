@@ -15,9 +15,6 @@ use Rattle.tl_schema.specs.WrongArity.{ConstructsUneven, IsMisapplied}
 use Rattle.tl_schema.proofs.ArityCases.{first_has, none_has}
 
 module _ (ds : List DeclText) (type : List ℕ) where
-  pub some_single : (c : Constructors) → IsFamily ds type (Some c) → IsTrue c.only ↔ IsSingle ds type
-  some_single c family = family.only
-
   pub none_single : IsFamily ds type None → IsTrue false ↔ IsSingle ds type
   none_single none = (λ h. absurd (true≢false (sym h)), λ one. absurd (none one.0 (one.1, one.2.one)))
 

@@ -7,7 +7,7 @@ use denote.Struct.Codes.{itself}
 use Rattle.tl_combinators.specs.Program.{DeclText}
 use Rattle.tl_schema.specs.Types.{Shape, Shapes, int, long, nat, opaque, str, raw, flag, call, var, vector, boxed, bare, no_shapes, shape}
 use Rattle.tl_schema.specs.Schemas.{Slot, Declaration, Declared}
-use Rattle.tl_names.specs.DeclCodes.{name_code, decls_code}
+use Rattle.tl_names.specs.inner.DeclCodes.{name_code, decls_code}
 
 abbrev mutual
   shape_to : Shape → Gv

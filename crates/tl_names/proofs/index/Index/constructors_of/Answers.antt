@@ -1,7 +1,7 @@
 use Rattle.std.proofs.Common.{◌∙◌, subst, sym}
 use Rattle.tl_combinators.specs.Program.{program_text}
 use Rattle.tl_names.specs.Constructors.{IsFamily}
-use Rattle.tl_names.specs.Indexed.{at_number}
+use Rattle.tl_names.specs.inner.Indexed.{at_number}
 use Rattle.tl_names.proofs.index.Index.constructors_of.Goals as goal
 
 pub returns-in-None : goal.returns-in-None

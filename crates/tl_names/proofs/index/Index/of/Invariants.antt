@@ -1,6 +1,6 @@
 use Rattle.std.proofs.Common.{take}
 use Rattle.tl_combinators.specs.Program.{program_text}
-use Rattle.tl_names.specs.Indexed.{IsIndex}
+use Rattle.tl_names.specs.inner.Indexed.{IsIndex}
 use Rattle.tl_names.proofs.index.Index.of.Given as goal
 
 abbrev pub invariant-loop-at : goal.invariant-loop-at

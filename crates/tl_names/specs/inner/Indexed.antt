@@ -1,8 +1,8 @@
 -- What an index of declarations holds: for each name its first constructor, for each type its number, and by that number its constructors.
 -- This project's own.
-use Rattle.std.specs.Prelude.{◌≡◌, ℕ, ◌<◌, ◌+◌, ◌^◌, List, is_some, length, bytes_eq, slice_get, map, Option, None, Some, true, false, not, ◌||◌, ◌==◌, if◌then◌else◌}
+use Rattle.std.specs.Prelude.{◌≡◌, ℕ, ◌<◌, ◌+◌, ◌^◌, List, is_some, length, bytes_eq, slice_get, Option, None, Some, true, false, not, ◌||◌, ◌==◌, if◌then◌else◌}
 use Rattle.tl_combinators.specs.Program.{DeclText}
-use Rattle.tl_names.specs.Constructors.{IsFamily}
+use Rattle.tl_names.specs.Constructors.{IsFamily, var_counts}
 use Rattle.tl_names.specs.NamePlaces.{Notes, place_in}
 use Rattle.tl_names.specs.Places.{types_of}
 use Rattle.tl_names.specs.What.{constructor_named, type_named}
@@ -31,10 +31,6 @@ pub record IndexesTypes (ds : List DeclText) (types : List (List ℕ × ℕ)) (f
   pub numbers : (type : List ℕ) → place_in types type ≡ type_named ds type
   pub count : length families ≡ length (types_of ds)
   pub made : (type : List ℕ) → IsFamily ds type (at_type types families type)
-
--- how many variables each declaration has
-abbrev pub var_counts : List DeclText → List ℕ
-var_counts ds = map (λ d. length d.vars) ds
 
 -- the maps are those of the declarations, which can be counted in 32 bits
 pub record IsIndex (ds : List DeclText) (names types : List (List ℕ × ℕ)) (families : List Constructors) (vars : List ℕ) : Type 0 where
