@@ -3,6 +3,7 @@ pub mod FixedItems
 pub mod Pieces
 pub mod Strings
 pub mod FirstDeclarations
+pub mod NumberedDeclarations
 pub mod Loops
 pub mod Values
 pub mod Opaques

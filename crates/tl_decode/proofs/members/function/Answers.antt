@@ -1,10 +1,14 @@
 use Rattle.std.proofs.Common.{◌∙◌, sym}
-use Rattle.tl_types.specs.inner.Reading.{is_function}
-use Rattle.tl_decode.proofs.FirstDeclarations.{first_here, first_later}
+use Rattle.tl_decode.proofs.NumberedDeclarations.{function_here, function_other, function_none}
 use Rattle.tl_decode.proofs.members.function.Goals as goal
 
-pub returns-then-is_called-clause-found : goal.returns-then-is_called-clause-found
-returns-then-is_called-clause-found c = sym (first_here (is_function c.args.number) c.args.schema.now.decls c.loop-i.i _ c.entry.ensures (sym c.is_called.ensures ∙ c.if-is_called.true)) ∙ c.loop-i.invariant
+pub returns-in_err-i-clause-found : goal.returns-in_err-i-clause-found
+returns-in_err-i-clause-found c = c.from_residual.ensures ∙ function_none c.args.schema.now c.numbered.ensures.sound c.args.number c.in_err-i.ensures.found
 
-pub loop-i-preserved : goal.loop-i-preserved
-loop-i-preserved c = sym (first_later (is_function c.args.number) c.args.schema.now.decls c.loop-i.i _ c.entry.ensures (sym c.is_called.ensures ∙ c.if-is_called.false)) ∙ c.loop-i.invariant
+pub returns-then-is_called-clause-found : goal.returns-then-is_called-clause-found
+returns-then-is_called-clause-found c =
+    function_here c.args.schema.now c.numbered.ensures.sound c.args.number c.in_ok-i.i _ c.entry.ensures (sym c.is_called.ensures ∙ c.if-is_called.true)
+
+pub returns-else-is_called-clause-found : goal.returns-else-is_called-clause-found
+returns-else-is_called-clause-found c =
+    function_other c.args.schema.now c.numbered.ensures.sound c.args.number c.in_ok-i.i _ c.entry.ensures c.in_ok-i.ensures.found (sym c.is_called.ensures ∙ c.if-is_called.false)

@@ -1,10 +1,15 @@
-use Rattle.std.proofs.Common.{◌∙◌, sym}
-use Rattle.tl_types.specs.inner.Reading.{is_member}
-use Rattle.tl_decode.proofs.FirstDeclarations.{first_here, first_later}
+use Rattle.std.proofs.Common.{◌∙◌, sym, arith}
+use Rattle.tl_decode.proofs.NumberedDeclarations.{member_here, member_other, member_none}
 use Rattle.tl_decode.proofs.members.member.Goals as goal
 
-pub returns-then-constructs-clause-found : goal.returns-then-constructs-clause-found
-returns-then-constructs-clause-found c = sym (first_here (is_member c.args.head c.args.number) c.args.schema.now.decls c.loop-i.i _ c.entry.ensures (sym c.constructs.ensures ∙ c.if-constructs.true)) ∙ c.loop-i.invariant
+pub returns-in_err-i-clause-found : goal.returns-in_err-i-clause-found
+returns-in_err-i-clause-found c =
+    c.from_residual.ensures ∙ member_none c.args.schema.now c.numbered.ensures.sound c.args.number c.args.head (omega (arith, c.if-head-type_count.false, c.type_count.ensures)) c.in_err-i.ensures.found
 
-pub loop-i-preserved : goal.loop-i-preserved
-loop-i-preserved c = sym (first_later (is_member c.args.head c.args.number) c.args.schema.now.decls c.loop-i.i _ c.entry.ensures (sym c.constructs.ensures ∙ c.if-constructs.false)) ∙ c.loop-i.invariant
+pub returns-then-constructs-clause-found : goal.returns-then-constructs-clause-found
+returns-then-constructs-clause-found c =
+    member_here c.args.schema.now c.numbered.ensures.sound c.args.number c.args.head (omega (arith, c.if-head-type_count.false, c.type_count.ensures)) c.in_ok-i.i _ c.entry.ensures (sym c.constructs.ensures ∙ c.if-constructs.true)
+
+pub returns-else-constructs-clause-found : goal.returns-else-constructs-clause-found
+returns-else-constructs-clause-found c =
+    member_other c.args.schema.now c.numbered.ensures.sound c.args.number c.in_ok-i.i _ c.entry.ensures c.in_ok-i.ensures.found c.args.head (omega (arith, c.if-head-type_count.false, c.type_count.ensures)) (sym c.constructs.ensures ∙ c.if-constructs.false)
