@@ -17,14 +17,11 @@ ghost use Rattle.codec_commands.specs.Decoding.{GivesValue, GivesFault, ReadsAs}
 use plain_values::{Cause, Value};
 use std::alloc::{AllocError, AllocFailed, Global};
 use thiserror::Error;
-use tl_base::{Source, TakeFault, take_bytes, take_word};
+use tl_base::{PACKED, Source, TakeFault, take_bytes, take_word};
 use tl_schema::{Entry, Schema, SchemaField, TypeRef};
 
 /// The most levels of records, one in the other, that a value may have.
 pub const MAX_LEVELS: u32 = 120;
-
-/// The number of a packed value.
-const PACKED: u32 = 0x3072cfa1;
 
 /// Why bytes are no value.
 #[derive(Clone, Copy, Debug, PartialEq, Eq, Error)]

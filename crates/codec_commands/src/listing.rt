@@ -4,6 +4,7 @@ ghost use Rattle.tl_schema.specs.Seen.{declaration};
 ghost use Rattle.codec_commands.specs.Check.{counts_line, entry_line, is_listed, listing};
 
 use std::alloc::{AllocError, Global};
+use tl_combinators::BuiltIn;
 use tl_numbers::print_hex;
 use tl_schema::{Entry, Schema};
 
@@ -48,14 +49,17 @@ fn add_line(text: &mut Vec<u8>, entry: &Entry) -> Result<(), AllocError>
 fn is_listed(entry: &Entry) -> bool
     ensures { result ≡ is_listed (declaration entry.now) }
 {
-    let name = entry.name.as_slice();
-    !(name == b"int".as_slice()
-        || name == b"long".as_slice()
-        || name == b"double".as_slice()
-        || name == b"string".as_slice()
-        || name == b"bytes".as_slice()
-        || name == b"int128".as_slice()
-        || name == b"int256".as_slice())
+    match BuiltIn::of(entry.name.as_slice()) {
+        None => true,
+        Some(BuiltIn::Int) => false,
+        Some(BuiltIn::Long) => false,
+        Some(BuiltIn::Double) => false,
+        Some(BuiltIn::Str) => false,
+        Some(BuiltIn::Bytes) => false,
+        Some(BuiltIn::Vector) => true,
+        Some(BuiltIn::Int128) => false,
+        Some(BuiltIn::Int256) => false,
+    }
 }
 
 fn counts_line_of(alloc: Global, constructors: u32, functions: u32) -> Result<String, AllocError>

@@ -8,7 +8,7 @@ use Rattle.tl_combinators.specs.declared.built_in.BuiltIn.TheVariants.{Int, Long
 use Rattle.tl_combinators.specs.BuiltIns.{own_name, built_in}
 use Rattle.tl_schema.specs.Types.{Shape, int, long, opaque, str, raw}
 use Rattle.tl_names.specs.Writing.{is_type_name, is_built_in}
-use Rattle.tl_schema.specs.Meanings.{base_shape}
+use Rattle.tl_schema.specs.Meanings.{base_shape, built_in_shape}
 
 -- ---- choices
 
@@ -88,12 +88,18 @@ module _ (name : List ℕ) (other : bytes_eq name (codes "Vector") ≡ false) wh
 
 -- ---- the types that the language has from the start
 
-abbrev bases : List (List ℕ × Shape)
-bases =
-    (codes "int", int) ∷ (codes "long", long) ∷ (codes "double", opaque 8) ∷ (codes "string", str) ∷ (codes "bytes", raw) ∷ (codes "int128", opaque 16)
-    ∷ (codes "int256", opaque 32) ∷ []
-
 -- what is such of each of their shapes, and of no shape, is such
+module _ (P : Option Shape → Type 0) where
+  shape_of_built_in : (b : Option BuiltIn) → P (Some int) → P (Some long) → ((k : ℕ) → P (Some (opaque k))) → P (Some str) → P (Some raw) → P None → P (built_in_shape b)
+  shape_of_built_in (Some Int) at_int at_long at_opaque at_str at_raw at_none = at_int
+  shape_of_built_in (Some Long) at_int at_long at_opaque at_str at_raw at_none = at_long
+  shape_of_built_in (Some Double) at_int at_long at_opaque at_str at_raw at_none = at_opaque 8
+  shape_of_built_in (Some Str) at_int at_long at_opaque at_str at_raw at_none = at_str
+  shape_of_built_in (Some Bytes) at_int at_long at_opaque at_str at_raw at_none = at_raw
+  shape_of_built_in (Some Vector) at_int at_long at_opaque at_str at_raw at_none = at_none
+  shape_of_built_in (Some Int128) at_int at_long at_opaque at_str at_raw at_none = at_opaque 16
+  shape_of_built_in (Some Int256) at_int at_long at_opaque at_str at_raw at_none = at_opaque 32
+  shape_of_built_in None at_int at_long at_opaque at_str at_raw at_none = at_none
+
 pub base_by : (P : Option Shape → Type 0) (name : List ℕ) → P (Some int) → P (Some long) → ((k : ℕ) → P (Some (opaque k))) → P (Some str) → P (Some raw) → P None → P (base_shape name)
-base_by P name at_int at_long at_opaque at_str at_raw at_none =
-    chosen_by name P bases ((λ _. at_int), ((λ _. at_long), ((λ _. at_opaque 8), ((λ _. at_str), ((λ _. at_raw), ((λ _. at_opaque 16), ((λ _. at_opaque 32), at_none)))))))
+base_by P name = shape_of_built_in P (built_in name)

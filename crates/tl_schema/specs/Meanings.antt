@@ -8,6 +8,8 @@ use Rattle.std.specs.Option.{option_map}
 use Rattle.std.specs.List.{position_or_len}
 use Rattle.tl_combinators.specs.Trees.{Tree, Trees, named, percent, any_call, no_trees, tree}
 use Rattle.tl_combinators.specs.Program.{KindText, nat, flag, call, of, CondText, FieldText, DeclText}
+use Rattle.tl_combinators.specs.BuiltIns.{built_in}
+use Rattle.tl_combinators.specs.declared.built_in.BuiltIn.{BuiltIn}
 use Rattle.tl_names.specs.Writing.{At, is_function, is_type_name, is_variable, own_type}
 use Rattle.tl_names.specs.Places.{types_of, head_of, place_of, first_of, variable_of}
 use Rattle.tl_schema.specs.Numbers.{IsNumberOf}
@@ -23,12 +25,20 @@ item_of no_shapes = shape.call
 item_of (shape s ss) = s
 
 -- a type that the language has from the start, vectors aside
+abbrev pub built_in_shape : Option BuiltIn → Option Shape
+built_in_shape (Some BuiltIn.Int) = Some shape.int
+built_in_shape (Some BuiltIn.Long) = Some shape.long
+built_in_shape (Some BuiltIn.Double) = Some (shape.opaque 8)
+built_in_shape (Some BuiltIn.Str) = Some shape.str
+built_in_shape (Some BuiltIn.Bytes) = Some shape.raw
+built_in_shape (Some BuiltIn.Vector) = None
+built_in_shape (Some BuiltIn.Int128) = Some (shape.opaque 16)
+built_in_shape (Some BuiltIn.Int256) = Some (shape.opaque 32)
+built_in_shape None = None
+
+-- likewise, by its name
 abbrev pub base_shape : List ℕ → Option Shape
-base_shape name =
-    if bytes_eq name (codes "int") then Some shape.int else if bytes_eq name (codes "long") then Some shape.long
-    else if bytes_eq name (codes "double") then Some (shape.opaque 8) else if bytes_eq name (codes "string") then Some shape.str
-    else if bytes_eq name (codes "bytes") then Some shape.raw else if bytes_eq name (codes "int128") then Some (shape.opaque 16)
-    else if bytes_eq name (codes "int256") then Some (shape.opaque 32) else None
+base_shape name = built_in_shape (built_in name)
 
 -- what is declared under the name, boxed or bare
 abbrev pub declared_shape : List DeclText → List ℕ → Shapes → Shape

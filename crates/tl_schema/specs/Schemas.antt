@@ -1,5 +1,6 @@
 -- What a schema holds: its program, and for each declaration of this an entry. This project's own.
 use Rattle.std.specs.Prelude.{ℕ, Bool, List, Option}
+use Rattle.tl_base.specs.declared.numbers.TheConstants.{BOXED_VECTOR, PACKED}
 use Rattle.tl_combinators.specs.Program.{DeclText}
 use Rattle.tl_schema.specs.Types.{Shape}
 
@@ -27,8 +28,8 @@ pub record Declared : Type 0 where
 
 -- 1cb5c415, the number of a boxed vector
 abbrev pub vector_number : ℕ
-vector_number = 481674261
+vector_number = BOXED_VECTOR
 
 -- 3072cfa1, the number of a packed value
 abbrev pub packed_number : ℕ
-packed_number = 812830625
+packed_number = PACKED

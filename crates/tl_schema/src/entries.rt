@@ -8,10 +8,11 @@ ghost use Rattle.tl_names.specs.What.{field_named};
 ghost use Rattle.tl_schema.specs.Seen.{declaration, shape, slot};
 ghost use Rattle.tl_schema.specs.Meanings.{IsEntry, IsEntryNumber, condition_of, kind_shape, kind_variable, line_shape, result_shape, slot_of};
 
-use crate::same_number::{VECTOR, number_of};
+use crate::same_number::number_of;
 use crate::schema::{Entry, SchemaField, TypeRef};
 use crate::terms::{base_term, type_term};
 use std::alloc::{AllocError, Global};
+use tl_base::BOXED_VECTOR;
 use tl_combinators::{Decl, Field, FieldKind};
 use tl_names::{Index, MeantCond, MeantDecl, MeantField, Scope, is_function};
 
@@ -47,7 +48,7 @@ fn entry_number(decl: &Decl) -> u32
         return number_of(decl);
     }
     if decl.name.as_slice() == b"vector".as_slice() {
-        VECTOR
+        BOXED_VECTOR
     } else {
         0
     }

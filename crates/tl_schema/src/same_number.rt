@@ -8,13 +8,9 @@ ghost use Rattle.tl_schema.specs.SameNumber.{SameNumber};
 
 use std::alloc::{AllocError, Global};
 use std::collections::BTreeSet;
+use tl_base::{BOXED_VECTOR, PACKED};
 use tl_combinators::{Decl, Program};
 use tl_numbers::crc32;
-
-/// The number of a boxed vector.
-pub const VECTOR: u32 = 0x1cb5c415;
-/// The number of a packed value.
-const PACKED: u32 = 0x3072cfa1;
 
 /// The first declaration with a number that is taken: an earlier declaration's, that of packed values, or that of `Vector`.
 pub fn first_same_number(alloc: Global, program: &Program) -> Result<Option<u32>, AllocError>
@@ -48,5 +44,5 @@ pub fn number_of(decl: &Decl) -> u32
 fn is_taken(number: u32) -> bool
     ensures { IsTrue result ↔ IsTaken number }
 {
-    number == PACKED || number == VECTOR
+    number == PACKED || number == BOXED_VECTOR
 }

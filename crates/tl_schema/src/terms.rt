@@ -8,7 +8,7 @@ ghost use Rattle.tl_schema.specs.Meanings.{bare_meaning, bare_shape, base_shape,
 
 use crate::schema::TypeRef;
 use std::alloc::{AllocError, Global};
-use tl_combinators::TypeTree;
+use tl_combinators::{BuiltIn, TypeTree};
 use tl_names::{Scope, is_type_name};
 
 /// A type, where a declaration writes it.
@@ -131,21 +131,15 @@ fn vector_term(alloc: Global, is_boxed: bool, args: Vec<TypeRef>) -> Result<Type
 pub fn base_term(name: &[u8]) -> Option<TypeRef>
     ensures { option_map shape result ≡ base_shape name.now }
 {
-    if name == b"int".as_slice() {
-        Some(TypeRef::Int)
-    } else if name == b"long".as_slice() {
-        Some(TypeRef::Long)
-    } else if name == b"double".as_slice() {
-        Some(TypeRef::Double)
-    } else if name == b"string".as_slice() {
-        Some(TypeRef::Str)
-    } else if name == b"bytes".as_slice() {
-        Some(TypeRef::Raw)
-    } else if name == b"int128".as_slice() {
-        Some(TypeRef::Int128)
-    } else if name == b"int256".as_slice() {
-        Some(TypeRef::Int256)
-    } else {
-        None
+    match BuiltIn::of(name) {
+        None => None,
+        Some(BuiltIn::Int) => Some(TypeRef::Int),
+        Some(BuiltIn::Long) => Some(TypeRef::Long),
+        Some(BuiltIn::Double) => Some(TypeRef::Double),
+        Some(BuiltIn::Str) => Some(TypeRef::Str),
+        Some(BuiltIn::Bytes) => Some(TypeRef::Raw),
+        Some(BuiltIn::Vector) => None,
+        Some(BuiltIn::Int128) => Some(TypeRef::Int128),
+        Some(BuiltIn::Int256) => Some(TypeRef::Int256),
     }
 }
