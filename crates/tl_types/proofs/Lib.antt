@@ -1,4 +1,5 @@
 pub mod Views
+pub mod Closings
 pub mod ClosedLists
 pub mod Numbers
 pub mod Members

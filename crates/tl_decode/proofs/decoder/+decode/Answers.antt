@@ -16,7 +16,8 @@ use Rattle.tl_types.proofs.Views.{shape-Vector, shape-Boxed, shape-Bare, shape-C
 use Rattle.tl_decode.proofs.Steps.{continues_none, continues_more, continues_fails, continues_done}
 use Rattle.tl_decode.proofs.Loops.{next_element, no_element, next_field, no_field}
 use Rattle.tl_decode.proofs.Values.{deep_as, deep_plain, deep_boxed, deep_bare, value_plain, value_too_deep, value_deep, wide_fails, wide_wrong, wide_read, list_fails, list_many, list_inner, list_read, number_fails, number_wrong, number_inner, number_read, bare_fails, bare_read, bare_none, fields_are, fields_past}
-use Rattle.tl_decode.proofs.Closings.{no_arguments, field_as_it_is}
+use Rattle.tl_types.proofs.Closings.{no_arguments}
+use Rattle.tl_decode.proofs.Closings.{field_as_it_is}
 use Rattle.tl_decode.proofs.decoder.+decode.Goals as goal
 
 vector_is : (t : TypeRef) (w v : Bool) (item : Box TypeRef Global) (u : TypeRef) → t ≡ Vector w item → w ≡ v → u ≡ item.value → shape t ≡ type.vector v (shape u)
