@@ -235,7 +235,7 @@ fn fields_of<S: Source>(
     ensures read { ReadsAs (λ v. map view v.items) (S.state from.old).left (S.state from.new).left at.old at.new result (fields_at (value_at schema.now.decls levels) (map shape args.now) [] (map slot slots.now)) }
     ensures used { Used (S.state from.old) (S.state from.new) (IsErrOf result DecodeFault.ReadFault) }
 {
-    let mut fields = Vec::new(alloc);
+    let mut fields = Vec::with_capacity(alloc, slots.len())?;
     for field in slots {
         let value = field_of(alloc, schema, levels, args, field, &fields, at, from)?;
         fields.push(value)?;
