@@ -1,0 +1,4 @@
+pub mod Appending
+pub mod Declarations
+pub mod FieldsByPlace
+pub mod Sizes
