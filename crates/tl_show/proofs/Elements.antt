@@ -1,7 +1,7 @@
 -- The elements of a list, one after the other.
 use Rattle.std.proofs.Common.{◌≡◌, ℕ, ◌≤◌, List, [], ◌∷◌, length, map, take, refl, ap, ◌∙◌}
 use Rattle.std.proofs.lemmas.List.{take_all}
-use Rattle.serde_json.specs.Data.{Data, item}
+use Rattle.serde_json.specs.Data.{item}
 use Rattle.serde_json.specs.View.{view as data_of, items_of, items_view}
 use Rattle.serde_json.specs.declared.value.Value as json
 use Rattle.tl_schema.specs.Types.{Shape}

@@ -2,8 +2,7 @@
 ghost use Rattle.std.specs.Prelude.{◌≡◌, IfOk, map, slice_get, string_bytes};
 ghost use Rattle.tl_schema.specs.Seen.{shape, slot};
 ghost use Rattle.tl_types.specs.Seen.{view};
-ghost use Rattle.tl_show.specs.Shown as shown;
-ghost use Rattle.tl_show.specs.Shown.{fields_in, name_in};
+ghost use Rattle.tl_show.specs.Shown.{arguments_of, fields_in, is_absent, is_string, item_of, name_in, name_text};
 
 use std::alloc::{AllocError, Global};
 use tl_schema::{Schema, SchemaField, TypeRef};
@@ -33,7 +32,7 @@ pub fn slots_of(schema: &Schema, entry: u32) -> &[SchemaField]
 
 /// Whether a type is `string`.
 pub fn is_string(of: &TypeRef) -> bool
-    ensures { result ≡ shown.is_string (shape of.now) }
+    ensures { result ≡ is_string (shape of.now) }
 {
     match of {
         TypeRef::Str => true,
@@ -43,7 +42,7 @@ pub fn is_string(of: &TypeRef) -> bool
 
 /// The type of the elements of a vector; of another type this type itself.
 pub fn item_of(of: &TypeRef) -> &TypeRef
-    ensures { shape result.now ≡ shown.item_of (shape of.now) }
+    ensures { shape result.now ≡ item_of (shape of.now) }
 {
     match of {
         TypeRef::Vector { item, .. } => item,
@@ -53,7 +52,7 @@ pub fn item_of(of: &TypeRef) -> &TypeRef
 
 /// What a type is applied to.
 pub fn arguments_of(of: &TypeRef) -> &[TypeRef]
-    ensures { map shape result.now ≡ shown.arguments_of (shape of.now) }
+    ensures { map shape result.now ≡ arguments_of (shape of.now) }
 {
     match of {
         TypeRef::Boxed { args, .. } => args,
@@ -64,7 +63,7 @@ pub fn arguments_of(of: &TypeRef) -> &[TypeRef]
 
 /// Whether a value stands for a field that isn't there.
 pub fn is_absent(value: &Value) -> bool
-    ensures { result ≡ shown.is_absent (view value.now) }
+    ensures { result ≡ is_absent (view value.now) }
 {
     match value {
         Value::Absent => true,
@@ -74,7 +73,7 @@ pub fn is_absent(value: &Value) -> bool
 
 /// The text of a name, each byte a character.
 pub fn name_text(alloc: Global, name: &[u8]) -> Result<String, AllocError>
-    ensures { IfOk result (λ s. string_bytes s ≡ shown.name_text name.now) }
+    ensures { IfOk result (λ s. string_bytes s ≡ name_text name.now) }
 {
     let mut text = String::new(alloc);
     for byte in name {

@@ -5,8 +5,7 @@ ghost use Rattle.serde_json.specs.View.{view as data_of, members_view};
 ghost use Rattle.tl_schema.specs.Seen.{shape, slot};
 ghost use Rattle.tl_schema.specs.Closing.{closed};
 ghost use Rattle.tl_types.specs.Seen.{view, views};
-ghost use Rattle.tl_show.specs.Shown as inner;
-ghost use Rattle.tl_show.specs.Shown.{fields_in, hex_data, name_in, named, shown, shown_each, string_data, text_data, with_field, with_fields};
+ghost use Rattle.tl_show.specs.Shown.{fields_in, hex_data, is_absent, name_in, name_text, named, shown, shown_each, string_data, text_data, with_field, with_fields};
 
 use crate::parts::{arguments_of, is_absent, is_string, item_of, name_of, name_text, slots_of};
 use serde_json::Map;
@@ -117,7 +116,7 @@ fn put_field(
     field: &SchemaField,
     members: &mut Map<String, serde_json::Value>,
 ) -> Result<(), AllocError>
-    ensures { OnOk result (members_view members.new.entries ≡ with_field (inner.is_absent (view value.now)) field.now.name (shown schema.now.decls (closed (map shape args.now) (shape field.now.of)) (view value.now)) (members_view members.old.entries)) }
+    ensures { OnOk result (members_view members.new.entries ≡ with_field (is_absent (view value.now)) field.now.name (shown schema.now.decls (closed (map shape args.now) (shape field.now.of)) (view value.now)) (members_view members.old.entries)) }
 {
     if is_absent(value) {
         return Ok(());
@@ -200,7 +199,7 @@ fn put_member(
     name: &[u8],
     json: serde_json::Value,
 ) -> Result<(), AllocError>
-    ensures { OnOk result (members_view members.new.entries ≡ put (inner.name_text name.now) (data_of json) (members_view members.old.entries)) }
+    ensures { OnOk result (members_view members.new.entries ≡ put (name_text name.now) (data_of json) (members_view members.old.entries)) }
 {
     members.insert(name_text(alloc, name)?, json)?;
     Ok(())

@@ -1,4 +1,4 @@
-use Rattle.std.proofs.Common.{map, ap, ◌∙◌, arith}
+use Rattle.std.proofs.Common.{ap, ◌∙◌, arith}
 use Rattle.serde_json.specs.Data.{array}
 use Rattle.serde_json.proofs.Views.{view-Array}
 use Rattle.tl_schema.specs.Seen.{shape}
