@@ -14,5 +14,7 @@ each_shown : (ds : List Declaration) (T : Shape) (vs : List Value) → items_of 
 each_shown ds T [] = refl
 each_shown ds T (v ∷ vs) = ap (item (shown ds T (view v))) (each_shown ds T vs)
 
-pub all_shown : (ds : List Declaration) (T : Shape) (vs xs : List Value) (js : List json.Value) (i : ℕ) → xs ≡ vs → map data_of js ≡ map (λ v. shown ds T (view v)) (take i xs) → length xs ≤ i → items_view js ≡ shown_each ds T (views vs)
-all_shown ds T vs xs js i same h past = ap items_of (h ∙ ap (map (λ v. shown ds T (view v))) (take_all i xs past ∙ same)) ∙ each_shown ds T vs
+pub all_shown : (ds : List Declaration) (T : Shape) (vs xs : List Value) (js : List json.Value) (i : ℕ)
+    → xs ≡ vs → map data_of js ≡ map (λ v. shown ds T (view v)) (take i xs) → length xs ≤ i → items_view js ≡ shown_each ds T (views vs)
+all_shown ds T vs xs js i same h past =
+    ap items_of (h ∙ ap (map (λ v. shown ds T (view v))) (take_all i xs past ∙ same)) ∙ each_shown ds T vs

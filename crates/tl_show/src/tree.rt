@@ -77,7 +77,8 @@ fn record_of(
     entry: u32,
     args: &[TypeRef],
 ) -> Result<serde_json::Value, AllocError>
-    ensures { IfOk result (λ json. data_of json ≡ object (with_fields schema.now.decls (map shape args.now) (named (name_in (slice_get schema.now.decls entry))) (fields_in (slice_get schema.now.decls entry)) (views values.now.items))) }
+    ensures { let d = slice_get schema.now.decls entry in IfOk result
+        (λ json. data_of json ≡ object (with_fields schema.now.decls (map shape args.now) (named (name_in d)) (fields_in d) (views values.now.items))) }
 {
     let mut members = start_of(alloc, name_of(schema, entry))?;
     let slots = slots_of(schema, entry);
@@ -116,7 +117,8 @@ fn put_field(
     field: &SchemaField,
     members: &mut Map<String, serde_json::Value>,
 ) -> Result<(), AllocError>
-    ensures { OnOk result (members_view members.new.entries ≡ with_field (is_absent (view value.now)) field.now.name (shown schema.now.decls (closed (map shape args.now) (shape field.now.of)) (view value.now)) (members_view members.old.entries)) }
+    ensures { let d = shown schema.now.decls (closed (map shape args.now) (shape field.now.of)) (view value.now) in OnOk result
+        (members_view members.new.entries ≡ with_field (is_absent (view value.now)) field.now.name d (members_view members.old.entries)) }
 {
     if is_absent(value) {
         return Ok(());
