@@ -4,7 +4,7 @@
 mod forms;
 mod line;
 mod parts;
-mod strings;
+mod texts;
 mod tree;
 mod writing;
 

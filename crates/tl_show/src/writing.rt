@@ -11,7 +11,7 @@ ghost use Rattle.tl_show.specs.Shown as shown;
 
 use crate::forms::{Form, Part};
 use crate::parts::{arguments_of, is_absent, item_of};
-use crate::strings::{write_hex, write_text};
+use crate::texts::{write_hex, write_text};
 use json::Writer;
 use std::alloc::{AllocError, Global};
 use tl_schema::TypeRef;

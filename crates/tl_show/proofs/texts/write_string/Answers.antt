@@ -1,5 +1,5 @@
 use Rattle.tl_show.proofs.Appending.{digits_appended, one_appended, text_appended}
-use Rattle.tl_show.proofs.strings.write_string.Goals as goal
+use Rattle.tl_show.proofs.texts.write_string.Goals as goal
 
 pub returns-in-Ok : goal.returns-in-Ok
 returns-in-Ok c = text_appended c.string.result c.args.out.now c.string.new.self c.args.bytes.now c.in-Ok.text.now c.in-Ok.ensures.cases.0 c.in-Ok.ensures.cases.1 c.string.ensures
