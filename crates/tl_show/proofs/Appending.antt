@@ -7,7 +7,7 @@ use Rattle.json.specs.Token.{Token, begin_object, end_object, key, string}
 use Rattle.json.specs.Tree.{json_tokens}
 use Rattle.json.specs.Written.{Written, Writes}
 use Rattle.serde_json.specs.Data.{Data, object}
-use Rattle.serde_json.specs.Data as data
+use Rattle.serde_json.specs.Data as json
 use Rattle.serde_json.specs.Written.{outline}
 use Rattle.tl_schema.specs.Types.{Shape}
 use Rattle.tl_schema.specs.Closing.{closed}
@@ -37,7 +37,7 @@ pub same_appended : (r : Done) (old new : Written) (d e : Data) → d ≡ e → 
 same_appended r old new d e same written = let P : Data → Type 0 = λ x. WritesData r old new x in subst P (sym same) written
 
 pub text_appended : (r : Done) (old new : Written) (s text : List ℕ) → text ≡ s → IsUtf8 s → Writes r old new (string text) → WritesData r old new (string_data s)
-text_appended r old new s text same good w = same_appended r old new (string_data s) (data.string text) (sym (as_text s good) ∙ ap data.string (sym same)) (last_appended r old new (string text) w)
+text_appended r old new s text same good w = same_appended r old new (string_data s) (json.string text) (sym (as_text s good) ∙ ap json.string (sym same)) (last_appended r old new (string text) w)
 
 pub digits_appended : (r : Done) (a b c d e : Written) (s : List ℕ) → (IsUtf8 s → ⊥) → Appended a b (begin_object ∷ []) → Appended b c (key (codes "hex") ∷ []) → Appended c d (json_tokens (outline (hex_data s)))
     → Writes r d e end_object → WritesData r a e (string_data s)

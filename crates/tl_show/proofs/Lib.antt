@@ -2,5 +2,9 @@ pub mod Appending
 pub mod Declarations
 pub mod Elements
 pub mod FieldsByPlace
+pub mod FieldsPut
+pub mod FormedRecords
+pub mod KeyOrder
+pub mod NoFloats
 pub mod Sizes
 pub mod Strings
