@@ -5,6 +5,7 @@ pub mod FieldsByPlace
 pub mod FieldsPut
 pub mod FormedRecords
 pub mod KeyOrder
+pub mod LineTexts
 pub mod NoFloats
 pub mod Sizes
 pub mod Strings
