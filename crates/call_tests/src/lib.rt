@@ -21,3 +21,5 @@ mod replays;
 mod schemas;
 #[cfg(test)]
 mod settings;
+#[cfg(test)]
+mod shows;

@@ -5,8 +5,8 @@ use tl_combinators::parse;
 use tl_lexer::lex;
 use tl_schema::{Entry, Schema, SchemaField, check, type_of};
 
-// The schema that a short text is.
-fn schema(alloc: Global, text: &str) -> Result<Schema, Fail> {
+/// The schema that a short text is.
+pub fn schema(alloc: Global, text: &str) -> Result<Schema, Fail> {
     let bytes = text.as_bytes();
     let tokens = lex(alloc, bytes)?;
     let program = parse(alloc, bytes, &tokens)?;

@@ -1,0 +1,11 @@
+pub mod Appending
+pub mod Declarations
+pub mod Elements
+pub mod FieldsByPlace
+pub mod FieldsPut
+pub mod FormedRecords
+pub mod KeyOrder
+pub mod LineTexts
+pub mod NoFloats
+pub mod Sizes
+pub mod Strings

@@ -1,10 +1,10 @@
 -- Values as JSON, by their types. This project's own.
 use Rattle.std.specs.Prelude.{ℕ, List, [], ◌∷◌, Bool, true, false, if◌then◌else◌, Option, Some, None, slice_get, codes, encode_utf8_all}
-use Rattle.core.specs.Str.{is_utf8}
+use Rattle.std.specs.Str.{is_utf8}
 use Rattle.hex.specs.Hex.{encode_lower}
 use Rattle.serde_json.specs.Data.{Data, null, boolean, number, unsigned, string, array, object, Items, no_items, item, Members, no_members, member, put}
 use Rattle.serde_json.specs.Find.{of_integer}
-use Rattle.tl_schema.specs.Types.{Shape, str, flag, vector, boxed, bare}
+use Rattle.tl_schema.specs.Types.{Shape, str, vector, boxed, bare}
 use Rattle.tl_schema.specs.Closing.{closed, list_of_shapes}
 use Rattle.tl_schema.specs.Schemas.{Slot, Declaration}
 use Rattle.tl_types.specs.Values.{ValueView, int, long, nat, opaque, text, truth, absent, list, node, call, ValueViews, no_values, value}
@@ -19,10 +19,13 @@ hex_data bytes = string (encode_lower bytes)
 abbrev pub string_data : List ℕ → Data
 string_data s = if is_utf8 s then string s else object (member (codes "hex") (hex_data s) no_members)
 
+abbrev pub is_string : Shape → Bool
+is_string str = true
+is_string T = false
+
 -- the bytes of a `string` or of `bytes`
 abbrev pub text_data : Shape → List ℕ → Data
-text_data str s = string_data s
-text_data T s = hex_data s
+text_data T s = if is_string T then string_data s else hex_data s
 
 -- The text of a name, each byte a character. Names are ASCII, so these are their bytes.
 abbrev pub name_text : List ℕ → List ℕ
@@ -30,10 +33,10 @@ name_text name = encode_utf8_all name
 
 -- ---- types
 
--- of the elements of a vector
+-- of the elements of a vector; no other type has any, and stands for itself
 abbrev pub item_of : Shape → Shape
 item_of (vector is_boxed T) = T
-item_of T = flag
+item_of T = T
 
 -- what a type is applied to
 abbrev pub arguments_of : Shape → List Shape

@@ -1,0 +1,4 @@
+-- What private clauses alone cite.
+pub mod FormViews
+pub mod Forms
+pub mod Lines

@@ -1,0 +1,22 @@
+-- The forms that the code's own stand for. This project's own.
+use Rattle.std.specs.Prelude.{ℕ, List, map, String, string_bytes}
+use Rattle.std.specs.declared.alloc.Global.{Global}
+use Rattle.tl_schema.specs.Seen.{shape}
+use Rattle.tl_show.specs.inner.Forms.{PartView, FormView}
+use Rattle.tl_show.specs.inner.Forms as form
+use Rattle.tl_show.specs.declared.forms.Part.{Part}
+use Rattle.tl_show.specs.declared.forms.Part.TheVariants.{Name, Field}
+use Rattle.tl_show.specs.declared.forms.Form.{Form}
+
+abbrev pub part_view : Part → PartView
+part_view Name = form.name
+part_view (Field i of) = form.field i (shape of.now)
+
+abbrev pub entry_view : String Global × Part → List ℕ × PartView
+entry_view e = (string_bytes e.0, part_view e.1)
+
+abbrev pub entry_views : List (String Global × Part) → List (List ℕ × PartView)
+entry_views es = map entry_view es
+
+abbrev pub form_view : Form → FormView
+form_view f = record { name = string_bytes f.name; keys = entry_views f.keys.items }

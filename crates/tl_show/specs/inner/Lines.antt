@@ -1,0 +1,27 @@
+-- What a line's writer appends. This project's own.
+use Rattle.std.specs.Prelude.{◌≡◌, List, [], ◌∷◌, ◌++◌, Option, Some, None, Result, OnOk}
+use Rattle.std.specs.Prelude.{ℕ}
+use Rattle.json.specs.Token.{Token, key}
+use Rattle.json.specs.Tree.{json_tokens, members_tokens}
+use Rattle.json.specs.Written.{Written}
+use Rattle.serde_json.specs.Data.{Data, Members}
+use Rattle.serde_json.specs.Written.{outline, members_outline}
+
+-- these tokens were appended
+pub record Appended (old new : Written) (ts : List Token) : Type 0 where
+  pub before : new.before ≡ old.before
+  pub tokens : new.tokens ≡ old.tokens ++ ts
+
+abbrev pub WritesData : {E : Type 0} → Result (Unit {0}) E → Written → Written → Data → Type 0
+WritesData r old new d = OnOk r (Appended old new (json_tokens (outline d)))
+
+-- with the closing brace
+abbrev pub WritesMembers : {E : Type 0} → Result (Unit {0}) E → Written → Written → Members → Type 0
+WritesMembers r old new ms = OnOk r (Appended old new (members_tokens (members_outline ms)))
+
+abbrev pub member_tokens : List ℕ → Option Data → List Token
+member_tokens k None = []
+member_tokens k (Some d) = key k ∷ json_tokens (outline d)
+
+abbrev pub WritesMember : {E : Type 0} → Result (Unit {0}) E → Written → Written → List ℕ → Option Data → Type 0
+WritesMember r old new k d = OnOk r (Appended old new (member_tokens k d))
