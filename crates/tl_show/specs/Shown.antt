@@ -1,6 +1,6 @@
 -- Values as JSON, by their types. This project's own.
 use Rattle.std.specs.Prelude.{ℕ, List, [], ◌∷◌, Bool, true, false, if◌then◌else◌, Option, Some, None, slice_get, codes, encode_utf8_all}
-use Rattle.core.specs.Str.{is_utf8}
+use Rattle.std.specs.Str.{is_utf8}
 use Rattle.hex.specs.Hex.{encode_lower}
 use Rattle.serde_json.specs.Data.{Data, null, boolean, number, unsigned, string, array, object, Items, no_items, item, Members, no_members, member, put}
 use Rattle.serde_json.specs.Find.{of_integer}
