@@ -8,7 +8,7 @@ use Rattle.tl_types.specs.Values.{ValueView, depth}
 use Rattle.tl_types.specs.Spelling.{Spells}
 use Rattle.tl_types.specs.Refusal.{Refused}
 use Rattle.tl_types.specs.Offsets.{moved}
-use Rattle.tl_types.specs.inner.Reading.{Spot, spot, Read, value_at}
+use Rattle.tl_types.specs.inner.Reading.{spot, Read, value_at}
 use Rattle.tl_types.specs.declared.cause.Cause.{Cause}
 use Rattle.tl_types.proofs.Spelling.{spelled}
 use Rattle.tl_types.proofs.Refusal.{refused as refused_so}
