@@ -4,11 +4,11 @@ use Rattle.std.specs.Prelude.{IsErrAnd, IsErrOf}
 use Rattle.tl_base.specs.Contents.{Files}
 use Rattle.tl_base.specs.Outside.{View, HasFile, IsThere}
 use Rattle.tl_base.specs.Calls.{Told}
-use Rattle.plain_values.specs.PlainTypes.{boxed}
-use Rattle.plain_values.specs.PlainViews.{plain_decls}
+use Rattle.tl_schema.specs.Types.{Shape}
 use Rattle.tl_schema.specs.Schemas.{Declared}
-use Rattle.plain_values.specs.Seen.{view}
-use Rattle.plain_values.specs.declared.value.Value.{Value}
+use Rattle.tl_schema.specs.AskedTypes.{IsTypeText}
+use Rattle.tl_types.specs.Seen.{view}
+use Rattle.tl_types.specs.declared.value.Value.{Value}
 use Rattle.command_base.specs.Answer.{Answer, done, refused}
 use Rattle.command_base.specs.Jobs.{Job, MakesOutput, made, of_fault, TellsAs}
 use Rattle.command_base.specs.Sound.{Answered}
@@ -18,7 +18,6 @@ use Rattle.command_base.proofs.Faults.{NeverFails, fails_as, then_fails}
 use Rattle.command_base.proofs.Made.{not_made}
 use Rattle.command_base.proofs.Rests.{then_reads}
 use Rattle.command_base.proofs.Views.{told_as, told_then}
-use Rattle.codec_commands.specs.Shown.{line_text}
 use Rattle.codec_commands.specs.declared.whole.InputFault.{InputFault}
 use Rattle.codec_commands.specs.declared.whole.InputFault.TheVariants as input
 use Rattle.codec_commands.specs.declared.schema_text.SchemaFault.{SchemaFault}
@@ -28,10 +27,10 @@ use Rattle.codec_commands.specs.declared.type_word.TypeWordFault.TheVariants as 
 use Rattle.codec_commands.specs.declared.decode.LineFault.{LineFault}
 use Rattle.codec_commands.specs.declared.decode.LineFault.TheVariants as fault
 use Rattle.codec_commands.specs.Faults.{of_no_schema, of_no_type, of_input, of_line, line_making}
-use Rattle.codec_commands.specs.Lines.{input_line, cause_text}
+use Rattle.codec_commands.specs.Lines.{line_text, input_line, cause_text}
 use Rattle.codec_commands.specs.Loaded.{IsSchemaText}
 use Rattle.codec_commands.specs.Decode.{OfInput, whole, longer, faulty, OfType, no_type, typed, OfSchema, no_schema, schema_of, DecodeAnswer, decode_job}
-use Rattle.codec_commands.specs.Parts.{LoadsSchema, NamesPlain, LoadsValue}
+use Rattle.codec_commands.specs.Parts.{LoadsSchema, MeansType, LoadsValue}
 use Rattle.codec_commands.proofs.OneSchemaText.{one_schema_text, never_schema}
 use Rattle.codec_commands.proofs.OneTypeName.{never_type}
 
@@ -66,22 +65,22 @@ module _ (s t i : List ℕ) where
 
   -- ---- the type
 
-  type_stops : (schema : Declared) (e : TypeWordFault) (v w : View) → LoadsSchema s (Ok schema) v w → NamesPlain schema t (Err e) → MakesOutput decoding (line_making (of_no_type e)) v w
+  type_stops : (schema : Declared) (e : TypeWordFault) (v w : View) → LoadsSchema s (Ok schema) v w → MeansType schema t (Err e) → MakesOutput decoding (line_making (of_no_type e)) v w
   type_stops schema (word.Refused cause) v w ((text, has, is), only) h = ((text, has, schema_of schema is (no_type cause h refl)), only)
   type_stops schema word.Memory v w (is, only) h = only
 
-  pub no_type_line : (schema : Declared) (e : TypeWordFault) (r : Result (Vec ℕ Global) LineFault) (a b : Option View) → Told a b (LoadsSchema s (Ok schema)) → NamesPlain schema t (Err e) → IsErrAnd r (λ z. z ≡ of_no_type e) → Told a b (MakesOutput decoding (of_line r))
+  pub no_type_line : (schema : Declared) (e : TypeWordFault) (r : Result (Vec ℕ Global) LineFault) (a b : Option View) → Told a b (LoadsSchema s (Ok schema)) → MeansType schema t (Err e) → IsErrAnd r (λ z. z ≡ of_no_type e) → Told a b (MakesOutput decoding (of_line r))
   no_type_line schema e r a b loaded h is = told_as a b (LoadsSchema s (Ok schema)) (MakesOutput decoding (of_line r)) (λ v w l. stops decoding (of_no_type e) r v w (type_stops schema e v w l h) is) loaded
 
   -- ---- the input
 
-  module _ (schema : Declared) (head : ℕ) (names : NamesPlain schema t (Ok head)) where
+  module _ (schema : Declared) (T : Shape) (means : IsTypeText schema.program t T) where
     -- what the input tells, after the schema and its type
-    of_input_answer : (bytes : List ℕ) (a : Answer) (v u : View) → LoadsSchema s (Ok schema) v u → HasFile u.files i bytes → OfInput schema head bytes a → DecodeAnswer v.files s t i a
+    of_input_answer : (bytes : List ℕ) (a : Answer) (v u : View) → LoadsSchema s (Ok schema) v u → HasFile u.files i bytes → OfInput schema T bytes a → DecodeAnswer v.files s t i a
     of_input_answer bytes a v u ((text, has, is), only) there tells =
-        (text, has, schema_of schema is (typed names.0 head bytes names.1 names.2 (subst (λ (fs : Files). HasFile fs i bytes) (ap (λ (x : View). x.files) only.rest) there) tells))
+        (text, has, schema_of schema is (typed T bytes means (subst (λ (fs : Files). HasFile fs i bytes) (ap (λ (x : View). x.files) only.rest) there) tells))
 
-    input_stops : (e : InputFault) (v u w : View) → LoadsSchema s (Ok schema) v u → LoadsValue (plain_decls schema) (boxed head) i (Err e) u w → MakesOutput decoding (line_making (of_input e)) v w
+    input_stops : (e : InputFault) (v u w : View) → LoadsSchema s (Ok schema) v u → LoadsValue schema T i (Err e) u w → MakesOutput decoding (line_making (of_input e)) v w
     input_stops (input.Refused at why) v u w loaded ((bytes, there, (p, r, is)), only) = (
       of_input_answer bytes _ v u loaded there (faulty p why r (ap (λ (q : ℕ). refused (input_line q (cause_text why))) is)),
       then_reads v u w loaded.1 only,
@@ -93,24 +92,24 @@ module _ (s t i : List ℕ) where
     input_stops input.ReadFault v u w loaded only = then_reads v u w loaded.1 only
     input_stops input.Memory v u w loaded only = then_reads v u w loaded.1 only
 
-    pub no_value_line : (e : InputFault) (r : Result (Vec ℕ Global) LineFault) (a m b : Option View) → Told a m (LoadsSchema s (Ok schema)) → Told m b (LoadsValue (plain_decls schema) (boxed head) i (Err e)) → IsErrAnd r (λ z. z ≡ of_input e)
+    pub no_value_line : (e : InputFault) (r : Result (Vec ℕ Global) LineFault) (a m b : Option View) → Told a m (LoadsSchema s (Ok schema)) → Told m b (LoadsValue schema T i (Err e)) → IsErrAnd r (λ z. z ≡ of_input e)
         → Told a b (MakesOutput decoding (of_line r))
     no_value_line e r a m b loaded h is =
-        told_then a m b (LoadsSchema s (Ok schema)) (LoadsValue (plain_decls schema) (boxed head) i (Err e)) (MakesOutput decoding (of_line r)) (λ v u w l k. stops decoding (of_input e) r v w (input_stops e v u w l k) is) loaded h
+        told_then a m b (LoadsSchema s (Ok schema)) (LoadsValue schema T i (Err e)) (MakesOutput decoding (of_line r)) (λ v u w l k. stops decoding (of_input e) r v w (input_stops e v u w l k) is) loaded h
 
-    value_there : (x : Value) (line : List ℕ) → line ≡ line_text (plain_decls schema) (view x) → (v u w : View) → LoadsSchema s (Ok schema) v u → LoadsValue (plain_decls schema) (boxed head) i (Ok x) u w → MakesOutput decoding (made line) v w
+    value_there : (x : Value) (line : List ℕ) → line ≡ line_text schema.decls T (view x) → (v u w : View) → LoadsSchema s (Ok schema) v u → LoadsValue schema T i (Ok x) u w → MakesOutput decoding (made line) v w
     value_there x line is v u w loaded ((bytes, there, h), only) = (of_input_answer bytes _ v u loaded there (whole (view x) h.0 h.1 (ap done is)), then_reads v u w loaded.1 only)
 
-    pub value_line : (x : Value) (line : List ℕ) (a m b : Option View) → Told a m (LoadsSchema s (Ok schema)) → Told m b (LoadsValue (plain_decls schema) (boxed head) i (Ok x)) → line ≡ line_text (plain_decls schema) (view x)
+    pub value_line : (x : Value) (line : List ℕ) (a m b : Option View) → Told a m (LoadsSchema s (Ok schema)) → Told m b (LoadsValue schema T i (Ok x)) → line ≡ line_text schema.decls T (view x)
         → Told a b (MakesOutput decoding (made line))
-    value_line x line a m b loaded h is = told_then a m b (LoadsSchema s (Ok schema)) (LoadsValue (plain_decls schema) (boxed head) i (Ok x)) (MakesOutput decoding (made line)) (value_there x line is) loaded h
+    value_line x line a m b loaded h is = told_then a m b (LoadsSchema s (Ok schema)) (LoadsValue schema T i (Ok x)) (MakesOutput decoding (made line)) (value_there x line is) loaded h
 
     -- ---- where reading the input can't fail
 
-    -- an answer after the schema names the input's file, since the word is a type of which values are read
+    -- an answer after the schema names the input's file, since the word is a type
     type_there : (files : Files) (a : Answer) → OfType schema t i files a → (bytes : List ℕ) × HasFile files i bytes
-    type_there files a (no_type cause refused is) = absurd (never_type schema t names.0 head cause names.1 names.2 refused)
-    type_there files a (typed shape other bytes also plain has tells) = (bytes, has)
+    type_there files a (no_type cause refused is) = absurd (never_type schema t T cause means refused)
+    type_there files a (typed other bytes also has tells) = (bytes, has)
 
     schema_there : (text : List ℕ) (files : Files) (a : Answer) → IsSchemaText text schema → OfSchema text t i files a → (bytes : List ℕ) × HasFile files i bytes
     schema_there text files a h (no_schema cause r is) = absurd (never_schema text schema cause h r)

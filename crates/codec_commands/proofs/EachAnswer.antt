@@ -2,18 +2,20 @@
 use Rattle.std.proofs.Common.{◌≡◌, ℕ, ◌≤◌, List, [], ◌∷◌, ◌++◌, append-nil, refl, sym, ◌∙◌, subst, inl, inr}
 use Rattle.tl_base.specs.Contents.{AreBytes, Files, HoldBytes}
 use Rattle.tl_base.specs.Outside.{HasFile}
-use Rattle.plain_values.specs.PlainTypes.{boxed}
-use Rattle.plain_values.specs.PlainViews.{plain_decls}
-use Rattle.plain_values.specs.Values.{Tree, depth}
+use Rattle.tl_schema.specs.Types.{Shape}
 use Rattle.tl_schema.specs.Schemas.{Declared}
-use Rattle.plain_values.specs.Spelling.{Spells}
-use Rattle.plain_values.proofs.Exactly.{either}
+use Rattle.tl_schema.specs.CheckedPrograms.{IsSchema}
+use Rattle.tl_schema.specs.Formed.{IsFormed}
+use Rattle.tl_types.specs.Values.{ValueView, depth}
+use Rattle.tl_types.specs.Spelling.{Spells}
+use Rattle.tl_types.proofs.Exactly.{exactly_one}
+use Rattle.tl_decode.specs.declared.walk.TheConstants.{MAX_LEVELS}
 use Rattle.command_base.specs.Answer.{Answer}
 use Rattle.command_base.proofs.SameFiles.{file_bytes}
-use Rattle.codec_commands.specs.declared.decoder.TheConstants.{MAX_LEVELS}
 use Rattle.codec_commands.specs.Check.{OfChecked, no_schema, listed, CheckAnswer}
 use Rattle.codec_commands.specs.Decode.{OfInput, whole, longer, faulty, OfType, no_type, typed, OfSchema, schema_of, DecodeAnswer}
 use Rattle.codec_commands.specs.Decode as decoded
+use Rattle.codec_commands.proofs.FormedWords.{word_formed}
 use Rattle.codec_commands.proofs.OneSchemaText.{schema_or_refused}
 use Rattle.codec_commands.proofs.OneTypeName.{type_or_refused}
 
@@ -34,29 +36,29 @@ each_check files schema (text, has) = let tells = each_checked text in (tells.0,
 
 -- ---- an input
 
-module _ (schema : Declared) (head : ℕ) (bytes : List ℕ) where
-  spelled : (t : Tree) (x rest : List ℕ) → bytes ≡ x ++ rest → Spells (plain_decls schema) (boxed head) t x → depth t ≤ MAX_LEVELS → (a : Answer) × OfInput schema head bytes a
-  spelled t x [] split s d = (_, whole t (subst (Spells (plain_decls schema) (boxed head) t) (sym (split ∙ append-nil x)) s) d refl)
-  spelled t x (b ∷ rest) split s d = (_, longer t x rest b split s d refl)
+module _ (schema : Declared) (good : IsSchema schema) (T : Shape) (formed : IsFormed schema T) (bytes : List ℕ) where
+  spelled : (v : ValueView) (x rest : List ℕ) → bytes ≡ x ++ rest → Spells schema T v x → depth v ≤ MAX_LEVELS → (a : Answer) × OfInput schema T bytes a
+  spelled v x [] split s d = (_, whole v (subst (Spells schema T v) (sym (split ∙ append-nil x)) s) d refl)
+  spelled v x (b ∷ rest) split s d = (_, longer v x rest b split s d refl)
 
-  each_input : AreBytes bytes → (a : Answer) × OfInput schema head bytes a
-  each_input are = elim (either (plain_decls schema) MAX_LEVELS (boxed head) bytes are) [
-    | inl (t, x, (rest, split, s, d)) ↦ spelled t x rest split s d
+  each_input : AreBytes bytes → (a : Answer) × OfInput schema T bytes a
+  each_input are = elim (exactly_one schema good MAX_LEVELS T bytes formed are).either [
+    | inl (v, x, (rest, split, s, d)) ↦ spelled v x rest split s d
     | inr (at, why, r) ↦ (_, faulty at why r refl)
   ]
 
 -- ---- decode
 
 module _ (files : Files) (good : HoldBytes files) where
-  each_type : (schema : Declared) (type input : List ℕ) → IsFile files input → (a : Answer) × OfType schema type input files a
-  each_type schema type input (bytes, has) = elim (type_or_refused schema type) [
-    | inl (s, head, means, plain) ↦ (let tells = each_input schema head bytes (file_bytes files input bytes good has) in (tells.0, typed s head bytes means plain has tells.1))
+  each_type : (schema : Declared) → IsSchema schema → (type input : List ℕ) → IsFile files input → (a : Answer) × OfType schema type input files a
+  each_type schema sound type input (bytes, has) = elim (type_or_refused schema type) [
+    | inl (s, means) ↦ (let tells = each_input schema sound s (word_formed schema sound type s means) bytes (file_bytes files input bytes good has) in (tells.0, typed s bytes means has tells.1))
     | inr (cause, r) ↦ (_, no_type cause r refl)
   ]
 
   each_schema : (text type input : List ℕ) → IsFile files input → (a : Answer) × OfSchema text type input files a
   each_schema text type input file = elim (schema_or_refused text) [
-    | inl (schema, is) ↦ (let tells = each_type schema type input file in (tells.0, schema_of schema is tells.1))
+    | inl (schema, is) ↦ (let tells = each_type schema is.good type input file in (tells.0, schema_of schema is tells.1))
     | inr (cause, r) ↦ (_, decoded.no_schema cause r refl)
   ]
 

@@ -15,13 +15,12 @@ use Rattle.tl_combinators.specs.declared.fault.SyntaxFault.{SyntaxFault}
 use Rattle.tl_combinators.specs.declared.fault.SyntaxFault.TheVariants as syntax
 use Rattle.tl_combinators.specs.Program.{DeclText}
 use Rattle.tl_combinators.specs.Sentences.{Reads, SyntaxRefused, FaultIs}
-use Rattle.plain_values.specs.PlainTypes.{PlainShape}
+use Rattle.tl_schema.specs.Types.{Shape}
 use Rattle.tl_schema.specs.Schemas.{Declared}
-use Rattle.plain_values.specs.PlainSchemas.{PlainDeclaration}
 use Rattle.tl_schema.specs.CheckedPrograms.{Checks}
 use Rattle.tl_schema.specs.declared.fault.CheckFault.{CheckFault}
 use Rattle.tl_schema.specs.declared.fault.CheckFault.TheVariants as check
-use Rattle.plain_values.specs.declared.value.Value.{Value}
+use Rattle.tl_types.specs.declared.value.Value.{Value}
 use Rattle.codec_commands.specs.Decoding.{DecodesWhole}
 use Rattle.codec_commands.specs.declared.whole.InputFault.{InputFault}
 use Rattle.codec_commands.specs.declared.whole.InputFault.TheVariants as input
@@ -129,27 +128,27 @@ module _ (name : List ℕ) (read : Vec ℕ Global) where
 
 -- ---- the value of a file
 
-value_there : (ds : List PlainDeclaration) (T : PlainShape) (name bytes : List ℕ) (r : Result Value InputFault) (v w : View) → HasFile v.files name bytes → DecodesWhole ds T bytes r → OnlyReads v w → LoadsValue ds T name r v w
-value_there ds T name bytes (Ok x) v w has h only = ((bytes, has, h), only)
-value_there ds T name bytes (Err (input.Refused at why)) v w has h only = ((bytes, has, h), only)
-value_there ds T name bytes (Err (input.Trailing at)) v w has h only = ((bytes, has, h), only)
-value_there ds T name bytes (Err input.ReadFault) v w has h only = only
-value_there ds T name bytes (Err input.Memory) v w has h only = only
+value_there : (schema : Declared) (T : Shape) (name bytes : List ℕ) (r : Result Value InputFault) (v w : View) → HasFile v.files name bytes → DecodesWhole schema T bytes r → OnlyReads v w → LoadsValue schema T name r v w
+value_there schema T name bytes (Ok x) v w has h only = ((bytes, has, h), only)
+value_there schema T name bytes (Err (input.Refused at why)) v w has h only = ((bytes, has, h), only)
+value_there schema T name bytes (Err (input.Trailing at)) v w has h only = ((bytes, has, h), only)
+value_there schema T name bytes (Err input.ReadFault) v w has h only = only
+value_there schema T name bytes (Err input.Memory) v w has h only = only
 
-pub value_loaded : (E : Type 0) (ds : List PlainDeclaration) (T : PlainShape) (name : List ℕ) (r : Result Value InputFault) (a m b : Option View) → Told a m (Opens {E = E} Input name (Ok tt)) → Told m b (TakesValue ds T r)
-    → Told a b (LoadsValue ds T name r)
-value_loaded E ds T name r None None None opened taken = tt
-value_loaded E ds T name r None None (Some w) opened taken = taken
-value_loaded E ds T name r None (Some u) b opened taken = absurd opened
-value_loaded E ds T name r (Some v) None b opened taken = absurd opened
-value_loaded E ds T name r (Some v) (Some u) None opened taken = taken
-value_loaded E ds T name r (Some v) (Some u) (Some w) (bytes, has, is) taken =
+pub value_loaded : (E : Type 0) (schema : Declared) (T : Shape) (name : List ℕ) (r : Result Value InputFault) (a m b : Option View) → Told a m (Opens {E = E} Input name (Ok tt)) → Told m b (TakesValue schema T r)
+    → Told a b (LoadsValue schema T name r)
+value_loaded E schema T name r None None None opened taken = tt
+value_loaded E schema T name r None None (Some w) opened taken = taken
+value_loaded E schema T name r None (Some u) b opened taken = absurd opened
+value_loaded E schema T name r (Some v) None b opened taken = absurd opened
+value_loaded E schema T name r (Some v) (Some u) None opened taken = taken
+value_loaded E schema T name r (Some v) (Some u) (Some w) (bytes, has, is) taken =
     let left : left_of Input u ≡ bytes = ap (left_of Input) is in
-    let value : DecodesWhole ds T bytes r = subst (λ (x : List ℕ). DecodesWhole ds T x r) left taken.0 in
-    value_there ds T name bytes r v w has value (then_reads v u w (opened_input bytes v u is) (only_input u w taken.1))
+    let value : DecodesWhole schema T bytes r = subst (λ (x : List ℕ). DecodesWhole schema T x r) left taken.0 in
+    value_there schema T name bytes r v w has value (then_reads v u w (opened_input bytes v u is) (only_input u w taken.1))
 
-pub not_opened : {F : Type 0} (ds : List PlainDeclaration) (T : PlainShape) (name : List ℕ) (e : F) (a b : Option View) → Told a b (Opens Input name (Err e)) → Told a b (LoadsValue ds T name (Err input.ReadFault))
-not_opened ds T name e None None h = tt
-not_opened ds T name e None (Some w) h = h
-not_opened ds T name e (Some v) None h = h
-not_opened ds T name e (Some v) (Some w) h = opened_input (left_of Input v) v w h
+pub not_opened : {F : Type 0} (schema : Declared) (T : Shape) (name : List ℕ) (e : F) (a b : Option View) → Told a b (Opens Input name (Err e)) → Told a b (LoadsValue schema T name (Err input.ReadFault))
+not_opened schema T name e None None h = tt
+not_opened schema T name e None (Some w) h = h
+not_opened schema T name e (Some v) None h = h
+not_opened schema T name e (Some v) (Some w) h = opened_input (left_of Input v) v w h

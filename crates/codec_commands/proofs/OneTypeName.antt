@@ -1,5 +1,5 @@
--- A word is a type whose values are read or is refused: one of the two, and in one way.
-use Rattle.std.proofs.Common.{◌≡◌, ◌⊎◌, ℕ, List, refl, ap, subst, inl, inr}
+-- A word is a type or is refused: one of the two, and in one way.
+use Rattle.std.proofs.Common.{◌≡◌, ◌⊎◌, ℕ, List, ap, inl, inr}
 use Rattle.tl_combinators.specs.Sentences.{TypeRefused}
 use Rattle.tl_combinators.specs.Trees.{Tree}
 use Rattle.tl_combinators.proofs.OneProgram.{one_type}
@@ -7,18 +7,15 @@ use Rattle.tl_combinators.proofs.Causes.{no_memory_of_type}
 use Rattle.tl_schema.specs.Types.{Shape}
 use Rattle.tl_schema.specs.Schemas.{Declared}
 use Rattle.tl_schema.specs.AskedTypes.{AsksFor, IsTypeText, TypeTextRefused}
-use Rattle.plain_values.specs.PlainViews.{IsPlainType}
 use Rattle.tl_schema.specs.declared.fault.TypeCause.{TypeCause}
 use Rattle.tl_schema.specs.declared.fault.TypeFault.{TypeFault}
 use Rattle.tl_schema.specs.declared.fault.TypeFault.TheVariants as type
-use Rattle.tl_schema.specs.AskedTypes.{TypeTextRefused}
-use Rattle.tl_schema.proofs.OneType.{type_or_fault, one_meaning, never_type_and_fault, one_type_fault}
+use Rattle.tl_schema.proofs.OneType.{type_or_fault, never_type_and_fault, one_type_fault}
 use Rattle.codec_commands.specs.declared.causes.TextCause.{TextCause}
 use Rattle.codec_commands.specs.declared.causes.TypeNameCause.{TypeNameCause}
-use Rattle.codec_commands.specs.declared.causes.TypeNameCause.TheVariants.{Text, Checked, NotYetBuilt}
-use Rattle.codec_commands.specs.Loaded.{TextRefused, TypeNameRefused, by_text, by_checks, not_built}
+use Rattle.codec_commands.specs.declared.causes.TypeNameCause.TheVariants.{Text, Checked}
+use Rattle.codec_commands.specs.Loaded.{TextRefused, TypeNameRefused, by_text, by_checks}
 use Rattle.codec_commands.proofs.OneText.{never_refused, one_text_cause, refused_bytes, refused_tokens}
-use Rattle.codec_commands.proofs.PlainDecided.{plain_or_not, one_number}
 
 same_cause : (c d : TypeCause) → type.Refused c ≡ type.Refused d → c ≡ d
 same_cause c d e = cc
@@ -32,35 +29,22 @@ module _ (schema : Declared) (text : List ℕ) where
   pub one_type_cause : (c d : TypeNameCause) → TypeNameRefused schema text c → TypeNameRefused schema text d → c ≡ d
   one_type_cause _ _ (by_text a r) (by_text b s) = ap Text (one_text_cause text (TypeRefused text) (λ ts. (one_type text ts).same_fault) a b r s)
   one_type_cause _ _ (by_text a r) (by_checks t b asks s) = absurd (never_asked a t asks r)
-  one_type_cause _ _ (by_text a r) (not_built s is none) = absurd (never_asked a is.t is.asks r)
   one_type_cause _ _ (by_checks t a asks r) (by_text b s) = absurd (never_asked b t asks s)
   one_type_cause _ _ (by_checks t a asks r) (by_checks u b also s) = ap Checked (same_cause a b (one_type_fault schema.program text (type.Refused a) (type.Refused b) (t, asks, r) (u, also, s)))
-  one_type_cause _ _ (by_checks t a asks r) (not_built s is none) = absurd (never_type_and_fault schema.program text s (type.Refused a) is (t, asks, r))
-  one_type_cause _ _ (not_built s is none) (by_text b r) = absurd (never_asked b is.t is.asks r)
-  one_type_cause _ _ (not_built s is none) (by_checks t b asks r) = absurd (never_type_and_fault schema.program text s (type.Refused b) is (t, asks, r))
-  one_type_cause _ _ (not_built s is none) (not_built u also neither) = refl
 
-  -- ---- one type, and never refused
+  -- ---- a type is never refused
 
-  pub never_type : (s : Shape) (h : ℕ) (cause : TypeNameCause) → IsTypeText schema.program text s → IsPlainType schema s h → TypeNameRefused schema text cause → ⊥
-  never_type s h _ is plain (by_text a r) = never_asked a is.t is.asks r
-  never_type s h _ is plain (by_checks t a asks r) = never_type_and_fault schema.program text s (type.Refused a) is (t, asks, r)
-  never_type s h _ is plain (not_built u also none) = none h (subst (λ (x : Shape). IsPlainType schema x h) (one_meaning schema.program text s u is also) plain)
-
-  pub one_head : (s u : Shape) (h k : ℕ) → IsTypeText schema.program text s → IsTypeText schema.program text u → IsPlainType schema s h → IsPlainType schema u k → h ≡ k
-  one_head s u h k is also plain so = one_number schema u h k (subst (λ (x : Shape). IsPlainType schema x h) (one_meaning schema.program text s u is also) plain) so
+  pub never_type : (s : Shape) (cause : TypeNameCause) → IsTypeText schema.program text s → TypeNameRefused schema text cause → ⊥
+  never_type s _ is (by_text a r) = never_asked a is.t is.asks r
+  never_type s _ is (by_checks t a asks r) = never_type_and_fault schema.program text s (type.Refused a) is (t, asks, r)
 
   -- ---- one of the two
 
   abbrev Named : Type 0
-  Named = ((s : Shape) × (h : ℕ) × IsTypeText schema.program text s × IsPlainType schema s h) ⊎ ((cause : TypeNameCause) × TypeNameRefused schema text cause)
+  Named = ((s : Shape) × IsTypeText schema.program text s) ⊎ ((cause : TypeNameCause) × TypeNameRefused schema text cause)
 
   text_refused : ((cause : TextCause) × TextRefused text (TypeRefused text) cause) → Named
   text_refused (cause, r) = inr (Text cause, by_text cause r)
-
-  typed : (s : Shape) → IsTypeText schema.program text s → ((h : ℕ) × IsPlainType schema s h) ⊎ ((h : ℕ) → IsPlainType schema s h → ⊥) → Named
-  typed s is (inl (h, plain)) = inl (s, h, is, plain)
-  typed s is (inr none) = inr (NotYetBuilt, not_built s is none)
 
   faulty : (f : TypeFault) → TypeTextRefused schema.program text f → Named
   faulty (type.Lex f) r = text_refused (refused_bytes text (TypeRefused text) f r)
@@ -69,7 +53,7 @@ module _ (schema : Declared) (text : List ℕ) where
   faulty type.Memory r = absurd r
 
   named : ((s : Shape) × IsTypeText schema.program text s) ⊎ ((f : TypeFault) × TypeTextRefused schema.program text f) → Named
-  named (inl (s, is)) = typed s is (plain_or_not schema s)
+  named (inl is) = inl is
   named (inr (f, r)) = faulty f r
 
   pub type_or_refused : Named

@@ -1,6 +1,5 @@
 pub mod Loaded
 pub mod Lines
-pub mod Shown
 pub mod Check
 pub mod Decode
 pub mod Decoding

@@ -1,9 +1,14 @@
--- The lines of what `check` and `decode` refuse. This project's own.
-use Rattle.std.specs.Prelude.{ℕ, List, ◌++◌, codes}
+-- The line of a value, and the lines of what `check` and `decode` refuse. This project's own.
+use Rattle.std.specs.Prelude.{ℕ, List, [], ◌∷◌, ◌++◌, codes, decimal}
 use Rattle.std.specs.Int.{w32, to_be_bytes}
 use Rattle.hex.specs.Hex.{encode_lower}
-use Rattle.plain_values.specs.declared.fault.Cause.{Cause}
-use Rattle.plain_values.specs.declared.fault.Cause.TheVariants.{TooDeep, Truncated, Packed, UnknownNumber}
+use Rattle.serde_json.specs.Written.{compact_text}
+use Rattle.tl_schema.specs.Types.{Shape}
+use Rattle.tl_schema.specs.Schemas.{Declaration}
+use Rattle.tl_types.specs.Values.{ValueView}
+use Rattle.tl_types.specs.declared.cause.Cause.{Cause}
+use Rattle.tl_types.specs.declared.cause.Cause.TheVariants.{TooDeep, Truncated, Packed, UnknownNumber, BadCount, LongString, LooseString, BadPadding}
+use Rattle.tl_show.specs.Shown.{shown}
 use Rattle.tl_schema.specs.declared.fault.CheckCause.{CheckCause}
 use Rattle.tl_schema.specs.declared.fault.CheckCause.TheVariants as check
 use Rattle.tl_combinators.specs.declared.fault.Form.{Form}
@@ -17,6 +22,10 @@ use Rattle.codec_commands.specs.declared.causes.SchemaCause.{SchemaCause}
 use Rattle.codec_commands.specs.declared.causes.SchemaCause.TheVariants as schema
 use Rattle.codec_commands.specs.declared.causes.TypeNameCause.{TypeNameCause}
 use Rattle.codec_commands.specs.declared.causes.TypeNameCause.TheVariants as name
+
+-- a value of a type: its JSON, and a line feed
+abbrev pub line_text : List Declaration → Shape → ValueView → List ℕ
+line_text ds T v = compact_text (shown ds T v) ++ 10 ∷ []
 
 abbrev pub form_name : Form → List ℕ
 form_name form.DependentNumber = codes "DependentNumber"
@@ -65,14 +74,17 @@ schema_line (schema.Checked decl c) = placed_line (codes "schema decl") decl (ch
 abbrev pub type_line : TypeNameCause → List ℕ
 type_line (name.Text c) = text_line (codes "type") c
 type_line (name.Checked c) = unplaced_line (codes "type") (type_cause_name c)
-type_line name.NotYetBuilt = unplaced_line (codes "type") (codes "NotYetBuilt")
 
--- a cause with its values; the word of an unknown number as eight hexadecimal digits
+-- a cause with its values: the word of an unknown number as eight hexadecimal digits, a count in decimal
 abbrev pub cause_text : Cause → List ℕ
 cause_text TooDeep = codes "TooDeep"
 cause_text Truncated = codes "Truncated"
-cause_text Packed = codes "NotYetBuilt"
+cause_text Packed = codes "Packed"
 cause_text (UnknownNumber w) = codes "UnknownNumber " ++ encode_lower (to_be_bytes w32 w)
+cause_text (BadCount n) = codes "BadCount " ++ decimal n
+cause_text LongString = codes "LongString"
+cause_text LooseString = codes "LooseString"
+cause_text BadPadding = codes "BadPadding"
 
 -- a refusal of the input
 abbrev pub input_line : ℕ → List ℕ → List ℕ

@@ -10,12 +10,10 @@ use Rattle.tl_combinators.specs.declared.fault.SyntaxFault.{SyntaxFault}
 use Rattle.tl_combinators.specs.declared.fault.SyntaxFault.TheVariants as syntax
 use Rattle.tl_combinators.specs.Sentences.{Reads, SyntaxRefused}
 use Rattle.tl_combinators.specs.Sentences as sentence
-use Rattle.tl_schema.specs.Types.{Shape}
 use Rattle.tl_schema.specs.Schemas.{Declared}
 use Rattle.tl_schema.specs.CheckCauses.{RefusedAt}
 use Rattle.tl_schema.specs.CheckedPrograms.{IsSchema}
-use Rattle.tl_schema.specs.AskedTypes.{AsksFor, IsTypeText, RefusedTypeBy, type_causes}
-use Rattle.plain_values.specs.PlainViews.{IsPlainType}
+use Rattle.tl_schema.specs.AskedTypes.{AsksFor, RefusedTypeBy, type_causes}
 use Rattle.tl_schema.specs.declared.fault.CheckCause.{CheckCause}
 use Rattle.tl_schema.specs.declared.fault.TypeCause.{TypeCause}
 use Rattle.codec_commands.specs.declared.causes.TextCause.{TextCause}
@@ -50,8 +48,7 @@ pub data SchemaRefused (text : List ℕ) : SchemaCause → Type 0 where
 
 -- ---- a type's text
 
--- the text is refused for this cause: as a text, by the checks of types, or since values of the type are not read yet
+-- the text is refused for this cause: as a text, or by the checks of types
 pub data TypeNameRefused (schema : Declared) (text : List ℕ) : TypeNameCause → Type 0 where
   by_text : (cause : TextCause) → TextRefused text (sentence.TypeRefused text) cause → TypeNameRefused schema text (name.Text cause)
   by_checks : (t : Tree) (cause : TypeCause) → AsksFor text t → RefusedTypeBy schema.program type_causes t cause → TypeNameRefused schema text (name.Checked cause)
-  not_built : (s : Shape) → IsTypeText schema.program text s → ((h : ℕ) → IsPlainType schema s h → ⊥) → TypeNameRefused schema text name.NotYetBuilt

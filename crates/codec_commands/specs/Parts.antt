@@ -4,12 +4,11 @@ use Rattle.tl_base.specs.Outside.{View, HasFile, left_of}
 use Rattle.tl_base.specs.Hosted.{OnlySlot}
 use Rattle.tl_base.specs.declared.host.Slot.TheVariants.{Input}
 use Rattle.tl_schema.specs.Types.{Shape}
-use Rattle.plain_values.specs.PlainTypes.{PlainShape}
 use Rattle.tl_schema.specs.Schemas.{Declared}
-use Rattle.plain_values.specs.PlainSchemas.{PlainDeclaration}
 use Rattle.tl_schema.specs.AskedTypes.{IsTypeText}
-use Rattle.plain_values.specs.PlainViews.{IsPlainType}
-use Rattle.plain_values.specs.declared.value.Value.{Value}
+use Rattle.tl_schema.specs.Seen.{shape}
+use Rattle.tl_schema.specs.declared.schema.TypeRef.{TypeRef}
+use Rattle.tl_types.specs.declared.value.Value.{Value}
 use Rattle.command_base.specs.Kept.{OnlyReads}
 use Rattle.codec_commands.specs.Decoding.{DecodesWhole}
 use Rattle.codec_commands.specs.declared.whole.InputFault.{InputFault}
@@ -35,18 +34,18 @@ LoadsSchema name (Err (schema.Refused cause)) v w = ((text : List ℕ) × HasFil
 LoadsSchema name (Err schema.ReadFault) v w = OnlyReads v w
 LoadsSchema name (Err schema.Memory) v w = OnlyReads v w
 
--- the number of the type that a word names, of which values are read
-abbrev pub NamesPlain : Declared → List ℕ → Result ℕ TypeWordFault → Type 0
-NamesPlain schema text (Ok head) = (s : Shape) × IsTypeText schema.program text s × IsPlainType schema s head
-NamesPlain schema text (Err (word.Refused cause)) = TypeNameRefused schema text cause
-NamesPlain schema text (Err word.Memory) = Unit {0}
+-- the type that a word means
+abbrev pub MeansType : Declared → List ℕ → Result TypeRef TypeWordFault → Type 0
+MeansType schema text (Ok type) = IsTypeText schema.program text (shape type)
+MeansType schema text (Err (word.Refused cause)) = TypeNameRefused schema text cause
+MeansType schema text (Err word.Memory) = Unit {0}
 
 -- what was left of the input was taken as one value of the type
-abbrev pub TakesValue : List PlainDeclaration → PlainShape → Result Value InputFault → View → View → Type 0
-TakesValue ds T result v w = DecodesWhole ds T (left_of Input v) result × OnlySlot Input v w
+abbrev pub TakesValue : Declared → Shape → Result Value InputFault → View → View → Type 0
+TakesValue schema T result v w = DecodesWhole schema T (left_of Input v) result × OnlySlot Input v w
 
 -- the value that is the whole of a file
-abbrev pub LoadsValue : List PlainDeclaration → PlainShape → List ℕ → Result Value InputFault → View → View → Type 0
-LoadsValue ds T name (Err input.ReadFault) v w = OnlyReads v w
-LoadsValue ds T name (Err input.Memory) v w = OnlyReads v w
-LoadsValue ds T name result v w = ((bytes : List ℕ) × HasFile v.files name bytes × DecodesWhole ds T bytes result) × OnlyReads v w
+abbrev pub LoadsValue : Declared → Shape → List ℕ → Result Value InputFault → View → View → Type 0
+LoadsValue schema T name (Err input.ReadFault) v w = OnlyReads v w
+LoadsValue schema T name (Err input.Memory) v w = OnlyReads v w
+LoadsValue schema T name result v w = ((bytes : List ℕ) × HasFile v.files name bytes × DecodesWhole schema T bytes result) × OnlyReads v w

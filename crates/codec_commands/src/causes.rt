@@ -48,9 +48,6 @@ pub enum TypeNameCause {
     /// The type has this cause, the first in the order of the checks.
     #[error("the type is refused: {cause:?}")]
     Checked { cause: TypeCause },
-    /// It is a type, and values of it are not read yet.
-    #[error("not yet built")]
-    NotYetBuilt,
 }
 
 /// The cause that a lexer's fault is; out of memory is none.

@@ -5,21 +5,25 @@ ghost use Rattle.tl_base.specs.Using.{MeetsFaults};
 ghost use Rattle.tl_base.specs.declared.counts.Kind.TheVariants as kinds;
 ghost use Rattle.command_base.specs.Jobs.{MakesOutput, TellsAs, Works, making};
 ghost use Rattle.command_base.specs.Sound.{Answered, Fits, MeetsBothFaults};
+ghost use Rattle.tl_schema.specs.Seen.{shape};
+ghost use Rattle.tl_types.specs.Seen.{view};
 ghost use Rattle.codec_commands.specs.Decode.{decode_job};
 ghost use Rattle.codec_commands.specs.Faults.{line_making, of_line, refusal_line};
+ghost use Rattle.codec_commands.specs.Lines.{line_text};
 
 use crate::causes::{SchemaCause, TypeNameCause};
 use crate::input::load_value;
 use crate::lines::{input_line, schema_line, trailing_line, type_line};
 use crate::schema_text::{SchemaFault, load_schema};
-use crate::shown::line_of;
-use crate::type_word::{TypeWordFault, plain_type};
+use crate::type_word::{TypeWordFault, type_named};
 use crate::whole::InputFault;
 use command_base::{Stop, Unmade, write_made};
-use plain_values::Cause;
 use std::alloc::{AllocError, Global};
 use thiserror::Error;
 use tl_base::Host;
+use tl_schema::{Schema, TypeRef};
+use tl_show::show_text;
+use tl_types::{Cause, Value};
 
 /// What `decode` refuses. A place is an offset in the input.
 #[derive(Clone, Copy, Debug, PartialEq, Eq, Error)]
@@ -127,7 +131,21 @@ fn line_unmade(alloc: Global, fault: LineFault) -> Unmade
     }
 }
 
-// The line of the value.
+// The line of a value: its JSON, and a line feed.
+fn value_line(
+    alloc: Global,
+    schema: &Schema,
+    of: &TypeRef,
+    value: &Value,
+) -> Result<Vec<u8>, AllocError>
+    ensures { IfOk result (λ line. line.items ≡ line_text schema.now.decls (shape of.now) (view value.now)) }
+{
+    let mut line = show_text(alloc, schema, of, value)?;
+    line.push(b'\n')?;
+    Ok(line)
+}
+
+// The line of the value that the input is.
 fn decoded_line<H: Host>(
     alloc: Global,
     host: &mut H,
@@ -139,10 +157,10 @@ fn decoded_line<H: Host>(
     ensures faults { MeetsFaults kinds.Reads (H.state host.old) (H.state host.new) (IsErrOf result LineFault.ReadFault) (Answered (decode_job schema.now of.now input.now)) }
 {
     let schema = load_schema(alloc, host, schema)?;
-    let head = plain_type(alloc, &schema, of)?;
-    let value = load_value(alloc, host, &schema, head, input)?;
-    let line = line_of(alloc, &schema, &value)?;
-    Ok(line.into_bytes())
+    let of = type_named(alloc, &schema, of)?;
+    let value = load_value(alloc, host, &schema, &of, input)?;
+    let line = value_line(alloc, &schema, &of, &value)?;
+    Ok(line)
 }
 
 // The same, where a fault is its line.

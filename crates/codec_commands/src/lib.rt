@@ -4,13 +4,10 @@
 mod causes;
 mod check;
 mod decode;
-mod decoder;
 mod input;
 mod lines;
 mod listing;
-mod plain_types;
 mod schema_text;
-mod shown;
 mod type_word;
 mod whole;
 

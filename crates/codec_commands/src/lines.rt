@@ -8,10 +8,10 @@ ghost use Rattle.codec_commands.specs.Lines.{cause_text, check_name, form_name, 
 use crate::causes::{SchemaCause, TextCause, TypeNameCause};
 use crate::schema_text::SchemaFault;
 use command_base::{Unmade, placed_line, unplaced_line};
-use plain_values::Cause;
 use std::alloc::{AllocError, Global};
 use tl_combinators::Form;
 use tl_schema::{CheckCause, TypeCause};
+use tl_types::Cause;
 
 // A cause, and its values.
 fn cause_name(alloc: Global, cause: Cause) -> Result<String, AllocError>
@@ -20,11 +20,15 @@ fn cause_name(alloc: Global, cause: Cause) -> Result<String, AllocError>
     match cause {
         Cause::TooDeep => String::from_str(alloc, "TooDeep"),
         Cause::Truncated => String::from_str(alloc, "Truncated"),
-        Cause::Packed => String::from_str(alloc, "NotYetBuilt"),
+        Cause::Packed => String::from_str(alloc, "Packed"),
         Cause::UnknownNumber { word } => {
             let digits = hex::encode(alloc, word.to_be_bytes())?;
             format!(in alloc; "UnknownNumber {digits}")
         }
+        Cause::BadCount { word } => format!(in alloc; "BadCount {word}"),
+        Cause::LongString => String::from_str(alloc, "LongString"),
+        Cause::LooseString => String::from_str(alloc, "LooseString"),
+        Cause::BadPadding => String::from_str(alloc, "BadPadding"),
     }
 }
 
@@ -112,7 +116,6 @@ pub fn type_line(alloc: Global, cause: TypeNameCause) -> Result<String, AllocErr
     match cause {
         TypeNameCause::Text { cause } => text_line(alloc, "type", cause),
         TypeNameCause::Checked { cause } => { unplaced_line(alloc, "type", type_cause_name(cause)) }
-        TypeNameCause::NotYetBuilt => unplaced_line(alloc, "type", "NotYetBuilt"),
     }
 }
 

@@ -1,15 +1,16 @@
 //! Types from words.
-ghost use Rattle.std.specs.Prelude.{◌≡◌};
+ghost use Rattle.std.specs.Prelude.{◌≡◌, IfOk};
+ghost use Rattle.tl_schema.specs.Formed.{IsFormed};
+ghost use Rattle.tl_schema.specs.Seen.{shape};
 ghost use Rattle.codec_commands.specs.Faults.{of_type_text};
-ghost use Rattle.codec_commands.specs.Parts.{NamesPlain};
+ghost use Rattle.codec_commands.specs.Parts.{MeansType};
 
 use crate::causes::{TextCause, TypeNameCause, lex_cause, syntax_cause};
-use crate::plain_types::plain_head;
 use std::alloc::Global;
 use thiserror::Error;
-use tl_schema::{Schema, TypeFault, type_of};
+use tl_schema::{Schema, TypeFault, TypeRef, type_of};
 
-/// Why a word gives no type of which values are read.
+/// Why a word gives no type.
 #[derive(Clone, Copy, Debug, PartialEq, Eq, Error)]
 pub enum TypeWordFault {
     #[error("{0}")]
@@ -46,13 +47,11 @@ impl From<TypeFault> for TypeWordFault {
     }
 }
 
-/// The number of the type that a word names.
-pub fn plain_type(alloc: Global, schema: &Schema, text: &str) -> Result<u32, TypeWordFault>
-    ensures { NamesPlain schema.now text.now result }
+/// The type that a word means.
+pub fn type_named(alloc: Global, schema: &Schema, text: &str) -> Result<TypeRef, TypeWordFault>
+    ensures names { MeansType schema.now text.now result }
+    ensures formed { IfOk result (λ of. IsFormed schema.now (shape of)) }
 {
     let of = type_of(alloc, schema, text.as_bytes())?;
-    match plain_head(schema, &of) {
-        Some(head) => Ok(head),
-        None => Err(TypeWordFault::Refused(TypeNameCause::NotYetBuilt)),
-    }
+    Ok(of)
 }

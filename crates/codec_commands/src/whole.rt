@@ -1,17 +1,16 @@
 //! Values that are whole inputs.
-ghost use Rattle.std.specs.Prelude.{◌<◌, IsErrOf, IfSome, length};
+ghost use Rattle.std.specs.Prelude.{IsErrOf, IfSome};
 ghost use Rattle.tl_base.specs.Using.{Used};
-ghost use Rattle.tl_names.specs.Places.{types_of};
-ghost use Rattle.plain_values.specs.PlainTypes.{boxed};
-ghost use Rattle.plain_values.specs.PlainViews.{plain_decls};
+ghost use Rattle.tl_schema.specs.Formed.{IsFormed};
+ghost use Rattle.tl_schema.specs.Seen.{shape};
 ghost use Rattle.codec_commands.specs.Decoding.{DecodesWhole};
 
-use crate::decoder::{DecodeFault, decode};
-use plain_values::{Cause, Value};
 use std::alloc::Global;
 use thiserror::Error;
 use tl_base::{Failed, Source, take_end};
-use tl_schema::Schema;
+use tl_decode::{DecodeFault, decode_walk};
+use tl_schema::{Schema, TypeRef};
+use tl_types::{Cause, Value};
 
 /// Why an input is no value of a type.
 #[derive(Clone, Copy, Debug, PartialEq, Eq, Error)]
@@ -19,7 +18,7 @@ pub enum InputFault {
     /// The bytes begin no spelling of a value: the item at the place is none, for the cause.
     #[error("refused at byte {place}: {cause}")]
     Refused { place: u64, cause: Cause },
-    /// The input goes on at the place, behind the spelling of a value.
+    /// The input goes on at the place, after the spelling of a value.
     #[error("more bytes from byte {place} on")]
     Trailing { place: u64 },
     #[error("read fault")]
@@ -58,15 +57,17 @@ impl From<Failed> for InputFault {
 pub fn decode_whole<S: Source>(
     alloc: Global,
     schema: &Schema,
-    head: u32,
+    of: &TypeRef,
     from: &mut S,
 ) -> Result<Value, InputFault>
-    requires { head < length (types_of schema.now.program) }
-    ensures whole { IfSome (S.state from.old).left (λ bytes. DecodesWhole (plain_decls schema.now) (boxed head) bytes result) }
+    requires formed { IsFormed schema.now (shape of.now) }
+    ensures whole { IfSome (S.state from.old).left (λ bytes. DecodesWhole schema.now (shape of.now) bytes result) }
     ensures used { Used (S.state from.old) (S.state from.new) (IsErrOf result InputFault.ReadFault) }
 {
+    // Read for the proof alone: that the schema is sound.
+    let _count = schema.count();
     let mut at = 0;
-    let value = decode(alloc, schema, head, &mut at, from)?;
+    let value = decode_walk(alloc, schema, of, &mut at, from)?;
     if !take_end(from)? {
         return Err(InputFault::Trailing { place: at });
     }

@@ -1,8 +1,7 @@
 use Rattle.tl_base.specs.declared.fault.Failed.{Failed}
-use Rattle.plain_values.specs.PlainViews.{plain_decls}
 use Rattle.codec_commands.proofs.Loading.{value_loaded}
 use Rattle.codec_commands.proofs.input.load_value.Goals as goal
 
 pub returns-in-Ok-clause-loads : goal.returns-in-Ok-clause-loads
 returns-in-Ok-clause-loads g c =
-    value_loaded Failed (plain_decls c.args.schema.now) _ c.args.name.now c.slot_value.result _ _ _ c.in-Ok.ensures.view c.slot_value.ensures.value
+    value_loaded Failed c.args.schema.now _ c.args.name.now c.slot_value.result _ _ _ c.in-Ok.ensures.view c.slot_value.ensures.value

@@ -1,16 +1,19 @@
 use Rattle.std.proofs.lemmas.Result.{err_from_is_err_and}
-use Rattle.plain_values.specs.PlainTypes.{boxed}
-use Rattle.plain_values.specs.PlainViews.{plain_decls}
+use Rattle.tl_schema.specs.Seen.{shape}
 use Rattle.codec_commands.proofs.WholeInput.{whole_fails, whole_read, whole_goes_on}
 use Rattle.codec_commands.proofs.whole.decode_whole.Goals as goal
 
 pub returns-in_err-value-clause-whole : goal.returns-in_err-value-clause-whole
 returns-in_err-value-clause-whole g c =
     let p = err_from_is_err_and c.from_residual.result c.from_residual.ensures.1 in
-    rw (p.1, p.2) (whole_fails (plain_decls c.args.schema.now) (boxed c.args.head) _ _ c.decode.new.at c.in_err-value.field-0.0 (g.met.S.Source.are_bytes c.args.from.now) c.in_err-value.ensures.spelled c.in_err-value.ensures.refused)
+    rw (p.1, p.2) (whole_fails c.args.schema.now c.count-count.ensures.sound (shape c.args.of.now) c.requires.formed _ _ c.decode_walk.new.at c.in_err-value.field-0.0 (g.met.S.Source.are_bytes c.args.from.now) c.in_err-value.ensures.spelled c.in_err-value.ensures.refused)
 
 pub returns-then-not-branch-clause-whole : goal.returns-then-not-branch-clause-whole
-returns-then-not-branch-clause-whole g c = whole_goes_on (plain_decls c.args.schema.now) (boxed c.args.head) _ _ _ c.decode.new.at c.in_ok-value.value _ (g.met.S.Source.are_bytes c.args.from.now) c.in_ok-value.ensures.spelled c.in_ok-value.ensures.refused c.if-not-branch.true c.in_ok-take_end.ensures.bytes
+returns-then-not-branch-clause-whole g c =
+    whole_goes_on c.args.schema.now c.count-count.ensures.sound (shape c.args.of.now) c.requires.formed _ _ _ c.decode_walk.new.at c.in_ok-value.value _ (g.met.S.Source.are_bytes c.args.from.now) c.in_ok-value.ensures.spelled c.in_ok-value.ensures.refused c.if-not-branch.true
+    c.in_ok-take_end.ensures.bytes
 
 pub returns-clause-whole : goal.returns-clause-whole
-returns-clause-whole g c = whole_read (plain_decls c.args.schema.now) (boxed c.args.head) _ _ _ c.decode.new.at c.in_ok-value.value _ (g.met.S.Source.are_bytes c.args.from.now) c.in_ok-value.ensures.spelled c.in_ok-value.ensures.refused c.if-not-branch.false c.in_ok-take_end.ensures.bytes
+returns-clause-whole g c =
+    whole_read c.args.schema.now c.count-count.ensures.sound (shape c.args.of.now) c.requires.formed _ _ _ c.decode_walk.new.at c.in_ok-value.value _ (g.met.S.Source.are_bytes c.args.from.now) c.in_ok-value.ensures.spelled c.in_ok-value.ensures.refused c.if-not-branch.false
+    c.in_ok-take_end.ensures.bytes

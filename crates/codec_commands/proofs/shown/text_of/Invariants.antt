@@ -1,6 +1,0 @@
-use Rattle.std.proofs.Common.{◌≡◌, ◌++◌, drop, string_bytes}
-use Rattle.codec_commands.specs.Shown.{name_text}
-use Rattle.codec_commands.proofs.shown.text_of.Given as goal
-
-abbrev pub invariant-loop-byte : goal.invariant-loop-byte
-invariant-loop-byte l = string_bytes l.text ++ name_text (drop l.byte-index l.name) ≡ name_text l.name

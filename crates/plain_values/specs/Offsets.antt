@@ -1,6 +1,0 @@
--- Offsets of bytes in an input. This project's own.
-use Rattle.std.specs.Prelude.{ℕ, ◌+◌, ◌-◌, ◌^◌, min}
-
--- the offset n bytes on; it stops at the type's end
-abbrev pub moved : ℕ → ℕ → ℕ
-moved offset n = min (offset + n) (2 ^ 64 - 1)
