@@ -60,7 +60,8 @@ module _ (s t i : List ℕ) where
   schema_stops loading.ReadFault v w only = only
   schema_stops loading.Memory v w only = only
 
-  pub no_schema_line : (e : SchemaFault) (r : Result (Vec ℕ Global) LineFault) (a b : Option View) → Told a b (LoadsSchema s (Err e)) → IsErrAnd r (λ z. z ≡ of_no_schema e) → Told a b (MakesOutput decoding (of_line r))
+  pub no_schema_line : (e : SchemaFault) (r : Result (Vec ℕ Global) LineFault) (a b : Option View) → Told a b (LoadsSchema s (Err e)) → IsErrAnd r (λ z. z ≡ of_no_schema e)
+      → Told a b (MakesOutput decoding (of_line r))
   no_schema_line e r a b h is = told_as a b (LoadsSchema s (Err e)) (MakesOutput decoding (of_line r)) (λ v w l. stops decoding (of_no_schema e) r v w (schema_stops e v w l) is) h
 
   -- ---- the type
@@ -69,8 +70,10 @@ module _ (s t i : List ℕ) where
   type_stops schema (word.Refused cause) v w ((text, has, is), only) h = ((text, has, schema_of schema is (no_type cause h refl)), only)
   type_stops schema word.Memory v w (is, only) h = only
 
-  pub no_type_line : (schema : Declared) (e : TypeWordFault) (r : Result (Vec ℕ Global) LineFault) (a b : Option View) → Told a b (LoadsSchema s (Ok schema)) → MeansType schema t (Err e) → IsErrAnd r (λ z. z ≡ of_no_type e) → Told a b (MakesOutput decoding (of_line r))
-  no_type_line schema e r a b loaded h is = told_as a b (LoadsSchema s (Ok schema)) (MakesOutput decoding (of_line r)) (λ v w l. stops decoding (of_no_type e) r v w (type_stops schema e v w l h) is) loaded
+  pub no_type_line : (schema : Declared) (e : TypeWordFault) (r : Result (Vec ℕ Global) LineFault) (a b : Option View) → Told a b (LoadsSchema s (Ok schema))
+      → MeansType schema t (Err e) → IsErrAnd r (λ z. z ≡ of_no_type e) → Told a b (MakesOutput decoding (of_line r))
+  no_type_line schema e r a b loaded h is =
+      told_as a b (LoadsSchema s (Ok schema)) (MakesOutput decoding (of_line r)) (λ v w l. stops decoding (of_no_type e) r v w (type_stops schema e v w l h) is) loaded
 
   -- ---- the input
 
@@ -92,16 +95,18 @@ module _ (s t i : List ℕ) where
     input_stops input.ReadFault v u w loaded only = then_reads v u w loaded.1 only
     input_stops input.Memory v u w loaded only = then_reads v u w loaded.1 only
 
-    pub no_value_line : (e : InputFault) (r : Result (Vec ℕ Global) LineFault) (a m b : Option View) → Told a m (LoadsSchema s (Ok schema)) → Told m b (LoadsValue schema T i (Err e)) → IsErrAnd r (λ z. z ≡ of_input e)
-        → Told a b (MakesOutput decoding (of_line r))
+    pub no_value_line : (e : InputFault) (r : Result (Vec ℕ Global) LineFault) (a m b : Option View) → Told a m (LoadsSchema s (Ok schema)) → Told m b (LoadsValue schema T i (Err e))
+        → IsErrAnd r (λ z. z ≡ of_input e) → Told a b (MakesOutput decoding (of_line r))
     no_value_line e r a m b loaded h is =
-        told_then a m b (LoadsSchema s (Ok schema)) (LoadsValue schema T i (Err e)) (MakesOutput decoding (of_line r)) (λ v u w l k. stops decoding (of_input e) r v w (input_stops e v u w l k) is) loaded h
+        told_then a m b (LoadsSchema s (Ok schema)) (LoadsValue schema T i (Err e)) (MakesOutput decoding (of_line r))
+        (λ v u w l k. stops decoding (of_input e) r v w (input_stops e v u w l k) is) loaded h
 
-    value_there : (x : Value) (line : List ℕ) → line ≡ line_text schema.decls T (view x) → (v u w : View) → LoadsSchema s (Ok schema) v u → LoadsValue schema T i (Ok x) u w → MakesOutput decoding (made line) v w
+    value_there : (x : Value) (line : List ℕ) → line ≡ line_text schema.decls T (view x) → (v u w : View) → LoadsSchema s (Ok schema) v u → LoadsValue schema T i (Ok x) u w
+        → MakesOutput decoding (made line) v w
     value_there x line is v u w loaded ((bytes, there, h), only) = (of_input_answer bytes _ v u loaded there (whole (view x) h.0 h.1 (ap done is)), then_reads v u w loaded.1 only)
 
-    pub value_line : (x : Value) (line : List ℕ) (a m b : Option View) → Told a m (LoadsSchema s (Ok schema)) → Told m b (LoadsValue schema T i (Ok x)) → line ≡ line_text schema.decls T (view x)
-        → Told a b (MakesOutput decoding (made line))
+    pub value_line : (x : Value) (line : List ℕ) (a m b : Option View) → Told a m (LoadsSchema s (Ok schema)) → Told m b (LoadsValue schema T i (Ok x))
+        → line ≡ line_text schema.decls T (view x) → Told a b (MakesOutput decoding (made line))
     value_line x line a m b loaded h is = told_then a m b (LoadsSchema s (Ok schema)) (LoadsValue schema T i (Ok x)) (MakesOutput decoding (made line)) (value_there x line is) loaded h
 
     -- ---- where reading the input can't fail
@@ -131,5 +136,6 @@ module _ (s t i : List ℕ) where
 
 -- ---- the line of a fault
 
-pub told_line : (s t i : List ℕ) (e : LineFault) (x : Unmade) (a b : Option View) → TellsAs (line_making e) x → Told a b (MakesOutput (decode_job s t i) (of_line (Err e))) → Told a b (MakesOutput (decode_job s t i) (of_fault x))
+pub told_line : (s t i : List ℕ) (e : LineFault) (x : Unmade) (a b : Option View) → TellsAs (line_making e) x → Told a b (MakesOutput (decode_job s t i) (of_line (Err e)))
+    → Told a b (MakesOutput (decode_job s t i) (of_fault x))
 told_line s t i e x a b tells h = not_made (decode_job s t i) (line_making e) x a b tells h

@@ -33,7 +33,8 @@ module _ (schema : Declared) (text : List ℕ) where
   no_type type.Memory r h e = stops _ r tt e
 
   -- the word's bytes are the text
-  pub no_type_of : (bytes : List ℕ) (e : TypeFault) (r : Result TypeRef TypeWordFault) → bytes ≡ text → NamesType schema.program bytes (Err e) → IsErrAnd r (λ z. z ≡ of_type e) → MeansType schema text r
+  pub no_type_of : (bytes : List ℕ) (e : TypeFault) (r : Result TypeRef TypeWordFault) → bytes ≡ text → NamesType schema.program bytes (Err e) → IsErrAnd r (λ z. z ≡ of_type e)
+      → MeansType schema text r
   no_type_of bytes e r same h is = no_type e r (subst (λ (x : List ℕ). NamesType schema.program x (Err e)) same h) is
 
   pub type_meant : (bytes : List ℕ) (of : TypeRef) → bytes ≡ text → NamesType schema.program bytes (Ok of) → MeansType schema text (Ok of)

@@ -1,5 +1,5 @@
 -- The whole input: its spelling, its refusal, or more bytes after a spelling.
-use Rattle.std.proofs.Common.{◌≡◌, ℕ, ◌≤◌, List, [], ◌∷◌, ◌++◌, length, append-nil, Option, Some, None, Result, Ok, Err, Bool, true, false, sym, ap, ◌∙◌, subst, inl, inr}
+use Rattle.std.proofs.Common.{◌≡◌, ℕ, ◌≤◌, List, ◌++◌, length, append-nil, Option, Some, None, Result, Ok, Err, Bool, true, false, sym, ap, ◌∙◌, subst, inl, inr}
 use Rattle.std.specs.Prelude.{IfSome}
 use Rattle.tl_base.specs.Contents.{AreBytes}
 use Rattle.tl_base.specs.Taking.{TakesEnd}
@@ -24,56 +24,65 @@ use Rattle.codec_commands.specs.declared.whole.InputFault.{InputFault}
 use Rattle.codec_commands.specs.declared.whole.InputFault.TheVariants as input
 use Rattle.codec_commands.specs.Decoding.{input_fault, DecodesWhole}
 
+-- what decoding from the start answers: what is spelled is given, and what is refused is refused
+pub record Decoded (schema : Declared) (T : Shape) (a b : Option (List ℕ)) (q : ℕ) (r : Result Value DecodeFault) : Type 0 where
+  pub are : IfSome a AreBytes
+  pub spelled : IfSome a (λ bytes. (v : ValueView) (x rest : List ℕ) → bytes ≡ x ++ rest → Spells schema T v x → depth v ≤ MAX_LEVELS → GivesValue r b 0 q v x rest)
+  pub refused : IfSome a (λ bytes. (offset : ℕ) (cause : Cause) → Refused schema MAX_LEVELS T bytes offset cause → GivesFault r (moved 0 offset) cause)
+
+abbrev pub Whole : Declared → Shape → Option (List ℕ) → Result Value InputFault → Type 0
+Whole schema T a r = IfSome a (λ bytes. DecodesWhole schema T bytes r)
+
+-- whether no byte is left
+abbrev pub Ends : Option (List ℕ) → Option (List ℕ) → Bool → Type 0
+Ends b c end = IfSome b (λ bytes. TakesEnd {E = Failed} bytes c (Ok end))
+
+left_ends : (b c : Option (List ℕ)) (rest : List ℕ) (end : Bool) → b ≡ Some rest → Ends b c end → TakesEnd {E = Failed} rest c (Ok end)
+left_ends b c rest end left h = subst (λ (o : Option (List ℕ)). Ends o c end) left h
+
 module _ (schema : Declared) (good : IsSchema schema) (T : Shape) (formed : IsFormed schema T) where
-  -- what is spelled is read, and what is refused is refused
-  abbrev pub ReadsSpelled : Option (List ℕ) → Option (List ℕ) → ℕ → Result Value DecodeFault → Type 0
-  ReadsSpelled a b q r = IfSome a (λ bytes. (v : ValueView) (x rest : List ℕ) → bytes ≡ x ++ rest → Spells schema T v x → depth v ≤ MAX_LEVELS → GivesValue r b 0 q v x rest)
+  -- ---- a refusal
 
-  abbrev pub RefusesRefused : Option (List ℕ) → Result Value DecodeFault → Type 0
-  RefusesRefused a r = IfSome a (λ bytes. (offset : ℕ) (cause : Cause) → Refused schema MAX_LEVELS T bytes offset cause → GivesFault r (moved 0 offset) cause)
-
-  abbrev pub Whole : Option (List ℕ) → Result Value InputFault → Type 0
-  Whole a r = IfSome a (λ bytes. DecodesWhole schema T bytes r)
-
-  refused_whole : (bytes : List ℕ) (at p : ℕ) (why cause : Cause) → Refused schema MAX_LEVELS T bytes p cause → (at ≡ moved 0 p) × (why ≡ cause) → DecodesWhole schema T bytes (Err (input.Refused at why))
+  refused_whole : (bytes : List ℕ) (at p : ℕ) (why cause : Cause) → Refused schema MAX_LEVELS T bytes p cause → (at ≡ moved 0 p) × (why ≡ cause)
+      → DecodesWhole schema T bytes (Err (input.Refused at why))
   refused_whole bytes at p why cause r same = (p, subst (Refused schema MAX_LEVELS T bytes p) (sym same.1) r, same.0)
 
-  pub whole_fails : (a b : Option (List ℕ)) (q : ℕ) (e : DecodeFault) → IfSome a AreBytes → ReadsSpelled a b q (Err e) → RefusesRefused a (Err e) → Whole a (Err (input_fault e))
-  whole_fails None b q e are spelled refused = tt
-  whole_fails (Some bytes) b q (fault.Refused at why) are spelled refused =
-      elim (exactly_one schema good MAX_LEVELS T bytes formed are).either [
-        | inl (t, x, (rest, is, spells, deep)) ↦ absurd (spelled t x rest is spells deep)
-        | inr (place, cause, r) ↦ refused_whole bytes at place why cause r (refused place cause r)
-      ]
-  whole_fails (Some bytes) b q fault.ReadFault are spelled refused = tt
-  whole_fails (Some bytes) b q fault.Memory are spelled refused = tt
+  pub whole_fails : (a b : Option (List ℕ)) (q : ℕ) (e : DecodeFault) → Decoded schema T a b q (Err e) → Whole schema T a (Err (input_fault e))
+  whole_fails None b q e d = tt
+  whole_fails (Some bytes) b q (fault.Refused at why) d = elim (exactly_one schema good MAX_LEVELS T bytes formed d.are).either [
+    | inl (v, x, (rest, is, spells, deep)) ↦ absurd (d.spelled v x rest is spells deep)
+    | inr (p, cause, r) ↦ refused_whole bytes at p why cause r (d.refused p cause r)
+  ]
+  whole_fails (Some bytes) b q fault.ReadFault d = tt
+  whole_fails (Some bytes) b q fault.Memory d = tt
 
-  ends_there : (bytes x rest : List ℕ) (t : ValueView) (v : Value) → bytes ≡ x ++ rest → rest ≡ [] → view v ≡ t → Spells schema T t x → depth t ≤ MAX_LEVELS → DecodesWhole schema T bytes (Ok v)
-  ends_there bytes x rest t v is none seen spells deep =
-      let all : bytes ≡ x = is ∙ ap (λ (z : List ℕ). x ++ z) none ∙ append-nil x in
-      rw (seen, all) (spells, deep)
+  -- ---- a value
 
-  pub whole_read : (a b c : Option (List ℕ)) (q : ℕ) (v : Value) (end : Bool) → IfSome a AreBytes → ReadsSpelled a b q (Ok v) → RefusesRefused a (Ok v) → end ≡ true → IfSome b (λ bytes. TakesEnd {E = Failed} bytes c (Ok end)) → Whole a (Ok v)
-  whole_read None b c q v end are spelled refused is_end h = tt
-  whole_read (Some bytes) b c q v end are spelled refused is_end h =
-      elim (exactly_one schema good MAX_LEVELS T bytes formed are).either [
-        | inl (t, x, (rest, is, spells, deep)) ↦
-            let got = spelled t x rest is spells deep in
-            let there = subst (λ (o : Option (List ℕ)). IfSome o (λ bytes. TakesEnd {E = Failed} bytes c (Ok true))) got.1 (subst (λ (e : Bool). IfSome b (λ bytes. TakesEnd {E = Failed} bytes c (Ok e))) is_end h) in
-            ends_there bytes x rest t v is there.0 got.0 spells deep
-        | inr (place, cause, r) ↦ absurd (refused place cause r)
-      ]
+  -- the bytes begin with the spelling of the value, and those after it are left
+  abbrev SpelledFirst : List ℕ → Option (List ℕ) → ℕ → ValueView → Type 0
+  SpelledFirst bytes b q v = (x : List ℕ) × (rest : List ℕ) × (bytes ≡ x ++ rest) × Spells schema T v x × (depth v ≤ MAX_LEVELS) × (b ≡ Some rest) × (q ≡ moved 0 (length x))
 
-  goes_on_there : (bytes x rest more : List ℕ) (b q : ℕ) (t : ValueView) → bytes ≡ x ++ rest → rest ≡ b ∷ more → Spells schema T t x → depth t ≤ MAX_LEVELS → q ≡ moved 0 (length x) → DecodesWhole schema T bytes (Err (input.Trailing q))
-  goes_on_there bytes x rest more b q t is some spells deep at = (t, x, b, more, is ∙ ap (λ (z : List ℕ). x ++ z) some, spells, deep, at)
+  spelled_first : (bytes : List ℕ) (b : Option (List ℕ)) (q : ℕ) (value : Value) → Decoded schema T (Some bytes) b q (Ok value) → SpelledFirst bytes b q (view value)
+  spelled_first bytes b q value d = elim (exactly_one schema good MAX_LEVELS T bytes formed d.are).either [
+    | inl (v, x, (rest, is, spells, deep)) ↦ (let got = d.spelled v x rest is spells deep in subst (SpelledFirst bytes b q) (sym got.0) (x, rest, is, spells, deep, got.1, got.2))
+    | inr (p, cause, r) ↦ absurd (d.refused p cause r)
+  ]
 
-  pub whole_goes_on : (a b c : Option (List ℕ)) (q : ℕ) (v : Value) (end : Bool) → IfSome a AreBytes → ReadsSpelled a b q (Ok v) → RefusesRefused a (Ok v) → end ≡ false → IfSome b (λ bytes. TakesEnd {E = Failed} bytes c (Ok end)) → Whole a (Err (input.Trailing q))
-  whole_goes_on None b c q v end are spelled refused is_end h = tt
-  whole_goes_on (Some bytes) b c q v end are spelled refused is_end h =
-      elim (exactly_one schema good MAX_LEVELS T bytes formed are).either [
-        | inl (t, x, (rest, is, spells, deep)) ↦
-            let got = spelled t x rest is spells deep in
-            let there = subst (λ (o : Option (List ℕ)). IfSome o (λ bytes. TakesEnd {E = Failed} bytes c (Ok false))) got.1 (subst (λ (e : Bool). IfSome b (λ bytes. TakesEnd {E = Failed} bytes c (Ok e))) is_end h) in
-            goes_on_there bytes x rest there.1 there.0 q t is there.2 spells deep got.2
-        | inr (place, cause, r) ↦ absurd (refused place cause r)
-      ]
+  ends_there : (bytes : List ℕ) (b c : Option (List ℕ)) (q : ℕ) (value : Value) → SpelledFirst bytes b q (view value) → Ends b c true → DecodesWhole schema T bytes (Ok value)
+  ends_there bytes b c q value (x, rest, is, spells, deep, left, at) h =
+      let all : bytes ≡ x = is ∙ ap (λ (z : List ℕ). x ++ z) (left_ends b c rest true left h).0 ∙ append-nil x in
+      (subst (Spells schema T (view value)) (sym all) spells, deep)
+
+  pub whole_read : (a b c : Option (List ℕ)) (q : ℕ) (value : Value) (end : Bool) → Decoded schema T a b q (Ok value) → end ≡ true → Ends b c end → Whole schema T a (Ok value)
+  whole_read None b c q value end d is_end h = tt
+  whole_read (Some bytes) b c q value end d is_end h = ends_there bytes b c q value (spelled_first bytes b q value d) (subst (Ends b c) is_end h)
+
+  goes_on_there : (bytes : List ℕ) (b c : Option (List ℕ)) (q : ℕ) (v : ValueView) → SpelledFirst bytes b q v → Ends b c false → DecodesWhole schema T bytes (Err (input.Trailing q))
+  goes_on_there bytes b c q v (x, rest, is, spells, deep, left, at) h =
+      let more = left_ends b c rest false left h in
+      (v, x, more.0, more.1, is ∙ ap (λ (z : List ℕ). x ++ z) more.2, spells, deep, at)
+
+  pub whole_goes_on : (a b c : Option (List ℕ)) (q : ℕ) (value : Value) (end : Bool) → Decoded schema T a b q (Ok value) → end ≡ false → Ends b c end
+      → Whole schema T a (Err (input.Trailing q))
+  whole_goes_on None b c q value end d is_end h = tt
+  whole_goes_on (Some bytes) b c q value end d is_end h = goes_on_there bytes b c q (view value) (spelled_first bytes b q value d) (subst (Ends b c) is_end h)

@@ -23,7 +23,8 @@ use Rattle.codec_commands.specs.Lines.{line_text, schema_line, type_line, input_
 -- A place stops at 2^64 - 1.
 pub data OfInput (schema : Declared) (s : Shape) (bytes : List ℕ) (a : Answer) : Type 0 where
   whole : (v : ValueView) → Spells schema s v bytes → depth v ≤ MAX_LEVELS → a ≡ done (line_text schema.decls s v) → OfInput schema s bytes a
-  longer : (v : ValueView) (x rest : List ℕ) (b : ℕ) → bytes ≡ x ++ b ∷ rest → Spells schema s v x → depth v ≤ MAX_LEVELS → a ≡ refused (input_line (moved 0 (length x)) (codes "Trailing")) → OfInput schema s bytes a
+  longer : (v : ValueView) (x rest : List ℕ) (b : ℕ) → bytes ≡ x ++ b ∷ rest → Spells schema s v x → depth v ≤ MAX_LEVELS
+      → a ≡ refused (input_line (moved 0 (length x)) (codes "Trailing")) → OfInput schema s bytes a
   faulty : (at : ℕ) (why : Cause) → Refused schema MAX_LEVELS s bytes at why → a ≡ refused (input_line (moved 0 at) (cause_text why)) → OfInput schema s bytes a
 
 -- the word is refused as a type, or it is one, and then the input's file tells

@@ -11,21 +11,25 @@ returns-in_err-schema-clause-line g c =
 
 pub returns-in_err-of-clause-line : goal.returns-in_err-of-clause-line
 returns-in_err-of-clause-line g c =
-    no_type_line c.args.schema.now c.args.of.now c.args.input.now c.in_ok-schema.schema c.in_err-of.field-0.0 c.from_residual-in_err-of.result _ _ c.in_ok-schema.ensures.loads c.in_err-of.ensures.names c.from_residual-in_err-of.ensures.1
+    no_type_line c.args.schema.now c.args.of.now c.args.input.now c.in_ok-schema.schema c.in_err-of.field-0.0 c.from_residual-in_err-of.result _ _
+    c.in_ok-schema.ensures.loads c.in_err-of.ensures.names c.from_residual-in_err-of.ensures.1
 
 pub returns-in_err-value-clause-line : goal.returns-in_err-value-clause-line
 returns-in_err-value-clause-line g c =
-    no_value_line c.args.schema.now c.args.of.now c.args.input.now c.in_ok-schema.schema (shape c.in_ok-of.of) c.in_ok-of.ensures.names c.in_err-value.field-0.0 c.from_residual-in_err-value.result _ _ _
+    no_value_line c.args.schema.now c.args.of.now c.args.input.now c.in_ok-schema.schema (shape c.in_ok-of.of) c.in_ok-of.ensures.names
+    c.in_err-value.field-0.0 c.from_residual-in_err-value.result _ _ _
     c.in_ok-schema.ensures.loads c.in_err-value.ensures.loads c.from_residual-in_err-value.ensures.1
 
 pub returns-clause-line : goal.returns-clause-line
 returns-clause-line g c =
-    value_line c.args.schema.now c.args.of.now c.args.input.now c.in_ok-schema.schema (shape c.in_ok-of.of) c.in_ok-of.ensures.names c.in_ok-value.value _ _ _ _ c.in_ok-schema.ensures.loads c.in_ok-value.ensures.loads (search rules)
+    value_line c.args.schema.now c.args.of.now c.args.input.now c.in_ok-schema.schema (shape c.in_ok-of.of) c.in_ok-of.ensures.names c.in_ok-value.value _ _ _ _
+    c.in_ok-schema.ensures.loads c.in_ok-value.ensures.loads (search rules)
 
 pub returns-in_err-value-clause-faults : goal.returns-in_err-value-clause-faults
 returns-in_err-value-clause-faults g c =
     let p =
-    no_value_sound c.args.schema.now c.args.of.now c.args.input.now c.in_ok-schema.schema (shape c.in_ok-of.of) c.in_ok-of.ensures.names c.in_err-value.field-0.0 c.from_residual-in_err-value.result _ _ _ _ _
+    no_value_sound c.args.schema.now c.args.of.now c.args.input.now c.in_ok-schema.schema (shape c.in_ok-of.of) c.in_ok-of.ensures.names
+    c.in_err-value.field-0.0 c.from_residual-in_err-value.result _ _ _ _ _
     c.in_ok-schema.ensures.loads c.in_ok-schema.ensures.faults.stays (safe c.in_err-value.ensures.faults) c.from_residual-in_err-value.ensures.1 in
     record {
       later = search rules;

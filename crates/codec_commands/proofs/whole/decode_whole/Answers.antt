@@ -6,14 +6,17 @@ use Rattle.codec_commands.proofs.whole.decode_whole.Goals as goal
 pub returns-in_err-value-clause-whole : goal.returns-in_err-value-clause-whole
 returns-in_err-value-clause-whole g c =
     let p = err_from_is_err_and c.from_residual.result c.from_residual.ensures.1 in
-    rw (p.1, p.2) (whole_fails c.args.schema.now c.count-count.ensures.sound (shape c.args.of.now) c.requires.formed _ _ c.decode_walk.new.at c.in_err-value.field-0.0 (g.met.S.Source.are_bytes c.args.from.now) c.in_err-value.ensures.spelled c.in_err-value.ensures.refused)
+    rw (p.1, p.2) (whole_fails c.args.schema.now c.count-count.ensures.sound (shape c.args.of.now) c.requires.formed _ _ c.decode_walk.new.at c.in_err-value.field-0.0
+    (record { are = g.met.S.Source.are_bytes c.args.from.now; spelled = c.in_err-value.ensures.spelled; refused = c.in_err-value.ensures.refused }))
 
 pub returns-then-not-branch-clause-whole : goal.returns-then-not-branch-clause-whole
 returns-then-not-branch-clause-whole g c =
-    whole_goes_on c.args.schema.now c.count-count.ensures.sound (shape c.args.of.now) c.requires.formed _ _ _ c.decode_walk.new.at c.in_ok-value.value _ (g.met.S.Source.are_bytes c.args.from.now) c.in_ok-value.ensures.spelled c.in_ok-value.ensures.refused c.if-not-branch.true
-    c.in_ok-take_end.ensures.bytes
+    whole_goes_on c.args.schema.now c.count-count.ensures.sound (shape c.args.of.now) c.requires.formed _ _ _ c.decode_walk.new.at c.in_ok-value.value _
+    (record { are = g.met.S.Source.are_bytes c.args.from.now; spelled = c.in_ok-value.ensures.spelled; refused = c.in_ok-value.ensures.refused })
+    c.if-not-branch.true c.in_ok-take_end.ensures.bytes
 
 pub returns-clause-whole : goal.returns-clause-whole
 returns-clause-whole g c =
-    whole_read c.args.schema.now c.count-count.ensures.sound (shape c.args.of.now) c.requires.formed _ _ _ c.decode_walk.new.at c.in_ok-value.value _ (g.met.S.Source.are_bytes c.args.from.now) c.in_ok-value.ensures.spelled c.in_ok-value.ensures.refused c.if-not-branch.false
-    c.in_ok-take_end.ensures.bytes
+    whole_read c.args.schema.now c.count-count.ensures.sound (shape c.args.of.now) c.requires.formed _ _ _ c.decode_walk.new.at c.in_ok-value.value _
+    (record { are = g.met.S.Source.are_bytes c.args.from.now; spelled = c.in_ok-value.ensures.spelled; refused = c.in_ok-value.ensures.refused })
+    c.if-not-branch.false c.in_ok-take_end.ensures.bytes
