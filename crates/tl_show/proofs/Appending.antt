@@ -55,4 +55,3 @@ pub record_appended : (r : Done) (old mid new : Written) (args : List Shape) (at
 record_appended r old mid new args at f g same opens members =
     let P : FormView → Type 0 = λ h. WritesData r old new (object (members_of h args at)) in
     subst P (sym same) (then_appended r old mid new _ _ opens members)
-
