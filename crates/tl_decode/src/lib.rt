@@ -1,7 +1,6 @@
 //! Values from bytes, for every type of a schema.
 #![tactic(auto)]
 
-mod conditions;
 mod decoder;
 mod fault;
 mod items;
