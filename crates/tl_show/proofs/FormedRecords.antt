@@ -1,5 +1,5 @@
 -- A value by the forms of its schema's declarations is the value as it is shown.
-use Rattle.std.proofs.Common.{◌≡◌, ℕ, zero, suc, List, [], ◌∷◌, ◌++◌, Bool, true, false, if◌then◌else◌, Option, Some, None, refl, ap, ap₂, ◌∙◌}
+use Rattle.std.proofs.Common.{◌≡◌, ℕ, zero, suc, List, [], ◌∷◌, ◌++◌, Option, Some, None, refl, ap, ap₂, ◌∙◌}
 use Rattle.std.specs.Prelude.{⊤, slice_get}
 use Rattle.serde_json.specs.Data.{array, object, item}
 use Rattle.tl_schema.specs.Types.{Shape}
@@ -7,7 +7,7 @@ use Rattle.tl_schema.specs.Closing.{closed}
 use Rattle.tl_schema.specs.Schemas.{Declaration}
 use Rattle.tl_types.specs.Values.{ValueView, int, long, nat, opaque, text, truth, absent, list, node, call, ValueViews, no_values, value}
 use Rattle.tl_show.specs.Shown.{arguments_of, fields_in, is_absent, item_of, name_in, named, shown, shown_each, with_fields}
-use Rattle.tl_show.specs.inner.Forms.{AreForms, FormView, IsForm, PartView, Reads, form_in, members_at, members_of, part_of, read_at, shown_at, with_part, written, written_each}
+use Rattle.tl_show.specs.inner.Forms.{AreForms, FormView, IsForm, PartView, Reads, form_in, members_at, members_of, part_of, read_at, shown_at, unless_missing, with_part, written, written_each}
 use Rattle.tl_show.specs.inner.Forms as form
 
 pub forms_push : (ds : List Declaration) (fs : List FormView) (d : Declaration) (f : FormView) → AreForms ds fs → IsForm d f → AreForms (ds ++ d ∷ []) (fs ++ f ∷ [])
@@ -33,17 +33,19 @@ same_part : (n : List ℕ) (args : List Shape) (at to : Reads) → ((i : ℕ) (T
 same_part n args at to same form.name = refl
 same_part n args at to same (form.field i T) = same i (closed args T)
 
-same_members : (n : List ℕ) (args : List Shape) (at to : Reads) → ((i : ℕ) (T : Shape) → at i T ≡ to i T) → (ks : List (List ℕ × PartView)) → members_at n args at ks ≡ members_at n args to ks
+same_members : (n : List ℕ) (args : List Shape) (at to : Reads) → ((i : ℕ) (T : Shape) → at i T ≡ to i T) → (ks : List (List ℕ × PartView))
+    → members_at n args at ks ≡ members_at n args to ks
 same_members n args at to same [] = refl
 same_members n args at to same (k ∷ ks) = ap₂ (with_part k.0) (same_part n args at to same k.1) (same_members n args at to same ks)
 
-record_by : (all : List Declaration) (d : Option Declaration) (f : Option FormView) → AtOnePlace d f → (args : List Shape) (at : Reads) (vs : ValueViews) → ((i : ℕ) (T : Shape) → at i T ≡ shown_at all vs i T)
-    → members_of (form_in f) args at ≡ with_fields all args (named (name_in d)) (fields_in d) vs
-record_by all None None is args at no_values same = refl
-record_by all None None is args at (value v vs) same = refl
-record_by all None (Some f) is args at vs same = absurd is
-record_by all (Some d) None is args at vs same = absurd is
-record_by all (Some d) (Some f) is args at vs same = same_members f.name args at (shown_at all vs) same f.keys ∙ rw is.text (is.puts all d.name args vs)
+record_as_shown : (all : List Declaration) (d : Option Declaration) (f : Option FormView) → AtOnePlace d f → (args : List Shape) (at : Reads) (vs : ValueViews)
+    → ((i : ℕ) (T : Shape) → at i T ≡ shown_at all vs i T) → members_of (form_in f) args at ≡ with_fields all args (named (name_in d)) (fields_in d) vs
+record_as_shown all None None is args at no_values same = refl
+record_as_shown all None None is args at (value v vs) same = refl
+record_as_shown all None (Some f) is args at vs same = absurd is
+record_as_shown all (Some d) None is args at vs same = absurd is
+record_as_shown all (Some d) (Some f) is args at vs same =
+    same_members f.name args at (shown_at all vs) same f.keys ∙ rw is.text (is.puts all d.name args vs)
 
 mutual
   pub as_shown : (ds : List Declaration) (fs : List FormView) → AreForms ds fs → (T : Shape) (v : ValueView) → written fs T v ≡ shown ds T v
@@ -55,8 +57,10 @@ mutual
   as_shown ds fs are T truth = refl
   as_shown ds fs are T absent = refl
   as_shown ds fs are T (list vs) = ap array (each_as_shown ds fs are (item_of T) vs)
-  as_shown ds fs are T (node i vs) = ap object (record_by ds (slice_get ds i) (slice_get fs i) (at_place ds fs are i) (arguments_of T) (read_at fs vs) vs (place_as_shown ds fs are vs))
-  as_shown ds fs are T (call i vs) = ap object (record_by ds (slice_get ds i) (slice_get fs i) (at_place ds fs are i) [] (read_at fs vs) vs (place_as_shown ds fs are vs))
+  as_shown ds fs are T (node i vs) =
+      ap object (record_as_shown ds (slice_get ds i) (slice_get fs i) (at_place ds fs are i) (arguments_of T) (read_at fs vs) vs (place_as_shown ds fs are vs))
+  as_shown ds fs are T (call i vs) =
+      ap object (record_as_shown ds (slice_get ds i) (slice_get fs i) (at_place ds fs are i) [] (read_at fs vs) vs (place_as_shown ds fs are vs))
 
   each_as_shown : (ds : List Declaration) (fs : List FormView) → AreForms ds fs → (T : Shape) (vs : ValueViews) → written_each fs T vs ≡ shown_each ds T vs
   each_as_shown ds fs are T no_values = refl
@@ -64,5 +68,5 @@ mutual
 
   place_as_shown : (ds : List Declaration) (fs : List FormView) → AreForms ds fs → (vs : ValueViews) (i : ℕ) (T : Shape) → read_at fs vs i T ≡ shown_at ds vs i T
   place_as_shown ds fs are no_values i T = refl
-  place_as_shown ds fs are (value v vs) zero T = ap (λ x. if is_absent v then None else Some x) (as_shown ds fs are T v)
+  place_as_shown ds fs are (value v vs) zero T = ap (unless_missing (is_absent v)) (as_shown ds fs are T v)
   place_as_shown ds fs are (value v vs) (suc i) T = place_as_shown ds fs are vs i T

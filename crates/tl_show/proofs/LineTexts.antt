@@ -1,5 +1,5 @@
 -- The text of what was written, and of what is shown.
-use Rattle.std.proofs.Common.{◌≡◌, ℕ, List, [], ◌++◌, Vec, Global, Result, Ok, Err, Bool, false, refl, ap, subst, ◌∙◌}
+use Rattle.std.proofs.Common.{◌≡◌, ℕ, List, [], ◌++◌, Vec, Global, Result, Ok, Err, false, ap, subst, ◌∙◌}
 use Rattle.std.specs.Prelude.{IfOk}
 use Rattle.std.specs.declared.alloc.AllocError.{AllocError}
 use Rattle.json.specs.Print.{print}
@@ -20,13 +20,18 @@ use Rattle.tl_show.proofs.NoFloats.{no_float}
 abbrev pub Line : Type 0
 Line = Result (Vec ℕ Global) AllocError
 
-pub text_of_tokens : (d : Data) (old new : Written) (text : List ℕ) → old.before ≡ [] → old.tokens ≡ [] → Appended old new (json_tokens (outline d)) → text ≡ new.before ++ print new.tokens → text ≡ compact_text d
+abbrev pub IsText : Line → Data → Type 0
+IsText line d = IfOk line (λ b. b.items ≡ compact_text d)
+
+pub text_of_tokens : (d : Data) (old new : Written) (text : List ℕ) → old.before ≡ [] → old.tokens ≡ [] → Appended old new (json_tokens (outline d))
+    → text ≡ new.before ++ print new.tokens → text ≡ compact_text d
 text_of_tokens d old new text first none added is = is ∙ rw (added.before, added.tokens, first, none) (print-outline d)
 
-pub text_as_shown : (line : Line) (ds : List Declaration) (fs : List FormView) (T : Shape) (v : ValueView) → AreForms ds fs → IfOk line (λ b. b.items ≡ compact_text (written fs T v)) → IfOk line (λ b. b.items ≡ compact_text (shown ds T v))
-text_as_shown line ds fs T v are text =
-    let P : Data → Type 0 = λ d. IfOk line (λ b. b.items ≡ compact_text d) in subst P (as_shown ds fs are T v) text
+pub text_as_shown : (line : Line) (ds : List Declaration) (fs : List FormView) (T : Shape) (v : ValueView) → AreForms ds fs
+    → IsText line (written fs T v) → IsText line (shown ds T v)
+text_as_shown line ds fs T v are text = let P : Data → Type 0 = λ d. IsText line d in subst P (as_shown ds fs are T v) text
 
-pub text_of_shown : (line : Line) (ds : List Declaration) (T : Shape) (v : ValueView) (d : Data) → d ≡ shown ds T v → IfOk line (λ b. has_float d ≡ false → b.items ≡ compact_text d) → IfOk line (λ b. b.items ≡ compact_text (shown ds T v))
+pub text_of_shown : (line : Line) (ds : List Declaration) (T : Shape) (v : ValueView) (d : Data) → d ≡ shown ds T v
+    → IfOk line (λ b. has_float d ≡ false → b.items ≡ compact_text d) → IsText line (shown ds T v)
 text_of_shown (Ok b) ds T v d is text = text (ap has_float is ∙ no_float ds T v) ∙ ap compact_text is
 text_of_shown (Err e) ds T v d is text = tt

@@ -29,7 +29,8 @@ in_text T false s is = rw is refl
 none : (a b : Bool) → a ≡ false → b ≡ false → a || b ≡ false
 none a b first second = rw (first, second) refl
 
-put_at : (o : Ordering) (k l : List ℕ) (d e : Data) (ms : Members) → has_float d ≡ false → has_float e || members_have_float ms ≡ false → has_float e || members_have_float (put k d ms) ≡ false → members_have_float ms ≡ false
+put_at : (o : Ordering) (k l : List ℕ) (d e : Data) (ms : Members) → has_float d ≡ false → has_float e || members_have_float ms ≡ false
+    → has_float e || members_have_float (put k d ms) ≡ false → members_have_float ms ≡ false
     → members_have_float (match_ordering o (member k d (member l e ms)) (member l d ms) (member l e (put k d ms))) ≡ false
 put_at Less k l d e ms one all later rest = none _ _ one all
 put_at Equal k l d e ms one all later rest = none _ _ one rest
@@ -62,8 +63,10 @@ mutual
   no_float_each ds T no_values = refl
   no_float_each ds T (value v vs) = none _ _ (no_float ds T v) (no_float_each ds T vs)
 
-  no_float_fields : (ds : List Declaration) (args : List Shape) (ms : Members) (fs : List Slot) (vs : ValueViews) → members_have_float ms ≡ false → members_have_float (with_fields ds args ms fs vs) ≡ false
+  no_float_fields : (ds : List Declaration) (args : List Shape) (ms : Members) (fs : List Slot) (vs : ValueViews) → members_have_float ms ≡ false
+      → members_have_float (with_fields ds args ms fs vs) ≡ false
   no_float_fields ds args ms fs no_values before = before
   no_float_fields ds args ms [] (value v vs) before = before
   no_float_fields ds args ms (f ∷ fs) (value v vs) before =
-      no_float_fields ds args (with_field (is_absent v) f.name (shown ds (closed args f.of) v) ms) fs vs (in_field (is_absent v) f.name (shown ds (closed args f.of) v) ms (no_float ds (closed args f.of) v) before)
+      let d = shown ds (closed args f.of) v in
+      no_float_fields ds args (with_field (is_absent v) f.name d ms) fs vs (in_field (is_absent v) f.name d ms (no_float ds (closed args f.of) v) before)

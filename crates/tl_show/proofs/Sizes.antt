@@ -1,6 +1,6 @@
 -- How large values are: measures of the walks over them.
-use Rattle.std.proofs.Common.{◌≡◌, ℕ, zero, suc, ◌+◌, ◌<◌, ◌≤◌, List, [], ◌∷◌, length, get_or, arith}
-use Rattle.tl_types.specs.Values.{ValueView, int, long, nat, opaque, text, truth, absent, list, node, call, ValueViews, no_values, value}
+use Rattle.std.proofs.Common.{ℕ, zero, suc, ◌+◌, ◌<◌, ◌≤◌, List, [], ◌∷◌, length, get_or, arith}
+use Rattle.tl_types.specs.Values.{ValueView, list, node, call, ValueViews, no_values, value}
 use Rattle.tl_types.specs.Seen.{view, views}
 use Rattle.tl_types.specs.declared.value.Value.{Value}
 

@@ -1,13 +1,13 @@
 //! Values, written.
-ghost use Rattle.std.specs.Prelude.{[], codes, if◌then◌else◌, map, slice_get, string_bytes};
-ghost use Rattle.serde_json.specs.Data.{array, member, no_members, object, string};
+ghost use Rattle.std.specs.Prelude.{[], codes, map, string_bytes};
+ghost use Rattle.serde_json.specs.Data.{array, member, no_members, string};
 ghost use Rattle.tl_schema.specs.Closing.{closed};
 ghost use Rattle.tl_schema.specs.Seen.{shape};
 ghost use Rattle.tl_types.specs.Seen.{view, views};
-ghost use Rattle.tl_show.specs.inner.Forms.{form_in, members_of, part_of, read_at, written, written_each};
+ghost use Rattle.tl_show.specs.inner.Forms.{members_of, part_of, read_at, record_by, unless_missing, written, written_each};
 ghost use Rattle.tl_show.specs.inner.FormViews.{form_view, entry_view, entry_views};
 ghost use Rattle.tl_show.specs.inner.Lines.{WritesData, WritesMember, WritesMembers};
-ghost use Rattle.tl_show.specs.Shown as shown;
+ghost use Rattle.tl_show.specs.Shown.{is_absent};
 
 use crate::forms::{Form, Part};
 use crate::parts::{arguments_of, is_absent, item_of};
@@ -72,7 +72,7 @@ fn write_record(
     forms: &[Form<'_>],
     out: &mut Writer,
 ) -> Result<(), AllocError>
-    ensures { WritesData result out.old out.new (object (members_of (form_in (slice_get (map form_view forms.now) entry)) (map shape args.now) (read_at (map form_view forms.now) (views fields.now)))) }
+    ensures { WritesData result out.old out.new (record_by (map form_view forms.now) entry (map shape args.now) (read_at (map form_view forms.now) (views fields.now))) }
 {
     out.begin_object()?;
     match forms.get(entry as usize) {
@@ -144,7 +144,7 @@ fn write_field(
     forms: &[Form<'_>],
     out: &mut Writer,
 ) -> Result<(), AllocError>
-    ensures { WritesMember result out.old out.new key.now (if shown.is_absent (view value.now) then None else Some (written (map form_view forms.now) (closed (map shape args.now) (shape of.now)) (view value.now))) }
+    ensures { let v = view value.now in WritesMember result out.old out.new key.now (unless_missing (is_absent v) (written (map form_view forms.now) (closed (map shape args.now) (shape of.now)) v)) }
 {
     if is_absent(value) {
         return Ok(());

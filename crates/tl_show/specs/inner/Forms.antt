@@ -1,5 +1,5 @@
 -- Records by forms: the keys of a declaration in their order, and what stands at each. This project's own.
-use Rattle.std.specs.Prelude.{◌≡◌, ℕ, zero, suc, List, [], ◌∷◌, Bool, true, false, if◌then◌else◌, Option, Some, None, slice_get, codes, ⊤}
+use Rattle.std.specs.Prelude.{◌≡◌, ℕ, zero, suc, List, [], ◌∷◌, Bool, true, if◌then◌else◌, Option, Some, None, slice_get, codes, ⊤}
 use Rattle.serde_json.specs.Data.{Data, null, boolean, number, unsigned, string, array, object, Items, no_items, item, Members, no_members, member}
 use Rattle.serde_json.specs.Find.{of_integer}
 use Rattle.tl_schema.specs.Types.{Shape}
@@ -43,8 +43,15 @@ members_at n args at (k ∷ ks) = with_part k.0 (part_of n args at k.1) (members
 abbrev pub members_of : FormView → List Shape → Reads → Members
 members_of f args at = members_at f.name args at f.keys
 
+-- a record of the declaration at this index
+abbrev pub record_by : List FormView → ℕ → List Shape → Reads → Data
+record_by fs i args at = object (members_of (form_in (slice_get fs i)) args at)
+
+abbrev pub unless_missing : Bool → Data → Option Data
+unless_missing missing d = if missing then None else Some d
+
 abbrev mutual
-  -- a value by the forms of its schema
+  -- a value by the forms of its schema's declarations
   pub written : List FormView → Shape → ValueView → Data
   written fs T (int z) = number (of_integer z)
   written fs T (long z) = number (of_integer z)
@@ -54,8 +61,8 @@ abbrev mutual
   written fs T truth = boolean true
   written fs T absent = null
   written fs T (list vs) = array (written_each fs (item_of T) vs)
-  written fs T (node i vs) = object (members_of (form_in (slice_get fs i)) (arguments_of T) (read_at fs vs))
-  written fs T (call i vs) = object (members_of (form_in (slice_get fs i)) [] (read_at fs vs))
+  written fs T (node i vs) = record_by fs i (arguments_of T) (read_at fs vs)
+  written fs T (call i vs) = record_by fs i [] (read_at fs vs)
 
   pub written_each : List FormView → Shape → ValueViews → Items
   written_each fs T no_values = no_items
@@ -63,7 +70,7 @@ abbrev mutual
 
   pub read_at : List FormView → ValueViews → Reads
   read_at fs no_values i T = None
-  read_at fs (value v vs) zero T = if is_absent v then None else Some (written fs T v)
+  read_at fs (value v vs) zero T = unless_missing (is_absent v) (written fs T v)
   read_at fs (value v vs) (suc i) T = read_at fs vs i T
 
 -- ---- the forms of a schema
@@ -71,12 +78,13 @@ abbrev mutual
 -- the value at a place, as it is shown
 abbrev pub shown_at : List Declaration → ValueViews → Reads
 shown_at ds no_values i T = None
-shown_at ds (value v vs) zero T = if is_absent v then None else Some (shown ds T v)
+shown_at ds (value v vs) zero T = unless_missing (is_absent v) (shown ds T v)
 shown_at ds (value v vs) (suc i) T = shown_at ds vs i T
 
 -- the keys, in their order, give the members that putting the name and the fields one after the other gives
 abbrev pub PutsFields : List Slot → List (List ℕ × PartView) → Type 0
-PutsFields slots ks = (ds : List Declaration) (n : List ℕ) (args : List Shape) (vs : ValueViews) → members_at (name_text n) args (shown_at ds vs) ks ≡ with_fields ds args (named n) slots vs
+PutsFields slots ks =
+    (ds : List Declaration) (n : List ℕ) (args : List Shape) (vs : ValueViews) → members_at (name_text n) args (shown_at ds vs) ks ≡ with_fields ds args (named n) slots vs
 
 pub record IsForm (d : Declaration) (f : FormView) : Type 0 where
   pub text : f.name ≡ name_text d.name

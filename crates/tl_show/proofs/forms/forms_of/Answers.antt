@@ -8,5 +8,7 @@ use Rattle.tl_show.proofs.forms.forms_of.Goals as goal
 
 pub loop-i-preserved : goal.loop-i-preserved
 loop-i-preserved c =
-    rw (c.in_ok-push.ensures.items, map_push, take_push c.args.schema.now.decls c.loop-i.i (declaration c.entry.result.now) c.entry.ensures)
-    (forms_push (take c.loop-i.i c.args.schema.now.decls) (map form_view c.loop-i.forms.items) (declaration c.entry.result.now) (form_view c.in-Some.form) c.loop-i.invariant (rw c.in-Some.is at c.in_ok-form.ensures))
+    let ds = c.args.schema.now.decls in
+    let d = declaration c.entry.result.now in
+    rw (c.in_ok-push.ensures.items, map_push, take_push ds c.loop-i.i d c.entry.ensures)
+    (forms_push (take c.loop-i.i ds) (map form_view c.loop-i.forms.items) d (form_view c.in-Some.form) c.loop-i.invariant (rw c.in-Some.is at c.in_ok-form.ensures))

@@ -1,11 +1,13 @@
-use Rattle.std.proofs.Common.{◌≡◌, ◌+◌, ◌*◌, ◌++◌, drop, map}
+use Rattle.std.proofs.Common.{◌≡◌, ◌+◌, ◌*◌, List, ◌++◌, drop, map}
 use Rattle.json.specs.Tree.{json_tokens, items_tokens, members_tokens}
 use Rattle.serde_json.specs.Data.{array}
 use Rattle.serde_json.specs.Written.{outline, items_outline, members_outline}
 use Rattle.tl_schema.specs.Seen.{shape}
 use Rattle.tl_types.specs.Seen.{view, views}
+use Rattle.tl_types.specs.declared.value.Value.{Value}
 use Rattle.tl_show.specs.inner.Forms.{members_at, read_at, written_each}
 use Rattle.tl_show.specs.inner.FormViews.{entry_views, form_view}
+use Rattle.tl_show.proofs.KeyOrder.{Entry}
 use Rattle.tl_show.proofs.Sizes.{size, size_of}
 use Rattle.tl_show.proofs.writing.+write.Given as goal
 
@@ -29,16 +31,16 @@ decreases-write_field l = 8 * size (view l.value.now) + 1
 
 abbrev pub invariant-write_items-loop-item : goal.invariant-write_items-loop-item
 invariant-write_items-loop-item l =
-    let fs = map form_view l.forms in
+    let items = λ (vs : List Value). written_each (map form_view l.forms) (shape l.of) (views vs) in
     record {
       before : l.out.before ≡ l.fn.out.before;
-      tokens : l.out.tokens ++ items_tokens (items_outline (written_each fs (shape l.of) (views (drop l.item-index l.items)))) ≡ l.fn.out.tokens ++ json_tokens (outline (array (written_each fs (shape l.of) (views l.items))));
+      tokens : l.out.tokens ++ items_tokens (items_outline (items (drop l.item-index l.items))) ≡ l.fn.out.tokens ++ json_tokens (outline (array (items l.items)));
     }
 
 abbrev pub invariant-write_members-loop-key : goal.invariant-write_members-loop-key
 invariant-write_members-loop-key l =
-    let members = members_at (form_view l.form).name (map shape l.args) (read_at (map form_view l.forms) (views l.fields)) in
+    let members = λ (es : List Entry). members_at (form_view l.form).name (map shape l.args) (read_at (map form_view l.forms) (views l.fields)) (entry_views es) in
     record {
       before : l.out.before ≡ l.fn.out.before;
-      tokens : l.out.tokens ++ members_tokens (members_outline (members (entry_views (drop l.key-index l.form.keys.items)))) ≡ l.fn.out.tokens ++ members_tokens (members_outline (members (entry_views l.form.keys.items)));
+      tokens : l.out.tokens ++ members_tokens (members_outline (members (drop l.key-index l.form.keys.items))) ≡ l.fn.out.tokens ++ members_tokens (members_outline (members l.form.keys.items));
     }
