@@ -33,7 +33,8 @@ read_past fs T [] i past = refl
 read_past fs T (v ∷ vs) zero past = absurd (omega arith)
 read_past fs T (v ∷ vs) (suc i) past = read_past fs T vs i (omega arith)
 
-pub field_there : (fs : List FormView) (n : List ℕ) (args : List Shape) (vs : List Value) (p : Part) (i : ℕ) (of : Bor TypeRef) (v : Value) → p ≡ Field i of → i < length vs → v ≡ get_or vs i v
+pub field_there : (fs : List FormView) (n : List ℕ) (args : List Shape) (vs : List Value) (p : Part) (i : ℕ) (of : Bor TypeRef) (v : Value) → p ≡ Field i of
+    → i < length vs → v ≡ get_or vs i v
     → part_of n args (read_at fs (views vs)) (part_view p) ≡ unless_missing (is_absent (view v)) (written fs (closed args (shape of.now)) (view v))
 field_there fs n args vs p i of v is within at =
     rw is (read_within fs (closed args (shape of.now)) vs i v within ∙ ap (there fs (closed args (shape of.now))) (sym at))

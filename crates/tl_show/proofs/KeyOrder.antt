@@ -63,7 +63,8 @@ module _ (n : List ℕ) (args : List Shape) (at : Reads) where
   above_members k [] below = tt
   above_members k (e ∷ es) below = above_with (string_bytes k) (string_bytes e.0) (part e.1) _ below.0 (above_members k es below.1)
 
-  inserted_at : (k : String Global) (p : Part) (e : Entry) (es : List Entry) (o : Ordering) → string_cmp k e.0 ≡ o → IsStrictlySortedBy string_cmp (keys_of (e ∷ es)) → lookup (is_at (string_cmp k)) (e ∷ es) ≡ None
+  inserted_at : (k : String Global) (p : Part) (e : Entry) (es : List Entry) (o : Ordering) → string_cmp k e.0 ≡ o → IsStrictlySortedBy string_cmp (keys_of (e ∷ es))
+      → lookup (is_at (string_cmp k)) (e ∷ es) ≡ None
       → (lookup (is_at (string_cmp k)) es ≡ None → members (insert_entry string_cmp es k p) ≡ put_part (string_bytes k) (part p) (members es))
       → members (match_ordering o ((k, p) ∷ e ∷ es) ((e.0, p) ∷ es) (e ∷ insert_entry string_cmp es k p)) ≡ put_part (string_bytes k) (part p) (members (e ∷ es))
   inserted_at k p e es Less is sorted new later =

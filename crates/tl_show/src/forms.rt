@@ -18,14 +18,14 @@ pub enum Part<'a> {
     Field { index: usize, of: &'a TypeRef },
 }
 
-/// The records of a declaration: the text of its name, and their keys in the order of the bytes.
+/// How the records of a declaration are written: the text of its name, and the keys in the order of their bytes.
 #[derive(Drop)]
 pub struct Form<'a> {
     pub name: String,
     pub keys: Vec<(String, Part<'a>)>,
 }
 
-/// The forms of a schema's declarations; none where one of these has two keys that are alike, as none that passes the checks has.
+/// The forms of a schema's declarations; none where one of these has two fields of one name, or a field named `_`.
 pub fn forms_of(alloc: Global, schema: &Schema) -> Result<Option<Vec<Form<'_>>>, AllocError>
     ensures { IfOk result (λ found. IfSome found (λ forms. AreForms schema.now.decls (map form_view forms.items))) }
 {

@@ -15,7 +15,7 @@ use std::alloc::{AllocError, Global};
 use tl_schema::{Schema, TypeRef};
 use tl_types::Value;
 
-/// The text of the value's JSON, without white space: that of what `show` gives.
+/// The text of the value's JSON, without white space: that of what `show` gives. No tree is made, and the keys of a declaration are ordered once a call.
 pub fn show_text(
     alloc: Global,
     schema: &Schema,
@@ -44,7 +44,7 @@ fn text_by_forms(
     Ok(out.into_inner())
 }
 
-// The text, by the value's tree: for declarations with two keys that are alike.
+// The text, by the value's tree. Only a schema with two keys alike in one declaration comes here.
 fn text_of_tree(
     alloc: Global,
     schema: &Schema,

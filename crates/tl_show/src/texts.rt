@@ -1,4 +1,4 @@
-//! The texts of a value, written.
+//! Strings and bytes as JSON text.
 ghost use Rattle.std.specs.Prelude.{◌≡◌};
 ghost use Rattle.json.specs.Token.{string};
 ghost use Rattle.serde_json.specs.Data.{Data};

@@ -1,4 +1,4 @@
-//! Values, written.
+//! A value as JSON text: one function for each part of a value.
 ghost use Rattle.std.specs.Prelude.{[], codes, map, string_bytes};
 ghost use Rattle.serde_json.specs.Data.{array, member, no_members, string};
 ghost use Rattle.tl_schema.specs.Closing.{closed};
