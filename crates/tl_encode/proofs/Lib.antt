@@ -1,0 +1,4 @@
+pub mod Joins
+pub mod Elements
+pub mod Declared
+pub mod Fields
