@@ -16,8 +16,7 @@ PutsFirst Whole Rest old new = (b : List ℕ) → Whole b → (x : List ℕ) × 
 pub puts_then : (Whole Rest Last : List ℕ → Type 0) (old mid new : List ℕ) → PutsFirst Whole Rest old mid → PutsFirst Rest Last mid new → PutsFirst Whole Last old new
 puts_then Whole Rest Last old mid new first next = λ b whole.
     let s = first b whole in
-    let r = next s.1 s.4 in
-    (
+    let r = next s.1 s.4 in (
       s.0 ++ r.0,
       r.1,
       s.2 ∙ ap (λ (z : List ℕ). s.0 ++ z) r.2 ∙ sym (append_assoc s.0 r.0 r.1),

@@ -1,4 +1,4 @@
-use Rattle.std.proofs.Common.{rules, arith, map, ap, ◌∙◌, sym, subst, refl, ◌≡◌, ◌+◌, List, [], take, drop, get_or}
+use Rattle.std.proofs.Common.{arith, map, ap, ◌∙◌, sym, subst, refl, ◌+◌, List, [], take, drop, get_or}
 use Rattle.std.proofs.lemmas.Grind.{common_steps}
 use Rattle.tl_schema.specs.Seen.{shape, slot, declaration}
 use Rattle.tl_types.specs.Seen.{view, views}
@@ -53,7 +53,7 @@ spell_field-returns-then-is_empty t c =
 
 pub spell_field-returns : goal.spell_field-returns
 spell_field-returns t c =
-    field_put c.args.schema.now (map shape c.args.args.now) (map view c.args.before.now) (slot c.args.field.now) (view c.args.value.now) (shape c.in_ok-of.of) c.args.out.now.items _ c.spell-2.result (sym c.stands.ensures ∙ c.if-not-stands.false) c.in_ok-of.ensures c.spell-2.ensures
+    field_put c.args.schema.now (map shape c.args.args.now) (map view c.args.before.now) (slot c.args.field.now) (view c.args.value.now) (shape c.in_ok-of.of) c.args.out.now.items _ c.spell-2.result (sym c.stands.ensures ∙ c.if-not-stands.false) c.in_ok-of.ensures.closed c.spell-2.ensures
 
 pub spell_fields-loop-i-preserved : goal.spell_fields-loop-i-preserved
 spell_fields-loop-i-preserved t c =
