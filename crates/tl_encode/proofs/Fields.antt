@@ -7,9 +7,9 @@ use Rattle.tl_schema.specs.Closing.{closed}
 use Rattle.tl_schema.specs.Schemas.{Slot, Declared}
 use Rattle.tl_schema.specs.Seen.{slot}
 use Rattle.tl_schema.specs.declared.schema.SchemaField.{SchemaField}
-use Rattle.tl_types.specs.Values.{ValueView, values_of}
+use Rattle.tl_types.specs.Values.{ValueView, values_of, absent}
 use Rattle.tl_types.specs.Seen.{view, views}
-use Rattle.tl_types.specs.Conditions.{stands_by}
+use Rattle.tl_types.specs.Parts.{is_absent}
 use Rattle.tl_types.specs.Spelling.{Spells, SpellFields, SpellsField}
 use Rattle.tl_types.specs.declared.value.Value.{Value}
 use Rattle.tl_types.proofs.Closings.{closed_none}
@@ -19,14 +19,13 @@ use Rattle.tl_encode.proofs.Joins.{PutsFirst, puts_all}
 pub closed_as_it_is : (args : List Shape) (T : Shape) → args ≡ [] → T ≡ closed args T
 closed_as_it_is args T none = sym (ap (λ (us : List Shape). closed us T) none ∙ closed_none T)
 
-pub clear_put : (schema : Declared) (args : List Shape) (before : List ValueView) (f : Slot) (v : ValueView) (old : List ℕ) → stands_by f.cond before ≡ false → (b : List ℕ) → SpellsField schema args before f v b → old ≡ old ++ b
-clear_put schema args before f v old clear b (inl s) = absurd cc
-clear_put schema args before f v old clear b (inr s) = sym (ap (λ (z : List ℕ). old ++ z) s.2 ∙ append-nil old)
+pub absent_put : (schema : Declared) (args : List Shape) (before : List ValueView) (f : Slot) (v : ValueView) (old : List ℕ) → v ≡ absent → (b : List ℕ) → SpellsField schema args before f v b → old ≡ old ++ b
+absent_put schema args before f v old is b (inl s) = absurd (subst (λ (w : ValueView). Spells schema (closed args f.of) w b) is s.1)
+absent_put schema args before f v old is b (inr s) = sym (ap (λ (z : List ℕ). old ++ z) s.2 ∙ append-nil old)
 
-pub field_put : {E : Type 0} (schema : Declared) (args : List Shape) (before : List ValueView) (f : Slot) (v : ValueView) (T : Shape) (old new : List ℕ) (res : Result (Unit {0}) E) → stands_by f.cond before ≡ true → T ≡ closed args f.of
-    → ((b : List ℕ) → Spells schema T v b → OnOk res (new ≡ old ++ b)) → (b : List ℕ) → SpellsField schema args before f v b → OnOk res (new ≡ old ++ b)
-field_put schema args before f v T old new res set is put_it b (inl s) = put_it b (subst (λ (U : Shape). Spells schema U v b) (sym is) s.1)
-field_put schema args before f v T old new res set is put_it b (inr s) = absurd cc
+pub there_put : {P : List ℕ → Type 0} (schema : Declared) (args : List Shape) (before : List ValueView) (f : Slot) (v : ValueView) → is_absent v ≡ false → ((b : List ℕ) → Spells schema (closed args f.of) v b → P b) → (b : List ℕ) → SpellsField schema args before f v b → P b
+there_put schema args before f v other put_it b (inl s) = put_it b s.1
+there_put schema args before f v other put_it b (inr s) = let clash : is_absent v ≡ true = ap is_absent s.1 in absurd cc
 
 pub next_put : (schema : Declared) (args : List Shape) (vs : List Value) (slots : List SchemaField) (i : ℕ) (v : Value) (f : SchemaField) (mid new : List ℕ) → i < length vs → i < length slots → v ≡ get_or vs i v → f ≡ get_or slots i f
     → ((b : List ℕ) → SpellsField schema args (map view (take i vs)) (slot f) (view v) b → new ≡ mid ++ b)

@@ -1,9 +1,11 @@
 //! The spelling of a value, one function for each rule.
-ghost use Rattle.std.specs.Prelude.{[], map};
+ghost use Rattle.std.specs.Prelude.{[], List, map};
+ghost use Rattle.tl_schema.specs.Closing.{closed};
 ghost use Rattle.tl_schema.specs.Seen.{shape, slot};
 ghost use Rattle.tl_schema.specs.Types as type;
 ghost use Rattle.tl_types.specs.Seen.{view, views};
 ghost use Rattle.tl_types.specs.Values as value;
+ghost use Rattle.tl_types.specs.Values.{ValueView};
 ghost use Rattle.tl_types.specs.Spelling.{SpellEach, SpellFields, Spells, SpellsField};
 ghost use Rattle.tl_encode.specs.inner.Puts.{Puts};
 
@@ -11,7 +13,7 @@ use crate::items::{put_double, put_vector_prefix, put_word};
 use crate::texts::put_text;
 use std::alloc::{AllocError, Global};
 use tl_schema::{Schema, SchemaField, TypeRef};
-use tl_types::{Value, close, stands};
+use tl_types::{Value, close};
 
 /// Appends the spelling of a value of this type. Where the value has none, nothing is said of what is appended.
 #[cycle(spell)]
@@ -33,8 +35,7 @@ pub fn spell(
             Ok(())
         }
         Value::Text(bytes) => put_text(bytes.as_slice(), out),
-        Value::Truth => Ok(()),
-        Value::Absent => Ok(()),
+        Value::Truth | Value::Absent => Ok(()),
         Value::List(items) => spell_list(alloc, items, schema, of, out),
         Value::Node { entry, fields } => spell_node(alloc, fields, schema, of, *entry, out),
         Value::Call { entry, fields } => spell_call(alloc, fields, schema, *entry, out),
@@ -141,15 +142,15 @@ fn spell_fields(
     ensures { Puts (SpellFields schema.now (map shape args.now) [] (map slot slots.now) (views fields.now.items)) out.old.items out.new.items result }
 {
     for (i, value) in fields.iter().enumerate() {
-        if i >= slots.len() {
+        let Some(field) = slots.get(i) else {
             return Ok(());
-        }
-        spell_field(alloc, value, schema, args, &slots[i], &fields[..i], out)?;
+        };
+        spell_field(alloc, value, schema, args, field, out)?;
     }
     Ok(())
 }
 
-// A field, after those before: nothing, where its bit is clear. Its type is closed where the declaration has variables.
+// A field, whatever stands before it. One that isn't there has no bytes.
 #[cycle(spell)]
 fn spell_field(
     alloc: Global,
@@ -157,14 +158,28 @@ fn spell_field(
     schema: &Schema,
     args: &[TypeRef],
     field: &SchemaField,
-    before: &[Value],
     out: &mut Vec<u8>,
 ) -> Result<(), AllocError>
-    ensures { Puts (SpellsField schema.now (map shape args.now) (map view before.now) (slot field.now) (view value.now)) out.old.items out.new.items result }
+    ensures { (before : List ValueView) → Puts (SpellsField schema.now (map shape args.now) before (slot field.now) (view value.now)) out.old.items out.new.items result }
 {
-    if !stands(field.cond, before) {
-        return Ok(());
+    match value {
+        Value::Absent => Ok(()),
+        _ => spell_there(alloc, value, schema, args, field, out),
     }
+}
+
+// The value of a field that is there. Its type is closed where the declaration has variables.
+#[cycle(spell)]
+fn spell_there(
+    alloc: Global,
+    value: &Value,
+    schema: &Schema,
+    args: &[TypeRef],
+    field: &SchemaField,
+    out: &mut Vec<u8>,
+) -> Result<(), AllocError>
+    ensures { Puts (Spells schema.now (closed (map shape args.now) (shape field.now.of)) (view value.now)) out.old.items out.new.items result }
+{
     if args.is_empty() {
         return spell(alloc, value, schema, &field.of, out);
     }

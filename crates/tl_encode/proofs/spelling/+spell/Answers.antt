@@ -1,16 +1,17 @@
-use Rattle.std.proofs.Common.{arith, map, ap, ◌∙◌, sym, subst, refl, ◌+◌, List, [], take, drop, get_or}
+use Rattle.std.proofs.Common.{rules, arith, map, ap, ◌∙◌, sym, subst, refl, ◌≡◌, ◌+◌, List, [], take, drop, get_or, ◌++◌}
+use Rattle.std.specs.Prelude.{OnOk}
 use Rattle.std.proofs.lemmas.Grind.{common_steps}
 use Rattle.tl_schema.specs.Seen.{shape, slot, declaration}
 use Rattle.tl_types.specs.Seen.{view, views}
 use Rattle.tl_types.specs.Spelling.{Spells, SpellEach, SpellFields}
-use Rattle.tl_types.specs.declared.value.Value.{Value}
-use Rattle.tl_types.proofs.Views.{view-Node, shape-Boxed, shape-Bare, shape-Vector}
+use Rattle.tl_types.specs.declared.value.Value.{Value, the_lemmas}
+use Rattle.tl_types.proofs.Views.{view-Node, view-Absent, shape-Boxed, shape-Bare, shape-Vector}
 use Rattle.tl_types.proofs.Closings.{no_arguments}
 use Rattle.tl_encode.proofs.Joins.{puts_then}
 use Rattle.tl_encode.proofs.Elements.{too_many, list_put}
 use Rattle.tl_encode.proofs.Elements as element
 use Rattle.tl_encode.proofs.Declared.{boxed_put, bare_put}
-use Rattle.tl_encode.proofs.Fields.{closed_as_it_is, clear_put, field_put, fields_end}
+use Rattle.tl_encode.proofs.Fields.{closed_as_it_is, absent_put, there_put, fields_end}
 use Rattle.tl_encode.proofs.Fields as field
 use Rattle.tl_encode.proofs.spelling.+spell.Goals as goal
 
@@ -42,18 +43,18 @@ spell_node-returns-in-Bare t c =
     bare_put c.args.schema.now (shape c.args.of.now) c.args.entry c.in-Bare.entry (views c.args.fields.now.items) (declaration c.entry-declared.result.now) (map slot c.deref-in-Bare-2.result.now) (map shape c.deref-in-Bare.result.now) c.args.out.now.items _ c.spell_fields-in-Bare.result
     (shape-Bare _ _ _ c.in-Bare.is ∙ rw c.deref-in-Bare.ensures.value refl) c.entry-declared.ensures (sym (ap (map slot) c.deref-in-Bare-2.ensures.value)) c.spell_fields-in-Bare.ensures
 
-pub spell_field-returns-then-not-stands : goal.spell_field-returns-then-not-stands
-spell_field-returns-then-not-stands t c = λ b s. clear_put c.args.schema.now (map shape c.args.args.now) (map view c.args.before.now) (slot c.args.field.now) (view c.args.value.now) c.args.out.now.items (sym c.stands.ensures ∙ c.if-not-stands.true) b s
+pub spell_field-returns-in-Absent : goal.spell_field-returns-in-Absent
+spell_field-returns-in-Absent t c = λ before b s.
+    absent_put c.args.schema.now (map shape c.args.args.now) before (slot c.args.field.now) (view c.args.value.now) c.args.out.now.items (ap view c.in-Absent.is ∙ view-Absent) b s
 
-pub spell_field-returns-then-is_empty : goal.spell_field-returns-then-is_empty
-spell_field-returns-then-is_empty t c =
+pub spell_field-returns-in_default : goal.spell_field-returns-in_default
+spell_field-returns-in_default t c = λ before b s.
+    there_put {P = λ b. OnOk c.spell_there.result (c.spell_there.new.out.items ≡ c.args.out.now.items ++ b)} c.args.schema.now (map shape c.args.args.now) before (slot c.args.field.now) (view c.args.value.now) (search (rules, the_lemmas)) c.spell_there.ensures b s
+
+pub spell_there-returns-then-is_empty : goal.spell_there-returns-then-is_empty
+spell_there-returns-then-is_empty t c =
     let none = no_arguments c.args.args.now c.is_empty.result c.is_empty.ensures c.if-is_empty.true in
-    field_put c.args.schema.now (map shape c.args.args.now) (map view c.args.before.now) (slot c.args.field.now) (view c.args.value.now) (shape c.args.field.now.of) c.args.out.now.items _ c.spell.result (sym c.stands.ensures ∙ c.if-not-stands.false) (closed_as_it_is (map shape c.args.args.now) (shape c.args.field.now.of) none)
-    c.spell.ensures
-
-pub spell_field-returns : goal.spell_field-returns
-spell_field-returns t c =
-    field_put c.args.schema.now (map shape c.args.args.now) (map view c.args.before.now) (slot c.args.field.now) (view c.args.value.now) (shape c.in_ok-of.of) c.args.out.now.items _ c.spell-2.result (sym c.stands.ensures ∙ c.if-not-stands.false) c.in_ok-of.ensures.closed c.spell-2.ensures
+    λ b s. c.spell.ensures b (rw (closed_as_it_is (map shape c.args.args.now) (shape c.args.field.now.of) none) s)
 
 pub spell_fields-loop-i-preserved : goal.spell_fields-loop-i-preserved
 spell_fields-loop-i-preserved t c =
@@ -62,8 +63,8 @@ spell_fields-loop-i-preserved t c =
     let slots = c.args.slots.now in
     puts_then (spells [] (map slot slots) (views fields)) (spells (map view (take c.loop-i.i fields)) (map slot (drop c.loop-i.i slots)) (views (drop c.loop-i.i fields)))
     (spells (map view (take (c.loop-i.i + 1) fields)) (map slot (drop (c.loop-i.i + 1) slots)) (views (drop (c.loop-i.i + 1) fields))) c.args.out.now.items c.loop-i.out.items _ c.loop-i.invariant
-    (field.next_put c.args.schema.now (map shape c.args.args.now) fields slots c.loop-i.i c.value-item.result c.index-slots-i.result c.loop-i.out.items _ (grind (arith, common_steps)) (omega arith) (c.value-item.is ∙ ap (λ (l : List Value). get_or l c.loop-i.i c.value-item.result) c.deref-value-items.ensures.value) c.index-slots-i.is
-    (λ b s. c.in_ok-spell_field.ensures b (rw c.deref.ensures.value s)))
+    (field.next_put c.args.schema.now (map shape c.args.args.now) fields slots c.loop-i.i c.value-item.result c.in-Some.field.now c.loop-i.out.items _ (grind (arith, common_steps)) (omega (arith, c.in-Some.ensures.lookup.3.0))
+    (c.value-item.is ∙ ap (λ (l : List Value). get_or l c.loop-i.i c.value-item.result) c.deref-value-items.ensures.value) c.in-Some.ensures.lookup.1 (c.in_ok-spell_field.ensures (map view (take c.loop-i.i fields))))
 
 pub spell_fields-returns : goal.spell_fields-returns
 spell_fields-returns t c = fields_end c.args.schema.now (map shape c.args.args.now) _ c.args.fields.now.items _ c.loop-i.i _ c.args.out.now.items c.loop-i.out.items c.loop-i.invariant (grind (arith, common_steps))
