@@ -6,7 +6,6 @@ ghost use Rattle.tl_types.specs.Seen.{view};
 ghost use Rattle.tl_types.specs.inner.Reading.{at_field, bare_at, boxed_at, call_at, deep_at, each_at, fields_at, list_at, long_list_at, value_at, wrong_number};
 ghost use Rattle.tl_decode.specs.inner.Steps.{ReadsAs};
 
-use crate::conditions::stands;
 use crate::fault::DecodeFault;
 use crate::items::word_of;
 use crate::members::{function, member};
@@ -14,7 +13,7 @@ use crate::plain::{has_parts, plain_of};
 use std::alloc::Global;
 use tl_base::{BOXED_VECTOR, PACKED, Source};
 use tl_schema::{Schema, SchemaField, TypeRef};
-use tl_types::{Cause, Value, close};
+use tl_types::{Cause, Value, close, stands};
 
 /// The value of a type, with so many levels left.
 #[cycle(decode)]

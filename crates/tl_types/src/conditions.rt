@@ -3,7 +3,7 @@ ghost use Rattle.std.specs.Prelude.{◌≡◌, map};
 ghost use Rattle.tl_types.specs.Conditions.{is_bit, stands_by};
 ghost use Rattle.tl_types.specs.Seen.{view};
 
-use tl_types::Value;
+use crate::value::Value;
 
 /// Whether a field with this condition is there, after fields with these values.
 pub fn stands(cond: Option<(u32, u32)>, before: &[Value]) -> bool

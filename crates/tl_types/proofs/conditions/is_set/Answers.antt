@@ -2,7 +2,7 @@ use Rattle.std.proofs.Common.{◌≡◌, ℕ, ◌/◌, ◌%◌, ◌^◌, ◌<◌
 use Rattle.std.specs.Prelude.{◌==◌}
 use Rattle.std.proofs.Math.Nat.{div-eq_of_lt, pow-le-pow_right}
 use Rattle.tl_types.specs.Conditions.{is_bit}
-use Rattle.tl_decode.proofs.conditions.is_set.Goals as goal
+use Rattle.tl_types.proofs.conditions.is_set.Goals as goal
 
 past : (n b : ℕ) → n < 2 ^ 32 → 32 ≤ b → false ≡ is_bit n b
 past n b fits le =
