@@ -3,19 +3,18 @@ ghost use Rattle.std.specs.Prelude.{[], codes, if◌then◌else◌, map, slice_g
 ghost use Rattle.serde_json.specs.Data.{array, member, no_members, object, string};
 ghost use Rattle.tl_schema.specs.Closing.{closed};
 ghost use Rattle.tl_schema.specs.Seen.{shape};
+ghost use Rattle.tl_types.specs.Parts as part;
 ghost use Rattle.tl_types.specs.Seen.{view, views};
 ghost use Rattle.tl_show.specs.inner.Forms.{form_in, members_of, part_of, read_at, written, written_each};
 ghost use Rattle.tl_show.specs.inner.FormViews.{form_view, entry_view, entry_views};
 ghost use Rattle.tl_show.specs.inner.Lines.{WritesData, WritesMember, WritesMembers};
-ghost use Rattle.tl_show.specs.Shown as shown;
 
 use crate::forms::{Form, Part};
-use crate::parts::{arguments_of, is_absent, item_of};
 use crate::texts::{write_hex, write_text};
 use json::Writer;
 use std::alloc::{AllocError, Global};
 use tl_schema::TypeRef;
-use tl_types::{Value, close};
+use tl_types::{Value, arguments_of, close, is_absent, item_of};
 
 /// Writes a value of a type. The forms are those of its schema's declarations.
 #[cycle(write)]
@@ -144,7 +143,7 @@ fn write_field(
     forms: &[Form<'_>],
     out: &mut Writer,
 ) -> Result<(), AllocError>
-    ensures { WritesMember result out.old out.new key.now (if shown.is_absent (view value.now) then None else Some (written (map form_view forms.now) (closed (map shape args.now) (shape of.now)) (view value.now))) }
+    ensures { WritesMember result out.old out.new key.now (if part.is_absent (view value.now) then None else Some (written (map form_view forms.now) (closed (map shape args.now) (shape of.now)) (view value.now))) }
 {
     if is_absent(value) {
         return Ok(());

@@ -1,6 +1,9 @@
 pub mod Views
 pub mod Closings
 pub mod ClosedLists
+pub mod DeclaredParts
+pub mod FewFields
+pub mod ValueCounts
 pub mod Numbers
 pub mod Members
 pub mod Texts
