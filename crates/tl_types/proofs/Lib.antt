@@ -3,6 +3,8 @@ pub mod Closings
 pub mod ClosedLists
 pub mod DeclaredParts
 pub mod FewFields
+pub mod MisfitSteps
+pub mod NodePasses
 pub mod ValueCounts
 pub mod Numbers
 pub mod Members

@@ -1,5 +1,5 @@
 -- The lengths of lists of values.
-use Rattle.std.proofs.Common.{◌≡◌, ℕ, suc, ◌+◌, List, [], ◌∷◌, length, refl, ap, ◌∙◌, arith, Vec, vec_len, Global}
+use Rattle.std.proofs.Common.{◌≡◌, List, [], ◌∷◌, length, refl, ◌∙◌, arith, Vec, vec_len, Global}
 use Rattle.tl_types.specs.Values.{count}
 use Rattle.tl_types.specs.Seen.{views}
 use Rattle.tl_types.specs.declared.value.Value.{Value}

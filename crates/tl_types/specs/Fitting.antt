@@ -5,7 +5,7 @@ use Rattle.tl_schema.specs.Types.{Shape, flag, vector, boxed, bare}
 use Rattle.tl_schema.specs.Types as type
 use Rattle.tl_schema.specs.Closing.{closed}
 use Rattle.tl_schema.specs.Schemas.{Slot, Declaration}
-use Rattle.tl_types.specs.Values.{ValueView, int, long, nat, opaque, text, truth, absent, list, node, call, ValueViews, no_values, value, count}
+use Rattle.tl_types.specs.Values.{ValueView, int, long, nat, opaque, text, truth, list, node, call, ValueViews, no_values, value, count}
 use Rattle.tl_types.specs.Conditions.{stands_by}
 use Rattle.tl_types.specs.Parts.{arguments_of, fields_in, is_absent, item_of}
 use Rattle.tl_types.specs.declared.misfit.MisfitCause.{MisfitCause}

@@ -16,12 +16,7 @@ use tl_schema::{Schema, SchemaField, TypeRef};
 
 /// Whether the value has a spelling, of this closed type and at most `MAX_LEVELS` levels; where it has none, the first misfit. Memory is taken for
 /// the types of parts that are applied, and for the path of a misfit.
-pub fn fits(
-    alloc: Global,
-    schema: &Schema,
-    of: &TypeRef,
-    value: &Value,
-) -> Result<(), FitFault>
+pub fn fits(alloc: Global, schema: &Schema, of: &TypeRef, value: &Value) -> Result<(), FitFault>
     ensures fits { TellsMisfit (misfit schema.now.decls MAX_LEVELS None (shape of.now) (view value.now)) result }
 {
     value_fits(alloc, value, schema, MAX_LEVELS, None, of)
