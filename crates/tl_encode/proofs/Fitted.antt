@@ -8,8 +8,9 @@ use Rattle.tl_types.specs.Values.{ValueView, depth}
 use Rattle.tl_types.specs.Spelling.{Spells}
 use Rattle.tl_types.specs.Fitting.{misfit}
 
-pub fits_as_spelled : (schema : Declared) → IsSchema schema → (n : ℕ) (T : Shape) (v : ValueView) → IsFormed schema T → (x : List ℕ) → Spells schema T v x → depth v ≤ n → misfit schema.decls n None T v ≡ None
-fits_as_spelled schema good n T v formed x s deep = ?
+pub record FitsExactly (schema : Declared) (n : ℕ) (T : Shape) (v : ValueView) : Type 0 where
+  pub spelled : misfit schema.decls n None T v ≡ None → (b : List ℕ) × Spells schema T v b × (depth v ≤ n)
+  pub fits : (b : List ℕ) → Spells schema T v b → depth v ≤ n → misfit schema.decls n None T v ≡ None
 
-pub spelled_as_fits : (schema : Declared) → IsSchema schema → (n : ℕ) (T : Shape) (v : ValueView) → IsFormed schema T → misfit schema.decls n None T v ≡ None → ((x : List ℕ) × Spells schema T v x) × (depth v ≤ n)
-spelled_as_fits schema good n T v formed fits = ?
+pub fits_exactly : (schema : Declared) → IsSchema schema → (n : ℕ) (T : Shape) (v : ValueView) → IsFormed schema T → FitsExactly schema n T v
+fits_exactly schema good n T v formed = ?

@@ -10,7 +10,7 @@ use Rattle.tl_types.specs.declared.value.TheConstants.{MAX_LEVELS}
 use Rattle.tl_types.proofs.Exactly.{never_both, one_value}
 use Rattle.tl_types.proofs.SchemaTells.{schema_tells}
 use Rattle.tl_encode.specs.ReadBack.{IsReadBack, EachSpellingReadsBack}
-use Rattle.tl_encode.proofs.Fitted.{spelled_as_fits}
+use Rattle.tl_encode.proofs.Fitted.{fits_exactly}
 
 read_back : (schema : Declared) → IsSchema schema → (T : Shape) (v : ValueView) → IsFormed schema T → depth v ≤ MAX_LEVELS → (x : List ℕ) → Spells schema T v x → IsReadBack schema T v x
 read_back schema good T v formed deep x s =
@@ -23,5 +23,5 @@ read_back schema good T v formed deep x s =
 
 pub each_read_back : EachSpellingReadsBack
 each_read_back schema good T v formed fits =
-    let spelled = spelled_as_fits schema good MAX_LEVELS T v formed fits in
-    (spelled.0, λ x s. read_back schema good T v formed spelled.1 x s)
+    let spelled = (fits_exactly schema good MAX_LEVELS T v formed).spelled fits in
+    ((spelled.0, spelled.1), λ x s. read_back schema good T v formed spelled.2 x s)

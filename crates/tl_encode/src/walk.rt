@@ -34,6 +34,8 @@ pub fn encode_walk<K: Sink>(
     // A sound sink that has room for the spelling doesn't fail.
     ensures room { (spelling : List ℕ) → Spells schema.now (shape of.now) (view value.now) spelling → Wrote (K.state to.old) (K.state to.new) (length spelling) (IsErrOf result EncodeFault.WriteFault) }
 {
+    // Read for the proof alone: that the schema is sound.
+    let _count = schema.count();
     fits(alloc, schema, of, value)?;
     write_spelling(alloc, schema, of, value, to)
 }
