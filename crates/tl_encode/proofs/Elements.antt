@@ -7,22 +7,16 @@ use Rattle.tl_schema.specs.Types.{Shape}
 use Rattle.tl_schema.specs.Types as type
 use Rattle.tl_schema.specs.Schemas.{Declared}
 use Rattle.tl_types.specs.Values.{list, count}
+use Rattle.tl_types.specs.Parts.{item_of}
 use Rattle.tl_types.specs.Seen.{view, views}
 use Rattle.tl_types.specs.Spelling.{Spells, SpellEach, vector_prefix}
 use Rattle.tl_types.specs.declared.value.Value.{Value}
+use Rattle.tl_encode.proofs.ShapeParts.{is_wide}
 use Rattle.tl_encode.proofs.Joins.{on_ok, joined, PutsFirst}
 
 counted : (vs : List Value) → count (views vs) ≡ length vs
 counted [] = refl
 counted (v ∷ vs) = ap suc (counted vs)
-
-item_in : Shape → Shape
-item_in (type.vector is_boxed T) = T
-item_in T = T
-
-is_wide : Shape → Bool
-is_wide (type.vector is_boxed T) = is_boxed
-is_wide T = false
 
 pub too_many : {P : Type 0} (schema : Declared) (T : Shape) (vs : List Value) (b : List ℕ) → 2 ^ 31 ≤ length vs → Spells schema T (list (views vs)) b → P
 too_many schema T vs b many s = absurd (omega (arith, s.4, counted vs, many))
@@ -30,9 +24,8 @@ too_many schema T vs b many s = absurd (omega (arith, s.4, counted vs, many))
 pub list_put : {E : Type 0} (schema : Declared) (T : Shape) (vs : List Value) (wide : Bool) (item : Shape) (k : ℕ) (old first second new : List ℕ) (res : Result (Unit {0}) E)
     → T ≡ type.vector wide item → k ≡ length vs → first ≡ old ++ vector_prefix wide → second ≡ first ++ word k
     → ((b : List ℕ) → SpellEach schema item (views vs) b → OnOk res (new ≡ second ++ b)) → (b : List ℕ) → Spells schema T (list (views vs)) b → OnOk res (new ≡ old ++ b)
-unfolding item_in is_wide
 list_put schema T vs wide item k old first second new res is k_is one two each b (v, it, rest, same, few, split, inner) =
-    let item_is : it ≡ item = sym (ap item_in same) ∙ ap item_in is in
+    let item_is : it ≡ item = sym (ap item_of same) ∙ ap item_of is in
     let wide_is : v ≡ wide = sym (ap is_wide same) ∙ ap is_wide is in
     let number : count (views vs) ≡ k = counted vs ∙ sym k_is in
     let all = subst (λ (U : Shape). SpellEach schema U (views vs) rest) item_is inner in
