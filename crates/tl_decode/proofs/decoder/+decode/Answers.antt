@@ -172,7 +172,7 @@ bare_of-returns-clause-read g t c =
 
 pub fields_of-loop-field-init : goal.fields_of-loop-field-init
 fields_of-loop-field-init g t c =
-    record { read = rw c.new-fields.ensures.items (continues_none (fields_at (value_at c.args.schema.now.decls c.args.levels) (map shape c.args.args.now) [] (map slot c.args.slots.now)) (fields_at (value_at c.args.schema.now.decls c.args.levels) (map shape c.args.args.now) [] (map slot c.args.slots.now)) _ c.args.at.now (λ s. refl)); used = used_none _ ⊥ (λ f. f) }
+    record { read = rw c.in_ok-fields.ensures.items (continues_none (fields_at (value_at c.args.schema.now.decls c.args.levels) (map shape c.args.args.now) [] (map slot c.args.slots.now)) (fields_at (value_at c.args.schema.now.decls c.args.levels) (map shape c.args.args.now) [] (map slot c.args.slots.now)) _ c.args.at.now (λ s. refl)); used = used_none _ ⊥ (λ f. f) }
 
 pub fields_of-loop-field-preserved : goal.fields_of-loop-field-preserved
 fields_of-loop-field-preserved g t c =
@@ -183,7 +183,7 @@ fields_of-loop-field-preserved g t c =
 
 pub fields_of-returns-in_err-value-clause-read : goal.fields_of-returns-in_err-value-clause-read
 fields_of-returns-in_err-value-clause-read g t c =
-    let p = err_from_is_err_and c.from_residual.result c.from_residual.ensures.1 in
+    let p = err_from_is_err_and c.from_residual-in_err-value.result c.from_residual-in_err-value.ensures.1 in
     rw (p.1, p.2) (continues_fails view (λ (v : Vec Value Global). map view v.items) (fields_at (value_at c.args.schema.now.decls c.args.levels) (map shape c.args.args.now) [] (map slot c.args.slots.now)) (fields_at (value_at c.args.schema.now.decls c.args.levels) (map shape c.args.args.now) (map view c.loop-field.fields.items) (map slot (drop c.loop-field.field-index c.args.slots.now))) _ _ _ c.args.at.now c.loop-field.at c.field_of.new.at c.field_of.new.at c.in_err-value.field-0.0 (at_field (value_at c.args.schema.now.decls c.args.levels) (map shape c.args.args.now) (map view c.deref.result.now) (slot c.field-item.result)) (λ x. fields_at (value_at c.args.schema.now.decls c.args.levels) (map shape c.args.args.now) ((map view c.loop-field.fields.items) ++ x.0 ∷ []) (map slot (drop (c.loop-field.field-index + 1) c.args.slots.now)) x.1) c.loop-field.invariant.read c.in_err-value.ensures.read (λ s. next_field (value_at c.args.schema.now.decls c.args.levels) (map shape c.args.args.now) c.args.slots.now c.loop-field.field-index c.field-item.result (map view c.loop-field.fields.items) s (omega arith) c.field-item.is ∙ ap (λ (b : List ValueView). at_field (value_at c.args.schema.now.decls c.args.levels) (map shape c.args.args.now) b (slot c.field-item.result) s >>= (λ x. fields_at (value_at c.args.schema.now.decls c.args.levels) (map shape c.args.args.now) ((map view c.loop-field.fields.items) ++ x.0 ∷ []) (map slot (drop (c.loop-field.field-index + 1) c.args.slots.now)) x.1)) (sym (ap (map view) c.deref.ensures.value))))
 
 pub fields_of-returns-clause-read : goal.fields_of-returns-clause-read
