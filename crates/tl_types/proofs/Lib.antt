@@ -19,3 +19,6 @@ pub mod Reading
 pub mod SchemaNumbers
 pub mod SchemaTells
 pub mod Exactly
+pub mod SignedRanges
+pub mod SpelledFits
+pub mod FitsAreSpelled

@@ -8,4 +8,5 @@ pub mod Refusal
 pub mod Exactly
 pub mod Seen
 pub mod Fitting
+pub mod FitsExactly
 pub mod inner

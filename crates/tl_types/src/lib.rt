@@ -15,7 +15,7 @@ pub use cause::Cause;
 pub use closing::close;
 pub use conditions::stands;
 pub use fitting::fits;
-pub use laws::each_input_is_spelled_or_refused;
+pub use laws::{each_input_is_spelled_or_refused, each_value_fits_or_is_a_misfit};
 pub use misfit::{FitFault, Misfit, MisfitCause};
 pub use parts::{arguments_of, is_absent, item_of, slots_of};
 pub use tl_schema::{
