@@ -6,6 +6,8 @@ mod boxes;
 #[cfg(test)]
 mod bytes;
 #[cfg(test)]
+mod encodes;
+#[cfg(test)]
 mod grammar;
 #[cfg(test)]
 mod hosts;

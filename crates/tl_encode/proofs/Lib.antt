@@ -1,0 +1,8 @@
+pub mod ShapeParts
+pub mod Joins
+pub mod Elements
+pub mod Declared
+pub mod Fields
+pub mod OneSpelling
+pub mod ReadBack
+pub mod Refusals
