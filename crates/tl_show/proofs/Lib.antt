@@ -5,6 +5,8 @@ pub mod FieldsByPlace
 pub mod FieldsPut
 pub mod FormedRecords
 pub mod KeyOrder
+pub mod KeyedParts
+pub mod KeysApart
 pub mod LineTexts
 pub mod NoFloats
 pub mod Sizes

@@ -1,4 +1,6 @@
 -- What private clauses alone cite.
 pub mod FormViews
 pub mod Forms
+pub mod FormTells
+pub mod Keyed
 pub mod Lines

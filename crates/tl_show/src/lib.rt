@@ -1,12 +1,16 @@
-//! Values as JSON.
+//! Values as JSON, and JSON as values.
 #![tactic(auto)]
 
+mod fault;
 mod forms;
+mod keyed;
+mod keying;
 mod line;
 mod parts;
 mod texts;
 mod tree;
 mod writing;
 
+pub use fault::FormCause;
 pub use line::show_text;
 pub use tree::show;
