@@ -8,6 +8,7 @@ pub mod KeyOrder
 pub mod KeyedParts
 pub mod KeysApart
 pub mod LineTexts
+pub mod NamedDeclarations
 pub mod NoFloats
 pub mod Sizes
 pub mod Strings

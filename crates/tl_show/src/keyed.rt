@@ -63,10 +63,10 @@ impl<'a> KeyedSchema<'a> {
     pub fn fields(&self, entry: u32) -> &[KeyedField<'a>]
         ensures { map keyed_slot result.now ≡ fields_in (slice_get self.now.decls entry) }
     {
-        match self.entries.get(entry as usize) {
-            Some(keyed) => &keyed.fields,
-            None => &[],
-        }
+        let Some(keyed) = self.entries.get(entry as usize) else {
+            return Default::default();
+        };
+        keyed.fields.as_slice()
     }
 
     /// Whether the keys of a declaration's records are known to be apart.
