@@ -4,10 +4,12 @@ pub mod Elements
 pub mod FieldsByPlace
 pub mod FieldsPut
 pub mod FormedRecords
-pub mod KeyOrder
+pub mod FormSteps
 pub mod KeyedParts
 pub mod KeysApart
+pub mod KeyOrder
 pub mod LineTexts
+pub mod MembersFound
 pub mod NamedDeclarations
 pub mod NoFloats
 pub mod Sizes

@@ -81,6 +81,10 @@ bytes_in (Err e) = refuses WrongJson
 abbrev pub bytes_of : List ℕ → Read (List ℕ)
 bytes_of digits = bytes_in (decode_of digits)
 
+-- the bytes of a text of such digits
+abbrev pub digits_of : Data → Read (List ℕ)
+digits_of d = of_kind (as_str d) >>= bytes_of
+
 abbrev pub opaque_of : ℕ → List ℕ → Read ValueView
 opaque_of k bytes = if length bytes == k then Ok (opaque bytes) else refuses WrongJson
 
@@ -108,9 +112,9 @@ abbrev pub plain : Shape → Data → Read ValueView
 plain type.int d = whole_in d >>= int_of
 plain type.long d = whole_in d >>= long_of
 plain type.nat d = whole_in d >>= nat_of
-plain (type.opaque k) d = of_kind (as_str d) >>= λ digits. bytes_of digits >>= opaque_of k
+plain (type.opaque k) d = digits_of d >>= opaque_of k
 plain str d = string_of d >>= λ s. Ok (text s)
-plain raw d = of_kind (as_str d) >>= λ digits. bytes_of digits >>= λ s. Ok (text s)
+plain raw d = digits_of d >>= λ s. Ok (text s)
 plain flag d = flag_of (as_bool d)
 plain T d = refuses WrongJson
 

@@ -1,5 +1,7 @@
 //! Why no value is read from JSON.
-use std::alloc::{AllocError, AllocFailed};
+ghost use Rattle.tl_show.specs.inner.FormTells.{IsHere};
+
+use std::alloc::{AllocError, AllocFailed, Global};
 use thiserror::Error;
 
 /// Why JSON isn't of the form of a type's values, its parts aside.
@@ -49,4 +51,12 @@ impl<T: Drop> From<AllocFailed<T>> for FormFault {
     fn from(_e: AllocFailed<T>) -> FormFault {
         FormFault::Memory
     }
+}
+
+/// A fault that lies in no part.
+pub fn refused(alloc: Global, cause: FormCause) -> FormFault
+    ensures { IsHere cause result }
+{
+    let path = Vec::new(alloc);
+    FormFault::Form { path, cause }
 }

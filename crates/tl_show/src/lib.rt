@@ -7,6 +7,7 @@ mod keyed;
 mod keying;
 mod line;
 mod parts;
+mod plain;
 mod texts;
 mod tree;
 mod writing;

@@ -1,6 +1,7 @@
 -- What the functions that read a form answer. This project's own.
-use Rattle.std.specs.Prelude.{◌≡◌, Result, Ok, Err}
+use Rattle.std.specs.Prelude.{◌≡◌, [], Result, Ok, Err}
 use Rattle.tl_show.specs.Reading.{Read}
+use Rattle.tl_show.specs.declared.fault.FormCause.{FormCause}
 use Rattle.tl_show.specs.declared.fault.FormFault.{FormFault}
 use Rattle.tl_show.specs.declared.fault.FormFault.TheVariants.{Form, Memory}
 
@@ -13,3 +14,8 @@ TellsFault r Memory = Unit {0}
 abbrev pub Tells : {A X : Type 0} → (X → A) → Read A → Result X FormFault → Type 0
 Tells see r (Ok x) = r ≡ Ok (see x)
 Tells see r (Err fault) = TellsFault r fault
+
+-- the fault has this cause, and lies in no part; memory was there
+abbrev pub IsHere : FormCause → FormFault → Type 0
+IsHere cause (Form path c) = (path.items ≡ []) × (c ≡ cause)
+IsHere cause Memory = ⊥
