@@ -196,6 +196,13 @@ abbrev pub of_declaration : List Declaration → Shape → Members → Parts →
 of_declaration ds T ms ps None = refuses NoSuchName
 of_declaration ds T ms ps (Some i) = all_fields (arguments_of T) (fields_in (slice_get ds i)) ms ps >>= λ vs. Ok (record_value T i (values_of vs))
 
+-- the declaration that `_` names
+abbrev pub declaration_of : List Declaration → Shape → Members → Option ℕ
+declaration_of ds T ms = option_and_then (declaration_named ds T) (text_at (codes "_") ms)
+
+abbrev pub of_record : List Declaration → Members → Parts → Reader
+of_record ds ms ps T = of_declaration ds T ms ps (declaration_of ds T ms)
+
 -- the type is of records or calls
 abbrev pub is_record : Shape → Bool
 is_record (boxed h args) = true
@@ -204,10 +211,7 @@ is_record type.call = true
 is_record T = false
 
 abbrev pub of_object : List Declaration → Members → Parts → Reader
-of_object ds ms ps T =
-    if is_record T
-    then of_declaration ds T ms ps (option_and_then (declaration_named ds T) (text_at (codes "_") ms))
-    else plain T (object ms)
+of_object ds ms ps T = if is_record T then of_record ds ms ps T else plain T (object ms)
 
 -- ---- values
 

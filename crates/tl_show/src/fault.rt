@@ -1,8 +1,13 @@
 //! Why no value is read from JSON.
-ghost use Rattle.tl_show.specs.inner.FormTells.{IsHere};
+ghost use Rattle.std.specs.Prelude.{◌≡◌};
+ghost use Rattle.tl_types.specs.Values.{ValueView};
+ghost use Rattle.tl_types.specs.Seen.{view};
+ghost use Rattle.tl_show.specs.Reading.{Read, inside, told};
+ghost use Rattle.tl_show.specs.inner.FormTells.{IsHere, Tells};
 
 use std::alloc::{AllocError, AllocFailed, Global};
 use thiserror::Error;
+use tl_types::Value;
 
 /// Why JSON isn't of the form of a type's values, its parts aside.
 #[derive(Clone, Copy, Debug, PartialEq, Eq, Error)]
@@ -59,4 +64,24 @@ pub fn refused(alloc: Global, cause: FormCause) -> FormFault
 {
     let path = Vec::new(alloc);
     FormFault::Form { path, cause }
+}
+
+/// What is read of the part at this index, as it is read of the whole.
+pub fn at_part(index: usize, part: Result<Value, FormFault>) -> Result<Value, FormFault>
+    ensures { (r : Read ValueView) → Tells view r part → Tells view (inside index r) result }
+{
+    match part {
+        Err(FormFault::Form { mut path, cause }) => {
+            path.insert(0, told(index))?;
+            Err(FormFault::Form { path, cause })
+        }
+        part => part,
+    }
+}
+
+// An index as a path has it.
+fn told(index: usize) -> u32
+    ensures { result ≡ told index }
+{
+    index.min(u32::MAX as usize) as u32
 }

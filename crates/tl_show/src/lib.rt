@@ -8,6 +8,8 @@ mod keying;
 mod line;
 mod parts;
 mod plain;
+mod reading;
+mod records;
 mod texts;
 mod tree;
 mod writing;
