@@ -12,5 +12,6 @@ pub mod LineTexts
 pub mod MembersFound
 pub mod NamedDeclarations
 pub mod NoFloats
+pub mod OtherKeys
 pub mod Sizes
 pub mod Strings

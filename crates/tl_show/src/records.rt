@@ -93,7 +93,12 @@ pub fn has_other(
 ) -> bool
     ensures { result ≡ has_other (record_keys (map keyed_slot fields.now)) (members_view members.now.entries) }
 {
-    members.keys().any(|key| !is_known(key, fields))
+    for key in members.keys() {
+        if !is_known(key, fields) {
+            return true;
+        }
+    }
+    false
 }
 
 // Whether a key is `_` or that of a field.
