@@ -15,6 +15,9 @@ tells_here A cause Memory here = absurd here
 pub tells_same : {A X : Type 0} (see : X → A) (r s : Read A) (res : Result X FormFault) → s ≡ r → Tells see r res → Tells see s res
 tells_same see r s res same tells = let P : Read _ → Type 0 = λ x. Tells see x res in subst P (sym same) tells
 
+pub fault_same : {A : Type 0} (r s : Read A) (fault : FormFault) → s ≡ r → TellsFault r fault → TellsFault s fault
+fault_same r s fault same tells = let P : Read _ → Type 0 = λ x. TellsFault x fault in subst P (sym same) tells
+
 -- the rest after what was read
 pub tells_rest : {A B X : Type 0} (see : X → B) (r : Read A) (x : A) (g : A → Read B) (res : Result X FormFault) → r ≡ Ok x → Tells see (g x) res → Tells see (r >>= g) res
 tells_rest see r x g res first rest = tells_same see (g x) (r >>= g) res (ap (λ y. y >>= g) first) rest

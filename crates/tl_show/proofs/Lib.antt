@@ -1,6 +1,7 @@
 pub mod Appending
 pub mod Declarations
 pub mod Elements
+pub mod FieldCounts
 pub mod FieldsByPlace
 pub mod FieldsPut
 pub mod FormedRecords
@@ -13,5 +14,6 @@ pub mod MembersFound
 pub mod NamedDeclarations
 pub mod NoFloats
 pub mod OtherKeys
+pub mod ReadLoops
 pub mod Sizes
 pub mod Strings

@@ -35,7 +35,7 @@ other_keys ks (e ∷ es) = ap (λ b. not (list_any (bytes_eq (string_bytes e.0))
 
 -- ---- how many of the keys there are, and how many members have one of them
 
-abbrev one_if : Bool → ℕ
+abbrev pub one_if : Bool → ℕ
 one_if true = 1
 one_if false = 0
 
