@@ -27,6 +27,9 @@ fn a_record_is_an_object(rt: HostRuntime) -> Result<(), Fail> {
     let value = record(rt.alloc())?;
     let json = show(rt.alloc(), &schema, &of, &value)?;
     let text = json.to_string(rt.alloc())?;
-    assert_eq!(rt; text.as_str(), r#"{"_":"a","f":true,"n":1,"s":{"hex":"ff41"}}"#);
+    assert_eq!(rt;
+        text.as_str(),
+        r#"{"_":"a","f":true,"n":1,"s":{"hex":"ff41"}}"#
+    );
     Ok(())
 }
