@@ -13,8 +13,10 @@ use Rattle.tl_schema.specs.Schemas.{Slot, Declaration}
 use Rattle.tl_types.specs.Values.{ValueView, ValueViews, int, long, nat, opaque, text, truth, list, node, call, values_of}
 use Rattle.tl_types.specs.Seen.{view}
 use Rattle.tl_types.specs.declared.value.Value.{Value}
-use Rattle.tl_show.specs.Shown.{arguments_of, fields_in, is_absent, name_text}
-use Rattle.tl_show.specs.Reading.{Parts, Read, Reader, ◌>>=◌, all_fields, declaration_of, digits_of, each_element, each_field, flag_of, has_other, in_range, inside, int_of, is_record, is_signed, long_of, nat_of, not_there, of_array, of_declaration, of_object, of_record, one_field, opaque_of, parts, plain, reader, readers, record_keys, record_value, refuses, string_of, text_at, whole_in}
+use Rattle.tl_types.specs.Parts.{arguments_of, fields_in, is_absent}
+use Rattle.tl_types.specs.Fitting.{is_signed}
+use Rattle.tl_show.specs.Shown.{name_text}
+use Rattle.tl_show.specs.Reading.{Parts, Read, Reader, ◌>>=◌, all_fields, declaration_of, digits_of, each_element, each_field, flag_of, has_other, in_range, inside, int_of, is_record, long_of, nat_of, not_there, of_array, of_declaration, of_object, of_record, one_field, opaque_of, parts, plain, reader, readers, record_keys, record_value, refuses, string_of, text_at, whole_in}
 use Rattle.tl_show.specs.inner.FormTells.{Tells}
 use Rattle.tl_show.specs.inner.Keyed.{AreApart}
 use Rattle.tl_show.specs.declared.fault.FormFault.{FormFault}

@@ -14,6 +14,7 @@ pub mod MembersFound
 pub mod NamedDeclarations
 pub mod NoFloats
 pub mod OtherKeys
+pub mod ReadAnswers
 pub mod ReadLoops
 pub mod Sizes
 pub mod Strings

@@ -12,9 +12,16 @@ use Rattle.tl_schema.specs.Types as type
 use Rattle.tl_schema.specs.Closing.{closed}
 use Rattle.tl_schema.specs.Schemas.{Slot, Declaration}
 use Rattle.tl_types.specs.Values.{ValueView, int, long, nat, opaque, text, truth, absent, list, node, call, ValueViews, values_of}
-use Rattle.tl_show.specs.Shown.{arguments_of, fields_in, name_in, name_text}
+use Rattle.tl_types.specs.Seen.{view}
+use Rattle.tl_types.specs.Parts.{arguments_of, fields_in, name_in}
+use Rattle.tl_types.specs.Fitting.{constructs, is_signed, misfit}
+use Rattle.tl_types.specs.declared.value.TheConstants.{MAX_LEVELS}
+use Rattle.tl_types.specs.declared.value.Value.{Value}
+use Rattle.tl_show.specs.Shown.{name_text}
 use Rattle.tl_show.specs.declared.fault.FormCause.{FormCause}
 use Rattle.tl_show.specs.declared.fault.FormCause.TheVariants.{WrongJson, NoSuchName, MissingField, ExtraField, OutOfRange}
+use Rattle.tl_show.specs.declared.fault.ReadFault.{ReadFault}
+use Rattle.tl_show.specs.declared.fault.ReadFault.TheVariants as fault
 
 -- ---- what is read, or the first fault
 
@@ -55,11 +62,6 @@ whole_in d = of_kind (option_and_then as_integer (as_number d))
 
 abbrev pub in_range : Bool → ValueView → Read ValueView
 in_range fits v = if fits then Ok v else refuses OutOfRange
-
--- one of so many numbers below 0, and as many from 0
-abbrev pub is_signed : ℕ → ℤ → Bool
-is_signed half (pos n) = nat_lt n half
-is_signed half (negsuc n) = nat_lt n half
 
 abbrev pub int_of : ℤ → Read ValueView
 int_of z = in_range (is_signed (2 ^ 31) z) (int z)
@@ -138,10 +140,6 @@ of_array rs T = refuses WrongJson
 abbrev pub is_named : Bool → List ℕ → Declaration → Bool
 is_named true name d = d.function && bytes_eq name (name_text d.name)
 is_named false name d = not d.function && bytes_eq name (name_text d.name)
-
-abbrev pub constructs : ℕ → Option Declaration → Bool
-constructs h None = false
-constructs h (Some d) = d.head == h
 
 -- declaration i, if it constructs the type h
 abbrev pub of_type : List Declaration → ℕ → Option ℕ → Option ℕ
@@ -236,3 +234,12 @@ abbrev mutual
 -- the value of a type, or the first fault
 abbrev pub read : List Declaration → Shape → Data → Read ValueView
 read ds T d = reader ds d T
+
+-- ---- answers
+
+-- what is answered is what is read, and its misfit, if there is one; out of memory is free
+abbrev pub TellsRead : List Declaration → Shape → Data → Result Value ReadFault → Type 0
+TellsRead ds T d (Ok v) = (read ds T d ≡ Ok (view v)) × (misfit ds MAX_LEVELS None T (view v) ≡ None)
+TellsRead ds T d (Err (fault.Form path cause)) = read ds T d ≡ Err (path.items, cause)
+TellsRead ds T d (Err (fault.Misfit m)) = (v : ValueView) × (read ds T d ≡ Ok v) × (misfit ds MAX_LEVELS None T v ≡ Some (m.path.items, m.cause))
+TellsRead ds T d (Err fault.Memory) = Unit {0}

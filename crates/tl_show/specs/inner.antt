@@ -4,3 +4,4 @@ pub mod Forms
 pub mod FormTells
 pub mod Keyed
 pub mod Lines
+pub mod ReadFaults

@@ -7,7 +7,7 @@ ghost use Rattle.tl_show.specs.inner.FormTells.{IsHere, Tells};
 
 use std::alloc::{AllocError, AllocFailed, Global};
 use thiserror::Error;
-use tl_types::Value;
+use tl_types::{FitFault, Misfit, Value};
 
 /// Why JSON isn't of the form of a type's values, its parts aside.
 #[derive(Clone, Copy, Debug, PartialEq, Eq, Error)]
@@ -29,7 +29,22 @@ pub enum FormCause {
     OutOfRange,
 }
 
-// Why JSON isn't of a form, and the way to the part, the outermost step first.
+/// Why no value is read from JSON.
+#[derive(Debug, Drop, PartialEq, Eq, Error)]
+pub enum ReadFault {
+    /// The JSON isn't of the form of the type's values, for this cause at this part. The path is the way to the part, the outermost step first: a field
+    /// by its index in the declaration, an element by its index in the list.
+    #[error("{cause}")]
+    Form { path: Vec<u32>, cause: FormCause },
+    /// The JSON is of the form, and its value doesn't fit the type.
+    #[error("a misfit: {}", .0.cause)]
+    Misfit(Misfit),
+    /// There was no memory for the value, for the keys of the schema's records, for the types of parts, or for the path.
+    #[error("out of memory")]
+    Memory,
+}
+
+// Why JSON isn't of a form, and where.
 #[derive(Debug, Drop)]
 pub enum FormFault {
     Form { path: Vec<u32>, cause: FormCause },
@@ -55,6 +70,34 @@ impl<T: Drop> From<AllocFailed<T>> for FormFault {
 
     fn from(_e: AllocFailed<T>) -> FormFault {
         FormFault::Memory
+    }
+}
+
+impl From<FormFault> for ReadFault {
+    ghost use Rattle.std.specs.Prelude.{◌≡◌};
+    ghost use Rattle.tl_show.specs.inner.ReadFaults.{of_form};
+
+    ghost from_gives = { λ f e. e ≡ of_form f };
+
+    fn from(fault: FormFault) -> ReadFault {
+        match fault {
+            FormFault::Form { path, cause } => ReadFault::Form { path, cause },
+            FormFault::Memory => ReadFault::Memory,
+        }
+    }
+}
+
+impl From<FitFault> for ReadFault {
+    ghost use Rattle.std.specs.Prelude.{◌≡◌};
+    ghost use Rattle.tl_show.specs.inner.ReadFaults.{of_fit};
+
+    ghost from_gives = { λ f e. e ≡ of_fit f };
+
+    fn from(fault: FitFault) -> ReadFault {
+        match fault {
+            FitFault::Misfit(misfit) => ReadFault::Misfit(misfit),
+            FitFault::Memory => ReadFault::Memory,
+        }
     }
 }
 

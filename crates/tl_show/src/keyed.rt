@@ -48,8 +48,10 @@ impl<'a> KeyedSchema<'a> {
     ghost use Rattle.std.specs.Prelude.{◌≡◌, IfOk, bytes_eq, false, if◌then◌else◌, map, slice_get, true};
     ghost use Rattle.std.specs.List.{position_from};
     ghost use Rattle.tl_schema.specs.Seen.{shape};
-    ghost use Rattle.tl_show.specs.Shown.{fields_in, name_in, name_text};
-    ghost use Rattle.tl_show.specs.Reading.{constructs, declaration_named, is_named, of_type, record_keys};
+    ghost use Rattle.tl_types.specs.Fitting.{constructs};
+    ghost use Rattle.tl_types.specs.Parts.{fields_in, name_in};
+    ghost use Rattle.tl_show.specs.Shown.{name_text};
+    ghost use Rattle.tl_show.specs.Reading.{declaration_named, is_named, of_type, record_keys};
     ghost use Rattle.tl_show.specs.inner.Keyed.{AreApart, is_named_at, keyed_slot};
 
     pub fn of(alloc: Global, schema: &'a Schema) -> Result<KeyedSchema<'a>, AllocError>

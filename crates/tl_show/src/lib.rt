@@ -14,6 +14,7 @@ mod texts;
 mod tree;
 mod writing;
 
-pub use fault::FormCause;
+pub use fault::{FormCause, ReadFault};
 pub use line::show_text;
+pub use reading::read;
 pub use tree::show;

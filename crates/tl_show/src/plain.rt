@@ -17,11 +17,7 @@ use tl_schema::TypeRef;
 use tl_types::Value;
 
 /// A value of a type whose values have no parts.
-pub fn plain_of(
-    alloc: Global,
-    json: &serde_json::Value,
-    of: &TypeRef,
-) -> Result<Value, FormFault>
+pub fn plain_of(alloc: Global, json: &serde_json::Value, of: &TypeRef) -> Result<Value, FormFault>
     ensures { Tells view (plain (shape of.now) (data_of json.now)) result }
 {
     match of {
@@ -106,11 +102,7 @@ fn nat_within(alloc: Global, number: i128) -> Result<Value, FormFault>
 }
 
 // So many bytes.
-fn opaque_of(
-    alloc: Global,
-    json: &serde_json::Value,
-    count: usize,
-) -> Result<Value, FormFault>
+fn opaque_of(alloc: Global, json: &serde_json::Value, count: usize) -> Result<Value, FormFault>
     ensures { Tells view (plain (types.opaque count) (data_of json.now)) result }
 {
     let bytes = digits_of(alloc, json)?;
@@ -162,10 +154,7 @@ fn digits_of(alloc: Global, json: &serde_json::Value) -> Result<Bytes, FormFault
 }
 
 // The bytes of `{"hex":..}`.
-fn hex_of(
-    alloc: Global,
-    members: &Map<String, serde_json::Value>,
-) -> Result<Bytes, FormFault>
+fn hex_of(alloc: Global, members: &Map<String, serde_json::Value>) -> Result<Bytes, FormFault>
     ensures { Tells (λ b. b) (hex_of (members_view members.now.entries)) result }
 {
     if members.len() != 1 {

@@ -4,25 +4,40 @@ ghost use Rattle.std.specs.Map.{lookup};
 ghost use Rattle.serde_json.specs.View.{view as data_of, items_view, members_view};
 ghost use Rattle.tl_schema.specs.Closing.{closed};
 ghost use Rattle.tl_schema.specs.Seen.{shape};
+ghost use Rattle.tl_types.specs.Parts.{fields_in};
 ghost use Rattle.tl_types.specs.Seen.{view};
-ghost use Rattle.tl_show.specs.Shown.{fields_in, name_text};
-ghost use Rattle.tl_show.specs.Reading.{all_fields, each_element, each_field, of_array, of_record, one_field, parts, reader, readers, text_at};
+ghost use Rattle.tl_show.specs.Shown.{name_text};
+ghost use Rattle.tl_show.specs.Reading.{all_fields, each_element, each_field, of_array, of_record, one_field, parts, reader, readers, text_at, TellsRead};
 ghost use Rattle.tl_show.specs.Reading as reading;
 ghost use Rattle.tl_show.specs.inner.FormTells.{Tells};
 ghost use Rattle.tl_show.specs.inner.Keyed.{keyed_slot};
 
-use crate::fault::{FormCause, FormFault, at_part, refused};
+use crate::fault::{FormCause, FormFault, ReadFault, at_part, refused};
 use crate::keyed::{KeyedField, KeyedSchema};
-use crate::parts::arguments_of;
 use crate::plain::plain_of;
 use crate::records::{entry_of, fill_members, has_other, is_record, not_there, record_value};
 use serde_json::Map;
 use std::alloc::Global;
 use tl_schema::{Schema, TypeRef};
-use tl_types::{Value, close};
+use tl_types::{Value, arguments_of, close, fits};
 
-/// The value of a closed type that JSON is the form of.
-pub fn read_form(
+/// The value of a closed type from the JSON that `show` gives of it. A `string` may also be `{"hex":..}` where it is UTF-8, and hexadecimal digits may be of
+/// either case. The keys of a declaration's records are prepared once a call.
+pub fn read(
+    alloc: Global,
+    schema: &Schema,
+    of: &TypeRef,
+    json: &serde_json::Value,
+) -> Result<Value, ReadFault>
+    ensures reads { TellsRead schema.now.decls (shape of.now) (data_of json.now) result }
+{
+    let value = read_form(alloc, schema, of, json)?;
+    fits(alloc, schema, of, &value)?;
+    Ok(value)
+}
+
+// The value that the JSON is the form of.
+fn read_form(
     alloc: Global,
     schema: &Schema,
     of: &TypeRef,

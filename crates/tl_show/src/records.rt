@@ -4,19 +4,18 @@ ghost use Rattle.std.specs.List.{list_any};
 ghost use Rattle.serde_json.specs.View.{members_view};
 ghost use Rattle.tl_schema.specs.Seen.{shape};
 ghost use Rattle.tl_types.specs.Seen.{view, views};
-ghost use Rattle.tl_show.specs.Shown.{is_absent};
+ghost use Rattle.tl_types.specs.Parts.{is_absent};
 ghost use Rattle.tl_show.specs.Reading.{declaration_of, has_other, is_record, not_there, record_keys, record_value};
 ghost use Rattle.tl_show.specs.inner.FormTells.{Tells};
 ghost use Rattle.tl_show.specs.inner.Keyed.{keyed_slot};
 
 use crate::fault::{FormCause, FormFault, refused};
 use crate::keyed::{KeyedField, KeyedSchema};
-use crate::parts::is_absent;
 use crate::plain::text_at;
 use serde_json::Map;
 use std::alloc::Global;
 use tl_schema::TypeRef;
-use tl_types::Value;
+use tl_types::{Value, is_absent};
 
 /// Whether a type's values are records or calls.
 pub fn is_record(of: &TypeRef) -> bool
@@ -87,10 +86,7 @@ fn count_there(values: &[Value]) -> usize
 }
 
 /// Whether a key is neither `_` nor that of a field.
-pub fn has_other(
-    members: &Map<String, serde_json::Value>,
-    fields: &[KeyedField<'_>],
-) -> bool
+pub fn has_other(members: &Map<String, serde_json::Value>, fields: &[KeyedField<'_>]) -> bool
     ensures { result ≡ has_other (record_keys (map keyed_slot fields.now)) (members_view members.now.entries) }
 {
     for key in members.keys() {

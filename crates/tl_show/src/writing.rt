@@ -3,19 +3,18 @@ ghost use Rattle.std.specs.Prelude.{[], codes, map, string_bytes};
 ghost use Rattle.serde_json.specs.Data.{array, member, no_members, string};
 ghost use Rattle.tl_schema.specs.Closing.{closed};
 ghost use Rattle.tl_schema.specs.Seen.{shape};
+ghost use Rattle.tl_types.specs.Parts as part;
 ghost use Rattle.tl_types.specs.Seen.{view, views};
 ghost use Rattle.tl_show.specs.inner.Forms.{members_of, part_of, read_at, record_by, unless_missing, written, written_each};
 ghost use Rattle.tl_show.specs.inner.FormViews.{form_view, entry_view, entry_views};
 ghost use Rattle.tl_show.specs.inner.Lines.{WritesData, WritesMember, WritesMembers};
-ghost use Rattle.tl_show.specs.Shown.{is_absent};
 
 use crate::forms::{Form, Part};
-use crate::parts::{arguments_of, is_absent, item_of};
 use crate::texts::{write_hex, write_text};
 use json::Writer;
 use std::alloc::{AllocError, Global};
 use tl_schema::TypeRef;
-use tl_types::{Value, close};
+use tl_types::{Value, arguments_of, close, is_absent, item_of};
 
 /// Writes a value of a type. The forms are those of its schema's declarations.
 #[cycle(write)]
@@ -144,7 +143,7 @@ fn write_field(
     forms: &[Form<'_>],
     out: &mut Writer,
 ) -> Result<(), AllocError>
-    ensures { let v = view value.now in WritesMember result out.old out.new key.now (unless_missing (is_absent v) (written (map form_view forms.now) (closed (map shape args.now) (shape of.now)) v)) }
+    ensures { let v = view value.now in WritesMember result out.old out.new key.now (unless_missing (part.is_absent v) (written (map form_view forms.now) (closed (map shape args.now) (shape of.now)) v)) }
 {
     if is_absent(value) {
         return Ok(());
