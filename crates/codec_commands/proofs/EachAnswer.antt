@@ -9,7 +9,7 @@ use Rattle.tl_schema.specs.Formed.{IsFormed}
 use Rattle.tl_types.specs.Values.{ValueView, depth}
 use Rattle.tl_types.specs.Spelling.{Spells}
 use Rattle.tl_types.proofs.Exactly.{exactly_one}
-use Rattle.tl_decode.specs.declared.walk.TheConstants.{MAX_LEVELS}
+use Rattle.tl_types.specs.declared.value.TheConstants.{MAX_LEVELS}
 use Rattle.command_base.specs.Answer.{Answer}
 use Rattle.command_base.proofs.SameFiles.{file_bytes}
 use Rattle.codec_commands.specs.Check.{OfChecked, no_schema, listed, CheckAnswer}

@@ -13,7 +13,7 @@ use Rattle.tl_types.specs.declared.cause.Cause.{Cause}
 use Rattle.tl_types.proofs.Spelling.{spelled}
 use Rattle.tl_types.proofs.Refusal.{refused as refused_so}
 use Rattle.tl_types.proofs.SchemaTells.{schema_tells}
-use Rattle.tl_decode.specs.declared.walk.TheConstants.{MAX_LEVELS}
+use Rattle.tl_types.specs.declared.value.TheConstants.{MAX_LEVELS}
 use Rattle.command_base.specs.Answer.{Answer, done, refused}
 use Rattle.codec_commands.specs.Lines.{line_text, input_line, cause_text}
 use Rattle.codec_commands.specs.Decode.{OfInput, whole, longer, faulty}

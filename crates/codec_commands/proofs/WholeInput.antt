@@ -17,7 +17,7 @@ use Rattle.tl_types.specs.declared.cause.Cause.{Cause}
 use Rattle.tl_types.specs.declared.value.Value.{Value}
 use Rattle.tl_types.proofs.Exactly.{exactly_one}
 use Rattle.tl_decode.specs.Decoding.{GivesValue, GivesFault}
-use Rattle.tl_decode.specs.declared.walk.TheConstants.{MAX_LEVELS}
+use Rattle.tl_types.specs.declared.value.TheConstants.{MAX_LEVELS}
 use Rattle.tl_decode.specs.declared.fault.DecodeFault.{DecodeFault}
 use Rattle.tl_decode.specs.declared.fault.DecodeFault.TheVariants as fault
 use Rattle.codec_commands.specs.declared.whole.InputFault.{InputFault}

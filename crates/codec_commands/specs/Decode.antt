@@ -10,7 +10,7 @@ use Rattle.tl_types.specs.Spelling.{Spells}
 use Rattle.tl_types.specs.Refusal.{Refused}
 use Rattle.tl_types.specs.Offsets.{moved}
 use Rattle.tl_types.specs.declared.cause.Cause.{Cause}
-use Rattle.tl_decode.specs.declared.walk.TheConstants.{MAX_LEVELS}
+use Rattle.tl_types.specs.declared.value.TheConstants.{MAX_LEVELS}
 use Rattle.codec_commands.specs.declared.causes.SchemaCause.{SchemaCause}
 use Rattle.codec_commands.specs.declared.causes.TypeNameCause.{TypeNameCause}
 use Rattle.codec_commands.specs.Loaded.{IsSchemaText, SchemaRefused, TypeNameRefused}

@@ -8,7 +8,7 @@ use Rattle.tl_types.specs.Spelling.{Spells}
 use Rattle.tl_types.specs.Refusal.{Refused}
 use Rattle.tl_types.specs.Offsets.{moved}
 use Rattle.tl_types.specs.declared.value.Value.{Value}
-use Rattle.tl_decode.specs.declared.walk.TheConstants.{MAX_LEVELS}
+use Rattle.tl_types.specs.declared.value.TheConstants.{MAX_LEVELS}
 use Rattle.tl_decode.specs.declared.fault.DecodeFault.{DecodeFault}
 use Rattle.tl_decode.specs.declared.fault.DecodeFault.TheVariants as decode
 use Rattle.codec_commands.specs.declared.whole.InputFault.{InputFault}

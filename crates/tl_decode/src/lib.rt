@@ -10,4 +10,5 @@ mod texts;
 mod walk;
 
 pub use fault::DecodeFault;
-pub use walk::{MAX_LEVELS, decode_walk};
+pub use tl_types::MAX_LEVELS;
+pub use walk::decode_walk;

@@ -15,10 +15,7 @@ use crate::fault::DecodeFault;
 use std::alloc::Global;
 use tl_base::Source;
 use tl_schema::{Schema, TypeRef};
-use tl_types::Value;
-
-/// The most levels of lists, records and calls, one in the other, that a value may have.
-pub const MAX_LEVELS: u32 = 120;
+use tl_types::{MAX_LEVELS, Value};
 
 /// Reads the value of a closed type, and takes exactly its bytes. `at` rises by their number, up to 2^64 - 1. After a refusal the source isn't read
 /// again. Memory is taken for what was read, never for a length or a count that was only announced.

@@ -13,7 +13,8 @@ use Rattle.tl_schema.specs.Types.{Shape}
 use Rattle.tl_schema.specs.Closing.{closed}
 use Rattle.tl_types.proofs.Closings.{closed_none}
 use Rattle.tl_types.specs.Values.{ValueView}
-use Rattle.tl_show.specs.Shown.{is_absent, hex_data, string_data}
+use Rattle.tl_types.specs.Parts.{is_absent}
+use Rattle.tl_show.specs.Shown.{hex_data, string_data}
 use Rattle.tl_show.proofs.Strings.{as_text, as_hex}
 use Rattle.tl_show.specs.inner.Forms.{FormView, Reads, form_in, members_of, record_by, unless_missing, written}
 use Rattle.tl_show.specs.inner.Lines.{Appended, WritesData, WritesMember, WritesMembers}

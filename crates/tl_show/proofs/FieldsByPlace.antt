@@ -12,7 +12,7 @@ use Rattle.tl_schema.specs.declared.schema.TypeRef.{TypeRef}
 use Rattle.tl_types.specs.Values.{ValueView, ValueViews, node, call}
 use Rattle.tl_types.specs.Seen.{view, views}
 use Rattle.tl_types.specs.declared.value.Value.{Value}
-use Rattle.tl_show.specs.Shown.{arguments_of, is_absent}
+use Rattle.tl_types.specs.Parts.{arguments_of, is_absent}
 use Rattle.tl_show.specs.inner.Forms.{FormView, form_in, part_of, read_at, record_by, unless_missing, written}
 use Rattle.tl_show.specs.inner.FormViews.{form_view, part_view}
 use Rattle.tl_show.specs.declared.forms.Form.{Form}

@@ -16,7 +16,8 @@ use Rattle.tl_schema.specs.Seen.{shape, slot}
 use Rattle.tl_schema.specs.declared.schema.SchemaField.{SchemaField}
 use Rattle.tl_schema.specs.declared.schema.TypeRef.{TypeRef}
 use Rattle.tl_types.specs.Values.{ValueViews, no_values, value}
-use Rattle.tl_show.specs.Shown.{is_absent, name_text, named, shown, with_field, with_fields}
+use Rattle.tl_types.specs.Parts.{is_absent}
+use Rattle.tl_show.specs.Shown.{name_text, named, shown, with_field, with_fields}
 use Rattle.tl_show.specs.inner.Forms.{PutsFields, shown_at, unless_missing}
 use Rattle.tl_show.specs.inner.FormViews.{entry_views}
 use Rattle.tl_show.specs.declared.forms.Part.{Part}

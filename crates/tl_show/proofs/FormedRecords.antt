@@ -6,7 +6,8 @@ use Rattle.tl_schema.specs.Types.{Shape}
 use Rattle.tl_schema.specs.Closing.{closed}
 use Rattle.tl_schema.specs.Schemas.{Declaration}
 use Rattle.tl_types.specs.Values.{ValueView, int, long, nat, opaque, text, truth, absent, list, node, call, ValueViews, no_values, value}
-use Rattle.tl_show.specs.Shown.{arguments_of, fields_in, is_absent, item_of, name_in, named, shown, shown_each, with_fields}
+use Rattle.tl_types.specs.Parts.{arguments_of, fields_in, is_absent, item_of, name_in}
+use Rattle.tl_show.specs.Shown.{named, shown, shown_each, with_fields}
 use Rattle.tl_show.specs.inner.Forms.{AreForms, FormView, IsForm, PartView, Reads, form_in, members_at, members_of, part_of, read_at, shown_at, unless_missing, with_part, written, written_each}
 use Rattle.tl_show.specs.inner.Forms as form
 

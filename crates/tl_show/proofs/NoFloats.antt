@@ -12,7 +12,8 @@ use Rattle.tl_schema.specs.Types.{Shape}
 use Rattle.tl_schema.specs.Closing.{closed}
 use Rattle.tl_schema.specs.Schemas.{Slot, Declaration}
 use Rattle.tl_types.specs.Values.{ValueView, int, long, nat, opaque, text, truth, absent, list, node, call, ValueViews, no_values, value}
-use Rattle.tl_show.specs.Shown.{arguments_of, fields_in, is_absent, is_string, item_of, name_in, name_text, named, shown, shown_each, string_data, text_data, with_field, with_fields}
+use Rattle.tl_types.specs.Parts.{arguments_of, fields_in, is_absent, item_of, name_in}
+use Rattle.tl_show.specs.Shown.{is_string, name_text, named, shown, shown_each, string_data, text_data, with_field, with_fields}
 
 whole : (z : ℤ) → is_float (of_integer z) ≡ false
 whole (pos n) = refl

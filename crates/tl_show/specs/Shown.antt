@@ -1,13 +1,14 @@
 -- Values as JSON, by their types. This project's own.
-use Rattle.std.specs.Prelude.{ℕ, List, [], ◌∷◌, Bool, true, false, if◌then◌else◌, Option, Some, None, slice_get, codes, encode_utf8_all}
+use Rattle.std.specs.Prelude.{ℕ, List, [], ◌∷◌, Bool, true, false, if◌then◌else◌, slice_get, codes, encode_utf8_all}
 use Rattle.std.specs.Str.{is_utf8}
 use Rattle.hex.specs.Hex.{encode_lower}
 use Rattle.serde_json.specs.Data.{Data, null, boolean, number, unsigned, string, array, object, Items, no_items, item, Members, no_members, member, put}
 use Rattle.serde_json.specs.Find.{of_integer}
-use Rattle.tl_schema.specs.Types.{Shape, str, vector, boxed, bare}
-use Rattle.tl_schema.specs.Closing.{closed, list_of_shapes}
+use Rattle.tl_schema.specs.Types.{Shape, str}
+use Rattle.tl_schema.specs.Closing.{closed}
 use Rattle.tl_schema.specs.Schemas.{Slot, Declaration}
 use Rattle.tl_types.specs.Values.{ValueView, int, long, nat, opaque, text, truth, absent, list, node, call, ValueViews, no_values, value}
+use Rattle.tl_types.specs.Parts.{arguments_of, fields_in, is_absent, item_of, name_in}
 
 -- ---- texts
 
@@ -31,34 +32,7 @@ text_data T s = if is_string T then string_data s else hex_data s
 abbrev pub name_text : List ℕ → List ℕ
 name_text name = encode_utf8_all name
 
--- ---- types
-
--- of the elements of a vector; no other type has any, and stands for itself
-abbrev pub item_of : Shape → Shape
-item_of (vector is_boxed T) = T
-item_of T = T
-
--- what a type is applied to
-abbrev pub arguments_of : Shape → List Shape
-arguments_of (boxed h args) = list_of_shapes args
-arguments_of (bare i args) = list_of_shapes args
-arguments_of T = []
-
--- ---- declarations, where they are there
-
-abbrev pub name_in : Option Declaration → List ℕ
-name_in None = []
-name_in (Some d) = d.name
-
-abbrev pub fields_in : Option Declaration → List Slot
-fields_in None = []
-fields_in (Some d) = d.fields
-
 -- ---- values
-
-abbrev pub is_absent : ValueView → Bool
-is_absent absent = true
-is_absent v = false
 
 -- the members of a record before those of its fields: its name, at the key `_`
 abbrev pub named : List ℕ → Members

@@ -5,13 +5,14 @@ ghost use Rattle.serde_json.specs.View.{view as data_of, members_view};
 ghost use Rattle.tl_schema.specs.Seen.{shape, slot};
 ghost use Rattle.tl_schema.specs.Closing.{closed};
 ghost use Rattle.tl_types.specs.Seen.{view, views};
-ghost use Rattle.tl_show.specs.Shown.{fields_in, hex_data, is_absent, name_in, name_text, named, shown, shown_each, string_data, text_data, with_field, with_fields};
+ghost use Rattle.tl_types.specs.Parts.{fields_in, is_absent, name_in};
+ghost use Rattle.tl_show.specs.Shown.{hex_data, name_text, named, shown, shown_each, string_data, text_data, with_field, with_fields};
 
-use crate::parts::{arguments_of, is_absent, is_string, item_of, name_of, name_text, slots_of};
+use crate::parts::{is_string, name_of, name_text};
 use serde_json::Map;
 use std::alloc::{AllocError, Global};
 use tl_schema::{Schema, SchemaField, TypeRef};
-use tl_types::{Value, close};
+use tl_types::{Value, arguments_of, close, is_absent, item_of, slots_of};
 
 /// The value, of this type, as JSON.
 pub fn show(

@@ -7,15 +7,14 @@ ghost use Rattle.tl_types.specs.Seen.{view, views};
 ghost use Rattle.tl_show.specs.inner.Forms.{members_of, part_of, read_at, record_by, unless_missing, written, written_each};
 ghost use Rattle.tl_show.specs.inner.FormViews.{form_view, entry_view, entry_views};
 ghost use Rattle.tl_show.specs.inner.Lines.{WritesData, WritesMember, WritesMembers};
-ghost use Rattle.tl_show.specs.Shown.{is_absent};
+ghost use Rattle.tl_types.specs.Parts.{is_absent};
 
 use crate::forms::{Form, Part};
-use crate::parts::{arguments_of, is_absent, item_of};
 use crate::texts::{write_hex, write_text};
 use json::Writer;
 use std::alloc::{AllocError, Global};
 use tl_schema::TypeRef;
-use tl_types::{Value, close};
+use tl_types::{Value, arguments_of, close, is_absent, item_of};
 
 /// Writes a value of a type. The forms are those of its schema's declarations.
 #[cycle(write)]

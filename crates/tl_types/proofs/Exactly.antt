@@ -69,10 +69,10 @@ module _ (schema : Declared) (tell : PartsTell schema) where
   read_whole : (n : ℕ) (T : Shape) (b : List ℕ) (v : ValueView) (x rest : List ℕ) → b ≡ x ++ rest → Spells schema T v x → depth v ≤ n → value_at schema.decls n T (spot 0 b) ≡ Ok (v, spot (moved 0 (length x)) rest)
   read_whole n T b v x rest is spells deep = ap (λ (z : List ℕ). value_at schema.decls n T (spot 0 z)) is ∙ spelled schema tell.numbers v T n x rest 0 (omega arith) spells deep
 
-  never_both : (n : ℕ) (T : Shape) → IsRead schema T → (b : List ℕ) (v : ValueView) (x : List ℕ) (at : ℕ) (cause : Cause) → BeginsWith schema n T b v x → Refused schema n T b at cause → ⊥
+  pub never_both : (n : ℕ) (T : Shape) → IsRead schema T → (b : List ℕ) (v : ValueView) (x : List ℕ) (at : ℕ) (cause : Cause) → BeginsWith schema n T b v x → Refused schema n T b at cause → ⊥
   never_both n T read b v x at cause (rest, is, spells, deep) r = never_err (sym (refused schema tell n T read b at cause 0 (omega arith) r) ∙ read_whole n T b v x rest is spells deep)
 
-  one_value : (n : ℕ) (T : Shape) (b : List ℕ) (v w : ValueView) (x y : List ℕ) → BeginsWith schema n T b v x → BeginsWith schema n T b w y → (v ≡ w) × (x ≡ y)
+  pub one_value : (n : ℕ) (T : Shape) (b : List ℕ) (v w : ValueView) (x y : List ℕ) → BeginsWith schema n T b v x → BeginsWith schema n T b w y → (v ≡ w) × (x ≡ y)
   one_value n T b v w x y (rest, is, spells, deep) (more, is_too, spells_too, deep_too) =
       let both = same_ok (sym (read_whole n T b v x rest is spells deep) ∙ read_whole n T b w y more is_too spells_too deep_too) in
       let after : rest ≡ more = ap (λ (r : ValueView × Spot). r.1.bytes) both in

@@ -1,6 +1,11 @@
 pub mod Views
 pub mod Closings
 pub mod ClosedLists
+pub mod DeclaredParts
+pub mod FewFields
+pub mod MisfitSteps
+pub mod NodePasses
+pub mod ValueCounts
 pub mod Numbers
 pub mod Members
 pub mod Texts
@@ -14,3 +19,6 @@ pub mod Reading
 pub mod SchemaNumbers
 pub mod SchemaTells
 pub mod Exactly
+pub mod SignedRanges
+pub mod SpelledFits
+pub mod FitsAreSpelled

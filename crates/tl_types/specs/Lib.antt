@@ -2,8 +2,11 @@ pub mod Values
 pub mod Offsets
 pub mod Texts
 pub mod Conditions
+pub mod Parts
 pub mod Spelling
 pub mod Refusal
 pub mod Exactly
 pub mod Seen
+pub mod Fitting
+pub mod FitsExactly
 pub mod inner

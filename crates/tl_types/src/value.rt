@@ -5,6 +5,9 @@ ghost use Rattle.tl_types.specs.Seen.{view, views};
 use std::alloc::{AllocError, Global};
 use tl_base::Bytes;
 
+/// The most levels of lists, records and calls, one in the other, that a value may have.
+pub const MAX_LEVELS: u32 = 120;
+
 /// A value. Records and calls name their declaration by its index in the schema, and have one value for each of its fields.
 /// From "Binary data serialization" (core.telegram.org/mtproto/serialize).
 #[derive(Debug, Drop)]

@@ -6,7 +6,8 @@ use Rattle.tl_schema.specs.Types.{Shape}
 use Rattle.tl_schema.specs.Closing.{closed}
 use Rattle.tl_schema.specs.Schemas.{Slot, Declaration}
 use Rattle.tl_types.specs.Values.{ValueView, int, long, nat, opaque, text, truth, absent, list, node, call, ValueViews, no_values, value}
-use Rattle.tl_show.specs.Shown.{hex_data, text_data, name_text, item_of, arguments_of, is_absent, shown, named, with_fields}
+use Rattle.tl_types.specs.Parts.{arguments_of, is_absent, item_of}
+use Rattle.tl_show.specs.Shown.{hex_data, text_data, name_text, shown, named, with_fields}
 
 -- what stands at a key: the name of the declaration, or the value at this place, of this type
 pub data PartView : Type 0 where

@@ -1,5 +1,5 @@
-use Rattle.tl_show.proofs.Declarations.{boxed_arguments, bare_arguments}
-use Rattle.tl_show.proofs.parts.arguments_of.Goals as goal
+use Rattle.tl_types.proofs.DeclaredParts.{boxed_arguments, bare_arguments}
+use Rattle.tl_types.proofs.parts.arguments_of.Goals as goal
 
 pub returns-in-Boxed : goal.returns-in-Boxed
 returns-in-Boxed c = boxed_arguments c.args.of.now _ _ _ c.in-Boxed.is c.deref.ensures.value

@@ -1,0 +1,14 @@
+-- A value that has a spelling is never refused.
+use Rattle.std.proofs.Common.{◌≡◌, List, ℕ, Option, Some, None, Result, Ok, Err, sym, ◌∙◌}
+use Rattle.tl_types.specs.Fitting.{MisfitView, TellsMisfit}
+use Rattle.tl_types.specs.declared.misfit.FitFault.{FitFault}
+use Rattle.tl_types.specs.declared.misfit.FitFault.TheVariants as fit
+use Rattle.tl_encode.specs.declared.fault.EncodeFault.{EncodeFault}
+use Rattle.tl_encode.specs.Encoding.{WritesSpelling, as_encode_fault}
+
+never_told : {P : Type 0} (m : Option MisfitView) (n : MisfitView) → m ≡ None → m ≡ Some n → P
+never_told m n none some = absurd cc
+
+pub only_memory : (m : Option MisfitView) (fault : FitFault) (old new : Option (List ℕ)) (spelling : List ℕ) → m ≡ None → TellsMisfit m (Err fault) → WritesSpelling old new spelling (Err (as_encode_fault fault))
+only_memory m (fit.Misfit told) old new spelling none tells = never_told m (told.path.items, told.cause) none tells
+only_memory m fit.Memory old new spelling none tells = tt

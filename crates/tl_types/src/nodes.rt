@@ -1,0 +1,189 @@
+//! Whether a value fits a type, its parts aside.
+ghost use Rattle.std.specs.Prelude.{◌≡◌, ◌^◌, nat_lt, slice_get};
+ghost use Rattle.tl_schema.specs.Seen.{shape};
+ghost use Rattle.tl_types.specs.Fitting.{constructs, has_constructor, has_count, has_flag, has_kind, has_level, has_width, is_called, is_constructor, is_deep_value, is_in_range, is_kind, is_signed, node_misfit};
+ghost use Rattle.tl_types.specs.Seen.{view};
+
+use crate::misfit::MisfitCause;
+use crate::parts::{is_absent, slots_of};
+use crate::value::Value;
+use tl_schema::{Schema, TypeRef};
+
+/// The first cause that the value has, its parts aside: of this type, with so many levels left, where it stands by this bit or by none.
+pub fn node_misfit(
+    value: &Value,
+    schema: &Schema,
+    levels: u32,
+    bit: Option<bool>,
+    of: &TypeRef,
+) -> Option<MisfitCause>
+    ensures { result ≡ node_misfit schema.now.decls levels bit (shape of.now) (view value.now) }
+{
+    if !has_kind(value, bit, of) {
+        Some(MisfitCause::WrongKind)
+    } else if !has_constructor(value, schema, of) {
+        Some(MisfitCause::WrongConstructor)
+    } else if !has_count(value, schema, of) {
+        Some(MisfitCause::WrongCount)
+    } else if !has_flag(value, bit) {
+        Some(MisfitCause::FlagMismatch)
+    } else if !is_in_range(value) {
+        Some(MisfitCause::OutOfRange)
+    } else if !has_level(value, levels) {
+        Some(MisfitCause::TooDeep)
+    } else {
+        None
+    }
+}
+
+// Whether the value is of the type's kind, or isn't there and stands by a bit.
+fn has_kind(value: &Value, bit: Option<bool>, of: &TypeRef) -> bool
+    ensures { result ≡ has_kind bit (shape of.now) (view value.now) }
+{
+    is_kind(value, of) || (bit.is_some() && is_absent(value))
+}
+
+// Whether the value is of the type's kind.
+fn is_kind(value: &Value, of: &TypeRef) -> bool
+    ensures { result ≡ is_kind (shape of.now) (view value.now) }
+{
+    match of {
+        TypeRef::Int => matches!(value, Value::Int(_)),
+        TypeRef::Long => matches!(value, Value::Long(_)),
+        TypeRef::Nat => matches!(value, Value::Nat(_)),
+        TypeRef::Double => matches!(value, Value::Opaque(_)),
+        TypeRef::Int128 => matches!(value, Value::Opaque(_)),
+        TypeRef::Int256 => matches!(value, Value::Opaque(_)),
+        TypeRef::Str => matches!(value, Value::Text(_)),
+        TypeRef::Raw => matches!(value, Value::Text(_)),
+        TypeRef::Flag => matches!(value, Value::Truth),
+        TypeRef::Call => matches!(value, Value::Call { .. }),
+        TypeRef::Var { .. } => false,
+        TypeRef::Vector { .. } => matches!(value, Value::List(_)),
+        TypeRef::Boxed { .. } => matches!(value, Value::Node { .. }),
+        TypeRef::Bare { .. } => matches!(value, Value::Node { .. }),
+    }
+}
+
+// Whether a record is of a constructor of the type, and a call of a function.
+fn has_constructor(value: &Value, schema: &Schema, of: &TypeRef) -> bool
+    ensures { result ≡ has_constructor schema.now.decls (shape of.now) (view value.now) }
+{
+    match value {
+        Value::Node { entry, .. } => is_constructor(schema, of, *entry),
+        Value::Call { entry, .. } => is_called(schema, *entry),
+        _ => true,
+    }
+}
+
+// Whether the declaration is a constructor of the type, if this has any.
+fn is_constructor(schema: &Schema, of: &TypeRef, entry: u32) -> bool
+    ensures { result ≡ is_constructor schema.now.decls (shape of.now) entry }
+{
+    match of {
+        TypeRef::Boxed { head, .. } => constructs(schema, *head, entry),
+        TypeRef::Bare { entry: own, .. } => entry == *own,
+        _ => true,
+    }
+}
+
+// Whether the declaration is there and constructs the type with this number.
+fn constructs(schema: &Schema, head: u32, entry: u32) -> bool
+    ensures { result ≡ constructs head (slice_get schema.now.decls entry) }
+{
+    entry < schema.count() && schema.entry(entry).head == head
+}
+
+// Whether the declaration is there and is a function.
+fn is_called(schema: &Schema, entry: u32) -> bool
+    ensures { result ≡ is_called (slice_get schema.now.decls entry) }
+{
+    entry < schema.count() && schema.entry(entry).function
+}
+
+// Whether an opaque value has as many bytes as its type, and a record or call as many values as its declaration has fields.
+fn has_count(value: &Value, schema: &Schema, of: &TypeRef) -> bool
+    ensures { result ≡ has_count schema.now.decls (shape of.now) (view value.now) }
+{
+    match value {
+        Value::Opaque(bytes) => has_width(of, bytes.len()),
+        Value::Node { entry, fields } => fields.len() == slots_of(schema, *entry).len(),
+        Value::Call { entry, fields } => fields.len() == slots_of(schema, *entry).len(),
+        _ => true,
+    }
+}
+
+// Whether the type has so many bytes, if its values are opaque.
+fn has_width(of: &TypeRef, count: usize) -> bool
+    ensures { result ≡ has_width (shape of.now) count }
+{
+    match of {
+        TypeRef::Double => count == 8,
+        TypeRef::Int128 => count == 16,
+        TypeRef::Int256 => count == 32,
+        _ => true,
+    }
+}
+
+// Whether a value that stands by a bit is there exactly where it is set.
+fn has_flag(value: &Value, bit: Option<bool>) -> bool
+    ensures { result ≡ has_flag bit (view value.now) }
+{
+    match bit {
+        None => true,
+        Some(true) => !is_absent(value),
+        Some(false) => is_absent(value),
+    }
+}
+
+// Whether a number is in range, and a string or a list short enough.
+fn is_in_range(value: &Value) -> bool
+    ensures { result ≡ is_in_range (view value.now) }
+{
+    match value {
+        Value::Int(number) => is_int(*number),
+        Value::Long(number) => is_long(*number),
+        Value::Nat(number) => is_nat(*number),
+        Value::Text(bytes) => bytes.len() < 0x0100_0000,
+        Value::List(items) => items.len() < 0x8000_0000,
+        _ => true,
+    }
+}
+
+// Each number of 32 bits is in range.
+fn is_int(_number: i32) -> bool
+    ensures { result ≡ is_signed (2 ^ 31) _number }
+{
+    true
+}
+
+// Each number of 64 bits is in range.
+fn is_long(_number: i64) -> bool
+    ensures { result ≡ is_signed (2 ^ 63) _number }
+{
+    true
+}
+
+// Each unsigned number of 32 bits is in range.
+fn is_nat(_number: u32) -> bool
+    ensures { result ≡ nat_lt _number (2 ^ 32) }
+{
+    true
+}
+
+// Whether there is a level for the value, with so many left.
+fn has_level(value: &Value, levels: u32) -> bool
+    ensures { result ≡ has_level levels (view value.now) }
+{
+    levels > 0 || !is_deep(value)
+}
+
+// Whether the value is a list, a record or a call.
+fn is_deep(value: &Value) -> bool
+    ensures { result ≡ is_deep_value (view value.now) }
+{
+    matches!(
+        value,
+        Value::List(_) | Value::Node { .. } | Value::Call { .. }
+    )
+}
