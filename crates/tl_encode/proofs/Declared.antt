@@ -1,5 +1,5 @@
 -- The spelling of a record and of a call.
-use Rattle.std.proofs.Common.{◌≡◌, ℕ, List, [], ◌∷◌, ◌++◌, slice_get, Some, Result, refl, sym, ap, ◌∙◌, subst, arith}
+use Rattle.std.proofs.Common.{◌≡◌, ℕ, List, [], ◌++◌, slice_get, Some, Result, sym, ap, ◌∙◌, subst}
 use Rattle.std.specs.Prelude.{OnOk}
 use Rattle.tl_base.specs.Numbers.{word}
 use Rattle.tl_schema.specs.Types.{Shape, Shapes, no_shapes, shapes_of}

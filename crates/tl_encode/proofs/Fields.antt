@@ -1,6 +1,5 @@
 -- The spelling of fields.
-use Rattle.std.proofs.Common.{◌≡◌, ℕ, ◌+◌, ◌<◌, ◌≤◌, List, [], ◌∷◌, ◌++◌, append-nil, length, take, drop, map, get_or, Result, sym, ap, ◌∙◌, subst, true, false, inl, inr}
-use Rattle.std.specs.Prelude.{OnOk}
+use Rattle.std.proofs.Common.{◌≡◌, ℕ, ◌+◌, ◌<◌, ◌≤◌, List, [], ◌∷◌, ◌++◌, append-nil, length, take, drop, map, get_or, sym, ap, ◌∙◌, subst, true, false, inl, inr}
 use Rattle.std.proofs.lemmas.List.{drop_more, drop_all, take_more, map_push}
 use Rattle.tl_schema.specs.Types.{Shape}
 use Rattle.tl_schema.specs.Closing.{closed}

@@ -3,7 +3,6 @@ pub mod Joins
 pub mod Elements
 pub mod Declared
 pub mod Fields
-pub mod Fitted
 pub mod OneSpelling
 pub mod ReadBack
 pub mod Refusals

@@ -1,14 +1,12 @@
 -- A value has one spelling.
-use Rattle.std.proofs.Common.{◌≡◌, ℕ, ◌<◌, ◌^◌, ℤ, List, [], ◌∷◌, ◌++◌, slice_get, Some, refl, sym, ap, ◌∙◌, subst, arith, Bool, true, false, true≢false, inl, inr}
+use Rattle.std.proofs.Common.{◌≡◌, ℕ, ◌<◌, ◌^◌, List, [], ◌∷◌, ◌++◌, sym, ap, ◌∙◌, subst, Bool, true≢false, inl, inr}
 use Rattle.std.proofs.lemmas.Int.{of_z-to_z}
 use Rattle.std.specs.Int.{w32, w64, cast_signed, cast_unsigned}
 use Rattle.tl_base.specs.Numbers.{word, double_word}
 use Rattle.tl_schema.specs.Types.{Shape, Shapes}
-use Rattle.tl_schema.specs.Types as type
 use Rattle.tl_schema.specs.Closing.{closed, list_of_shapes}
 use Rattle.tl_schema.specs.Schemas.{Slot, Declaration, Declared}
 use Rattle.tl_types.specs.Values.{ValueView, int, long, nat, opaque, text, truth, absent, list, node, call, ValueViews, no_values, value, count}
-use Rattle.tl_types.specs.Conditions.{stands_by}
 use Rattle.tl_types.specs.Parts.{item_of, arguments_of}
 use Rattle.tl_types.specs.Spelling.{Begins, boxed, bare, vector_prefix, Spells, SpellEach, SpellFields}
 use Rattle.tl_types.proofs.Members.{some_is}

@@ -1,5 +1,5 @@
 -- What is spelled is read back.
-use Rattle.std.proofs.Common.{◌≡◌, inr, ℕ, ◌≤◌, List, ◌++◌, refl, sym}
+use Rattle.std.proofs.Common.{inr, ℕ, ◌≤◌, List, ◌++◌, refl}
 use Rattle.tl_schema.specs.Types.{Shape}
 use Rattle.tl_schema.specs.Schemas.{Declared}
 use Rattle.tl_schema.specs.CheckedPrograms.{IsSchema}
@@ -11,7 +11,7 @@ use Rattle.tl_types.proofs.Exactly.{never_both, one_value}
 use Rattle.tl_types.proofs.SchemaTells.{schema_tells}
 use Rattle.tl_encode.specs.ReadBack.{IsReadBack, EachSpellingReadsBack}
 use Rattle.tl_encode.proofs.OneSpelling.{one_spelling}
-use Rattle.tl_encode.proofs.Fitted.{fits_exactly}
+use Rattle.tl_types.proofs.FitsAreSpelled.{each_fits_exactly}
 
 read_back : (schema : Declared) → IsSchema schema → (T : Shape) (v : ValueView) → IsFormed schema T → depth v ≤ MAX_LEVELS → (x : List ℕ) → Spells schema T v x → IsReadBack schema T v x
 read_back schema good T v formed deep x s =
@@ -26,5 +26,5 @@ read_back schema good T v formed deep x s =
 
 pub each_read_back : EachSpellingReadsBack
 each_read_back schema good T v formed fits =
-    let spelled = (fits_exactly schema good MAX_LEVELS T v formed).spelled fits in
+    let spelled = (each_fits_exactly schema good MAX_LEVELS T v formed).spelled fits in
     (spelled.0, read_back schema good T v formed spelled.2 spelled.0 spelled.1)

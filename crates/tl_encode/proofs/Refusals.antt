@@ -1,9 +1,8 @@
 -- A value that has a spelling is never refused.
-use Rattle.std.proofs.Common.{◌≡◌, List, ℕ, Option, Some, None, Result, Ok, Err, sym, ◌∙◌}
+use Rattle.std.proofs.Common.{◌≡◌, List, ℕ, Option, Some, None, Err}
 use Rattle.tl_types.specs.Fitting.{MisfitView, TellsMisfit}
 use Rattle.tl_types.specs.declared.misfit.FitFault.{FitFault}
 use Rattle.tl_types.specs.declared.misfit.FitFault.TheVariants as fit
-use Rattle.tl_encode.specs.declared.fault.EncodeFault.{EncodeFault}
 use Rattle.tl_encode.specs.Encoding.{WritesSpelling, as_encode_fault}
 
 never_told : {P : Type 0} (m : Option MisfitView) (n : MisfitView) → m ≡ None → m ≡ Some n → P
