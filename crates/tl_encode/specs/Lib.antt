@@ -1,3 +1,3 @@
+pub mod Puts
 pub mod Encoding
 pub mod ReadBack
-pub mod inner

@@ -10,4 +10,5 @@ mod walk;
 
 pub use fault::EncodeFault;
 pub use laws::each_spelling_reads_back;
+pub use spelling::spell;
 pub use walk::encode_walk;

@@ -7,7 +7,7 @@ ghost use Rattle.tl_types.specs.Seen.{view, views};
 ghost use Rattle.tl_types.specs.Values as value;
 ghost use Rattle.tl_types.specs.Values.{ValueView};
 ghost use Rattle.tl_types.specs.Spelling.{SpellEach, SpellFields, Spells, SpellsField};
-ghost use Rattle.tl_encode.specs.inner.Puts.{Puts};
+ghost use Rattle.tl_encode.specs.Puts.{Puts};
 
 use crate::items::{put_double, put_vector_prefix, put_word};
 use crate::texts::put_text;
@@ -15,7 +15,8 @@ use std::alloc::{AllocError, Global};
 use tl_schema::{Schema, SchemaField, TypeRef};
 use tl_types::{Value, close};
 
-/// Appends the spelling of a value of this type. Where the value has none, nothing is said of what is appended.
+/// Appends the spelling of a value of this type. Where the value has none, nothing is said of what is appended. It is for a caller that knows already
+/// that the value fits, and wants the bytes in memory; others take `encode_walk`.
 #[cycle(spell)]
 pub fn spell(
     alloc: Global,
