@@ -52,10 +52,9 @@ module _ (s t i : List ℕ) (schema : Declared) (T : Shape) (means : IsTypeText 
 
   value_there : (x : Value) (bytes : List ℕ) → IsFormed schema T → AreSpelling x bytes → (v u w : View) → LoadsSchema s (Ok schema) v u → LoadsJson schema T i (Ok x) u w
       → MakesOutput (encode_job s t i) (made bytes) v w
-  value_there x bytes formed are v u w ((text, has, good), rest) ((input, there, (d, is, reads, fits)), only) =
-      let loaded = ((text, has, good), rest) in
-      let spells = (each_fits_exactly schema good.good MAX_LEVELS T (view x) formed).spelled fits in
-      (of_input_answer OfJson s t i schema T means input _ v u loaded there (spelled d (view x) spells.0 is reads spells.1 spells.2 (ap done (are spells.0 spells.1))), then_reads v u w rest only)
+  value_there x bytes formed are v u w loaded ((input, there, (d, is, reads, fits)), only) =
+      let spells = (each_fits_exactly schema loaded.0.2.good MAX_LEVELS T (view x) formed).spelled fits in
+      (of_input_answer OfJson s t i schema T means input _ v u loaded there (spelled d (view x) spells.0 is reads spells.1 spells.2 (ap done (are spells.0 spells.1))), then_reads v u w loaded.1 only)
 
   pub value_spelled : (x : Value) (bytes : List ℕ) (a m b : Option View) → IsFormed schema T → Told a m (LoadsSchema s (Ok schema)) → Told m b (LoadsJson schema T i (Ok x))
       → AreSpelling x bytes → Told a b (MakesOutput (encode_job s t i) (made bytes))

@@ -13,7 +13,7 @@ use Rattle.tl_schema.specs.declared.fault.TypeFault.{TypeFault}
 use Rattle.tl_schema.specs.declared.fault.TypeFault.TheVariants as type
 use Rattle.serde_json.specs.declared.error.Error.{Error}
 use Rattle.serde_json.specs.Errors.{IsMemory}
-use Rattle.tl_show.specs.declared.fault.ReadFault as tl_show
+use Rattle.tl_show.specs.declared.fault.ReadFault.{ReadFault as ReadingFault}
 use Rattle.tl_show.specs.declared.fault.ReadFault.TheVariants as reading
 use Rattle.command_base.specs.Jobs.{Making, made, refused_by, unread, no_memory}
 use Rattle.codec_commands.specs.declared.causes.TextCause.{TextCause}
@@ -29,6 +29,8 @@ use Rattle.codec_commands.specs.declared.type_word.TypeWordFault.TheVariants as 
 use Rattle.codec_commands.specs.declared.whole.InputFault.{InputFault}
 use Rattle.codec_commands.specs.declared.whole.InputFault.TheVariants as input
 use Rattle.codec_commands.specs.declared.json_input.JsonCause.TheVariants as why
+use Rattle.codec_commands.specs.declared.json_input.JsonTextFault.{JsonTextFault}
+use Rattle.codec_commands.specs.declared.json_input.JsonTextFault.TheVariants as json_text
 use Rattle.codec_commands.specs.declared.json_input.JsonFault.{JsonFault}
 use Rattle.codec_commands.specs.declared.json_input.JsonFault.TheVariants as json
 use Rattle.codec_commands.specs.declared.refusal.Refusal.{Refusal}
@@ -97,18 +99,22 @@ of_type type.Memory = word.Memory
 
 -- ---- inputs of JSON
 
-abbrev pub of_json_text : TextFault → JsonFault
-of_json_text text.ReadFault = json.ReadFault
-of_json_text text.Memory = json.Memory
+-- a text that is refused is no JSON, unless memory was out
+abbrev pub OfJsonError : Error → JsonTextFault → Type 0
+OfJsonError e fault = (IsMemory e × (fault ≡ json_text.Memory)) ⊎ ((IsMemory e → ⊥) × (fault ≡ json_text.Refused why.NoJson))
 
--- JSON is refused unless memory was out
-abbrev pub OfJsonError : Error → JsonFault → Type 0
-OfJsonError e fault = (IsMemory e × (fault ≡ json.Memory)) ⊎ ((IsMemory e → ⊥) × (fault ≡ json.Refused why.NoJson))
+abbrev pub of_reading : ReadingFault → JsonTextFault
+of_reading (reading.Form path c) = json_text.Refused (why.Form path c)
+of_reading (reading.Misfit told) = json_text.Refused (why.Misfit told)
+of_reading reading.Memory = json_text.Memory
 
-abbrev pub of_reading : tl_show.ReadFault → JsonFault
-of_reading (reading.Form path cause) = json.Refused (why.Form path cause)
-of_reading (reading.Misfit told) = json.Refused (why.Misfit told)
-of_reading reading.Memory = json.Memory
+abbrev pub of_json_file : TextFault → JsonFault
+of_json_file text.ReadFault = json.ReadFault
+of_json_file text.Memory = json.Memory
+
+abbrev pub of_json_text : JsonTextFault → JsonFault
+of_json_text (json_text.Refused c) = json.Refused c
+of_json_text json_text.Memory = json.Memory
 
 -- ---- what `decode` and `encode` write
 

@@ -113,10 +113,14 @@ misfit_cause_name misfit.FlagMismatch = codes "FlagMismatch"
 misfit_cause_name misfit.OutOfRange = codes "OutOfRange"
 misfit_cause_name misfit.TooDeep = codes "TooDeep"
 
+-- these indices, each after a point
+abbrev pub steps_text : List ℕ → List ℕ
+steps_text is = flat_map (λ i. codes "." ++ decimal i) is
+
 -- the indices of a path with a point between each two, or `-` where there is none
 abbrev pub path_text : List ℕ → List ℕ
 path_text [] = codes "-"
-path_text (i ∷ is) = decimal i ++ flat_map (λ j. codes "." ++ decimal j) is
+path_text (i ∷ is) = decimal i ++ steps_text is
 
 abbrev pub form_text : List ℕ → FormCause → List ℕ
 form_text path cause = (form_cause_name cause ++ codes " ") ++ path_text path

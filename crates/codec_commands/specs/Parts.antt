@@ -8,10 +8,11 @@ use Rattle.tl_schema.specs.Schemas.{Declared}
 use Rattle.tl_schema.specs.AskedTypes.{IsTypeText}
 use Rattle.tl_schema.specs.Seen.{shape}
 use Rattle.tl_schema.specs.declared.schema.TypeRef.{TypeRef}
+use Rattle.tl_types.specs.Seen.{view}
 use Rattle.tl_types.specs.declared.value.Value.{Value}
 use Rattle.command_base.specs.Kept.{OnlyReads}
 use Rattle.codec_commands.specs.Decoding.{DecodesWhole}
-use Rattle.codec_commands.specs.JsonInput.{ReadsJson}
+use Rattle.codec_commands.specs.JsonInput.{IsJsonOf, JsonRefused}
 use Rattle.codec_commands.specs.declared.json_input.JsonFault.{JsonFault}
 use Rattle.codec_commands.specs.declared.json_input.JsonFault.TheVariants as json
 use Rattle.codec_commands.specs.declared.whole.InputFault.{InputFault}
@@ -53,8 +54,9 @@ LoadsValue schema T name (Err input.ReadFault) v w = OnlyReads v w
 LoadsValue schema T name (Err input.Memory) v w = OnlyReads v w
 LoadsValue schema T name result v w = ((bytes : List ℕ) × HasFile v.files name bytes × DecodesWhole schema T bytes result) × OnlyReads v w
 
--- the value that the JSON of a file is
+-- the value that a file is the JSON of
 abbrev pub LoadsJson : Declared → Shape → List ℕ → Result Value JsonFault → View → View → Type 0
+LoadsJson schema T name (Ok value) v w = ((bytes : List ℕ) × HasFile v.files name bytes × IsJsonOf schema T bytes (view value)) × OnlyReads v w
+LoadsJson schema T name (Err (json.Refused cause)) v w = ((bytes : List ℕ) × HasFile v.files name bytes × JsonRefused schema T bytes cause) × OnlyReads v w
 LoadsJson schema T name (Err json.ReadFault) v w = OnlyReads v w
 LoadsJson schema T name (Err json.Memory) v w = OnlyReads v w
-LoadsJson schema T name result v w = ((bytes : List ℕ) × HasFile v.files name bytes × ReadsJson schema T bytes result) × OnlyReads v w

@@ -36,7 +36,16 @@ pub enum JsonCause {
     Misfit(Misfit),
 }
 
-/// Why no value is read.
+/// Why a text gives no value.
+#[derive(Debug, Drop, PartialEq, Eq, Error)]
+pub enum JsonTextFault {
+    #[error("{0}")]
+    Refused(JsonCause),
+    #[error("out of memory")]
+    Memory,
+}
+
+/// Why a file gives no value.
 #[derive(Debug, Drop, PartialEq, Eq, Error)]
 pub enum JsonFault {
     #[error("{0}")]
@@ -47,11 +56,41 @@ pub enum JsonFault {
     Memory,
 }
 
+impl From<serde_json::Error> for JsonTextFault {
+    ghost use Rattle.codec_commands.specs.Faults.{OfJsonError};
+
+    ghost from_gives = { OfJsonError };
+
+    fn from(error: serde_json::Error) -> JsonTextFault {
+        if error.is_memory() {
+            return JsonTextFault::Memory;
+        }
+        JsonTextFault::Refused(JsonCause::NoJson)
+    }
+}
+
+impl From<ReadFault> for JsonTextFault {
+    ghost use Rattle.std.specs.Prelude.{◌≡◌};
+    ghost use Rattle.codec_commands.specs.Faults.{of_reading};
+
+    ghost from_gives = { λ e fault. fault ≡ of_reading e };
+
+    fn from(fault: ReadFault) -> JsonTextFault {
+        match fault {
+            ReadFault::Form { path, cause } => {
+                JsonTextFault::Refused(JsonCause::Form { path, cause })
+            }
+            ReadFault::Misfit(misfit) => JsonTextFault::Refused(JsonCause::Misfit(misfit)),
+            ReadFault::Memory => JsonTextFault::Memory,
+        }
+    }
+}
+
 impl From<TextFault> for JsonFault {
     ghost use Rattle.std.specs.Prelude.{◌≡◌};
-    ghost use Rattle.codec_commands.specs.Faults.{of_json_text};
+    ghost use Rattle.codec_commands.specs.Faults.{of_json_file};
 
-    ghost from_gives = { λ e fault. fault ≡ of_json_text e };
+    ghost from_gives = { λ e fault. fault ≡ of_json_file e };
 
     fn from(fault: TextFault) -> JsonFault {
         match fault {
@@ -61,40 +100,31 @@ impl From<TextFault> for JsonFault {
     }
 }
 
-impl From<serde_json::Error> for JsonFault {
-    ghost use Rattle.codec_commands.specs.Faults.{OfJsonError};
-
-    ghost from_gives = { OfJsonError };
-
-    fn from(error: serde_json::Error) -> JsonFault {
-        if error.is_memory() {
-            return JsonFault::Memory;
-        }
-        JsonFault::Refused(JsonCause::NoJson)
-    }
-}
-
-impl From<ReadFault> for JsonFault {
+impl From<JsonTextFault> for JsonFault {
     ghost use Rattle.std.specs.Prelude.{◌≡◌};
-    ghost use Rattle.codec_commands.specs.Faults.{of_reading};
+    ghost use Rattle.codec_commands.specs.Faults.{of_json_text};
 
-    ghost from_gives = { λ e fault. fault ≡ of_reading e };
+    ghost from_gives = { λ e fault. fault ≡ of_json_text e };
 
-    fn from(fault: ReadFault) -> JsonFault {
+    fn from(fault: JsonTextFault) -> JsonFault {
         match fault {
-            ReadFault::Form { path, cause } => JsonFault::Refused(JsonCause::Form { path, cause }),
-            ReadFault::Misfit(misfit) => JsonFault::Refused(JsonCause::Misfit(misfit)),
-            ReadFault::Memory => JsonFault::Memory,
+            JsonTextFault::Refused(cause) => JsonFault::Refused(cause),
+            JsonTextFault::Memory => JsonFault::Memory,
         }
     }
 }
 
 // The value that a text of JSON is.
-fn value_of(alloc: Global, schema: &Schema, of: &TypeRef, text: &[u8]) -> Result<Value, JsonFault>
+fn value_of(
+    alloc: Global,
+    schema: &Schema,
+    of: &TypeRef,
+    text: &[u8],
+) -> Result<Value, JsonTextFault>
     ensures { ReadsJson schema.now (shape of.now) text.now result }
 {
     if text.len() > JSON_BYTES as usize {
-        return Err(JsonFault::Refused(JsonCause::TooLong));
+        return Err(JsonTextFault::Refused(JsonCause::TooLong));
     }
     let json = Json::from_slice(alloc, text)?;
     let value = read(alloc, schema, of, &json)?;

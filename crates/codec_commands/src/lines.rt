@@ -1,9 +1,9 @@
 //! The lines of refusals.
-ghost use Rattle.std.specs.Prelude.{◌≡◌, IfOk, string_bytes, codes};
+ghost use Rattle.std.specs.Prelude.{◌≡◌, ◌++◌, IfOk, OnOk, string_bytes, codes};
 ghost use Rattle.command_base.specs.Answer.{placed_line, unplaced_line};
 ghost use Rattle.command_base.specs.Jobs.{TellsAs};
 ghost use Rattle.codec_commands.specs.Faults.{schema_making};
-ghost use Rattle.codec_commands.specs.Lines.{cause_text, check_name, form_cause_name, form_name, form_text, input_line, json_line, misfit_cause_name, misfit_text, path_text, schema_line, text_line, type_cause_name, type_line};
+ghost use Rattle.codec_commands.specs.Lines.{cause_text, check_name, form_cause_name, form_name, form_text, input_line, json_line, misfit_cause_name, misfit_text, path_text, schema_line, steps_text, text_line, type_cause_name, type_line};
 
 use crate::causes::{SchemaCause, TextCause, TypeNameCause};
 use crate::json_input::JsonCause;
@@ -171,11 +171,19 @@ fn path_text(alloc: Global, path: &[u32]) -> Result<String, AllocError>
         return String::from_str(alloc, "-");
     };
     let mut text = format!(in alloc; "{first}")?;
-    for index in rest {
+    put_steps(alloc, rest, &mut text)?;
+    Ok(text)
+}
+
+// Appends these indices, each after a point.
+fn put_steps(alloc: Global, steps: &[u32], text: &mut String) -> Result<(), AllocError>
+    ensures { OnOk result (string_bytes text.new ≡ string_bytes text.old ++ steps_text steps.now) }
+{
+    for index in steps {
         let step = format!(in alloc; ".{index}")?;
         text.push_str(step.as_str())?;
     }
-    Ok(text)
+    Ok(())
 }
 
 // A fault of the form, and its path.
