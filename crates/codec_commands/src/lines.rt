@@ -13,7 +13,7 @@ use std::alloc::{AllocError, Global};
 use tl_combinators::Form;
 use tl_schema::{CheckCause, TypeCause};
 use tl_show::FormCause;
-use tl_types::{Cause, Misfit, MisfitCause};
+use tl_types::{Cause, MisfitCause};
 
 // A cause, and its values.
 fn cause_name(alloc: Global, cause: Cause) -> Result<String, AllocError>
@@ -196,11 +196,11 @@ fn form_text(alloc: Global, path: &[u32], cause: FormCause) -> Result<String, Al
 }
 
 // A misfit, and its path.
-fn misfit_text(alloc: Global, misfit: &Misfit) -> Result<String, AllocError>
-    ensures { IfOk result (λ s. string_bytes s ≡ misfit_text misfit.now.path.items misfit.now.cause) }
+fn misfit_text(alloc: Global, path: &[u32], cause: MisfitCause) -> Result<String, AllocError>
+    ensures { IfOk result (λ s. string_bytes s ≡ misfit_text path.now cause) }
 {
-    let path = path_text(alloc, &misfit.path)?;
-    let name = misfit_cause_name(misfit.cause);
+    let path = path_text(alloc, path)?;
+    let name = misfit_cause_name(cause);
     format!(in alloc; "Misfit {path} {name}")
 }
 
@@ -216,7 +216,7 @@ pub fn json_line(alloc: Global, cause: &JsonCause) -> Result<String, AllocError>
             unplaced_line(alloc, "input", why.as_str())
         }
         JsonCause::Misfit(misfit) => {
-            let why = misfit_text(alloc, misfit)?;
+            let why = misfit_text(alloc, &misfit.path, misfit.cause)?;
             unplaced_line(alloc, "input", why.as_str())
         }
     }
