@@ -12,6 +12,8 @@ mod hosts;
 #[cfg(test)]
 mod lanes;
 #[cfg(test)]
+mod misfits;
+#[cfg(test)]
 mod numbers;
 #[cfg(test)]
 mod packets;

@@ -13,15 +13,15 @@ use Rattle.tl_schema.specs.Closing.{closed}
 use Rattle.tl_schema.specs.Schemas.{Slot, Declaration}
 use Rattle.tl_types.specs.Values.{ValueView, int, long, nat, opaque, text, truth, absent, list, node, call, ValueViews, values_of}
 use Rattle.tl_types.specs.Seen.{view}
-use Rattle.tl_types.specs.Fitting.{misfit}
-use Rattle.tl_types.specs.declared.value.Value.{Value}
-use Rattle.tl_types.specs.declared.value.TheConstants.{MAX_LEVELS}
-use Rattle.tl_show.specs.declared.fault.ReadFault.{ReadFault}
-use Rattle.tl_show.specs.declared.fault.ReadFault.TheVariants as fault
 use Rattle.tl_types.specs.Parts.{arguments_of, fields_in, name_in}
+use Rattle.tl_types.specs.Fitting.{constructs, is_signed, misfit}
+use Rattle.tl_types.specs.declared.value.TheConstants.{MAX_LEVELS}
+use Rattle.tl_types.specs.declared.value.Value.{Value}
 use Rattle.tl_show.specs.Shown.{name_text}
 use Rattle.tl_show.specs.declared.fault.FormCause.{FormCause}
 use Rattle.tl_show.specs.declared.fault.FormCause.TheVariants.{WrongJson, NoSuchName, MissingField, ExtraField, OutOfRange}
+use Rattle.tl_show.specs.declared.fault.ReadFault.{ReadFault}
+use Rattle.tl_show.specs.declared.fault.ReadFault.TheVariants as fault
 
 -- ---- what is read, or the first fault
 
@@ -63,11 +63,6 @@ whole_in d = of_kind (option_and_then as_integer (as_number d))
 abbrev pub in_range : Bool → ValueView → Read ValueView
 in_range fits v = if fits then Ok v else refuses OutOfRange
 
--- one of so many numbers below 0, and as many from 0
-abbrev pub is_signed : ℕ → ℤ → Bool
-is_signed half (pos n) = nat_lt n half
-is_signed half (negsuc n) = nat_lt n half
-
 abbrev pub int_of : ℤ → Read ValueView
 int_of z = in_range (is_signed (2 ^ 31) z) (int z)
 
@@ -87,6 +82,10 @@ bytes_in (Err e) = refuses WrongJson
 -- the bytes of hexadecimal digits of either case
 abbrev pub bytes_of : List ℕ → Read (List ℕ)
 bytes_of digits = bytes_in (decode_of digits)
+
+-- the bytes of a text of such digits
+abbrev pub digits_of : Data → Read (List ℕ)
+digits_of d = of_kind (as_str d) >>= bytes_of
 
 abbrev pub opaque_of : ℕ → List ℕ → Read ValueView
 opaque_of k bytes = if length bytes == k then Ok (opaque bytes) else refuses WrongJson
@@ -115,9 +114,9 @@ abbrev pub plain : Shape → Data → Read ValueView
 plain type.int d = whole_in d >>= int_of
 plain type.long d = whole_in d >>= long_of
 plain type.nat d = whole_in d >>= nat_of
-plain (type.opaque k) d = of_kind (as_str d) >>= λ digits. bytes_of digits >>= opaque_of k
+plain (type.opaque k) d = digits_of d >>= opaque_of k
 plain str d = string_of d >>= λ s. Ok (text s)
-plain raw d = of_kind (as_str d) >>= λ digits. bytes_of digits >>= λ s. Ok (text s)
+plain raw d = digits_of d >>= λ s. Ok (text s)
 plain flag d = flag_of (as_bool d)
 plain T d = refuses WrongJson
 
@@ -141,10 +140,6 @@ of_array rs T = refuses WrongJson
 abbrev pub is_named : Bool → List ℕ → Declaration → Bool
 is_named true name d = d.function && bytes_eq name (name_text d.name)
 is_named false name d = not d.function && bytes_eq name (name_text d.name)
-
-abbrev pub constructs : ℕ → Option Declaration → Bool
-constructs h None = false
-constructs h (Some d) = d.head == h
 
 -- declaration i, if it constructs the type h
 abbrev pub of_type : List Declaration → ℕ → Option ℕ → Option ℕ
@@ -199,6 +194,13 @@ abbrev pub of_declaration : List Declaration → Shape → Members → Parts →
 of_declaration ds T ms ps None = refuses NoSuchName
 of_declaration ds T ms ps (Some i) = all_fields (arguments_of T) (fields_in (slice_get ds i)) ms ps >>= λ vs. Ok (record_value T i (values_of vs))
 
+-- the declaration that `_` names
+abbrev pub declaration_of : List Declaration → Shape → Members → Option ℕ
+declaration_of ds T ms = option_and_then (declaration_named ds T) (text_at (codes "_") ms)
+
+abbrev pub of_record : List Declaration → Members → Parts → Reader
+of_record ds ms ps T = of_declaration ds T ms ps (declaration_of ds T ms)
+
 -- the type is of records or calls
 abbrev pub is_record : Shape → Bool
 is_record (boxed h args) = true
@@ -207,10 +209,7 @@ is_record type.call = true
 is_record T = false
 
 abbrev pub of_object : List Declaration → Members → Parts → Reader
-of_object ds ms ps T =
-    if is_record T
-    then of_declaration ds T ms ps (option_and_then (declaration_named ds T) (text_at (codes "_") ms))
-    else plain T (object ms)
+of_object ds ms ps T = if is_record T then of_record ds ms ps T else plain T (object ms)
 
 -- ---- values
 
@@ -238,9 +237,9 @@ read ds T d = reader ds d T
 
 -- ---- answers
 
--- The value that is read, which fits; or the first fault; or the first misfit of what is read. Out of memory is free.
+-- what is answered is what is read, and its misfit, if there is one; out of memory is free
 abbrev pub TellsRead : List Declaration → Shape → Data → Result Value ReadFault → Type 0
-TellsRead ds T d (Ok value) = (read ds T d ≡ Ok (view value)) × (misfit ds MAX_LEVELS None T (view value) ≡ None)
+TellsRead ds T d (Ok v) = (read ds T d ≡ Ok (view v)) × (misfit ds MAX_LEVELS None T (view v) ≡ None)
 TellsRead ds T d (Err (fault.Form path cause)) = read ds T d ≡ Err (path.items, cause)
-TellsRead ds T d (Err (fault.Misfit told)) = (v : ValueView) × (read ds T d ≡ Ok v) × (misfit ds MAX_LEVELS None T v ≡ Some (told.path.items, told.cause))
+TellsRead ds T d (Err (fault.Misfit m)) = (v : ValueView) × (read ds T d ≡ Ok v) × (misfit ds MAX_LEVELS None T v ≡ Some (m.path.items, m.cause))
 TellsRead ds T d (Err fault.Memory) = Unit {0}

@@ -1,4 +1,7 @@
 -- What private clauses alone cite.
 pub mod FormViews
 pub mod Forms
+pub mod FormTells
+pub mod Keyed
 pub mod Lines
+pub mod ReadFaults

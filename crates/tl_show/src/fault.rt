@@ -1,6 +1,13 @@
 //! Why no value is read from JSON.
+ghost use Rattle.std.specs.Prelude.{◌≡◌};
+ghost use Rattle.tl_types.specs.Values.{ValueView};
+ghost use Rattle.tl_types.specs.Seen.{view};
+ghost use Rattle.tl_show.specs.Reading.{Read, inside, told};
+ghost use Rattle.tl_show.specs.inner.FormTells.{IsHere, Tells};
+
+use std::alloc::{AllocError, AllocFailed, Global};
 use thiserror::Error;
-use tl_types::Misfit;
+use tl_types::{FitFault, Misfit, Value};
 
 /// Why JSON isn't of the form of a type's values, its parts aside.
 #[derive(Clone, Copy, Debug, PartialEq, Eq, Error)]
@@ -25,12 +32,99 @@ pub enum FormCause {
 /// Why no value is read from JSON.
 #[derive(Debug, Drop, PartialEq, Eq, Error)]
 pub enum ReadFault {
-    /// The JSON isn't of the form; the way to the part, the outermost step first.
+    /// The JSON isn't of the form of the type's values, for this cause at this part. The path is the way to the part, the outermost step first: a field
+    /// by its index in the declaration, an element by its index in the list.
     #[error("{cause}")]
     Form { path: Vec<u32>, cause: FormCause },
-    /// What is read doesn't fit the type.
+    /// The JSON is of the form, and its value doesn't fit the type.
     #[error("a misfit: {}", .0.cause)]
     Misfit(Misfit),
+    /// There was no memory for the value, for the keys of the schema's records, for the types of parts, or for the path.
     #[error("out of memory")]
     Memory,
+}
+
+// Why JSON isn't of a form, and where.
+#[derive(Debug, Drop)]
+pub enum FormFault {
+    Form { path: Vec<u32>, cause: FormCause },
+    Memory,
+}
+
+impl From<AllocError> for FormFault {
+    ghost use Rattle.std.specs.Prelude.{◌≡◌};
+    ghost use Rattle.tl_show.specs.declared.fault.FormFault.TheVariants.{Memory};
+
+    ghost from_gives = { λ _ e. e ≡ Memory };
+
+    fn from(_e: AllocError) -> FormFault {
+        FormFault::Memory
+    }
+}
+
+impl<T: Drop> From<AllocFailed<T>> for FormFault {
+    ghost use Rattle.std.specs.Prelude.{◌≡◌};
+    ghost use Rattle.tl_show.specs.declared.fault.FormFault.TheVariants.{Memory};
+
+    ghost from_gives = { λ _ e. e ≡ Memory };
+
+    fn from(_e: AllocFailed<T>) -> FormFault {
+        FormFault::Memory
+    }
+}
+
+impl From<FormFault> for ReadFault {
+    ghost use Rattle.std.specs.Prelude.{◌≡◌};
+    ghost use Rattle.tl_show.specs.inner.ReadFaults.{of_form};
+
+    ghost from_gives = { λ f e. e ≡ of_form f };
+
+    fn from(fault: FormFault) -> ReadFault {
+        match fault {
+            FormFault::Form { path, cause } => ReadFault::Form { path, cause },
+            FormFault::Memory => ReadFault::Memory,
+        }
+    }
+}
+
+impl From<FitFault> for ReadFault {
+    ghost use Rattle.std.specs.Prelude.{◌≡◌};
+    ghost use Rattle.tl_show.specs.inner.ReadFaults.{of_fit};
+
+    ghost from_gives = { λ f e. e ≡ of_fit f };
+
+    fn from(fault: FitFault) -> ReadFault {
+        match fault {
+            FitFault::Misfit(misfit) => ReadFault::Misfit(misfit),
+            FitFault::Memory => ReadFault::Memory,
+        }
+    }
+}
+
+/// A fault that lies in no part.
+pub fn refused(alloc: Global, cause: FormCause) -> FormFault
+    ensures { IsHere cause result }
+{
+    let path = Vec::new(alloc);
+    FormFault::Form { path, cause }
+}
+
+/// What is read of the part at this index, as it is read of the whole.
+pub fn at_part(index: usize, part: Result<Value, FormFault>) -> Result<Value, FormFault>
+    ensures { (r : Read ValueView) → Tells view r part → Tells view (inside index r) result }
+{
+    match part {
+        Err(FormFault::Form { mut path, cause }) => {
+            path.insert(0, told(index))?;
+            Err(FormFault::Form { path, cause })
+        }
+        part => part,
+    }
+}
+
+// An index as a path has it.
+fn told(index: usize) -> u32
+    ensures { result ≡ told index }
+{
+    index.min(u32::MAX as usize) as u32
 }

@@ -1,11 +1,15 @@
-//! Values as JSON.
+//! Values as JSON, and JSON as values.
 #![tactic(auto)]
 
 mod fault;
 mod forms;
+mod keyed;
+mod keying;
 mod line;
 mod parts;
+mod plain;
 mod reading;
+mod records;
 mod texts;
 mod tree;
 mod writing;

@@ -7,7 +7,6 @@ ghost use Rattle.tl_types.specs.Seen.{view, views};
 ghost use Rattle.tl_show.specs.inner.Forms.{members_of, part_of, read_at, record_by, unless_missing, written, written_each};
 ghost use Rattle.tl_show.specs.inner.FormViews.{form_view, entry_view, entry_views};
 ghost use Rattle.tl_show.specs.inner.Lines.{WritesData, WritesMember, WritesMembers};
-ghost use Rattle.tl_types.specs.Parts.{is_absent};
 
 use crate::forms::{Form, Part};
 use crate::texts::{write_hex, write_text};
@@ -143,7 +142,7 @@ fn write_field(
     forms: &[Form<'_>],
     out: &mut Writer,
 ) -> Result<(), AllocError>
-    ensures { let v = view value.now in WritesMember result out.old out.new key.now (unless_missing (is_absent v) (written (map form_view forms.now) (closed (map shape args.now) (shape of.now)) v)) }
+    ensures { let v = view value.now in WritesMember result out.old out.new key.now (unless_missing (part.is_absent v) (written (map form_view forms.now) (closed (map shape args.now) (shape of.now)) v)) }
 {
     if is_absent(value) {
         return Ok(());

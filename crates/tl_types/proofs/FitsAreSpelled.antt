@@ -146,7 +146,8 @@ module _ (schema : Declared) (tell : PartsTell schema) where
       (word d.number ++ r.0, (d, r.0, e, function, refl, r.1), omega (arith, r.2))
 
   -- a field's value, by what is known of it where it is there
-  field_spelled : (cond : Option (ℕ × ℕ)) (before : List ValueView) (n : ℕ) (T : Shape) (v : ValueView) → misfit schema.decls n (bit_of cond before) T v ≡ None → (misfit schema.decls n None T v ≡ None → IsSpelled n T v)
+  field_spelled : (cond : Option (ℕ × ℕ)) (before : List ValueView) (n : ℕ) (T : Shape) (v : ValueView) → misfit schema.decls n (bit_of cond before) T v ≡ None
+      → (misfit schema.decls n None T v ≡ None → IsSpelled n T v)
       → (x : List ℕ) × (((stands_by cond before ≡ true) × Spells schema T v x) ⊎ ((stands_by cond before ≡ false) × (v ≡ view.absent) × (x ≡ []))) × (depth v ≤ n)
   field_spelled None before n T v none spelled = let r = spelled none in (r.0, inl (refl, r.1), r.2)
   field_spelled (Some c) before n T v none spelled =

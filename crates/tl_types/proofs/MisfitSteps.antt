@@ -33,7 +33,8 @@ few_items ds n bit T v items is none =
     let few = few_elements ds n bit T (views items.items) (sym (ap (node_misfit ds n bit T) (ap view is ∙ view-List items)) ∙ none) in
     omega (arith, few, counted items.items)
 
-module _ (ds : List Declaration) (n : ℕ) (T : Shape) (vs : List Value) (v : Value) (i : ℕ) (within : i < length vs) (at : v ≡ get_or vs i v) (before : each_misfit ds n T 0 (views vs) ≡ each_misfit ds n T i (views (drop i vs))) where
+module _ (ds : List Declaration) (n : ℕ) (T : Shape) (vs : List Value) (v : Value) (i : ℕ)
+    (within : i < length vs) (at : v ≡ get_or vs i v) (before : each_misfit ds n T 0 (views vs) ≡ each_misfit ds n T i (views (drop i vs))) where
   own_misfit : Option MisfitView
   own_misfit = inside i (misfit ds n None T (view v))
 
@@ -51,8 +52,10 @@ module _ (ds : List Declaration) (n : ℕ) (T : Shape) (vs : List Value) (v : Va
 
 -- ---- fields
 
-module _ (ds : List Declaration) (n : ℕ) (bit : Bit) (args : List Shape) (fs : List SchemaField) (vs : List Value) (f : SchemaField) (v : Value) (i : ℕ) (within : i < length vs) (at : v ≡ get_or vs i v) (declared : i < length fs) (there : f ≡ get_or fs i f)
-    (stands : bit ≡ bit_of f.cond (map view (take i vs))) (before : field_misfit ds n args [] 0 (map slot fs) (views vs) ≡ field_misfit ds n args (map view (take i vs)) i (map slot (drop i fs)) (views (drop i vs))) where
+module _ (ds : List Declaration) (n : ℕ) (bit : Bit) (args : List Shape) (fs : List SchemaField) (vs : List Value) (f : SchemaField) (v : Value) (i : ℕ)
+    (within : i < length vs) (at : v ≡ get_or vs i v) (declared : i < length fs) (there : f ≡ get_or fs i f)
+    (stands : bit ≡ bit_of f.cond (map view (take i vs)))
+    (before : field_misfit ds n args [] 0 (map slot fs) (views vs) ≡ field_misfit ds n args (map view (take i vs)) i (map slot (drop i fs)) (views (drop i vs))) where
   field_own : Option MisfitView
   field_own = inside i (misfit ds n bit (closed args (shape f.of)) (view v))
 

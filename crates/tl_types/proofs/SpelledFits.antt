@@ -19,14 +19,14 @@ use Rattle.tl_types.proofs.SignedRanges.{word_int, double_word_long}
 module _ (schema : Declared) where
   -- ---- one value
 
-  plain_fits : (n : ℕ) (T : Shape) (v : ValueView) → is_kind T v ≡ true → has_constructor schema.decls T v ≡ true → has_count schema.decls T v ≡ true → is_in_range v ≡ true → is_deep_value v ≡ false → parts_misfit schema.decls n T v ≡ None
-      → misfit schema.decls n None T v ≡ None
+  plain_fits : (n : ℕ) (T : Shape) (v : ValueView) → is_kind T v ≡ true → has_constructor schema.decls T v ≡ true → has_count schema.decls T v ≡ true → is_in_range v ≡ true
+      → is_deep_value v ≡ false → parts_misfit schema.decls n T v ≡ None → misfit schema.decls n None T v ≡ None
   plain_fits n T v kind constructor count range flat parts =
       no_misfit schema.decls n None T v
       (record { own = record { kind = with_kind T v kind; constructor = constructor; count = count; flag = refl; range = range; level = shallow n v flat }; parts = parts })
 
-  deep_fits : (n : ℕ) (T : Shape) (v : ValueView) → is_kind T v ≡ true → has_constructor schema.decls T v ≡ true → has_count schema.decls T v ≡ true → is_in_range v ≡ true → parts_misfit schema.decls (suc n) T v ≡ None
-      → misfit schema.decls (suc n) None T v ≡ None
+  deep_fits : (n : ℕ) (T : Shape) (v : ValueView) → is_kind T v ≡ true → has_constructor schema.decls T v ≡ true → has_count schema.decls T v ≡ true → is_in_range v ≡ true
+      → parts_misfit schema.decls (suc n) T v ≡ None → misfit schema.decls (suc n) None T v ≡ None
   deep_fits n T v kind constructor count range parts =
       no_misfit schema.decls (suc n) None T v
       (record { own = record { kind = with_kind T v kind; constructor = constructor; count = count; flag = refl; range = range; level = refl }; parts = parts })
@@ -70,12 +70,14 @@ module _ (schema : Declared) where
 
   -- ---- a field
 
-  set_field : (cond : Option (ℕ × ℕ)) (before : List ValueView) (n : ℕ) (T : Shape) (v : ValueView) → stands_by cond before ≡ true → misfit schema.decls n None T v ≡ None → misfit schema.decls n (bit_of cond before) T v ≡ None
+  set_field : (cond : Option (ℕ × ℕ)) (before : List ValueView) (n : ℕ) (T : Shape) (v : ValueView) → stands_by cond before ≡ true → misfit schema.decls n None T v ≡ None
+      → misfit schema.decls n (bit_of cond before) T v ≡ None
   set_field None before n T v set fits = fits
   set_field (Some c) before n T v set fits =
       ap (λ (b : Bool). misfit schema.decls n (Some b) T v) set ∙ no_misfit schema.decls n (Some true) T v (set_fits schema.decls n T v (fits_of schema.decls n None T v fits))
 
-  clear_field : (cond : Option (ℕ × ℕ)) (before : List ValueView) (n : ℕ) (T : Shape) (v : ValueView) → stands_by cond before ≡ false → v ≡ view.absent → misfit schema.decls n (bit_of cond before) T v ≡ None
+  clear_field : (cond : Option (ℕ × ℕ)) (before : List ValueView) (n : ℕ) (T : Shape) (v : ValueView) → stands_by cond before ≡ false → v ≡ view.absent
+      → misfit schema.decls n (bit_of cond before) T v ≡ None
   clear_field None before n T v clear gone = absurd (true≢false clear)
   clear_field (Some c) before n T v clear gone =
       ap₂ (λ (b : Bool) (w : ValueView). misfit schema.decls n (Some b) T w) clear gone ∙ no_misfit schema.decls n (Some false) T view.absent (clear_fits schema.decls n T)
@@ -121,7 +123,8 @@ module _ (schema : Declared) where
     each_fits (value v vs) T n b i s deep =
         both_none _ _ (ap (inside i) (spelled_fits v T n s.0 s.3 (omega arith))) (each_fits vs T n s.1 (suc i) s.4 (omega arith))
 
-    fields_fit : (vs : ValueViews) (args : List Shape) (before : List ValueView) (fs : List Slot) (n i : ℕ) (b : List ℕ) → SpellFields schema args before fs vs b → depth_of vs ≤ n → field_misfit schema.decls n args before i fs vs ≡ None
+    fields_fit : (vs : ValueViews) (args : List Shape) (before : List ValueView) (fs : List Slot) (n i : ℕ) (b : List ℕ) → SpellFields schema args before fs vs b → depth_of vs ≤ n
+        → field_misfit schema.decls n args before i fs vs ≡ None
     fields_fit no_values args before fs n i b s deep = refl
     fields_fit (value v vs) args before [] n i b s deep = absurd s
     fields_fit (value v vs) args before (f ∷ fs) n i b (x, y, is, inl (set, spells), more) deep =

@@ -38,8 +38,9 @@ fields_fit-returns-in_err-at_part t c =
     let f = c.in-Some.field.now in
     let v = c.index-values-i.result in
     let there = c.in-Some.ensures.lookup in
-    let h = c.in_err-at_part.ensures (misfit ds c.args.levels c.bit_of-bit.result (closed args (shape f.of)) (view v)) c.field_fits-told.ensures in
-    rw (p.1, p.2) (field_fault ds c.args.levels c.bit_of-bit.result args c.args.slots.now c.args.values.now f v c.loop-i.i c.loop-i-test.true c.index-values-i.is there.3.0 there.1 c.bit_of-bit.ensures c.loop-i.invariant _ h)
+    let bit = c.bit_of-bit.result in
+    let h = c.in_err-at_part.ensures (misfit ds c.args.levels bit (closed args (shape f.of)) (view v)) c.field_fits-told.ensures in
+    rw (p.1, p.2) (field_fault ds c.args.levels bit args c.args.slots.now c.args.values.now f v c.loop-i.i c.loop-i-test.true c.index-values-i.is there.3.0 there.1 c.bit_of-bit.ensures c.loop-i.invariant _ h)
 
 pub fields_fit-loop-i-preserved : goal.fields_fit-loop-i-preserved
 fields_fit-loop-i-preserved t c =
@@ -48,5 +49,6 @@ fields_fit-loop-i-preserved t c =
     let f = c.in-Some.field.now in
     let v = c.index-values-i.result in
     let there = c.in-Some.ensures.lookup in
-    let h = c.in_ok-at_part.ensures (misfit ds c.args.levels c.bit_of-bit.result (closed args (shape f.of)) (view v)) c.field_fits-told.ensures in
-    field_more ds c.args.levels c.bit_of-bit.result args c.args.slots.now c.args.values.now f v c.loop-i.i c.loop-i-test.true c.index-values-i.is there.3.0 there.1 c.bit_of-bit.ensures c.loop-i.invariant h
+    let bit = c.bit_of-bit.result in
+    let h = c.in_ok-at_part.ensures (misfit ds c.args.levels bit (closed args (shape f.of)) (view v)) c.field_fits-told.ensures in
+    field_more ds c.args.levels bit args c.args.slots.now c.args.values.now f v c.loop-i.i c.loop-i-test.true c.index-values-i.is there.3.0 there.1 c.bit_of-bit.ensures c.loop-i.invariant h

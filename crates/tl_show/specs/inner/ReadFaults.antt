@@ -1,0 +1,15 @@
+-- Faults of reading, made of those of its two halves. This project's own.
+use Rattle.tl_types.specs.declared.misfit.FitFault.{FitFault}
+use Rattle.tl_types.specs.declared.misfit.FitFault.TheVariants as fit
+use Rattle.tl_show.specs.declared.fault.FormFault.{FormFault}
+use Rattle.tl_show.specs.declared.fault.FormFault.TheVariants as form
+use Rattle.tl_show.specs.declared.fault.ReadFault.{ReadFault}
+use Rattle.tl_show.specs.declared.fault.ReadFault.TheVariants as fault
+
+abbrev pub of_form : FormFault → ReadFault
+of_form (form.Form path cause) = fault.Form path cause
+of_form form.Memory = fault.Memory
+
+abbrev pub of_fit : FitFault → ReadFault
+of_fit (fit.Misfit m) = fault.Misfit m
+of_fit fit.Memory = fault.Memory
