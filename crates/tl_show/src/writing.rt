@@ -3,6 +3,7 @@ ghost use Rattle.std.specs.Prelude.{[], codes, map, string_bytes};
 ghost use Rattle.serde_json.specs.Data.{array, member, no_members, string};
 ghost use Rattle.tl_schema.specs.Closing.{closed};
 ghost use Rattle.tl_schema.specs.Seen.{shape};
+ghost use Rattle.tl_types.specs.Parts as part;
 ghost use Rattle.tl_types.specs.Seen.{view, views};
 ghost use Rattle.tl_show.specs.inner.Forms.{members_of, part_of, read_at, record_by, unless_missing, written, written_each};
 ghost use Rattle.tl_show.specs.inner.FormViews.{form_view, entry_view, entry_views};
