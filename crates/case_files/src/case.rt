@@ -2,7 +2,7 @@
 use crate::ending::{Ending, put_line};
 use crate::fault::CaseFault;
 use crate::setting::Setting;
-use crate::words::{cut_word, number_of, words_of};
+use crate::words::{bytes_of, cut_word, number_of, words_of};
 use std::alloc::{AllocError, Global};
 use tl_base::MemHost;
 
@@ -59,6 +59,10 @@ impl Case {
             "output" => Ok(put_line(&mut self.wanted.output, rest)?),
             "errors" => Ok(put_line(&mut self.wanted.errors, rest)?),
             "output-text" => Ok(self.wanted.output.extend_from_slice(rest.as_bytes())?),
+            "output-hex" => {
+                let bytes = bytes_of(self.alloc, rest)?;
+                Ok(self.wanted.output.extend_from_slice(&bytes)?)
+            }
             "front" => {
                 self.wanted.keep_front(number_of(rest)? as usize);
                 Ok(())

@@ -182,7 +182,9 @@ impl Reader {
             "run" => self.run(number, rest),
             "same" => self.want_as_before(),
             "same-as-first" => self.want_as_first(),
-            "status" | "output" | "output-text" | "errors" | "front" => self.want(word, rest),
+            "status" | "output" | "output-text" | "output-hex" | "errors" | "front" => {
+                self.want(word, rest)
+            }
             _ => Err(CaseFault::NoWord),
         }
     }

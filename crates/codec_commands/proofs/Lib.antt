@@ -2,7 +2,10 @@ pub mod FormedWords
 pub mod OneSpelling
 pub mod WholeInput
 pub mod Loading
+pub mod JsonInputs
+pub mod OneTyped
 pub mod OneDecode
+pub mod OneEncode
 pub mod OneFault
 pub mod OneText
 pub mod OneSchemaText
@@ -11,5 +14,7 @@ pub mod OneCheck
 pub mod EachAnswer
 pub mod ListedLines
 pub mod TypeWords
+pub mod TypedLines
 pub mod DecodedLines
+pub mod EncodedValues
 pub mod Listings

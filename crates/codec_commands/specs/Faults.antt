@@ -1,5 +1,5 @@
 -- The fault that a fault of a part makes, and what is made of it. This project's own.
-use Rattle.std.specs.Prelude.{ℕ, List, Option, Some, None, Result, Ok, Err, Vec, codes}
+use Rattle.std.specs.Prelude.{◌≡◌, ◌⊎◌, ℕ, List, Option, Some, None, Result, Ok, Err, Vec, codes}
 use Rattle.std.specs.declared.alloc.Global.{Global}
 use Rattle.tl_base.specs.declared.source.TextFault.{TextFault}
 use Rattle.tl_base.specs.declared.source.TextFault.TheVariants as text
@@ -11,6 +11,10 @@ use Rattle.tl_schema.specs.declared.fault.CheckFault.{CheckFault}
 use Rattle.tl_schema.specs.declared.fault.CheckFault.TheVariants as check
 use Rattle.tl_schema.specs.declared.fault.TypeFault.{TypeFault}
 use Rattle.tl_schema.specs.declared.fault.TypeFault.TheVariants as type
+use Rattle.serde_json.specs.declared.error.Error.{Error}
+use Rattle.serde_json.specs.Errors.{IsMemory}
+use Rattle.tl_show.specs.declared.fault.ReadFault.{ReadFault as ReadingFault}
+use Rattle.tl_show.specs.declared.fault.ReadFault.TheVariants as reading
 use Rattle.command_base.specs.Jobs.{Making, made, refused_by, unread, no_memory}
 use Rattle.codec_commands.specs.declared.causes.TextCause.{TextCause}
 use Rattle.codec_commands.specs.declared.causes.TextCause.TheVariants.{TextTooLong, BadByte, OpenComment, Unexpected, NotProfile, TooMany}
@@ -24,11 +28,16 @@ use Rattle.codec_commands.specs.declared.type_word.TypeWordFault.{TypeWordFault}
 use Rattle.codec_commands.specs.declared.type_word.TypeWordFault.TheVariants as word
 use Rattle.codec_commands.specs.declared.whole.InputFault.{InputFault}
 use Rattle.codec_commands.specs.declared.whole.InputFault.TheVariants as input
-use Rattle.codec_commands.specs.declared.decode.Refusal.{Refusal}
-use Rattle.codec_commands.specs.declared.decode.Refusal.TheVariants.{Schema, TypeName, Input, Trailing}
-use Rattle.codec_commands.specs.declared.decode.LineFault.{LineFault}
-use Rattle.codec_commands.specs.declared.decode.LineFault.TheVariants.{Refused, ReadFault, Memory}
-use Rattle.codec_commands.specs.Lines.{schema_line, type_line, input_line, cause_text}
+use Rattle.codec_commands.specs.declared.json_input.JsonCause.TheVariants as why
+use Rattle.codec_commands.specs.declared.json_input.JsonTextFault.{JsonTextFault}
+use Rattle.codec_commands.specs.declared.json_input.JsonTextFault.TheVariants as json_text
+use Rattle.codec_commands.specs.declared.json_input.JsonFault.{JsonFault}
+use Rattle.codec_commands.specs.declared.json_input.JsonFault.TheVariants as json
+use Rattle.codec_commands.specs.declared.refusal.Refusal.{Refusal}
+use Rattle.codec_commands.specs.declared.refusal.Refusal.TheVariants.{Schema, TypeName, Input, Trailing, Json}
+use Rattle.codec_commands.specs.declared.refusal.CodecFault.{CodecFault}
+use Rattle.codec_commands.specs.declared.refusal.CodecFault.TheVariants.{Refused, ReadFault, Memory}
+use Rattle.codec_commands.specs.Lines.{schema_line, type_line, input_line, cause_text, json_line}
 
 -- ---- texts
 
@@ -88,35 +97,60 @@ of_type (type.Syntax fault) = of_type_text (syntax_cause fault)
 of_type (type.Refused c) = word.Refused (name.Checked c)
 of_type type.Memory = word.Memory
 
--- ---- lines of values
+-- ---- inputs of JSON
 
-abbrev pub of_no_schema : SchemaFault → LineFault
+-- a text that is refused is no JSON, unless memory was out
+abbrev pub OfJsonError : Error → JsonTextFault → Type 0
+OfJsonError e fault = (IsMemory e × (fault ≡ json_text.Memory)) ⊎ ((IsMemory e → ⊥) × (fault ≡ json_text.Refused why.NoJson))
+
+abbrev pub of_reading : ReadingFault → JsonTextFault
+of_reading (reading.Form path c) = json_text.Refused (why.Form path c)
+of_reading (reading.Misfit told) = json_text.Refused (why.Misfit told)
+of_reading reading.Memory = json_text.Memory
+
+abbrev pub of_json_file : TextFault → JsonFault
+of_json_file text.ReadFault = json.ReadFault
+of_json_file text.Memory = json.Memory
+
+abbrev pub of_json_text : JsonTextFault → JsonFault
+of_json_text (json_text.Refused c) = json.Refused c
+of_json_text json_text.Memory = json.Memory
+
+-- ---- what `decode` and `encode` write
+
+abbrev pub of_no_schema : SchemaFault → CodecFault
 of_no_schema (schema.Refused c) = Refused (Schema c)
 of_no_schema schema.ReadFault = ReadFault
 of_no_schema schema.Memory = Memory
 
-abbrev pub of_no_type : TypeWordFault → LineFault
+abbrev pub of_no_type : TypeWordFault → CodecFault
 of_no_type (word.Refused c) = Refused (TypeName c)
 of_no_type word.Memory = Memory
 
-abbrev pub of_input : InputFault → LineFault
+abbrev pub of_input : InputFault → CodecFault
 of_input (input.Refused place c) = Refused (Input place c)
 of_input (input.Trailing place) = Refused (Trailing place)
 of_input input.ReadFault = ReadFault
 of_input input.Memory = Memory
+
+abbrev pub of_json : JsonFault → CodecFault
+of_json (json.Refused c) = Refused (Json c)
+of_json json.ReadFault = ReadFault
+of_json json.Memory = Memory
 
 abbrev pub refusal_line : Refusal → List ℕ
 refusal_line (Schema c) = schema_line c
 refusal_line (TypeName c) = type_line c
 refusal_line (Input place c) = input_line place (cause_text c)
 refusal_line (Trailing place) = input_line place (codes "Trailing")
+refusal_line (Json c) = json_line c
 
--- what `decode` makes of it
-abbrev pub line_making : LineFault → Making
-line_making (Refused refusal) = refused_by (refusal_line refusal)
-line_making ReadFault = unread
-line_making Memory = no_memory
+-- what the commands make of it
+abbrev pub codec_making : CodecFault → Making
+codec_making (Refused refusal) = refused_by (refusal_line refusal)
+codec_making ReadFault = unread
+codec_making Memory = no_memory
 
-abbrev pub of_line : Result (Vec ℕ Global) LineFault → Making
-of_line (Ok line) = made line.items
-of_line (Err fault) = line_making fault
+abbrev pub of_codec : Result (Vec ℕ Global) CodecFault → Making
+of_codec (Ok bytes) = made bytes.items
+of_codec (Err fault) = codec_making fault

@@ -1,5 +1,5 @@
--- The line of a value, and the lines of what `check` and `decode` refuse. This project's own.
-use Rattle.std.specs.Prelude.{ℕ, List, [], ◌∷◌, ◌++◌, codes, decimal}
+-- The line of a value, and the lines of what the commands refuse. This project's own.
+use Rattle.std.specs.Prelude.{ℕ, List, [], ◌∷◌, ◌++◌, codes, decimal, flat_map}
 use Rattle.std.specs.Int.{w32, to_be_bytes}
 use Rattle.hex.specs.Hex.{encode_lower}
 use Rattle.serde_json.specs.Written.{compact_text}
@@ -8,7 +8,11 @@ use Rattle.tl_schema.specs.Schemas.{Declaration}
 use Rattle.tl_types.specs.Values.{ValueView}
 use Rattle.tl_types.specs.declared.cause.Cause.{Cause}
 use Rattle.tl_types.specs.declared.cause.Cause.TheVariants.{TooDeep, Truncated, Packed, UnknownNumber, BadCount, LongString, LooseString, BadPadding}
+use Rattle.tl_types.specs.declared.misfit.MisfitCause.{MisfitCause}
+use Rattle.tl_types.specs.declared.misfit.MisfitCause.TheVariants as misfit
 use Rattle.tl_show.specs.Shown.{shown}
+use Rattle.tl_show.specs.declared.fault.FormCause.{FormCause}
+use Rattle.tl_show.specs.declared.fault.FormCause.TheVariants as form_cause
 use Rattle.tl_schema.specs.declared.fault.CheckCause.{CheckCause}
 use Rattle.tl_schema.specs.declared.fault.CheckCause.TheVariants as check
 use Rattle.tl_combinators.specs.declared.fault.Form.{Form}
@@ -22,6 +26,8 @@ use Rattle.codec_commands.specs.declared.causes.SchemaCause.{SchemaCause}
 use Rattle.codec_commands.specs.declared.causes.SchemaCause.TheVariants as schema
 use Rattle.codec_commands.specs.declared.causes.TypeNameCause.{TypeNameCause}
 use Rattle.codec_commands.specs.declared.causes.TypeNameCause.TheVariants as name
+use Rattle.codec_commands.specs.declared.json_input.JsonCause.{JsonCause}
+use Rattle.codec_commands.specs.declared.json_input.JsonCause.TheVariants as json
 
 -- a value of a type: its JSON, and a line feed
 abbrev pub line_text : List Declaration → Shape → ValueView → List ℕ
@@ -89,3 +95,45 @@ cause_text BadPadding = codes "BadPadding"
 -- a refusal of the input
 abbrev pub input_line : ℕ → List ℕ → List ℕ
 input_line place why = placed_line (codes "input") place why
+
+-- ---- inputs of JSON
+
+abbrev pub form_cause_name : FormCause → List ℕ
+form_cause_name form_cause.WrongJson = codes "WrongJson"
+form_cause_name form_cause.NoSuchName = codes "NoSuchName"
+form_cause_name form_cause.MissingField = codes "MissingField"
+form_cause_name form_cause.ExtraField = codes "ExtraField"
+form_cause_name form_cause.OutOfRange = codes "OutOfRange"
+
+abbrev pub misfit_cause_name : MisfitCause → List ℕ
+misfit_cause_name misfit.WrongKind = codes "WrongKind"
+misfit_cause_name misfit.WrongConstructor = codes "WrongConstructor"
+misfit_cause_name misfit.WrongCount = codes "WrongCount"
+misfit_cause_name misfit.FlagMismatch = codes "FlagMismatch"
+misfit_cause_name misfit.OutOfRange = codes "OutOfRange"
+misfit_cause_name misfit.TooDeep = codes "TooDeep"
+
+-- these indices, each after a point
+abbrev pub steps_text : List ℕ → List ℕ
+steps_text is = flat_map (λ i. codes "." ++ decimal i) is
+
+-- the indices of a path with a point between each two, or `-` where there is none
+abbrev pub path_text : List ℕ → List ℕ
+path_text [] = codes "-"
+path_text (i ∷ is) = decimal i ++ steps_text is
+
+abbrev pub form_text : List ℕ → FormCause → List ℕ
+form_text path cause = (form_cause_name cause ++ codes " ") ++ path_text path
+
+abbrev pub misfit_text : List ℕ → MisfitCause → List ℕ
+misfit_text path cause = ((codes "Misfit " ++ path_text path) ++ codes " ") ++ misfit_cause_name cause
+
+-- a refusal of the input that has no offset
+abbrev pub whole_input_line : List ℕ → List ℕ
+whole_input_line why = unplaced_line (codes "input") why
+
+abbrev pub json_line : JsonCause → List ℕ
+json_line json.TooLong = whole_input_line (codes "TooLong")
+json_line json.NoJson = whole_input_line (codes "Json")
+json_line (json.Form path cause) = whole_input_line (form_text path.items cause)
+json_line (json.Misfit told) = whole_input_line (misfit_text told.path.items told.cause)

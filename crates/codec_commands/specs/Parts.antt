@@ -1,4 +1,4 @@
--- What the parts of `check` and `decode` answer, and what they do to the outside. This project's own.
+-- What the parts of the commands answer, and what they do to the outside. This project's own.
 use Rattle.std.specs.Prelude.{ℕ, List, Result, Ok, Err}
 use Rattle.tl_base.specs.Outside.{View, HasFile, left_of}
 use Rattle.tl_base.specs.Hosted.{OnlySlot}
@@ -8,9 +8,13 @@ use Rattle.tl_schema.specs.Schemas.{Declared}
 use Rattle.tl_schema.specs.AskedTypes.{IsTypeText}
 use Rattle.tl_schema.specs.Seen.{shape}
 use Rattle.tl_schema.specs.declared.schema.TypeRef.{TypeRef}
+use Rattle.tl_types.specs.Seen.{view}
 use Rattle.tl_types.specs.declared.value.Value.{Value}
 use Rattle.command_base.specs.Kept.{OnlyReads}
 use Rattle.codec_commands.specs.Decoding.{DecodesWhole}
+use Rattle.codec_commands.specs.JsonInput.{IsJsonOf, JsonRefused}
+use Rattle.codec_commands.specs.declared.json_input.JsonFault.{JsonFault}
+use Rattle.codec_commands.specs.declared.json_input.JsonFault.TheVariants as json
 use Rattle.codec_commands.specs.declared.whole.InputFault.{InputFault}
 use Rattle.codec_commands.specs.declared.whole.InputFault.TheVariants as input
 use Rattle.codec_commands.specs.declared.schema_text.SchemaTextFault.{SchemaTextFault}
@@ -49,3 +53,10 @@ abbrev pub LoadsValue : Declared → Shape → List ℕ → Result Value InputFa
 LoadsValue schema T name (Err input.ReadFault) v w = OnlyReads v w
 LoadsValue schema T name (Err input.Memory) v w = OnlyReads v w
 LoadsValue schema T name result v w = ((bytes : List ℕ) × HasFile v.files name bytes × DecodesWhole schema T bytes result) × OnlyReads v w
+
+-- the value that a file is the JSON of
+abbrev pub LoadsJson : Declared → Shape → List ℕ → Result Value JsonFault → View → View → Type 0
+LoadsJson schema T name (Ok value) v w = ((bytes : List ℕ) × HasFile v.files name bytes × IsJsonOf schema T bytes (view value)) × OnlyReads v w
+LoadsJson schema T name (Err (json.Refused cause)) v w = ((bytes : List ℕ) × HasFile v.files name bytes × JsonRefused schema T bytes cause) × OnlyReads v w
+LoadsJson schema T name (Err json.ReadFault) v w = OnlyReads v w
+LoadsJson schema T name (Err json.Memory) v w = OnlyReads v w

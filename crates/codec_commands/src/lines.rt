@@ -1,17 +1,19 @@
 //! The lines of refusals.
-ghost use Rattle.std.specs.Prelude.{◌≡◌, IfOk, string_bytes, codes};
+ghost use Rattle.std.specs.Prelude.{◌≡◌, ◌++◌, IfOk, OnOk, string_bytes, codes};
 ghost use Rattle.command_base.specs.Answer.{placed_line, unplaced_line};
 ghost use Rattle.command_base.specs.Jobs.{TellsAs};
 ghost use Rattle.codec_commands.specs.Faults.{schema_making};
-ghost use Rattle.codec_commands.specs.Lines.{cause_text, check_name, form_name, input_line, schema_line, text_line, type_cause_name, type_line};
+ghost use Rattle.codec_commands.specs.Lines.{cause_text, check_name, form_cause_name, form_name, form_text, input_line, json_line, misfit_cause_name, misfit_text, path_text, schema_line, steps_text, text_line, type_cause_name, type_line};
 
 use crate::causes::{SchemaCause, TextCause, TypeNameCause};
+use crate::json_input::JsonCause;
 use crate::schema_text::SchemaFault;
 use command_base::{Unmade, placed_line, unplaced_line};
 use std::alloc::{AllocError, Global};
 use tl_combinators::Form;
 use tl_schema::{CheckCause, TypeCause};
-use tl_types::Cause;
+use tl_show::FormCause;
+use tl_types::{Cause, MisfitCause};
 
 // A cause, and its values.
 fn cause_name(alloc: Global, cause: Cause) -> Result<String, AllocError>
@@ -132,6 +134,92 @@ pub fn trailing_line(alloc: Global, place: u64) -> Result<String, AllocError>
     ensures { IfOk result (λ s. string_bytes s ≡ input_line place (codes "Trailing")) }
 {
     placed_line(alloc, "input", place, "Trailing")
+}
+
+// The name of a fault of the form.
+fn form_cause_name(cause: FormCause) -> &'static str
+    ensures { result.now ≡ form_cause_name cause }
+{
+    match cause {
+        FormCause::WrongJson => "WrongJson",
+        FormCause::NoSuchName => "NoSuchName",
+        FormCause::MissingField => "MissingField",
+        FormCause::ExtraField => "ExtraField",
+        FormCause::OutOfRange => "OutOfRange",
+    }
+}
+
+// The name of a misfit.
+fn misfit_cause_name(cause: MisfitCause) -> &'static str
+    ensures { result.now ≡ misfit_cause_name cause }
+{
+    match cause {
+        MisfitCause::WrongKind => "WrongKind",
+        MisfitCause::WrongConstructor => "WrongConstructor",
+        MisfitCause::WrongCount => "WrongCount",
+        MisfitCause::FlagMismatch => "FlagMismatch",
+        MisfitCause::OutOfRange => "OutOfRange",
+        MisfitCause::TooDeep => "TooDeep",
+    }
+}
+
+// The indices of a path with a point between each two, or `-` where there is none.
+fn path_text(alloc: Global, path: &[u32]) -> Result<String, AllocError>
+    ensures { IfOk result (λ s. string_bytes s ≡ path_text path.now) }
+{
+    let [first, rest @ ..] = path else {
+        return String::from_str(alloc, "-");
+    };
+    let mut text = format!(in alloc; "{first}")?;
+    put_steps(alloc, rest, &mut text)?;
+    Ok(text)
+}
+
+// Appends these indices, each after a point.
+fn put_steps(alloc: Global, steps: &[u32], text: &mut String) -> Result<(), AllocError>
+    ensures { OnOk result (string_bytes text.new ≡ string_bytes text.old ++ steps_text steps.now) }
+{
+    for index in steps {
+        let step = format!(in alloc; ".{index}")?;
+        text.push_str(step.as_str())?;
+    }
+    Ok(())
+}
+
+// A fault of the form, and its path.
+fn form_text(alloc: Global, path: &[u32], cause: FormCause) -> Result<String, AllocError>
+    ensures { IfOk result (λ s. string_bytes s ≡ form_text path.now cause) }
+{
+    let path = path_text(alloc, path)?;
+    let name = form_cause_name(cause);
+    format!(in alloc; "{name} {path}")
+}
+
+// A misfit, and its path.
+fn misfit_text(alloc: Global, path: &[u32], cause: MisfitCause) -> Result<String, AllocError>
+    ensures { IfOk result (λ s. string_bytes s ≡ misfit_text path.now cause) }
+{
+    let path = path_text(alloc, path)?;
+    let name = misfit_cause_name(cause);
+    format!(in alloc; "Misfit {path} {name}")
+}
+
+/// The line of an input that is no value's JSON.
+pub fn json_line(alloc: Global, cause: &JsonCause) -> Result<String, AllocError>
+    ensures { IfOk result (λ s. string_bytes s ≡ json_line cause.now) }
+{
+    match cause {
+        JsonCause::TooLong => unplaced_line(alloc, "input", "TooLong"),
+        JsonCause::NoJson => unplaced_line(alloc, "input", "Json"),
+        JsonCause::Form { path, cause } => {
+            let why = form_text(alloc, path, *cause)?;
+            unplaced_line(alloc, "input", why.as_str())
+        }
+        JsonCause::Misfit(misfit) => {
+            let why = misfit_text(alloc, &misfit.path, misfit.cause)?;
+            unplaced_line(alloc, "input", why.as_str())
+        }
+    }
 }
 
 /// What is handed on where a file gives no schema.

@@ -13,7 +13,7 @@ use Rattle.command_base.specs.Sound.{Fits}
 use Rattle.command_base.specs.Telling.{Tells, TellsLine, Reports}
 use Rattle.command_base.proofs.Rests.{rest_then, rest_left, left_then}
 use Rattle.command_base.proofs.Views.{told_as, told_then}
-use Rattle.commands.specs.Requests.{RequestText, check, decode, replay, AsksFor, AsksNothing, job_of}
+use Rattle.commands.specs.Requests.{RequestText, check, decode, encode, replay, AsksFor, AsksNothing, job_of}
 use Rattle.commands.specs.Answers.{usage, usage_line, no_request, requested}
 use Rattle.commands.specs.Runs.{WritesPrefix, Ends, answered, read_failed, write_failed, out_of_memory, Keeps, AnswerFits}
 use Rattle.commands.proofs.OneAnswer.{answer_to}
@@ -87,6 +87,7 @@ module _ (words : List (List ℕ)) (r : RequestText) (asks : AsksFor words r) wh
   kept_then : (s : RequestText) (v u w : View) → (job_of s).keeps v u → KeepsRest u w → (job_of s).keeps v w
   kept_then (check schema) = rest_then
   kept_then (decode schema type input) = rest_then
+  kept_then (encode schema type input) = rest_then
   kept_then (replay schema journal) = rest_then
 
   pub done_kept : (a b : Option View) → Told a b (job_of r).keeps → Told a b (Keeps words)

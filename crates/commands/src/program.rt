@@ -8,7 +8,7 @@ ghost use Rattle.commands.specs.Requests.{job_of, request_text};
 ghost use Rattle.commands.specs.Runs.{AnswerFits, Ends, Keeps};
 
 use crate::request::{Request, request_of};
-use codec_commands::{check_schema, decode_input};
+use codec_commands::{check_schema, decode_input, encode_input};
 use command_base::{Status, Stop, report, tell};
 use std::alloc::Global;
 use tl_base::Host;
@@ -52,6 +52,7 @@ fn answer<H: Host>(alloc: Global, host: &mut H, request: Request) -> Result<(), 
     match request {
         Request::Check { schema } => check_schema(alloc, host, schema),
         Request::Decode { schema, of, input } => decode_input(alloc, host, schema, of, input),
+        Request::Encode { schema, of, input } => encode_input(alloc, host, schema, of, input),
         Request::Replay { schema, journal } => replay_journal(alloc, host, schema, journal),
     }
 }

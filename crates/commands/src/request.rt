@@ -15,6 +15,12 @@ pub enum Request<'a> {
         of: &'a str,
         input: &'a str,
     },
+    /// `encode SCHEMA TYPE INPUT`
+    Encode {
+        schema: &'a str,
+        of: &'a str,
+        input: &'a str,
+    },
     /// `replay SCHEMA JOURNAL CLIENTS`. There is one client.
     Replay {
         schema: &'a str,
@@ -30,6 +36,9 @@ pub fn request_of(words: &[String]) -> Option<Request<'_>>
         [command, schema] if command.as_str() == "check" => check_of(schema.as_str()),
         [command, schema, of, input] if command.as_str() == "decode" => {
             decode_of(schema.as_str(), of.as_str(), input.as_str())
+        }
+        [command, schema, of, input] if command.as_str() == "encode" => {
+            encode_of(schema.as_str(), of.as_str(), input.as_str())
         }
         [command, schema, journal, clients]
             if command.as_str() == "replay" && clients.as_str() == "1" => {
@@ -56,6 +65,17 @@ fn decode_of<'a>(schema: &'a str, of: &'a str, input: &'a str) -> Option<Request
 {
     if is_operand(schema) && is_operand(of) && is_operand(input) {
         Some(Request::Decode { schema, of, input })
+    } else {
+        None
+    }
+}
+
+// The request of `encode`, where its operands are such.
+fn encode_of<'a>(schema: &'a str, of: &'a str, input: &'a str) -> Option<Request<'a>>
+    ensures { FindsRequest (codes "encode" ∷ schema.now ∷ of.now ∷ input.now ∷ []) result }
+{
+    if is_operand(schema) && is_operand(of) && is_operand(input) {
+        Some(Request::Encode { schema, of, input })
     } else {
         None
     }

@@ -1,24 +1,29 @@
-use Rattle.std.proofs.Common.{Ok, rules}
+use Rattle.std.proofs.Common.{Ok, Err, rules}
 use Rattle.tl_schema.specs.Seen.{shape}
 use Rattle.command_base.proofs.Faults.{safe, never_failed, stays_sound}
-use Rattle.codec_commands.specs.Parts.{LoadsSchema}
-use Rattle.codec_commands.proofs.DecodedLines.{no_schema_line, no_type_line, no_value_line, value_line, no_value_sound}
+use Rattle.codec_commands.proofs.TypedLines.{no_schema_line, no_type_line, no_value_line, no_value_sound}
+use Rattle.codec_commands.proofs.DecodedLines.{read_stop, input_stops, value_line}
+use Rattle.codec_commands.specs.Decode.{OfInput}
+use Rattle.codec_commands.specs.Faults.{of_input}
+use Rattle.codec_commands.specs.Parts.{LoadsSchema, LoadsValue}
 use Rattle.codec_commands.proofs.decode.decoded_line.Goals as goal
 
 pub returns-in_err-schema-clause-line : goal.returns-in_err-schema-clause-line
 returns-in_err-schema-clause-line g c =
-    no_schema_line c.args.schema.now c.args.of.now c.args.input.now c.in_err-schema.field-0.0 c.from_residual.result _ _ c.in_err-schema.ensures.loads c.from_residual.ensures.1
+    no_schema_line OfInput c.args.schema.now c.args.of.now c.args.input.now c.in_err-schema.field-0.0 c.from_residual.result _ _ c.in_err-schema.ensures.loads c.from_residual.ensures.1
 
 pub returns-in_err-of-clause-line : goal.returns-in_err-of-clause-line
 returns-in_err-of-clause-line g c =
-    no_type_line c.args.schema.now c.args.of.now c.args.input.now c.in_ok-schema.schema c.in_err-of.field-0.0 c.from_residual-in_err-of.result _ _
+    no_type_line OfInput c.args.schema.now c.args.of.now c.args.input.now c.in_ok-schema.schema c.in_err-of.field-0.0 c.from_residual-in_err-of.result _ _
     c.in_ok-schema.ensures.loads c.in_err-of.ensures.names c.from_residual-in_err-of.ensures.1
 
 pub returns-in_err-value-clause-line : goal.returns-in_err-value-clause-line
 returns-in_err-value-clause-line g c =
-    no_value_line c.args.schema.now c.args.of.now c.args.input.now c.in_ok-schema.schema (shape c.in_ok-of.of) c.in_ok-of.ensures.names
-    c.in_err-value.field-0.0 c.from_residual-in_err-value.result _ _ _
-    c.in_ok-schema.ensures.loads c.in_err-value.ensures.loads c.from_residual-in_err-value.ensures.1
+    let T = shape c.in_ok-of.of in
+    no_value_line OfInput c.args.schema.now c.args.of.now c.args.input.now c.in_ok-schema.schema T c.in_ok-of.ensures.names
+    (LoadsValue c.in_ok-schema.schema T c.args.input.now (Err c.in_err-value.field-0.0)) (of_input c.in_err-value.field-0.0)
+    (input_stops c.args.schema.now c.args.of.now c.args.input.now c.in_ok-schema.schema T c.in_ok-of.ensures.names c.in_err-value.field-0.0)
+    c.from_residual-in_err-value.result _ _ _ c.in_ok-schema.ensures.loads c.in_err-value.ensures.loads c.from_residual-in_err-value.ensures.1
 
 pub returns-clause-line : goal.returns-clause-line
 returns-clause-line g c =
@@ -28,9 +33,9 @@ returns-clause-line g c =
 pub returns-in_err-value-clause-faults : goal.returns-in_err-value-clause-faults
 returns-in_err-value-clause-faults g c =
     let p =
-    no_value_sound c.args.schema.now c.args.of.now c.args.input.now c.in_ok-schema.schema (shape c.in_ok-of.of) c.in_ok-of.ensures.names
-    c.in_err-value.field-0.0 c.from_residual-in_err-value.result _ _ _ _ _
-    c.in_ok-schema.ensures.loads c.in_ok-schema.ensures.faults.stays (safe c.in_err-value.ensures.faults) c.from_residual-in_err-value.ensures.1 in
+    no_value_sound OfInput c.args.schema.now c.args.of.now c.args.input.now c.in_ok-schema.schema (shape c.in_ok-of.of) c.in_ok-of.ensures.names
+    _ c.from_residual-in_err-value.result _ _ _ _ _ (read_stop c.in_err-value.field-0.0 c.from_residual-in_err-value.result c.from_residual-in_err-value.ensures.1)
+    c.in_ok-schema.ensures.loads c.in_ok-schema.ensures.faults.stays (safe c.in_err-value.ensures.faults) in
     record {
       later = search rules;
       cause = search rules;

@@ -1,0 +1,37 @@
+-- What a command answers that takes a schema, one of its types and an input: what the input tells, or where and why schema or type is refused.
+-- This project's own.
+use Rattle.std.specs.Prelude.{◌≡◌, ℕ, List}
+use Rattle.tl_base.specs.Contents.{Files}
+use Rattle.tl_base.specs.Outside.{HasFile}
+use Rattle.tl_schema.specs.Types.{Shape}
+use Rattle.tl_schema.specs.Schemas.{Declared}
+use Rattle.tl_schema.specs.AskedTypes.{IsTypeText}
+use Rattle.codec_commands.specs.declared.causes.SchemaCause.{SchemaCause}
+use Rattle.codec_commands.specs.declared.causes.TypeNameCause.{TypeNameCause}
+use Rattle.codec_commands.specs.Loaded.{IsSchemaText, SchemaRefused, TypeNameRefused}
+use Rattle.codec_commands.specs.Lines.{schema_line, type_line}
+use Rattle.command_base.specs.Answer.{Answer, refused}
+use Rattle.command_base.specs.Jobs.{Job}
+use Rattle.command_base.specs.Kept.{KeepsRest}
+
+-- what is answered to the bytes of an input, of a type of the schema
+abbrev pub ToInput : Type 1
+ToInput = Declared → Shape → List ℕ → Answer → Type 0
+
+-- the word is refused as a type, or it is one, and then the input's file tells
+pub data OfType (Tells : ToInput) (schema : Declared) (type input : List ℕ) (files : Files) (a : Answer) : Type 0 where
+  no_type : (cause : TypeNameCause) → TypeNameRefused schema type cause → a ≡ refused (type_line cause) → OfType Tells schema type input files a
+  typed : (s : Shape) (bytes : List ℕ) → IsTypeText schema.program type s → HasFile files input bytes → Tells schema s bytes a → OfType Tells schema type input files a
+
+-- the text is no schema's, or it is one's, and then the type tells
+pub data OfSchema (Tells : ToInput) (text type input : List ℕ) (files : Files) (a : Answer) : Type 0 where
+  no_schema : (cause : SchemaCause) → SchemaRefused text cause → a ≡ refused (schema_line cause) → OfSchema Tells text type input files a
+  schema_of : (schema : Declared) → IsSchemaText text schema → OfType Tells schema type input files a → OfSchema Tells text type input files a
+
+-- the command's answer
+abbrev pub TypedAnswer : ToInput → Files → List ℕ → List ℕ → List ℕ → Answer → Type 0
+TypedAnswer Tells files schema type input a = (text : List ℕ) × HasFile files schema text × OfSchema Tells text type input files a
+
+-- the command, of SCHEMA, TYPE and INPUT
+abbrev pub typed_job : ToInput → List ℕ → List ℕ → List ℕ → Job
+typed_job Tells schema type input = record { answers = λ v a. TypedAnswer Tells v.files schema type input a; in_pieces = ⊥; keeps = KeepsRest }

@@ -1,0 +1,88 @@
+//! `encode`: schema, type and input are loaded, and the spelling of the value is written.
+ghost use Rattle.std.specs.Prelude.{◌≡◌, ℕ, List, IfOk, IsErrOf};
+ghost use Rattle.tl_base.specs.Calls.{Told};
+ghost use Rattle.tl_base.specs.Using.{MeetsFaults};
+ghost use Rattle.tl_base.specs.declared.counts.Kind.TheVariants as kinds;
+ghost use Rattle.command_base.specs.Jobs.{MakesOutput, Works, making};
+ghost use Rattle.command_base.specs.Sound.{Answered, Fits, MeetsBothFaults};
+ghost use Rattle.tl_schema.specs.Seen.{shape};
+ghost use Rattle.tl_types.specs.Seen.{view};
+ghost use Rattle.tl_types.specs.Spelling.{Spells};
+ghost use Rattle.codec_commands.specs.Encode.{encode_job};
+ghost use Rattle.codec_commands.specs.Faults.{of_codec};
+
+use crate::json_input::load_json;
+use crate::refusal::{CodecFault, unmade};
+use crate::schema_text::load_schema;
+use crate::type_word::type_named;
+use command_base::{Stop, Unmade, write_made};
+use std::alloc::{AllocError, Global};
+use tl_base::Host;
+use tl_encode::spell;
+use tl_schema::{Schema, TypeRef};
+use tl_types::Value;
+
+// The spelling of a value that has one.
+fn spelling_of(
+    alloc: Global,
+    schema: &Schema,
+    of: &TypeRef,
+    value: &Value,
+) -> Result<Vec<u8>, AllocError>
+    ensures { (b : List ℕ) → Spells schema.now (shape of.now) (view value.now) b → IfOk result (λ bytes. bytes.items ≡ b) }
+{
+    let mut bytes = Vec::new(alloc);
+    spell(alloc, value, schema, of, &mut bytes)?;
+    Ok(bytes)
+}
+
+// The spelling of the value that the input's JSON is.
+fn encoded_value<H: Host>(
+    alloc: Global,
+    host: &mut H,
+    schema: &str,
+    of: &str,
+    input: &str,
+) -> Result<Vec<u8>, CodecFault>
+    ensures spelling { Told (H.state host.old).view (H.state host.new).view (MakesOutput (encode_job schema.now of.now input.now) (of_codec result)) }
+    ensures faults { MeetsFaults kinds.Reads (H.state host.old) (H.state host.new) (IsErrOf result CodecFault.ReadFault) (Answered (encode_job schema.now of.now input.now)) }
+{
+    let schema = load_schema(alloc, host, schema)?;
+    let of = type_named(alloc, &schema, of)?;
+    let value = load_json(alloc, host, &schema, &of, input)?;
+    let bytes = spelling_of(alloc, &schema, &of, &value)?;
+    Ok(bytes)
+}
+
+// The same, where a fault is its line.
+fn made_spelling<H: Host>(
+    alloc: Global,
+    host: &mut H,
+    schema: &str,
+    of: &str,
+    input: &str,
+) -> Result<Vec<u8>, Unmade>
+    ensures makes { Told (H.state host.old).view (H.state host.new).view (MakesOutput (encode_job schema.now of.now input.now) (making result)) }
+    ensures faults { MeetsFaults kinds.Reads (H.state host.old) (H.state host.new) (IsErrOf result Unmade.ReadFault) (Answered (encode_job schema.now of.now input.now)) }
+{
+    match encoded_value(alloc, host, schema, of, input) {
+        Ok(bytes) => Ok(bytes),
+        Err(fault) => Err(unmade(alloc, fault)),
+    }
+}
+
+/// Encodes the value that the input's JSON is, and writes its spelling.
+pub fn encode_input<H: Host>(
+    alloc: Global,
+    host: &mut H,
+    schema: &str,
+    of: &str,
+    input: &str,
+) -> Result<(), Stop>
+    ensures works { Told (H.state host.old).view (H.state host.new).view (Works (encode_job schema.now of.now input.now) result) }
+    ensures kept { Told (H.state host.old).view (H.state host.new).view (encode_job schema.now of.now input.now).keeps }
+    ensures faults { MeetsBothFaults (H.state host.old) (H.state host.new) (IsErrOf result Stop.ReadFault) (IsErrOf result Stop.WriteFault) (Fits (encode_job schema.now of.now input.now)) }
+{
+    let made = made_spelling(alloc, host, schema, of, input);
+    write_made(host, made)
+}
