@@ -201,7 +201,8 @@ fn misfit_text(alloc: Global, path: &[u32], cause: MisfitCause) -> Result<String
 {
     let path = path_text(alloc, path)?;
     let name = misfit_cause_name(cause);
-    format!(in alloc; "Misfit {path} {name}")
+    let text = format!(in alloc; "Misfit {path} {name}")?;
+    Ok(text)
 }
 
 /// The line of an input that is no value's JSON.
