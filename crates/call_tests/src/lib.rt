@@ -14,8 +14,6 @@ mod hosts;
 #[cfg(test)]
 mod lanes;
 #[cfg(test)]
-mod misfits;
-#[cfg(test)]
 mod numbers;
 #[cfg(test)]
 mod packets;
