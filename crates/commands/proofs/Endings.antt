@@ -74,7 +74,20 @@ ends_usage words R W a b k none is told rest =
     told_as a b (λ v w. TellsLine W usage_line v w × KeepsRest v w) (Ends words R W k)
     (λ v w h. answered usage (no_request none refl) is (h.0.0 ∙ sym (append-nil v.written.output)) (rest_left usage v w (refl, refl, refl) h.1) h.0.1) (usage_both W a b told rest)
 
+-- memory was refused for the words
+pub ends_memory : (words : List (List ℕ)) (R W : Type 0) (a b : Option View) (k : Status) → Told a b (Reports W stop.Memory k) → Told a b (Ends words R W k)
+ends_memory words R W a b k = told_as a b (Reports W stop.Memory k) (Ends words R W k) (λ v w h. out_of_memory h.0 (inl h.1.0) h.1.1)
+
 -- ---- what is kept
+
+-- what changes the least keeps what each job keeps
+rest_keeps : (r : RequestText) (v w : View) → KeepsRest v w → (job_of r).keeps v w
+rest_keeps (check schema) v w rest = rest
+rest_keeps (decode schema type input) v w rest = rest
+rest_keeps (replay schema journal) v w rest = rest
+
+pub memory_kept : (words : List (List ℕ)) (a b : Option View) → Told a b KeepsRest → Told a b (Keeps words)
+memory_kept words a b = told_as a b KeepsRest (Keeps words) (λ v w rest. record { of_none = λ asks. rest; of_request = λ r asks. rest_keeps r v w rest })
 
 pub none_kept : (words : List (List ℕ)) (a b : Option View) → AsksNothing words → Told a b KeepsRest → Told a b (Keeps words)
 none_kept words a b none = told_as a b KeepsRest (Keeps words) (λ v w rest. record { of_none = λ asks. rest; of_request = λ r asks. absurd (none r asks) })

@@ -1,5 +1,10 @@
 pub mod Decided
 pub mod Rows
+pub mod RowsTold
+pub mod OperandsRead
+pub mod CommandsRead
+pub mod Found
+pub mod WordsRead
 pub mod OneAnswer
 pub mod AnAnswer
 pub mod Endings

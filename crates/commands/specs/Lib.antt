@@ -1,3 +1,4 @@
 pub mod Requests
+pub mod CommandLine
 pub mod Answers
 pub mod Runs

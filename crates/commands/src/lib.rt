@@ -4,6 +4,7 @@
 mod laws;
 mod program;
 mod request;
+mod table;
 
 pub use command_base::Status;
 pub use laws::{words_and_files_have_an_answer, words_and_files_have_one_answer};

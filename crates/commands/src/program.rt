@@ -34,12 +34,13 @@ pub fn run<H: Host>(alloc: Global, words: &[String], host: &mut H) -> Status
     ensures never { result ≡ Status.LinkFault → ⊥ }
     ensures never_peer { result ≡ Status.PeerFault → ⊥ }
 {
-    match request_of(words) {
-        None => tell(host, Status::Usage, USAGE),
-        Some(request) => match answer(alloc, host, request) {
+    match request_of(alloc, words) {
+        Ok(None) => tell(host, Status::Usage, USAGE),
+        Ok(Some(request)) => match answer(alloc, host, request) {
             Ok(()) => Status::Done,
             Err(stop) => report(host, &stop),
         },
+        Err(_) => report(host, &Stop::Memory),
     }
 }
 

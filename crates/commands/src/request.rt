@@ -1,6 +1,14 @@
 //! What the words that the program is started with ask for.
-ghost use Rattle.std.specs.Prelude.{IsTrue, ◌↔◌, ◌∷◌, [], codes, map, string_bytes};
-ghost use Rattle.commands.specs.Requests.{IsOperand, FindsRequest};
+ghost use Rattle.std.specs.Prelude.{IfOk, IsTrue, ◌≡◌, ◌↔◌, map, option_map, string_bytes};
+ghost use Rattle.std.specs.List.{All};
+ghost use Rattle.clap.specs.Words.{first_value, found_of, subcommand_rows_of};
+ghost use Rattle.commands.specs.Requests.{IsOperand, FindsRequest, request_text};
+ghost use Rattle.commands.specs.CommandLine.{check_of, decode_of, encode_of, replay_of, request_in};
+
+use crate::table::table_of;
+use clap::ArgMatches;
+use clap::error::ErrorKind;
+use std::alloc::{AllocError, Global};
 
 /// A request: a command and its operands.
 #[derive(Clone, Copy)]
@@ -28,68 +36,81 @@ pub enum Request<'a> {
     },
 }
 
-/// The request that the words ask for.
-pub fn request_of(words: &[String]) -> Option<Request<'_>>
-    ensures { FindsRequest (map string_bytes words.now) result }
+/// The request that the words ask for. No word of any row is empty or begins with `-`: `clap`, which reads the rest, sees none such.
+pub fn request_of(alloc: Global, words: &[String]) -> Result<Option<Request<'_>>, AllocError>
+    ensures { IfOk result (FindsRequest (map string_bytes words.now)) }
 {
-    match words {
-        [command, schema] if command.as_str() == "check" => check_of(schema.as_str()),
-        [command, schema, of, input] if command.as_str() == "decode" => {
-            decode_of(schema.as_str(), of.as_str(), input.as_str())
-        }
-        [command, schema, of, input] if command.as_str() == "encode" => {
-            encode_of(schema.as_str(), of.as_str(), input.as_str())
-        }
-        [command, schema, journal, clients]
-            if command.as_str() == "replay" && clients.as_str() == "1" => {
-            replay_of(schema.as_str(), journal.as_str())
-        }
+    if !are_operands(words) {
+        return Ok(None);
+    }
+    match table_of(alloc)?.try_get_matches_from(words) {
+        Ok(matches) => Ok(request_in(&matches)),
+        Err(fault) => match fault.kind() {
+            ErrorKind::OutOfMemory => Err(AllocError),
+            _ => Ok(None),
+        },
+    }
+}
+
+// The request of the row that was found.
+fn request_in<'a>(matches: &ArgMatches<'a>) -> Option<Request<'a>>
+    ensures { option_map request_text result ≡ request_in (subcommand_rows_of matches.now) }
+{
+    let (command, operands) = matches.subcommand()?;
+    match command {
+        "check" => check_of(operands),
+        "decode" => decode_of(operands),
+        "encode" => encode_of(operands),
+        "replay" => replay_of(operands),
         _ => None,
     }
 }
 
-// The request of `check`, where its operand is one.
-fn check_of<'a>(schema: &'a str) -> Option<Request<'a>>
-    ensures { FindsRequest (codes "check" ∷ schema.now ∷ []) result }
+// The request of `check`.
+fn check_of<'a>(operands: &ArgMatches<'a>) -> Option<Request<'a>>
+    ensures { option_map request_text result ≡ check_of (first_value (found_of operands.now)) }
 {
-    if is_operand(schema) {
-        Some(Request::Check { schema })
-    } else {
-        None
+    let schema = operands.get_str("SCHEMA")?;
+    Some(Request::Check { schema })
+}
+
+// The request of `decode`.
+fn decode_of<'a>(operands: &ArgMatches<'a>) -> Option<Request<'a>>
+    ensures { option_map request_text result ≡ decode_of (first_value (found_of operands.now)) }
+{
+    let schema = operands.get_str("SCHEMA")?;
+    let of = operands.get_str("TYPE")?;
+    let input = operands.get_str("INPUT")?;
+    Some(Request::Decode { schema, of, input })
+}
+
+// The request of `encode`.
+fn encode_of<'a>(operands: &ArgMatches<'a>) -> Option<Request<'a>>
+    ensures { option_map request_text result ≡ encode_of (first_value (found_of operands.now)) }
+{
+    let schema = operands.get_str("SCHEMA")?;
+    let of = operands.get_str("TYPE")?;
+    let input = operands.get_str("INPUT")?;
+    Some(Request::Encode { schema, of, input })
+}
+
+// The request of `replay`, where it has one client.
+fn replay_of<'a>(operands: &ArgMatches<'a>) -> Option<Request<'a>>
+    ensures { option_map request_text result ≡ replay_of (first_value (found_of operands.now)) }
+{
+    let schema = operands.get_str("SCHEMA")?;
+    let journal = operands.get_str("JOURNAL")?;
+    match operands.get_str("CLIENTS")? {
+        "1" => Some(Request::Replay { schema, journal }),
+        _ => None,
     }
 }
 
-// The request of `decode`, where its operands are such.
-fn decode_of<'a>(schema: &'a str, of: &'a str, input: &'a str) -> Option<Request<'a>>
-    ensures { FindsRequest (codes "decode" ∷ schema.now ∷ of.now ∷ input.now ∷ []) result }
+// Whether each word may be an operand.
+fn are_operands(words: &[String]) -> bool
+    ensures { IsTrue result ↔ All (λ w. IsOperand (string_bytes w)) words.now }
 {
-    if is_operand(schema) && is_operand(of) && is_operand(input) {
-        Some(Request::Decode { schema, of, input })
-    } else {
-        None
-    }
-}
-
-// The request of `encode`, where its operands are such.
-fn encode_of<'a>(schema: &'a str, of: &'a str, input: &'a str) -> Option<Request<'a>>
-    ensures { FindsRequest (codes "encode" ∷ schema.now ∷ of.now ∷ input.now ∷ []) result }
-{
-    if is_operand(schema) && is_operand(of) && is_operand(input) {
-        Some(Request::Encode { schema, of, input })
-    } else {
-        None
-    }
-}
-
-// The request of `replay` with one client, where its operands are such.
-fn replay_of<'a>(schema: &'a str, journal: &'a str) -> Option<Request<'a>>
-    ensures { FindsRequest (codes "replay" ∷ schema.now ∷ journal.now ∷ codes "1" ∷ []) result }
-{
-    if is_operand(schema) && is_operand(journal) {
-        Some(Request::Replay { schema, journal })
-    } else {
-        None
-    }
+    words.iter().all(|word| is_operand(word.as_str()))
 }
 
 // Whether a word may be an operand: it is not empty, and does not begin with `-`.

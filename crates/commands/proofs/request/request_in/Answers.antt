@@ -1,0 +1,19 @@
+use Rattle.std.proofs.Common.{rules, codes}
+use Rattle.commands.proofs.Found.{found_as}
+use Rattle.commands.proofs.request.request_in.Goals as goal
+
+pub returns-in-check : goal.returns-in-check
+returns-in-check c =
+    found_as c.args.matches.now c.in_ok-command.operands.now c.in_ok-command.command.now (codes "check") _ c.in_ok-command.ensures.name c.in_ok-command.ensures.rows c.in-check.is c.check_of.ensures
+
+pub returns-in-decode : goal.returns-in-decode
+returns-in-decode c =
+    found_as c.args.matches.now c.in_ok-command.operands.now c.in_ok-command.command.now (codes "decode") _ c.in_ok-command.ensures.name c.in_ok-command.ensures.rows c.in-decode.is c.decode_of.ensures
+
+pub returns-in-encode : goal.returns-in-encode
+returns-in-encode c =
+    found_as c.args.matches.now c.in_ok-command.operands.now c.in_ok-command.command.now (codes "encode") _ c.in_ok-command.ensures.name c.in_ok-command.ensures.rows c.in-encode.is c.encode_of.ensures
+
+pub returns-in-replay : goal.returns-in-replay
+returns-in-replay c =
+    found_as c.args.matches.now c.in_ok-command.operands.now c.in_ok-command.command.now (codes "replay") _ c.in_ok-command.ensures.name c.in_ok-command.ensures.rows c.in-replay.is c.replay_of.ensures

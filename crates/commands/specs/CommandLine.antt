@@ -1,0 +1,66 @@
+-- The rows as `clap` is told them, and the request that is made of what it finds: how words are read. What they ask for stands in Requests.antt,
+-- which cites nothing of this. This project's own.
+use Rattle.std.specs.Prelude.{true, List, [], ◌∷◌, map, Option, Some, None, option_map, option_and_then, codes, if◌then◌else◌}
+use Rattle.std.specs.Str.{bytes_eq}
+use Rattle.clap.specs.Words.{App, Row, Rule, Text, first_of, new_app, new_rule, with_subcommand}
+use Rattle.commands.specs.Requests.{RequestText, check, decode, encode, replay}
+
+-- an operand, which has to be there
+abbrev pub operand : Text → Rule
+operand name = record (new_rule name) { required = true }
+
+-- a command with its operands in order
+abbrev pub row : Text → List Text → App
+row command operands = let a = new_app command in record a { top = record a.top { rules = map operand operands } }
+
+-- the program, which wants a command; clap adds no help and no version
+abbrev pub program : App
+program =
+    let a = new_app (codes "tlbox") in
+    record a { top = record a.top { no_binary_name = true; disable_help_flag = true; disable_help_subcommand = true; disable_version_flag = true; subcommand_required = true } }
+
+abbrev with_row : App → Text → List Text → App
+with_row a command operands = with_subcommand a (row command operands).top
+
+abbrev pub table : App
+table = with_row (with_row (with_row (with_row program
+    (codes "check") (codes "SCHEMA" ∷ []))
+    (codes "decode") (codes "SCHEMA" ∷ codes "TYPE" ∷ codes "INPUT" ∷ []))
+    (codes "encode") (codes "SCHEMA" ∷ codes "TYPE" ∷ codes "INPUT" ∷ []))
+    (codes "replay") (codes "SCHEMA" ∷ codes "JOURNAL" ∷ codes "CLIENTS" ∷ [])
+
+-- ---- the request of a row, by the word of each operand
+
+abbrev pub check_of : (Text → Option Text) → Option RequestText
+check_of word = option_map check (word (codes "SCHEMA"))
+
+-- what is asked of a schema, one of its types and an input
+abbrev typed : (Text → Text → Text → RequestText) → Option Text → Option Text → Option Text → Option RequestText
+typed asks (Some schema) (Some type) (Some input) = Some (asks schema type input)
+typed asks _ _ _ = None
+
+abbrev pub decode_of : (Text → Option Text) → Option RequestText
+decode_of word = typed decode (word (codes "SCHEMA")) (word (codes "TYPE")) (word (codes "INPUT"))
+
+abbrev pub encode_of : (Text → Option Text) → Option RequestText
+encode_of word = typed encode (word (codes "SCHEMA")) (word (codes "TYPE")) (word (codes "INPUT"))
+
+-- one client
+abbrev pub replayed : Option Text → Option Text → Option Text → Option RequestText
+replayed (Some schema) (Some journal) (Some clients) = if bytes_eq clients (codes "1") then Some (replay schema journal) else None
+replayed _ _ _ = None
+
+abbrev pub replay_of : (Text → Option Text) → Option RequestText
+replay_of word = replayed (word (codes "SCHEMA")) (word (codes "JOURNAL")) (word (codes "CLIENTS"))
+
+abbrev pub request_at : Text → (Text → Option Text) → Option RequestText
+request_at command word =
+    if bytes_eq command (codes "check") then check_of word
+    else if bytes_eq command (codes "decode") then decode_of word
+    else if bytes_eq command (codes "encode") then encode_of word
+    else if bytes_eq command (codes "replay") then replay_of word
+    else None
+
+-- the request of the command that clap found, and of what it found for each operand
+abbrev pub request_in : Option (Text × List Row) → Option RequestText
+request_in = option_and_then (λ p. request_at p.0 (λ operand. first_of operand p.1))
