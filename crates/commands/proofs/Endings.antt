@@ -84,6 +84,7 @@ ends_memory words R W a b k = told_as a b (Reports W stop.Memory k) (Ends words 
 rest_keeps : (r : RequestText) (v w : View) → KeepsRest v w → (job_of r).keeps v w
 rest_keeps (check schema) v w rest = rest
 rest_keeps (decode schema type input) v w rest = rest
+rest_keeps (encode schema type input) v w rest = rest
 rest_keeps (replay schema journal) v w rest = rest
 
 pub memory_kept : (words : List (List ℕ)) (a b : Option View) → Told a b KeepsRest → Told a b (Keeps words)
