@@ -18,6 +18,8 @@ mod numbers;
 #[cfg(test)]
 mod packets;
 #[cfg(test)]
+mod reads;
+#[cfg(test)]
 mod replays;
 #[cfg(test)]
 mod schemas;
