@@ -1,6 +1,6 @@
 -- One step of reading after another.
-use Rattle.std.proofs.Common.{◌≡◌, ℕ, List, [], Result, Ok, Err, refl, sym, ap, ◌∙◌, subst}
-use Rattle.tl_show.specs.Reading.{Read, refuses, inside, told, ◌>>=◌}
+use Rattle.std.proofs.Common.{◌≡◌, Result, Ok, Err, refl, sym, ap, subst}
+use Rattle.tl_show.specs.Reading.{Read, refuses, ◌>>=◌}
 use Rattle.tl_show.specs.inner.FormTells.{IsHere, Tells, TellsFault}
 use Rattle.tl_show.specs.declared.fault.FormCause.{FormCause}
 use Rattle.tl_show.specs.declared.fault.FormFault.{FormFault}

@@ -1,5 +1,5 @@
 -- Keys that differ from each other, and a map that holds them.
-use Rattle.std.proofs.Common.{◌≡◌, ℕ, zero, suc, ◌+◌, ◌<◌, List, [], ◌∷◌, ◌++◌, length, map, take, get_or, Bool, true, false, ◌||◌, cond, Option, Some, None, is_some, string_bytes, BTreeMap, Bor, bytes_eq, refl, sym, ap, ◌∙◌, subst, arith}
+use Rattle.std.proofs.Common.{◌≡◌, ℕ, zero, suc, ◌+◌, ◌<◌, List, [], ◌∷◌, ◌++◌, length, map, take, get_or, Bool, true, false, ◌||◌, cond, Option, Some, is_some, string_bytes, BTreeMap, Bor, bytes_eq, refl, sym, ap, ◌∙◌, subst, arith}
 use Rattle.std.specs.Prelude.{codes}
 use Rattle.std.specs.BTreeMap.{get_by, IsEmpty, UpdatesBy}
 use Rattle.std.specs.Cmp.Lexicographic.{slice_cmp}
