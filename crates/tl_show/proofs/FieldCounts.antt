@@ -16,9 +16,8 @@ use Rattle.tl_types.specs.declared.value.Value.{Value}
 use Rattle.tl_types.specs.Parts.{arguments_of, fields_in, is_absent}
 use Rattle.tl_types.specs.Fitting.{is_signed}
 use Rattle.tl_show.specs.Shown.{name_text}
-use Rattle.tl_show.specs.Reading.{Parts, Read, Reader, ◌>>=◌, all_fields, declaration_of, digits_of, each_element, each_field, flag_of, inside, int_of, is_record, long_of, nat_of, not_there, of_array, of_declaration, one_field, opaque_of, parts, plain, reader, readers, record_keys, record_value, string_of, text_at, whole_in}
+use Rattle.tl_show.specs.Reading.{AreApart, Parts, Read, Reader, all_fields, declaration_of, digits_of, each_element, each_field, flag_of, inside, int_of, is_record, long_of, nat_of, not_there, of_array, of_declaration, one_field, opaque_of, parts, plain, reader, readers, record_keys, record_value, string_of, text_at, whole_in, ◌>>=◌}
 use Rattle.tl_show.specs.inner.FormTells.{Tells}
-use Rattle.tl_show.specs.inner.Keyed.{AreApart}
 use Rattle.tl_show.specs.declared.fault.FormFault.{FormFault}
 use Rattle.tl_show.proofs.OtherKeys.{held, held_within, no_other, one_if}
 use Rattle.tl_show.proofs.ReadLoops.{part_at}

@@ -14,8 +14,8 @@ use Rattle.std.proofs.lemmas.Option.{slice_get_read}
 use Rattle.tl_names.proofs.Maps.{take_push}
 use Rattle.tl_schema.specs.Schemas.{Slot}
 use Rattle.tl_show.specs.Shown.{name_text}
-use Rattle.tl_show.specs.Reading.{record_keys}
-use Rattle.tl_show.specs.inner.Keyed.{AreApart, keyed_slot}
+use Rattle.tl_show.specs.Reading.{AreApart, record_keys}
+use Rattle.tl_show.specs.inner.Keyed.{keyed_slot}
 use Rattle.tl_show.specs.declared.keyed.KeyedField.{KeyedField}
 
 abbrev Held : Type 0 → Type 0
