@@ -1,5 +1,5 @@
 -- How many fields are there of those that were read.
-use Rattle.std.proofs.Common.{◌≡◌, ℕ, suc, ◌+◌, ◌-◌, ◌≤◌, List, [], ◌∷◌, ◌++◌, map, Bool, true, false, not, cond, if◌then◌else◌, Option, Some, None, Result, Ok, Err, option_map, is_some, codes, bytes_eq, Vec, Global, refl, sym, ap, subst, ◌∙◌, arith, true≢false, pos, negsuc, ℤ, nat_lt, ◌==◌, length, ◌^◌}
+use Rattle.std.proofs.Common.{◌≡◌, ℕ, suc, ◌+◌, ◌-◌, List, [], ◌∷◌, ◌++◌, map, Bool, true, false, not, cond, if◌then◌else◌, Option, Some, None, Result, Ok, Err, option_map, is_some, codes, bytes_eq, Vec, Global, refl, sym, ap, ◌∙◌, arith, pos, negsuc, ℤ, nat_lt, ◌==◌, length, ◌^◌}
 use Rattle.std.specs.Prelude.{IsOkAnd, count_by, option_and_then, slice_get}
 use Rattle.std.specs.Map.{lookup}
 use Rattle.std.proofs.lemmas.List.Sums.{sum_by-cons}
@@ -10,15 +10,14 @@ use Rattle.tl_schema.specs.Types.{Shape, str, raw, flag, var, vector, boxed, bar
 use Rattle.tl_schema.specs.Types as type
 use Rattle.tl_schema.specs.Closing.{closed}
 use Rattle.tl_schema.specs.Schemas.{Slot, Declaration}
-use Rattle.tl_types.specs.Values.{ValueView, ValueViews, int, long, nat, opaque, text, truth, list, node, call, values_of}
+use Rattle.tl_types.specs.Values.{ValueView, ValueViews, int, long, nat, opaque, text, truth, list, values_of}
 use Rattle.tl_types.specs.Seen.{view}
 use Rattle.tl_types.specs.declared.value.Value.{Value}
 use Rattle.tl_types.specs.Parts.{arguments_of, fields_in, is_absent}
 use Rattle.tl_types.specs.Fitting.{is_signed}
 use Rattle.tl_show.specs.Shown.{name_text}
-use Rattle.tl_show.specs.Reading.{Parts, Read, Reader, ◌>>=◌, all_fields, declaration_of, digits_of, each_element, each_field, flag_of, has_other, in_range, inside, int_of, is_record, long_of, nat_of, not_there, of_array, of_declaration, of_object, of_record, one_field, opaque_of, parts, plain, reader, readers, record_keys, record_value, refuses, string_of, text_at, whole_in}
+use Rattle.tl_show.specs.Reading.{AreApart, Parts, Read, Reader, all_fields, declaration_of, digits_of, each_element, each_field, flag_of, inside, int_of, is_record, long_of, nat_of, not_there, of_array, of_declaration, one_field, opaque_of, parts, plain, reader, readers, record_keys, record_value, string_of, text_at, whole_in, ◌>>=◌}
 use Rattle.tl_show.specs.inner.FormTells.{Tells}
-use Rattle.tl_show.specs.inner.Keyed.{AreApart}
 use Rattle.tl_show.specs.declared.fault.FormFault.{FormFault}
 use Rattle.tl_show.proofs.OtherKeys.{held, held_within, no_other, one_if}
 use Rattle.tl_show.proofs.ReadLoops.{part_at}

@@ -1,6 +1,6 @@
 -- One step of reading after another.
-use Rattle.std.proofs.Common.{◌≡◌, ℕ, List, [], Result, Ok, Err, refl, sym, ap, ◌∙◌, subst}
-use Rattle.tl_show.specs.Reading.{Read, refuses, inside, told, ◌>>=◌}
+use Rattle.std.proofs.Common.{◌≡◌, Result, Ok, Err, refl, sym, ap, subst}
+use Rattle.tl_show.specs.Reading.{Read, refuses, ◌>>=◌}
 use Rattle.tl_show.specs.inner.FormTells.{IsHere, Tells, TellsFault}
 use Rattle.tl_show.specs.declared.fault.FormCause.{FormCause}
 use Rattle.tl_show.specs.declared.fault.FormFault.{FormFault}
@@ -18,15 +18,7 @@ tells_same see r s res same tells = let P : Read _ → Type 0 = λ x. Tells see 
 pub fault_same : {A : Type 0} (r s : Read A) (fault : FormFault) → s ≡ r → TellsFault r fault → TellsFault s fault
 fault_same r s fault same tells = let P : Read _ → Type 0 = λ x. TellsFault x fault in subst P (sym same) tells
 
--- the rest after what was read
-pub tells_rest : {A B X : Type 0} (see : X → B) (r : Read A) (x : A) (g : A → Read B) (res : Result X FormFault) → r ≡ Ok x → Tells see (g x) res → Tells see (r >>= g) res
-tells_rest see r x g res first rest = tells_same see (g x) (r >>= g) res (ap (λ y. y >>= g) first) rest
-
 -- nothing is read after a fault
 pub tells_first : {A B : Type 0} (r : Read A) (g : A → Read B) (fault : FormFault) → TellsFault r fault → TellsFault (r >>= g) fault
 tells_first r g (Form path cause) first = rw first refl
 tells_first r g Memory first = tt
-
--- at the exit of a `?`
-pub tells_exit : {A B X : Type 0} (see : X → B) (r : Read A) (g : A → Read B) (fault : FormFault) (res : Result X FormFault) → TellsFault r fault → res ≡ Err fault → Tells see (r >>= g) res
-tells_exit see r g fault res first is = let P : Result _ FormFault → Type 0 = λ x. Tells see (r >>= g) x in subst P (sym is) (tells_first r g fault first)

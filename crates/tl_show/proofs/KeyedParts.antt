@@ -1,11 +1,11 @@
 -- Declarations with their keys, place by place.
 use Rattle.std.proofs.Common.{◌≡◌, ℕ, zero, suc, ◌<◌, ◌≤◌, List, [], ◌∷◌, ◌++◌, length, get_or, Option, Some, None, refl, ap, sym, ◌∙◌, subst, arith, true, string_bytes, map}
-use Rattle.std.specs.Prelude.{⊤, slice_get}
+use Rattle.std.specs.Prelude.{slice_get}
 use Rattle.tl_schema.specs.Schemas.{Declaration, Declared}
 use Rattle.tl_types.specs.Parts.{fields_in, name_in}
 use Rattle.tl_show.specs.Shown.{name_text}
-use Rattle.tl_show.specs.Reading.{record_keys}
-use Rattle.tl_show.specs.inner.Keyed.{AreApart, AreKeyed, IsKeyed, keyed_slot}
+use Rattle.tl_show.specs.Reading.{AreApart, record_keys}
+use Rattle.tl_show.specs.inner.Keyed.{AreKeyed, IsKeyed, keyed_slot}
 use Rattle.tl_show.specs.declared.keyed.KeyedEntry.{KeyedEntry}
 
 pub keyed_push : (ds : List Declaration) (es : List KeyedEntry) (d : Declaration) (e : KeyedEntry) → AreKeyed ds es → IsKeyed d e → AreKeyed (ds ++ d ∷ []) (es ++ e ∷ [])

@@ -1,5 +1,5 @@
 -- Keys that differ from each other, and a map that holds them.
-use Rattle.std.proofs.Common.{◌≡◌, ℕ, zero, suc, ◌+◌, ◌<◌, List, [], ◌∷◌, ◌++◌, length, map, take, get_or, Bool, true, false, ◌||◌, cond, Option, Some, None, is_some, string_bytes, BTreeMap, Bor, bytes_eq, refl, sym, ap, ◌∙◌, subst, arith}
+use Rattle.std.proofs.Common.{◌≡◌, ℕ, zero, suc, ◌+◌, ◌<◌, List, [], ◌∷◌, ◌++◌, length, map, take, get_or, Bool, true, false, ◌||◌, cond, Option, Some, is_some, string_bytes, BTreeMap, Bor, bytes_eq, refl, sym, ap, ◌∙◌, subst, arith}
 use Rattle.std.specs.Prelude.{codes}
 use Rattle.std.specs.BTreeMap.{get_by, IsEmpty, UpdatesBy}
 use Rattle.std.specs.Cmp.Lexicographic.{slice_cmp}
@@ -14,8 +14,8 @@ use Rattle.std.proofs.lemmas.Option.{slice_get_read}
 use Rattle.tl_names.proofs.Maps.{take_push}
 use Rattle.tl_schema.specs.Schemas.{Slot}
 use Rattle.tl_show.specs.Shown.{name_text}
-use Rattle.tl_show.specs.Reading.{record_keys}
-use Rattle.tl_show.specs.inner.Keyed.{AreApart, keyed_slot}
+use Rattle.tl_show.specs.Reading.{AreApart, record_keys}
+use Rattle.tl_show.specs.inner.Keyed.{keyed_slot}
 use Rattle.tl_show.specs.declared.keyed.KeyedField.{KeyedField}
 
 abbrev Held : Type 0 → Type 0

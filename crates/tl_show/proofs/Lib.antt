@@ -11,10 +11,12 @@ pub mod KeysApart
 pub mod KeyOrder
 pub mod LineTexts
 pub mod MembersFound
+pub mod MembersShown
 pub mod NamedDeclarations
 pub mod NoFloats
 pub mod OtherKeys
 pub mod ReadAnswers
 pub mod ReadLoops
+pub mod ShownValues
 pub mod Sizes
 pub mod Strings

@@ -1,16 +1,16 @@
 -- What an object has at a key.
-use Rattle.std.proofs.Common.{◌≡◌, ℕ, List, [], ◌∷◌, length, Option, Some, None, Result, Ok, Err, option_map, Bor, BTreeMap, String, Global, string_bytes, nat_cmp, refl, sym, ap, ◌∙◌}
+use Rattle.std.proofs.Common.{◌≡◌, ℕ, List, length, Option, Some, None, option_map, Bor, BTreeMap, String, Global, string_bytes, nat_cmp, refl, sym, ap, ◌∙◌}
 use Rattle.std.specs.Prelude.{MatchOption, option_and_then, codes}
 use Rattle.std.specs.BTreeMap.{get_by}
 use Rattle.std.specs.Cmp.Lexicographic.{slice_cmp}
 use Rattle.std.proofs.lemmas.Bool.{ne_eqb}
-use Rattle.serde_json.specs.Data.{Data, Members}
+use Rattle.serde_json.specs.Data.{Members}
 use Rattle.serde_json.specs.Events.{members_len}
 use Rattle.serde_json.specs.Find.{as_str, get_member}
 use Rattle.serde_json.specs.View.{view, members_view}
 use Rattle.serde_json.specs.declared.value.Value.{Value}
 use Rattle.serde_json.proofs.Views.{members_len-members_view, view-lookup, view_of_ref}
-use Rattle.tl_show.specs.Reading.{Read, bytes_of, hex_of, refuses, text_at}
+use Rattle.tl_show.specs.Reading.{bytes_of, hex_of, refuses, text_at}
 use Rattle.tl_show.specs.declared.fault.FormCause.TheVariants.{WrongJson}
 
 abbrev pub Map : Type 0

@@ -1,10 +1,9 @@
 -- The first declaration of a name.
-use Rattle.std.proofs.Common.{◌≡◌, ℕ, zero, suc, ◌+◌, ◌<◌, ◌≤◌, List, [], ◌∷◌, length, Bool, true, false, ◌&&◌, not, Option, Some, None, bytes_eq, refl, ap, sym, ◌∙◌, subst, arith}
+use Rattle.std.proofs.Common.{◌≡◌, ℕ, zero, suc, ◌+◌, ◌<◌, List, [], ◌∷◌, length, Bool, true, false, not, Option, Some, None, bytes_eq, refl, ap, sym, ◌∙◌, subst, arith}
 use Rattle.std.specs.Prelude.{slice_get}
 use Rattle.std.specs.List.{position_from}
 use Rattle.std.specs.Str.{IsAscii}
 use Rattle.std.proofs.lemmas.Bool.{and_from, and_parts, false_from_ne_true}
-use Rattle.std.proofs.lemmas.Option.{slice_get_past}
 use Rattle.std.proofs.lemmas.Slice.Eq.{bytes_eq-Decides}
 use Rattle.std.proofs.lemmas.Str.{encodes-IsAscii, encodes_same}
 use Rattle.tl_schema.specs.CheckedPrograms.{Finds, HasName}
@@ -29,39 +28,31 @@ module _ (function : Bool) (name : List ℕ) where
       let here : is_named function name d ≡ false = none 0 (omega arith) in
       rw here (named_nowhere ds (j + 1) (λ k below. none (suc k) (omega arith)))
 
--- ---- names that are ASCII
-
-same_text : (x y : List ℕ) → bytes_eq x y ≡ true → x ≡ y
-same_text x y is = (bytes_eq-Decides x y).0 is
+-- ---- names as texts
 
 none_from_not : (b : Bool) → not b ≡ true → b ≡ false
 none_from_not true is = let never : false ≡ true = is in cc
 none_from_not false is = refl
 
--- a name is its text, and no other name has this text
-module _ (name : List ℕ) (ascii : IsAscii name) where
-  text_of : (n : List ℕ) → bytes_eq name (name_text n) ≡ true → n ≡ name
-  text_of n is = encodes_same n name (sym (same_text _ _ is) ∙ sym (encodes-IsAscii name ascii))
+-- what it is that a declaration is named so
+pub named_is : (function : Bool) (name : List ℕ) (d : Declaration) → is_named function name d ≡ true → (name ≡ name_text d.name) × (d.function ≡ function)
+named_is true name d is = let p = and_parts d.function (bytes_eq name (name_text d.name)) is in ((bytes_eq-Decides name (name_text d.name)).0 p.1, p.0)
+named_is false name d is =
+    let p = and_parts (not d.function) (bytes_eq name (name_text d.name)) is in
+    ((bytes_eq-Decides name (name_text d.name)).0 p.1, none_from_not d.function p.0)
 
-  is_text : (n : List ℕ) → n ≡ name → bytes_eq name (name_text n) ≡ true
-  is_text n is = (bytes_eq-Decides name (name_text n)).1 (sym (ap name_text is ∙ encodes-IsAscii name ascii))
+pub is_named_so : (function : Bool) (name : List ℕ) (d : Declaration) → name ≡ name_text d.name → d.function ≡ function → is_named function name d ≡ true
+is_named_so true name d is kind = and_from _ _ kind ((bytes_eq-Decides name (name_text d.name)).1 is)
+is_named_so false name d is kind = and_from _ _ (ap not kind) ((bytes_eq-Decides name (name_text d.name)).1 is)
 
-  -- a declaration is named so exactly where it has the name
-  has_name : (function : Bool) (d : Declaration) → is_named function name d ≡ true → (d.name ≡ name) × (d.function ≡ function)
-  has_name true d is = let p = and_parts d.function (bytes_eq name (name_text d.name)) is in (text_of d.name p.1, p.0)
-  has_name false d is = let p = and_parts (not d.function) (bytes_eq name (name_text d.name)) is in (text_of d.name p.1, none_from_not d.function p.0)
-
-  named_so : (function : Bool) (d : Declaration) → d.name ≡ name → d.function ≡ function → is_named function name d ≡ true
-  named_so true d is kind = and_from _ _ kind (is_text d.name is)
-  named_so false d is kind = and_from _ _ (ap not kind) (is_text d.name is)
-
+-- a name that is ASCII is its text, and no other name has this text
 module _ (name : List ℕ) (ascii : IsAscii name) (function : Bool) (ds : List Declaration) where
   named_at : (i : ℕ) → HasName ds name function i → is_named_at function name (slice_get ds i) ≡ true
-  named_at i h = ap (is_named_at function name) h.1 ∙ named_so name ascii function h.0 h.2 h.3
+  named_at i h = ap (is_named_at function name) h.1 ∙ is_named_so function name h.0 (sym (ap name_text h.2 ∙ encodes-IsAscii name ascii)) h.3
 
   has_name_at : (i : ℕ) (o : Option Declaration) → slice_get ds i ≡ o → is_named_at function name o ≡ true → HasName ds name function i
   has_name_at i None there is = let never : false ≡ true = is in cc
-  has_name_at i (Some d) there is = let h = has_name name ascii function d is in (d, there, h.0, h.1)
+  has_name_at i (Some d) there is = let h = named_is function name d is in (d, there, encodes_same d.name name (sym h.0 ∙ sym (encodes-IsAscii name ascii)), h.1)
 
   not_named : (i : ℕ) → (HasName ds name function i → ⊥) → is_named_at function name (slice_get ds i) ≡ false
   not_named i none = false_from_ne_true _ (λ is. none (has_name_at i _ refl is))

@@ -1,22 +1,20 @@
 -- Keys of an object that are no field's.
-use Rattle.std.proofs.Common.{◌≡◌, ℕ, zero, suc, ◌+◌, ◌-◌, ◌<◌, ◌≤◌, List, [], ◌∷◌, length, map, get_or, Bool, true, false, ◌||◌, not, if◌then◌else◌, Option, Some, None, is_some, String, Global, string_bytes, Ordering, Less, Equal, Greater, is_eq, nat_cmp, bytes_eq, refl, sym, ap, ap₂, subst, ◌∙◌, arith, true≢false}
-use Rattle.std.specs.Prelude.{codes, option_and_then}
+use Rattle.std.proofs.Common.{◌≡◌, ℕ, suc, ◌+◌, ◌<◌, ◌≤◌, List, [], ◌∷◌, length, map, get_or, Bool, true, false, ◌||◌, not, Option, Some, is_some, String, Global, string_bytes, Ordering, Less, Equal, Greater, is_eq, nat_cmp, bytes_eq, refl, sym, ap, ap₂, subst, ◌∙◌, arith, true≢false}
 use Rattle.std.specs.Cmp.Lexicographic.{slice_cmp}
 use Rattle.std.specs.List.{list_any}
 use Rattle.std.specs.Map.{keys_of}
 use Rattle.std.specs.Ordering.{match_ordering}
-use Rattle.std.proofs.lemmas.Bool.{false_from_ne_true, or_parts}
 use Rattle.std.proofs.lemmas.Map.Text.{is_eq-slice_cmp}
 use Rattle.std.proofs.lemmas.Slice.Eq.{bytes_eq-Decides}
 use Rattle.serde_json.specs.Data.{Data, Members, no_members, member}
 use Rattle.serde_json.specs.Events.{members_len}
-use Rattle.serde_json.specs.Find.{as_str, get_member}
-use Rattle.serde_json.specs.View.{view, members_view}
+use Rattle.serde_json.specs.Find.{get_member}
+use Rattle.serde_json.specs.View.{members_view}
 use Rattle.serde_json.specs.declared.value.Value.{Value}
 use Rattle.tl_schema.specs.Schemas.{Slot}
 use Rattle.tl_show.specs.Shown.{name_text}
-use Rattle.tl_show.specs.Reading.{has_other, record_keys, text_at}
-use Rattle.tl_show.specs.inner.Keyed.{AreApart, keyed_slot}
+use Rattle.tl_show.specs.Reading.{AreApart, has_other}
+use Rattle.tl_show.specs.inner.Keyed.{keyed_slot}
 use Rattle.tl_show.specs.declared.keyed.KeyedField.{KeyedField}
 
 -- ---- keys as the code goes over them
@@ -50,7 +48,7 @@ known ks (member k d ms) = one_if (list_any (bytes_eq k) ks) + known ks ms
 same_bytes : (x y : List ℕ) → bytes_eq x y ≡ true → x ≡ y
 same_bytes x y is = (bytes_eq-Decides x y).0 is
 
-bytes_are : (x y : List ℕ) → x ≡ y → bytes_eq x y ≡ true
+pub bytes_are : (x y : List ℕ) → x ≡ y → bytes_eq x y ≡ true
 bytes_are x y is = (bytes_eq-Decides x y).1 is
 
 one_at : (o : Ordering) (a : Bool) (k l : List ℕ) (d : Data) (rest : Option Data) (n : ℕ) → is_eq o ≡ bytes_eq k l → bytes_eq l k ≡ a → (is_some rest ≡ true → 1 ≤ n)
@@ -80,10 +78,10 @@ none_any : (p : List ℕ → Bool) (ks : List (List ℕ)) → ((i : ℕ) (d : Li
 none_any p [] none = refl
 none_any p (k ∷ ks) none = ap₂ (λ a b. a || b) (none 0 k (omega arith)) (none_any p ks (λ i d within. none (suc i) d (omega arith)))
 
-first_apart : (k : List ℕ) (ks : List (List ℕ)) → AreApart (k ∷ ks) → list_any (bytes_eq k) ks ≡ false
+pub first_apart : (k : List ℕ) (ks : List (List ℕ)) → AreApart (k ∷ ks) → list_any (bytes_eq k) ks ≡ false
 first_apart k ks apart = none_any (bytes_eq k) ks (λ i d within. apart 0 (suc i) d (omega arith) (omega arith))
 
-rest_apart : (k : List ℕ) (ks : List (List ℕ)) → AreApart (k ∷ ks) → AreApart ks
+pub rest_apart : (k : List ℕ) (ks : List (List ℕ)) → AreApart (k ∷ ks) → AreApart ks
 rest_apart k ks apart = λ i j d less within. apart (suc i) (suc j) d (omega arith) (omega arith)
 
 held_known : (ks : List (List ℕ)) (ms : Members) → AreApart ks → held ks ms ≤ known ks ms

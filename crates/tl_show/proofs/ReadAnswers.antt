@@ -1,10 +1,10 @@
 -- What reading answers, by what its two halves answer.
-use Rattle.std.proofs.Common.{◌≡◌, List, Option, Some, None, Result, Ok, Err}
+use Rattle.std.proofs.Common.{◌≡◌, List, None, Ok, Err}
 use Rattle.serde_json.specs.Data.{Data}
 use Rattle.tl_schema.specs.Types.{Shape}
 use Rattle.tl_schema.specs.Schemas.{Declaration}
 use Rattle.tl_types.specs.Values.{ValueView}
-use Rattle.tl_types.specs.Fitting.{MisfitView, TellsMisfit, misfit}
+use Rattle.tl_types.specs.Fitting.{TellsMisfit, misfit}
 use Rattle.tl_types.specs.declared.misfit.FitFault.{FitFault}
 use Rattle.tl_types.specs.declared.misfit.FitFault.TheVariants as fit
 use Rattle.tl_types.specs.declared.value.TheConstants.{MAX_LEVELS}

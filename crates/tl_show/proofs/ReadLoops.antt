@@ -1,5 +1,5 @@
 -- Elements and fields, read one after the other; and the members of an object by their keys.
-use Rattle.std.proofs.Common.{◌≡◌, ℕ, suc, ◌+◌, ◌<◌, List, [], ◌∷◌, ◌++◌, length, drop, map, get_or, Bool, cond, Option, Some, None, Result, Ok, Err, option_map, is_eq, Ordering, Less, Equal, Greater, nat_cmp, string_bytes, bytes_eq, Bor, refl, sym, ap, ◌∙◌, arith}
+use Rattle.std.proofs.Common.{◌≡◌, ℕ, suc, ◌+◌, ◌<◌, List, [], ◌∷◌, ◌++◌, length, drop, map, get_or, cond, Option, Some, None, option_map, is_eq, Ordering, Less, Equal, Greater, nat_cmp, string_bytes, bytes_eq, Bor, refl, sym, ap, ◌∙◌}
 use Rattle.std.specs.BTreeMap.{get_by}
 use Rattle.std.specs.Cmp.Lexicographic.{slice_cmp}
 use Rattle.std.specs.Map.{lookup}
@@ -11,7 +11,7 @@ use Rattle.serde_json.specs.Find.{get_member}
 use Rattle.serde_json.specs.View.{view as data_of, items_view, members_view}
 use Rattle.serde_json.specs.declared.value.Value as json
 use Rattle.tl_schema.specs.Types.{Shape}
-use Rattle.tl_schema.specs.Schemas.{Slot, Declaration}
+use Rattle.tl_schema.specs.Schemas.{Declaration}
 use Rattle.tl_types.specs.Values.{ValueView}
 use Rattle.tl_show.specs.Shown.{name_text}
 use Rattle.tl_show.specs.Reading.{Parts, Read, Reader, ◌>>=◌, each_element, each_field, inside, one_field, parts, reader, readers}

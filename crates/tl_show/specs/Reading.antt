@@ -1,6 +1,6 @@
 -- Values from JSON, by their types: what reads the form that showing gives. This project's own.
 use Rattle.std.specs.Prelude.{◌≡◌, ℕ, suc, ◌-◌, ◌^◌, min, ◌==◌, nat_lt, ℤ, pos, negsuc, List, [], ◌∷◌, ◌++◌, length, map, Bool, true, false, not, ◌&&◌, ◌||◌, if◌then◌else◌, Option, Some, None, option_and_then, Result, Ok, Err, slice_get, codes, bytes_eq}
-use Rattle.std.specs.List.{list_any, position_from}
+use Rattle.std.specs.List.{AllPairs, list_any, position_from}
 use Rattle.std.specs.Map.{lookup}
 use Rattle.hex.specs.Hex.{decode_of}
 use Rattle.hex.specs.declared.error.FromHexError.{FromHexError}
@@ -156,6 +156,10 @@ declaration_named ds T name = None
 -- the keys of a record with these fields
 abbrev pub record_keys : List Slot → List (List ℕ)
 record_keys fs = codes "_" ∷ map (λ f. name_text f.name) fs
+
+-- no two are alike
+abbrev pub AreApart : List (List ℕ) → Type 0
+AreApart ks = AllPairs (λ j k. bytes_eq j k ≡ false) ks
 
 -- a key is none of these
 abbrev pub has_other : List (List ℕ) → Members → Bool

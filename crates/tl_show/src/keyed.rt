@@ -51,8 +51,8 @@ impl<'a> KeyedSchema<'a> {
     ghost use Rattle.tl_types.specs.Fitting.{constructs};
     ghost use Rattle.tl_types.specs.Parts.{fields_in, name_in};
     ghost use Rattle.tl_show.specs.Shown.{name_text};
-    ghost use Rattle.tl_show.specs.Reading.{declaration_named, is_named, of_type, record_keys};
-    ghost use Rattle.tl_show.specs.inner.Keyed.{AreApart, is_named_at, keyed_slot};
+    ghost use Rattle.tl_show.specs.Reading.{AreApart, declaration_named, is_named, of_type, record_keys};
+    ghost use Rattle.tl_show.specs.inner.Keyed.{is_named_at, keyed_slot};
 
     pub fn of(alloc: Global, schema: &'a Schema) -> Result<KeyedSchema<'a>, AllocError>
         ensures { IfOk result (λ keyed. keyed ≡ schema.now) }

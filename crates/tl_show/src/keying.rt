@@ -2,8 +2,8 @@
 ghost use Rattle.std.specs.Prelude.{◌≡◌, IfOk, codes, map, true};
 ghost use Rattle.std.specs.Prelude.{◌∷◌};
 ghost use Rattle.tl_schema.specs.Seen.{declaration, slot};
-ghost use Rattle.tl_show.specs.Reading.{record_keys};
-ghost use Rattle.tl_show.specs.inner.Keyed.{AreApart, AreKeyed, IsKeyed, keyed_slot};
+ghost use Rattle.tl_show.specs.Reading.{AreApart, record_keys};
+ghost use Rattle.tl_show.specs.inner.Keyed.{AreKeyed, IsKeyed, keyed_slot};
 
 use crate::keyed::{KeyedEntry, KeyedField};
 use crate::parts::name_text;

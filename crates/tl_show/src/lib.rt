@@ -5,6 +5,7 @@ mod fault;
 mod forms;
 mod keyed;
 mod keying;
+mod laws;
 mod line;
 mod parts;
 mod plain;
@@ -15,6 +16,7 @@ mod tree;
 mod writing;
 
 pub use fault::{FormCause, ReadFault};
+pub use laws::each_value_reads_back;
 pub use line::show_text;
 pub use reading::read;
 pub use tree::show;

@@ -1,19 +1,14 @@
 -- Declarations with the keys of their records. This project's own.
-use Rattle.std.specs.Prelude.{◌≡◌, ℕ, List, [], ◌∷◌, map, Bool, true, false, Option, Some, None, bytes_eq, string_bytes, ⊤}
-use Rattle.std.specs.List.{AllPairs}
+use Rattle.std.specs.Prelude.{◌≡◌, ℕ, List, [], ◌∷◌, map, Bool, true, false, Option, Some, None, string_bytes, ⊤}
 use Rattle.tl_schema.specs.Schemas.{Slot, Declaration}
 use Rattle.tl_schema.specs.Seen.{slot}
 use Rattle.tl_show.specs.Shown.{name_text}
-use Rattle.tl_show.specs.Reading.{is_named, record_keys}
+use Rattle.tl_show.specs.Reading.{AreApart, is_named, record_keys}
 use Rattle.tl_show.specs.declared.keyed.KeyedField.{KeyedField}
 use Rattle.tl_show.specs.declared.keyed.KeyedEntry.{KeyedEntry}
 
 abbrev pub keyed_slot : KeyedField → Slot
 keyed_slot f = slot f.field.now
-
--- no two are alike
-abbrev pub AreApart : List (List ℕ) → Type 0
-AreApart ks = AllPairs (λ j k. bytes_eq j k ≡ false) ks
 
 pub record IsKeyed (d : Declaration) (e : KeyedEntry) : Type 0 where
   pub text : string_bytes e.name ≡ name_text d.name

@@ -1,8 +1,6 @@
-use Rattle.std.proofs.Common.{List, ℕ, sym, ap, ◌∙◌, arith}
-use Rattle.std.specs.Prelude.{option_map}
+use Rattle.std.proofs.Common.{List, ℕ, sym, ◌∙◌}
 use Rattle.serde_json.specs.View.{members_view}
 use Rattle.tl_show.specs.declared.fault.FormCause.TheVariants.{WrongJson}
-use Rattle.tl_show.specs.inner.FormTells.{TellsFault}
 use Rattle.tl_show.proofs.FormSteps.{tells_here, tells_same}
 use Rattle.tl_show.proofs.MembersFound.{hex_digits, hex_other, members_counted}
 use Rattle.tl_show.proofs.plain.hex_of.Goals as goal

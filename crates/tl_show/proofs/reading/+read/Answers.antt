@@ -1,12 +1,11 @@
-use Rattle.std.proofs.Common.{Some, None, [], ap, map, refl, sym, ◌∙◌}
+use Rattle.std.proofs.Common.{Some, None, ap, map, refl, sym, ◌∙◌}
 use Rattle.std.proofs.lemmas.Result.{err_from_is_err_and}
-use Rattle.serde_json.specs.View.{view as data_of, items_view, members_view}
-use Rattle.tl_schema.specs.Closing.{closed}
+use Rattle.serde_json.specs.View.{members_view}
 use Rattle.tl_schema.specs.Seen.{shape}
 use Rattle.tl_types.specs.Seen.{view}
 use Rattle.tl_types.proofs.Closings.{closed_none, no_arguments}
 use Rattle.tl_show.specs.Shown.{name_text}
-use Rattle.tl_show.specs.Reading.{each_element, one_field, parts, reader, readers}
+use Rattle.tl_show.specs.Reading.{one_field, parts}
 use Rattle.tl_show.specs.inner.Keyed.{keyed_slot}
 use Rattle.tl_show.proofs.FieldCounts.{filled}
 use Rattle.tl_show.proofs.FormSteps.{tells_same}
