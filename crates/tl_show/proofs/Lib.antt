@@ -20,3 +20,5 @@ pub mod ReadLoops
 pub mod ShownValues
 pub mod Sizes
 pub mod Strings
+mod TextNames
+mod NamesTelling

@@ -16,7 +16,7 @@ mod tree;
 mod writing;
 
 pub use fault::{FormCause, ReadFault};
-pub use laws::each_value_reads_back;
+pub use laws::{each_text_tells, each_value_reads_back};
 pub use line::show_text;
 pub use reading::read;
 pub use tree::show;
