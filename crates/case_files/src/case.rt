@@ -71,6 +71,38 @@ impl Case {
         }
     }
 
+    /// The way back, where the run is a `decode` that prints a value: `encode` of its line writes the input's bytes.
+    pub fn back(&self) -> Result<Option<Case>, AllocError> {
+        let [command, schema, of, input] = self.words.as_slice() else {
+            return Ok(None);
+        };
+        if command.as_str() != "decode" || self.wanted.status != 0 {
+            return Ok(None);
+        }
+        let Some(bytes) = self.setting.file(input.as_str()) else {
+            return Ok(None);
+        };
+        let mut wanted = Ending::new(self.alloc);
+        wanted.output.extend_from_slice(bytes)?;
+        let mut setting = self.setting.copy()?;
+        setting.calm();
+        setting.begin(input.as_str(), self.wanted.output.clone()?)?;
+        let mut words = Vec::new(self.alloc);
+        words.push(String::from_str(self.alloc, "encode")?)?;
+        for word in [schema, of, input] {
+            words.push(word.clone()?)?;
+        }
+        let mut title = self.title.clone()?;
+        title.push_str(", back")?;
+        Ok(Some(Case {
+            alloc: self.alloc,
+            title,
+            words,
+            setting,
+            wanted,
+        }))
+    }
+
     /// The words that the program is started with.
     pub fn words(&self) -> &[String] {
         self.words.as_slice()

@@ -26,6 +26,8 @@ struct Reader {
     begun: u64,
     first: usize,
     setting: Setting,
+    // The line that says that the case goes both ways. 0: there is none.
+    both_ways: u64,
     // The line that says something of the next run's calls. 0: there is none.
     unused: u64,
     // The block that was begun, and its line.
@@ -60,6 +62,7 @@ impl Reader {
             begun: 0,
             first: 0,
             setting: Setting::new(alloc),
+            both_ways: 0,
             unused: 0,
             block: None,
             block_line: 0,
@@ -84,12 +87,43 @@ impl Reader {
         Ok(())
     }
 
+    // The way back of each run of the case that was begun last, where that has one.
+    fn ways_back(&self) -> Result<Vec<Case>, CaseFault> {
+        let mut backs = Vec::new(self.alloc);
+        for case in self.cases.iter().skip(self.first) {
+            if let Some(back) = case.back()? {
+                backs.push(back)?;
+            }
+        }
+        if backs.is_empty() {
+            return Err(CaseFault::Unused);
+        }
+        Ok(backs)
+    }
+
+    // Puts the runs back, where the case goes both ways.
+    fn turn_back(&mut self) -> Result<(), CaseFault> {
+        if self.both_ways > 0 {
+            let mut backs = self.ways_back()?;
+            self.cases.append(&mut backs)?;
+        }
+        Ok(())
+    }
+
+    // Ends the case that was begun last.
+    fn close(&mut self) -> Result<(), BadLine> {
+        self.is_closed()?;
+        let turned = self.turn_back();
+        at_line(self.both_ways, turned)
+    }
+
     // Begins a case: no file, and no call that fails.
     fn begin(&mut self, line: u64, name: &str) -> Result<(), AllocError> {
         self.name = String::from_str(self.alloc, name)?;
         self.begun = line;
         self.first = self.cases.len();
         self.setting = Setting::new(self.alloc);
+        self.both_ways = 0;
         Ok(())
     }
 
@@ -178,6 +212,10 @@ impl Reader {
             "text" | "line" | "hex" | "repeat" | "pad" | "chop" => {
                 self.setting.take_content(word, rest)
             }
+            "both-ways" => {
+                self.both_ways = number;
+                Ok(())
+            }
             "reads-at-most" | "room" | "fails" => self.call(number, word, rest),
             "run" => self.run(number, rest),
             "same" => self.want_as_before(),
@@ -197,7 +235,7 @@ impl Reader {
         let (word, rest) = cut_word(line);
         let taken = match word {
             "case" => {
-                self.is_closed()?;
+                self.close()?;
                 self.begin(number, rest).map_err(CaseFault::Memory)
             }
             _ if self.begun == 0 => Err(CaseFault::NoCase),
@@ -253,15 +291,15 @@ impl Reader {
         }
     }
 
-    // All that was begun is ended.
-    fn is_ended(&self) -> Result<(), BadLine> {
+    // Ends all that was begun.
+    fn end(&mut self) -> Result<(), BadLine> {
         if self.block.is_some() {
             return Err(BadLine {
                 line: self.block_line,
                 fault: CaseFault::NoEnd,
             });
         }
-        self.is_closed()
+        self.close()
     }
 }
 
@@ -280,7 +318,7 @@ fn read_lines(rt: &HostRuntime, mut reader: Reader, text: &str) -> Result<Vec<Ca
         number = number.saturating_add(1);
         reader.take_line(rt, number, line)?;
     }
-    reader.is_ended()?;
+    reader.end()?;
     Ok(reader.cases)
 }
 

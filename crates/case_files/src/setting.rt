@@ -110,6 +110,16 @@ impl Setting {
         Ok(())
     }
 
+    /// The bytes of the file with this name.
+    pub fn file(&self, name: &str) -> Option<&[u8]> {
+        for file in self.files.iter() {
+            if file.name.as_str() == name {
+                return Some(file.bytes.as_slice());
+            }
+        }
+        None
+    }
+
     /// Takes a line that says how the file that was begun last goes on.
     pub fn take_content(&mut self, word: &str, rest: &str) -> Result<(), CaseFault> {
         let alloc = self.alloc;
