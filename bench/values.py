@@ -140,10 +140,16 @@ def values(count):
 
 def show(name, words, value, answer, wanted, input_path=None):
     """Measures the runs of one value, whose answer has to be the one wanted, and prints a row."""
-    took = runs.least_time(words, answer, input_path=input_path)
+    runs.least_time(words, answer, input_path=input_path)
     with open(answer, "rb") as file:
-        if file.read() != wanted.encode():
+        if file.read() != wanted:
             sys.exit(f"{name}: another answer than {wanted[:60]!r}..")
+    show_row(name, words, value, wanted, answer, input_path)
+
+
+def show_row(name, words, value, wanted, answer, input_path=None):
+    """Measures the runs of one value, and prints a row."""
+    took = runs.least_time(words, answer, input_path=input_path)
     memory = runs.peak_memory(words, input_path)
     steps = runs.instructions(words, input_path)
     sizes = f"{len(value):>9} {len(wanted):>9}"
@@ -154,22 +160,26 @@ def shown(number, unit):
     return "-" if number is None else f"{number / unit:.1f}"
 
 
+def show_head():
+    head = f"{'bytes':>9} {'answer':>9} {'seconds':>8} {'ns/byte':>8} {'MB':>7} {'Minstructions':>13}"
+    print(f"{'value':>8} {head}")
+
+
 def main():
     tlbox, _, numbers = runs.arguments()
     count = numbers[0] if numbers else 200_000
-    head = f"{'bytes':>9} {'answer':>9} {'seconds':>8} {'ns/byte':>8} {'MB':>7} {'Minstructions':>13}"
-    print(f"{'value':>8} {head}")
+    show_head()
     with tempfile.TemporaryDirectory() as folder:
         schema, proto, value, answer = (os.path.join(folder, name) for name in ("schema.tl", "records.proto", "value", "answer"))
         runs.write(schema, SCHEMA.encode())
         runs.write(proto, PROTO.encode())
         for name, kind, spelled, line in values(count):
             runs.write(value, spelled)
-            show(name, [tlbox, "decode", schema, kind, value], spelled, answer, line)
+            show(name, [tlbox, "decode", schema, kind, value], spelled, answer, line.encode())
         if shutil.which("protoc"):
             spelled = proto_records(count)
             runs.write(value, spelled)
-            show("protoc", ["protoc", "-I", folder, "--decode=Records", proto], spelled, answer, proto_text(count), value)
+            show("protoc", ["protoc", "-I", folder, "--decode=Records", proto], spelled, answer, proto_text(count).encode(), value)
             version = subprocess.run(["protoc", "--version"], capture_output=True, text=True, check=True).stdout
             print(f"protoc is {version.strip()}, and reads the records of the first row")
 
