@@ -1,8 +1,8 @@
 -- Other events that don't overlap.
-use Rattle.std.proofs.Common.{◌≡◌, ℕ, ◌+◌, ◌<◌, ◌≤◌, List, [], ◌∷◌, length, Option, Some, None, Bool, true, false, cond, ltb, ◌||◌, refl, sym, ap, ◌∙◌, subst, arith}
+use Rattle.std.proofs.Common.{◌≡◌, ℕ, ◌+◌, ◌≤◌, List, [], ◌∷◌, Option, Some, None, Bool, true, false, cond, ltb, ◌||◌, refl, sym, ◌∙◌, arith}
 use Rattle.std.proofs.lemmas.Bool.Decides.{nat_tests}
-use Rattle.box_events.specs.Happenings.{count_of}
-use Rattle.difference.specs.declared.placed.Placed.{Placed}
+use Rattle.box_events.specs.Events.{count_of}
+use Rattle.box_events.specs.declared.updates.Placed.{Placed}
 use Rattle.difference.specs.Refusal.{overlap, counts}
 
 no_some : {A : Type 0} (b : Bool) (x : A) (o : Option A) → cond b (Some x) o ≡ None → (b ≡ false) × (o ≡ None)

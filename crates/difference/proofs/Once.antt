@@ -1,35 +1,35 @@
 -- One list at most is woven of the same parts, and they fit.
-use Rattle.std.proofs.Common.{◌≡◌, ℕ, ◌+◌, ◌≤◌, List, [], ◌∷◌, length, None, Some, Option, Bool, true, false, refl, sym, ap, ◌∙◌, subst, arith}
-use Rattle.box_events.specs.Happenings.{Happening, added, edited, deleted, count_of, body_of}
+use Rattle.std.proofs.Common.{◌≡◌, ℕ, ◌+◌, ◌≤◌, List, [], ◌∷◌, length, None, Some, Option, false, refl, sym, ap, ◌∙◌, subst, arith}
+use Rattle.box_events.specs.Events.{EventView, added, edited, deleted, read, count_of, is_new}
 use Rattle.box_events.specs.Boxes.{ending}
-use Rattle.difference.specs.declared.placed.Placed.{Placed}
-use Rattle.difference.specs.declared.fault.WeaveFault.{WeaveFault}
+use Rattle.box_events.specs.declared.updates.Placed.{Placed}
 use Rattle.difference.specs.declared.fault.WeaveFault.TheVariants.{Overlap, Uneven, Memory}
-use Rattle.difference.specs.Weaving.{Woven, is_new, bodies, others_from, ends_at}
-use Rattle.difference.specs.Refusal.{AreOthers, Fits, Refuses, overlap, counts, covered}
+use Rattle.difference.specs.Weaving.{Woven, bodies, others_from, ends_at}
+use Rattle.difference.specs.Refusal.{AreOthers, overlap, counts, covered}
 use Rattle.difference.specs.Laws.{IsOneList, EachFits, EachThatFitsIsWoven, HasOthers, IsNotRefused}
 use Rattle.difference.specs.inner.Merging.{merged}
 use Rattle.difference.proofs.Apart.{apart_more, apart_lower}
-use Rattle.difference.proofs.Merged.{new_first, other_first, fitting_woven}
+use Rattle.difference.proofs.Merged.{other_first, fitting_woven}
 
 -- an event is a message, or none
-data Sort (e : Happening) : Type 0 where
+data Sort (e : EventView) : Type 0 where
   message : (b : List ℕ) → e ≡ added b → Sort e
   other : is_new e ≡ false → Sort e
 
-sort_of : (e : Happening) → Sort e
+sort_of : (e : EventView) → Sort e
 sort_of (added b) = message b refl
 sort_of (edited b) = other refl
 sort_of (deleted ids) = other refl
+sort_of (read id) = other refl
 
-message_first : (e : Happening) (b : List ℕ) (es : List Happening) (p : ℕ) → e ≡ added b → (bodies (e ∷ es) ≡ b ∷ bodies es) × (others_from p (e ∷ es) ≡ others_from (p + 1) es) × (count_of e ≡ 1)
-message_first e b es p is = (ap (λ (h : Happening). bodies (h ∷ es)) is, ap (λ (h : Happening). others_from p (h ∷ es)) is, ap count_of is)
+message_first : (e : EventView) (b : List ℕ) (es : List EventView) (p : ℕ) → e ≡ added b → (bodies (e ∷ es) ≡ b ∷ bodies es) × (others_from p (e ∷ es) ≡ others_from (p + 1) es) × (count_of e ≡ 1)
+message_first e b es p is = (ap (λ (h : EventView). bodies (h ∷ es)) is, ap (λ (h : EventView). others_from p (h ∷ es)) is, ap count_of is)
 
 heads : {A : Type 0} (x y : A) (xs ys : List A) → x ∷ xs ≡ y ∷ ys → (x ≡ y) × (xs ≡ ys)
 heads x y xs ys e = (cc, cc)
 
 -- the first other event ends no earlier than its count after the number from which the list starts
-later : (p : ℕ) (es : List Happening) (o : Placed) (os : List Placed) → others_from p es ≡ o ∷ os → p + count_of o.event ≤ o.pts
+later : (p : ℕ) (es : List EventView) (o : Placed) (os : List Placed) → others_from p es ≡ o ∷ os → p + count_of o.event ≤ o.pts
 later p [] o os is = absurd cc
 later p (e ∷ es) o os is = elim (sort_of e) [
   | message b eb ↦
@@ -42,18 +42,18 @@ later p (e ∷ es) o os is = elim (sort_of e) [
       omega (arith, stop, same)
 ]
 
-never : (p : ℕ) (es fs : List Happening) (e f : Happening) (b : List ℕ) → e ≡ added b → is_new f ≡ false → others_from p (e ∷ es) ≡ others_from p (f ∷ fs) → ⊥
+never : (p : ℕ) (es fs : List EventView) (e f : EventView) (b : List ℕ) → e ≡ added b → is_new f ≡ false → others_from p (e ∷ es) ≡ others_from p (f ∷ fs) → ⊥
 never p es fs e f b new plain same =
     let le : (p + 1) + count_of f ≤ p + count_of f = later (p + 1) es (ends_at f (p + count_of f)) (others_from (p + count_of f) fs) (sym (message_first e b es p new).1 ∙ same ∙ (other_first f fs p plain).1) in
     absurd (omega arith)
 
 -- two lists with the same parts begin with the same event, and have the same parts after it
-record Alike (p : ℕ) (e f : Happening) (es fs : List Happening) : Type 0 where
+record Alike (p : ℕ) (e f : EventView) (es fs : List EventView) : Type 0 where
   first : e ≡ f
   messages : bodies es ≡ bodies fs
   rest : others_from (p + count_of e) es ≡ others_from (p + count_of e) fs
 
-both_new : (p : ℕ) (e f : Happening) (es fs : List Happening) (x y : List ℕ) → e ≡ added x → f ≡ added y → bodies (e ∷ es) ≡ bodies (f ∷ fs) → others_from p (e ∷ es) ≡ others_from p (f ∷ fs) → Alike p e f es fs
+both_new : (p : ℕ) (e f : EventView) (es fs : List EventView) (x y : List ℕ) → e ≡ added x → f ≡ added y → bodies (e ∷ es) ≡ bodies (f ∷ fs) → others_from p (e ∷ es) ≡ others_from p (f ∷ fs) → Alike p e f es fs
 both_new p e f es fs x y ex fy b o =
     let m = message_first e x es p ex in
     let n = message_first f y fs p fy in
@@ -61,15 +61,15 @@ both_new p e f es fs x y ex fy b o =
     let rest : others_from (p + 1) es ≡ others_from (p + 1) fs = sym m.1 ∙ o ∙ n.1 in
     record { first = ex ∙ ap added h.0 ∙ sym fy; messages = h.1; rest = subst (λ (k : ℕ). others_from (p + k) es ≡ others_from (p + k) fs) (sym m.2) rest }
 
-both_other : (p : ℕ) (e f : Happening) (es fs : List Happening) → is_new e ≡ false → is_new f ≡ false → bodies (e ∷ es) ≡ bodies (f ∷ fs) → others_from p (e ∷ es) ≡ others_from p (f ∷ fs) → Alike p e f es fs
+both_other : (p : ℕ) (e f : EventView) (es fs : List EventView) → is_new e ≡ false → is_new f ≡ false → bodies (e ∷ es) ≡ bodies (f ∷ fs) → others_from p (e ∷ es) ≡ others_from p (f ∷ fs) → Alike p e f es fs
 both_other p e f es fs m n b o =
     let x = other_first e es p m in
     let y = other_first f fs p n in
     let h = heads (ends_at e (p + count_of e)) (ends_at f (p + count_of f)) (others_from (p + count_of e) es) (others_from (p + count_of f) fs) (sym x.1 ∙ o ∙ y.1) in
     let same : e ≡ f = ap (λ (k : Placed). k.event) h.0 in
-    record { first = same; messages = sym x.0 ∙ b ∙ y.0; rest = h.1 ∙ ap (λ (k : Happening). others_from (p + count_of k) fs) (sym same) }
+    record { first = same; messages = sym x.0 ∙ b ∙ y.0; rest = h.1 ∙ ap (λ (k : EventView). others_from (p + count_of k) fs) (sym same) }
 
-alike : (p : ℕ) (e f : Happening) (es fs : List Happening) → bodies (e ∷ es) ≡ bodies (f ∷ fs) → others_from p (e ∷ es) ≡ others_from p (f ∷ fs) → Alike p e f es fs
+alike : (p : ℕ) (e f : EventView) (es fs : List EventView) → bodies (e ∷ es) ≡ bodies (f ∷ fs) → others_from p (e ∷ es) ≡ others_from p (f ∷ fs) → Alike p e f es fs
 alike p e f es fs b o = elim (sort_of e) [
   | message x ex ↦ elim (sort_of f) [
     | message y fy ↦ both_new p e f es fs x y ex fy b o
@@ -81,12 +81,13 @@ alike p e f es fs b o = elim (sort_of e) [
   ]
 ]
 
-some_part : (p : ℕ) (f : Happening) (fs : List Happening) → [] ≡ bodies (f ∷ fs) → [] ≡ others_from p (f ∷ fs) → ⊥
+some_part : (p : ℕ) (f : EventView) (fs : List EventView) → [] ≡ bodies (f ∷ fs) → [] ≡ others_from p (f ∷ fs) → ⊥
 some_part p (added x) fs b o = cc
 some_part p (edited x) fs b o = cc
 some_part p (deleted x) fs b o = cc
+some_part p (read x) fs b o = cc
 
-same_parts : (p : ℕ) (es fs : List Happening) → bodies es ≡ bodies fs → others_from p es ≡ others_from p fs → es ≡ fs
+same_parts : (p : ℕ) (es fs : List EventView) → bodies es ≡ bodies fs → others_from p es ≡ others_from p fs → es ≡ fs
 same_parts p [] [] b o = refl
 same_parts p [] (f ∷ fs) b o = absurd (some_part p f fs b o)
 same_parts p (e ∷ es) [] b o = absurd (some_part p e es (sym b) (sym o))
@@ -98,7 +99,7 @@ same_parts p (e ∷ es) (f ∷ fs) b o =
 pub is_one_list : IsOneList
 is_one_list from to news others xs ys v w = same_parts from xs ys (v.messages ∙ sym w.messages) (v.rest ∙ sym w.rest)
 
-apart_of : (p to : ℕ) (es : List Happening) → p + ending es ≤ to → overlap p to (others_from p es) ≡ None
+apart_of : (p to : ℕ) (es : List EventView) → p + ending es ≤ to → overlap p to (others_from p es) ≡ None
 apart_of p to [] le = refl
 apart_of p to (e ∷ es) le =
     let more : overlap (p + count_of e) to (others_from (p + count_of e) es) ≡ None = apart_of (p + count_of e) to es (omega (arith, le)) in
@@ -111,7 +112,7 @@ apart_of p to (e ∷ es) le =
           ap (overlap p to) (other_first e es p plain).1 ∙ sym (apart_more p to (ends_at e (p + count_of e)) (others_from (p + count_of e) es) (omega arith) (omega (arith, le))) ∙ more
     ]
 
-covered_of : (p : ℕ) (es : List Happening) → covered (bodies es) (others_from p es) ≡ ending es
+covered_of : (p : ℕ) (es : List EventView) → covered (bodies es) (others_from p es) ≡ ending es
 covered_of p [] = refl
 covered_of p (e ∷ es) =
     let more = covered_of (p + count_of e) es in
@@ -137,7 +138,7 @@ each_fits from to news others events w =
 pub each_that_fits_is_woven : EachThatFitsIsWoven
 each_that_fits_is_woven from to news others kinds fits = (merged from news others, fitting_woven from to news others kinds fits)
 
-are_others : (p : ℕ) (es : List Happening) → AreOthers (others_from p es)
+are_others : (p : ℕ) (es : List EventView) → AreOthers (others_from p es)
 are_others p [] = tt
 are_others p (e ∷ es) = elim (sort_of e) [
   | message b eb ↦ subst AreOthers (sym (message_first e b es p eb).1) (are_others (p + 1) es)
@@ -156,6 +157,6 @@ is_not_refused from to news others events (Uneven a b c) w r = absurd (r.4 (each
 is_not_refused from to news others events Memory w r = refl
 
 -- what is merged of the parts of a list is the list
-pub merged_is : (from to : ℕ) (news : List (List ℕ)) (others : List Placed) (events : List Happening) → Woven from to news others events → merged from news others ≡ events
+pub merged_is : (from to : ℕ) (news : List (List ℕ)) (others : List Placed) (events : List EventView) → Woven from to news others events → merged from news others ≡ events
 merged_is from to news others events w =
     is_one_list from to news others (merged from news others) events (fitting_woven from to news others (has_others from to news others events w) (each_fits from to news others events w)) w

@@ -1,17 +1,16 @@
 -- Where messages and other events make no list of events between two numbers. This project's own.
 use Rattle.std.specs.Prelude.{◌≡◌, ◌≢◌, ℕ, ◌+◌, List, [], ◌∷◌, length, false, ltb, ◌||◌, if◌then◌else◌, Option, Some, None}
-use Rattle.box_events.specs.Happenings.{count_of}
-use Rattle.difference.specs.declared.placed.Placed.{Placed}
+use Rattle.box_events.specs.Events.{count_of, is_new}
+use Rattle.box_events.specs.declared.updates.Placed.{Placed}
 use Rattle.difference.specs.declared.fault.WeaveFault.{WeaveFault}
 use Rattle.difference.specs.declared.fault.WeaveFault.TheVariants.{Overlap, Uneven, Memory}
-use Rattle.difference.specs.Weaving.{is_new}
 
 -- each is no message
 abbrev pub AreOthers : List Placed → Type 0
 AreOthers [] = Unit {0}
 AreOthers (o ∷ os) = (is_new o.event ≡ false) × AreOthers os
 
--- where the first event ends that starts below the end of the one before it, or of the list's start, or ends past the list's end
+-- where the first event ends that starts below the end of the one before it, or below the list's start, or ends past the list's end
 abbrev pub overlap : ℕ → ℕ → List Placed → Option ℕ
 overlap at to [] = None
 overlap at to (o ∷ os) = if ltb o.pts (at + count_of o.event) || ltb to o.pts then Some o.pts else overlap o.pts to os

@@ -4,11 +4,9 @@
 mod fault;
 mod laws;
 mod parts;
-mod placed;
 mod weaving;
 
 pub use fault::WeaveFault;
 pub use laws::woven_lists;
 pub use parts::{Parts, split};
-pub use placed::Placed;
 pub use weaving::weave;

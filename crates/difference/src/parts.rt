@@ -1,17 +1,16 @@
 //! Lists of events, taken apart.
 ghost use Rattle.std.specs.Prelude.{◌≡◌, ◌≤◌, ◌+◌, ◌∷◌, ◌++◌, [], IfOk, OnOk, OnErr};
-ghost use Rattle.box_events.specs.Happenings.{count_of};
+ghost use Rattle.box_events.specs.Events.{count_of, is_new};
 ghost use Rattle.box_events.specs.Boxes.{ending};
-ghost use Rattle.difference.specs.Weaving.{Woven, is_new};
+ghost use Rattle.difference.specs.Weaving.{Woven};
 
-use crate::placed::Placed;
-use box_events::{Event, Kind};
+use box_events::{Event, Kind, ListOf, MAX_END, Placed};
 use std::alloc::Global;
 use std::marker::Model;
 use tl_base::{Bytes, Memory};
 
-/// A list of events that starts at a number of its box, and grows at its end. It is held as a difference gives it: the messages' bodies apart from
-/// the other events.
+/// A list of events that starts at a number of its box and grows at its end, held as a difference gives it: the messages' bodies apart from the
+/// other events ("Working with Updates", core.telegram.org/api/updates: new_messages, other_updates).
 #[derive(Debug, Drop)]
 pub struct Parts {
     from: u32,
@@ -21,12 +20,12 @@ pub struct Parts {
 }
 
 impl Model for Parts {
-    ghost use Rattle.difference.specs.Stretches.{Stretch};
-    ghost use Rattle.difference.specs.inner.PartsViews.{stretch_of, AreParts};
+    ghost use Rattle.difference.specs.PartsView.{PartsView};
+    ghost use Rattle.difference.specs.inner.Parted.{view_of, AreParts};
 
-    ghost Value = { Stretch };
+    ghost Value = { PartsView };
 
-    ghost view = { stretch_of };
+    ghost view = { view_of };
 
     ghost invariant = { AreParts };
 }
@@ -45,9 +44,9 @@ impl Parts {
         }
     }
 
-    /// Appends a copy of an event.
+    /// Appends a copy of an event. `from` and the counts, its own among them, are 1,000,000 at most.
     pub fn add(&mut self, event: &Event) -> Result<(), Memory>
-        requires limit { self.old.from + ending self.old.events + count_of event.now ≤ 1000000 }
+        requires limit { self.old.from + ending self.old.events + count_of event.now ≤ MAX_END }
         ensures from { self.new.from ≡ self.old.from }
         ensures ok { OnOk result (self.new.events ≡ self.old.events ++ event.now ∷ []) }
         ensures err { OnErr result (self.new ≡ self.old) }
@@ -65,10 +64,10 @@ impl Parts {
     }
 
     /// The messages' bodies, and the other events, each with the number at which it ends.
-    pub fn open(self) -> (Vec<Bytes>, Vec<Placed>)
-        ensures { Woven self.from (self.from + ending self.events) result.0.items result.1.items self.events }
+    pub fn open(self) -> (ListOf<Bytes>, ListOf<Placed>)
+        ensures { Woven self.from (self.from + ending self.events) result.0 result.1 self.events }
     {
-        (self.news, self.others)
+        (ListOf::from_vec(self.news), ListOf::from_vec(self.others))
     }
 }
 
@@ -78,14 +77,14 @@ fn is_message(event: &Event) -> bool
     matches!(event.kind(), Kind::New)
 }
 
-/// The messages' bodies of a list of events that starts at `from`, and its other events, each with the number at which it ends. Both are copies.
+/// The messages' bodies of a list of events that starts at `from`, and its other events, each with the number at which it ends; all are copies.
 pub fn split(
     alloc: Global,
     events: &[Event],
     from: u32,
-) -> Result<(Vec<Bytes>, Vec<Placed>), Memory>
-    requires limit { from + ending events.now ≤ 1000000 }
-    ensures { IfOk result (λ p. Woven from (from + ending events.now) p.0.items p.1.items events.now) }
+) -> Result<(ListOf<Bytes>, ListOf<Placed>), Memory>
+    requires limit { from + ending events.now ≤ MAX_END }
+    ensures { IfOk result (λ p. Woven from (from + ending events.now) p.0 p.1 events.now) }
 {
     let mut parts = Parts::new(alloc, from);
     for event in events {

@@ -6,28 +6,30 @@ ghost use Rattle.difference.specs.Refusal.{AreOthers, Refuses, overlap};
 ghost use Rattle.difference.specs.inner.Merging.{Covers, Moved, merged};
 
 use crate::fault::WeaveFault;
-use crate::placed::Placed;
-use box_events::Event;
+use box_events::{Event, ListOf, MAX_END, Placed};
 use std::alloc::Global;
 use std::vec::IntoIter;
 use tl_base::Bytes;
 
-/// The list of events between two numbers that has these messages and these other events. Nothing is copied: the bodies and events are moved, and
-/// the list's memory is taken at once, after the parts were found to fit.
+/// The list of events from one number of a box to another that has these messages, by their bodies, and these other events, by where they end
+/// ("Working with Updates", core.telegram.org/api/updates: pts and pts_count). Each message counts for one number and stands in the first that the
+/// other events leave free. Bodies and events are moved; the list's memory is taken at once, after the parts were found to fit.
 pub fn weave(
     alloc: Global,
     from: u32,
     to: u32,
-    news: Vec<Bytes>,
-    others: Vec<Placed>,
+    news: ListOf<Bytes>,
+    others: ListOf<Placed>,
 ) -> Result<Vec<Event>, WeaveFault>
-    requires from { from ≤ 1000000 }
-    requires to { to ≤ 1000000 }
-    requires few { length news.items < 2 ^ 31 }
-    requires others { AreOthers others.items }
-    ensures woven { IfOk result (λ events. Woven from to news.items others.items events.items) }
-    ensures refused { IfErr result (λ fault. Refuses from to news.items others.items fault) }
+    requires from { from ≤ MAX_END }
+    requires to { to ≤ MAX_END }
+    requires few { length news < 2 ^ 31 }
+    requires others { AreOthers others }
+    ensures woven { IfOk result (λ events. Woven from to news others events.items) }
+    ensures refused { IfErr result (λ fault. Refuses from to news others fault) }
 {
+    let news = news.into_vec();
+    let others = others.into_vec();
     let covered = match covered_between(&others, from, to) {
         Ok(counts) => counts + news.len() as u32,
         Err(pts) => return Err(WeaveFault::Overlap { pts }),

@@ -1,4 +1,4 @@
-use Rattle.std.proofs.Common.{arith, ap, ◌+◌}
+use Rattle.std.proofs.Common.{arith, ap}
 use Rattle.box_events.specs.Boxes.{ending}
 use Rattle.difference.proofs.Joined.{ending_before}
 use Rattle.difference.proofs.parts.split.Goals as goal

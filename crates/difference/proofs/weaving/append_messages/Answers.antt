@@ -1,6 +1,6 @@
-use Rattle.std.proofs.Common.{refl, ap, ◌∙◌, ◌++◌, ◌∷◌, [], ◌+◌, arith}
+use Rattle.std.proofs.Common.{refl, ap, ◌∙◌, ◌++◌, ◌∷◌, [], arith}
 use Rattle.std.specs.Vec.Iter.{into_iter_items}
-use Rattle.difference.proofs.Moving.{moving_none, one_moved, moved_all, moved_most, no_items}
+use Rattle.difference.proofs.Moving.{moving_none, one_moved}
 use Rattle.difference.proofs.weaving.append_messages.Goals as goal
 
 pub loop-init : goal.loop-init

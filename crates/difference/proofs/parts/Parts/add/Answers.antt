@@ -1,5 +1,5 @@
 use Rattle.std.proofs.Common.{◌≡◌, List, ◌++◌, ◌∷◌, [], sym, ap, ◌∙◌, refl}
-use Rattle.box_events.specs.Happenings.{Happening}
+use Rattle.box_events.specs.Events.{EventView}
 use Rattle.difference.proofs.Added.{Grows, grows_message, grows_other}
 use Rattle.difference.proofs.parts.Parts.add.Goals as goal
 use Rattle.difference.proofs.parts.Parts.add.Goals.{then-is_message+in_ok-body+in_ok-push, else-is_message+in_ok-event+in_ok-push-2}
@@ -14,4 +14,4 @@ pub invariant_of-self-2 : goal.invariant_of-self-2
 invariant_of-self-2 c = let g = grown c in rw g.0 g.1.woven
 
 pub returns-clause-ok : goal.returns-clause-ok
-returns-clause-ok c = let g = grown c in rw g.0 (g.1.events ∙ ap (λ (l : List Happening). l ++ c.args.event.now ∷ []) (ap (λ s. s.events) c.self.view_is))
+returns-clause-ok c = let g = grown c in rw g.0 (g.1.events ∙ ap (λ (l : List EventView). l ++ c.args.event.now ∷ []) (ap (λ s. s.events) c.self.view_is))

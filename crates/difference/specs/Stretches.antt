@@ -1,8 +1,0 @@
--- A list of events with the number at which it starts. This project's own.
-use Rattle.std.specs.Prelude.{ℕ, List}
-use Rattle.box_events.specs.Happenings.{Happening}
-
--- events of a box, in order, from a number on
-pub record Stretch : Type 0 where
-  pub from : ℕ
-  pub events : List Happening
