@@ -1,5 +1,6 @@
 -- One list at most is woven of the same parts, and they fit.
-use Rattle.std.proofs.Common.{◌≡◌, ℕ, ◌+◌, ◌≤◌, List, [], ◌∷◌, length, None, Some, Option, false, refl, sym, ap, ◌∙◌, subst, arith}
+use Rattle.std.proofs.Common.{◌≡◌, ℕ, ◌+◌, ◌≤◌, List, [], ◌∷◌, ◌++◌, length, map, append_assoc, append-nil, ap₂, None, Some, Option, false, refl, sym, ap, ◌∙◌, subst, arith}
+use Rattle.std.proofs.lemmas.List.{take_at, drop_at, map-append, length-append}
 use Rattle.box_events.specs.Events.{EventView, added, edited, deleted, read, count_of, is_new}
 use Rattle.box_events.specs.Boxes.{ending}
 use Rattle.box_events.specs.declared.updates.Placed.{Placed}
@@ -7,7 +8,7 @@ use Rattle.difference.specs.declared.fault.WeaveFault.TheVariants.{Overlap, Unev
 use Rattle.difference.specs.Weaving.{Woven, bodies, others_from, ends_at}
 use Rattle.difference.specs.Refusal.{AreOthers, overlap, counts, covered}
 use Rattle.difference.specs.Laws.{IsOneList, EachFits, EachThatFitsIsWoven, HasOthers, IsNotRefused}
-use Rattle.difference.specs.inner.Merging.{merged}
+use Rattle.difference.specs.inner.Merging.{free, merged}
 use Rattle.difference.proofs.Apart.{apart_more, apart_lower}
 use Rattle.difference.proofs.Merged.{other_first, fitting_woven}
 
@@ -25,79 +26,36 @@ sort_of (read id) = other refl
 message_first : (e : EventView) (b : List ℕ) (es : List EventView) (p : ℕ) → e ≡ added b → (bodies (e ∷ es) ≡ b ∷ bodies es) × (others_from p (e ∷ es) ≡ others_from (p + 1) es) × (count_of e ≡ 1)
 message_first e b es p is = (ap (λ (h : EventView). bodies (h ∷ es)) is, ap (λ (h : EventView). others_from p (h ∷ es)) is, ap count_of is)
 
-heads : {A : Type 0} (x y : A) (xs ys : List A) → x ∷ xs ≡ y ∷ ys → (x ≡ y) × (xs ≡ ys)
-heads x y xs ys e = (cc, cc)
+merged_other : (p : ℕ) (ys zs : List (List ℕ)) (o : Placed) (os : List Placed) (es : List EventView) → free p o ≡ length ys → merged o.pts zs os ≡ es → merged p (ys ++ zs) (o ∷ os) ≡ map added ys ++ o.event ∷ es
+merged_other p ys zs o os es is rest =
+    ap₂ (λ (a b : List (List ℕ)). map added a ++ o.event ∷ merged o.pts b os) (take_at ys zs (free p o) (sym is)) (drop_at ys zs (free p o) (sym is))
+    ∙ ap (λ (l : List EventView). map added ys ++ o.event ∷ l) rest
 
--- the first other event ends no earlier than its count after the number from which the list starts
-later : (p : ℕ) (es : List EventView) (o : Placed) (os : List Placed) → others_from p es ≡ o ∷ os → p + count_of o.event ≤ o.pts
-later p [] o os is = absurd cc
-later p (e ∷ es) o os is = elim (sort_of e) [
+-- what is merged of messages and the parts of a list that starts where they end is the messages and that list
+merges : (p q : ℕ) (ys : List (List ℕ)) (es : List EventView) → q ≡ p + length ys → merged p (ys ++ bodies es) (others_from q es) ≡ map added ys ++ es
+merges p q ys [] is = ap (λ (l : List (List ℕ)). map added l) (append-nil ys) ∙ sym (append-nil (map added ys))
+merges p q ys (e ∷ es) is = elim (sort_of e) [
   | message b eb ↦
-      let more : (p + 1) + count_of o.event ≤ o.pts = later (p + 1) es o os (sym (message_first e b es p eb).1 ∙ is) in
-      omega arith
+      let m = message_first e b es q eb in
+      ap₂ (λ (l : List (List ℕ)) (os : List Placed). merged p (ys ++ l) os) m.0 m.1
+      ∙ ap (λ (l : List (List ℕ)). merged p l (others_from (q + 1) es)) (sym (append_assoc ys (b ∷ []) (bodies es)))
+      ∙ merges p (q + 1) (ys ++ b ∷ []) es (omega (arith, is, length-append ys (b ∷ [])))
+      ∙ ap (λ (l : List EventView). l ++ es) (map-append added ys (b ∷ []))
+      ∙ append_assoc (map added ys) (added b ∷ []) es
+      ∙ ap (λ (h : EventView). map added ys ++ h ∷ es) (sym eb)
   | other plain ↦
-      let h : ends_at e (p + count_of e) ≡ o = (heads _ _ _ _ (sym (other_first e es p plain).1 ∙ is)).0 in
-      let stop : p + count_of e ≡ o.pts = ap (λ (x : Placed). x.pts) h in
-      let same : count_of e ≡ count_of o.event = ap (λ (x : Placed). count_of x.event) h in
-      omega (arith, stop, same)
+      let f = other_first e es q plain in
+      ap₂ (λ (l : List (List ℕ)) (os : List Placed). merged p (ys ++ l) os) f.0 f.1
+      ∙ merged_other p ys (bodies es) (ends_at e (q + count_of e)) (others_from (q + count_of e) es) es (omega (arith, is)) (merges (q + count_of e) (q + count_of e) [] es (omega arith))
 ]
 
-never : (p : ℕ) (es fs : List EventView) (e f : EventView) (b : List ℕ) → e ≡ added b → is_new f ≡ false → others_from p (e ∷ es) ≡ others_from p (f ∷ fs) → ⊥
-never p es fs e f b new plain same =
-    let le : (p + 1) + count_of f ≤ p + count_of f = later (p + 1) es (ends_at f (p + count_of f)) (others_from (p + count_of f) fs) (sym (message_first e b es p new).1 ∙ same ∙ (other_first f fs p plain).1) in
-    absurd (omega arith)
-
--- two lists with the same parts begin with the same event, and have the same parts after it
-record Alike (p : ℕ) (e f : EventView) (es fs : List EventView) : Type 0 where
-  first : e ≡ f
-  messages : bodies es ≡ bodies fs
-  rest : others_from (p + count_of e) es ≡ others_from (p + count_of e) fs
-
-both_new : (p : ℕ) (e f : EventView) (es fs : List EventView) (x y : List ℕ) → e ≡ added x → f ≡ added y → bodies (e ∷ es) ≡ bodies (f ∷ fs) → others_from p (e ∷ es) ≡ others_from p (f ∷ fs) → Alike p e f es fs
-both_new p e f es fs x y ex fy b o =
-    let m = message_first e x es p ex in
-    let n = message_first f y fs p fy in
-    let h = heads x y (bodies es) (bodies fs) (sym m.0 ∙ b ∙ n.0) in
-    let rest : others_from (p + 1) es ≡ others_from (p + 1) fs = sym m.1 ∙ o ∙ n.1 in
-    record { first = ex ∙ ap added h.0 ∙ sym fy; messages = h.1; rest = subst (λ (k : ℕ). others_from (p + k) es ≡ others_from (p + k) fs) (sym m.2) rest }
-
-both_other : (p : ℕ) (e f : EventView) (es fs : List EventView) → is_new e ≡ false → is_new f ≡ false → bodies (e ∷ es) ≡ bodies (f ∷ fs) → others_from p (e ∷ es) ≡ others_from p (f ∷ fs) → Alike p e f es fs
-both_other p e f es fs m n b o =
-    let x = other_first e es p m in
-    let y = other_first f fs p n in
-    let h = heads (ends_at e (p + count_of e)) (ends_at f (p + count_of f)) (others_from (p + count_of e) es) (others_from (p + count_of f) fs) (sym x.1 ∙ o ∙ y.1) in
-    let same : e ≡ f = ap (λ (k : Placed). k.event) h.0 in
-    record { first = same; messages = sym x.0 ∙ b ∙ y.0; rest = h.1 ∙ ap (λ (k : EventView). others_from (p + count_of k) fs) (sym same) }
-
-alike : (p : ℕ) (e f : EventView) (es fs : List EventView) → bodies (e ∷ es) ≡ bodies (f ∷ fs) → others_from p (e ∷ es) ≡ others_from p (f ∷ fs) → Alike p e f es fs
-alike p e f es fs b o = elim (sort_of e) [
-  | message x ex ↦ elim (sort_of f) [
-    | message y fy ↦ both_new p e f es fs x y ex fy b o
-    | other n ↦ absurd (never p es fs e f x ex n o)
-  ]
-  | other m ↦ elim (sort_of f) [
-    | message y fy ↦ absurd (never p fs es f e y fy m (sym o))
-    | other n ↦ both_other p e f es fs m n b o
-  ]
-]
-
-some_part : (p : ℕ) (f : EventView) (fs : List EventView) → [] ≡ bodies (f ∷ fs) → [] ≡ others_from p (f ∷ fs) → ⊥
-some_part p (added x) fs b o = cc
-some_part p (edited x) fs b o = cc
-some_part p (deleted x) fs b o = cc
-some_part p (read x) fs b o = cc
-
-same_parts : (p : ℕ) (es fs : List EventView) → bodies es ≡ bodies fs → others_from p es ≡ others_from p fs → es ≡ fs
-same_parts p [] [] b o = refl
-same_parts p [] (f ∷ fs) b o = absurd (some_part p f fs b o)
-same_parts p (e ∷ es) [] b o = absurd (some_part p e es (sym b) (sym o))
-same_parts p (e ∷ es) (f ∷ fs) b o =
-    let a = alike p e f es fs b o in
-    let rest : es ≡ fs = same_parts (p + count_of e) es fs a.messages a.rest in
-    λ i. a.first i ∷ rest i
+-- what is merged of the parts of a list is the list
+pub merged_is : (from to : ℕ) (news : List (List ℕ)) (others : List Placed) (events : List EventView) → Woven from to news others events → merged from news others ≡ events
+merged_is from to news others events w =
+    ap₂ (λ (l : List (List ℕ)) (os : List Placed). merged from l os) (sym w.messages) (sym w.rest) ∙ merges from from [] events (omega arith)
 
 pub is_one_list : IsOneList
-is_one_list from to news others xs ys v w = same_parts from xs ys (v.messages ∙ sym w.messages) (v.rest ∙ sym w.rest)
+is_one_list from to news others xs ys v w = sym (merged_is from to news others xs v) ∙ merged_is from to news others ys w
 
 apart_of : (p to : ℕ) (es : List EventView) → p + ending es ≤ to → overlap p to (others_from p es) ≡ None
 apart_of p to [] le = refl
@@ -155,8 +113,3 @@ pub is_not_refused : IsNotRefused
 is_not_refused from to news others events (Overlap pts) w r = absurd (none_some (overlap from to others) pts (each_fits from to news others events w).apart r)
 is_not_refused from to news others events (Uneven a b c) w r = absurd (r.4 (each_fits from to news others events w).even)
 is_not_refused from to news others events Memory w r = refl
-
--- what is merged of the parts of a list is the list
-pub merged_is : (from to : ℕ) (news : List (List ℕ)) (others : List Placed) (events : List EventView) → Woven from to news others events → merged from news others ≡ events
-merged_is from to news others events w =
-    is_one_list from to news others (merged from news others) events (fitting_woven from to news others (has_others from to news others events w) (each_fits from to news others events w)) w
