@@ -1,0 +1,6 @@
+pub mod Moving
+pub mod Apart
+pub mod Merged
+pub mod Once
+pub mod Joined
+pub mod Added

@@ -1,0 +1,24 @@
+use Rattle.difference.proofs.Once.{is_one_list, each_fits, each_that_fits_is_woven, has_others, is_not_refused}
+use Rattle.difference.proofs.Joined.{joins, each_has_parts}
+use Rattle.difference.proofs.laws.woven_lists.Goals as goal
+
+pub returns-clause-one : goal.returns-clause-one
+returns-clause-one c = is_one_list
+
+pub returns-clause-fits : goal.returns-clause-fits
+returns-clause-fits c = each_fits
+
+pub returns-clause-woven : goal.returns-clause-woven
+returns-clause-woven c = each_that_fits_is_woven
+
+pub returns-clause-others : goal.returns-clause-others
+returns-clause-others c = has_others
+
+pub returns-clause-taken : goal.returns-clause-taken
+returns-clause-taken c = is_not_refused
+
+pub returns-clause-parts : goal.returns-clause-parts
+returns-clause-parts c = each_has_parts
+
+pub returns-clause-joins : goal.returns-clause-joins
+returns-clause-joins c = joins

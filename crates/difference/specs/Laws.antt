@@ -1,0 +1,43 @@
+-- Laws of woven lists. This project's own.
+use Rattle.std.specs.Prelude.{◌≡◌, ℕ, ◌+◌, List, ◌++◌}
+use Rattle.box_events.specs.Events.{EventView}
+use Rattle.box_events.specs.Boxes.{ending}
+use Rattle.box_events.specs.declared.updates.Placed.{Placed}
+use Rattle.difference.specs.declared.fault.WeaveFault.{WeaveFault}
+use Rattle.difference.specs.declared.fault.WeaveFault.TheVariants.{Memory}
+use Rattle.difference.specs.Weaving.{Woven, bodies, others_from}
+use Rattle.difference.specs.Refusal.{AreOthers, Fits, Refuses}
+
+-- of the same parts one list at most is woven
+abbrev pub IsOneList : Type 0
+IsOneList = (from to : ℕ) (news : List (List ℕ)) (others : List Placed) (xs ys : List EventView)
+    → Woven from to news others xs → Woven from to news others ys → xs ≡ ys
+
+-- the parts of a woven list fit
+abbrev pub EachFits : Type 0
+EachFits = (from to : ℕ) (news : List (List ℕ)) (others : List Placed) (events : List EventView)
+    → Woven from to news others events → Fits from to news others
+
+-- of parts that fit a list is woven
+abbrev pub EachThatFitsIsWoven : Type 0
+EachThatFitsIsWoven = (from to : ℕ) (news : List (List ℕ)) (others : List Placed)
+    → AreOthers others → Fits from to news others → (events : List EventView) × Woven from to news others events
+
+-- the other events of a woven list are no messages
+abbrev pub HasOthers : Type 0
+HasOthers = (from to : ℕ) (news : List (List ℕ)) (others : List Placed) (events : List EventView)
+    → Woven from to news others events → AreOthers others
+
+-- where there is a list no fault but that of memory has its cause, so weaving what was split gives the list again
+abbrev pub IsNotRefused : Type 0
+IsNotRefused = (from to : ℕ) (news : List (List ℕ)) (others : List Placed) (events : List EventView) (fault : WeaveFault)
+    → Woven from to news others events → Refuses from to news others fault → fault ≡ Memory
+
+-- each list has parts
+abbrev pub EachHasParts : Type 0
+EachHasParts = (from : ℕ) (events : List EventView) → Woven from (from + ending events) (bodies events) (others_from from events) events
+
+-- two lists, of which one starts where the other ends, are one list of the parts of both
+abbrev pub Joins : Type 0
+Joins = (p q r : ℕ) (ns ms : List (List ℕ)) (os ps : List Placed) (xs ys : List EventView)
+    → Woven p q ns os xs → Woven q r ms ps ys → Woven p r (ns ++ ms) (os ++ ps) (xs ++ ys)

@@ -1,0 +1,5 @@
+pub mod Weaving
+pub mod Refusal
+pub mod PartsView
+pub mod Laws
+pub mod inner

@@ -1,0 +1,3 @@
+-- What inner clauses cite; a reader of the contracts needs none of it.
+pub mod Merging
+pub mod Parted

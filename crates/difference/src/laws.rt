@@ -1,0 +1,13 @@
+//! Laws of the definitions, carried by a function that does nothing.
+ghost use Rattle.difference.specs.Laws.{IsOneList, EachFits, EachThatFitsIsWoven, HasOthers, IsNotRefused, EachHasParts, Joins};
+
+/// Woven lists: a list is woven of its parts and of no others, and no other list of these; of parts that fit a list is woven, and of no others.
+pub fn woven_lists()
+    ensures one { IsOneList }
+    ensures fits { EachFits }
+    ensures woven { EachThatFitsIsWoven }
+    ensures others { HasOthers }
+    ensures taken { IsNotRefused }
+    ensures parts { EachHasParts }
+    ensures joins { Joins }
+{}
