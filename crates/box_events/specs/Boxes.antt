@@ -2,35 +2,35 @@
 -- From "Working with Updates" (core.telegram.org/api/updates): a box's number is the sum of the counts of its events. Stretches and
 -- boundaries, as words for what a difference holds, are this project's own.
 use Rattle.std.specs.Prelude.{◌≡◌, ℕ, ◌+◌, ◌≤◌, List, [], ◌∷◌, ◌++◌}
-use Rattle.box_events.specs.Happenings.{Happening, count_of}
+use Rattle.box_events.specs.Events.{EventView, count_of}
 
 -- where a box ends: the sum of its events' counts
-abbrev pub ending : List Happening → ℕ
+abbrev pub ending : List EventView → ℕ
 ending [] = 0
 ending (e ∷ es) = count_of e + ending es
 
 -- some front of the box ends at p
-pub record IsBoundary (box : List Happening) (p : ℕ) : Type 0 where
-  pub front : List Happening
-  pub rest : List Happening
+pub record IsBoundary (box : List EventView) (p : ℕ) : Type 0 where
+  pub front : List EventView
+  pub rest : List EventView
   pub whole : box ≡ front ++ rest
   pub stop : ending front ≡ p
 
 -- the box cut in three: a front that ends at p, then the middle, with which it ends at q, then the rest
-pub record Between (box : List Happening) (p q : ℕ) (middle : List Happening) : Type 0 where
-  pub front : List Happening
-  pub rest : List Happening
+pub record Between (box : List EventView) (p q : ℕ) (middle : List EventView) : Type 0 where
+  pub front : List EventView
+  pub rest : List EventView
   pub whole : box ≡ front ++ (middle ++ rest)
   pub start : ending front ≡ p
   pub stop : ending (front ++ middle) ≡ q
 
 -- each event counts for 1 number at least
-abbrev pub AreCounted : List Happening → Type 0
+abbrev pub AreCounted : List EventView → Type 0
 AreCounted [] = Unit {0}
 AreCounted (e ∷ es) = (1 ≤ count_of e) × AreCounted es
 
 -- what holds of every box, with the number at which it ends
-pub record IsBox (box : List Happening) (to : ℕ) : Type 0 where
+pub record IsBox (box : List EventView) (to : ℕ) : Type 0 where
   pub end : to ≡ ending box
   pub limit : to ≤ 1000000
   pub counted : AreCounted box

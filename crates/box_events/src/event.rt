@@ -1,9 +1,10 @@
 //! Events.
 ghost use Rattle.std.specs.Prelude.{◌≡◌, ◌<◌, ◌≤◌, IfOk, length};
-ghost use Rattle.box_events.specs.Happenings.{added, edited, deleted, count_of, body_of, ids_of};
+ghost use Rattle.box_events.specs.Events.{added, edited, deleted, read, count_of, body_of, ids_of};
 ghost use Rattle.box_events.specs.Views.{kind_of};
 
 use crate::ids::Ids;
+use crate::limits::MAX_IDS;
 use std::marker::Model;
 use tl_base::{Bytes, Memory};
 
@@ -13,6 +14,8 @@ pub enum Kind {
     New,
     Edit,
     Delete,
+    /// All up to this id is read.
+    Read { max_id: i32 },
 }
 
 #[derive(Debug, Drop)]
@@ -20,23 +23,24 @@ enum Change {
     New(Bytes),
     Edit(Bytes),
     Delete(Ids),
+    Read(i32),
 }
 
-/// An event of a box: a new message, an edit, or a delete of 1 to 4,096 ids.
+/// An event of a box: a new message, an edit, a delete of 1 to 4,096 ids, or a read mark. It counts for as many of the box's numbers as it has ids, the others for one ("Working with Updates", core.telegram.org/api/updates: pts_count).
 #[derive(Debug, Drop)]
 pub struct Event {
     change: Change,
 }
 
 impl Model for Event {
-    ghost use Rattle.box_events.specs.Happenings.{Happening};
-    ghost use Rattle.box_events.specs.Views.{happening, HasCount};
+    ghost use Rattle.box_events.specs.Events.{EventView};
+    ghost use Rattle.box_events.specs.Views.{event_view, HasCount};
 
-    ghost Value = { Happening };
+    ghost Value = { EventView };
 
-    ghost view = { λ e. happening e.change };
+    ghost view = { λ e. event_view e.change };
 
-    ghost invariant = { λ e. HasCount (happening e.change) };
+    ghost invariant = { λ e. HasCount (event_view e.change) };
 }
 
 impl Event {
@@ -58,7 +62,7 @@ impl Event {
 
     pub fn delete(ids: Ids) -> Event
         requires some { 0 < length ids }
-        requires few { length ids ≤ 4096 }
+        requires few { length ids ≤ MAX_IDS }
         ensures { result ≡ deleted ids }
     {
         Event {
@@ -66,13 +70,23 @@ impl Event {
         }
     }
 
+    /// All up to this id is read. No memory is taken.
+    pub fn read(max_id: i32) -> Event
+        ensures { result ≡ read max_id }
+    {
+        Event {
+            change: Change::Read(max_id),
+        }
+    }
+
+    /// For how many of a box's numbers the event counts.
     pub fn count(&self) -> u32
         ensures value { result ≡ count_of self.now }
         ensures some { 1 ≤ result }
-        ensures few { result ≤ 4096 }
+        ensures few { result ≤ MAX_IDS }
     {
         match &self.change {
-            Change::New(_) | Change::Edit(_) => 1,
+            Change::New(_) | Change::Edit(_) | Change::Read(_) => 1,
             Change::Delete(ids) => ids.as_slice().len() as u32,
         }
     }
@@ -84,16 +98,17 @@ impl Event {
             Change::New(_) => Kind::New,
             Change::Edit(_) => Kind::Edit,
             Change::Delete(_) => Kind::Delete,
+            Change::Read(max_id) => Kind::Read { max_id: *max_id },
         }
     }
 
-    /// The body of a message or of an edit; none for a delete.
+    /// The body of a message or of an edit; none for the others.
     pub fn body(&self) -> &[u8]
         ensures { result.now ≡ body_of self.now }
     {
         match &self.change {
             Change::New(body) | Change::Edit(body) => body.as_slice(),
-            Change::Delete(_) => &[],
+            Change::Delete(_) | Change::Read(_) => &[],
         }
     }
 
@@ -102,7 +117,7 @@ impl Event {
         ensures { result.now ≡ ids_of self.now }
     {
         match &self.change {
-            Change::New(_) | Change::Edit(_) => &[],
+            Change::New(_) | Change::Edit(_) | Change::Read(_) => &[],
             Change::Delete(ids) => ids.as_slice(),
         }
     }
@@ -114,6 +129,7 @@ impl Event {
             Change::New(body) => Change::New(body.copy()?),
             Change::Edit(body) => Change::Edit(body.copy()?),
             Change::Delete(ids) => Change::Delete(ids.copy()?),
+            Change::Read(max_id) => Change::Read(*max_id),
         };
         Ok(Event { change })
     }

@@ -21,10 +21,10 @@ pub struct EventBox {
 
 impl Model for EventBox {
     ghost use Rattle.std.specs.Prelude.{List};
-    ghost use Rattle.box_events.specs.Happenings.{Happening};
+    ghost use Rattle.box_events.specs.Events.{EventView};
     ghost use Rattle.box_events.specs.Boxes.{IsBox};
 
-    ghost Value = { List Happening };
+    ghost Value = { List EventView };
 
     ghost view = { λ b. b.events.items };
 

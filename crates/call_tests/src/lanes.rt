@@ -1,7 +1,7 @@
 //! Gaps and lanes.
 ghost use Rattle.std.specs.Prelude.{◌≡◌, ◌≤◌, IfOk, vec_len};
 ghost use Rattle.std.specs.List.{sum_by};
-ghost use Rattle.box_events.specs.Happenings.{added, count_of};
+ghost use Rattle.box_events.specs.Events.{added, count_of};
 
 use box_events::{Event, Ids};
 use gap_buffer::{Gap, Held};

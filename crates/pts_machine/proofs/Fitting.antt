@@ -6,7 +6,7 @@ use Rattle.std.specs.Ordering.{nat_cmp}
 use Rattle.std.specs.FinMap.{get, len, insert, empty, get-empty}
 use Rattle.std.proofs.lemmas.List.Sums.{sum_by-cons}
 use Rattle.std.proofs.lemmas.Option.{none-some}
-use Rattle.box_events.specs.Happenings.{Happening, count_of}
+use Rattle.box_events.specs.Events.{EventView, count_of}
 use Rattle.box_events.specs.Boxes.{ending, IsBoundary, Between, AreCounted}
 use Rattle.box_events.proofs.Boundaries.{boundary_zero}
 use Rattle.box_events.proofs.Stretches.{between_grows, between_joins, between_none, stops_at, stretch_counts}
@@ -22,24 +22,24 @@ use Rattle.gap_buffer.proofs.Maps.{from_some, insert_some}
 use Rattle.pts_machine.proofs.Kept.{hears}
 
 -- each held event lies at its own place of the box
-abbrev pub AreInPlace : List Happening → Items Happening → Type 0
-AreInPlace box m = (s : ℕ) (x : ℕ × Happening) → get m s ≡ Some x → Between box s x.0 (x.1 ∷ [])
+abbrev pub AreInPlace : List EventView → Items EventView → Type 0
+AreInPlace box m = (s : ℕ) (x : ℕ × EventView) → get m s ≡ Some x → Between box s x.0 (x.1 ∷ [])
 
-chain_over : (box : List Happening) (n p : ℕ) (m : Items Happening) (a : Option (ℕ × Happening)) → AreCounted box → IsBoundary box p
-    → ((x : ℕ × Happening) → a ≡ Some x → Between box p x.0 (x.1 ∷ []) × Between box x.0 (reach n x.0 m) (chain n x.0 m))
+chain_over : (box : List EventView) (n p : ℕ) (m : Items EventView) (a : Option (ℕ × EventView)) → AreCounted box → IsBoundary box p
+    → ((x : ℕ × EventView) → a ≡ Some x → Between box p x.0 (x.1 ∷ []) × Between box x.0 (reach n x.0 m) (chain n x.0 m))
     → Between box p (option_map_or (λ x. reach n x.0 m) a p) (option_map_or (λ x. x.1 ∷ chain n x.0 m) a [])
 chain_over box n p m None c b more = between_none box p b
 chain_over box n p m (Some x) c b more = let two = more x refl in between_joins box p x.0 (reach n x.0 m) (x.1 ∷ []) (chain n x.0 m) c two.0 two.1
 
 -- a chain from a boundary is what lies from there to the place that it reaches
-pub chain_lies : (box : List Happening) (n p : ℕ) (m : Items Happening) → AreCounted box → AreInPlace box m → IsBoundary box p → Between box p (reach n p m) (chain n p m)
+pub chain_lies : (box : List EventView) (n p : ℕ) (m : Items EventView) → AreCounted box → AreInPlace box m → IsBoundary box p → Between box p (reach n p m) (chain n p m)
 unfolding chain reach
 chain_lies box zero p m c held b = between_none box p b
 chain_lies box (suc n) p m c held b = chain_over box n p m (get m p) c b (λ x is.
     let one : Between box p x.0 (x.1 ∷ []) = held p x is in
     (one, chain_lies box n x.0 m c held (stops_at box p x.0 (x.1 ∷ []) one)))
 
-pub fits_settle : (box : List Happening) (t : Track Happening) → AreCounted box → Fits box t → Fits box (settle t)
+pub fits_settle : (box : List EventView) (t : Track EventView) → AreCounted box → Fits box t → Fits box (settle t)
 unfolding settle
 fits_settle box t c f =
     let to : ℕ = reach (len t.held) t.at t.held in
@@ -49,15 +49,15 @@ fits_settle box t c f =
       held = λ s x is. f.held s x (from_some to t.held s x is).1;
     }
 
-pub in_place_insert : (box : List Happening) (m : Items Happening) (start end : ℕ) (event : Happening) → AreInPlace box m → Between box start end (event ∷ []) → AreInPlace box (insert m start (end, event))
+pub in_place_insert : (box : List EventView) (m : Items EventView) (start end : ℕ) (event : EventView) → AreInPlace box m → Between box start end (event ∷ []) → AreInPlace box (insert m start (end, event))
 in_place_insert box m start end event held one s x is = elim (insert_some m start (end, event) s x is) [
   | inl new ↦
-      subst (λ (q : ℕ). Between box q x.0 (x.1 ∷ [])) (sym new.0) (subst (λ (y : ℕ × Happening). Between box start y.0 (y.1 ∷ [])) new.1 one)
+      subst (λ (q : ℕ). Between box q x.0 (x.1 ∷ [])) (sym new.0) (subst (λ (y : ℕ × EventView). Between box start y.0 (y.1 ∷ [])) new.1 one)
   | inr old ↦ held s x old
 ]
 
 -- whatever came of an event that lies at its own place
-fits_by : (box : List Happening) (t : Track Happening) (start end : ℕ) (event : Happening) (r : Seen) (u : Track Happening)
+fits_by : (box : List EventView) (t : Track EventView) (start end : ℕ) (event : EventView) (r : Seen) (u : Track EventView)
     → AreCounted box → Fits box t → Between box start end (event ∷ []) → Hears t start end event r u → Fits box u
 fits_by box t start end event Already u c f one s = subst (Fits box) (sym s.1) f
 fits_by box t start end event (Applied to) u c f one s =
@@ -69,11 +69,11 @@ fits_by box t start end event (Applied to) u c f one s =
 fits_by box t start end event Held u c f one s = subst (Fits box) (sym s.3) (record { events = f.events; held = in_place_insert box t.held start end event f.held one })
 fits_by box t start end event Dropped u c f one s = subst (Fits box) (sym s.3) f
 
-pub fits_hear : (box : List Happening) (t : Track Happening) (start end : ℕ) (event : Happening)
+pub fits_hear : (box : List EventView) (t : Track EventView) (start end : ℕ) (event : EventView)
     → AreCounted box → Fits box t → Between box start end (event ∷ []) → Fits box (hear t start end event).track
 fits_hear box t start end event c f one = fits_by box t start end event _ _ c f one (hears t start end event)
 
-pub fits_grows : (box more : List Happening) (t : Track Happening) → Fits box t → Fits (box ++ more) t
+pub fits_grows : (box more : List EventView) (t : Track EventView) → Fits box t → Fits (box ++ more) t
 fits_grows box more t f = record {
   events = between_grows box more t.restart t.at t.events f.events;
   held = λ s x is. between_grows box more s x.0 (x.1 ∷ []) (f.held s x is);
@@ -81,19 +81,19 @@ fits_grows box more t f = record {
 
 -- ---- answers, restarts, and lanes that forget or are loaded
 
-ending_sums : (xs : List Happening) → ending xs ≡ sum_by count_of xs
+ending_sums : (xs : List EventView) → ending xs ≡ sum_by count_of xs
 ending_sums [] = refl
 ending_sums (x ∷ xs) = omega (arith, ending_sums xs, sum_by-cons count_of x xs)
 
 -- a stretch from p ends behind it by the sum of the counts
-ends_at : (box : List Happening) (p to : ℕ) (xs : List Happening) → Between box p to xs → to ≡ p + sum_by count_of xs
+ends_at : (box : List EventView) (p to : ℕ) (xs : List EventView) → Between box p to xs → to ≡ p + sum_by count_of xs
 ends_at box p to xs b = omega (arith, stretch_counts box p to xs b, ending_sums xs)
 
-fits_resumed : (box : List Happening) (t : Track Happening) (last : Bool) → AreCounted box → Fits box t → Fits box (resumed t last)
+fits_resumed : (box : List EventView) (t : Track EventView) (last : Bool) → AreCounted box → Fits box t → Fits box (resumed t last)
 fits_resumed box t true c f = fits_settle box (record t { mode = Live }) c (record { events = f.events; held = f.held })
 fits_resumed box t false c f = record { events = f.events; held = f.held }
 
-pub fits_extend : (box : List Happening) (t : Track Happening) (to : ℕ) (events : List Happening) (last : Bool)
+pub fits_extend : (box : List EventView) (t : Track EventView) (to : ℕ) (events : List EventView) (last : Bool)
     → AreCounted box → Fits box t → Between box t.at to events → Fits box (extend count_of t events last)
 unfolding extend
 fits_extend box t to events last c f b =
@@ -104,26 +104,26 @@ fits_extend box t to events last c f b =
       held = λ s x is. f.held s x (from_some end t.held s x is).1;
     })
 
-pub fits_restart : (box : List Happening) (t : Track Happening) (p : ℕ) → AreCounted box → Fits box t → IsBoundary box p → Fits box (restart_at count_of t p)
+pub fits_restart : (box : List EventView) (t : Track EventView) (p : ℕ) → AreCounted box → Fits box t → IsBoundary box p → Fits box (restart_at count_of t p)
 unfolding restart_at
 fits_restart box t p c f b =
     let here : Between box p p [] = between_none box p b in
     fits_extend box (record t { restart = p; events = []; at = p }) p [] true c (record { events = here; held = f.held }) here
 
-nothing_in_place : (box : List Happening) → AreInPlace box empty
+nothing_in_place : (box : List EventView) → AreInPlace box empty
 nothing_in_place box s x is = absurd (none-some x (sym (get-empty nat_cmp s) ∙ is))
 
-pub fits_forget : (box : List Happening) (t : Track Happening) → Fits box t → Fits box (forget t)
+pub fits_forget : (box : List EventView) (t : Track EventView) → Fits box t → Fits box (forget t)
 unfolding forget
 fits_forget box t f = record { events = f.events; held = nothing_in_place box }
 
-pub fits_new : (box : List Happening) → Fits box new_track
+pub fits_new : (box : List EventView) → Fits box new_track
 fits_new box = record { events = between_none box 0 (boundary_zero box); held = nothing_in_place box }
 
-pub fits_asked : (box : List Happening) (t : Track Happening) (number : ℕ) → Fits box t → Fits box (asked t number)
+pub fits_asked : (box : List EventView) (t : Track EventView) (number : ℕ) → Fits box t → Fits box (asked t number)
 fits_asked box t number f = record { events = f.events; held = f.held }
 
-pub fits_loaded : (box : List Happening) (p to : ℕ) (events : List Happening) → Between box p to events → Fits box (loaded count_of p events)
+pub fits_loaded : (box : List EventView) (p to : ℕ) (events : List EventView) → Between box p to events → Fits box (loaded count_of p events)
 fits_loaded box p to events b = record {
   events = subst (λ (q : ℕ). Between box p q events) (ends_at box p to events b) b;
   held = nothing_in_place box;

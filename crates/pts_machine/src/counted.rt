@@ -1,6 +1,6 @@
 //! What counts for some of a box's numbers.
 ghost use Rattle.std.specs.Prelude.{◌≡◌, ◌<◌, ℕ};
-ghost use Rattle.box_events.specs.Happenings.{count_of};
+ghost use Rattle.box_events.specs.Events.{count_of};
 
 use box_events::Event;
 

@@ -2,7 +2,7 @@
 use Rattle.std.proofs.Common.{◌≡◌, ℕ, ℤ, zero, suc, ◌+◌, ◌≤◌, List, [], ◌∷◌, ◌++◌, Option, Some, None, Bool, true, false, refl, sym, ◌∙◌, subst, arith, inl, inr, ◌⊎◌}
 use Rattle.std.specs.Prelude.{slice_get}
 use Rattle.std.proofs.lemmas.Option.{none-some, same_Some}
-use Rattle.box_events.specs.Happenings.{Happening, added, count_of}
+use Rattle.box_events.specs.Events.{EventView, added, count_of}
 use Rattle.box_events.specs.Boxes.{ending, Between, AreCounted}
 use Rattle.box_events.proofs.Boundaries.{counted-append}
 use Rattle.box_events.proofs.Stretches.{between_grows, appended_lies}
@@ -11,7 +11,7 @@ use Rattle.pts_machine.proofs.Fitting.{hear_restart, fits_new, fits_hear, fits_g
 use Rattle.update_replay.specs.Worlds.{Push, Step, post, hears, World, start, push_of, posted, heard, is_known, happens, run_from, run}
 
 -- the push's event lies in the box at its own place
-abbrev pub Lies : List Happening → Push → Type 0
+abbrev pub Lies : List EventView → Push → Type 0
 Lies box p = Between box p.start p.end (p.event ∷ [])
 
 -- what holds of the world after every list of steps
@@ -28,12 +28,12 @@ pushed [] y (suc k) z e = absurd (none-some z e)
 pushed (x ∷ xs) y zero z e = inl e
 pushed (x ∷ xs) y (suc k) z e = pushed xs y k z e
 
-pub new_lies : (box : List Happening) (e : Happening) → Lies (box ++ e ∷ []) (push_of box e)
+pub new_lies : (box : List EventView) (e : EventView) → Lies (box ++ e ∷ []) (push_of box e)
 new_lies box e =
     let end : ending box + ending (e ∷ []) ≡ ending box + count_of e = omega arith in
     subst (λ (q : ℕ). Between (box ++ e ∷ []) (ending box) q (e ∷ [])) end (appended_lies box (e ∷ []))
 
-kept_posted : (known : Bool) (w : World) (id : ℤ) (e : Happening) → 1 ≤ count_of e → IsKept w → IsKept (posted known w id e)
+kept_posted : (known : Bool) (w : World) (id : ℤ) (e : EventView) → 1 ≤ count_of e → IsKept w → IsKept (posted known w id e)
 kept_posted true w id e some h = h
 kept_posted false w id e some h = record {
   counted = counted-append w.box (e ∷ []) h.counted (some, tt);

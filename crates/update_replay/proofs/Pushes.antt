@@ -5,7 +5,7 @@ use Rattle.std.specs.Prelude.{slice_get}
 use Rattle.std.specs.Option.{option_map}
 use Rattle.std.proofs.lemmas.Option.{slice_get_read, slice_get-map}
 use Rattle.std.proofs.lemmas.List.{map_push}
-use Rattle.box_events.specs.Happenings.{Happening, added, count_of, body_of}
+use Rattle.box_events.specs.Events.{EventView, added, count_of, body_of}
 use Rattle.box_events.specs.Boxes.{ending}
 use Rattle.box_events.proofs.Stretches.{stretch_inside}
 use Rattle.pts_machine.specs.Tracks.{Track}
@@ -20,7 +20,7 @@ use Rattle.update_replay.proofs.Reached.{kept, numbered}
 pub sent_at : (ss : List Sent) (n k : ℕ) (s : Sent) → n ≡ length ss → k < n → s ≡ get_or ss k s → slice_get (map push_from ss) k ≡ Some (push_from s)
 sent_at ss n k s count within is = slice_get-map push_from ss k ∙ ap (option_map push_from) (slice_get_read ss n k s count within is)
 
-pub end_is : (s : Sent) (e : Happening) (n : ℕ) → n ≡ count_of e → e ≡ s.event → s.start + n ≡ s.start + count_of s.event
+pub end_is : (s : Sent) (e : EventView) (n : ℕ) → n ≡ count_of e → e ≡ s.event → s.start + n ≡ s.start + count_of s.event
 end_is s e n counts same = ap (λ (m : ℕ). s.start + m) (counts ∙ ap count_of same)
 
 -- a push ends within the box
@@ -35,14 +35,14 @@ pub short_body : (w : World) (k : ℕ) (s : Sent) (body : List ℕ) → IsReache
 short_body w k s body r at is = omega (arith, ap length is, (numbered w r).short k (push_from s) at)
 
 -- a new message stands in the box and in the pool
-pub posted_is : (w : World) (ss more : List Sent) (box : List Happening) (ids : List ℤ) (id : ℤ) (body : List ℕ) → w.pool ≡ map push_from ss → is_known w.ids id ≡ false
+pub posted_is : (w : World) (ss more : List Sent) (box : List EventView) (ids : List ℤ) (id : ℤ) (body : List ℕ) → w.pool ≡ map push_from ss → is_known w.ids id ≡ false
     → box ≡ w.box ++ added body ∷ [] → ids ≡ w.ids ++ id ∷ [] → more ≡ ss ++ record { start = ending w.box; event = added body } ∷ []
     → record { box = box; ids = ids; pool = map push_from more; lane = w.lane } ≡ happens w (post id body)
 posted_is w ss more box ids id body old new has_box has_ids has_more =
     let s : Sent = record { start = ending w.box; event = added body } in
     let has_pool : map push_from more ≡ w.pool ++ push_from s ∷ [] = ap (map push_from) has_more ∙ (map_push push_from ss s ∙ ap (λ (l : List Push). l ++ push_from s ∷ []) (sym old)) in
     let one : ◌≡◌ {A = World} (record { box = box; ids = ids; pool = map push_from more; lane = w.lane }) (record { box = w.box ++ added body ∷ []; ids = ids; pool = map push_from more; lane = w.lane }) =
-    ap (λ (b : List Happening). record { box = b; ids = ids; pool = map push_from more; lane = w.lane }) has_box in
+    ap (λ (b : List EventView). record { box = b; ids = ids; pool = map push_from more; lane = w.lane }) has_box in
     let two : ◌≡◌ {A = World} (record { box = w.box ++ added body ∷ []; ids = ids; pool = map push_from more; lane = w.lane }) (record { box = w.box ++ added body ∷ []; ids = w.ids ++ id ∷ []; pool = map push_from more; lane = w.lane }) =
     ap (λ (i : List ℤ). record { box = w.box ++ added body ∷ []; ids = i; pool = map push_from more; lane = w.lane }) has_ids in
     let three : ◌≡◌ {A = World} (record { box = w.box ++ added body ∷ []; ids = w.ids ++ id ∷ []; pool = map push_from more; lane = w.lane }) (posted false w id (added body)) =
@@ -50,13 +50,13 @@ posted_is w ss more box ids id body old new has_box has_ids has_more =
     one ∙ (two ∙ (three ∙ ap (λ (b : Bool). posted b w id (added body)) (sym new)))
 
 -- The push of number k is heard. The world is i, and is shown as w.
-pub heard_is : (w i : World) (old lane : Track Happening) (k end : ℕ) (e : Happening) (s : Sent) → i ≡ w → slice_get i.pool k ≡ Some (push_from s) → old ≡ i.lane
+pub heard_is : (w i : World) (old lane : Track EventView) (k end : ℕ) (e : EventView) (s : Sent) → i ≡ w → slice_get i.pool k ≡ Some (push_from s) → old ≡ i.lane
     → end ≡ s.start + count_of s.event → e ≡ s.event → (hear old s.start end e).track ≡ lane
     → record { box = i.box; ids = i.ids; pool = i.pool; lane = lane } ≡ heard w (slice_get w.pool k)
 heard_is w i old lane k end e s view at track stop same is =
     let to : ℕ = s.start + count_of s.event in
     let told : (hear old s.start end e).track ≡ (hear i.lane s.start to s.event).track =
-    ap (λ (t : Track Happening). (hear t s.start end e).track) track ∙ (ap (λ (n : ℕ). (hear i.lane s.start n e).track) stop ∙ ap (λ (x : Happening). (hear i.lane s.start to x).track) same) in
+    ap (λ (t : Track EventView). (hear t s.start end e).track) track ∙ (ap (λ (n : ℕ). (hear i.lane s.start n e).track) stop ∙ ap (λ (x : EventView). (hear i.lane s.start to x).track) same) in
     let here : ◌≡◌ {A = World} (record { box = i.box; ids = i.ids; pool = i.pool; lane = lane }) (heard i (Some (push_from s))) =
-    ap (λ (t : Track Happening). record { box = i.box; ids = i.ids; pool = i.pool; lane = t }) (sym is ∙ told) in
+    ap (λ (t : Track EventView). record { box = i.box; ids = i.ids; pool = i.pool; lane = t }) (sym is ∙ told) in
     here ∙ (ap (heard i) (sym at) ∙ ap (λ (u : World). heard u (slice_get u.pool k)) view)

@@ -2,7 +2,7 @@
 use Rattle.std.proofs.Common.{◌≡◌, ℕ, ℤ, ◌≤◌, List, [], ◌∷◌, ◌++◌, length, length-append, Option, Some, None, Bool, true, false, refl, sym, ap, ◌∙◌, subst, arith, inl, inr}
 use Rattle.std.specs.Prelude.{slice_get}
 use Rattle.std.proofs.lemmas.Option.{none-some}
-use Rattle.box_events.specs.Happenings.{added, body_of}
+use Rattle.box_events.specs.Events.{added, body_of}
 use Rattle.box_events.specs.Boxes.{ending}
 use Rattle.box_events.proofs.Boundaries.{ending-append}
 use Rattle.update_replay.specs.Worlds.{Push, Step, post, hears, World, start, push_of, posted, heard, is_known, happens, run_from}

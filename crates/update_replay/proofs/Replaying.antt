@@ -5,7 +5,7 @@ use Rattle.std.specs.Io.KnownBytes.{Appends}
 use Rattle.std.proofs.KnownBytes.{Appends-nil, Appends-trans}
 use Rattle.std.proofs.lemmas.List.{length-replicate}
 use Rattle.tl_base.specs.Writing.{AppendsPrefix}
-use Rattle.box_events.specs.Happenings.{Happening, added}
+use Rattle.box_events.specs.Events.{EventView, added}
 use Rattle.box_events.specs.Boxes.{ending}
 use Rattle.box_events.proofs.Boundaries.{ending-append}
 use Rattle.box_events.proofs.Stretches.{stretch_counts, stretch_inside}
@@ -45,7 +45,7 @@ pub lines_agree : (w : World) (s : Step) (n : ℕ) → outcome_lines (happens w 
 lines_agree w (post id body) n = posted_lines (is_known w.ids id) w id body n
 lines_agree w (hears k) n = refl
 
-pub closing_is : (w : World) (before : List ℕ) (e r at : ℕ) (es : List Happening) → before ≡ [] → e ≡ ending w.box → r ≡ w.lane.restart → at ≡ w.lane.at → es ≡ w.lane.events → before ++ closing_of e r at es ≡ closing_lines w
+pub closing_is : (w : World) (before : List ℕ) (e r at : ℕ) (es : List EventView) → before ≡ [] → e ≡ ending w.box → r ≡ w.lane.restart → at ≡ w.lane.at → es ≡ w.lane.events → before ++ closing_of e r at es ≡ closing_lines w
 closing_is w before e r at es b he hr ha hes = rw (b, he, hr, ha, hes) refl
 
 -- ---- one step

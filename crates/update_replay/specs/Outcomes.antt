@@ -1,6 +1,6 @@
 -- What came of a step, and its lines. This project's own.
 use Rattle.std.specs.Prelude.{ℕ, ◌+◌, ◌<◌, List, [], length, Bool, true, false, Option, Some, None, slice_get}
-use Rattle.box_events.specs.Happenings.{body_of}
+use Rattle.box_events.specs.Events.{body_of}
 use Rattle.box_events.specs.Boxes.{ending}
 use Rattle.update_replay.specs.Worlds.{World, Push, Step, post, hears, is_known, happens}
 use Rattle.update_replay.specs.Report.{heard_line, post_lines}

@@ -2,7 +2,7 @@
 use Rattle.std.specs.Prelude.{ℕ, ℤ, ◌+◌, List, [], ◌∷◌, ◌++◌, length, Bool, true, false, codes, decimal}
 use Rattle.std.specs.Int.{w32, cast_unsigned, to_le_bytes}
 use Rattle.hex.specs.Hex.{encode_lower}
-use Rattle.box_events.specs.Happenings.{Happening, added, edited, deleted, count_of}
+use Rattle.box_events.specs.Events.{EventView, added, edited, deleted, read, count_of}
 use Rattle.box_events.specs.Boxes.{ending}
 use Rattle.update_replay.specs.Worlds.{World, Step, post, hears, is_known, happens}
 use Rattle.update_replay.specs.Packets.{packet}
@@ -42,14 +42,15 @@ id_bytes (i ∷ is) = to_le_bytes w32 (cast_unsigned w32 i) ++ id_bytes is
 abbrev pub change_line : List ℕ → ℕ → List ℕ → List ℕ
 change_line kind end bytes = kind ++ codes " " ++ decimal end ++ codes " " ++ encode_lower bytes ++ codes "\n"
 
--- an event with the number at which it ends; a delete's ids as bytes
-abbrev pub event_line : ℕ → Happening → List ℕ
+-- an event with the number at which it ends; a delete's ids and a read mark's as bytes
+abbrev pub event_line : ℕ → EventView → List ℕ
 event_line end (added body) = change_line (codes "new") end body
 event_line end (edited body) = change_line (codes "edit") end body
 event_line end (deleted ids) = change_line (codes "delete") end (id_bytes ids)
+event_line end (read id) = change_line (codes "read") end (to_le_bytes w32 (cast_unsigned w32 id))
 
 -- events in order, behind the number `from`
-abbrev pub event_lines : ℕ → List Happening → List ℕ
+abbrev pub event_lines : ℕ → List EventView → List ℕ
 event_lines from [] = []
 event_lines from (e ∷ es) = event_line (from + count_of e) e ++ event_lines (from + count_of e) es
 
@@ -62,7 +63,7 @@ abbrev pub client_line : ℕ → ℕ → List ℕ
 client_line restart at = codes "client 0 common from " ++ decimal restart ++ codes " to " ++ decimal at ++ codes "\n"
 
 -- the lines behind the last step: the server's positions, and the client's box with its events
-abbrev pub closing_of : ℕ → ℕ → ℕ → List Happening → List ℕ
+abbrev pub closing_of : ℕ → ℕ → ℕ → List EventView → List ℕ
 closing_of server_end restart at events =
     server_line server_end
     ++ client_line restart at

@@ -4,7 +4,7 @@
 use Rattle.std.specs.Prelude.{ℕ, ℤ, ◌+◌, ◌<◌, List, [], ◌∷◌, ◌++◌, length, Bool, true, false, Option, Some, None, slice_get}
 use Rattle.std.specs.List.{list_any}
 use Rattle.std.specs.Ordering.{int_eq}
-use Rattle.box_events.specs.Happenings.{Happening, added, count_of}
+use Rattle.box_events.specs.Events.{EventView, added, count_of}
 use Rattle.box_events.specs.Boxes.{ending}
 use Rattle.pts_machine.specs.Tracks.{Track}
 use Rattle.pts_machine.specs.Steps.{new_track, hear}
@@ -13,7 +13,7 @@ use Rattle.pts_machine.specs.Steps.{new_track, hear}
 pub record Push : Type 0 where
   pub start : ℕ
   pub end : ℕ
-  pub event : Happening
+  pub event : EventView
 
 -- a message is posted under a random id, or the client hears the push of this number
 pub data Step : Type 0 where
@@ -22,22 +22,22 @@ pub data Step : Type 0 where
 
 -- the box, the random ids that are known, the pushes that were sent, and the lane
 pub record World : Type 0 where
-  pub box : List Happening
+  pub box : List EventView
   pub ids : List ℤ
   pub pool : List Push
-  pub lane : Track Happening
+  pub lane : Track EventView
 
 -- nothing was posted or heard
 abbrev pub start : World
 start = record { box = []; ids = []; pool = []; lane = new_track }
 
 -- the push of an event that is put behind a box
-abbrev pub push_of : List Happening → Happening → Push
+abbrev pub push_of : List EventView → EventView → Push
 push_of box event = record { start = ending box; end = ending box + count_of event; event = event }
 
 -- A post under an id that is known changes nothing. Under a new one the event stands last in the box, the id is known from
 -- then on, and its push stands last in the pool.
-abbrev pub posted : Bool → World → ℤ → Happening → World
+abbrev pub posted : Bool → World → ℤ → EventView → World
 posted true w id event = w
 posted false w id event = record { box = w.box ++ event ∷ []; ids = w.ids ++ id ∷ []; pool = w.pool ++ push_of w.box event ∷ []; lane = w.lane }
 

@@ -145,6 +145,7 @@ fn put_event(alloc: Global, lines: &mut Vec<u8>, end: u32, event: &Event) -> Res
             let bytes = bytes_of(alloc, event.ids())?;
             put_change(alloc, lines, "delete", end, bytes.as_slice())
         }
+        Kind::Read { max_id } => put_change(alloc, lines, "read", end, &max_id.to_le_bytes()),
     }
 }
 

@@ -1,6 +1,6 @@
 //! The world of a replay.
 ghost use Rattle.std.specs.Prelude.{◌≡◌, ◌<◌, ◌≤◌, ◌++◌, ◌∷◌, [], ℕ, Err, false, length, slice_get, IfOk, OnOk, OnErr};
-ghost use Rattle.box_events.specs.Happenings.{added};
+ghost use Rattle.box_events.specs.Events.{added};
 ghost use Rattle.box_events.specs.Boxes.{ending};
 ghost use Rattle.update_replay.specs.Worlds.{start, post, hears, happens, is_known, Possible};
 ghost use Rattle.update_replay.specs.Reached.{IsShort, IsReached};
