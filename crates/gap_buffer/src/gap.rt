@@ -41,7 +41,7 @@ fn place_of<E>(items: &[(u32, E)], start: u32) -> Result<usize, usize>
     items.binary_search_by(|held| held.0.cmp(&start))
 }
 
-// How many items start below a place: they are the first.
+// How many items start below a position: they are the first.
 fn number_below<E>(items: &[(u32, E)], at: u32) -> usize
     requires rising { AreRising items.now }
     ensures within { result ≤ length items.now }
@@ -107,7 +107,7 @@ impl<E> Gap<E> {
         }
     }
 
-    /// Takes an item that starts below this place, with its end.
+    /// Takes an item that starts below this position, with its end.
     pub fn take_below(&mut self, at: u32) -> Option<(u32, E)>
         ensures taken { TakesBelow self.old self.new at result }
         ensures spare { self.old.spare ≤ self.new.spare }
@@ -120,7 +120,7 @@ impl<E> Gap<E> {
         Some(held)
     }
 
-    /// Drops the items that start below this place, and answers how many.
+    /// Drops the items that start below this position, and answers how many.
     pub fn drop_to(&mut self, at: u32) -> u32
     where
         E: Drop,

@@ -8,8 +8,8 @@ use Rattle.std.proofs.lemmas.Option.{none-some}
 use Rattle.std.proofs.lemmas.List.{take-append-le, length-take, length-drop, length-map}
 use Rattle.seq_machine.specs.declared.setting.Setting.{Setting}
 use Rattle.seq_machine.specs.Packs.{Values}
-use Rattle.seq_machine.specs.Books.{Book, new_book, IsSoundBook}
-use Rattle.seq_machine.specs.Latest.{Dated, last_of, value_of, IsLatest, latest, IsStretch, IsLatestBook}
+use Rattle.seq_machine.specs.States.{SettingsState, new_settings, IsSoundState}
+use Rattle.seq_machine.specs.Latest.{Dated, last_of, value_of, IsLatest, latest, IsStretch, IsLatestState}
 use Rattle.seq_machine.proofs.LatestValues.{latest_puts}
 
 latest_none : (L : List Dated) → IsLatest L 0 empty
@@ -21,7 +21,7 @@ latest_is L s = latest_puts L 0 s empty (each (λ e. e.setting) (take s L)) (lat
 pub latest_one : (L : List Dated) (s : ℕ) (table : Values) → IsLatest L s table → table ≡ latest L s
 latest_one L s table h = same_map nat_list_cmp_total (slice_cmp-IsAntisymmetric nat_cmp-IsAntisymmetric) table (latest L s) (λ q. h q ∙ sym (latest_is L s q))
 
-pub latest_new : (L : List Dated) → IsLatestBook L new_book
+pub latest_new : (L : List Dated) → IsLatestState L new_settings
 latest_new L = record { table = latest_none L; held = λ s x e. absurd (none-some x (sym (get-empty nat_cmp s) ∙ e)) }
 
 -- a stretch that is as long as its numbers say lies within the list
@@ -31,7 +31,7 @@ ends_within L s e settings lt is h =
     ap (λ (xs : List Setting). length xs) h.is ∙ length-map (drop s (take e L)) (λ e. e.setting) ∙ length-drop s (take e L) ∙ ap (λ (n : ℕ). n - s) (length-take e L) in
     omega arith
 
-pub latest_grows : (L more : List Dated) (b : Book) → IsSoundBook b → b.at ≤ length L → IsLatestBook L b → IsLatestBook (L ++ more) b
+pub latest_grows : (L more : List Dated) (b : SettingsState) → IsSoundState b → b.at ≤ length L → IsLatestState L b → IsLatestState (L ++ more) b
 latest_grows L more b sound le h = record {
   table = λ q. h.table q ∙ ap (λ (xs : List Dated). value_of (last_of xs q)) (sym (take-append-le b.at L more le));
   held = λ s x e.

@@ -5,5 +5,5 @@ pub mod Stays
 pub mod Growing
 pub mod Sums
 pub mod Below
-pub mod BookSteps
+pub mod StateSteps
 mod Stores

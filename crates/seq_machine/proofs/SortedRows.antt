@@ -30,7 +30,7 @@ less Less h = refl
 less Equal h = absurd h
 less Greater h = absurd h
 
--- ---- the rows behind a row
+-- ---- the rows after a row
 
 below_at : (k : List ℕ) (xs : List Setting) (i : ℕ) (d : Setting) → T (below_all order k (pairs xs)) → i < length xs → order k (get_or xs i d).key ≡ Less
 below_at k [] i d below lt = absurd (omega arith)

@@ -5,7 +5,7 @@ use Rattle.std.specs.FinMap as map
 use Rattle.gap_buffer.specs.Holding.{Items}
 use Rattle.seq_machine.specs.declared.setting.Setting.{Setting}
 use Rattle.seq_machine.specs.Packs.{Values, Pack, same_key, puts}
-use Rattle.seq_machine.specs.Books.{Book}
+use Rattle.seq_machine.specs.States.{SettingsState}
 
 -- a setting of the server, with its date
 pub record Dated : Type 0 where
@@ -62,7 +62,7 @@ IsOverlay L seq date settings = (q : List ℕ) → last_set settings q ≡ value
 abbrev pub AreSince : List Dated → ℕ → ℕ → Type 0
 AreSince L seq date = All (λ e. date ≤ e.date) (drop seq L)
 
--- the table of a book is the latest of the list at its seq, and each held pack is its stretch
-pub record IsLatestBook (L : List Dated) (b : Book) : Type 0 where
+-- the table of settings is the latest of the list at its seq, and each held pack is its stretch
+pub record IsLatestState (L : List Dated) (b : SettingsState) : Type 0 where
   pub table : IsLatest L b.at b.table
   pub held : AreStretches L b.held

@@ -1,7 +1,7 @@
 use Rattle.std.proofs.Common.{sym, ap, ◌∙◌, arith}
 use Rattle.seq_machine.specs.Totals.{total}
 use Rattle.seq_machine.proofs.Sums.{total_empty}
-use Rattle.seq_machine.proofs.BookSteps.{sound_empty}
+use Rattle.seq_machine.proofs.StateSteps.{sound_empty}
 use Rattle.seq_machine.proofs.settings.Settings.forget.Goals as goal
 
 pub invariant_of-self : goal.invariant_of-self
