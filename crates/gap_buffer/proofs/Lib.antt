@@ -1,3 +1,3 @@
 pub mod Maps
-mod Places
+mod Indexes
 mod Rises

@@ -8,9 +8,9 @@ use Rattle.std.specs.Ordering.{nat_cmp, eq_by_cmp}
 use Rattle.std.specs.Cmp.{nat_cmp_total}
 use Rattle.std.specs.FinMap.{FinMap, get, len, find, put, insert, remove, retain_keys, from_sorted, entries-from_sorted, entries-insert, same_entries_map, same_map, get-from_sorted, get-remove, get-retain_keys, len-entries, empty, empty_of_len, nat_cmp-IsAntisymmetric}
 use Rattle.std.specs.FinMap.Entries.{where_key, find-where_key, is_sorted-put, is_sorted-where_key}
-use Rattle.gap_buffer.specs.inner.Places.{AreRising, IsPlace}
+use Rattle.gap_buffer.specs.inner.Indexes.{AreRising, IsIndex}
 use Rattle.gap_buffer.proofs.Maps.{alike}
-use Rattle.gap_buffer.proofs.Places.{before_it, after_it, from_it, below_first, found, missed, put_there, others, dropped}
+use Rattle.gap_buffer.proofs.Indexes.{before_it, after_it, from_it, below_first, found, missed, put_there, others, dropped}
 
 pub count_of : {X : Type 0} (es : List (ℕ × X)) (m : FinMap nat_cmp X) → AreRising es → from_sorted es ≡ m → len m ≡ length es
 count_of {X} es m rising seen = ap len (sym seen) ∙ len-entries (from_sorted {R = nat_cmp} es) ∙ ap (λ (xs : List (ℕ × X)). length xs) (entries-from_sorted nat_cmp es rising)
@@ -55,37 +55,37 @@ map_others {X} k es ys m rising is seen =
     ∙ ap (λ (b : Bool). cond b None (get (from_sorted {R = nat_cmp} es) q)) (same_test k q) ∙ sym (get-remove nat_cmp_total (from_sorted es) k q))
     ∙ ap (λ (n : FinMap nat_cmp X). remove n k) seen
 
--- ---- by the place of a start
+-- ---- by the index of a start
 
-pub none_held : {X : Type 0} (es : List (ℕ × X)) (q i : ℕ) (m : FinMap nat_cmp X) → AreRising es → from_sorted es ≡ m → IsPlace es q (Err i) → get m q ≡ None
+pub none_held : {X : Type 0} (es : List (ℕ × X)) (q i : ℕ) (m : FinMap nat_cmp X) → AreRising es → from_sorted es ≡ m → IsIndex es q (Err i) → get m q ≡ None
 none_held {X} es q i m rising seen p = ap (λ (n : FinMap nat_cmp X). get n q) (sym seen) ∙ get-from_sorted nat_cmp es q rising ∙ missed es q i p.0 p.1.0 p.1.1
 
-pub is_held : {X : Type 0} (es : List (ℕ × X)) (q i : ℕ) (m : FinMap nat_cmp X) (d : ℕ × X) → AreRising es → from_sorted es ≡ m → IsPlace es q (Ok i) → get m q ≡ Some (get_or es i d).1
+pub is_held : {X : Type 0} (es : List (ℕ × X)) (q i : ℕ) (m : FinMap nat_cmp X) (d : ℕ × X) → AreRising es → from_sorted es ≡ m → IsIndex es q (Ok i) → get m q ≡ Some (get_or es i d).1
 is_held {X} es q i m d rising seen p = ap (λ (n : FinMap nat_cmp X). get n q) (sym seen) ∙ get-from_sorted nat_cmp es q rising ∙ found es q i d p.0 (before_it es q i rising p.0 p.1) p.1
 
-pub put_at : {X : Type 0} (es : List (ℕ × X)) (q i : ℕ) (v : X) → IsPlace es q (Err i) → insert_at es i (q, v) ≡ put nat_cmp q v es
+pub put_at : {X : Type 0} (es : List (ℕ × X)) (q i : ℕ) (v : X) → IsIndex es q (Err i) → insert_at es i (q, v) ≡ put nat_cmp q v es
 put_at es q i v p = put_there es q i v p.0 p.1.0 p.1.1
 
-others_at : {X : Type 0} (es : List (ℕ × X)) (q i : ℕ) → AreRising es → IsPlace es q (Ok i) → without es i ≡ where_key nat_cmp (λ k. not (eq_by_cmp nat_cmp q k)) es
+others_at : {X : Type 0} (es : List (ℕ × X)) (q i : ℕ) → AreRising es → IsIndex es q (Ok i) → without es i ≡ where_key nat_cmp (λ k. not (eq_by_cmp nat_cmp q k)) es
 others_at es q i rising p = others es q i p.0 (before_it es q i rising p.0 p.1) p.1 (after_it es q i rising p.0 p.1)
 
-pub rising_without : {X : Type 0} (es : List (ℕ × X)) (q i : ℕ) → AreRising es → IsPlace es q (Ok i) → AreRising (without es i)
+pub rising_without : {X : Type 0} (es : List (ℕ × X)) (q i : ℕ) → AreRising es → IsIndex es q (Ok i) → AreRising (without es i)
 rising_without es q i rising p = rising_where (λ k. not (eq_by_cmp nat_cmp q k)) es (without es i) rising (others_at es q i rising p)
 
-pub map_without : {X : Type 0} (es : List (ℕ × X)) (q i : ℕ) (m : FinMap nat_cmp X) → AreRising es → from_sorted es ≡ m → IsPlace es q (Ok i) → from_sorted (without es i) ≡ remove m q
+pub map_without : {X : Type 0} (es : List (ℕ × X)) (q i : ℕ) (m : FinMap nat_cmp X) → AreRising es → from_sorted es ≡ m → IsIndex es q (Ok i) → from_sorted (without es i) ≡ remove m q
 map_without es q i m rising seen p = map_others q es (without es i) m rising (others_at es q i rising p) seen
 
-pub from_place : {X : Type 0} (es : List (ℕ × X)) (q i : ℕ) → AreRising es → IsPlace es q (Ok i) → drop i es ≡ where_key nat_cmp (leb q) es
-from_place es q i rising p = dropped es q i (omega (arith, p.0)) (before_it es q i rising p.0 p.1) (from_it es q i rising p.0 p.1)
+pub from_index : {X : Type 0} (es : List (ℕ × X)) (q i : ℕ) → AreRising es → IsIndex es q (Ok i) → drop i es ≡ where_key nat_cmp (leb q) es
+from_index es q i rising p = dropped es q i (omega (arith, p.0)) (before_it es q i rising p.0 p.1) (from_it es q i rising p.0 p.1)
 
-pub from_missed : {X : Type 0} (es : List (ℕ × X)) (q i : ℕ) → IsPlace es q (Err i) → drop i es ≡ where_key nat_cmp (leb q) es
+pub from_missed : {X : Type 0} (es : List (ℕ × X)) (q i : ℕ) → IsIndex es q (Err i) → drop i es ≡ where_key nat_cmp (leb q) es
 from_missed es q i p = dropped es q i p.0 p.1.0 (λ k d a b. let lt = p.1.1 k d a b in omega arith)
 
 -- ---- by the first item
 
-pub first_place : {X : Type 0} (es : List (ℕ × X)) (e : ℕ × X) → Some e ≡ slice_get es 0 → IsPlace es e.0 (Ok 0)
-first_place [] e is = absurd cc
-first_place {X} (x ∷ es) e is = (omega arith, λ d. ap (λ (y : ℕ × X). y.0) (sym (same_Some e x is)))
+pub first_index : {X : Type 0} (es : List (ℕ × X)) (e : ℕ × X) → Some e ≡ slice_get es 0 → IsIndex es e.0 (Ok 0)
+first_index [] e is = absurd cc
+first_index {X} (x ∷ es) e is = (omega arith, λ d. ap (λ (y : ℕ × X). y.0) (sym (same_Some e x is)))
 
 pub first_from : {X : Type 0} (es : List (ℕ × X)) (e : ℕ × X) (m : FinMap nat_cmp X) (p s : ℕ) (x : X) → AreRising es → from_sorted es ≡ m → Some e ≡ slice_get es 0 → p ≤ e.0 → get m s ≡ Some x → p ≤ s
 first_from {X} es e m p s x rising seen first le is = elim (cases_lt s p) [

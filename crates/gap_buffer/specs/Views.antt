@@ -3,7 +3,7 @@ use Rattle.std.specs.Prelude.{◌≤◌, ◌-◌, length, vec_len, vec_capacity}
 use Rattle.std.specs.FinMap as map
 use Rattle.gap_buffer.specs.declared.gap.Gap.TheInside.{Inside}
 use Rattle.gap_buffer.specs.Holding.{GapView, most}
-use Rattle.gap_buffer.specs.inner.Places.{AreRising}
+use Rattle.gap_buffer.specs.inner.Indexes.{AreRising}
 
 -- the map that the list spells, and the room that it has
 abbrev pub view_of : {E : Type 0} → Inside E → GapView E

@@ -1,2 +1,2 @@
 -- What private clauses alone cite.
-pub mod Places
+pub mod Indexes

@@ -4,7 +4,7 @@ ghost use Rattle.std.specs.Ordering.{nat_cmp};
 ghost use Rattle.std.specs.FinMap as map;
 ghost use Rattle.std.specs.FinMap.Entries.{where_key};
 ghost use Rattle.gap_buffer.specs.Holding.{Holds, TakesBelow, from};
-ghost use Rattle.gap_buffer.specs.inner.Places.{AreRising, IsPlace};
+ghost use Rattle.gap_buffer.specs.inner.Indexes.{AreRising, IsIndex};
 
 use crate::held::Held;
 use std::alloc::Global;
@@ -34,9 +34,9 @@ impl<E> Model for Gap<E> {
 }
 
 // Where the item with a start stands among items whose starts rise, or else where it belongs.
-fn place_of<E>(items: &[(u32, E)], start: u32) -> Result<usize, usize>
+fn index_of<E>(items: &[(u32, E)], start: u32) -> Result<usize, usize>
     requires rising { AreRising items.now }
-    ensures place { IsPlace items.now start result }
+    ensures index { IsIndex items.now start result }
 {
     items.binary_search_by(|held| held.0.cmp(&start))
 }
@@ -47,7 +47,7 @@ fn number_below<E>(items: &[(u32, E)], at: u32) -> usize
     ensures within { result ≤ length items.now }
     ensures rest { drop result items.now ≡ where_key nat_cmp (leb at) items.now }
 {
-    match place_of(items, at) {
+    match index_of(items, at) {
         Ok(i) => i,
         Err(i) => i,
     }
@@ -79,7 +79,7 @@ impl<E> Gap<E> {
         requires room { 1 ≤ self.old.spare }
         ensures { Holds self.old self.new start end item result }
     {
-        let i = match place_of(&self.items, start) {
+        let i = match index_of(&self.items, start) {
             Ok(_) => return Held::Already(item),
             Err(i) => i,
         };
@@ -98,7 +98,7 @@ impl<E> Gap<E> {
         ensures rest { self.new.held ≡ map.remove self.old.held at }
         ensures spare { self.old.spare ≤ self.new.spare }
     {
-        match place_of(&self.items, at) {
+        match index_of(&self.items, at) {
             Ok(i) => {
                 let (_, held) = self.items.remove(i);
                 Some(held)

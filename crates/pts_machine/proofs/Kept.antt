@@ -13,7 +13,7 @@ use Rattle.pts_machine.specs.declared.mode.Mode.TheVariants.{Live, Asking, Again
 use Rattle.pts_machine.specs.declared.seen.Seen.{Seen}
 use Rattle.pts_machine.specs.declared.seen.Seen.TheVariants.{Applied, Already, Held, Dropped}
 use Rattle.gap_buffer.proofs.Maps.{from_some}
-use Rattle.pts_machine.specs.States.{LaneState, IsSound, AreSized, is_live}
+use Rattle.pts_machine.specs.States.{LaneState, IsSound, AreSized, StartAfter, is_live}
 use Rattle.pts_machine.specs.Chains.{chain, reach, EndsAfter}
 use Rattle.pts_machine.specs.Steps.{Heard, settle, hear, applied, extend, resumed, restart_at, forget, asked, loaded, new_lane, IsPast, IsNext, Hears}
 use Rattle.pts_machine.proofs.Bounds.{sized_from, sized_empty, sized_insert, after_empty, after_insert}
@@ -36,15 +36,28 @@ apart m p q x none some le =
     let ne : p ≢ q = λ e. not_free (get m q) x (ap (get m) (sym e) ∙ none) some in
     omega arith
 
+-- what holds of the held items of every lane
+pub record HoldsAhead {E : Type 0} (count : E → ℕ) (t : LaneState E) : Type 0 where
+  pub sized : AreSized count t.held
+  pub ahead : t.mode ≡ Live → StartAfter t.at t.held
+
+pub ahead_settle : {E : Type 0} (count : E → ℕ) (t : LaneState E) → AreSized count t.held → HoldsAhead count (settle t)
+unfolding settle
+ahead_settle count t h = record {
+  sized = sized_from count _ t.held h;
+  ahead = λ live q x e.
+      let s = from_some _ t.held q x e in
+      apart t.held _ q x (reach_free t.at t.held (after_of count t.held h)) s.1 s.0;
+}
+
 pub sound_settle : {E : Type 0} (count : E → ℕ) (t : LaneState E) → IsFilled count t → IsSound count (settle t)
 unfolding settle
 sound_settle count t h =
     let sum : reach (len t.held) t.at t.held ≡ t.at + sum_by count (chain (len t.held) t.at t.held) = reach_sum count (len t.held) t.at t.held h.sized in
+    let held = ahead_settle count t h.sized in
     record {
-      sized = sized_from count _ t.held h.sized;
-      ahead = λ live q x e.
-          let s = from_some _ t.held q x e in
-          apart t.held _ q x (reach_free t.at t.held (after_of count t.held h.sized)) s.1 s.0;
+      sized = held.sized;
+      ahead = held.ahead;
       position = omega (arith, h.position, sum, sum_by-append count t.events (chain (len t.held) t.at t.held));
       limit = reach_limit count _ t.at t.held h.sized h.limit;
     }
@@ -55,25 +68,38 @@ filled_of count t h = record { sized = h.sized; position = h.position; limit = h
 pub above : {E : Type 0} (t : LaneState E) (start : ℕ) → (IsPast t start → ⊥) → t.at ≤ start
 above t start no_past = elim (cases_lt start t.at) [ inl lt ↦ absurd (no_past (inl lt)) | inr le ↦ le ]
 
-pub sound_by : {E : Type 0} (count : E → ℕ) (t : LaneState E) (start end : ℕ) (item : E) (r : Seen) (u : LaneState E)
-    → IsSound count t → start < end → end ≡ start + count item → end ≤ 1000000 → Hears t start end item r u → IsSound count u
-sound_by count t start end item Already u h lt is le s = subst (IsSound count) (sym s.1) h
-sound_by count t start end item (Applied to) u h lt is le s =
-    let next : start ≡ t.at = s.1.1 in
-    subst (IsSound count) (sym s.2) (sound_settle count (record t { events = t.events ++ item ∷ []; at = end }) (record {
-      sized = h.sized;
-      position = omega (arith, h.position, sum_by_push count t.events item);
-      limit = le;
-    }))
-sound_by count t start end item Held u h lt is le s =
-    subst (IsSound count) (sym s.3) (record {
+pub ahead_by : {E : Type 0} (count : E → ℕ) (t : LaneState E) (start end : ℕ) (item : E) (r : Seen) (u : LaneState E)
+    → HoldsAhead count t → start < end → end ≡ start + count item → end ≤ 1000000 → Hears t start end item r u → HoldsAhead count u
+ahead_by count t start end item Already u h lt is le s = subst (HoldsAhead count) (sym s.1) h
+ahead_by count t start end item (Applied to) u h lt is le s = subst (HoldsAhead count) (sym s.2) (ahead_settle count (record t { events = t.events ++ item ∷ []; at = end }) h.sized)
+ahead_by count t start end item Held u h lt is le s =
+    subst (HoldsAhead count) (sym s.3) (record {
       sized = sized_insert count t.held start (end, item) h.sized lt is le;
       ahead = λ live. after_insert t.at t.held start (end, item) (h.ahead live)
           (let past : t.at ≤ start = above t start s.0 in let ne : start ≢ t.at = λ e. s.1 (live, e) in omega arith);
-      position = h.position;
-      limit = h.limit;
     })
-sound_by count t start end item Dropped u h lt is le s = subst (IsSound count) (sym s.3) h
+ahead_by count t start end item Dropped u h lt is le s = subst (HoldsAhead count) (sym s.3) h
+
+filled_by : {E : Type 0} (count : E → ℕ) (t : LaneState E) (start end : ℕ) (item : E) (r : Seen) (u : LaneState E)
+    → IsFilled count t → start < end → end ≡ start + count item → end ≤ 1000000 → Hears t start end item r u → IsFilled count u
+filled_by count t start end item Already u h lt is le s = subst (IsFilled count) (sym s.1) h
+filled_by count t start end item (Applied to) u h lt is le s =
+    let next : start ≡ t.at = s.1.1 in
+    subst (IsFilled count) (sym s.2) (filled_of count _ (sound_settle count (record t { events = t.events ++ item ∷ []; at = end }) (record {
+      sized = h.sized;
+      position = omega (arith, h.position, sum_by_push count t.events item);
+      limit = le;
+    })))
+filled_by count t start end item Held u h lt is le s =
+    subst (IsFilled count) (sym s.3) (record { sized = sized_insert count t.held start (end, item) h.sized lt is le; position = h.position; limit = h.limit })
+filled_by count t start end item Dropped u h lt is le s = subst (IsFilled count) (sym s.3) h
+
+pub sound_by : {E : Type 0} (count : E → ℕ) (t : LaneState E) (start end : ℕ) (item : E) (r : Seen) (u : LaneState E)
+    → IsSound count t → start < end → end ≡ start + count item → end ≤ 1000000 → Hears t start end item r u → IsSound count u
+sound_by count t start end item r u h lt is le s =
+    let held = ahead_by count t start end item r u (record { sized = h.sized; ahead = h.ahead }) lt is le s in
+    let filled = filled_by count t start end item r u (filled_of count t h) lt is le s in
+    record { sized = held.sized; ahead = held.ahead; position = filled.position; limit = filled.limit }
 
 -- the tests of `hear`
 past_test : {A : Type 0} (s p : ℕ) (o : Option A) → Decides (ltb s p || is_some o) ((s < p) ⊎ (o ≢ None))

@@ -9,7 +9,7 @@ use Rattle.gap_buffer.specs.declared.held.Held.TheVariants.{Kept, Already, Full}
 use Rattle.pts_machine.specs.declared.mode.Mode.{Mode}
 use Rattle.pts_machine.specs.declared.mode.Mode.TheVariants.{Live, Again}
 use Rattle.pts_machine.specs.declared.seen.Seen.{Seen}
-use Rattle.pts_machine.specs.States.{LaneState, IsSound, is_live}
+use Rattle.pts_machine.specs.States.{LaneState, StartAfter, is_live}
 use Rattle.pts_machine.specs.Chains.{chain, reach}
 use Rattle.pts_machine.specs.Steps.{settle, extend, restart_at, forget, loaded, IsPast, IsNext, Hears}
 use Rattle.pts_machine.specs.Outcomes.{seen_by, kept_by}
@@ -64,11 +64,11 @@ both_ways b f t = cc
 pub not_next_of : (m : Mode) (s p : ℕ) (b : Bool) → b ≡ (is_live m && eqb s p) → b ≡ false → (m ≡ Live) × (s ≡ p) → ⊥
 not_next_of m s p b e f h = both_ways _ (sym e ∙ f) ((next_test m s p).1 h)
 
-pub never_past : {E : Type 0} (count : E → ℕ) (t : LaneState E) (start : ℕ) → IsSound count t → IsNext t start → IsPast t start → ⊥
-never_past count t start sound next (inl lt) = let same : start ≡ t.at = next.1 in absurd (omega arith)
-never_past count t start sound next (inr ne) = elim (look t.held start) [
+pub never_past : {E : Type 0} (t : LaneState E) (start : ℕ) → (t.mode ≡ Live → StartAfter t.at t.held) → IsNext t start → IsPast t start → ⊥
+never_past t start ahead next (inl lt) = let same : start ≡ t.at = next.1 in absurd (omega arith)
+never_past t start ahead next (inr ne) = elim (look t.held start) [
   | none_at e ↦ ne e
-  | some_at x e ↦ let same : start ≡ t.at = next.1 in let past : t.at < start = sound.ahead next.0 start x e in absurd (omega arith)
+  | some_at x e ↦ let same : start ≡ t.at = next.1 in let past : t.at < start = ahead next.0 start x e in absurd (omega arith)
 ]
 
 cond_le : (b : Bool) (n : ℕ) → cond b n (n + 1) ≤ n + 1

@@ -10,7 +10,7 @@ use Rattle.std.specs.Cmp.Lexicographic.{slice_cmp, nat_list_cmp_total}
 use Rattle.std.specs.FinMap.{find}
 use Rattle.std.specs.FinMap.Entries.{by_order, below_all}
 use Rattle.std.proofs.lemmas.List.Sorted.{searchable_from_sorted}
-use Rattle.seq_machine.specs.declared.setting.Setting.{Setting}
+use Rattle.box_events.specs.declared.settings.Setting.{Setting}
 use Rattle.seq_machine.specs.declared.table.Spot.TheVariants.{At, Before}
 use Rattle.seq_machine.specs.Rows.{pairs, AreSorted, spot_from}
 

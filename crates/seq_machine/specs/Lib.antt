@@ -7,4 +7,5 @@ pub mod Totals
 pub mod States
 pub mod Views
 pub mod Latest
+pub mod Agreeing
 pub mod Stores

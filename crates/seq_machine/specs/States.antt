@@ -1,7 +1,7 @@
 -- The settings of a client, apart from the code: a lane of packs, with a date and a table.
 -- From "Working with Updates" (core.telegram.org/api/updates), "seq", in that a pack below the seq is known, one in turn is applied and
 -- one past it waits; settings under a seq are this project's own.
-use Rattle.std.specs.Prelude.{◌≡◌, ◌≤◌, ℕ, List, [], refl}
+use Rattle.std.specs.Prelude.{◌≡◌, ◌<◌, ◌+◌, ◌^◌, ℕ, List, [], refl}
 use Rattle.std.specs.Coded.{Coded, code_by, coded×, coded_ℕ}
 use Rattle.std.specs.FinMap as map
 use Rattle.gap_buffer.specs.Holding.{Items}
@@ -10,9 +10,10 @@ use Rattle.pts_machine.specs.declared.mode.Mode.TheVariants.{Live, Asking, Again
 use Rattle.pts_machine.specs.declared.seen.Seen.{Seen}
 use Rattle.pts_machine.specs.States.{LaneState, mode_code, AreSized, StartAfter}
 use Rattle.pts_machine.specs.Steps.{hear, settle}
-use Rattle.seq_machine.specs.declared.setting.Setting.{Setting}
+use Rattle.box_events.specs.declared.settings.Setting.{Setting}
 use Rattle.seq_machine.specs.Packs.{Values, Pack, size, puts, puts_all, last_date, pack_code}
 use Rattle.seq_machine.specs.Tables.{values_code}
+use Rattle.seq_machine.specs.Totals.{total}
 
 -- the seq, the date, the values, the held packs, and whether it waits for an answer
 pub record SettingsState : Type 0 where
@@ -63,16 +64,23 @@ asks_again b = record b { mode = Again }
 abbrev pub forgotten : SettingsState → SettingsState
 forgotten b = record b { held = map.empty; mode = Live }
 
+-- settings that were kept, at a seq and a date: nothing is held
+abbrev pub loaded : ℕ → ℕ → Values → SettingsState
+loaded seq date table = record { at = seq; date = date; table = table; held = map.empty; mode = Live }
+
 -- what holds of all settings: each held pack ends after its start by its size, and live settings hold none at or below their seq
 pub record IsSoundState (b : SettingsState) : Type 0 where
   pub sized : AreSized size b.held
   pub ahead : b.mode ≡ Live → StartAfter b.at b.held
-  pub limit : b.at ≤ 1000000
 
 -- what callers see: the settings, and for how many more there is room
 pub record SettingsView : Type 0 where
   pub state : SettingsState
   pub spare : ℕ
+
+-- keys, held settings and room come to fewer than 2^31
+abbrev pub IsBounded : SettingsView → Type 0
+IsBounded v = map.len v.state.table + total v.state.held + v.spare < 2 ^ 31
 
 -- the settings and what callers see as rows of their parts
 abbrev pub state_code : Coded SettingsState

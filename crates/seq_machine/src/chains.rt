@@ -38,6 +38,7 @@ pub fn settle(store: &mut Store, at: u32, gap: &mut Gap<HeldPack>) -> u32
     ensures held { gap.new.held ≡ from result gap.old.held }
     ensures total { store.new.waiting ≡ total gap.new.held }
     ensures less { store.new.waiting ≤ store.old.waiting }
+    ensures few { map.len store.new.table.values + store.new.waiting ≤ map.len store.old.table.values + store.old.waiting }
     ensures room { store.old.table.spare + store.new.waiting ≤ store.new.table.spare + store.old.waiting }
     ensures spare { gap.old.spare ≤ gap.new.spare }
 {

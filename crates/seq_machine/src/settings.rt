@@ -1,17 +1,19 @@
 //! The settings of a client.
-ghost use Rattle.std.specs.Prelude.{◌≡◌, ◌<◌, ◌≤◌, ◌+◌, ◌-◌, ◌^◌, List, OnOk, OnErr, MatchOption, None, Some, vec_len};
+ghost use Rattle.std.specs.Prelude.{◌≡◌, ◌<◌, ◌≤◌, ◌+◌, ◌-◌, ◌^◌, List, OnOk, OnErr, MatchOption, None, Some, vec_len, max};
 ghost use Rattle.std.specs.FinMap as map;
 ghost use Rattle.pts_machine.specs.Chains.{AreChained};
 ghost use Rattle.seq_machine.specs.Rows.{pairs, values_of, AreSorted};
 ghost use Rattle.seq_machine.specs.Totals.{total};
-ghost use Rattle.seq_machine.specs.States.{IsSoundState, new_settings, hear_pack, overlaid, asked, asks_again, forgotten};
-ghost use Rattle.seq_machine.specs.Latest.{Dated, IsLatestState, IsStretch, AreSince, IsOverlay};
+ghost use Rattle.seq_machine.specs.Packs.{pack_of};
+ghost use Rattle.seq_machine.specs.States.{IsSoundState, IsBounded, new_settings, hear_pack, overlaid, asked, asks_again, forgotten, loaded};
+ghost use Rattle.seq_machine.specs.Latest.{Dated, IsLatestState, IsStretch, AreSince, IsSince, IsOverlay};
+ghost use Rattle.seq_machine.specs.Agreeing.{NeverFallFrom};
 
 use crate::chains::settle;
 use crate::held_pack::HeldPack;
-use crate::setting::Setting;
 use crate::store::Store;
 use crate::table::Table;
+use box_events::Setting;
 use gap_buffer::Gap;
 use pts_machine::{Mode, Seen, is_next, outcome_of};
 use std::alloc::{AllocError, Global};
@@ -69,6 +71,7 @@ impl Settings {
         ensures state { self.new.state ≡ self.old.state }
         ensures spare { self.old.spare ≤ self.new.spare }
         ensures ok { OnOk result (more ≤ self.new.spare) }
+        ensures exact { OnOk result (self.new.spare ≡ max self.old.spare more) }
         ensures limit { OnOk result (map.len self.old.state.table + total self.old.state.held + more < 2 ^ 31) }
         ensures err { OnErr result (self.new ≡ self.old) }
     {
@@ -91,9 +94,10 @@ impl Settings {
         requires limit { seq ≤ 1000000 }
         requires number { vec_len pack + seq_start ≡ seq + 1 }
         requires room { vec_len pack ≤ self.old.spare }
-        ensures step { hear_pack self.old.state (seq_start - 1) seq (record { date = date; settings = pack.items }) ≡ record { state = self.new.state; seen = result } }
+        ensures step { hear_pack self.old.state (seq_start - 1) seq (pack_of date pack.items) ≡ record { state = self.new.state; seen = result } }
         ensures spare { self.old.spare ≤ self.new.spare + vec_len pack }
-        ensures latest { (L : List Dated) → IsLatestState L self.old.state → IsStretch L (seq_start - 1) seq pack.items → IsLatestState L self.new.state }
+        ensures latest { (L : List Dated) → IsLatestState L self.old.state → IsStretch L (seq_start - 1) seq (pack_of date pack.items) → IsLatestState L self.new.state }
+        ensures since { (L : List Dated) → NeverFallFrom self.old.state.at L → IsLatestState L self.old.state → IsStretch L (seq_start - 1) seq (pack_of date pack.items) → IsSince L self.old.state → IsSince L self.new.state }
     {
         let start = seq_start - 1;
         if start < self.at {
@@ -127,14 +131,14 @@ impl Settings {
         self.mode = Mode::Again;
     }
 
-    /// The settings of a final answer come: they are laid over what is kept, and what is held and follows is applied.
+    /// The settings of a final answer come, with the seq and the date of the answer: they are laid over what is kept, and what is held and follows is applied.
     pub fn overlay(&mut self, pack: Vec<Setting>, seq: u32, date: u32)
         requires order { self.old.state.at ≤ seq }
-        requires limit { seq ≤ 1000000 }
         requires room { vec_len pack ≤ self.old.spare }
         ensures step { self.new.state ≡ overlaid self.old.state pack.items seq date }
         ensures spare { self.old.spare ≤ self.new.spare + vec_len pack }
-        ensures latest { (L : List Dated) → IsLatestState L self.old.state → AreSince L self.old.state.at self.old.state.date → IsOverlay L seq self.old.state.date pack.items → IsLatestState L self.new.state }
+        ensures latest { (L : List Dated) → IsLatestState L self.old.state → IsSince L self.old.state → IsOverlay L seq self.old.state.date pack.items → IsLatestState L self.new.state }
+        ensures since { (L : List Dated) → NeverFallFrom seq L → IsLatestState L self.old.state → AreSince L seq date → IsSince L self.new.state }
     {
         let number = pack.len();
         self.store.table.put_all(pack);
@@ -158,6 +162,7 @@ impl Settings {
     pub fn at(&self) -> u32
         ensures value { result ≡ self.now.state.at }
         ensures sound { IsSoundState self.now.state }
+        ensures bound { IsBounded self.now }
     {
         self.at
     }
@@ -198,11 +203,11 @@ impl Settings {
         self.store.table.rows()
     }
 
-    /// Settings whose keys rise, at a seq and a date.
+    /// Settings whose keys rise in byte order, at a seq and a date. The vector is kept, and not copied.
     pub fn load(alloc: Global, seq: u32, date: u32, all: Vec<Setting>) -> Settings
-        requires limit { seq ≤ 1000000 }
         requires sorted { AreSorted all.items }
-        ensures { result.state ≡ record { at = seq; date = date; table = values_of all.items; held = map.empty; mode = Mode.Live } }
+        requires few { vec_len all < 2 ^ 31 }
+        ensures { result.state ≡ loaded seq date (values_of all.items) }
     {
         Settings {
             at: seq,

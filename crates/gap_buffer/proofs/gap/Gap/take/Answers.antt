@@ -5,29 +5,29 @@ use Rattle.gap_buffer.proofs.gap.Gap.take.Goals as goal
 
 pub invariant_of-self : goal.invariant_of-self
 invariant_of-self g c =
-    let place = rw c.deref.ensures.value at c.in-Ok.ensures.place in
+    let index = rw c.deref.ensures.value at c.in-Ok.ensures.index in
     record {
-      rising = rw c.remove-held.ensures.items (rising_without c.self.inside.items.items c.args.at c.in-Ok.i c.self.invariant.rising place);
+      rising = rw c.remove-held.ensures.items (rising_without c.self.inside.items.items c.args.at c.in-Ok.i c.self.invariant.rising index);
       few = omega (arith, c.self.invariant.few, c.remove-held.ensures.len);
     }
 
 pub returns-in-Ok-clause-value : goal.returns-in-Ok-clause-value
 returns-in-Ok-clause-value g c =
-    let place = rw c.deref.ensures.value at c.in-Ok.ensures.place in
+    let index = rw c.deref.ensures.value at c.in-Ok.ensures.index in
     ap (λ p. Some p.1) c.remove-held.ensures.value
-    ∙ sym (is_held c.self.inside.items.items c.args.at c.in-Ok.i c.args.self.now.held c.remove-held.result c.self.invariant.rising (ap (λ p. p.held) c.self.view_is) place)
+    ∙ sym (is_held c.self.inside.items.items c.args.at c.in-Ok.i c.args.self.now.held c.remove-held.result c.self.invariant.rising (ap (λ p. p.held) c.self.view_is) index)
 
 pub returns-in-Ok-clause-rest : goal.returns-in-Ok-clause-rest
 returns-in-Ok-clause-rest g c =
-    let place = rw c.deref.ensures.value at c.in-Ok.ensures.place in
-    rw c.remove-held.ensures.items (map_without c.self.inside.items.items c.args.at c.in-Ok.i c.args.self.now.held c.self.invariant.rising (ap (λ p. p.held) c.self.view_is) place)
+    let index = rw c.deref.ensures.value at c.in-Ok.ensures.index in
+    rw c.remove-held.ensures.items (map_without c.self.inside.items.items c.args.at c.in-Ok.i c.args.self.now.held c.self.invariant.rising (ap (λ p. p.held) c.self.view_is) index)
 
 pub returns-in-Err-clause-value : goal.returns-in-Err-clause-value
 returns-in-Err-clause-value g c =
-    let place = rw c.deref.ensures.value at c.in-Err.ensures.place in
-    sym (none_held c.self.inside.items.items c.args.at c.in-Err.field-0 c.args.self.now.held c.self.invariant.rising (ap (λ p. p.held) c.self.view_is) place)
+    let index = rw c.deref.ensures.value at c.in-Err.ensures.index in
+    sym (none_held c.self.inside.items.items c.args.at c.in-Err.field-0 c.args.self.now.held c.self.invariant.rising (ap (λ p. p.held) c.self.view_is) index)
 
 pub returns-in-Err-clause-rest : goal.returns-in-Err-clause-rest
 returns-in-Err-clause-rest g c =
-    let place = rw c.deref.ensures.value at c.in-Err.ensures.place in
-    untaken _ _ (none_held c.self.inside.items.items c.args.at c.in-Err.field-0 c.args.self.now.held c.self.invariant.rising (ap (λ p. p.held) c.self.view_is) place)
+    let index = rw c.deref.ensures.value at c.in-Err.ensures.index in
+    untaken _ _ (none_held c.self.inside.items.items c.args.at c.in-Err.field-0 c.args.self.now.held c.self.invariant.rising (ap (λ p. p.held) c.self.view_is) index)

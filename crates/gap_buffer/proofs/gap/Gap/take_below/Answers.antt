@@ -1,6 +1,6 @@
 use Rattle.std.proofs.Common.{arith, refl, sym, ap, ◌∙◌, Some}
 use Rattle.std.specs.Option.{option_copied}
-use Rattle.gap_buffer.proofs.Rises.{first_place, first_from, none_at_all, is_held, rising_without, map_without}
+use Rattle.gap_buffer.proofs.Rises.{first_index, first_from, none_at_all, is_held, rising_without, map_without}
 use Rattle.gap_buffer.proofs.gap.Gap.take_below.Goals as goal
 
 pub returns-in_err-start-clause-taken : goal.returns-in_err-start-clause-taken
@@ -15,19 +15,19 @@ returns-then-at-start-clause-taken g c =
 
 pub invariant_of-self : goal.invariant_of-self
 invariant_of-self g c =
-    let place = first_place c.self.inside.items.items c.in_ok-start.field-0.now (rw c.deref.ensures.value at c.in_ok-start.ensures.value) in
+    let index = first_index c.self.inside.items.items c.in_ok-start.field-0.now (rw c.deref.ensures.value at c.in_ok-start.ensures.value) in
     record {
-      rising = rw c.remove-held.ensures.items (rising_without c.self.inside.items.items c.in_ok-start.field-0.now.0 0 c.self.invariant.rising place);
+      rising = rw c.remove-held.ensures.items (rising_without c.self.inside.items.items c.in_ok-start.field-0.now.0 0 c.self.invariant.rising index);
       few = omega (arith, c.self.invariant.few, c.remove-held.ensures.len);
     }
 
 pub returns-clause-taken : goal.returns-clause-taken
 returns-clause-taken g c =
     let start = c.in_ok-start.field-0.now.0 in
-    let place = first_place c.self.inside.items.items c.in_ok-start.field-0.now (rw c.deref.ensures.value at c.in_ok-start.ensures.value) in
+    let index = first_index c.self.inside.items.items c.in_ok-start.field-0.now (rw c.deref.ensures.value at c.in_ok-start.ensures.value) in
     let seen = ap (λ p. p.held) c.self.view_is in (
       start,
       c.if-at-start.false,
-      is_held c.self.inside.items.items start 0 c.args.self.now.held c.remove-held.result c.self.invariant.rising seen place ∙ ap (λ p. Some p.1) (sym c.remove-held.ensures.value),
-      rw c.remove-held.ensures.items (map_without c.self.inside.items.items start 0 c.args.self.now.held c.self.invariant.rising seen place),
+      is_held c.self.inside.items.items start 0 c.args.self.now.held c.remove-held.result c.self.invariant.rising seen index ∙ ap (λ p. Some p.1) (sym c.remove-held.ensures.value),
+      rw c.remove-held.ensures.items (map_without c.self.inside.items.items start 0 c.args.self.now.held c.self.invariant.rising seen index),
     )

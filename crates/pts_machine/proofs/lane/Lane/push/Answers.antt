@@ -39,7 +39,7 @@ returns-then-is_next-clause-told g c =
     let t : LaneState g.row.E.Denot = record { restart = c.self.inside.restart; events = c.push.new.self.items; at = c.args.end; held = c.self.inside.gap.held; mode = c.self.inside.mode } in
     let u : LaneState g.row.E.Denot = record { restart = c.self.inside.restart; events = c.settle-self-inside.new.events.items; at = c.settle-self-inside.result; held = c.settle-self-inside.new.gap.held; mode = c.self.inside.mode } in
     hears_as (state_of c.self.inside) c.args.self.now.state c.args.start c.args.end c.args.event (Applied c.settle-self-inside.result) u (ap (λ p. p.state) c.self.view_is) (
-      never_past g.E.Counted.count (state_of c.self.inside) c.args.start c.self.invariant.sound next,
+      never_past (state_of c.self.inside) c.args.start c.self.invariant.sound.ahead next,
       next,
       settled t _ _ _ e.events e.reach e.held ∙ ap (λ xs. settle (record t { events = xs })) c.in-Ok.ensures.items,
       refl,

@@ -6,7 +6,7 @@ use Rattle.seq_machine.proofs.settings.Settings.forget.Goals as goal
 
 pub invariant_of-self : goal.invariant_of-self
 invariant_of-self c = record {
-  sound = sound_empty _ _ _ _ _ c.clear.ensures.rest c.self.invariant.sound.limit;
+  sound = sound_empty _ _ _ _ _ c.clear.ensures.rest;
   total = sym (ap total c.clear.ensures.rest ∙ total_empty);
   table = omega (arith, c.self.invariant.table);
   gap = omega (arith, c.self.invariant.gap, c.clear.ensures.spare);

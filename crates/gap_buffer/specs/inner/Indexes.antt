@@ -10,6 +10,6 @@ abbrev pub AreRising : {X : Type 0} → List (ℕ × X) → Type 0
 AreRising es = T (is_sorted nat_cmp es)
 
 -- the item at this index has the start, or, where none has it, those before it start below and the others above
-abbrev pub IsPlace : {X : Type 0} → List (ℕ × X) → ℕ → Result ℕ ℕ → Type 0
-IsPlace es q (Ok i) = (i < length es) × HoldsAt (λ e. e.0 ≡ q) es i
-IsPlace es q (Err i) = (i ≤ length es) × IsPartitionPoint (λ e. e.0 < q) (λ e. q < e.0) es i
+abbrev pub IsIndex : {X : Type 0} → List (ℕ × X) → ℕ → Result ℕ ℕ → Type 0
+IsIndex es q (Ok i) = (i < length es) × HoldsAt (λ e. e.0 ≡ q) es i
+IsIndex es q (Err i) = (i ≤ length es) × IsPartitionPoint (λ e. e.0 < q) (λ e. q < e.0) es i

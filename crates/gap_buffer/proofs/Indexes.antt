@@ -1,4 +1,4 @@
--- Items in order of start, about the place of a start.
+-- Items in order of start, about the index of a start.
 use Rattle.std.proofs.Common.{◌≡◌, ℕ, zero, suc, ◌+◌, ◌<◌, ◌≤◌, List, [], ◌∷◌, length, get_or, drop, Some, None, Bool, true, false, not, T, leb, ◌&&◌, refl, sym, ap, ◌∙◌, arith, suc-add, Result, Ok, Err, inl, inr, slice_get}
 use Rattle.std.proofs.lemmas.Option.{same_Some}
 use Rattle.std.specs.List.{HoldsAt, AllWithin, insert as insert_at, remove as without}
@@ -11,7 +11,7 @@ use Rattle.std.specs.FinMap.Entries.{below_all, where_key}
 use Rattle.std.proofs.lemmas.Bool.Decides.{nat_tests}
 use Rattle.std.proofs.lemmas.Bool.{cases_lt}
 use Rattle.std.proofs.lemmas.List.Sorted.{searchable_from_sorted}
-use Rattle.gap_buffer.specs.inner.Places.{AreRising, IsPlace}
+use Rattle.gap_buffer.specs.inner.Indexes.{AreRising, IsIndex}
 
 -- ---- the order of starts
 
@@ -62,9 +62,9 @@ neighbours [] rising i d le lt = absurd (omega arith)
 neighbours (e ∷ es) rising zero d le lt = not_below e.0 (get_or es 0 d).0 (ahead e.0 es 0 d (both _ _ rising).0 (omega arith))
 neighbours (e ∷ es) rising (suc i) d le lt = rw suc-add (neighbours es (both _ _ rising).1 i d (omega arith) (omega arith))
 
-pub is_place : {X : Type 0} (es : List (ℕ × X)) (q : ℕ) (r : Result ℕ ℕ) → AreRising es → IsSearchInRange r (length es) → IsBinarySearchResult (λ e. nat_cmp e.0 q) es r → IsPlace es q r
-is_place es q (Ok i) rising within at = (within, λ d. from_equal _ q (at d))
-is_place es q (Err i) rising within at =
+pub is_index : {X : Type 0} (es : List (ℕ × X)) (q : ℕ) (r : Result ℕ ℕ) → AreRising es → IsSearchInRange r (length es) → IsBinarySearchResult (λ e. nat_cmp e.0 q) es r → IsIndex es q r
+is_index es q (Ok i) rising within at = (within, λ d. from_equal _ q (at d))
+is_index es q (Err i) rising within at =
     let parted = at (searchable_from_sorted nat_cmp_total (λ e. e.0) es q (neighbours es rising)) in
     (within, (λ k d a b. from_less _ q (parted.0 k d a b), λ k d a b. from_greater _ q (parted.1 k d a b)))
 
