@@ -171,12 +171,14 @@ impl<E: Counted> Lane<E> {
         self.at
     }
 
+    /// Where the events begin.
     pub fn restart(&self) -> u32
         ensures { result ≡ self.now.state.restart }
     {
         self.restart
     }
 
+    /// Whether an answer is waited for.
     pub fn mode(&self) -> Mode
         ensures { result ≡ self.now.state.mode }
     {
@@ -192,6 +194,7 @@ impl<E: Counted> Lane<E> {
         self.gap.len()
     }
 
+    /// The events from the restart to the position.
     pub fn events(&self) -> &[E]
         ensures { result.now ≡ self.now.state.events }
     {

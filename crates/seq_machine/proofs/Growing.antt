@@ -6,11 +6,12 @@ use Rattle.std.specs.Ordering.{nat_cmp}
 use Rattle.std.specs.Cmp.Lexicographic.{slice_cmp}
 use Rattle.std.specs.FinMap.{empty, get-empty, same_map, slice_cmp-IsAntisymmetric, nat_cmp-IsAntisymmetric}
 use Rattle.std.proofs.lemmas.Option.{none-some}
+use Rattle.std.proofs.Math.Seq.{take-append-add, take-length, drop-append_seam}
 use Rattle.std.proofs.lemmas.List.{take-append-le, length-take, length-drop, length-map}
 use Rattle.box_events.specs.declared.settings.Setting.{Setting}
 use Rattle.seq_machine.specs.Packs.{Values, Pack, size}
 use Rattle.seq_machine.specs.States.{SettingsState, new_settings, IsSoundState}
-use Rattle.seq_machine.specs.Latest.{Dated, last_of, value_of, IsLatest, latest, IsStretch, AreStretches, IsLatestState}
+use Rattle.seq_machine.specs.Latest.{Dated, last_of, value_of, IsLatest, latest, IsStretch, AreStretches, IsLatestState, IsOverlay, value_since}
 use Rattle.seq_machine.specs.Agreeing.{LieWithin}
 use Rattle.seq_machine.proofs.LatestValues.{latest_puts}
 
@@ -55,3 +56,19 @@ latest_longer L more b within le h = record {
 
 pub latest_grows : (L more : List Dated) (b : SettingsState) → IsSoundState b → b.at ≤ length L → IsLatestState L b → IsLatestState (L ++ more) b
 latest_grows L more b sound le h = latest_longer L more b (within_of L b sound h.held) le h
+
+-- ---- what is known of a list stays as it grows
+
+pub overlay_grows : (L more : List Dated) (seq date : ℕ) (settings : List Setting) → seq ≤ length L → IsOverlay L seq date settings → IsOverlay (L ++ more) seq date settings
+overlay_grows L more seq date settings le over q = over q ∙ ap (λ (xs : List Dated). value_since date (last_of xs q)) (sym (take-append-le seq L more le))
+
+-- settings that are appended with one date are a stretch
+pub stretch_appended : (L more : List Dated) (pack : Pack) → pack.settings ≡ each (λ e. e.setting) more → All (λ e. e.date ≡ pack.date) more → IsStretch (L ++ more) (length L) (length L + length more) pack
+stretch_appended L more pack is dated =
+    let whole : take (length L + length more) (L ++ more) ≡ L ++ more = take-append-add L more (length more) ∙ ap (λ (xs : List Dated). L ++ xs) (take-length more) in
+    let rest : drop (length L) (take (length L + length more) (L ++ more)) ≡ more = ap (λ (xs : List Dated). drop (length L) xs) whole ∙ drop-append_seam L more in
+    record {
+      order = omega arith;
+      is = is ∙ ap (λ (xs : List Dated). each (λ e. e.setting) xs) (sym rest);
+      dated = subst (λ (xs : List Dated). All (λ e. e.date ≡ pack.date) xs) (sym rest) dated;
+    }

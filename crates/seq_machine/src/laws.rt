@@ -1,5 +1,5 @@
 //! Laws of settings, and of the latest settings of a list.
-ghost use Rattle.std.specs.Prelude.{◌≡◌, ◌<◌, ◌≤◌, ◌+◌, ◌++◌, ℕ, List, length, false};
+ghost use Rattle.std.specs.Prelude.{◌≡◌, ◌<◌, ◌≤◌, ◌+◌, ◌++◌, ◌∷◌, [], ℕ, List, length, false, map as each};
 ghost use Rattle.std.specs.List.{All};
 ghost use Rattle.box_events.specs.declared.settings.Setting.{Setting};
 ghost use Rattle.pts_machine.specs.declared.mode.Mode.TheVariants.{Live};
@@ -26,6 +26,16 @@ pub fn settings_stay_since()
     ensures hear { (L : List Dated) (b : SettingsState) (start end : ℕ) (pack : Pack) → NeverFallFrom b.at L → AreStretches L b.held → LieWithin L b.held → start < end → end ≤ length L → IsStretch L start end pack → IsSince L b → IsSince L (hear_pack b start end pack).state }
     ensures overlay { (L : List Dated) (b : SettingsState) (settings : List Setting) (seq date : ℕ) → NeverFallFrom seq L → AreStretches L b.held → LieWithin L b.held → AreSince L seq date → IsSince L (overlaid b settings seq date) }
     ensures grows { (L more : List Dated) (b : SettingsState) → All (λ e. b.date ≤ e.date) more → IsSince L b → IsSince (L ++ more) b }
+{}
+
+/// What is known of a list of settings stays as it grows. Settings that are appended with one date are a stretch, and dates that never
+/// fall go on so where a setting is appended that isn't dated before the others.
+pub fn lists_of_settings_grow()
+    ensures stretch { (L more : List Dated) (start end : ℕ) (pack : Pack) → end ≤ length L → IsStretch L start end pack → IsStretch (L ++ more) start end pack }
+    ensures overlay { (L more : List Dated) (seq date : ℕ) (settings : List Setting) → seq ≤ length L → IsOverlay L seq date settings → IsOverlay (L ++ more) seq date settings }
+    ensures since { (L more : List Dated) (seq date : ℕ) → AreSince L seq date → All (λ e. date ≤ e.date) more → AreSince (L ++ more) seq date }
+    ensures appended { (L more : List Dated) (pack : Pack) → pack.settings ≡ each (λ e. e.setting) more → All (λ e. e.date ≡ pack.date) more → IsStretch (L ++ more) (length L) (length L + length more) pack }
+    ensures rises { (L : List Dated) (e : Dated) (seq : ℕ) → NeverFallFrom seq L → All (λ x. x.date ≤ e.date) L → NeverFallFrom seq (L ++ e ∷ []) }
 {}
 
 /// Settings that agree with a server's list, whose dates never fall and are not past now, agree with it after each step.

@@ -9,7 +9,7 @@ mod store;
 mod table;
 
 pub use laws::{
-    settings_agree, settings_move_on, settings_stay_latest, settings_stay_since,
-    settings_stay_sound,
+    lists_of_settings_grow, settings_agree, settings_move_on, settings_stay_latest,
+    settings_stay_since, settings_stay_sound,
 };
 pub use settings::Settings;

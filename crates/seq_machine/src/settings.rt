@@ -131,7 +131,8 @@ impl Settings {
         self.mode = Mode::Again;
     }
 
-    /// The settings of a final answer come, with the seq and the date of the answer: they are laid over what is kept, and what is held and follows is applied.
+    /// The settings of a final answer come, with the answer's seq and date: they are laid over what is kept, and what is held and
+    /// follows is applied.
     pub fn overlay(&mut self, pack: Vec<Setting>, seq: u32, date: u32)
         requires order { self.old.state.at ≤ seq }
         requires room { vec_len pack ≤ self.old.spare }
@@ -174,6 +175,7 @@ impl Settings {
         self.store.date
     }
 
+    /// Whether an answer is waited for.
     pub fn mode(&self) -> Mode
         ensures { result ≡ self.now.state.mode }
     {
