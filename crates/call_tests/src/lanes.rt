@@ -51,7 +51,7 @@ fn number_of(gap: &Gap<u32>) -> u32 {
     gap.len()
 }
 
-// After each row stands how many are held then.
+// After each row stands how many are held then. The last rows come out of their order.
 #[test]
 fn a_full_gap_answers_by_its_table(rt: HostRuntime) -> Result<(), Fail> {
     let mut gap: Gap<u32> = Gap::new(rt.alloc());
@@ -70,6 +70,13 @@ fn a_full_gap_answers_by_its_table(rt: HostRuntime) -> Result<(), Fail> {
         (Row::Take(1_025, Some((1_026, 9))), 25),
         (Row::Clear, 0),
         (Row::Take(1_000, None), 0),
+        (Row::Hold(9, 90, Held::Kept), 1),
+        (Row::Hold(3, 30, Held::Kept), 2),
+        (Row::Hold(7, 70, Held::Kept), 3),
+        (Row::Hold(7, 71, Held::Already(71)), 3),
+        (Row::TakeBelow(9, Some((4, 30))), 2),
+        (Row::DropTo(8, 1), 1),
+        (Row::Take(9, Some((10, 90))), 0),
     ]
     .into_iter()
     .enumerate()

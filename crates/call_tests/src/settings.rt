@@ -1,6 +1,7 @@
 //! Settings at a seq.
+use box_events::Setting;
 use pts_machine::{Mode, Seen};
-use seq_machine::{Setting, Settings};
+use seq_machine::Settings;
 use std::alloc::Global;
 use std::process::Abort;
 use std::test::Fail;

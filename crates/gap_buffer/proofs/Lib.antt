@@ -1,4 +1,3 @@
 pub mod Maps
-pub mod Entries
-pub mod Drops
-pub mod Below
+mod Indexes
+mod Rises

@@ -1,4 +1,4 @@
--- Held items as a finite map: from a place on, one more, one less.
+-- Held items as a finite map: from a position on, one more, one less.
 use Rattle.std.proofs.Common.{◌≡◌, ℕ, ◌-◌, ◌<◌, ◌≤◌, Option, Some, None, Bool, true, false, cond, leb, refl, sym, ap, ◌∙◌, arith, inl, inr, ◌⊎◌}
 use Rattle.std.specs.Ordering.{nat_cmp, eq_by_cmp}
 use Rattle.std.specs.declared.cmp.Ordering.TheVariants.{Equal}
@@ -19,7 +19,7 @@ same_start q k e = grind (arith, nat_tests)
 apart : (q p : ℕ) → p < q → eq_by_cmp nat_cmp q p ≡ false
 apart q p lt = grind (arith, nat_tests)
 
--- ---- from a place on
+-- ---- from a position on
 
 pub get_from : {E : Type 0} (p : ℕ) (m : Items E) (q : ℕ) → get (from p m) q ≡ cond (leb p q) (get m q) None
 get_from p m q = get-retain_keys m (leb p) q (alike (leb p) q)
@@ -31,7 +31,7 @@ same_where : {A : Type 0} (b : Bool) (o p : Option A) → (b ≡ true → o ≡ 
 same_where true o p h = h refl
 same_where false o p h = refl
 
--- what is held below a place has no part in what is held from there on
+-- what is held below a position has no part in what is held from there on
 pub same_from : {E : Type 0} (p : ℕ) (m k : Items E) → ((q : ℕ) → p ≤ q → get m q ≡ get k q) → from p m ≡ from p k
 same_from p m k h = same_map nat_cmp_total nat_cmp-IsAntisymmetric _ _ (λ q.
     get_from p m q ∙ same_where (leb p q) (get m q) (get k q) (λ e. h q (le_of p q e)) ∙ sym (get_from p k q))
@@ -67,7 +67,7 @@ none_or false o x e = e
 pub remove_some : {E : Type 0} (m : Items E) (p s : ℕ) (x : ℕ × E) → get (remove m p) s ≡ Some x → get m s ≡ Some x
 remove_some m p s x is = none_or (eq_by_cmp nat_cmp s p) (get m s) x (sym (get-remove nat_cmp_total m p s) ∙ is)
 
--- taking an item changes no start behind it
+-- taking an item changes no start after it
 pub above_remove : {E : Type 0} (m : Items E) (p q : ℕ) → p < q → get m q ≡ get (remove m p) q
 above_remove m p q lt = sym (get-remove nat_cmp_total m p q ∙ rw (apart q p lt) refl)
 

@@ -1,3 +1,3 @@
 pub mod Holding
-pub mod Entries
 pub mod Views
+pub mod inner

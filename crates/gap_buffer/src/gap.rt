@@ -1,8 +1,10 @@
 //! Gaps.
-ghost use Rattle.std.specs.Prelude.{◌≡◌, ◌<◌, ◌≤◌, ◌+◌, OnOk, OnErr, IfSome, length};
+ghost use Rattle.std.specs.Prelude.{◌≡◌, ◌<◌, ◌≤◌, ◌+◌, OnOk, OnErr, leb, length, drop};
+ghost use Rattle.std.specs.Ordering.{nat_cmp};
 ghost use Rattle.std.specs.FinMap as map;
+ghost use Rattle.std.specs.FinMap.Entries.{where_key};
 ghost use Rattle.gap_buffer.specs.Holding.{Holds, TakesBelow, from};
-ghost use Rattle.gap_buffer.specs.Entries.{index_from, below_from};
+ghost use Rattle.gap_buffer.specs.inner.Indexes.{AreRising, IsIndex};
 
 use crate::held::Held;
 use std::alloc::Global;
@@ -12,7 +14,7 @@ use tl_base::Memory;
 /// So many items are held at most.
 const MOST: usize = 1_024;
 
-/// Held items by their starts, each with its end, in order of arrival.
+/// Held items by their starts, each with its end, in order of start.
 #[derive(Drop)]
 pub struct Gap<E> {
     items: Vec<(u32, (u32, E))>,
@@ -31,30 +33,24 @@ impl<E> Model for Gap<E> {
     ghost invariant = { IsWhole };
 }
 
-// Where the item with a start stands.
-fn place_of<E>(items: &[(u32, E)], start: u32) -> Option<usize>
-    ensures place { result ≡ index_from 0 items.now start }
-    ensures within { IfSome result (λ i. i < length items.now) }
+// Where the item with a start stands among items whose starts rise, or else where it belongs.
+fn index_of<E>(items: &[(u32, E)], start: u32) -> Result<usize, usize>
+    requires rising { AreRising items.now }
+    ensures index { IsIndex items.now start result }
 {
-    for (i, held) in items.iter().enumerate() {
-        if start == held.0 {
-            return Some(i);
-        }
-    }
-    None
+    items.binary_search_by(|held| held.0.cmp(&start))
 }
 
-// Where the first item that starts below a place stands.
-fn place_below<E>(items: &[(u32, E)], at: u32) -> Option<usize>
-    ensures place { result ≡ below_from 0 items.now at }
-    ensures within { IfSome result (λ i. i < length items.now) }
+// How many items start below a position: they are the first.
+fn number_below<E>(items: &[(u32, E)], at: u32) -> usize
+    requires rising { AreRising items.now }
+    ensures within { result ≤ length items.now }
+    ensures rest { drop result items.now ≡ where_key nat_cmp (leb at) items.now }
 {
-    for (i, held) in items.iter().enumerate() {
-        if held.0 < at {
-            return Some(i);
-        }
+    match index_of(items, at) {
+        Ok(i) => i,
+        Err(i) => i,
     }
-    None
 }
 
 impl<E> Gap<E> {
@@ -83,13 +79,14 @@ impl<E> Gap<E> {
         requires room { 1 ≤ self.old.spare }
         ensures { Holds self.old self.new start end item result }
     {
-        if place_of(&self.items, start).is_some() {
-            return Held::Already(item);
-        }
+        let i = match index_of(&self.items, start) {
+            Ok(_) => return Held::Already(item),
+            Err(i) => i,
+        };
         if self.items.len() >= MOST {
             return Held::Full(item);
         }
-        match self.items.push((start, (end, item))) {
+        match self.items.insert(i, (start, (end, item))) {
             Ok(()) => Held::Kept,
             Err(_) => unreachable!(),
         }
@@ -101,26 +98,29 @@ impl<E> Gap<E> {
         ensures rest { self.new.held ≡ map.remove self.old.held at }
         ensures spare { self.old.spare ≤ self.new.spare }
     {
-        let i = place_of(&self.items, at)?;
-        let (_, held) = self.items.remove(i);
-        Some(held)
+        match index_of(&self.items, at) {
+            Ok(i) => {
+                let (_, held) = self.items.remove(i);
+                Some(held)
+            }
+            Err(_) => None,
+        }
     }
 
-    /// Takes an item that starts below this place, with its end.
+    /// Takes an item that starts below this position, with its end.
     pub fn take_below(&mut self, at: u32) -> Option<(u32, E)>
         ensures taken { TakesBelow self.old self.new at result }
         ensures spare { self.old.spare ≤ self.new.spare }
     {
-        match place_below(&self.items, at) {
-            Some(i) => {
-                let (_, held) = self.items.remove(i);
-                Some(held)
-            }
-            None => None,
+        let start = self.items.first()?.0;
+        if at <= start {
+            return None;
         }
+        let (_, held) = self.items.remove(0);
+        Some(held)
     }
 
-    /// Drops the items that start below this place, and answers how many.
+    /// Drops the items that start below this position, and answers how many.
     pub fn drop_to(&mut self, at: u32) -> u32
     where
         E: Drop,
@@ -128,9 +128,9 @@ impl<E> Gap<E> {
         ensures number { result + map.len self.new.held ≡ map.len self.old.held }
         ensures spare { self.old.spare ≤ self.new.spare }
     {
-        let before = self.items.len();
-        self.items.retain(|held| at <= held.0);
-        (before - self.items.len()) as u32
+        let below = number_below(&self.items, at);
+        self.items.drain(..below);
+        below as u32
     }
 
     /// Drops every item.

@@ -3,7 +3,7 @@ use Rattle.std.proofs.Common.{◌≡◌, ◌+◌, ◌≤◌, List, [], ◌∷◌
 use Rattle.pts_machine.specs.Takings.{InTurn, Pushed}
 use Rattle.pts_machine.specs.Takings.InTurn.{none, one_more}
 
--- they stand behind the others
+-- they stand after the others
 pub record Stand {E A : Type 0} (v : Vec E A) (xs : List E) (w : Vec E A) : Type 0 where
   pub items : w.items ≡ v.items ++ xs
   pub len : vec_len w ≡ vec_len v + length xs

@@ -10,14 +10,14 @@ unfoldable pub chain : {E : Type 0} → ℕ → ℕ → Items E → List E
 chain zero p m = []
 chain (suc n) p m = option_map_or (λ x. x.1 ∷ chain n x.0 m) (map.get m p) []
 
--- the place that they reach
+-- the position that they reach
 unfoldable pub reach : {E : Type 0} → ℕ → ℕ → Items E → ℕ
 reach zero p m = p
 reach (suc n) p m = option_map_or (λ x. reach n x.0 m) (map.get m p) p
 
--- each item ends behind its start
-abbrev pub EndsBehind : {E : Type 0} → Items E → Type 0
-EndsBehind {E} m = (s : ℕ) (x : ℕ × E) → map.get m s ≡ Some x → s < x.0
+-- each item ends after its start
+abbrev pub EndsAfter : {E : Type 0} → Items E → Type 0
+EndsAfter {E} m = (s : ℕ) (x : ℕ × E) → map.get m s ≡ Some x → s < x.0
 
 -- Over everything held the bound on their number says nothing: where no item starts at p, the chain is empty and reaches p;
 -- else it is that item, followed by the chain from its end.

@@ -1,5 +1,5 @@
 pub mod Chains
-pub mod Tracks
+pub mod States
 pub mod Steps
 pub mod Views
 pub mod Outcomes

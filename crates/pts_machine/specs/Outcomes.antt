@@ -5,7 +5,7 @@ use Rattle.gap_buffer.specs.declared.held.Held.TheVariants.{Kept, Already as Kno
 use Rattle.pts_machine.specs.declared.seen.Seen.{Seen}
 use Rattle.pts_machine.specs.declared.seen.Seen.TheVariants.{Already, Held, Dropped}
 
--- it is held, or was held already, or found no place
+-- it is held, or was held already, or found no room
 abbrev pub seen_by : {E : Type 0} → HowHeld E → Seen
 seen_by Kept = Held
 seen_by (Known x) = Already

@@ -16,6 +16,6 @@ pub data InTurn {S E : Type 0} (took : S → E → S → Type 0) : S → List E 
 abbrev pub HasRoom : {E A : Type 0} → Vec E A → Items E → Type 0
 HasRoom v m = vec_len v + map.len m ≤ vec_capacity v
 
--- an item stands behind the others of a vector
+-- an item stands after the others of a vector
 abbrev pub Pushed : {E A : Type 0} → Vec E A → E → Vec E A → Type 0
 Pushed v item w = (w.items ≡ v.items ++ item ∷ []) × (vec_len w ≡ vec_len v + 1) × (vec_capacity v ≤ vec_capacity w)

@@ -2,17 +2,17 @@
 ghost use Rattle.std.specs.Prelude.{◌≡◌, ◌≤◌, ◌+◌, ◌++◌, ℕ, vec_len, vec_capacity, None, length};
 ghost use Rattle.std.specs.FinMap as map;
 ghost use Rattle.gap_buffer.specs.Holding.{from};
-ghost use Rattle.pts_machine.specs.Chains.{chain, reach, EndsBehind};
+ghost use Rattle.pts_machine.specs.Chains.{chain, reach, EndsAfter};
 ghost use Rattle.pts_machine.specs.Takings.{InTurn};
 
 use crate::counted::Counted;
 use crate::takes::Takes;
 use gap_buffer::Gap;
 
-/// Gives the held items that follow from a place to what takes them, and answers where they end.
+/// Gives the held items that follow from a position to what takes them, and answers where they end.
 pub fn follow<E: Drop, T: Takes<E>>(into: &mut T, at: u32, gap: &mut Gap<E>) -> u32
     requires room { T.has_room into.old gap.old.held }
-    requires behind { EndsBehind gap.old.held }
+    requires after { EndsAfter gap.old.held }
     ensures took { InTurn T.took into.old (chain (map.len gap.old.held) at gap.old.held) into.new }
     ensures room { T.has_room into.new gap.new.held }
     ensures reach { result ≡ reach (map.len gap.old.held) at gap.old.held }
@@ -29,10 +29,10 @@ pub fn follow<E: Drop, T: Takes<E>>(into: &mut T, at: u32, gap: &mut Gap<E>) -> 
     at
 }
 
-/// Moves the held items that follow from a place behind the events, and answers where they end. What is held below that goes.
+/// Appends to the events the held items that follow from a position, and answers where they end. What is held below that goes.
 pub fn settle<E: Counted>(events: &mut Vec<E>, at: u32, gap: &mut Gap<E>) -> u32
     requires room { vec_len events.old + map.len gap.old.held ≤ vec_capacity events.old }
-    requires behind { EndsBehind gap.old.held }
+    requires after { EndsAfter gap.old.held }
     ensures events { events.new.items ≡ events.old.items ++ chain (map.len gap.old.held) at gap.old.held }
     ensures reach { result ≡ reach (map.len gap.old.held) at gap.old.held }
     ensures free { map.get gap.old.held result ≡ None }

@@ -3,8 +3,8 @@ ghost use Rattle.std.specs.Prelude.{◌≡◌, ◌<◌, ◌≤◌, ◌+◌, vec_
 ghost use Rattle.std.specs.List.{sum_by};
 ghost use Rattle.std.specs.FinMap as map;
 ghost use Rattle.pts_machine.specs.Chains.{AreChained};
-ghost use Rattle.pts_machine.specs.Tracks.{IsSound};
-ghost use Rattle.pts_machine.specs.Steps.{hear, Hears, extend, restart_at, forget, asked, loaded, new_track};
+ghost use Rattle.pts_machine.specs.States.{IsSound};
+ghost use Rattle.pts_machine.specs.Steps.{hear, Hears, extend, restart_at, forget, asked, loaded, new_lane};
 
 use crate::chains::settle;
 use crate::counted::Counted;
@@ -29,7 +29,7 @@ pub struct Lane<E: Counted> {
 }
 
 impl<E: Counted> Model for Lane<E> {
-    ghost use Rattle.pts_machine.specs.Tracks.{LaneView, lane_code};
+    ghost use Rattle.pts_machine.specs.States.{LaneView, lane_code};
     ghost use Rattle.pts_machine.specs.Views.{view_of, IsWhole};
 
     ghost Value = { LaneView E };
@@ -44,7 +44,7 @@ impl<E: Counted> Model for Lane<E> {
 impl<E: Counted> Lane<E> {
     /// A lane that has heard of nothing.
     pub fn new(alloc: Global) -> Lane<E>
-        ensures { result.track ≡ new_track }
+        ensures { result.state ≡ new_lane }
     {
         Lane {
             restart: 0,
@@ -59,7 +59,7 @@ impl<E: Counted> Lane<E> {
     /// A lane that began at a restart and has these events since.
     pub fn load(alloc: Global, restart: u32, events: Vec<E>) -> Lane<E>
         requires limit { restart + sum_by E.count events.items ≤ 1000000 }
-        ensures { result.track ≡ loaded E.count restart events.items }
+        ensures { result.state ≡ loaded E.count restart events.items }
     {
         let at = end_of(restart, &events);
         Lane {
@@ -74,7 +74,7 @@ impl<E: Counted> Lane<E> {
 
     /// Takes memory for so many further items beside everything held.
     pub fn reserve(&mut self, more: u32) -> Result<(), Memory>
-        ensures track { self.new.track ≡ self.old.track }
+        ensures state { self.new.state ≡ self.old.state }
         ensures spare { self.old.spare ≤ self.new.spare }
         ensures ok { OnOk result (more ≤ self.new.spare) }
         ensures err { OnErr result (self.new ≡ self.old) }
@@ -91,8 +91,8 @@ impl<E: Counted> Lane<E> {
         requires counts { end ≡ start + E.count event }
         requires limit { end ≤ 1000000 }
         requires room { 0 < self.old.spare }
-        ensures step { hear self.old.track start end event ≡ record { track = self.new.track; seen = result } }
-        ensures told { Hears self.old.track start end event result self.new.track }
+        ensures step { hear self.old.state start end event ≡ record { state = self.new.state; seen = result } }
+        ensures told { Hears self.old.state start end event result self.new.state }
         ensures spare { self.old.spare ≤ self.new.spare + 1 }
     {
         if start < self.at {
@@ -116,17 +116,17 @@ impl<E: Counted> Lane<E> {
 
     /// The lane waits for the answer to the request of this number.
     pub fn ask(&mut self, number: u32)
-        ensures step { self.new.track ≡ asked self.old.track number }
+        ensures step { self.new.state ≡ asked self.old.state number }
         ensures spare { self.old.spare ≤ self.new.spare }
     {
         self.mode = Mode::Asking(number);
     }
 
-    /// An answer comes, with the events that follow: the last part of it, or one behind which more is to be asked for.
+    /// An answer comes, with the events that follow: the last part of it, or one after which more is to be asked for.
     pub fn extend(&mut self, events: Vec<E>, last: bool)
-        requires limit { self.old.track.at + sum_by E.count events.items ≤ 1000000 }
+        requires limit { self.old.state.at + sum_by E.count events.items ≤ 1000000 }
         requires room { vec_len events ≤ self.old.spare }
-        ensures step { self.new.track ≡ extend E.count self.old.track events.items last }
+        ensures step { self.new.state ≡ extend E.count self.old.state events.items last }
         ensures spare { self.old.spare ≤ self.new.spare + vec_len events }
     {
         let number = events.len();
@@ -144,7 +144,7 @@ impl<E: Counted> Lane<E> {
     /// The lane begins anew at this number, since what it missed is too much to be told.
     pub fn restart_at(&mut self, at: u32)
         requires limit { at ≤ 1000000 }
-        ensures step { self.new.track ≡ restart_at E.count self.old.track at }
+        ensures step { self.new.state ≡ restart_at E.count self.old.state at }
         ensures spare { self.old.spare ≤ self.new.spare }
     {
         self.restart = at;
@@ -156,7 +156,7 @@ impl<E: Counted> Lane<E> {
 
     /// What is held goes, and no answer is waited for.
     pub fn forget(&mut self)
-        ensures step { self.new.track ≡ forget self.old.track }
+        ensures step { self.new.state ≡ forget self.old.state }
         ensures spare { self.old.spare ≤ self.new.spare }
     {
         self.gap.clear();
@@ -165,35 +165,38 @@ impl<E: Counted> Lane<E> {
 
     /// Up to where the events reach.
     pub fn at(&self) -> u32
-        ensures value { result ≡ self.now.track.at }
-        ensures sound { IsSound E.count self.now.track }
+        ensures value { result ≡ self.now.state.at }
+        ensures sound { IsSound E.count self.now.state }
     {
         self.at
     }
 
+    /// Where the events begin.
     pub fn restart(&self) -> u32
-        ensures { result ≡ self.now.track.restart }
+        ensures { result ≡ self.now.state.restart }
     {
         self.restart
     }
 
+    /// Whether an answer is waited for.
     pub fn mode(&self) -> Mode
-        ensures { result ≡ self.now.track.mode }
+        ensures { result ≡ self.now.state.mode }
     {
         self.mode
     }
 
     /// How many items are held.
     pub fn held(&self) -> u32
-        ensures number { result ≡ map.len self.now.track.held }
+        ensures number { result ≡ map.len self.now.state.held }
         ensures most { result ≤ 1024 }
-        ensures chained { AreChained self.now.track.held }
+        ensures chained { AreChained self.now.state.held }
     {
         self.gap.len()
     }
 
+    /// The events from the restart to the position.
     pub fn events(&self) -> &[E]
-        ensures { result.now ≡ self.now.track.events }
+        ensures { result.now ≡ self.now.state.events }
     {
         &self.events
     }

@@ -1,6 +1,6 @@
 //! Whether a lane waits for an answer.
 ghost use Rattle.std.specs.Prelude.{◌≡◌, ◌&&◌, eqb};
-ghost use Rattle.pts_machine.specs.Tracks.{is_live};
+ghost use Rattle.pts_machine.specs.States.{is_live};
 
 /// Whether a lane waits for an answer.
 #[derive(Clone, Copy, Debug, PartialEq, Eq)]

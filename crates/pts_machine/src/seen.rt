@@ -12,7 +12,7 @@ pub enum Seen {
     /// It was applied or is held already.
     Already,
     Held,
-    /// There was no place to hold it.
+    /// There was no room to hold it.
     Dropped,
 }
 

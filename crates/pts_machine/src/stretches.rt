@@ -4,7 +4,7 @@ ghost use Rattle.std.specs.List.{sum_by};
 
 use crate::counted::Counted;
 
-/// Puts events behind those that stand there up to a place, and answers where they end.
+/// Appends events to those that end at a position, and answers where they end.
 pub fn append<E: Counted>(into: &mut Vec<E>, at: u32, events: Vec<E>) -> u32
     requires room { vec_len into.old + vec_len events ≤ vec_capacity into.old }
     requires limit { at + sum_by E.count events.items ≤ 1000000 }
@@ -24,7 +24,7 @@ pub fn append<E: Counted>(into: &mut Vec<E>, at: u32, events: Vec<E>) -> u32
     at
 }
 
-/// Where events that begin at a place end.
+/// Where events that begin at a position end.
 pub fn end_of<E: Counted>(at: u32, events: &[E]) -> u32
     requires limit { at + sum_by E.count events.now ≤ 1000000 }
     ensures sum { result ≡ at + sum_by E.count events.now }

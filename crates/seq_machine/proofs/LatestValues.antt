@@ -6,9 +6,9 @@ use Rattle.std.proofs.lemmas.Bool.Decides.{nat_tests}
 use Rattle.std.proofs.lemmas.List.{take-append-drop, take-take, drop-take}
 use Rattle.std.proofs.lemmas.List.Elements.{All-head, All-tail, All-same, All-take}
 use Rattle.std.specs.FinMap.{get, insert, get-insert}
-use Rattle.seq_machine.specs.declared.setting.Setting.{Setting}
+use Rattle.box_events.specs.declared.settings.Setting.{Setting}
 use Rattle.seq_machine.specs.Packs.{Values, same_key, puts}
-use Rattle.seq_machine.specs.Latest.{Dated, or_else, last_of, last_set, value_of, value_since, IsLatest, IsStretch, IsOverlay, AreSince}
+use Rattle.seq_machine.specs.Latest.{Dated, or_else, last_of, last_set, value_of, value_since, IsLatest, IsOverlay, AreSince}
 
 join : {A : Type 0} (o p : Option A) (b : Bool) (v : A) → or_else o (cond b (Some v) p) ≡ or_else (or_else o (cond b (Some v) None)) p
 join None p true v = refl
@@ -49,20 +49,20 @@ last_each (x ∷ xs) q =
     ∙ value_step (last_of xs q) (same_key q x.setting.key) x
 
 -- the first entries, and those up to a later place
-fronts : (L : List Dated) (s e : ℕ) → s ≤ e → take s L ++ drop s (take e L) ≡ take e L
-fronts L s e le = ap (λ (xs : List Dated). xs ++ drop s (take e L)) (sym (take-take s e L le)) ∙ take-append-drop s (take e L)
+prefixes : (L : List Dated) (s e : ℕ) → s ≤ e → take s L ++ drop s (take e L) ≡ take e L
+prefixes L s e le = ap (λ (xs : List Dated). xs ++ drop s (take e L)) (sym (take-take s e L le)) ∙ take-append-drop s (take e L)
 
-last_fronts : (L : List Dated) (s e : ℕ) (q : List ℕ) → s ≤ e → last_of (take e L) q ≡ or_else (last_of (drop s (take e L)) q) (last_of (take s L) q)
-last_fronts L s e q le = ap (λ (xs : List Dated). last_of xs q) (sym (fronts L s e le)) ∙ last_append (take s L) (drop s (take e L)) q
+last_prefixes : (L : List Dated) (s e : ℕ) (q : List ℕ) → s ≤ e → last_of (take e L) q ≡ or_else (last_of (drop s (take e L)) q) (last_of (take s L) q)
+last_prefixes L s e q le = ap (λ (xs : List Dated). last_of xs q) (sym (prefixes L s e le)) ∙ last_append (take s L) (drop s (take e L)) q
 
 -- a stretch that is applied leaves the latest
-pub latest_puts : (L : List Dated) (s e : ℕ) (m : Values) (xs : List Setting) → IsLatest L s m → IsStretch L s e xs → IsLatest L e (puts m xs)
-latest_puts L s e m xs latest h q =
+pub latest_puts : (L : List Dated) (s e : ℕ) (m : Values) (xs : List Setting) → IsLatest L s m → s ≤ e → xs ≡ each (λ e. e.setting) (drop s (take e L)) → IsLatest L e (puts m xs)
+latest_puts L s e m xs latest le is q =
     get_puts xs m q
-    ∙ ap (λ (o : Option (List ℕ)). or_else o (get m q)) (ap (λ (ys : List Setting). last_set ys q) h.is ∙ last_each (drop s (take e L)) q)
+    ∙ ap (λ (o : Option (List ℕ)). or_else o (get m q)) (ap (λ (ys : List Setting). last_set ys q) is ∙ last_each (drop s (take e L)) q)
     ∙ ap (or_else (value_of (last_of (drop s (take e L)) q))) (latest q)
     ∙ value_else (last_of (drop s (take e L)) q) (last_of (take s L) q)
-    ∙ ap value_of (sym (last_fronts L s e q h.order))
+    ∙ ap value_of (sym (last_prefixes L s e q le))
 
 some_is : {A : Type 0} (x y : A) → Some x ≡ Some y → x ≡ y
 some_is x y e = cc
@@ -97,7 +97,7 @@ since d (Some e) f h = let le : leb d e.date ≡ true = is_le d e.date (h e refl
 -- what is overlaid leaves the latest
 pub latest_overlay : (L : List Dated) (at seq date : ℕ) (m : Values) (xs : List Setting) → at ≤ seq → IsLatest L at m → AreSince L at date → IsOverlay L seq date xs → IsLatest L seq (puts m xs)
 latest_overlay L at seq date m xs le latest late over q =
-    let parts = last_fronts L at seq q le in
+    let parts = last_prefixes L at seq q le in
     get_puts xs m q
     ∙ ap (λ (o : Option (List ℕ)). or_else o (get m q)) (over q ∙ ap (value_since date) parts)
     ∙ ap (or_else (value_since date (or_else (last_of (drop at (take seq L)) q) (last_of (take at L) q)))) (latest q)

@@ -5,9 +5,9 @@ use Rattle.std.specs.Ordering.{nat_cmp}
 use Rattle.std.specs.declared.cmp.Ordering.{Ordering}
 use Rattle.std.specs.declared.cmp.Ordering.TheVariants.{Less, Equal, Greater}
 use Rattle.std.specs.Cmp.Lexicographic.{slice_cmp, nat_list_cmp_total}
-use Rattle.std.specs.FinMap.{is_sorted, empty, empty_of_len, len-entries, put, insert, entries-insert, entries-from_sorted, same_entries_map, slice_cmp-IsAntisymmetric, nat_cmp-IsAntisymmetric}
+use Rattle.std.specs.FinMap.{is_sorted, len, empty, empty_of_len, len-entries, put, insert, entries-insert, entries-from_sorted, same_entries_map, slice_cmp-IsAntisymmetric, nat_cmp-IsAntisymmetric}
 use Rattle.std.specs.FinMap.Entries.{by_order, is_sorted-put}
-use Rattle.seq_machine.specs.declared.setting.Setting.{Setting}
+use Rattle.box_events.specs.declared.settings.Setting.{Setting}
 use Rattle.seq_machine.specs.declared.table.Spot.TheVariants.{At, Before}
 use Rattle.seq_machine.specs.Rows.{pairs, AreSorted, values_of, spot_from}
 
@@ -72,6 +72,10 @@ values_after xs ys s is sorted = same_entries_map _ _ (
 pub length-pairs : (xs : List Setting) → length (pairs xs) ≡ length xs
 length-pairs [] = refl
 length-pairs (x ∷ xs) = ap suc (length-pairs xs)
+
+-- there are as many keys as rows
+pub len_values : (xs : List Setting) → AreSorted xs → len (values_of xs) ≡ length xs
+len_values xs sorted = len-entries (values_of xs) ∙ ap (λ (ps : List (List ℕ × List ℕ)). length ps) (entries-from_sorted (slice_cmp nat_cmp) (pairs xs) sorted) ∙ length-pairs xs
 
 pub values_none : values_of [] ≡ empty
 values_none = empty_of_len (values_of []) (len-entries (values_of []) ∙ ap (λ (ps : List (List ℕ × List ℕ)). length ps) (entries-from_sorted (slice_cmp nat_cmp) [] tt))

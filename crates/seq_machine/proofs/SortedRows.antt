@@ -10,7 +10,7 @@ use Rattle.std.specs.Cmp.Lexicographic.{slice_cmp, nat_list_cmp_total}
 use Rattle.std.specs.FinMap.{find}
 use Rattle.std.specs.FinMap.Entries.{by_order, below_all}
 use Rattle.std.proofs.lemmas.List.Sorted.{searchable_from_sorted}
-use Rattle.seq_machine.specs.declared.setting.Setting.{Setting}
+use Rattle.box_events.specs.declared.settings.Setting.{Setting}
 use Rattle.seq_machine.specs.declared.table.Spot.TheVariants.{At, Before}
 use Rattle.seq_machine.specs.Rows.{pairs, AreSorted, spot_from}
 
@@ -30,7 +30,7 @@ less Less h = refl
 less Equal h = absurd h
 less Greater h = absurd h
 
--- ---- the rows behind a row
+-- ---- the rows after a row
 
 below_at : (k : List ℕ) (xs : List Setting) (i : ℕ) (d : Setting) → T (below_all order k (pairs xs)) → i < length xs → order k (get_or xs i d).key ≡ Less
 below_at k [] i d below lt = absurd (omega arith)

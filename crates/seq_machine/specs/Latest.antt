@@ -3,9 +3,9 @@ use Rattle.std.specs.Prelude.{◌≡◌, ℕ, ◌≤◌, List, [], ◌∷◌, Op
 use Rattle.std.specs.List.{All}
 use Rattle.std.specs.FinMap as map
 use Rattle.gap_buffer.specs.Holding.{Items}
-use Rattle.seq_machine.specs.declared.setting.Setting.{Setting}
+use Rattle.box_events.specs.declared.settings.Setting.{Setting}
 use Rattle.seq_machine.specs.Packs.{Values, Pack, same_key, puts}
-use Rattle.seq_machine.specs.Books.{Book}
+use Rattle.seq_machine.specs.States.{SettingsState}
 
 -- a setting of the server, with its date
 pub record Dated : Type 0 where
@@ -35,14 +35,15 @@ IsLatest L s m = (q : List ℕ) → map.get m q ≡ value_of (last_of (take s L)
 abbrev pub latest : List Dated → ℕ → Values
 latest L s = puts map.empty (each (λ e. e.setting) (take s L))
 
--- a pack from start to end is its stretch of the list
-pub record IsStretch (L : List Dated) (start end : ℕ) (settings : List Setting) : Type 0 where
+-- a pack from start to end is its stretch of the list, and its date is that of each of its settings there
+pub record IsStretch (L : List Dated) (start end : ℕ) (pack : Pack) : Type 0 where
   pub order : start ≤ end
-  pub is : settings ≡ each (λ e. e.setting) (drop start (take end L))
+  pub is : pack.settings ≡ each (λ e. e.setting) (drop start (take end L))
+  pub dated : All (λ e. e.date ≡ pack.date) (drop start (take end L))
 
 -- each held pack is its stretch of the list
 abbrev pub AreStretches : List Dated → Items Pack → Type 0
-AreStretches L m = (s : ℕ) (x : ℕ × Pack) → map.get m s ≡ Some x → IsStretch L s x.0 x.1.settings
+AreStretches L m = (s : ℕ) (x : ℕ × Pack) → map.get m s ≡ Some x → IsStretch L s x.0 x.1
 
 -- the last value of a key in settings
 abbrev pub last_set : List Setting → List ℕ → Option (List ℕ)
@@ -62,7 +63,11 @@ IsOverlay L seq date settings = (q : List ℕ) → last_set settings q ≡ value
 abbrev pub AreSince : List Dated → ℕ → ℕ → Type 0
 AreSince L seq date = All (λ e. date ≤ e.date) (drop seq L)
 
--- the table of a book is the latest of the list at its seq, and each held pack is its stretch
-pub record IsLatestBook (L : List Dated) (b : Book) : Type 0 where
+-- no setting past the seq of a client's settings is dated before their date
+abbrev pub IsSince : List Dated → SettingsState → Type 0
+IsSince L b = AreSince L b.at b.date
+
+-- the table of settings is the latest of the list at their seq, and each held pack is its stretch
+pub record IsLatestState (L : List Dated) (b : SettingsState) : Type 0 where
   pub table : IsLatest L b.at b.table
   pub held : AreStretches L b.held

@@ -4,7 +4,8 @@ pub mod Spots
 pub mod Tables
 pub mod TableViews
 pub mod Totals
-pub mod Books
+pub mod States
 pub mod Views
 pub mod Latest
+pub mod Agreeing
 pub mod Stores

@@ -4,7 +4,7 @@ use Rattle.std.specs.Coded.{Coded, code_by, coded×, coded_ℕ, coded_list}
 use Rattle.std.specs.Ordering.{nat_cmp, eq_by_cmp}
 use Rattle.std.specs.Cmp.Lexicographic.{slice_cmp}
 use Rattle.std.specs.FinMap as map
-use Rattle.seq_machine.specs.declared.setting.Setting.{Setting}
+use Rattle.box_events.specs.declared.settings.Setting.{Setting}
 
 -- values by their keys, in byte order of keys
 abbrev pub Values : Type 0
@@ -18,6 +18,10 @@ same_key q k = eq_by_cmp (slice_cmp nat_cmp) q k
 pub record Pack : Type 0 where
   pub date : ℕ
   pub settings : List Setting
+
+-- these settings, with this date
+abbrev pub pack_of : ℕ → List Setting → Pack
+pack_of date settings = record { date = date; settings = settings }
 
 -- how many settings a pack has
 abbrev pub size : Pack → ℕ

@@ -2,7 +2,7 @@
 ghost use Rattle.std.specs.Prelude.{◌≡◌, ◌≤◌, ◌+◌};
 ghost use Rattle.std.specs.FinMap as map;
 ghost use Rattle.gap_buffer.specs.Holding.{from};
-ghost use Rattle.pts_machine.specs.Chains.{chain, reach, EndsBehind};
+ghost use Rattle.pts_machine.specs.Chains.{chain, reach, EndsAfter};
 ghost use Rattle.seq_machine.specs.Packs.{puts_all, last_date};
 ghost use Rattle.seq_machine.specs.Totals.{total};
 
@@ -11,7 +11,7 @@ use crate::store::Store;
 use gap_buffer::Gap;
 use pts_machine::follow;
 
-// Drops the held packs below a place, and answers how many settings are held then.
+// Drops the held packs below a position, and answers how many settings are held then.
 fn drop_below(gap: &mut Gap<HeldPack>, at: u32, waiting: usize) -> usize
     requires total { waiting ≡ total gap.old.held }
     ensures held { gap.new.held ≡ from at gap.old.held }
@@ -27,17 +27,18 @@ fn drop_below(gap: &mut Gap<HeldPack>, at: u32, waiting: usize) -> usize
     waiting
 }
 
-/// Applies the held packs that follow from a place, and answers where they end. Those below that go.
+/// Applies the held packs that follow from a position, and answers where they end. Those below that go.
 pub fn settle(store: &mut Store, at: u32, gap: &mut Gap<HeldPack>) -> u32
     requires room { store.old.waiting ≤ store.old.table.spare }
     requires total { store.old.waiting ≡ total gap.old.held }
-    requires behind { EndsBehind gap.old.held }
+    requires after { EndsAfter gap.old.held }
     ensures values { store.new.table.values ≡ puts_all store.old.table.values (chain (map.len gap.old.held) at gap.old.held) }
     ensures date { store.new.date ≡ last_date store.old.date (chain (map.len gap.old.held) at gap.old.held) }
     ensures reach { result ≡ reach (map.len gap.old.held) at gap.old.held }
     ensures held { gap.new.held ≡ from result gap.old.held }
     ensures total { store.new.waiting ≡ total gap.new.held }
     ensures less { store.new.waiting ≤ store.old.waiting }
+    ensures few { map.len store.new.table.values + store.new.waiting ≤ map.len store.old.table.values + store.old.waiting }
     ensures room { store.old.table.spare + store.new.waiting ≤ store.new.table.spare + store.old.waiting }
     ensures spare { gap.old.spare ≤ gap.new.spare }
 {

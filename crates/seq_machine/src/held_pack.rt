@@ -1,7 +1,7 @@
 //! Packs that are held.
 ghost use Rattle.std.specs.Prelude.{◌≡◌};
 
-use crate::setting::Setting;
+use box_events::Setting;
 use std::marker::Model;
 
 /// Settings that came together, and their date.

@@ -4,11 +4,12 @@
 mod chains;
 mod held_pack;
 mod laws;
-mod setting;
 mod settings;
 mod store;
 mod table;
 
-pub use laws::settings_stay_latest;
-pub use setting::Setting;
+pub use laws::{
+    lists_of_settings_grow, settings_agree, settings_move_on, settings_stay_latest,
+    settings_stay_since, settings_stay_sound,
+};
 pub use settings::Settings;

@@ -1,17 +1,19 @@
 //! The settings of a client.
-ghost use Rattle.std.specs.Prelude.{◌≡◌, ◌<◌, ◌≤◌, ◌+◌, ◌-◌, ◌^◌, List, OnOk, OnErr, MatchOption, None, Some, vec_len};
+ghost use Rattle.std.specs.Prelude.{◌≡◌, ◌<◌, ◌≤◌, ◌+◌, ◌-◌, ◌^◌, List, OnOk, OnErr, MatchOption, None, Some, vec_len, max};
 ghost use Rattle.std.specs.FinMap as map;
 ghost use Rattle.pts_machine.specs.Chains.{AreChained};
 ghost use Rattle.seq_machine.specs.Rows.{pairs, values_of, AreSorted};
 ghost use Rattle.seq_machine.specs.Totals.{total};
-ghost use Rattle.seq_machine.specs.Books.{IsSoundBook, new_book, hear_pack, overlaid, asked, asks_again, forgotten};
-ghost use Rattle.seq_machine.specs.Latest.{Dated, IsLatestBook, IsStretch, AreSince, IsOverlay};
+ghost use Rattle.seq_machine.specs.Packs.{pack_of};
+ghost use Rattle.seq_machine.specs.States.{IsSoundState, IsBounded, new_settings, hear_pack, overlaid, asked, asks_again, forgotten, loaded};
+ghost use Rattle.seq_machine.specs.Latest.{Dated, IsLatestState, IsStretch, AreSince, IsSince, IsOverlay};
+ghost use Rattle.seq_machine.specs.Agreeing.{NeverFallFrom};
 
 use crate::chains::settle;
 use crate::held_pack::HeldPack;
-use crate::setting::Setting;
 use crate::store::Store;
 use crate::table::Table;
+use box_events::Setting;
 use gap_buffer::Gap;
 use pts_machine::{Mode, Seen, is_next, outcome_of};
 use std::alloc::{AllocError, Global};
@@ -33,10 +35,10 @@ pub struct Settings {
 }
 
 impl Model for Settings {
-    ghost use Rattle.seq_machine.specs.Books.{BookView, view_code};
+    ghost use Rattle.seq_machine.specs.States.{SettingsView, view_code};
     ghost use Rattle.seq_machine.specs.Views.{view_of, IsWhole};
 
-    ghost Value = { BookView };
+    ghost Value = { SettingsView };
 
     ghost coded = { view_code };
 
@@ -48,7 +50,7 @@ impl Model for Settings {
 impl Settings {
     /// No settings, at seq 0 and date 0.
     pub fn new(alloc: Global) -> Settings
-        ensures { result.book ≡ new_book }
+        ensures { result.state ≡ new_settings }
     {
         Settings {
             at: 0,
@@ -66,10 +68,11 @@ impl Settings {
     /// Takes memory for so many further settings beside everything kept and held. Where all of them would come to 2^31,
     /// there is no memory.
     pub fn reserve(&mut self, more: u32) -> Result<(), Memory>
-        ensures book { self.new.book ≡ self.old.book }
+        ensures state { self.new.state ≡ self.old.state }
         ensures spare { self.old.spare ≤ self.new.spare }
         ensures ok { OnOk result (more ≤ self.new.spare) }
-        ensures limit { OnOk result (map.len self.old.book.table + total self.old.book.held + more < 2 ^ 31) }
+        ensures exact { OnOk result (self.new.spare ≡ max self.old.spare more) }
+        ensures limit { OnOk result (map.len self.old.state.table + total self.old.state.held + more < 2 ^ 31) }
         ensures err { OnErr result (self.new ≡ self.old) }
     {
         let kept = self.store.table.len().saturating_add(self.store.waiting);
@@ -91,9 +94,10 @@ impl Settings {
         requires limit { seq ≤ 1000000 }
         requires number { vec_len pack + seq_start ≡ seq + 1 }
         requires room { vec_len pack ≤ self.old.spare }
-        ensures step { hear_pack self.old.book (seq_start - 1) seq (record { date = date; settings = pack.items }) ≡ record { book = self.new.book; seen = result } }
+        ensures step { hear_pack self.old.state (seq_start - 1) seq (pack_of date pack.items) ≡ record { state = self.new.state; seen = result } }
         ensures spare { self.old.spare ≤ self.new.spare + vec_len pack }
-        ensures latest { (L : List Dated) → IsLatestBook L self.old.book → IsStretch L (seq_start - 1) seq pack.items → IsLatestBook L self.new.book }
+        ensures latest { (L : List Dated) → IsLatestState L self.old.state → IsStretch L (seq_start - 1) seq (pack_of date pack.items) → IsLatestState L self.new.state }
+        ensures since { (L : List Dated) → NeverFallFrom self.old.state.at L → IsLatestState L self.old.state → IsStretch L (seq_start - 1) seq (pack_of date pack.items) → IsSince L self.old.state → IsSince L self.new.state }
     {
         let start = seq_start - 1;
         if start < self.at {
@@ -113,7 +117,7 @@ impl Settings {
 
     /// It waits for the answer to the request of this number.
     pub fn ask(&mut self, number: u32)
-        ensures step { self.new.book ≡ asked self.old.book number }
+        ensures step { self.new.state ≡ asked self.old.state number }
         ensures spare { self.old.spare ≤ self.new.spare }
     {
         self.mode = Mode::Asking(number);
@@ -121,20 +125,21 @@ impl Settings {
 
     /// The last answer was a part: it is to ask again.
     pub fn again(&mut self)
-        ensures step { self.new.book ≡ asks_again self.old.book }
+        ensures step { self.new.state ≡ asks_again self.old.state }
         ensures spare { self.old.spare ≤ self.new.spare }
     {
         self.mode = Mode::Again;
     }
 
-    /// The settings of a final answer come: they are laid over what is kept, and what is held and follows is applied.
+    /// The settings of a final answer come, with the answer's seq and date: they are laid over what is kept, and what is held and
+    /// follows is applied.
     pub fn overlay(&mut self, pack: Vec<Setting>, seq: u32, date: u32)
-        requires order { self.old.book.at ≤ seq }
-        requires limit { seq ≤ 1000000 }
+        requires order { self.old.state.at ≤ seq }
         requires room { vec_len pack ≤ self.old.spare }
-        ensures step { self.new.book ≡ overlaid self.old.book pack.items seq date }
+        ensures step { self.new.state ≡ overlaid self.old.state pack.items seq date }
         ensures spare { self.old.spare ≤ self.new.spare + vec_len pack }
-        ensures latest { (L : List Dated) → IsLatestBook L self.old.book → AreSince L self.old.book.at self.old.book.date → IsOverlay L seq self.old.book.date pack.items → IsLatestBook L self.new.book }
+        ensures latest { (L : List Dated) → IsLatestState L self.old.state → IsSince L self.old.state → IsOverlay L seq self.old.state.date pack.items → IsLatestState L self.new.state }
+        ensures since { (L : List Dated) → NeverFallFrom seq L → IsLatestState L self.old.state → AreSince L seq date → IsSince L self.new.state }
     {
         let number = pack.len();
         self.store.table.put_all(pack);
@@ -146,7 +151,7 @@ impl Settings {
 
     /// Nothing is held, and no answer waited for.
     pub fn forget(&mut self)
-        ensures step { self.new.book ≡ forgotten self.old.book }
+        ensures step { self.new.state ≡ forgotten self.old.state }
         ensures spare { self.old.spare ≤ self.new.spare }
     {
         self.gap.clear();
@@ -156,53 +161,55 @@ impl Settings {
 
     /// The seq up to which packs were applied.
     pub fn at(&self) -> u32
-        ensures value { result ≡ self.now.book.at }
-        ensures sound { IsSoundBook self.now.book }
+        ensures value { result ≡ self.now.state.at }
+        ensures sound { IsSoundState self.now.state }
+        ensures bound { IsBounded self.now }
     {
         self.at
     }
 
     /// The date of the last pack or answer that was applied.
     pub fn date(&self) -> u32
-        ensures { result ≡ self.now.book.date }
+        ensures { result ≡ self.now.state.date }
     {
         self.store.date
     }
 
+    /// Whether an answer is waited for.
     pub fn mode(&self) -> Mode
-        ensures { result ≡ self.now.book.mode }
+        ensures { result ≡ self.now.state.mode }
     {
         self.mode
     }
 
     /// How many packs are held.
     pub fn held(&self) -> u32
-        ensures number { result ≡ map.len self.now.book.held }
+        ensures number { result ≡ map.len self.now.state.held }
         ensures most { result ≤ 1024 }
-        ensures chained { AreChained self.now.book.held }
+        ensures chained { AreChained self.now.state.held }
     {
         self.gap.len()
     }
 
     /// The value of a key.
     pub fn get(&self, key: &[u8]) -> Option<&[u8]>
-        ensures { MatchOption result (map.get self.now.book.table key.now ≡ None) (λ v. map.get self.now.book.table key.now ≡ Some v.now) }
+        ensures { MatchOption result (map.get self.now.state.table key.now ≡ None) (λ v. map.get self.now.state.table key.now ≡ Some v.now) }
     {
         self.store.table.get(key)
     }
 
     /// All settings, in byte order of keys.
     pub fn all(&self) -> &[Setting]
-        ensures rows { pairs result.now ≡ map.entries self.now.book.table }
+        ensures rows { pairs result.now ≡ map.entries self.now.state.table }
     {
         self.store.table.rows()
     }
 
-    /// Settings whose keys rise, at a seq and a date.
+    /// Settings whose keys rise in byte order, at a seq and a date. The vector is kept, and not copied.
     pub fn load(alloc: Global, seq: u32, date: u32, all: Vec<Setting>) -> Settings
-        requires limit { seq ≤ 1000000 }
         requires sorted { AreSorted all.items }
-        ensures { result.book ≡ record { at = seq; date = date; table = values_of all.items; held = map.empty; mode = Mode.Live } }
+        requires few { vec_len all < 2 ^ 31 }
+        ensures { result.state ≡ loaded seq date (values_of all.items) }
     {
         Settings {
             at: seq,

@@ -8,7 +8,7 @@ ghost use Rattle.seq_machine.specs.Packs.{puts};
 ghost use Rattle.seq_machine.specs.Rows.{pairs, spot_from, values_of, AreSorted};
 ghost use Rattle.seq_machine.specs.Spots.{IsWithin};
 
-use crate::setting::Setting;
+use box_events::Setting;
 use std::alloc::Global;
 use std::marker::Model;
 use tl_base::Memory;

@@ -7,7 +7,8 @@ use Rattle.box_events.specs.Boxes.{ending, Between, AreCounted}
 use Rattle.box_events.proofs.Boundaries.{counted-append}
 use Rattle.box_events.proofs.Stretches.{between_grows, appended_lies}
 use Rattle.pts_machine.specs.Fitting.{Fits}
-use Rattle.pts_machine.proofs.Fitting.{hear_restart, fits_new, fits_hear, fits_grows}
+use Rattle.pts_machine.proofs.Fitting.{fits_new, fits_hear, fits_grows}
+use Rattle.pts_machine.proofs.Moves.{hear_restart}
 use Rattle.update_replay.specs.Worlds.{Push, Step, post, hears, World, start, push_of, posted, heard, is_known, happens, run_from, run}
 
 -- the push's event lies in the box at its own place

@@ -8,7 +8,7 @@ use Rattle.std.proofs.lemmas.List.{map_push}
 use Rattle.box_events.specs.Events.{EventView, added, count_of, body_of}
 use Rattle.box_events.specs.Boxes.{ending}
 use Rattle.box_events.proofs.Stretches.{stretch_inside}
-use Rattle.pts_machine.specs.Tracks.{Track}
+use Rattle.pts_machine.specs.States.{LaneState}
 use Rattle.pts_machine.specs.Steps.{hear}
 use Rattle.update_replay.specs.Worlds.{World, Push, post, posted, heard, is_known, happens}
 use Rattle.update_replay.specs.Reached.{IsReached}
@@ -50,13 +50,13 @@ posted_is w ss more box ids id body old new has_box has_ids has_more =
     one ∙ (two ∙ (three ∙ ap (λ (b : Bool). posted b w id (added body)) (sym new)))
 
 -- The push of number k is heard. The world is i, and is shown as w.
-pub heard_is : (w i : World) (old lane : Track EventView) (k end : ℕ) (e : EventView) (s : Sent) → i ≡ w → slice_get i.pool k ≡ Some (push_from s) → old ≡ i.lane
-    → end ≡ s.start + count_of s.event → e ≡ s.event → (hear old s.start end e).track ≡ lane
+pub heard_is : (w i : World) (old lane : LaneState EventView) (k end : ℕ) (e : EventView) (s : Sent) → i ≡ w → slice_get i.pool k ≡ Some (push_from s) → old ≡ i.lane
+    → end ≡ s.start + count_of s.event → e ≡ s.event → (hear old s.start end e).state ≡ lane
     → record { box = i.box; ids = i.ids; pool = i.pool; lane = lane } ≡ heard w (slice_get w.pool k)
-heard_is w i old lane k end e s view at track stop same is =
+heard_is w i old lane k end e s view at state stop same is =
     let to : ℕ = s.start + count_of s.event in
-    let told : (hear old s.start end e).track ≡ (hear i.lane s.start to s.event).track =
-    ap (λ (t : Track EventView). (hear t s.start end e).track) track ∙ (ap (λ (n : ℕ). (hear i.lane s.start n e).track) stop ∙ ap (λ (x : EventView). (hear i.lane s.start to x).track) same) in
+    let told : (hear old s.start end e).state ≡ (hear i.lane s.start to s.event).state =
+    ap (λ (t : LaneState EventView). (hear t s.start end e).state) state ∙ (ap (λ (n : ℕ). (hear i.lane s.start n e).state) stop ∙ ap (λ (x : EventView). (hear i.lane s.start to x).state) same) in
     let here : ◌≡◌ {A = World} (record { box = i.box; ids = i.ids; pool = i.pool; lane = lane }) (heard i (Some (push_from s))) =
-    ap (λ (t : Track EventView). record { box = i.box; ids = i.ids; pool = i.pool; lane = t }) (sym is ∙ told) in
+    ap (λ (t : LaneState EventView). record { box = i.box; ids = i.ids; pool = i.pool; lane = t }) (sym is ∙ told) in
     here ∙ (ap (heard i) (sym at) ∙ ap (λ (u : World). heard u (slice_get u.pool k)) view)

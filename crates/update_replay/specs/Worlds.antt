@@ -6,8 +6,8 @@ use Rattle.std.specs.List.{list_any}
 use Rattle.std.specs.Ordering.{int_eq}
 use Rattle.box_events.specs.Events.{EventView, added, count_of}
 use Rattle.box_events.specs.Boxes.{ending}
-use Rattle.pts_machine.specs.Tracks.{Track}
-use Rattle.pts_machine.specs.Steps.{new_track, hear}
+use Rattle.pts_machine.specs.States.{LaneState}
+use Rattle.pts_machine.specs.Steps.{new_lane, hear}
 
 -- what a push tells of the box: an event, and the numbers between which it lies
 pub record Push : Type 0 where
@@ -25,11 +25,11 @@ pub record World : Type 0 where
   pub box : List EventView
   pub ids : List ℤ
   pub pool : List Push
-  pub lane : Track EventView
+  pub lane : LaneState EventView
 
 -- nothing was posted or heard
 abbrev pub start : World
-start = record { box = []; ids = []; pool = []; lane = new_track }
+start = record { box = []; ids = []; pool = []; lane = new_lane }
 
 -- the push of an event that is put behind a box
 abbrev pub push_of : List EventView → EventView → Push
@@ -44,7 +44,7 @@ posted false w id event = record { box = w.box ++ event ∷ []; ids = w.ids ++ i
 -- the client hears a push of the pool
 abbrev pub heard : World → Option Push → World
 heard w None = w
-heard w (Some p) = record w { lane = (hear w.lane p.start p.end p.event).track }
+heard w (Some p) = record w { lane = (hear w.lane p.start p.end p.event).state }
 
 -- whether an id is among these
 abbrev pub is_known : List ℤ → ℤ → Bool

@@ -3,7 +3,7 @@ use Rattle.std.specs.FinMap.{get, len}
 use Rattle.gap_buffer.proofs.Maps.{above_remove, len_some, len_taken, len_untaken, get_untaken, untaken}
 use Rattle.pts_machine.specs.Takings.{InTurn}
 use Rattle.pts_machine.specs.Takings.InTurn.{one_more}
-use Rattle.pts_machine.proofs.Links.{chain_step, reach_step, chain_ends, reach_ends, behind_remove}
+use Rattle.pts_machine.proofs.Links.{chain_step, reach_step, chain_ends, reach_ends, after_remove}
 use Rattle.pts_machine.proofs.chains.follow.Goals as goal
 
 pub items-smaller : goal.items-smaller
@@ -18,13 +18,13 @@ pub items-preserved : goal.items-preserved
 items-preserved g c =
     let is = sym c.in-Some.ensures.value in
     let i = c.items.invariant in
-    let step = chain_step c.items.at _ _ i.behind is in
+    let step = chain_step c.items.at _ _ i.after is in
     record {
-      behind = rw c.in-Some.ensures.rest (behind_remove _ c.items.at i.behind);
+      after = rw c.in-Some.ensures.rest (after_remove _ c.items.at i.after);
       room = rw c.in-Some.ensures.rest (c.take_in.ensures.room c.items.gap.held c.items.at _ is i.room);
       took = λ z more. i.took z (rw step (one_more _ _ _ _ _ c.take_in.ensures.took (rw c.in-Some.ensures.rest at more)));
-      reach = rw c.in-Some.ensures.rest (sym (reach_step c.items.at _ _ i.behind is) ∙ i.reach);
-      held = λ q le. let past = i.behind c.items.at _ is in rw c.in-Some.ensures.rest (sym (above_remove _ c.items.at q (omega (arith, past, le))) ∙ i.held q (omega (arith, past, le)));
+      reach = rw c.in-Some.ensures.rest (sym (reach_step c.items.at _ _ i.after is) ∙ i.reach);
+      held = λ q le. let past = i.after c.items.at _ is in rw c.in-Some.ensures.rest (sym (above_remove _ c.items.at q (omega (arith, past, le))) ∙ i.held q (omega (arith, past, le)));
       number = rw c.in-Some.ensures.rest (omega (arith, len_some _ c.items.at _ is, len_taken _ c.items.at _ is, i.number, ap length step));
       spare = omega (arith, i.spare, c.in-Some.ensures.spare);
     }

@@ -15,5 +15,8 @@ returns-clause-held c = c.drop_below-store.ensures.held ∙ same_from c.follow-a
 pub returns-clause-less : goal.returns-clause-less
 returns-clause-less c = omega (arith, (are_applied _ _ _ c.follow-at.ensures.took).less, c.drop_below-store.ensures.less)
 
+pub returns-clause-few : goal.returns-clause-few
+returns-clause-few c = omega (arith, (are_applied _ _ _ c.follow-at.ensures.took).few, c.drop_below-store.ensures.less)
+
 pub returns-clause-room : goal.returns-clause-room
 returns-clause-room c = omega (arith, (are_applied _ _ _ c.follow-at.ensures.took).room, c.drop_below-store.ensures.less)

@@ -1,38 +1,38 @@
 use Rattle.std.proofs.Common.{arith, refl, sym, ap, ◌∙◌}
-use Rattle.std.specs.Cmp.{nat_cmp_total}
-use Rattle.std.specs.FinMap.{insert, from_entries_push, nat_cmp-IsAntisymmetric}
-use Rattle.std.proofs.lemmas.List.{length-append}
-use Rattle.gap_buffer.proofs.Entries.{none_held, some_held, count_held, distinct-push, index_none, is_none_of}
+use Rattle.std.proofs.lemmas.Option.{none-some}
+use Rattle.gap_buffer.proofs.Rises.{none_held, is_held, count_of, put_at, rising_put, map_put}
 use Rattle.gap_buffer.proofs.gap.Gap.hold.Goals as goal
 
-pub returns-then-is_some : goal.returns-then-is_some
-returns-then-is_some g c =
-    (some_held c.self.inside.items.items c.args.start c.args.self.now.held (ap (λ p. p.held) c.self.view_is) (rw c.deref.ensures.value at c.place_of.ensures.place) (sym c.is_some.ensures ∙ c.if-is_some.true), refl, refl)
+pub returns-in-Ok : goal.returns-in-Ok
+returns-in-Ok g c =
+    let index = rw c.deref.ensures.value at c.in-Ok.ensures.index in
+    let some = is_held c.self.inside.items.items c.args.start c.in-Ok.field-0 c.args.self.now.held (c.args.start, (c.args.end, c.args.item)) c.self.invariant.rising (ap (λ p. p.held) c.self.view_is) index in
+    (λ none. none-some _ (sym none ∙ some), refl, refl)
 
 pub returns-then-len-ge-MOST : goal.returns-then-len-ge-MOST
 returns-then-len-ge-MOST g c =
     let seen = ap (λ p. p.held) c.self.view_is in
-    let count = count_held c.self.inside.items.items c.args.self.now.held seen c.self.invariant.distinct in
+    let index = rw c.deref.ensures.value at c.in-Err.ensures.index in
+    let count = count_of c.self.inside.items.items c.args.self.now.held c.self.invariant.rising seen in
     let few = c.self.invariant.few in
-    (none_held c.self.inside.items.items c.args.start c.args.self.now.held seen (rw c.deref.ensures.value at c.place_of.ensures.place) (sym c.is_some.ensures ∙ c.if-is_some.false), omega arith, refl, refl)
+    (none_held c.self.inside.items.items c.args.start c.in-Err.i c.args.self.now.held c.self.invariant.rising seen index, omega arith, refl, refl)
 
 pub invariant_of-self : goal.invariant_of-self
 invariant_of-self g c =
-    let items = c.in-Ok.ensures.items in
-    let none = index_none 0 c.self.inside.items.items c.args.start (is_none_of _ _ (rw c.deref.ensures.value at c.place_of.ensures.place) (sym c.is_some.ensures ∙ c.if-is_some.false)) in
+    let index = rw c.deref.ensures.value at c.in-Err.ensures.index in
     record {
-      distinct = rw items (distinct-push c.self.inside.items.items c.args.start _ c.self.invariant.distinct none);
-      few = rw items (omega (arith, length-append {A = _} c.self.inside.items.items));
+      rising = rising_put c.self.inside.items.items _ c.args.start (c.args.end, c.args.item) c.self.invariant.rising (c.in-Ok-insert.ensures.items ∙ put_at c.self.inside.items.items c.args.start c.in-Err.i _ index);
+      few = omega (arith, c.in-Ok-insert.ensures.len);
     }
 
 pub returns : goal.returns
 returns g c =
-    let items = c.in-Ok.ensures.items in
     let seen = ap (λ p. p.held) c.self.view_is in
-    let count = count_held c.self.inside.items.items c.args.self.now.held seen c.self.invariant.distinct in
-    let none = index_none 0 c.self.inside.items.items c.args.start (is_none_of _ _ (rw c.deref.ensures.value at c.place_of.ensures.place) (sym c.is_some.ensures ∙ c.if-is_some.false)) in (
-      none_held c.self.inside.items.items c.args.start c.args.self.now.held seen (rw c.deref.ensures.value at c.place_of.ensures.place) (sym c.is_some.ensures ∙ c.if-is_some.false),
+    let index = rw c.deref.ensures.value at c.in-Err.ensures.index in
+    let count = count_of c.self.inside.items.items c.args.self.now.held c.self.invariant.rising seen in
+    let room = ap (λ p. p.spare) c.self.view_is in (
+      none_held c.self.inside.items.items c.args.start c.in-Err.i c.args.self.now.held c.self.invariant.rising seen index,
       omega (arith, count),
-      rw items (from_entries_push nat_cmp_total nat_cmp-IsAntisymmetric c.self.inside.items.items c.args.start _ none ∙ ap (λ m. insert m c.args.start (c.args.end, c.args.item)) seen),
-      (let room = ap (λ p. p.spare) c.self.view_is in omega (arith, room, c.in-Ok.ensures.len, c.in-Ok.ensures.capacity)),
+      map_put c.self.inside.items.items _ c.args.start (c.args.end, c.args.item) c.args.self.now.held c.self.invariant.rising (c.in-Ok-insert.ensures.items ∙ put_at c.self.inside.items.items c.args.start c.in-Err.i _ index) seen,
+      omega (arith, room, c.in-Ok-insert.ensures.len, c.in-Ok-insert.ensures.capacity),
     )

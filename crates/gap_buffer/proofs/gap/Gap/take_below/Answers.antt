@@ -1,30 +1,33 @@
 use Rattle.std.proofs.Common.{arith, refl, sym, ap, ◌∙◌, Some}
-use Rattle.std.specs.Cmp.{nat_cmp_total}
-use Rattle.std.specs.FinMap.{get, remove, get-from_entries}
-use Rattle.gap_buffer.proofs.Entries.{taken_at, map_without}
-use Rattle.gap_buffer.proofs.Below.{below_index, none_below}
+use Rattle.std.specs.Option.{option_copied}
+use Rattle.gap_buffer.proofs.Rises.{first_index, first_from, none_at_all, is_held, rising_without, map_without}
 use Rattle.gap_buffer.proofs.gap.Gap.take_below.Goals as goal
+
+pub returns-in_err-start-clause-taken : goal.returns-in_err-start-clause-taken
+returns-in_err-start-clause-taken g c =
+    let none = sym (ap option_copied c.in_err-start.was) ∙ rw c.deref.ensures.value at c.first.ensures.value in
+    rw c.from_residual.ensures (λ s x is. absurd (none_at_all c.self.inside.items.items c.args.self.now.held s x c.self.invariant.rising (ap (λ p. p.held) c.self.view_is) none is), refl)
+
+pub returns-then-at-start-clause-taken : goal.returns-then-at-start-clause-taken
+returns-then-at-start-clause-taken g c =
+    let first = rw c.deref.ensures.value at c.in_ok-start.ensures.value in
+    (λ s x is. first_from c.self.inside.items.items c.in_ok-start.field-0.now c.args.self.now.held c.args.at s x c.self.invariant.rising (ap (λ p. p.held) c.self.view_is) first c.if-at-start.true is, refl)
 
 pub invariant_of-self : goal.invariant_of-self
 invariant_of-self g c =
-    let b = below_index 0 c.in-Some.i c.self.inside.items.items c.args.at c.self.invariant.distinct (sym (rw c.deref.ensures.value at c.in-Some.ensures.place)) in
-    let t = taken_at c.in-Some.i c.self.inside.items.items b.0 c.self.invariant.distinct b.2 in
-    record { distinct = rw c.remove-held.ensures.items t.distinct; few = omega (arith, c.self.invariant.few, c.remove-held.ensures.len) }
+    let index = first_index c.self.inside.items.items c.in_ok-start.field-0.now (rw c.deref.ensures.value at c.in_ok-start.ensures.value) in
+    record {
+      rising = rw c.remove-held.ensures.items (rising_without c.self.inside.items.items c.in_ok-start.field-0.now.0 0 c.self.invariant.rising index);
+      few = omega (arith, c.self.invariant.few, c.remove-held.ensures.len);
+    }
 
-pub returns-in-Some-clause-taken : goal.returns-in-Some-clause-taken
-returns-in-Some-clause-taken g c =
-    let b = below_index 0 c.in-Some.i c.self.inside.items.items c.args.at c.self.invariant.distinct (sym (rw c.deref.ensures.value at c.in-Some.ensures.place)) in
-    let t = taken_at c.in-Some.i c.self.inside.items.items b.0 c.self.invariant.distinct b.2 in (
-      b.0,
-      b.1,
-      ap (λ m. get m b.0) (sym (ap (λ p. p.held) c.self.view_is)) ∙ get-from_entries nat_cmp_total c.self.inside.items.items b.0 ∙ t.found c.remove-held.result ∙ ap (λ p. Some p.1) (sym c.remove-held.ensures.value),
-      rw c.remove-held.ensures.items (map_without c.self.inside.items.items b.0 c.in-Some.i t ∙ ap (λ m. remove m b.0) (ap (λ p. p.held) c.self.view_is)),
+pub returns-clause-taken : goal.returns-clause-taken
+returns-clause-taken g c =
+    let start = c.in_ok-start.field-0.now.0 in
+    let index = first_index c.self.inside.items.items c.in_ok-start.field-0.now (rw c.deref.ensures.value at c.in_ok-start.ensures.value) in
+    let seen = ap (λ p. p.held) c.self.view_is in (
+      start,
+      c.if-at-start.false,
+      is_held c.self.inside.items.items start 0 c.args.self.now.held c.remove-held.result c.self.invariant.rising seen index ∙ ap (λ p. Some p.1) (sym c.remove-held.ensures.value),
+      rw c.remove-held.ensures.items (map_without c.self.inside.items.items start 0 c.args.self.now.held c.self.invariant.rising seen index),
     )
-
-pub returns-in-None-clause-taken : goal.returns-in-None-clause-taken
-returns-in-None-clause-taken g c = (
-  λ s x e.
-      none_below 0 c.self.inside.items.items c.args.at s x (sym (rw c.deref.ensures.value at c.in-None.ensures.place))
-      (sym (get-from_entries nat_cmp_total c.self.inside.items.items s) ∙ ap (λ m. get m s) (ap (λ p. p.held) c.self.view_is) ∙ e),
-  refl,
-)

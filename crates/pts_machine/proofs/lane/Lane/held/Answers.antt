@@ -4,4 +4,4 @@ use Rattle.pts_machine.proofs.Ends.{are_chained}
 use Rattle.pts_machine.proofs.lane.Lane.held.Goals as goal
 
 pub returns-clause-chained : goal.returns-clause-chained
-returns-clause-chained g c = subst AreChained (ap (λ p. p.track.held) c.self.view_is) (are_chained c.self.inside.gap.held (λ s x e. (c.self.invariant.sound.sized s x e).0))
+returns-clause-chained g c = subst AreChained (ap (λ p. p.state.held) c.self.view_is) (are_chained c.self.inside.gap.held (λ s x e. (c.self.invariant.sound.sized s x e).0))

@@ -1,7 +1,7 @@
 use Rattle.std.proofs.Common.{sym, ap, ◌∙◌, subst, arith}
 use Rattle.std.specs.FinMap.{len, len-empty}
 use Rattle.std.specs.Ordering.{nat_cmp}
-use Rattle.pts_machine.specs.Tracks.{IsSound}
+use Rattle.pts_machine.specs.States.{IsSound}
 use Rattle.pts_machine.proofs.Kept.{sound_loaded}
 use Rattle.pts_machine.proofs.Parts.{fresh}
 use Rattle.pts_machine.proofs.lane.Lane.new.Goals as goal

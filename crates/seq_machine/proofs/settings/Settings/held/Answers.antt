@@ -4,4 +4,4 @@ use Rattle.pts_machine.proofs.Ends.{are_chained}
 use Rattle.seq_machine.proofs.settings.Settings.held.Goals as goal
 
 pub returns-clause-chained : goal.returns-clause-chained
-returns-clause-chained c = subst AreChained (ap (λ p. p.book.held) c.self.view_is) (are_chained c.self.inside.gap.held (λ s x e. (c.self.invariant.sound.sized s x e).0))
+returns-clause-chained c = subst AreChained (ap (λ p. p.state.held) c.self.view_is) (are_chained c.self.inside.gap.held (λ s x e. (c.self.invariant.sound.sized s x e).0))

@@ -22,9 +22,9 @@ overflow_add-end c =
 
 pub returns-clause-ok : goal.returns-clause-ok
 returns-clause-ok c =
-    heard_is c.args.self.now (world_of c.self.inside) c.reserve.new.self.track c.push.new.self.track c.args.packet (c.index-sent.result.now.start + c.count.result) c.in_ok-event.event c.index-sent.result.now c.self.view_is
-    (sent_at c.self.inside.pool.items c.len.result c.args.packet c.index-sent.result.now (search rules) (omega arith) c.index-sent.ensures) c.in_ok-reserve.ensures.track
-    (end_is c.index-sent.result.now c.in_ok-event.event c.count.result c.count.ensures.value c.in_ok-event.ensures) c.in_ok-event.ensures (ap (λ (h : HeardItem EventView). h.track) c.push.ensures.step)
+    heard_is c.args.self.now (world_of c.self.inside) c.reserve.new.self.state c.push.new.self.state c.args.packet (c.index-sent.result.now.start + c.count.result) c.in_ok-event.event c.index-sent.result.now c.self.view_is
+    (sent_at c.self.inside.pool.items c.len.result c.args.packet c.index-sent.result.now (search rules) (omega arith) c.index-sent.ensures) c.in_ok-reserve.ensures.state
+    (end_is c.index-sent.result.now c.in_ok-event.event c.count.result c.count.ensures.value c.in_ok-event.ensures) c.in_ok-event.ensures (ap (λ (h : HeardItem EventView). h.state) c.push.ensures.step)
 
 pub returns-clause-outcome : goal.returns-clause-outcome
 returns-clause-outcome c = ap Heard (c.at.ensures.value ∙ ap (λ (w : World). w.lane.at) (returns-clause-ok c))
@@ -32,6 +32,6 @@ returns-clause-outcome c = ap Heard (c.at.ensures.value ∙ ap (λ (w : World). 
 pub invariant_of-self-2 : goal.invariant_of-self-2
 invariant_of-self-2 c =
     goes_on (world_of c.self.inside) _ (hears c.args.packet) c.self.invariant tt
-    (heard_is (world_of c.self.inside) (world_of c.self.inside) c.reserve.new.self.track c.push.new.self.track c.args.packet (c.index-sent.result.now.start + c.count.result) c.in_ok-event.event c.index-sent.result.now refl
-    (sent_at c.self.inside.pool.items c.len.result c.args.packet c.index-sent.result.now (search rules) (omega arith) c.index-sent.ensures) c.in_ok-reserve.ensures.track
-    (end_is c.index-sent.result.now c.in_ok-event.event c.count.result c.count.ensures.value c.in_ok-event.ensures) c.in_ok-event.ensures (ap (λ (h : HeardItem EventView). h.track) c.push.ensures.step))
+    (heard_is (world_of c.self.inside) (world_of c.self.inside) c.reserve.new.self.state c.push.new.self.state c.args.packet (c.index-sent.result.now.start + c.count.result) c.in_ok-event.event c.index-sent.result.now refl
+    (sent_at c.self.inside.pool.items c.len.result c.args.packet c.index-sent.result.now (search rules) (omega arith) c.index-sent.ensures) c.in_ok-reserve.ensures.state
+    (end_is c.index-sent.result.now c.in_ok-event.event c.count.result c.count.ensures.value c.in_ok-event.ensures) c.in_ok-event.ensures (ap (λ (h : HeardItem EventView). h.state) c.push.ensures.step))

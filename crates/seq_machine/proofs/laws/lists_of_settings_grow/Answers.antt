@@ -1,0 +1,18 @@
+use Rattle.seq_machine.proofs.Growing.{stretch_grows, overlay_grows, stretch_appended}
+use Rattle.seq_machine.proofs.Dates.{since_append, rise_pushed}
+use Rattle.seq_machine.proofs.laws.lists_of_settings_grow.Goals as goal
+
+pub returns-clause-stretch : goal.returns-clause-stretch
+returns-clause-stretch c = stretch_grows
+
+pub returns-clause-overlay : goal.returns-clause-overlay
+returns-clause-overlay c = overlay_grows
+
+pub returns-clause-since : goal.returns-clause-since
+returns-clause-since c = since_append
+
+pub returns-clause-appended : goal.returns-clause-appended
+returns-clause-appended c = stretch_appended
+
+pub returns-clause-rises : goal.returns-clause-rises
+returns-clause-rises c = rise_pushed
