@@ -25,3 +25,5 @@ mod schemas;
 mod settings;
 #[cfg(test)]
 mod shows;
+#[cfg(test)]
+mod weaves;
