@@ -1,0 +1,14 @@
+pub mod SameTypes
+pub mod TypeLists
+pub mod Walking
+pub mod Agreeing
+pub mod EntryLists
+pub mod OwnDeclarations
+pub mod FormedReached
+pub mod NodeTypes
+pub mod TableSteps
+pub mod QueueSteps
+pub mod WalkSteps
+pub mod HeadLists
+pub mod PlanSteps
+pub mod PlanFacts
