@@ -1,12 +1,12 @@
 -- The constructors of each type and the functions, collected over the declarations.
-use Rattle.std.proofs.Common.{◌≡◌, ℕ, zero, suc, ◌+◌, ◌<◌, ◌≤◌, List, [], ◌∷◌, ◌++◌, length, map, take, replicate, get_or, slice_get, Some, None, Bool, true, false, refl, ap, ap₂, sym, ◌∙◌, subst, arith, append_assoc, if◌then◌else◌, nat_lt, ◌==◌, eqb-true}
+use Rattle.std.proofs.Common.{◌≡◌, ℕ, zero, suc, ◌+◌, ◌<◌, ◌≤◌, List, [], ◌∷◌, ◌++◌, length, map, take, replicate, get_or, set, slice_get, Some, None, Bool, true, false, refl, ap, ap₂, sym, ◌∙◌, subst, arith, append_assoc, if◌then◌else◌, nat_lt, ◌==◌, eqb-true, Vec}
 use Rattle.std.proofs.lemmas.Bool.Decides.{nat_tests}
-use Rattle.std.proofs.lemmas.List.{append-nil, get_or_past, take_all, length-take}
+use Rattle.std.proofs.lemmas.List.{append-nil, get_or_past, map_push, take_all, length-take}
 use Rattle.tl_names.specs.Places.{types_of}
 use Rattle.tl_names.proofs.Maps.{take_push}
 use Rattle.tl_schema.specs.Schemas.{Declaration, Declared}
 use Rattle.tl_plan.specs.Entries.{constructors_of, functions_of, indices_from}
-use Rattle.tl_plan.specs.inner.Walks.{AreHeads, noted}
+use Rattle.tl_plan.specs.inner.Walks.{AreHeads, lists_of, noted}
 use Rattle.tl_plan.proofs.TypeLists.{by_test}
 
 -- ---- lists
@@ -103,3 +103,25 @@ all_heads S n lists functions so_far past = record { constructors = each; functi
         let beyond : length (types_of S.program) ≤ h = grind (arith, nat_tests) in
         let e = so_far.count in
         get_or_past lists h [] (omega (arith, e, beyond)) ∙ sym (ap (λ b. if b then indices_from 0 (λ d. d.head == h) S.decls else []) unknown))
+
+-- ---- the code's lists
+
+pub lists_push : {A : Type 0} (lists : List (Vec ℕ A)) (v : Vec ℕ A) (n : ℕ) → lists_of lists ≡ replicate n [] → v.items ≡ [] → lists_of (lists ++ v ∷ []) ≡ replicate (n + 1) []
+lists_push {A = A} lists v n so_far empty = map_push (λ (is : Vec ℕ A). is.items) lists v ∙ ap₂ (λ (xs : List (List ℕ)) (x : List ℕ). xs ++ x ∷ []) so_far empty ∙ replicate_push n
+  where
+    replicate_push : (n : ℕ) → replicate {A = List ℕ} n [] ++ [] ∷ [] ≡ replicate (n + 1) []
+    replicate_push n = grow n ∙ (let e : suc n ≡ n + 1 = omega arith in ap (λ k. replicate {A = List ℕ} k []) e)
+      where
+        grow : (n : ℕ) → replicate {A = List ℕ} n [] ++ [] ∷ [] ≡ replicate (suc n) []
+        grow zero = refl
+        grow (suc n) = ap (λ (xs : List (List ℕ)). [] ∷ xs) (grow n)
+
+pub set_noted : {A : Type 0} (lists : List (Vec ℕ A)) (h i : ℕ) (old new : Vec ℕ A) → old ≡ get_or lists h old → h < length lists → new.items ≡ old.items ++ i ∷ [] → lists_of (set lists h new) ≡ noted (lists_of lists) h i
+set_noted [] h i old new is below e = absurd (omega (arith, below))
+set_noted {A = A} (v ∷ lists) zero i old new is below e = ap (λ (x : List ℕ). x ∷ lists_of lists) (e ∙ ap (λ (w : Vec ℕ A). w.items ++ i ∷ []) is)
+set_noted (v ∷ lists) (suc h) i old new is below e = ap (λ (xs : List (List ℕ)). v.items ∷ xs) (set_noted lists h i old new is (omega (arith, below)) e)
+
+pub noted_past : (lists : List (List ℕ)) (h i : ℕ) → length lists ≤ h → lists ≡ noted lists h i
+noted_past [] h i past = refl
+noted_past (is ∷ lists) zero i past = absurd (omega (arith, past))
+noted_past (is ∷ lists) (suc h) i past = ap (λ (xs : List (List ℕ)). is ∷ xs) (noted_past lists h i (omega (arith, past)))

@@ -8,6 +8,10 @@ pub mod FormedReached
 pub mod NodeTypes
 pub mod TableSteps
 pub mod QueueSteps
+pub mod ClosedNodes
+pub mod ReadLists
+pub mod RootSteps
+pub mod ShapeViews
 pub mod WalkSteps
 pub mod HeadLists
 pub mod PlanSteps

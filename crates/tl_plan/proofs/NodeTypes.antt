@@ -68,14 +68,13 @@ type_more Ts more k below = get_or_append_left Ts more type.call k below
 
 -- ---- growing
 
-pub grows_same : (Ts : List Shape) → AreDistinct Ts → Grows Ts Ts
-grows_same Ts distinct = record { more = []; extends = sym (append-nil Ts); distinct = distinct }
+pub grows_same : (Ts : List Shape) → Grows Ts Ts
+grows_same Ts = record { more = []; extends = sym (append-nil Ts) }
 
 pub grows_then : (Ts Us Vs : List Shape) → Grows Ts Us → Grows Us Vs → Grows Ts Vs
 grows_then Ts Us Vs g h = record {
   more = g.more ++ h.more;
   extends = h.extends ∙ ap (λ (xs : List Shape). xs ++ h.more) g.extends ∙ append_assoc Ts g.more h.more;
-  distinct = h.distinct;
 }
 
 pub grows_length : (Ts Us : List Shape) → Grows Ts Us → length Ts ≤ length Us

@@ -68,7 +68,7 @@ module _ (p : PlanView) (good : IsPlan p) where
     there (type.var j) f h i e = absurd (none_some i e)
     there (type.vector b T) f h i e = absurd (none_some i e)
     there (type.boxed g args) f h i e = let m = (these_constructors S g).only i (h, e) in (m.0, m.1.there)
-    there (type.bare j args) (inl no) h i e = absurd cc
+    there (type.bare j args) (inl flag) h i e = absurd cc
     there (type.bare j args) (inr f) zero i e = (f.0.d, ap (slice_get S.decls) (sym (some_is j i e)) ∙ f.0.member.there)
     there (type.bare j args) (inr f) (suc h) i e = absurd (none_some i e)
 

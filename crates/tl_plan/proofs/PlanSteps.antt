@@ -9,9 +9,9 @@ use Rattle.tl_schema.specs.CheckedPrograms.{IsSchema}
 use Rattle.tl_plan.specs.Types.{levels}
 use Rattle.tl_plan.specs.Reached.{Named, names_of, unnamed}
 use Rattle.tl_plan.specs.Plans.{AreFormed, InstanceView, IsPlan, NamesAmong, PlanView, Plans, answer, instance_of, plan_of, types_of_plan}
-use Rattle.tl_plan.specs.Seen.{Shows}
-use Rattle.tl_plan.specs.inner.Nodes.{type_at, types_at}
-use Rattle.tl_plan.specs.inner.Walks.{AreShown, IsWork, StartsWith, Walk, Walks, add, add_all, expand, find_all, names_by, then_walk, walked}
+use Rattle.tl_plan.specs.Seen.{Shows, ShowsAt}
+use Rattle.tl_plan.specs.inner.Nodes.{AreBelow, type_at, types_at}
+use Rattle.tl_plan.specs.inner.Walks.{AreShown, IsMade, Walk, Walks, add, add_all, expand, find_all, names_by, then_walk, walked}
 use Rattle.tl_plan.specs.declared.instances.Instance.{Instance}
 use Rattle.tl_plan.specs.declared.fault.PlanFault.{PlanFault}
 use Rattle.tl_plan.specs.declared.fault.PlanFault.TheVariants.{TypeTooDeep, TooManyInstances, Memory}
@@ -26,10 +26,10 @@ use Rattle.tl_plan.proofs.FormedReached.{walked_formed}
 -- after so many instances
 pub record PlanSoFar (S : Declared) (roots : List Shape) (Ts : List Shape) (ns : List ℕ) (instances : List Instance) (i : ℕ) : Type 0 where
   pub walk : walked S roots i ≡ Ok (types_at Ts ns)
-  pub work : IsWork Ts ns
+  pub below : AreBelow (length Ts) ns
   pub within : i ≤ length ns
   pub count : length instances ≡ i
-  pub roots : length roots ≤ length ns
+  pub enough : length roots ≤ length ns
   pub shown : AreShown S (types_at Ts ns) instances
 
 -- ---- the roots
@@ -49,13 +49,13 @@ pub with_roots : {A : Type 0} (S : Declared) (roots Ts Us : List Shape) (ns : Li
 unfolding walked
 with_roots S roots Ts Us ns x P h = record {
   walk = h.0;
-  work = h.2;
+  below = h.2;
   within = omega arith;
   count = refl;
-  roots =
+  enough =
     let many : length (types_at Us ns) ≡ length (unnamed S roots) = add_all_count (unnamed S roots) [] (types_at Us ns) h.0 ∙ omega arith in
     let a = length-map ns (type_at Us) in
-    let b = length-map roots (λ T. record { of = T; decl = length S.decls }) in
+    let b : length (unnamed S roots) ≡ length roots = length-map {B = Named} roots (λ T. record { of = T; decl = length S.decls }) in
     omega (arith, many, a, b);
   shown = record { shown = λ k T j at there. absurd (none_some j there) };
 }
@@ -90,14 +90,14 @@ module _ (S : Declared) (roots : List Shape) (Ts : List Shape) (ns : List ℕ) (
       let longer : length ms ≡ length ns + length found.more =
         sym (length-map ms (type_at Us)) ∙ ap length found.starts ∙ length-append (types_at Ts ns) found.more ∙ ap (λ (k : ℕ). k + length found.more) (length-map ns (type_at Ts)) in
       let inside = slice_get_within ns i n at in
-      let before = so_far.roots in
+      let before = so_far.enough in
       let many = so_far.count in
       record {
         walk = step (Ok (types_at Us ms)) h.0;
-        work = h.2;
+        below = h.2;
         within = omega (arith, inside, longer);
         count = length-append instances (x ∷ []) ∙ ap (λ (k : ℕ). k + 1) many;
-        roots = omega (arith, before, longer);
+        enough = omega (arith, before, longer);
         shown = record { shown = λ k U j here there. shown_at found.more found.starts found.each k U j here (get_pushed instances x k j there) };
       }
     where
@@ -130,7 +130,7 @@ module _ (S : Declared) (roots : List Shape) (Ts : List Shape) (ns : List ℕ) (
   many = length-map ns (type_at Ts)
 
   pub few_roots : length roots ≤ MAX_INSTANCES
-  few_roots = let a = so_far.roots in omega (arith, a, few)
+  few_roots = let a = so_far.enough in omega (arith, a, few)
 
   pub answered : answer S roots ≡ Ok (plan_of S (length roots) (types_at Ts ns))
   answered =
@@ -146,11 +146,11 @@ module _ (S : Declared) (roots : List Shape) (Ts : List Shape) (ns : List ℕ) (
       let j = is_there instances k (omega (arith, a, b, past, less)) in
       (so_far.shown.shown k T j.0 at j.1).1
 
-  pub is_plan : IsSchema S → AreFormed S roots → (c : ℕ) → c ≡ length roots → IsPlan (plan_of S c (types_at Ts ns))
+  is_plan : IsSchema S → AreFormed S roots → (c : ℕ) → c ≡ length roots → IsPlan (plan_of S c (types_at Ts ns))
   is_plan good formed c same =
       let again : types_of_plan (plan_of S c (types_at Ts ns)) ≡ types_at Ts ns = types_again S (types_at Ts ns) (types_at Ts ns) in
       let count : length (map (instance_of S (types_at Ts ns)) (types_at Ts ns)) ≡ length ns = length-map (types_at Ts ns) (instance_of S (types_at Ts ns)) ∙ many in
-      let a = so_far.roots in
+      let a = so_far.enough in
       record {
         schema = good;
         few = omega (arith, count, few);
@@ -159,3 +159,19 @@ module _ (S : Declared) (roots : List Shape) (Ts : List Shape) (ns : List ℕ) (
         closed = subst (λ (us : List Shape). (k : ℕ) (T : Shape) → slice_get us k ≡ Some T → NamesAmong S us T) (sym again) all_named;
         formed = λ k T at. walked_formed S good roots formed i (types_at Ts ns) so_far.walk k T (ap (λ (us : List Shape). slice_get us k) (sym again) ∙ at);
       }
+
+  pub is_made : IsSchema S → AreFormed S roots → (c : ℕ) → c ≡ length roots → IsMade S c (types_at Ts ns) instances
+  is_made good formed c same =
+      let a = many in
+      let b = so_far.count in
+      let d = so_far.within in
+      record { plan = is_plan good formed c same; count = omega (arith, a, b, d, past); shown = so_far.shown }
+
+pub shown_instance : (S : Declared) (roots : ℕ) (ts : List Shape) (instances : List Instance) (p : PlanView) → plan_of S roots ts ≡ p → IsMade S roots ts instances → (i : ℕ) (x : Instance) → slice_get instances i ≡ Some x → ShowsAt p.instances i x
+shown_instance S roots ts instances p same made i x at =
+    let count = made.count in
+    let inside = slice_get_within instances i x at in
+    let T = is_there ts i (omega (arith, count, inside)) in
+    (instance_of S ts T.0,
+    ap (λ (q : PlanView). slice_get q.instances i) (sym same) ∙ slice_get-map (instance_of S ts) ts i ∙ ap (option_map (instance_of S ts)) T.1,
+    (made.shown.shown i T.0 x T.1 at).0)

@@ -1,20 +1,21 @@
 -- Queues of numbers against lists of types.
-use Rattle.std.proofs.Common.{◌≡◌, ◌⊎◌, inl, inr, ℕ, zero, suc, ◌+◌, ◌<◌, ◌≤◌, min, ◌^◌, ◌-◌, List, [], ◌∷◌, ◌++◌, length, map, slice_get, Option, Some, None, Ok, Err, Result, Bool, true, false, ◌||◌, refl, ap, ap₂, sym, ◌∙◌, subst, arith, length-append, if◌then◌else◌, nat_lt, ◌==◌, eqb-true, eq-eqb, true≢false}
-use Rattle.std.specs.Option.{option_map}
+use Rattle.std.proofs.Common.{◌≡◌, ◌⊎◌, inl, inr, ℕ, zero, suc, ◌+◌, ◌<◌, ◌≤◌, min, ◌^◌, ◌-◌, List, [], ◌∷◌, ◌++◌, length, map, slice_get, Option, Some, None, Ok, Err, Result, Bool, true, false, ◌||◌, ◌&&◌, is_none, cond, Bor, refl, ap, ap₂, sym, ◌∙◌, subst, arith, length-append, if◌then◌else◌, nat_lt, ◌==◌, eqb-true, eq-eqb, true≢false}
+use Rattle.std.specs.Option.{option_copied, option_map}
+use Rattle.std.specs.Ordering.{is_eq, nat_cmp}
 use Rattle.std.proofs.lemmas.Bool.Decides.{nat_tests}
-use Rattle.std.proofs.lemmas.List.{append-nil, length-map, map-append}
+use Rattle.std.proofs.lemmas.List.{length-map, map-append}
 use Rattle.tl_schema.specs.Types.{Shape}
 use Rattle.tl_plan.specs.Types.{index_of, is_among, is_same, levels}
 use Rattle.tl_plan.specs.Reached.{Named}
 use Rattle.tl_plan.specs.inner.Nodes.{AreBelow, AreDistinct, capped, type_at, types_at}
-use Rattle.tl_plan.specs.inner.Queues.{Adds, Meets, found_in}
-use Rattle.tl_plan.specs.inner.Walks.{IsWork, Walk, Walks, add, find}
+use Rattle.tl_plan.specs.inner.Queues.{Adds, IsQueue, KeepsFirst, Meets, found_in, place_of}
+use Rattle.tl_plan.specs.inner.Walks.{Walk, Walks, add, find}
 use Rattle.tl_plan.specs.declared.fault.PlanFault.{PlanFault}
 use Rattle.tl_plan.specs.declared.fault.PlanFault.TheVariants.{TypeTooDeep, TooManyInstances, Memory}
 use Rattle.tl_plan.specs.declared.fault.TheConstants.{MAX_INSTANCES, MAX_LEVELS}
 use Rattle.tl_plan.proofs.SameTypes.{same_is, same_self}
 use Rattle.tl_plan.proofs.TypeLists.{by_test, among_here, index_new, none_some, some_is}
-use Rattle.tl_plan.proofs.NodeTypes.{below_push, get_type}
+use Rattle.tl_plan.proofs.NodeTypes.{below_push, get_type, grows_same}
 
 -- ---- where a number stands
 
@@ -102,7 +103,7 @@ module _ (Ts : List Shape) (distinct : AreDistinct Ts) (n : ℕ) (within : n < l
 
 -- ---- steps
 
-module _ (Ts : List Shape) (old new : List ℕ) (n level decl : ℕ) (work : IsWork Ts old) (within : n < length Ts) (levels_is : level ≡ capped (levels (type_at Ts n))) where
+module _ (Ts : List Shape) (old new : List ℕ) (n level decl : ℕ) (distinct : AreDistinct Ts) (below : AreBelow (length Ts) old) (within : n < length Ts) (levels_is : level ≡ capped (levels (type_at Ts n))) where
   abbrev named : Named
   named = record { of = type_at Ts n; decl = decl }
 
@@ -136,21 +137,21 @@ module _ (Ts : List Shape) (old new : List ℕ) (n level decl : ℕ) (work : IsW
   pushed : new ≡ old ++ n ∷ [] → ts ++ T ∷ [] ≡ types_at Ts new
   pushed e = sym (map-append (type_at Ts) old (n ∷ [])) ∙ ap (types_at Ts) (sym e)
 
-  work_more : new ≡ old ++ n ∷ [] → IsWork Ts new
-  work_more e = record { distinct = work.distinct; below = subst (AreBelow (length Ts)) (sym e) (below_push (length Ts) old n work.below within) }
+  below_more : new ≡ old ++ n ∷ [] → AreBelow (length Ts) new
+  below_more e = subst (AreBelow (length Ts)) (sym e) (below_push (length Ts) old n below within)
 
   -- a type that is added
   pub adds_type : (result : Result ℕ PlanFault) → Adds old new n level decl result → Walks (add ts named) Ts Ts new result (λ k. k ≡ length ts)
-  adds_type (Ok k) h = (by_tests false true (shallow h.2) (room h.3) ∙ ap Ok (pushed h.0), ([], sym (append-nil Ts)), work_more h.0, h.1 ∙ sym count_is)
+  adds_type (Ok k) h = (by_tests false true (shallow h.2) (room h.3) ∙ ap Ok (pushed h.0), grows_same Ts, below_more h.0, h.1 ∙ sym count_is)
   adds_type (Err (TypeTooDeep d)) h = by_depth true (deep h.1) ∙ ap (λ (j : ℕ). Err (TypeTooDeep j)) (sym h.0)
   adds_type (Err TooManyInstances) h = by_tests false false (shallow h.0) (full h.1)
   adds_type (Err Memory) h = tt
 
   not_there : found_in old n ≡ None → find ts named ≡ add ts named
-  not_there none = ap (λ (b : Bool). if b then Ok ts else add ts named) (among_none Ts work.distinct n within old work.below none)
+  not_there none = ap (λ (b : Bool). if b then Ok ts else add ts named) (among_none Ts distinct n within old below none)
 
   added_index : (k : ℕ) → found_in old n ≡ None → new ≡ old ++ n ∷ [] → k ≡ length old → k ≡ index_of T (types_at Ts new)
-  added_index k none e count = count ∙ sym count_is ∙ sym (index_new T ts [] (among_none Ts work.distinct n within old work.below none)) ∙ ap (index_of T) (pushed e)
+  added_index k none e count = count ∙ sym count_is ∙ sym (index_new T ts [] (among_none Ts distinct n within old below none)) ∙ ap (index_of T) (pushed e)
 
   comes : (result : Result ℕ PlanFault) → found_in old n ≡ None → Adds old new n level decl result → Walks (find ts named) Ts Ts new result (λ k. k ≡ index_of T (types_at Ts new))
   comes (Ok k) none h = let a = adds_type (Ok k) h in (not_there none ∙ a.0, a.1, a.2, added_index k none h.0 h.1)
@@ -160,10 +161,50 @@ module _ (Ts : List Shape) (old new : List ℕ) (n level decl : ℕ) (work : IsW
 
   stands : (k : ℕ) → found_in old n ≡ Some k → new ≡ old → Walks (find ts named) Ts Ts new (Ok k) (λ j. j ≡ index_of T (types_at Ts new))
   stands k found same =
-      let at = among_found Ts work.distinct n within old k work.below found in
-      (ap (λ (b : Bool). if b then Ok ts else add ts named) at.0 ∙ ap (λ (ks : List ℕ). Ok (types_at Ts ks)) (sym same), ([], sym (append-nil Ts)), subst (IsWork Ts) (sym same) work, sym at.1 ∙ ap (λ (ks : List ℕ). index_of T (types_at Ts ks)) (sym same))
+      let at = among_found Ts distinct n within old k below found in
+      (ap (λ (b : Bool). if b then Ok ts else add ts named) at.0 ∙ ap (λ (ks : List ℕ). Ok (types_at Ts ks)) (sym same), grows_same Ts, subst (AreBelow (length Ts)) (sym same) below, sym at.1 ∙ ap (λ (ks : List ℕ). index_of T (types_at Ts ks)) (sym same))
 
   -- a type that is met
   pub meets_type : (result : Result ℕ PlanFault) → Meets old new n level decl result → Walks (find ts named) Ts Ts new result (λ k. k ≡ index_of T (types_at Ts new))
   meets_type result (inl p) = subst (λ (r : Result ℕ PlanFault). Walks (find ts named) Ts Ts new r (λ k. k ≡ index_of T (types_at Ts new))) (sym p.1) (stands p.0 p.2 p.3)
   meets_type result (inr q) = comes result q.0 q.1
+
+-- ---- the code's queue
+
+-- after the first place of a number was noted, and the number came to the end
+pub queue_push : (old new : List ℕ) (before after : List (ℕ × ℕ)) (node place : ℕ) → IsQueue old before → length old < MAX_INSTANCES → place ≡ length old → KeepsFirst before after node place → new ≡ old ++ node ∷ [] → IsQueue new after
+queue_push old new before after node place queue room count kept pushed = subst (λ (ns : List ℕ). IsQueue ns after) (sym pushed) (record {
+  few = let e = length-append old (node ∷ []) in omega (arith, e, room);
+  noted = λ n. kept n ∙ by_option (place_of before node)
+    (λ none. ap (λ o. if n == node && is_none o then Some place else place_of before n) none ∙ both n (n == node) refl none)
+    (λ k there. ap (λ o. if n == node && is_none o then Some place else place_of before n) there ∙ apart n k (n == node) ∙ queue.noted n ∙ noted_old old node k n (sym (queue.noted node) ∙ there));
+})
+  where
+    both : (n : ℕ) (b : Bool) → (n == node) ≡ b → place_of before node ≡ None → (if b && true then Some place else place_of before n) ≡ found_in (old ++ node ∷ []) n
+    both n b is none = tidy b ∙ ap (λ (c : Bool). if c then Some (length old) else place_of before n) (sym is) ∙ noted_new old node n (place_of before n) (sym (queue.noted node) ∙ none) (queue.noted n)
+      where
+        tidy : (b : Bool) → (if b && true then Some place else place_of before n) ≡ (if b then Some (length old) else place_of before n)
+        tidy true = ap Some count
+        tidy false = refl
+
+    apart : (n k : ℕ) (b : Bool) → (if b && false then Some place else place_of before n) ≡ place_of before n
+    apart n k true = refl
+    apart n k false = refl
+
+-- a number that had no place has this one
+pub kept_new : (old new : List (ℕ × ℕ)) (node place : ℕ) → place_of old node ≡ None → ((n : ℕ) → place_of new n ≡ cond (is_eq (nat_cmp node n)) (Some place) (place_of old n)) → KeepsFirst old new node place
+kept_new old new node place none updated n =
+    updated n ∙ by (is_eq (nat_cmp node n)) (n == node) (same node n) ∙ sym (ap (λ o. if n == node && is_none o then Some place else place_of old n) none)
+  where
+    same : (a b : ℕ) → is_eq (nat_cmp a b) ≡ (b == a)
+    same a b = grind (arith, nat_tests)
+
+    by : (a b : Bool) → a ≡ b → cond a (Some place) (place_of old n) ≡ (if b && true then Some place else place_of old n)
+    by true true e = refl
+    by true false e = absurd (true≢false e)
+    by false true e = absurd (true≢false (sym e))
+    by false false e = refl
+
+pub none_copied : {A : Type 0} (o : Option (Bor A)) (b : Bool) → b ≡ is_none o → b ≡ true → option_copied o ≡ None
+none_copied None b is e = refl
+none_copied (Some x) b is e = absurd (true≢false (sym e ∙ is))

@@ -1,15 +1,24 @@
 -- Tables of types: a new type comes to the end, and one that is there is found.
-use Rattle.std.proofs.Common.{◌≡◌, ℕ, zero, suc, ◌+◌, ◌<◌, ◌≤◌, List, [], ◌∷◌, ◌++◌, length, map, slice_get, Option, Some, None, Bool, true, false, refl, ap, ap₂, sym, ◌∙◌, subst, arith, length-append, if◌then◌else◌, bytes_eq, true≢false}
+use Rattle.std.proofs.Common.{◌≡◌, ℕ, zero, suc, ◌+◌, ◌<◌, ◌≤◌, List, [], ◌∷◌, ◌++◌, length, map, slice_get, Option, Some, None, Bool, true, false, refl, ap, ap₂, sym, ◌∙◌, subst, arith, length-append, if◌then◌else◌, bytes_eq, get_or, Vec}
 use Rattle.std.proofs.lemmas.Slice.Eq.{bytes_eq-Decides}
-use Rattle.std.proofs.lemmas.Option.{slice_get_within}
-use Rattle.tl_names.specs.NamePlaces.{place_in}
+use Rattle.std.proofs.lemmas.Option.{slice_get-map, slice_get_read, slice_get_within}
+use Rattle.std.proofs.lemmas.List.{length-map, map-append}
+use Rattle.std.specs.Option.{option_map}
+use Rattle.std.specs.Map.{lookup}
+use Rattle.std.specs.Ordering.{is_eq, nat_cmp}
+use Rattle.std.specs.Cmp.Lexicographic.{slice_cmp}
+use Rattle.std.specs.BTreeMap.{insert_entry}
+use Rattle.tl_names.specs.NamePlaces.{place_in, places_in}
+use Rattle.tl_names.proofs.MapEntries.{found_inserted, place_in_entries}
 use Rattle.tl_schema.specs.Types.{Shape}
 use Rattle.tl_plan.specs.Types.{levels}
-use Rattle.tl_plan.specs.inner.Nodes.{AreBelow, AreDistinct, Grows, HasParts, NodeView, capped, key_of, levels_above, type_at, type_by, types_after, types_at}
-use Rattle.tl_plan.specs.inner.Tables.{AreKeys, AreNodes, IsNode}
+use Rattle.tl_plan.specs.inner.Nodes.{AreBelow, AreDistinct, Grows, HasParts, NodeView, capped, key_of, levels_above, parts_of, type_at, type_by, types_after, types_at}
+use Rattle.tl_plan.specs.Seen.{HasForm}
+use Rattle.tl_plan.specs.inner.Tables.{AreKeys, AreNodes, IsNode, IsTable, node_view, types_of_nodes}
+use Rattle.tl_plan.specs.declared.table.Node.{Node}
 use Rattle.tl_plan.specs.declared.instances.Form.{Form}
 use Rattle.tl_plan.proofs.TypeLists.{by_test, none_some, some_is}
-use Rattle.tl_plan.proofs.NodeTypes.{Pushed, earlier, last, below_more, count_after, get_last, get_pushed, get_within, levels_are, one_key, push_after, same_key, type_got, types_more}
+use Rattle.tl_plan.proofs.NodeTypes.{Pushed, earlier, last, below_more, count_after, form_by, get_last, get_pushed, get_within, levels_are, one_key, parts_by, push_after, same_key, type_got, types_more}
 
 pub no_nodes : AreNodes [] [] []
 no_nodes = record {
@@ -61,16 +70,16 @@ module _ (ns : List NodeView) (numbers : List (List ℕ × ℕ)) (f : Form) (ks 
             there (m ∷ ms) (suc k) less = there ms k (omega (arith, less))
 
     pub grows_by : Grows Ts (Ts ++ T ∷ [])
-    grows_by = record { more = T ∷ []; extends = refl; distinct = distinct }
+    grows_by = record { more = T ∷ []; extends = refl }
+
+    still_distinct : AreDistinct (Ts ++ T ∷ [])
+    still_distinct i j U p q = by (get_pushed Ts T i U p) (get_pushed Ts T j U q)
       where
-        distinct : AreDistinct (Ts ++ T ∷ [])
-        distinct i j U p q = by (get_pushed Ts T i U p) (get_pushed Ts T j U q)
-          where
-            by : Pushed Ts T i U → Pushed Ts T j U → i ≡ j
-            by (earlier a) (earlier b) = are.distinct i j U a b
-            by (earlier a) (last count is) = absurd (is_new i (a ∙ ap Some is))
-            by (last count is) (earlier b) = absurd (is_new j (b ∙ ap Some is))
-            by (last count is) (last many same) = count ∙ sym many
+        by : Pushed Ts T i U → Pushed Ts T j U → i ≡ j
+        by (earlier a) (earlier b) = are.distinct i j U a b
+        by (earlier a) (last count is) = absurd (is_new i (a ∙ ap Some is))
+        by (last count is) (earlier b) = absurd (is_new j (b ∙ ap Some is))
+        by (last count is) (last many same) = count ∙ sym many
 
     levels_are_so : levels_above ns ks ≡ capped (levels T)
     levels_are_so = levels_are Ts ns (λ k n at. (are.each k n at).levels ∙ ap (λ (U : Shape). capped (levels U)) (sym (type_got Ts k _ (are.each k n at).type))) f ks (subst (λ (m : ℕ). AreBelow m ks) as_many below) parts
@@ -117,7 +126,7 @@ module _ (ns : List NodeView) (numbers : List (List ℕ × ℕ)) (f : Form) (ks 
               by false is e = let p = are.keys.only key k e in (p.0, get_within ns (new_node ∷ []) k p.0 p.1, p.2)
 
       pub nodes_push : AreNodes (types_after [] (ns ++ new_node ∷ [])) (ns ++ new_node ∷ []) after
-      nodes_push = subst (λ (Vs : List Shape). AreNodes Vs (ns ++ new_node ∷ []) after) (sym (push_after ns new_node [])) (record { each = each; keys = new_keys; distinct = grows_by.distinct })
+      nodes_push = subst (λ (Vs : List Shape). AreNodes Vs (ns ++ new_node ∷ []) after) (sym (push_after ns new_node [])) (record { each = each; keys = new_keys; distinct = still_distinct })
         where
           each : (k : ℕ) (n : NodeView) → slice_get (ns ++ new_node ∷ []) k ≡ Some n → IsNode Us k n
           each k n at = by (get_pushed ns new_node k n at)
@@ -125,3 +134,72 @@ module _ (ns : List NodeView) (numbers : List (List ℕ × ℕ)) (f : Form) (ks 
               by : Pushed ns new_node k n → IsNode Us k n
               by (earlier here) = let within = node_within k n here in still k n (are.each k n here) (omega (arith, within))
               by (last count is) = subst (λ (m : NodeView). IsNode Us k m) (sym is) (subst (λ (j : ℕ). IsNode Us j new_node) (sym count) newest)
+
+-- ---- the code's nodes
+
+pub nodes_count : (nodes : List Node) (Ts : List Shape) → types_of_nodes nodes ≡ Ts → length Ts ≡ length nodes
+nodes_count nodes Ts is = let a = count_after (map node_view nodes) [] in let b = length-map nodes node_view in let e : length (types_of_nodes nodes) ≡ length Ts = ap length is in omega (arith, a, b, e)
+
+-- what is read of a node
+pub record Read (Ts : List Shape) (k : ℕ) (n : Node) : Type 0 where
+  pub form : HasForm (type_at Ts k) n.form
+  pub parts : types_at Ts n.parts.items ≡ parts_of (type_at Ts k)
+  pub below : AreBelow (length Ts) n.parts.items
+  pub levels : n.levels ≡ capped (levels (type_at Ts k))
+
+pub read_node : {A : Type 0} (nodes : List Node) (entries : List (Vec ℕ A × ℕ)) (Ts : List Shape) → types_of_nodes nodes ≡ Ts → IsTable nodes entries → (k : ℕ) → k < length Ts → (n : Node) → n ≡ get_or nodes k n → Read Ts k n
+read_node nodes entries Ts is are k within n at =
+    let many = nodes_count nodes Ts is in
+    let there = slice_get_read nodes (length nodes) k n refl (omega (arith, many, within)) at in
+    let node = subst (λ (Us : List Shape). IsNode Us k (node_view n)) is (are.each k (node_view n) (slice_get-map node_view nodes k ∙ ap (option_map node_view) there)) in
+    let type : type_at Ts k ≡ type_by n.form (types_at Ts n.parts.items) = type_got Ts k _ node.type in
+    record {
+      form = subst (λ (T : Shape). HasForm T n.form) (sym type) (form_by n.form (types_at Ts n.parts.items));
+      parts = sym (ap parts_of type ∙ parts_by Ts n.form n.parts.items node.parts);
+      below = below_more k (length Ts) n.parts.items (omega (arith, within)) node.below;
+      levels = node.levels ∙ ap (λ (T : Shape). capped (levels T)) (sym type);
+    }
+
+-- ---- a node comes to the end
+
+-- the key is found, or not, as the map tells
+pub told_place : {A : Type 0} (entries : List (Vec ℕ A × ℕ)) (read key : List ℕ) (got : Option ℕ) → read ≡ key → got ≡ lookup (λ (k : Vec ℕ A). is_eq (slice_cmp nat_cmp read k.items)) entries → place_in (places_in entries) key ≡ got
+told_place entries read key got same told = ap (place_in (places_in entries)) (sym same) ∙ sym (told ∙ place_in_entries read entries)
+
+pub record TablePushed {A : Type 0} (new : List Node) (after : List (Vec ℕ A × ℕ)) (Ts : List Shape) (node : Node) (number : ℕ) : Type 0 where
+  pub table : IsTable new after
+  pub grows : Grows Ts (types_of_nodes new)
+  pub type : slice_get (types_of_nodes new) number ≡ Some (type_by node.form (types_at Ts node.parts.items))
+
+module _ {A : Type 0} (nodes new : List Node) (entries after : List (Vec ℕ A × ℕ)) (key : Vec ℕ A) (node : Node) (number : ℕ) where
+  as_new : node.levels ≡ levels_above (map node_view nodes) node.parts.items → new ≡ nodes ++ node ∷ [] → map node_view new ≡ map node_view nodes ++ new_node (map node_view nodes) [] node.form node.parts.items ∷ []
+  as_new levels_is pushed =
+      ap (map node_view) pushed ∙ map-append node_view nodes (node ∷ [])
+      ∙ ap (λ (l : ℕ). map node_view nodes ++ record { form = node.form; parts = node.parts.items; levels = l } ∷ []) levels_is
+
+  pub table_push : (Ts : List Shape) → types_of_nodes nodes ≡ Ts → IsTable nodes entries → AreBelow (length Ts) node.parts.items → HasParts node.form node.parts.items → node.levels ≡ levels_above (map node_view nodes) node.parts.items → key.items ≡ key_of node.form node.parts.items → place_in (places_in entries) (key_of node.form node.parts.items) ≡ None → number ≡ length nodes → after ≡ insert_entry (λ x y. slice_cmp nat_cmp x.items y.items) entries key number → new ≡ nodes ++ node ∷ [] → TablePushed new after Ts node number
+  table_push Ts is are below parts levels_is keyed none count inserted pushed =
+      subst (λ (Us : List Shape). TablePushed new after Us node number) is (record {
+        table = subst (λ (ms : List NodeView). AreNodes (types_after [] ms) ms (places_in after)) (sym (as_new levels_is pushed)) (nodes_push (map node_view nodes) (places_in entries) node.form node.parts.items are here parts none (places_in after) placed);
+        grows = subst (λ (ms : List NodeView). Grows (types_of_nodes nodes) (types_after [] ms)) (sym (as_new levels_is pushed)) (subst (Grows (types_of_nodes nodes)) (sym (push_after (map node_view nodes) (new_node (map node_view nodes) [] node.form node.parts.items) [])) (grows_by (map node_view nodes) (places_in entries) node.form node.parts.items are here parts none));
+        type =
+          ap (λ (ms : List NodeView). slice_get (types_after [] ms) number) (as_new levels_is pushed)
+          ∙ ap (λ (Us : List Shape). slice_get Us number) (push_after (map node_view nodes) (new_node (map node_view nodes) [] node.form node.parts.items) [])
+          ∙ ap (slice_get (types_of_nodes nodes ++ type_by node.form (types_at (types_of_nodes nodes) node.parts.items) ∷ [])) last_place
+          ∙ get_last (types_of_nodes nodes) (type_by node.form (types_at (types_of_nodes nodes) node.parts.items));
+      })
+    where
+      here : AreBelow (length (types_of_nodes nodes)) node.parts.items
+      here = subst (λ (Us : List Shape). AreBelow (length Us) node.parts.items) (sym is) below
+
+      many : number ≡ length (map node_view nodes)
+      many = count ∙ sym (length-map nodes node_view)
+
+      last_place : number ≡ length (types_of_nodes nodes)
+      last_place = let a = count_after (map node_view nodes) [] in let b = many in omega (arith, a, b)
+
+      placed : (k : List ℕ) → place_in (places_in after) k ≡ (if bytes_eq k (key_of node.form node.parts.items) then Some (length (map node_view nodes)) else place_in (places_in entries) k)
+      placed k =
+          ap (λ (es : List (Vec ℕ A × ℕ)). place_in (places_in es) k) inserted ∙ found_inserted key number k entries
+          ∙ ap (λ (w : List ℕ). if bytes_eq k w then Some number else place_in (places_in entries) k) keyed
+          ∙ ap (λ (m : ℕ). if bytes_eq k (key_of node.form node.parts.items) then Some m else place_in (places_in entries) k) many

@@ -1,21 +1,24 @@
 -- Steps of making a plan: fields, members, instances.
-use Rattle.std.proofs.Common.{◌≡◌, ℕ, zero, suc, ◌+◌, ◌<◌, ◌≤◌, List, [], ◌∷◌, ◌++◌, length, map, take, slice_get, Option, Some, None, Ok, Err, Result, Bool, true, false, refl, ap, ap₂, sym, ◌∙◌, subst, arith, append_assoc}
+use Rattle.std.proofs.Common.{◌≡◌, ℕ, zero, suc, ◌+◌, ◌<◌, ◌≤◌, List, [], ◌∷◌, ◌++◌, length, map, take, get_or, slice_get, Option, Some, None, Ok, Err, Result, Bool, true, false, refl, ap, ap₂, sym, ◌∙◌, subst, arith, append_assoc}
 use Rattle.std.specs.List.{flat_map}
 use Rattle.std.proofs.lemmas.List.{append-nil, map-append}
-use Rattle.tl_schema.specs.Types.{Shape}
+use Rattle.tl_schema.specs.Types.{Shape, Shapes}
 use Rattle.tl_schema.specs.Types as type
 use Rattle.tl_schema.specs.Closing.{closed, list_of_shapes}
 use Rattle.tl_schema.specs.Schemas.{Slot, Declared}
-use Rattle.tl_plan.specs.Types.{index_of}
-use Rattle.tl_plan.specs.Entries.{entries_of, fields_at}
-use Rattle.tl_plan.specs.Reached.{Named, fields_named}
-use Rattle.tl_plan.specs.Plans.{AreAmong, InstanceView, MemberView, NamesAmong, instance_of, member_of}
-use Rattle.tl_plan.specs.inner.Nodes.{AreBelow, Grows, type_at, types_at}
-use Rattle.tl_plan.specs.inner.Walks.{IsWork, StartsWith, Walk, Walks, find, find_all, then_walk}
+use Rattle.tl_plan.specs.Types.{arguments_of, index_of}
+use Rattle.tl_plan.specs.Entries.{constructors_of, entries_of, fields_at, functions_of}
+use Rattle.tl_plan.specs.Reached.{Named, fields_named, names_of, unnamed}
+use Rattle.tl_plan.specs.Plans.{AreAmong, InstanceView, MemberView, NamesAmong, instance_of, item_in, member_of}
+use Rattle.tl_plan.specs.inner.Nodes.{AreBelow, Grows, parts_of, type_at, types_at}
+use Rattle.tl_plan.specs.Seen.{HasForm, Shows, member_view}
+use Rattle.tl_plan.specs.declared.instances.Form.{Form}
+use Rattle.tl_plan.specs.declared.instances.Instance.{Instance}
+use Rattle.tl_plan.specs.inner.Walks.{Walk, Walks, find, find_all, then_walk}
 use Rattle.tl_plan.specs.declared.fault.PlanFault.{PlanFault}
 use Rattle.tl_plan.specs.declared.fault.PlanFault.TheVariants.{TypeTooDeep, TooManyInstances, Memory}
 use Rattle.std.proofs.lemmas.Option.{slice_get_within}
-use Rattle.tl_plan.proofs.NodeTypes.{grows_below, grows_types, type_got}
+use Rattle.tl_plan.proofs.NodeTypes.{grows_below, grows_same, grows_then, grows_types, type_got}
 use Rattle.tl_plan.proofs.TypeLists.{index_more}
 use Rattle.tl_plan.proofs.Walking.{find_all_append, found_all}
 
@@ -92,8 +95,8 @@ indices args ts fs = map (λ f. index_of (closed args f.of) ts) fs
 
 -- the types before are the first, and the numbers of those that are reached are among them
 pub record Holds (before Ts : List Shape) (ns : List ℕ) : Type 0 where
-  pub starts : StartsWith Ts before
-  pub work : IsWork Ts ns
+  pub grows : Grows before Ts
+  pub below : AreBelow (length Ts) ns
 
 -- after these fields
 pub record FieldsSoFar (args : List Shape) (i : ℕ) (before : List Shape) (first : List ℕ) (fs : List Slot) (Ts : List Shape) (ns ks : List ℕ) : Type 0 where
@@ -101,11 +104,8 @@ pub record FieldsSoFar (args : List Shape) (i : ℕ) (before : List Shape) (firs
   pub holds : Holds before Ts ns
   pub fields : ks ≡ indices args (types_at Ts ns) fs
 
-pub no_fields : (args : List Shape) (i : ℕ) (before : List Shape) (first : List ℕ) → IsWork before first → FieldsSoFar args i before first [] before first []
-no_fields args i before first work = record { walk = refl; holds = record { starts = ([], sym (append-nil before)); work = work }; fields = refl }
-
-starts_then : (Ts Us Vs : List Shape) → StartsWith Us Ts → StartsWith Vs Us → StartsWith Vs Ts
-starts_then Ts Us Vs p q = (p.0 ++ q.0, q.1 ∙ ap (λ (xs : List Shape). xs ++ q.0) p.1 ∙ append_assoc Ts p.0 q.0)
+pub no_fields : (args : List Shape) (i : ℕ) (before : List Shape) (first : List ℕ) → AreBelow (length before) first → FieldsSoFar args i before first [] before first []
+no_fields args i before first below = record { walk = refl; holds = record { grows = grows_same before; below = below }; fields = refl }
 
 module _ (args : List Shape) (i : ℕ) (before : List Shape) (first : List ℕ) (fs : List Slot) (f : Slot) (Ts : List Shape) (ns fields : List ℕ) (so_far : FieldsSoFar args i before first fs Ts ns fields) where
   -- the type of the next field has a number
@@ -119,11 +119,11 @@ module _ (args : List Shape) (i : ℕ) (before : List Shape) (first : List ℕ) 
     pub closed_within : n < length Us
     closed_within = slice_get_within Us n (closed args f.of) at
 
-    pub closed_work : IsWork Us ns
-    closed_work = record { distinct = grows.distinct; below = grows_below Ts Us ns grows so_far.holds.work.below }
+    pub closed_below : AreBelow (length Us) ns
+    closed_below = grows_below Ts Us ns grows so_far.holds.below
 
     pub closed_same : types_at Us ns ≡ types_at Ts ns
-    closed_same = grows_types Ts Us ns grows so_far.holds.work.below
+    closed_same = grows_types Ts Us ns grows so_far.holds.below
 
     went : find_all start (map (named_field args i) fs) ≡ Ok (types_at Us ns)
     went = so_far.walk ∙ ap Ok (sym closed_same)
@@ -137,7 +137,7 @@ module _ (args : List Shape) (i : ℕ) (before : List Shape) (first : List ℕ) 
         let all = found_all (map (named_field args i) fs) start (types_at Us ns) went in
         record {
           walk = ap (find_all start) (map-append (named_field args i) fs (f ∷ [])) ∙ find_all_push start (types_at Us ns) (types_at Us ms) (map (named_field args i) fs) (named_field args i f) went (as_named (Ok (types_at Us ms)) h.0);
-          holds = record { starts = starts_then before Ts Us so_far.holds.starts (grows.more, grows.extends); work = h.2 };
+          holds = record { grows = grows_then before Ts Us so_far.holds.grows grows; below = h.2 };
           fields =
             ap₂ (λ (xs ys : List ℕ). xs ++ ys)
             (so_far.fields ∙ ap (λ (vs : List Shape). indices args vs fs) (sym closed_same)
@@ -163,8 +163,8 @@ pub record MembersSoFar (S : Declared) (args : List Shape) (before : List Shape)
   pub holds : Holds before Ts ns
   pub members : ms ≡ map (member_of S (types_at Ts ns) args) is
 
-pub no_members : (S : Declared) (args : List Shape) (before : List Shape) (first : List ℕ) → IsWork before first → MembersSoFar S args before first [] before first []
-no_members S args before first work = record { walk = refl; holds = record { starts = ([], sym (append-nil before)); work = work }; members = refl }
+pub no_members : (S : Declared) (args : List Shape) (before : List Shape) (first : List ℕ) → AreBelow (length before) first → MembersSoFar S args before first [] before first []
+no_members S args before first below = record { walk = refl; holds = record { grows = grows_same before; below = below }; members = refl }
 
 flat_append : {X Y : Type 0} (f : X → List Y) (xs ys : List X) → flat_map f (xs ++ ys) ≡ flat_map f xs ++ flat_map f ys
 flat_append f [] ys = refl
@@ -183,7 +183,7 @@ module _ (S : Declared) (args : List Shape) (before : List Shape) (first : List 
           ap (find_all begun) (flat_append (fields_named S args) is (i ∷ []) ∙ ap (λ (ys : List Named). flat_map (fields_named S args) is ++ ys) (append-nil (fields_named S args i)))
           ∙ find_all_append begun (flat_map (fields_named S args) is) (fields_named S args i)
           ∙ ap (λ (w : Walk). then_walk w (λ vs. find_all vs (fields_named S args i))) so_far.walk ∙ h.0;
-        holds = record { starts = starts_then before Ts Us so_far.holds.starts h.1; work = h.2 };
+        holds = record { grows = grows_then before Ts Us so_far.holds.grows h.1; below = h.2 };
         members =
           ap₂ (λ (xs ys : List MemberView). xs ++ ys)
           (so_far.members ∙ sym (ap (λ (vs : List Shape). map (member_of S vs args) is) found.starts ∙ members_stay S args (types_at Ts ns) found.more is all.each))
@@ -195,3 +195,63 @@ module _ (S : Declared) (args : List Shape) (before : List Shape) (first : List 
   member_fails rest Us after ms js e P Q h =
       fails (find_all (types_at Ts ns) (fields_named S args i)) (find_all begun (flat_map (fields_named S args) (is ++ i ∷ rest))) Ts Us before after ms js e P Q h
       (λ stopped. ap (find_all begun) (flat_append (fields_named S args) is (i ∷ rest)) ∙ find_all_fails_in begun (types_at Ts ns) (flat_map (fields_named S args) is) (fields_named S args i) (flat_map (fields_named S args) rest) e so_far.walk stopped)
+
+-- ---- instances
+
+-- the type names the types of the fields of these declarations, applied to these types
+record NamesBy (S : Declared) (T : Shape) (As : List Shape) (is : List ℕ) : Type 0 where
+  named : names_of S T ≡ flat_map (fields_named S As) is
+  no_item : (ts : List Shape) → item_in ts T ≡ None
+  arguments : As ≡ arguments_of T
+  entries : is ≡ entries_of S T
+
+-- a type with these declarations
+pub record_shows : (S : Declared) (T : Shape) (f : Form) (As : List Shape) (entries : List ℕ) (old new : List Shape) (first ns : List ℕ) (result : Result Instance PlanFault) → HasForm T f → NamesBy S T As entries → Walks (find_all (types_at old first) (flat_map (fields_named S As) entries)) old new ns result (λ i. (i.form ≡ f) × (i.item ≡ None) × (map member_view i.members.items ≡ map (member_of S (types_at new ns) As) entries)) → Walks (find_all (types_at old first) (names_of S T)) old new ns result (λ i. Shows (instance_of S (types_at new ns) T) i)
+record_shows S T f As entries old new first ns (Ok i) form names h =
+    (ap (find_all (types_at old first)) names.named ∙ h.0, h.1, h.2, record {
+      form = subst (HasForm T) (sym h.3.0) form;
+      item = h.3.1 ∙ sym (names.no_item (types_at new ns));
+      members = h.3.2 ∙ ap₂ (λ (Us : List Shape) (is : List ℕ). map (member_of S (types_at new ns) Us) is) names.arguments names.entries;
+    })
+record_shows S T f As entries old new first ns (Err (TypeTooDeep d)) form names h = ap (find_all (types_at old first)) names.named ∙ h
+record_shows S T f As entries old new first ns (Err TooManyInstances) form names h = ap (find_all (types_at old first)) names.named ∙ h
+record_shows S T f As entries old new first ns (Err Memory) form names h = tt
+
+pub boxed_names : (S : Declared) (T : Shape) (h : ℕ) (args : Shapes) (As : List Shape) (entries : List ℕ) → T ≡ type.boxed h args → As ≡ parts_of T → entries ≡ constructors_of S h → NamesBy S T As entries
+boxed_names S T h args As entries is parts these = subst (λ (U : Shape). NamesBy S U As entries) (sym is) (record {
+  named = sym (ap₂ (λ (Us : List Shape) (is : List ℕ). flat_map (fields_named S Us) is) (parts ∙ ap parts_of is) these);
+  no_item = λ ts. refl;
+  arguments = parts ∙ ap parts_of is;
+  entries = these;
+})
+
+pub bare_names : (S : Declared) (T : Shape) (i : ℕ) (args : Shapes) (As : List Shape) (entries : List ℕ) → T ≡ type.bare i args → As ≡ parts_of T → entries ≡ i ∷ [] → NamesBy S T As entries
+bare_names S T i args As entries is parts these = subst (λ (U : Shape). NamesBy S U As entries) (sym is) (record {
+  named = sym (ap₂ (λ (Us : List Shape) (is : List ℕ). flat_map (fields_named S Us) is) (parts ∙ ap parts_of is) these);
+  no_item = λ ts. refl;
+  arguments = parts ∙ ap parts_of is;
+  entries = these;
+})
+
+pub call_names : (S : Declared) (T : Shape) (As : List Shape) (entries : List ℕ) → T ≡ type.call → As ≡ parts_of T → entries ≡ functions_of S → NamesBy S T As entries
+call_names S T As entries is parts these = subst (λ (U : Shape). NamesBy S U As entries) (sym is) (record {
+  named = sym (ap₂ (λ (Us : List Shape) (is : List ℕ). flat_map (fields_named S Us) is) (parts ∙ ap parts_of is) these);
+  no_item = λ ts. refl;
+  arguments = parts ∙ ap parts_of is;
+  entries = these;
+})
+
+-- ---- a vector
+
+pub one_part : (Ts : List Shape) (parts : List ℕ) → length parts ≡ 1 → types_at Ts parts ≡ type_at Ts (get_or parts 0 0) ∷ []
+one_part Ts [] e = absurd (omega (arith, e))
+one_part Ts (k ∷ []) e = refl
+one_part Ts (k ∷ j ∷ ks) e = absurd (omega (arith, e))
+
+pub vector_fails : {A B : Type 0} (S : Declared) (Ts : List Shape) (parts : List ℕ) (ts : List Shape) (old new : List Shape) (ns ms : List ℕ) (e : PlanFault) (P : A → Type 0) (Q : B → Type 0) → length parts ≡ 1 → Walks (find ts (record { of = type_at Ts (get_or parts 0 0); decl = length S.decls })) Ts Ts ns (Err e) P → Walks (find_all ts (unnamed S (types_at Ts parts))) old new ms (Err e) Q
+vector_fails S Ts parts ts old new ns ms e P Q one h =
+    fails (find ts (record { of = type_at Ts (get_or parts 0 0); decl = length S.decls })) (find_all ts (unnamed S (types_at Ts parts))) Ts Ts old new ns ms e P Q h
+    (λ stopped. ap (λ (Us : List Shape). find_all ts (unnamed S Us)) (one_part Ts parts one) ∙ ap (λ (w : Walk). then_walk w (λ us. find_all us [])) stopped)
+
+pub vector_walk : (S : Declared) (Ts : List Shape) (parts : List ℕ) (ts us : List Shape) → length parts ≡ 1 → find ts (record { of = type_at Ts (get_or parts 0 0); decl = length S.decls }) ≡ Ok us → find_all ts (unnamed S (types_at Ts parts)) ≡ Ok us
+vector_walk S Ts parts ts us one went = ap (λ (Us : List Shape). find_all ts (unnamed S Us)) (one_part Ts parts one) ∙ ap (λ (w : Walk). then_walk w (λ vs. find_all vs [])) went

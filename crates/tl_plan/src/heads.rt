@@ -18,9 +18,10 @@ impl Heads {
         ensures heads { IfOk result (λ h. AreHeads schema.now (lists_of h.constructors.items) h.functions.items) }
         ensures sound { IsSchema schema.now }
     {
+        let count = schema.count();
         let mut constructors = no_lists(alloc, schema.type_count())?;
         let mut functions = Vec::new(alloc);
-        for i in 0..schema.count() {
+        for i in 0..count {
             let entry = schema.entry(i);
             note(&mut constructors, entry.head, i)?;
             add_if(&mut functions, entry.function, i)?;

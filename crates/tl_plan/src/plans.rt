@@ -3,7 +3,7 @@ ghost use Rattle.std.specs.Prelude.{◌≡◌, ◌<◌, length};
 ghost use Rattle.tl_plan.specs.Plans.{IsPlan, plan_of};
 ghost use Rattle.tl_plan.specs.Seen.{ShowsAt};
 ghost use Rattle.tl_plan.specs.inner.Nodes.{types_at};
-ghost use Rattle.tl_plan.specs.inner.Walks.{AreShown};
+ghost use Rattle.tl_plan.specs.inner.Walks.{IsMade};
 
 use crate::instances::Instance;
 use crate::queue::Queue;
@@ -22,10 +22,10 @@ pub struct Plan<'s> {
 }
 
 impl<'s> Model for Plan<'s> {
-    ghost use Rattle.tl_plan.specs.Plans.{IsPlan, PlanView, plan_of};
+    ghost use Rattle.tl_plan.specs.Plans.{PlanView, plan_of};
     ghost use Rattle.tl_plan.specs.inner.PlanCodes.{plan_code};
     ghost use Rattle.tl_plan.specs.inner.Nodes.{types_at};
-    ghost use Rattle.tl_plan.specs.inner.Walks.{AreShown};
+    ghost use Rattle.tl_plan.specs.inner.Walks.{IsMade};
 
     ghost Value = { PlanView };
 
@@ -33,7 +33,7 @@ impl<'s> Model for Plan<'s> {
 
     ghost view = { λ p. plan_of p.schema.now p.roots (types_at p.table p.queue) };
 
-    ghost invariant = { λ p. IsPlan (plan_of p.schema.now p.roots (types_at p.table p.queue)) × AreShown p.schema.now (types_at p.table p.queue) p.instances.items };
+    ghost invariant = { λ p. IsMade p.schema.now p.roots (types_at p.table p.queue) p.instances.items };
 }
 
 impl<'s> Plan<'s> {
@@ -44,8 +44,7 @@ impl<'s> Plan<'s> {
         queue: Queue,
         instances: Vec<Instance>,
     ) -> Plan<'s>
-        requires plan { IsPlan (plan_of schema.now roots (types_at table queue)) }
-        requires shown { AreShown schema.now (types_at table queue) instances.items }
+        requires { IsMade schema.now roots (types_at table queue) instances.items }
         ensures { result ≡ plan_of schema.now roots (types_at table queue) }
     {
         Plan {

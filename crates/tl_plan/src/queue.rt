@@ -1,9 +1,9 @@
 //! The types that are reached, in order.
-ghost use Rattle.std.specs.Prelude.{◌≡◌, ◌<◌, ◌≤◌, [], length, slice_get, Some};
-ghost use Rattle.tl_plan.specs.inner.Queues.{Adds, Meets, found_in};
+ghost use Rattle.std.specs.Prelude.{◌≡◌, ◌<◌, ◌≤◌, [], OnErr, OnOk, length, slice_get, Some};
+ghost use Rattle.tl_plan.specs.inner.Queues.{Adds, KeepsFirst, Meets};
 
 use crate::fault::{MAX_INSTANCES, MAX_LEVELS, PlanFault};
-use std::alloc::Global;
+use std::alloc::{AllocError, Global};
 use std::collections::BTreeMap;
 use std::marker::Model;
 
@@ -73,10 +73,19 @@ impl Queue {
             return Err(PlanFault::TooManyInstances);
         }
         self.nodes.reserve(1)?;
-        if self.places.get(&node).is_none() {
-            self.places.insert(node, place)?;
-        }
+        keep_first(&mut self.places, node, place)?;
         self.nodes.push_reserved(node);
         Ok(place)
     }
+}
+
+// Notes where a type stands, unless it stands somewhere already.
+fn keep_first(places: &mut BTreeMap<u32, u32>, node: u32, place: u32) -> Result<(), AllocError>
+    ensures kept { OnOk result (KeepsFirst places.old.entries places.new.entries node place) }
+    ensures unchanged { OnErr result (places.new.entries ≡ places.old.entries) }
+{
+    if places.get(&node).is_none() {
+        places.insert(node, place)?;
+    }
+    Ok(())
 }

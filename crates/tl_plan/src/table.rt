@@ -64,12 +64,15 @@ impl Table {
         ensures number { IfOk result (λ n. slice_get self.new n ≡ Some (type_by form (types_at self.old parts.items))) }
     {
         let key = key_of(alloc, form, &parts)?;
-        if let Some(number) = self.numbers.get(key.as_slice()).copied() {
-            return Ok(number);
+        match self.numbers.get(key.as_slice()).copied() {
+            Some(number) => return Ok(number),
+            None => {}
         }
-        let Ok(number) = u32::try_from(self.nodes.len()) else {
+        let count = self.nodes.len();
+        if count > u32::MAX as usize {
             return Err(AllocError);
-        };
+        }
+        let number = count as u32;
         let levels = levels_above(&self.nodes, &parts);
         self.nodes.reserve(1)?;
         self.numbers.insert(key, number)?;

@@ -8,7 +8,7 @@ ghost use Rattle.tl_plan.specs.Reached.{fields_named, names_of, unnamed};
 ghost use Rattle.tl_plan.specs.Plans.{instance_of, member_of};
 ghost use Rattle.tl_plan.specs.Seen.{Shows, member_view};
 ghost use Rattle.tl_plan.specs.inner.Nodes.{AreBelow, first_of, type_at, types_at};
-ghost use Rattle.tl_plan.specs.inner.Walks.{AreHeads, IsWork, Walks, add_all, find_all, lists_of};
+ghost use Rattle.tl_plan.specs.inner.Walks.{AreHeads, Walks, add_all, find_all, lists_of};
 
 use crate::closing::close;
 use crate::fault::PlanFault;
@@ -27,7 +27,7 @@ pub fn reach(
     table: &mut Table,
     queue: &mut Queue,
 ) -> Result<(), PlanFault>
-    requires { IsWork table.old queue.old }
+    requires { AreBelow (length table.old) queue.old }
     ensures { Walks (add_all (types_at table.old queue.old) (unnamed schema.now (map shape roots.now))) table.old table.new queue.new result (λ _. Unit {0}) }
 {
     let none = schema.count();
@@ -48,7 +48,7 @@ pub fn instance(
     queue: &mut Queue,
 ) -> Result<Instance, PlanFault>
     requires heads { AreHeads schema.now (lists_of heads.now.constructors.items) heads.now.functions.items }
-    requires work { IsWork table.old queue.old }
+    requires queue { AreBelow (length table.old) queue.old }
     requires within { node < length table.old }
     ensures { Walks (find_all (types_at table.old queue.old) (names_of schema.now (type_at table.old node))) table.old table.new queue.new result (λ i. Shows (instance_of schema.now (types_at table.new queue.new) (type_at table.old node)) i) }
 {
@@ -79,7 +79,7 @@ fn vector(
     table: &Table,
     queue: &mut Queue,
 ) -> Result<Instance, PlanFault>
-    requires work { IsWork table.now queue.old }
+    requires queue { AreBelow (length table.now) queue.old }
     requires below { AreBelow (length table.now) parts.now }
     requires parts { length parts.now ≡ 1 }
     ensures { Walks (find_all (types_at table.now queue.old) (unnamed schema.now (types_at table.now parts.now))) table.now table.now queue.new result (λ i. (i.form ≡ form) × (i.item ≡ Some (index_of (first_of (types_at table.now parts.now)) (types_at table.now queue.new))) × (i.members.items ≡ [])) }
@@ -102,7 +102,7 @@ fn record(
     table: &mut Table,
     queue: &mut Queue,
 ) -> Result<Instance, PlanFault>
-    requires work { IsWork table.old queue.old }
+    requires queue { AreBelow (length table.old) queue.old }
     requires below { AreBelow (length table.old) args.now }
     ensures { Walks (find_all (types_at table.old queue.old) (flat_map (fields_named schema.now (types_at table.old args.now)) entries.now)) table.old table.new queue.new result (λ i. (i.form ≡ form) × (i.item ≡ None) × (map member_view i.members.items ≡ map (member_of schema.now (types_at table.new queue.new) (types_at table.old args.now)) entries.now)) }
 {
@@ -126,7 +126,7 @@ fn member(
     table: &mut Table,
     queue: &mut Queue,
 ) -> Result<Member, PlanFault>
-    requires work { IsWork table.old queue.old }
+    requires queue { AreBelow (length table.old) queue.old }
     requires below { AreBelow (length table.old) args.now }
     ensures { Walks (find_all (types_at table.old queue.old) (fields_named schema.now (types_at table.old args.now) entry)) table.old table.new queue.new result (λ m. member_view m ≡ member_of schema.now (types_at table.new queue.new) (types_at table.old args.now) entry) }
 {

@@ -22,11 +22,10 @@ AreBelow n (k ∷ ks) = (k < n) × AreBelow n ks
 abbrev pub AreDistinct : List Shape → Type 0
 AreDistinct Ts = (i j : ℕ) (T : Shape) → slice_get Ts i ≡ Some T → slice_get Ts j ≡ Some T → i ≡ j
 
--- types came to the end, and no type stands there twice
+-- types came to the end
 pub record Grows (old new : List Shape) : Type 0 where
   pub more : List Shape
   pub extends : new ≡ old ++ more
-  pub distinct : AreDistinct new
 
 -- ---- one type
 

@@ -1,5 +1,5 @@
 -- The types of a plan in the order in which they are reached, by their numbers. This project's own.
-use Rattle.std.specs.Prelude.{◌≡◌, ◌⊎◌, ℕ, zero, suc, ◌<◌, ◌≤◌, List, [], ◌∷◌, ◌++◌, length, Option, Some, None, ◌==◌, if◌then◌else◌, Result, Ok, Err}
+use Rattle.std.specs.Prelude.{◌≡◌, ◌⊎◌, ℕ, zero, suc, ◌<◌, ◌≤◌, List, [], ◌∷◌, ◌++◌, length, Option, Some, None, is_none, ◌==◌, ◌&&◌, if◌then◌else◌, Result, Ok, Err}
 use Rattle.std.specs.Option.{option_map}
 use Rattle.std.specs.Map.{lookup}
 use Rattle.std.specs.Ordering.{is_eq, nat_cmp}
@@ -18,6 +18,10 @@ place_of places n = lookup (λ k. is_eq (nat_cmp n k)) places
 pub record IsQueue (ns : List ℕ) (places : List (ℕ × ℕ)) : Type 0 where
   pub few : length ns ≤ MAX_INSTANCES
   pub noted : (n : ℕ) → place_of places n ≡ found_in ns n
+
+-- the number has this place if it had none, and each other number has the place that it had
+abbrev pub KeepsFirst : List (ℕ × ℕ) → List (ℕ × ℕ) → ℕ → ℕ → Type 0
+KeepsFirst old new node place = (n : ℕ) → place_of new n ≡ (if n == node && is_none (place_of old node) then Some place else place_of old n)
 
 -- the type of so many levels, which declaration decl names, came to the end, or is refused
 abbrev pub Adds : List ℕ → List ℕ → ℕ → ℕ → ℕ → Result ℕ PlanFault → Type 0

@@ -2,12 +2,12 @@
 use Rattle.std.specs.Prelude.{◌≡◌, ℕ, zero, suc, ◌<◌, List, [], ◌∷◌, ◌++◌, length, map, take, true, Option, Some, None, Result, Ok, Err, nat_lt, if◌then◌else◌, slice_get, get_or, Vec}
 use Rattle.tl_schema.specs.Types.{Shape}
 use Rattle.tl_schema.specs.Schemas.{Declared}
-use Rattle.tl_plan.specs.Types.{arguments_of, is_among, levels}
-use Rattle.tl_plan.specs.Entries.{constructors_of, entries_of, functions_of}
+use Rattle.tl_plan.specs.Types.{is_among, levels}
+use Rattle.tl_plan.specs.Entries.{constructors_of, functions_of}
 use Rattle.tl_plan.specs.Reached.{Named, names_of, unnamed}
-use Rattle.tl_plan.specs.Plans.{InstanceView, MemberView, instance_of, NamesAmong}
-use Rattle.tl_plan.specs.Seen.{Shows, member_view}
-use Rattle.tl_plan.specs.inner.Nodes.{AreBelow, AreDistinct, types_at}
+use Rattle.tl_plan.specs.Plans.{IsPlan, NamesAmong, instance_of, plan_of}
+use Rattle.tl_plan.specs.Seen.{Shows}
+use Rattle.tl_plan.specs.inner.Nodes.{AreBelow, Grows, types_at}
 use Rattle.tl_plan.specs.declared.instances.Instance.{Instance}
 use Rattle.tl_plan.specs.declared.fault.PlanFault.{PlanFault}
 use Rattle.tl_plan.specs.declared.fault.PlanFault.TheVariants.{TypeTooDeep, TooManyInstances, Memory}
@@ -54,17 +54,10 @@ walked S roots (suc n) = then_walk (walked S roots n) (expand S n)
 
 -- ---- what the code has
 
--- types by number, and the numbers of those that are reached
-pub record IsWork (Ts : List Shape) (ns : List ℕ) : Type 0 where
-  pub distinct : AreDistinct Ts
-  pub below : AreBelow (length Ts) ns
-
-abbrev pub StartsWith : List Shape → List Shape → Type 0
-StartsWith new old = (more : List Shape) × (new ≡ old ++ more)
-
--- the walk came so far, with this answer, or it ended with this fault; out of memory is free
+-- The walk came so far, with this answer, or it ended with this fault; out of memory is free. The types have numbers, old ones and new, and those
+-- that are reached are among them.
 abbrev pub Walks : {A : Type 0} → Walk → List Shape → List Shape → List ℕ → Result A PlanFault → (A → Type 0) → Type 0
-Walks walk old new ns (Ok x) P = (walk ≡ Ok (types_at new ns)) × StartsWith new old × IsWork new ns × P x
+Walks walk old new ns (Ok x) P = (walk ≡ Ok (types_at new ns)) × Grows old new × AreBelow (length new) ns × P x
 Walks walk old new ns (Err Memory) P = Unit {0}
 Walks walk old new ns (Err fault) P = walk ≡ Err fault
 
@@ -86,6 +79,12 @@ pub record AreHeads (S : Declared) (lists : List (List ℕ)) (called : List ℕ)
 
 -- ---- instances
 
--- instance k stands for type k, of which the types that it names are there
+-- instance k stands for type k, and the types that this names are there
 pub record AreShown (S : Declared) (ts : List Shape) (instances : List Instance) : Type 0 where
   pub shown : (k : ℕ) (T : Shape) (i : Instance) → slice_get ts k ≡ Some T → slice_get instances k ≡ Some i → Shows (instance_of S ts T) i × NamesAmong S ts T
+
+-- each type has its instance
+pub record IsMade (S : Declared) (roots : ℕ) (ts : List Shape) (instances : List Instance) : Type 0 where
+  pub plan : IsPlan (plan_of S roots ts)
+  pub count : length instances ≡ length ts
+  pub shown : AreShown S ts instances
