@@ -1,5 +1,5 @@
 -- Walks against what is reached: the types are those, none of them too deep, or the walk stops at the first that is too deep or too many.
-use Rattle.std.proofs.Common.{◌≡◌, ℕ, zero, suc, ◌+◌, ◌-◌, ◌<◌, ◌≤◌, List, [], ◌∷◌, ◌++◌, length, map, take, slice_get, Option, Some, None, Ok, Err, Result, Bool, true, false, refl, ap, ap₂, sym, ◌∙◌, subst, append_assoc, nat_lt, if◌then◌else◌, arith, true≢false, length-append}
+use Rattle.std.proofs.Common.{◌≡◌, ℕ, zero, suc, ◌+◌, ◌-◌, ◌<◌, ◌≤◌, List, [], ◌∷◌, ◌++◌, length, take, slice_get, Option, Some, None, Ok, Err, Bool, true, false, refl, ap, sym, ◌∙◌, subst, append_assoc, nat_lt, if◌then◌else◌, arith, length-append}
 use Rattle.std.proofs.lemmas.List.{append-nil, map-append, length-map, take_all}
 use Rattle.std.proofs.lemmas.Option.{slice_get-map, slice_get_past}
 use Rattle.std.specs.Option.{option_map}
@@ -7,7 +7,7 @@ use Rattle.std.proofs.lemmas.Bool.Decides.{nat_tests}
 use Rattle.tl_schema.specs.Types.{Shape}
 use Rattle.tl_schema.specs.Schemas.{Declared}
 use Rattle.tl_plan.specs.Types.{is_among, levels}
-use Rattle.tl_plan.specs.Reached.{Named, all_reached, first_too_deep, meet, meet_all, named_by, names_of, reached, types_in, unnamed}
+use Rattle.tl_plan.specs.Reached.{Named, all_reached, first_too_deep, meet, meet_all, named_by, reached, types_in, unnamed}
 use Rattle.tl_plan.specs.Plans.{answer, answer_by, plan_of}
 use Rattle.tl_plan.specs.declared.fault.PlanFault.{PlanFault}
 use Rattle.tl_plan.specs.declared.fault.PlanFault.TheVariants.{TypeTooDeep, TooManyInstances, Memory}

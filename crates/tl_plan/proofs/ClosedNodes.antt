@@ -1,5 +1,5 @@
 -- Types with others in place of their variables, by numbers.
-use Rattle.std.proofs.Common.{◌≡◌, ℕ, zero, suc, ◌+◌, ◌<◌, ◌≤◌, List, [], ◌∷◌, ◌++◌, length, map, take, get_or, slice_get, Bool, Some, refl, ap, ap₂, sym, ◌∙◌, subst, arith}
+use Rattle.std.proofs.Common.{◌≡◌, ℕ, zero, suc, ◌≤◌, List, [], ◌∷◌, ◌++◌, length, map, get_or, slice_get, Bool, Some, refl, ap, ap₂, sym, ◌∙◌, arith}
 use Rattle.std.proofs.lemmas.List.{map-append, length-map, get_or_past}
 use Rattle.std.proofs.lemmas.Option.{slice_get_within}
 use Rattle.tl_schema.specs.Types.{Shape, Shapes, shapes_of}
@@ -7,7 +7,7 @@ use Rattle.tl_schema.specs.Types as type
 use Rattle.tl_schema.specs.Closing.{closed, closed_each}
 use Rattle.tl_plan.specs.inner.Nodes.{AreBelow, Grows, type_at, type_by, types_at}
 use Rattle.tl_plan.specs.declared.instances.Form.TheVariants as form
-use Rattle.tl_plan.proofs.NodeTypes.{below_at, below_push, get_type, grows_below, grows_same, grows_then, grows_types, type_got}
+use Rattle.tl_plan.proofs.NodeTypes.{below_at, below_push, get_type, grows_below, grows_then, grows_types, type_got}
 
 -- ---- one type
 
@@ -43,9 +43,9 @@ module _ (before : List Shape) (args : List ℕ) (Us : List Shape) (U : Shape) (
     argued = grows_below Ts Vs args grows so_far.argued;
     below = below_push (length Vs) ns n (grows_below Ts Vs ns grows so_far.below) (slice_get_within Vs n _ at);
     types =
-      map-append (type_at Vs) ns (n ∷ [])
-      ∙ ap₂ (λ (xs : List Shape) (x : Shape). xs ++ x ∷ []) (grows_types Ts Vs ns grows so_far.below ∙ so_far.types) (type_got Vs n _ at ∙ ap (λ (xs : List Shape). closed xs U) (grows_types before Ts args so_far.grows argued))
-      ∙ sym (map-append (closed (types_at before args)) Us (U ∷ []));
+        map-append (type_at Vs) ns (n ∷ [])
+        ∙ ap₂ (λ (xs : List Shape) (x : Shape). xs ++ x ∷ []) (grows_types Ts Vs ns grows so_far.below ∙ so_far.types) (type_got Vs n _ at ∙ ap (λ (xs : List Shape). closed xs U) (grows_types before Ts args so_far.grows argued))
+        ∙ sym (map-append (closed (types_at before args)) Us (U ∷ []));
   }
 
 pub each_closed : (args : List Shape) (Us : List Shape) → shapes_of (map (closed args) Us) ≡ closed_each args (shapes_of Us)

@@ -1,13 +1,12 @@
 -- The declarations of a type: they are those that they should be.
-use Rattle.std.proofs.Common.{◌≡◌, ℕ, zero, suc, ◌+◌, ◌<◌, ◌≤◌, List, [], ◌∷◌, length, slice_get, Option, Some, None, Bool, true, false, refl, ap, sym, ◌∙◌, subst, nat_lt, if◌then◌else◌, arith, true≢false, eq-eqb, eqb-true, ◌==◌}
+use Rattle.std.proofs.Common.{◌≡◌, ℕ, zero, suc, ◌+◌, ◌<◌, List, [], ◌∷◌, length, slice_get, Some, Bool, true, false, refl, ap, ◌∙◌, nat_lt, if◌then◌else◌, arith, eq-eqb, eqb-true, ◌==◌}
 use Rattle.std.proofs.lemmas.Bool.Decides.{nat_tests}
 use Rattle.tl_names.specs.Places.{types_of}
-use Rattle.tl_schema.specs.Types.{Shapes, boxed, call}
 use Rattle.tl_schema.specs.Schemas.{Declaration, Declared}
 use Rattle.tl_schema.specs.Formed.{IsFunction, IsMember}
-use Rattle.tl_plan.specs.Entries.{constructors_of, entries_of, functions_of, indices_from}
-use Rattle.tl_plan.specs.PlanLaws.{AreThose, EntriesAreDeclared, HasEntries, StandsIn}
-use Rattle.tl_plan.proofs.TypeLists.{by_test, none_some, some_is}
+use Rattle.tl_plan.specs.Entries.{constructors_of, functions_of, indices_from}
+use Rattle.tl_plan.specs.PlanLaws.{AreThose, EntriesAreDeclared, StandsIn}
+use Rattle.tl_plan.proofs.TypeLists.{none_some, some_is}
 
 module _ (test : Declaration → Bool) where
   -- declaration i + m passes

@@ -1,5 +1,5 @@
 -- What flags and formed types reach are flags and formed types.
-use Rattle.std.proofs.Common.{◌≡◌, ◌⊎◌, inl, inr, ℕ, zero, suc, ◌+◌, List, [], ◌∷◌, ◌++◌, length, map, slice_get, Option, Some, None, Ok, Err, Bool, true, false, refl, ap, sym, ◌∙◌, subst, if◌then◌else◌, nat_lt}
+use Rattle.std.proofs.Common.{◌≡◌, ◌⊎◌, inl, inr, ℕ, zero, suc, List, [], ◌∷◌, ◌++◌, length, map, slice_get, Option, Some, None, Ok, Err, Bool, true, false, refl, ap, sym, ◌∙◌, subst, if◌then◌else◌, nat_lt}
 use Rattle.std.specs.List.{flat_map}
 use Rattle.std.specs.Option.{option_map}
 use Rattle.std.proofs.lemmas.Option.{slice_get-map}
@@ -8,14 +8,13 @@ use Rattle.tl_schema.specs.Types as type
 use Rattle.tl_schema.specs.Closing.{closed, list_of_shapes}
 use Rattle.tl_schema.specs.Schemas.{Slot, Declaration, Declared}
 use Rattle.tl_schema.specs.CheckedPrograms.{IsSchema}
-use Rattle.tl_schema.specs.Formed.{IsFormed, IsFunction, IsMember, IsOwn, AreArguments, count_of, field_variables}
+use Rattle.tl_schema.specs.Formed.{IsFormed, IsOwn, AreArguments, count_of, field_variables}
 use Rattle.tl_schema.proofs.FieldsFormed.{fields_are_formed}
 use Rattle.tl_schema.proofs.ClosedFormed.{closing_keeps_formed}
 use Rattle.tl_plan.specs.Types.{is_among, levels}
 use Rattle.tl_plan.specs.Entries.{constructors_of, fields_at, fields_in, functions_of}
 use Rattle.tl_plan.specs.Reached.{Named, fields_named, names_of, unnamed}
 use Rattle.tl_plan.specs.Plans.{AreFormed, IsFlagOrFormed}
-use Rattle.tl_plan.specs.PlanLaws.{StandsIn}
 use Rattle.tl_plan.specs.declared.fault.PlanFault.TheVariants.{TypeTooDeep, TooManyInstances}
 use Rattle.tl_plan.specs.declared.fault.TheConstants.{MAX_INSTANCES, MAX_LEVELS}
 use Rattle.tl_plan.specs.inner.Walks.{Walk, add, add_all, expand, find, find_all, names_by, then_walk, walked}

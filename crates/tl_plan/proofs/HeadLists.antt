@@ -1,11 +1,11 @@
 -- The constructors of each type and the functions, collected over the declarations.
-use Rattle.std.proofs.Common.{◌≡◌, ℕ, zero, suc, ◌+◌, ◌<◌, ◌≤◌, List, [], ◌∷◌, ◌++◌, length, map, take, replicate, get_or, set, slice_get, Some, None, Bool, true, false, refl, ap, ap₂, sym, ◌∙◌, subst, arith, append_assoc, if◌then◌else◌, nat_lt, ◌==◌, eqb-true, Vec}
+use Rattle.std.proofs.Common.{◌≡◌, ℕ, zero, suc, ◌+◌, ◌<◌, ◌≤◌, List, [], ◌∷◌, ◌++◌, length, take, replicate, get_or, set, slice_get, Some, Bool, true, false, refl, ap, ap₂, sym, ◌∙◌, arith, if◌then◌else◌, nat_lt, ◌==◌, eqb-true, Vec}
 use Rattle.std.proofs.lemmas.Bool.Decides.{nat_tests}
-use Rattle.std.proofs.lemmas.List.{append-nil, get_or_past, map_push, take_all, length-take}
+use Rattle.std.proofs.lemmas.List.{get_or_past, map_push, take_all, length-take}
 use Rattle.tl_names.specs.Places.{types_of}
 use Rattle.tl_names.proofs.Maps.{take_push}
 use Rattle.tl_schema.specs.Schemas.{Declaration, Declared}
-use Rattle.tl_plan.specs.Entries.{constructors_of, functions_of, indices_from}
+use Rattle.tl_plan.specs.Entries.{constructors_of, indices_from}
 use Rattle.tl_plan.specs.inner.Walks.{AreHeads, lists_of, noted}
 use Rattle.tl_plan.proofs.TypeLists.{by_test}
 
@@ -78,12 +78,12 @@ module _ (S : Declared) (n : ℕ) (lists : List (List ℕ)) (functions : List �
   next_heads = record {
     count = noted_length lists d.head n ∙ so_far.count;
     each = λ h below. by_test (d.head == h)
-      (λ same.
+        (λ same.
         let here : d.head ≡ h = eqb-true d.head h same in
         let less : h < length lists = let e = noted_length lists d.head n in omega (arith, e, below) in
         ap (λ (g : ℕ). get_or (noted lists g n) h []) here ∙ noted_here lists h n less
         ∙ ap (λ (is : List ℕ). is ++ n ∷ []) (so_far.each h less) ∙ sym (more (λ c. c.head == h) ∙ ap (λ b. if b then indices_from 0 (λ c. c.head == h) (take n S.decls) ++ n ∷ [] else indices_from 0 (λ c. c.head == h) (take n S.decls)) same))
-      (λ other.
+        (λ other.
         let apart : d.head ≡ h → ⊥ = λ e. grind (arith, nat_tests) in
         let less : h < length lists = let e = noted_length lists d.head n in omega (arith, e, below) in
         noted_apart lists d.head h n apart ∙ so_far.each h less ∙ sym (more (λ c. c.head == h) ∙ ap (λ b. if b then indices_from 0 (λ c. c.head == h) (take n S.decls) ++ n ∷ [] else indices_from 0 (λ c. c.head == h) (take n S.decls)) other));
@@ -95,11 +95,11 @@ all_heads S n lists functions so_far past = record { constructors = each; functi
   where
     each : (h : ℕ) → get_or lists h [] ≡ constructors_of S h
     each h = by_test (nat_lt h (length (types_of S.program)))
-      (λ known.
+        (λ known.
         let below : h < length (types_of S.program) = grind (arith, nat_tests) in
         let e = so_far.count in
         so_far.each h (omega (arith, e, below)) ∙ ap (indices_from 0 (λ d. d.head == h)) (take_all n S.decls past) ∙ sym (ap (λ b. if b then indices_from 0 (λ d. d.head == h) S.decls else []) known))
-      (λ unknown.
+        (λ unknown.
         let beyond : length (types_of S.program) ≤ h = grind (arith, nat_tests) in
         let e = so_far.count in
         get_or_past lists h [] (omega (arith, e, beyond)) ∙ sym (ap (λ b. if b then indices_from 0 (λ d. d.head == h) S.decls else []) unknown))

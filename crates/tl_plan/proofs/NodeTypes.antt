@@ -1,11 +1,11 @@
 -- Types by numbers: what their lists are when types come to the end.
-use Rattle.std.proofs.Common.{◌≡◌, ℕ, zero, suc, ◌+◌, ◌<◌, ◌≤◌, ◌^◌, ◌-◌, min, max, List, [], ◌∷◌, ◌++◌, length, map, get_or, slice_get, Option, Some, None, Bool, true, false, refl, ap, ap₂, sym, ◌∙◌, subst, arith, append_assoc, length-append, if◌then◌else◌, ◌==◌}
-use Rattle.std.proofs.lemmas.List.{append-nil, get_or_append_left, length-map}
-use Rattle.std.proofs.lemmas.Option.{slice_get-get_or, slice_get_within, get_or_from_slice_get}
+use Rattle.std.proofs.Common.{◌≡◌, ℕ, zero, suc, ◌+◌, ◌<◌, ◌≤◌, max, List, [], ◌∷◌, ◌++◌, length, slice_get, Some, true, false, refl, ap, ap₂, sym, ◌∙◌, subst, arith, append_assoc, length-append, if◌then◌else◌, ◌==◌}
+use Rattle.std.proofs.lemmas.List.{append-nil, get_or_append_left}
+use Rattle.std.proofs.lemmas.Option.{slice_get-get_or, get_or_from_slice_get}
 use Rattle.tl_schema.specs.Types.{Shape, Shapes, shapes_of}
 use Rattle.tl_schema.specs.Types as type
 use Rattle.tl_schema.specs.Closing.{list_of_shapes}
-use Rattle.tl_plan.specs.Types.{arguments_of, deepest, levels}
+use Rattle.tl_plan.specs.Types.{deepest, levels}
 use Rattle.tl_plan.specs.Seen.{HasForm}
 use Rattle.tl_plan.specs.inner.Nodes.{AreBelow, AreDistinct, Grows, HasParts, NodeView, capped, deepest_of, levels_in, first_of, key_of, levels_above, number_of, parts_of, tag_of, type_at, type_by, types_after, types_at}
 use Rattle.tl_plan.specs.declared.instances.Form.{Form}

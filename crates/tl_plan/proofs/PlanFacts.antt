@@ -1,18 +1,18 @@
 -- What holds of plans: vectors have items, types have members, and these have fields.
-use Rattle.std.proofs.Common.{◌≡◌, ◌≢◌, inl, inr, ℕ, zero, suc, List, [], ◌∷◌, ◌++◌, length, map, slice_get, Option, Some, None, Ok, Err, Result, Bool, true, refl, ap, sym, ◌∙◌, subst}
+use Rattle.std.proofs.Common.{◌≡◌, ◌≢◌, inl, inr, ℕ, zero, suc, List, [], ◌∷◌, ◌++◌, length, map, slice_get, Some, Ok, Err, Result, Bool, true, refl, ap, sym, ◌∙◌, subst}
 use Rattle.std.specs.List.{flat_map}
 use Rattle.std.specs.Option.{option_map}
 use Rattle.std.proofs.lemmas.List.{length-map}
 use Rattle.std.proofs.lemmas.Option.{slice_get-map}
 use Rattle.tl_schema.specs.Types.{Shape}
 use Rattle.tl_schema.specs.Types as type
-use Rattle.tl_schema.specs.Closing.{closed, list_of_shapes}
+use Rattle.tl_schema.specs.Closing.{closed}
 use Rattle.tl_schema.specs.Schemas.{Slot, Declaration, Declared}
 use Rattle.tl_plan.specs.Types.{arguments_of, index_of, is_among}
-use Rattle.tl_plan.specs.Entries.{constructors_of, entries_of, fields_at, fields_in}
+use Rattle.tl_plan.specs.Entries.{entries_of, fields_at, fields_in}
 use Rattle.tl_plan.specs.Reached.{Named, fields_named, names_of}
 use Rattle.tl_plan.specs.Plans.{AreAmong, InstanceView, IsFlagOrFormed, IsPlan, MemberView, PlanView, Plans, answer, instance_of, item_in, member_of, types_of_plan}
-use Rattle.tl_plan.specs.PlanLaws.{EachIsFormed, HasMembers, InstancesHaveMembers, IsInstance, IsMemberOf, ItemsHaveInstances, OneAnswer, StandsIn}
+use Rattle.tl_plan.specs.PlanLaws.{EachIsFormed, HasMembers, InstancesHaveMembers, IsInstance, IsMemberOf, ItemsHaveInstances, OneAnswer}
 use Rattle.tl_plan.specs.declared.fault.PlanFault.{PlanFault}
 use Rattle.tl_plan.specs.declared.fault.PlanFault.TheVariants.{TypeTooDeep, TooManyInstances, Memory}
 use Rattle.tl_plan.proofs.EntryLists.{these_constructors, these_functions}
@@ -111,16 +111,19 @@ module _ (p : PlanView) (good : IsPlan p) where
         let i = made.0 in
         let d = there x.of formed_is h i made.1 in
         let fields : fields_at S i ≡ d.0.fields = ap fields_in d.1 in
-        let among = among_fields (entries_of S x.of) (arguments_of x.of) (all_fields x.of (good.closed k x.of type_at_k)) h i made.1 in
-        (d.0, record {
-          there = ap (λ (n : MemberView). slice_get S.decls n.entry) made.2 ∙ d.1;
-          count = ap (λ (n : MemberView). length n.fields) made.2 ∙ length-map (fields_at S i) (λ f. index_of (closed (arguments_of x.of) f.of) ts) ∙ ap length fields;
-          fields = λ l f at_l.
-            (index_of (closed (arguments_of x.of) f.of) ts,
-            ap (λ (n : MemberView). slice_get n.fields l) made.2 ∙ slice_get-map (λ f. index_of (closed (arguments_of x.of) f.of) ts) (fields_at S i) l
-              ∙ ap (λ (fs : List Slot). option_map (λ f. index_of (closed (arguments_of x.of) f.of) ts) (slice_get fs l)) fields ∙ ap (option_map (λ f. index_of (closed (arguments_of x.of) f.of) ts)) at_l,
-            has_instance (closed (arguments_of x.of) f.of) (field_among (fields_at S i) (arguments_of x.of) i among l f (ap (λ (fs : List Slot). slice_get fs l) fields ∙ at_l)));
-        })
+        let among = among_fields (entries_of S x.of) (arguments_of x.of) (all_fields x.of (good.closed k x.of type_at_k)) h i made.1 in (
+          d.0,
+          record {
+            there = ap (λ (n : MemberView). slice_get S.decls n.entry) made.2 ∙ d.1;
+            count = ap (λ (n : MemberView). length n.fields) made.2 ∙ length-map (fields_at S i) (λ f. index_of (closed (arguments_of x.of) f.of) ts) ∙ ap length fields;
+            fields = λ l f at_l. (
+              index_of (closed (arguments_of x.of) f.of) ts,
+              ap (λ (n : MemberView). slice_get n.fields l) made.2 ∙ slice_get-map (λ f. index_of (closed (arguments_of x.of) f.of) ts) (fields_at S i) l
+                  ∙ ap (λ (fs : List Slot). option_map (λ f. index_of (closed (arguments_of x.of) f.of) ts) (slice_get fs l)) fields ∙ ap (option_map (λ f. index_of (closed (arguments_of x.of) f.of) ts)) at_l,
+              has_instance (closed (arguments_of x.of) f.of) (field_among (fields_at S i) (arguments_of x.of) i among l f (ap (λ (fs : List Slot). slice_get fs l) fields ∙ at_l)),
+            );
+          },
+        )
 
     has_members : HasMembers p x
     has_members = record { entries = ap (map (λ (m : MemberView). m.entry)) members_are ∙ entries_again (entries_of S x.of) (arguments_of x.of); each = member_is }

@@ -1,12 +1,11 @@
 -- Making a plan: instance by instance, until each type that is reached has one.
-use Rattle.std.proofs.Common.{◌≡◌, inl, inr, ℕ, zero, suc, ◌+◌, ◌<◌, ◌≤◌, List, [], ◌∷◌, ◌++◌, length, map, slice_get, Option, Some, None, Ok, Err, Result, Bool, true, false, refl, ap, ap₂, sym, ◌∙◌, subst, arith, length-append, nat_lt, if◌then◌else◌}
+use Rattle.std.proofs.Common.{◌≡◌, ℕ, suc, ◌+◌, ◌<◌, ◌≤◌, List, [], ◌∷◌, ◌++◌, length, map, slice_get, Option, Some, Ok, Err, refl, ap, sym, ◌∙◌, subst, arith, length-append}
 use Rattle.std.proofs.lemmas.List.{length-map}
 use Rattle.std.proofs.lemmas.Option.{slice_get-map, slice_get_within}
 use Rattle.std.specs.Option.{option_map}
 use Rattle.tl_schema.specs.Types.{Shape}
 use Rattle.tl_schema.specs.Schemas.{Declared}
 use Rattle.tl_schema.specs.CheckedPrograms.{IsSchema}
-use Rattle.tl_plan.specs.Types.{levels}
 use Rattle.tl_plan.specs.Reached.{Named, names_of, unnamed}
 use Rattle.tl_plan.specs.Plans.{AreFormed, InstanceView, IsPlan, NamesAmong, PlanView, Plans, answer, instance_of, plan_of, types_of_plan}
 use Rattle.tl_plan.specs.Seen.{Shows, ShowsAt}
@@ -15,7 +14,7 @@ use Rattle.tl_plan.specs.inner.Walks.{AreShown, IsMade, Walk, Walks, add, add_al
 use Rattle.tl_plan.specs.declared.instances.Instance.{Instance}
 use Rattle.tl_plan.specs.declared.fault.PlanFault.{PlanFault}
 use Rattle.tl_plan.specs.declared.fault.PlanFault.TheVariants.{TypeTooDeep, TooManyInstances, Memory}
-use Rattle.tl_plan.specs.declared.fault.TheConstants.{MAX_INSTANCES, MAX_LEVELS}
+use Rattle.tl_plan.specs.declared.fault.TheConstants.{MAX_INSTANCES}
 use Rattle.tl_plan.proofs.TypeLists.{none_some, some_is}
 use Rattle.tl_plan.proofs.NodeTypes.{Pushed, earlier, last, get_pushed, get_within, is_there}
 use Rattle.tl_plan.proofs.Walking.{added, all_among_more, err_ok, found_all, ok_is}
@@ -53,10 +52,10 @@ with_roots S roots Ts Us ns x P h = record {
   within = omega arith;
   count = refl;
   enough =
-    let many : length (types_at Us ns) ≡ length (unnamed S roots) = add_all_count (unnamed S roots) [] (types_at Us ns) h.0 ∙ omega arith in
-    let a = length-map ns (type_at Us) in
-    let b : length (unnamed S roots) ≡ length roots = length-map {B = Named} roots (λ T. record { of = T; decl = length S.decls }) in
-    omega (arith, many, a, b);
+      let many : length (types_at Us ns) ≡ length (unnamed S roots) = add_all_count (unnamed S roots) [] (types_at Us ns) h.0 ∙ omega arith in
+      let a = length-map ns (type_at Us) in
+      let b : length (unnamed S roots) ≡ length roots = length-map {B = Named} roots (λ T. record { of = T; decl = length S.decls }) in
+      omega (arith, many, a, b);
   shown = record { shown = λ k T j at there. absurd (none_some j there) };
 }
 
@@ -88,7 +87,7 @@ module _ (S : Declared) (roots : List Shape) (Ts : List Shape) (ns : List ℕ) (
   next_instance Us ms x h =
       let found = found_all (names_of S (type_at Ts n)) (types_at Ts ns) (types_at Us ms) h.0 in
       let longer : length ms ≡ length ns + length found.more =
-        sym (length-map ms (type_at Us)) ∙ ap length found.starts ∙ length-append (types_at Ts ns) found.more ∙ ap (λ (k : ℕ). k + length found.more) (length-map ns (type_at Ts)) in
+      sym (length-map ms (type_at Us)) ∙ ap length found.starts ∙ length-append (types_at Ts ns) found.more ∙ ap (λ (k : ℕ). k + length found.more) (length-map ns (type_at Ts)) in
       let inside = slice_get_within ns i n at in
       let before = so_far.enough in
       let many = so_far.count in
@@ -106,9 +105,10 @@ module _ (S : Declared) (roots : List Shape) (Ts : List Shape) (ns : List ℕ) (
           let less : k < length (types_at Ts ns) = (let a = slice_get_within instances k j there in let b = so_far.count in let c = so_far.within in let d = length-map ns (type_at Ts) in omega (arith, a, b, c, d)) in
           let old = is_there (types_at Ts ns) k less in
           let same : old.0 ≡ U = some_is old.0 U (sym (get_within (types_at Ts ns) more k old.0 old.1) ∙ ap (λ (us : List Shape). slice_get us k) (sym starts) ∙ here) in
-          let p = so_far.shown.shown k U j (old.1 ∙ ap Some same) there in
-          (subst (λ (v : InstanceView). Shows v j) (sym (ap (λ (us : List Shape). instance_of S us U) starts ∙ instance_stays S (types_at Ts ns) more U p.1)) p.0,
-          subst (λ (us : List Shape). NamesAmong S us U) (sym starts) (all_among_more (names_of S U) (types_at Ts ns) more p.1))
+          let p = so_far.shown.shown k U j (old.1 ∙ ap Some same) there in (
+            subst (λ (v : InstanceView). Shows v j) (sym (ap (λ (us : List Shape). instance_of S us U) starts ∙ instance_stays S (types_at Ts ns) more U p.1)) p.0,
+            subst (λ (us : List Shape). NamesAmong S us U) (sym starts) (all_among_more (names_of S U) (types_at Ts ns) more p.1),
+          )
       shown_at more starts names k U j here (last count is) =
           let place : k ≡ i = count ∙ so_far.count in
           let same : type_at Ts n ≡ U = some_is (type_at Ts n) U (sym (get_within (types_at Ts ns) more i (type_at Ts n) type_here) ∙ ap (λ (us : List Shape). slice_get us i) (sym starts) ∙ ap (slice_get (types_at Us ms)) (sym place) ∙ here) in
@@ -171,7 +171,8 @@ pub shown_instance : (S : Declared) (roots : ℕ) (ts : List Shape) (instances :
 shown_instance S roots ts instances p same made i x at =
     let count = made.count in
     let inside = slice_get_within instances i x at in
-    let T = is_there ts i (omega (arith, count, inside)) in
-    (instance_of S ts T.0,
-    ap (λ (q : PlanView). slice_get q.instances i) (sym same) ∙ slice_get-map (instance_of S ts) ts i ∙ ap (option_map (instance_of S ts)) T.1,
-    (made.shown.shown i T.0 x T.1 at).0)
+    let T = is_there ts i (omega (arith, count, inside)) in (
+      instance_of S ts T.0,
+      ap (λ (q : PlanView). slice_get q.instances i) (sym same) ∙ slice_get-map (instance_of S ts) ts i ∙ ap (option_map (instance_of S ts)) T.1,
+      (made.shown.shown i T.0 x T.1 at).0,
+    )

@@ -1,5 +1,5 @@
 -- Queues of numbers against lists of types.
-use Rattle.std.proofs.Common.{◌≡◌, ◌⊎◌, inl, inr, ℕ, zero, suc, ◌+◌, ◌<◌, ◌≤◌, min, ◌^◌, ◌-◌, List, [], ◌∷◌, ◌++◌, length, map, slice_get, Option, Some, None, Ok, Err, Result, Bool, true, false, ◌||◌, ◌&&◌, is_none, cond, Bor, refl, ap, ap₂, sym, ◌∙◌, subst, arith, length-append, if◌then◌else◌, nat_lt, ◌==◌, eqb-true, eq-eqb, true≢false}
+use Rattle.std.proofs.Common.{◌≡◌, inl, inr, ℕ, zero, suc, ◌<◌, ◌≤◌, List, [], ◌∷◌, ◌++◌, length, Option, Some, None, Ok, Err, Result, Bool, true, false, ◌||◌, ◌&&◌, is_none, is_some, not, cond, Bor, refl, ap, ap₂, sym, ◌∙◌, subst, arith, length-append, if◌then◌else◌, nat_lt, ◌==◌, eqb-true, eq-eqb, true≢false}
 use Rattle.std.specs.Option.{option_copied, option_map}
 use Rattle.std.specs.Ordering.{is_eq, nat_cmp}
 use Rattle.std.proofs.lemmas.Bool.Decides.{nat_tests}
@@ -9,12 +9,12 @@ use Rattle.tl_plan.specs.Types.{index_of, is_among, is_same, levels}
 use Rattle.tl_plan.specs.Reached.{Named}
 use Rattle.tl_plan.specs.inner.Nodes.{AreBelow, AreDistinct, capped, type_at, types_at}
 use Rattle.tl_plan.specs.inner.Queues.{Adds, IsQueue, KeepsFirst, Meets, found_in, place_of}
-use Rattle.tl_plan.specs.inner.Walks.{Walk, Walks, add, find}
+use Rattle.tl_plan.specs.inner.Walks.{Walks, add, find}
 use Rattle.tl_plan.specs.declared.fault.PlanFault.{PlanFault}
 use Rattle.tl_plan.specs.declared.fault.PlanFault.TheVariants.{TypeTooDeep, TooManyInstances, Memory}
 use Rattle.tl_plan.specs.declared.fault.TheConstants.{MAX_INSTANCES, MAX_LEVELS}
 use Rattle.tl_plan.proofs.SameTypes.{same_is, same_self}
-use Rattle.tl_plan.proofs.TypeLists.{by_test, among_here, index_new, none_some, some_is}
+use Rattle.tl_plan.proofs.TypeLists.{by_test, index_new, none_some, some_is}
 use Rattle.tl_plan.proofs.NodeTypes.{below_push, get_type, grows_same}
 
 -- ---- where a number stands
@@ -53,16 +53,16 @@ noted_new ns m n old none is =
     by_option (found_in ns n)
     (λ absent. ap (λ o. if n == m then Some (length ns) else o) (is ∙ absent) ∙ sym (found_comes ns m n absent))
     (λ k there. by_test (n == m)
-      (λ same. absurd (none_some k (sym none ∙ ap (found_in ns) (sym (eqb-true n m same)) ∙ there)))
-      (λ other. ap (λ b. if b then Some (length ns) else old) other ∙ is ∙ there ∙ sym (found_stays ns m n k there)))
+    (λ same. absurd (none_some k (sym none ∙ ap (found_in ns) (sym (eqb-true n m same)) ∙ there)))
+    (λ other. ap (λ b. if b then Some (length ns) else old) other ∙ is ∙ there ∙ sym (found_stays ns m n k there)))
 
 -- one that stands there is where it was
 pub noted_old : (ns : List ℕ) (m k n : ℕ) → found_in ns m ≡ Some k → found_in ns n ≡ found_in (ns ++ m ∷ []) n
 noted_old ns m k n there =
     by_option (found_in ns n)
     (λ absent. by_test (n == m)
-      (λ same. absurd (none_some k (sym absent ∙ ap (found_in ns) (eqb-true n m same) ∙ there)))
-      (λ other. absent ∙ sym (found_comes ns m n absent ∙ ap (λ b. if b then Some (length ns) else None) other)))
+    (λ same. absurd (none_some k (sym absent ∙ ap (found_in ns) (eqb-true n m same) ∙ there)))
+    (λ other. absent ∙ sym (found_comes ns m n absent ∙ ap (λ b. if b then Some (length ns) else None) other)))
     (λ j here. here ∙ sym (found_stays ns m n j here))
 
 -- ---- types by their numbers
@@ -70,33 +70,33 @@ noted_old ns m k n there =
 module _ (Ts : List Shape) (distinct : AreDistinct Ts) (n : ℕ) (within : n < length Ts) where
   same_type : (m : ℕ) → m < length Ts → is_same (type_at Ts n) (type_at Ts m) ≡ (n == m)
   same_type m below = by_test (n == m)
-    (λ same. ap (λ (k : ℕ). is_same (type_at Ts n) (type_at Ts k)) (sym (eqb-true n m same)) ∙ same_self (type_at Ts n) ∙ sym same)
-    (λ other. by_test (is_same (type_at Ts n) (type_at Ts m))
+      (λ same. ap (λ (k : ℕ). is_same (type_at Ts n) (type_at Ts k)) (sym (eqb-true n m same)) ∙ same_self (type_at Ts n) ∙ sym same)
+      (λ other. by_test (is_same (type_at Ts n) (type_at Ts m))
       (λ is. absurd (true≢false (sym (eq-eqb n m (distinct n m (type_at Ts m) (get_type Ts n within ∙ ap Some (same_is (type_at Ts n) (type_at Ts m) is)) (get_type Ts m below))) ∙ other)))
       (λ not. not ∙ sym other))
 
   pub among_found : (ms : List ℕ) (k : ℕ) → AreBelow (length Ts) ms → found_in ms n ≡ Some k → (is_among (type_at Ts n) (types_at Ts ms) ≡ true) × (index_of (type_at Ts n) (types_at Ts ms) ≡ k)
   among_found [] k are e = absurd (none_some k e)
   among_found (m ∷ ms) k are e = by_test (n == m)
-    (λ same.
+      (λ same.
       let here : is_same (type_at Ts n) (type_at Ts m) ≡ true = same_type m are.0 ∙ same in
       let first : 0 ≡ k = some_is 0 k (sym (ap (λ b. if b then Some zero else option_map suc (found_in ms n)) same) ∙ e) in
       (ap (λ b. b || is_among (type_at Ts n) (types_at Ts ms)) here, ap (λ b. if b then zero else suc (index_of (type_at Ts n) (types_at Ts ms))) here ∙ first))
-    (λ other.
+      (λ other.
       let apart : is_same (type_at Ts n) (type_at Ts m) ≡ false = same_type m are.0 ∙ other in
       let there : option_map suc (found_in ms n) ≡ Some k = sym (ap (λ b. if b then Some zero else option_map suc (found_in ms n)) other) ∙ e in
       by_option (found_in ms n)
       (λ none. absurd (none_some k (sym (ap (option_map suc) none) ∙ there)))
       (λ i is.
-        let later = among_found ms i are.1 is in
-        let count : suc i ≡ k = some_is (suc i) k (sym (ap (option_map suc) is) ∙ there) in
-        (ap (λ b. b || is_among (type_at Ts n) (types_at Ts ms)) apart ∙ later.0, ap (λ b. if b then zero else suc (index_of (type_at Ts n) (types_at Ts ms))) apart ∙ ap suc later.1 ∙ count)))
+      let later = among_found ms i are.1 is in
+      let count : suc i ≡ k = some_is (suc i) k (sym (ap (option_map suc) is) ∙ there) in
+      (ap (λ b. b || is_among (type_at Ts n) (types_at Ts ms)) apart ∙ later.0, ap (λ b. if b then zero else suc (index_of (type_at Ts n) (types_at Ts ms))) apart ∙ ap suc later.1 ∙ count)))
 
   pub among_none : (ms : List ℕ) → AreBelow (length Ts) ms → found_in ms n ≡ None → is_among (type_at Ts n) (types_at Ts ms) ≡ false
   among_none [] are e = refl
   among_none (m ∷ ms) are e = by_test (n == m)
-    (λ same. let first : None ≡ Some 0 = sym e ∙ ap (λ b. if b then Some zero else option_map suc (found_in ms n)) same in absurd (none_some 0 first))
-    (λ other.
+      (λ same. let first : None ≡ Some 0 = sym e ∙ ap (λ b. if b then Some zero else option_map suc (found_in ms n)) same in absurd (none_some 0 first))
+      (λ other.
       let apart : is_same (type_at Ts n) (type_at Ts m) ≡ false = same_type m are.0 ∙ other in
       let there : option_map suc (found_in ms n) ≡ None = sym (ap (λ b. if b then Some zero else option_map suc (found_in ms n)) other) ∙ e in
       ap (λ b. b || is_among (type_at Ts n) (types_at Ts ms)) apart ∙ among_none ms are.1 (by_option (found_in ms n) (λ none. none) (λ k is. absurd (none_some (suc k) (sym there ∙ ap (option_map suc) is)))))
@@ -176,8 +176,8 @@ pub queue_push : (old new : List ℕ) (before after : List (ℕ × ℕ)) (node p
 queue_push old new before after node place queue room count kept pushed = subst (λ (ns : List ℕ). IsQueue ns after) (sym pushed) (record {
   few = let e = length-append old (node ∷ []) in omega (arith, e, room);
   noted = λ n. kept n ∙ by_option (place_of before node)
-    (λ none. ap (λ o. if n == node && is_none o then Some place else place_of before n) none ∙ both n (n == node) refl none)
-    (λ k there. ap (λ o. if n == node && is_none o then Some place else place_of before n) there ∙ apart n k (n == node) ∙ queue.noted n ∙ noted_old old node k n (sym (queue.noted node) ∙ there));
+      (λ none. ap (λ o. if n == node && is_none o then Some place else place_of before n) none ∙ both n (n == node) refl none)
+      (λ k there. ap (λ o. if n == node && is_none o then Some place else place_of before n) there ∙ apart n k (n == node) ∙ queue.noted n ∙ noted_old old node k n (sym (queue.noted node) ∙ there));
 })
   where
     both : (n : ℕ) (b : Bool) → (n == node) ≡ b → place_of before node ≡ None → (if b && true then Some place else place_of before n) ≡ found_in (old ++ node ∷ []) n
@@ -205,6 +205,6 @@ kept_new old new node place none updated n =
     by false true e = absurd (true≢false (sym e))
     by false false e = refl
 
-pub none_copied : {A : Type 0} (o : Option (Bor A)) (b : Bool) → b ≡ is_none o → b ≡ true → option_copied o ≡ None
+pub none_copied : {A : Type 0} (o : Option (Bor A)) (b : Bool) → is_some o ≡ not b → b ≡ true → option_copied o ≡ None
 none_copied None b is e = refl
-none_copied (Some x) b is e = absurd (true≢false (sym e ∙ is))
+none_copied (Some x) b is e = absurd (true≢false (is ∙ ap not e))

@@ -1,8 +1,7 @@
 -- Lists that are read element by element.
-use Rattle.std.proofs.Common.{◌≡◌, ℕ, zero, suc, ◌+◌, ◌<◌, ◌≤◌, max, List, [], ◌∷◌, ◌++◌, length, map, take, drop, get_or, slice_get, Some, refl, ap, sym, ◌∙◌, arith, subst}
-use Rattle.std.specs.Option.{option_map}
+use Rattle.std.proofs.Common.{◌≡◌, ℕ, zero, suc, ◌+◌, ◌<◌, max, List, [], ◌∷◌, ◌++◌, length, map, take, drop, get_or, slice_get, Some, refl, ap, sym, ◌∙◌, arith}
 use Rattle.std.proofs.lemmas.List.{map-append}
-use Rattle.std.proofs.lemmas.Option.{slice_get-map, slice_get_read}
+use Rattle.std.proofs.lemmas.Option.{slice_get_read}
 use Rattle.std.proofs.Math.Seq.{drop-cons}
 use Rattle.tl_names.proofs.Maps.{take_push}
 use Rattle.tl_plan.specs.inner.Nodes.{AreBelow, NodeView, deepest_of, levels_in}
@@ -37,3 +36,8 @@ deepest_step ns ks i deepest n below at =
 
 pub mapped_split : {X Y : Type 0} (f : X → Y) (xs : List X) (i : ℕ) (x : X) → i < length xs → x ≡ get_or xs i x → map f xs ≡ map f (take i xs) ++ f x ∷ map f (drop (i + 1) xs)
 mapped_split f xs i x below is = ap (map f) (read_split xs i x below is) ∙ map-append f (take i xs) (x ∷ drop (i + 1) xs)
+
+pub read_number : (ks : List ℕ) (i : ℕ) → i < length ks → get_or ks i 0 ≡ get_or ks i (get_or ks i 0)
+read_number [] i below = absurd (omega (arith, below))
+read_number (k ∷ ks) zero below = refl
+read_number (k ∷ ks) (suc i) below = read_number ks i (omega (arith, below))

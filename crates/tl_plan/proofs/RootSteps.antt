@@ -4,7 +4,7 @@ use Rattle.std.proofs.lemmas.List.{map-append}
 use Rattle.std.proofs.lemmas.Option.{slice_get_within}
 use Rattle.tl_schema.specs.Types.{Shape}
 use Rattle.tl_schema.specs.Schemas.{Declared}
-use Rattle.tl_plan.specs.Reached.{Named, unnamed}
+use Rattle.tl_plan.specs.Reached.{Named}
 use Rattle.tl_plan.specs.inner.Nodes.{AreBelow, Grows, type_at, types_at}
 use Rattle.tl_plan.specs.inner.Walks.{Walk, Walks, add, add_all, then_walk}
 use Rattle.tl_plan.specs.declared.fault.PlanFault.{PlanFault}

@@ -1,5 +1,5 @@
 -- `is_same` says which types are one.
-use Rattle.std.proofs.Common.{◌≡◌, ◌↔◌, ℕ, Bool, true, false, ◌&&◌, refl, ap, ap₂, sym, ◌∙◌, true≢false, eq-eqb, eqb-true, ◌==◌}
+use Rattle.std.proofs.Common.{◌≡◌, Bool, true, false, ◌&&◌, refl, ap, ap₂, sym, ◌∙◌, true≢false, eq-eqb, eqb-true, ◌==◌}
 use Rattle.tl_schema.specs.Types.{Shape, int, long, nat, opaque, str, raw, flag, call, var, vector, boxed, bare, Shapes, no_shapes, shape}
 use Rattle.tl_plan.specs.Types.{is_equal, is_same, are_same}
 use Rattle.tl_plan.specs.PlanLaws.{SameTypes}

@@ -1,5 +1,5 @@
 -- The types that some of the code's own stand for.
-use Rattle.std.proofs.Common.{◌≡◌, ℕ, Bool, List, map, ap, ◌∙◌, rules, Vec, Global}
+use Rattle.std.proofs.Common.{◌≡◌, ℕ, Bool, ap, ◌∙◌, rules, Global}
 use Rattle.std.specs.Prelude.{Box}
 use Rattle.tl_schema.specs.Seen.{shape}
 use Rattle.tl_schema.specs.Types.{shapes_of}

@@ -1,5 +1,5 @@
 -- Tables of types: a new type comes to the end, and one that is there is found.
-use Rattle.std.proofs.Common.{◌≡◌, ℕ, zero, suc, ◌+◌, ◌<◌, ◌≤◌, List, [], ◌∷◌, ◌++◌, length, map, slice_get, Option, Some, None, Bool, true, false, refl, ap, ap₂, sym, ◌∙◌, subst, arith, length-append, if◌then◌else◌, bytes_eq, get_or, Vec}
+use Rattle.std.proofs.Common.{◌≡◌, ℕ, zero, suc, ◌<◌, ◌≤◌, List, [], ◌∷◌, ◌++◌, length, map, slice_get, Option, Some, None, Bool, true, false, refl, ap, ap₂, sym, ◌∙◌, subst, arith, if◌then◌else◌, bytes_eq, get_or, Vec}
 use Rattle.std.proofs.lemmas.Slice.Eq.{bytes_eq-Decides}
 use Rattle.std.proofs.lemmas.Option.{slice_get-map, slice_get_read, slice_get_within}
 use Rattle.std.proofs.lemmas.List.{length-map, map-append}
@@ -183,10 +183,10 @@ module _ {A : Type 0} (nodes new : List Node) (entries after : List (Vec ℕ A �
         table = subst (λ (ms : List NodeView). AreNodes (types_after [] ms) ms (places_in after)) (sym (as_new levels_is pushed)) (nodes_push (map node_view nodes) (places_in entries) node.form node.parts.items are here parts none (places_in after) placed);
         grows = subst (λ (ms : List NodeView). Grows (types_of_nodes nodes) (types_after [] ms)) (sym (as_new levels_is pushed)) (subst (Grows (types_of_nodes nodes)) (sym (push_after (map node_view nodes) (new_node (map node_view nodes) [] node.form node.parts.items) [])) (grows_by (map node_view nodes) (places_in entries) node.form node.parts.items are here parts none));
         type =
-          ap (λ (ms : List NodeView). slice_get (types_after [] ms) number) (as_new levels_is pushed)
-          ∙ ap (λ (Us : List Shape). slice_get Us number) (push_after (map node_view nodes) (new_node (map node_view nodes) [] node.form node.parts.items) [])
-          ∙ ap (slice_get (types_of_nodes nodes ++ type_by node.form (types_at (types_of_nodes nodes) node.parts.items) ∷ [])) last_place
-          ∙ get_last (types_of_nodes nodes) (type_by node.form (types_at (types_of_nodes nodes) node.parts.items));
+            ap (λ (ms : List NodeView). slice_get (types_after [] ms) number) (as_new levels_is pushed)
+            ∙ ap (λ (Us : List Shape). slice_get Us number) (push_after (map node_view nodes) (new_node (map node_view nodes) [] node.form node.parts.items) [])
+            ∙ ap (slice_get (types_of_nodes nodes ++ type_by node.form (types_at (types_of_nodes nodes) node.parts.items) ∷ [])) last_place
+            ∙ get_last (types_of_nodes nodes) (type_by node.form (types_at (types_of_nodes nodes) node.parts.items));
       })
     where
       here : AreBelow (length (types_of_nodes nodes)) node.parts.items

@@ -1,5 +1,5 @@
 -- Where types stand in a list.
-use Rattle.std.proofs.Common.{◌≡◌, ℕ, zero, suc, ◌<◌, List, [], ◌∷◌, ◌++◌, length, slice_get, Some, None, Bool, true, false, ◌||◌, refl, ap, sym, ◌∙◌, true≢false, if◌then◌else◌}
+use Rattle.std.proofs.Common.{◌≡◌, ℕ, zero, suc, List, [], ◌∷◌, ◌++◌, length, slice_get, Some, None, Bool, true, false, ◌||◌, refl, ap, sym, ◌∙◌, true≢false, if◌then◌else◌}
 use Rattle.tl_schema.specs.Types.{Shape}
 use Rattle.tl_plan.specs.Types.{is_same, is_among, index_of}
 use Rattle.tl_plan.proofs.SameTypes.{same_is, same_self}

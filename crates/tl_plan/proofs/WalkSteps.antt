@@ -1,5 +1,5 @@
 -- Steps of making a plan: fields, members, instances.
-use Rattle.std.proofs.Common.{◌≡◌, ℕ, zero, suc, ◌+◌, ◌<◌, ◌≤◌, List, [], ◌∷◌, ◌++◌, length, map, take, get_or, slice_get, Option, Some, None, Ok, Err, Result, Bool, true, false, refl, ap, ap₂, sym, ◌∙◌, subst, arith, append_assoc}
+use Rattle.std.proofs.Common.{◌≡◌, ℕ, ◌<◌, List, [], ◌∷◌, ◌++◌, length, map, get_or, slice_get, Some, None, Ok, Err, Result, refl, ap, ap₂, sym, ◌∙◌, subst, arith, append_assoc}
 use Rattle.std.specs.List.{flat_map}
 use Rattle.std.proofs.lemmas.List.{append-nil, map-append}
 use Rattle.tl_schema.specs.Types.{Shape, Shapes}
@@ -139,11 +139,11 @@ module _ (args : List Shape) (i : ℕ) (before : List Shape) (first : List ℕ) 
           walk = ap (find_all start) (map-append (named_field args i) fs (f ∷ [])) ∙ find_all_push start (types_at Us ns) (types_at Us ms) (map (named_field args i) fs) (named_field args i f) went (as_named (Ok (types_at Us ms)) h.0);
           holds = record { grows = grows_then before Ts Us so_far.holds.grows grows; below = h.2 };
           fields =
-            ap₂ (λ (xs ys : List ℕ). xs ++ ys)
-            (so_far.fields ∙ ap (λ (vs : List Shape). indices args vs fs) (sym closed_same)
+              ap₂ (λ (xs ys : List ℕ). xs ++ ys)
+              (so_far.fields ∙ ap (λ (vs : List Shape). indices args vs fs) (sym closed_same)
               ∙ sym (ap (λ (vs : List Shape). indices args vs fs) found.starts ∙ stay found.more fs all.each))
-            (ap (λ (j : ℕ). j ∷ []) (h.3 ∙ ap (λ (T : Shape). index_of T (types_at Us ms)) closed_at))
-            ∙ sym (map-append (λ (g : Slot). index_of (closed args g.of) (types_at Us ms)) fs (f ∷ []));
+              (ap (λ (j : ℕ). j ∷ []) (h.3 ∙ ap (λ (T : Shape). index_of T (types_at Us ms)) closed_at))
+              ∙ sym (map-append (λ (g : Slot). index_of (closed args g.of) (types_at Us ms)) fs (f ∷ []));
         }
       where
         stay : (more : List Shape) (gs : List Slot) → AreAmong (types_at Us ns) (map (named_field args i) gs) → indices args (types_at Us ns ++ more) gs ≡ indices args (types_at Us ns) gs
@@ -180,15 +180,15 @@ module _ (S : Declared) (args : List Shape) (before : List Shape) (first : List 
       let all = found_all (flat_map (fields_named S args) is) begun (types_at Ts ns) so_far.walk in
       record {
         walk =
-          ap (find_all begun) (flat_append (fields_named S args) is (i ∷ []) ∙ ap (λ (ys : List Named). flat_map (fields_named S args) is ++ ys) (append-nil (fields_named S args i)))
-          ∙ find_all_append begun (flat_map (fields_named S args) is) (fields_named S args i)
-          ∙ ap (λ (w : Walk). then_walk w (λ vs. find_all vs (fields_named S args i))) so_far.walk ∙ h.0;
+            ap (find_all begun) (flat_append (fields_named S args) is (i ∷ []) ∙ ap (λ (ys : List Named). flat_map (fields_named S args) is ++ ys) (append-nil (fields_named S args i)))
+            ∙ find_all_append begun (flat_map (fields_named S args) is) (fields_named S args i)
+            ∙ ap (λ (w : Walk). then_walk w (λ vs. find_all vs (fields_named S args i))) so_far.walk ∙ h.0;
         holds = record { grows = grows_then before Ts Us so_far.holds.grows h.1; below = h.2 };
         members =
-          ap₂ (λ (xs ys : List MemberView). xs ++ ys)
-          (so_far.members ∙ sym (ap (λ (vs : List Shape). map (member_of S vs args) is) found.starts ∙ members_stay S args (types_at Ts ns) found.more is all.each))
-          (ap (λ (w : MemberView). w ∷ []) h.3)
-          ∙ sym (map-append (member_of S (types_at Us ms) args) is (i ∷ []));
+            ap₂ (λ (xs ys : List MemberView). xs ++ ys)
+            (so_far.members ∙ sym (ap (λ (vs : List Shape). map (member_of S vs args) is) found.starts ∙ members_stay S args (types_at Ts ns) found.more is all.each))
+            (ap (λ (w : MemberView). w ∷ []) h.3)
+            ∙ sym (map-append (member_of S (types_at Us ms) args) is (i ∷ []));
       }
 
   pub member_fails : {A B : Type 0} (rest : List ℕ) (Us after : List Shape) (ms js : List ℕ) (e : PlanFault) (P : A → Type 0) (Q : B → Type 0) → Walks (find_all (types_at Ts ns) (fields_named S args i)) Ts Us ms (Err e) P → Walks (find_all begun (flat_map (fields_named S args) (is ++ i ∷ rest))) before after js (Err e) Q
@@ -199,20 +199,24 @@ module _ (S : Declared) (args : List Shape) (before : List Shape) (first : List 
 -- ---- instances
 
 -- the type names the types of the fields of these declarations, applied to these types
-record NamesBy (S : Declared) (T : Shape) (As : List Shape) (is : List ℕ) : Type 0 where
-  named : names_of S T ≡ flat_map (fields_named S As) is
-  no_item : (ts : List Shape) → item_in ts T ≡ None
-  arguments : As ≡ arguments_of T
-  entries : is ≡ entries_of S T
+pub record NamesBy (S : Declared) (T : Shape) (As : List Shape) (is : List ℕ) : Type 0 where
+  pub named : names_of S T ≡ flat_map (fields_named S As) is
+  pub no_item : (ts : List Shape) → item_in ts T ≡ None
+  pub arguments : As ≡ arguments_of T
+  pub entries : is ≡ entries_of S T
 
 -- a type with these declarations
 pub record_shows : (S : Declared) (T : Shape) (f : Form) (As : List Shape) (entries : List ℕ) (old new : List Shape) (first ns : List ℕ) (result : Result Instance PlanFault) → HasForm T f → NamesBy S T As entries → Walks (find_all (types_at old first) (flat_map (fields_named S As) entries)) old new ns result (λ i. (i.form ≡ f) × (i.item ≡ None) × (map member_view i.members.items ≡ map (member_of S (types_at new ns) As) entries)) → Walks (find_all (types_at old first) (names_of S T)) old new ns result (λ i. Shows (instance_of S (types_at new ns) T) i)
-record_shows S T f As entries old new first ns (Ok i) form names h =
-    (ap (find_all (types_at old first)) names.named ∙ h.0, h.1, h.2, record {
-      form = subst (HasForm T) (sym h.3.0) form;
-      item = h.3.1 ∙ sym (names.no_item (types_at new ns));
-      members = h.3.2 ∙ ap₂ (λ (Us : List Shape) (is : List ℕ). map (member_of S (types_at new ns) Us) is) names.arguments names.entries;
-    })
+record_shows S T f As entries old new first ns (Ok i) form names h = (
+  ap (find_all (types_at old first)) names.named ∙ h.0,
+  h.1,
+  h.2,
+  record {
+    form = subst (HasForm T) (sym h.3.0) form;
+    item = h.3.1 ∙ sym (names.no_item (types_at new ns));
+    members = h.3.2 ∙ ap₂ (λ (Us : List Shape) (is : List ℕ). map (member_of S (types_at new ns) Us) is) names.arguments names.entries;
+  },
+)
 record_shows S T f As entries old new first ns (Err (TypeTooDeep d)) form names h = ap (find_all (types_at old first)) names.named ∙ h
 record_shows S T f As entries old new first ns (Err TooManyInstances) form names h = ap (find_all (types_at old first)) names.named ∙ h
 record_shows S T f As entries old new first ns (Err Memory) form names h = tt

@@ -1,12 +1,11 @@
 -- Walks: one after another, and what they came to.
-use Rattle.std.proofs.Common.{◌≡◌, ℕ, zero, suc, List, [], ◌∷◌, ◌++◌, length, slice_get, Some, None, Ok, Err, Result, Bool, true, false, refl, ap, sym, ◌∙◌, append_assoc, nat_lt, if◌then◌else◌}
+use Rattle.std.proofs.Common.{◌≡◌, List, [], ◌∷◌, ◌++◌, length, Ok, Err, Result, Bool, true, false, refl, ap, sym, ◌∙◌, append_assoc, nat_lt, if◌then◌else◌}
 use Rattle.std.proofs.lemmas.List.{append-nil}
 use Rattle.tl_schema.specs.Types.{Shape}
 use Rattle.tl_plan.specs.Types.{is_among, levels}
 use Rattle.tl_plan.specs.Reached.{Named}
 use Rattle.tl_plan.specs.Plans.{AreAmong}
-use Rattle.tl_plan.specs.declared.fault.PlanFault.{PlanFault}
-use Rattle.tl_plan.specs.declared.fault.PlanFault.TheVariants.{TypeTooDeep, TooManyInstances, Memory}
+use Rattle.tl_plan.specs.declared.fault.PlanFault.TheVariants.{TypeTooDeep, TooManyInstances}
 use Rattle.tl_plan.specs.declared.fault.TheConstants.{MAX_INSTANCES, MAX_LEVELS}
 use Rattle.tl_plan.specs.inner.Walks.{Walk, then_walk, add, add_all, find, find_all}
 use Rattle.tl_plan.proofs.TypeLists.{among_here, among_more}

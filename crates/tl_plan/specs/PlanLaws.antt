@@ -1,6 +1,6 @@
 -- What holds of plans, for what decodes by them, and of their definitions. This project's own.
 use Rattle.std.specs.Prelude.{◌≡◌, ◌≢◌, ◌↔◌, ℕ, ◌<◌, List, length, map, true, Bool, Some, Result, slice_get, Err}
-use Rattle.tl_schema.specs.Types.{Shape, Shapes, call, vector, boxed, bare}
+use Rattle.tl_schema.specs.Types.{Shape, Shapes, call, vector, boxed}
 use Rattle.tl_schema.specs.Closing.{closed}
 use Rattle.tl_schema.specs.Schemas.{Slot, Declaration, Declared}
 use Rattle.tl_schema.specs.Formed.{IsFunction, IsMember}

@@ -1,10 +1,10 @@
 -- The types that some types reach: breadth first, in the order of fields. This project's own.
 -- Each is kept with the declaration whose field names it; where none does, the number of declarations stands in its place.
-use Rattle.std.specs.Prelude.{ℕ, zero, suc, ◌+◌, List, [], ◌∷◌, ◌++◌, length, map, take, Option, Some, None, nat_lt, if◌then◌else◌, slice_get}
+use Rattle.std.specs.Prelude.{ℕ, zero, suc, ◌+◌, List, [], ◌∷◌, ◌++◌, length, map, Option, Some, None, nat_lt, if◌then◌else◌, slice_get}
 use Rattle.std.specs.List.{flat_map}
 use Rattle.tl_schema.specs.Types.{Shape, vector}
 use Rattle.tl_schema.specs.Closing.{closed}
-use Rattle.tl_schema.specs.Schemas.{Slot, Declared}
+use Rattle.tl_schema.specs.Schemas.{Declared}
 use Rattle.tl_plan.specs.Types.{arguments_of, is_among, levels}
 use Rattle.tl_plan.specs.Entries.{entries_of, fields_at}
 use Rattle.tl_plan.specs.declared.fault.TheConstants.{MAX_INSTANCES, MAX_LEVELS}

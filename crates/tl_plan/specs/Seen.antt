@@ -1,5 +1,5 @@
 -- What an instance shows of the one that it stands for. This project's own.
-use Rattle.std.specs.Prelude.{◌≡◌, ℕ, List, map, Some, Bool, slice_get}
+use Rattle.std.specs.Prelude.{◌≡◌, ℕ, List, map, Some, slice_get}
 use Rattle.tl_schema.specs.Types.{Shape, Shapes}
 use Rattle.tl_schema.specs.Types as type
 use Rattle.tl_plan.specs.Plans.{InstanceView, MemberView}

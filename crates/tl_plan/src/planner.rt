@@ -14,11 +14,7 @@ use tl_schema::{Schema, TypeRef};
 
 /// The plan of the types that the roots reach, breadth first in the order of fields. Root k is instance k, equal roots too; a type that is reached
 /// later and equals a root is the first such.
-pub fn plan<'s>(
-    alloc: Global,
-    schema: &'s Schema,
-    roots: &[TypeRef],
-) -> Result<Plan<'s>, PlanFault>
+pub fn plan<'s>(alloc: Global, schema: &'s Schema, roots: &[TypeRef]) -> Result<Plan<'s>, PlanFault>
     requires { AreFormed schema.now (map shape roots.now) }
     ensures answer { Plans schema.now (map shape roots.now) result }
 {

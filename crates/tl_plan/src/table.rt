@@ -52,12 +52,7 @@ impl Table {
     }
 
     /// The number of the type of this form with these parts.
-    pub fn number(
-        &mut self,
-        alloc: Global,
-        form: Form,
-        parts: Vec<u32>,
-    ) -> Result<u32, AllocError>
+    pub fn number(&mut self, alloc: Global, form: Form, parts: Vec<u32>) -> Result<u32, AllocError>
         requires below { AreBelow (length self.old) parts.items }
         requires parts { HasParts form parts.items }
         ensures grows { Grows self.old self.new }
@@ -76,7 +71,11 @@ impl Table {
         let levels = levels_above(&self.nodes, &parts);
         self.nodes.reserve(1)?;
         self.numbers.insert(key, number)?;
-        self.nodes.push_reserved(Node { form, parts, levels });
+        self.nodes.push_reserved(Node {
+            form,
+            parts,
+            levels,
+        });
         Ok(number)
     }
 
@@ -149,13 +148,7 @@ fn number_of(form: Form) -> u32
         Form::Int128 => 16,
         Form::Int256 => 32,
         Form::Var { place } => place,
-        Form::Vector { boxed } => {
-            if boxed {
-                1
-            } else {
-                0
-            }
-        }
+        Form::Vector { boxed } => { if boxed { 1 } else { 0 } }
         Form::Boxed { head } => head,
         Form::Bare { entry } => entry,
         _ => 0,

@@ -1,5 +1,5 @@
 -- Types by numbers: each is its form, applied to types before it. This project's own.
-use Rattle.std.specs.Prelude.{◌≡◌, ℕ, zero, suc, ◌-◌, ◌<◌, ◌^◌, min, max, List, [], ◌∷◌, ◌++◌, length, map, get_or, Bool, true, false, Option, Some, None, if◌then◌else◌, slice_get}
+use Rattle.std.specs.Prelude.{◌≡◌, ℕ, suc, ◌-◌, ◌<◌, ◌^◌, min, max, List, [], ◌∷◌, ◌++◌, length, map, get_or, Option, Some, None, if◌then◌else◌, slice_get}
 use Rattle.tl_schema.specs.Types.{Shape, Shapes, shapes_of}
 use Rattle.tl_schema.specs.Types as type
 use Rattle.tl_plan.specs.Types.{arguments_of}

@@ -1,5 +1,5 @@
 -- How the logic stores a plan: by the codes of its parts, a type as the result of a schema's only declaration. This project's own.
-use Rattle.std.specs.Prelude.{ℕ, List, [], ◌∷◌, Option, None, false, refl}
+use Rattle.std.specs.Prelude.{ℕ, List, [], ◌∷◌, Option, false, refl}
 use Rattle.std.specs.Coded.{Coded, code_by, coded×, coded_ℕ, coded_list, coded_option}
 use Rattle.tl_schema.specs.Types.{Shape, int}
 use Rattle.tl_schema.specs.Schemas.{Declaration, Declared}

@@ -3,7 +3,7 @@ use Rattle.std.specs.Prelude.{◌≡◌, ℕ, List, [], map, Some, Vec, slice_ge
 use Rattle.tl_names.specs.NamePlaces.{place_in, places_in}
 use Rattle.tl_schema.specs.Types.{Shape}
 use Rattle.tl_plan.specs.Types.{levels}
-use Rattle.tl_plan.specs.inner.Nodes.{AreBelow, AreDistinct, HasParts, NodeView, capped, key_of, type_at, type_by, types_after, types_at}
+use Rattle.tl_plan.specs.inner.Nodes.{AreBelow, AreDistinct, HasParts, NodeView, capped, key_of, type_by, types_after, types_at}
 use Rattle.tl_plan.specs.declared.table.Node.{Node}
 
 abbrev pub node_view : Node → NodeView

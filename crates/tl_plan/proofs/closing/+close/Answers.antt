@@ -1,8 +1,7 @@
-use Rattle.std.proofs.Common.{◌≡◌, ◌≤◌, ◌<◌, ◌++◌, ◌∷◌, [], Some, List, length, map, take, slice_get, refl, ap, sym, ◌∙◌, subst, rules, arith, IfOk}
+use Rattle.std.proofs.Common.{◌≡◌, ◌++◌, ◌∷◌, [], Some, List, length, map, take, slice_get, refl, ap, sym, ◌∙◌, subst, arith, IfOk}
 use Rattle.std.proofs.lemmas.List.{take_all}
 use Rattle.std.proofs.lemmas.Option.{slice_get_read}
 use Rattle.tl_schema.specs.Types.{Shape, shapes_of}
-use Rattle.tl_schema.specs.Types as type
 use Rattle.tl_schema.specs.Closing.{closed}
 use Rattle.tl_schema.specs.Seen.{shape}
 use Rattle.tl_plan.specs.inner.Nodes.{types_at}
@@ -27,9 +26,9 @@ pub close-returns-in_ok-push-in-Vector-clause-closed :
 close-returns-in_ok-push-in-Vector-clause-closed t c =
     subst (λ (T : Shape). IfOk c.number.result (λ n. slice_get c.number.new.self n ≡ Some T))
     (vector_closed c.in-Vector.boxed c.close.new.table c.in_ok-part-in-Vector.part c.push.new.self.items (types_at c.args.table.now c.args.args.now) (shape c.in-Vector.item.value) (shape c.args.of.now)
-      (c.in_ok-push-in-Vector.ensures.items ∙ ap (λ xs. xs ++ c.in_ok-part-in-Vector.part ∷ []) c.new-parts.ensures.items)
-      (c.in_ok-part-in-Vector.ensures.closed ∙ ap (λ u. Some (closed (types_at c.args.table.now c.args.args.now) (shape u))) c.deref.ensures)
-      (shape-Vector c.args.of.now c.in-Vector.boxed c.in-Vector.item c.in-Vector.is))
+    (c.in_ok-push-in-Vector.ensures.items ∙ ap (λ xs. xs ++ c.in_ok-part-in-Vector.part ∷ []) c.new-parts.ensures.items)
+    (c.in_ok-part-in-Vector.ensures.closed ∙ ap (λ u. Some (closed (types_at c.args.table.now c.args.args.now) (shape u))) c.deref.ensures)
+    (shape-Vector c.args.of.now c.in-Vector.boxed c.in-Vector.item c.in-Vector.is))
     c.number.ensures.number
 
 pub close_each-loop-item-preserved : goal.close_each-loop-item-preserved

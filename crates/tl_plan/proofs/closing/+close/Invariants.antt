@@ -1,5 +1,4 @@
-use Rattle.std.proofs.Common.{◌≡◌, map, take, length}
-use Rattle.tl_schema.specs.Closing.{closed}
+use Rattle.std.proofs.Common.{map, take}
 use Rattle.tl_schema.specs.Seen.{shape}
 use Rattle.tl_plan.proofs.ClosedNodes.{ClosedSoFar}
 use Rattle.tl_plan.proofs.closing.+close.Given as goal

@@ -1,4 +1,4 @@
-use Rattle.std.proofs.Common.{arith, length, ◌≤◌, ◌<◌}
+use Rattle.std.proofs.Common.{arith}
 use Rattle.std.proofs.lemmas.List.{length-map}
 use Rattle.tl_plan.specs.inner.Walks.{lists_of}
 use Rattle.tl_plan.proofs.HeadLists.{noted_past, set_noted}

@@ -1,4 +1,4 @@
-use Rattle.std.proofs.Common.{◌≡◌, ◌+◌, length, get_or, map, slice_get, Some, refl, ap, sym, ◌∙◌, arith, max, drop}
+use Rattle.std.proofs.Common.{◌+◌, length, get_or, map, refl, ap, sym, ◌∙◌, max, drop}
 use Rattle.std.specs.Option.{option_map}
 use Rattle.std.proofs.lemmas.Option.{slice_get-map, slice_get_read}
 use Rattle.tl_plan.specs.inner.Nodes.{deepest_of}

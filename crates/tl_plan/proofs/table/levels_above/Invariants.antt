@@ -1,4 +1,4 @@
-use Rattle.std.proofs.Common.{◌≡◌, map, take, max, drop}
+use Rattle.std.proofs.Common.{◌≡◌, map, max, drop}
 use Rattle.tl_plan.specs.inner.Nodes.{deepest_of}
 use Rattle.tl_plan.specs.inner.Tables.{node_view}
 use Rattle.tl_plan.proofs.table.levels_above.Given as goal

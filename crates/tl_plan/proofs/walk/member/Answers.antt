@@ -1,9 +1,13 @@
-use Rattle.std.proofs.Common.{◌≡◌, ◌<◌, ◌+◌, ◌++◌, ◌∷◌, [], ℕ, List, Some, Ok, Err, length, map, take, drop, slice_get, ap, sym, ◌∙◌, subst}
+use Rattle.std.proofs.Common.{◌≡◌, ◌+◌, ◌++◌, ◌∷◌, [], List, Some, Ok, Err, map, take, drop, slice_get, ap, sym, ◌∙◌, subst}
 use Rattle.std.proofs.lemmas.Option.{slice_get_within}
 use Rattle.tl_schema.specs.Types.{Shape}
 use Rattle.tl_schema.specs.Closing.{closed}
 use Rattle.tl_schema.specs.Schemas.{Slot}
-use Rattle.tl_schema.specs.Seen.{shape, slot}
+use Rattle.tl_schema.specs.Seen.{slot}
+use Rattle.std.proofs.lemmas.Result.{err_from_is_err_and}
+use Rattle.tl_plan.specs.Plans.{member_of}
+use Rattle.tl_plan.specs.Seen.{member_view}
+use Rattle.tl_plan.specs.declared.instances.Member.{Member}
 use Rattle.tl_plan.specs.inner.Nodes.{types_at}
 use Rattle.tl_plan.specs.inner.Walks.{Walks, find_all}
 use Rattle.tl_plan.proofs.NodeTypes.{grows_below, grows_types}
@@ -34,11 +38,12 @@ returns-in_err-meet c =
     let earlier = map slot (take i c.fields_of-field-items.result.now) in
     let below = closed_below args c.args.entry before first earlier f Ts ns c.loop-field.fields.items c.loop-field.invariant Us grows n at in
     let within = closed_within args c.args.entry before first earlier f Ts ns c.loop-field.fields.items c.loop-field.invariant Us grows n at in
-    let one = meets_type Us ns c.meet.new.self n c.levels.result c.args.entry c.levels.ensures.distinct below within c.levels.ensures.levels (Err c.in_err-meet.field-0) c.in_err-meet.ensures in
-    rw c.from_residual-in_err-meet.ensures
-    (subst (λ (fs : List Slot). Walks (find_all (types_at before first) (map (named_field args c.args.entry) fs)) before Us c.meet.new.self (Err c.in_err-meet.field-0) _)
-      (sym (mapped_split slot c.fields_of-field-items.result.now i c.field-item.result c.loop-field-test.true c.field-item.is) ∙ c.fields_of-field-items.ensures)
-      (field_fails args c.args.entry before first earlier f Ts ns c.loop-field.fields.items c.loop-field.invariant Us grows n at (map slot (drop (i + 1) c.fields_of-field-items.result.now)) Us c.meet.new.self c.meet.new.self c.in_err-meet.field-0 _ one))
+    let one = meets_type Us ns c.meet.new.self n c.levels.result c.args.entry c.levels.ensures.distinct below within c.levels.ensures.levels (Err c.in_err-meet.field-0.0) c.in_err-meet.ensures in
+    let p = err_from_is_err_and c.from_residual-in_err-meet.result c.from_residual-in_err-meet.ensures.1 in
+    rw (p.1, p.2)
+    (subst (λ (fs : List Slot). Walks (find_all (types_at before first) (map (named_field args c.args.entry) fs)) before Us c.meet.new.self (Err c.in_err-meet.field-0.0) (λ (m : Member). member_view m ≡ member_of c.args.schema.now (types_at Us c.meet.new.self) args c.args.entry))
+    (sym (mapped_split slot c.fields_of-field-items.result.now i c.field-item.result c.loop-field-test.true c.field-item.is) ∙ c.fields_of-field-items.ensures)
+    (field_fails args c.args.entry before first earlier f Ts ns c.loop-field.fields.items c.loop-field.invariant Us grows n at (map slot (drop (i + 1) c.fields_of-field-items.result.now)) Us c.meet.new.self c.meet.new.self c.in_err-meet.field-0.0 (λ (m : Member). member_view m ≡ member_of c.args.schema.now (types_at Us c.meet.new.self) args c.args.entry) one))
 
 pub loop-field-preserved : goal.loop-field-preserved
 loop-field-preserved c =
@@ -59,4 +64,4 @@ loop-field-preserved c =
     let one = meets_type Us ns c.meet.new.self n c.levels.result c.args.entry c.levels.ensures.distinct below within c.levels.ensures.levels (Ok c.in_ok-meet.field-0) c.in_ok-meet.ensures in
     subst (λ (fs : List Slot). FieldsSoFar args c.args.entry before first fs Us c.meet.new.self c.push.new.self.items) (sym (mapped_push slot c.fields_of-field-items.result.now i c.field-item.result c.loop-field-test.true c.field-item.is))
     (subst (FieldsSoFar args c.args.entry before first (earlier ++ f ∷ []) Us c.meet.new.self) (sym c.in_ok-push.ensures.items)
-      (next_field args c.args.entry before first earlier f Ts ns c.loop-field.fields.items c.loop-field.invariant Us grows n at c.meet.new.self c.in_ok-meet.field-0 one))
+    (next_field args c.args.entry before first earlier f Ts ns c.loop-field.fields.items c.loop-field.invariant Us grows n at c.meet.new.self c.in_ok-meet.field-0 one))

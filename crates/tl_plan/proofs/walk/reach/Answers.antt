@@ -1,6 +1,7 @@
-use Rattle.std.proofs.Common.{◌≡◌, ◌+◌, ℕ, List, [], Some, Ok, Err, Result, length, map, take, drop, slice_get, ap, sym, ◌∙◌, subst}
+use Rattle.std.proofs.Common.{◌≡◌, ◌+◌, ℕ, List, Some, Ok, Err, length, map, take, drop, slice_get, ap, sym, ◌∙◌, subst}
 use Rattle.tl_schema.specs.Types.{Shape}
 use Rattle.tl_schema.specs.Seen.{shape}
+use Rattle.std.proofs.lemmas.Result.{err_from_is_err_and}
 use Rattle.tl_plan.specs.Reached.{unnamed}
 use Rattle.tl_plan.specs.inner.Nodes.{type_at, types_at}
 use Rattle.tl_plan.specs.inner.Walks.{Walks, add, add_all}
@@ -24,11 +25,12 @@ returns-in_err-add c =
     let earlier = map shape (take i c.args.roots.now) in
     let below = root_below c.args.schema.now before first earlier T Ts ns c.loop-root.invariant Us c.in_ok-node.ensures.grows n at in
     let within = root_within c.args.schema.now before first earlier T Ts ns c.loop-root.invariant Us c.in_ok-node.ensures.grows n at in
-    let one = adds_type Us ns c.add.new.self n c.levels.result c.count-none.result c.levels.ensures.distinct below within c.levels.ensures.levels (Err c.in_err-add.field-0) c.in_err-add.ensures in
-    let named = subst (λ (d : ℕ). Walks (add (types_at Us ns) (record { of = type_at Us n; decl = d })) Us Us c.add.new.self (Err c.in_err-add.field-0) (λ (k : ℕ). k ≡ length (types_at Us ns))) c.count-none.ensures.count one in
-    rw c.from_residual-in_err-add.ensures
-    (subst (λ (Rs : List Shape). Walks (add_all (types_at before first) (unnamed c.args.schema.now Rs)) before Us c.add.new.self (Err c.in_err-add.field-0) (λ x. Unit {0})) (sym (mapped_split shape c.args.roots.now i c.root-item.result c.loop-root-test.true c.root-item.is))
-      (root_fails c.args.schema.now before first earlier T Ts ns c.loop-root.invariant Us c.in_ok-node.ensures.grows n at (map shape (drop (i + 1) c.args.roots.now)) Us c.add.new.self c.add.new.self c.in_err-add.field-0 (λ (k : ℕ). k ≡ length (types_at Us ns)) (λ x. Unit {0}) named))
+    let one = adds_type Us ns c.add.new.self n c.levels.result c.count-none.result c.levels.ensures.distinct below within c.levels.ensures.levels (Err c.in_err-add.field-0.0) c.in_err-add.ensures in
+    let named = subst (λ (d : ℕ). Walks (add (types_at Us ns) (record { of = type_at Us n; decl = d })) Us Us c.add.new.self (Err c.in_err-add.field-0.0) (λ (k : ℕ). k ≡ length (types_at Us ns))) c.count-none.ensures.count one in
+    let p = err_from_is_err_and c.from_residual-in_err-add.result c.from_residual-in_err-add.ensures.1 in
+    rw (p.1, p.2)
+    (subst (λ (Rs : List Shape). Walks {A = Unit {0}} (add_all (types_at before first) (unnamed c.args.schema.now Rs)) before Us c.add.new.self (Err c.in_err-add.field-0.0) (λ (x : Unit {0}). Unit {0})) (sym (mapped_split shape c.args.roots.now i c.root-item.result c.loop-root-test.true c.root-item.is))
+    (root_fails c.args.schema.now before first earlier T Ts ns c.loop-root.invariant Us c.in_ok-node.ensures.grows n at (map shape (drop (i + 1) c.args.roots.now)) Us c.add.new.self c.add.new.self c.in_err-add.field-0.0 (λ (k : ℕ). k ≡ length (types_at Us ns)) (λ (x : Unit {0}). Unit {0}) named))
 
 pub loop-root-preserved : goal.loop-root-preserved
 loop-root-preserved c =

@@ -1,8 +1,4 @@
-use Rattle.std.proofs.Common.{◌≡◌, ◌<◌, length, refl, ap, sym, ◌∙◌, arith, slice_get, Some, subst, map}
-use Rattle.tl_schema.specs.Types.{Shape}
-use Rattle.tl_plan.specs.Seen.{HasForm}
-use Rattle.tl_plan.specs.inner.Nodes.{type_at}
-use Rattle.tl_plan.specs.inner.Tables.{node_view}
+use Rattle.std.proofs.Common.{arith}
 use Rattle.tl_plan.proofs.TableSteps.{nodes_count, read_node}
 use Rattle.tl_plan.proofs.table.Table.form.Goals as goal
 

@@ -1,4 +1,4 @@
-use Rattle.std.proofs.Common.{◌≡◌, ℕ, List, [], ◌∷◌, ◌++◌, length, map, slice_get, Some, ap, ap₂, sym, ◌∙◌, subst, arith}
+use Rattle.std.proofs.Common.{◌≡◌, ℕ, List, [], ◌∷◌, ◌++◌, map, slice_get, Some, ap, ap₂, ◌∙◌, subst, arith}
 use Rattle.tl_schema.specs.Types.{Shape}
 use Rattle.tl_plan.specs.inner.Nodes.{AreBelow, key_of, levels_above, type_by, types_at}
 use Rattle.tl_plan.specs.inner.Tables.{node_view, types_of_nodes}
