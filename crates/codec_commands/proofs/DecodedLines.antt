@@ -20,6 +20,7 @@ use Rattle.codec_commands.specs.Faults.{of_input, codec_making}
 use Rattle.codec_commands.specs.Lines.{line_text, input_line, cause_text}
 use Rattle.codec_commands.specs.Decode.{OfInput, whole, longer, faulty, decode_job}
 use Rattle.codec_commands.specs.Parts.{LoadsSchema, LoadsValue}
+use Rattle.codec_commands.specs.Loaded.{HasPlan}
 use Rattle.codec_commands.proofs.TypedLines.{of_input_answer}
 
 -- of the input's faults only a failed read stops for one
@@ -30,14 +31,14 @@ read_stop (input.Trailing at) (Err z) is failed = absurd cc
 read_stop input.ReadFault (Err z) is failed = refl
 read_stop input.Memory (Err z) is failed = absurd cc
 
-module _ (s t i : List ℕ) (schema : Declared) (T : Shape) (means : IsTypeText schema.program t T) where
+module _ (s t i : List ℕ) (schema : Declared) (T : Shape) (means : IsTypeText schema.program t T) (planned : HasPlan schema T) where
   pub input_stops : (e : InputFault) (v u w : View) → LoadsSchema s (Ok schema) v u → LoadsValue schema T i (Err e) u w → MakesOutput (decode_job s t i) (codec_making (of_input e)) v w
   input_stops (input.Refused at why) v u w loaded ((bytes, there, (p, r, is)), only) = (
-    of_input_answer OfInput s t i schema T means bytes _ v u loaded there (faulty p why r (ap (λ (q : ℕ). refused (input_line q (cause_text why))) is)),
+    of_input_answer OfInput s t i schema T means planned bytes _ v u loaded there (faulty p why r (ap (λ (q : ℕ). refused (input_line q (cause_text why))) is)),
     then_reads v u w loaded.1 only,
   )
   input_stops (input.Trailing at) v u w loaded ((bytes, there, (tree, x, b, rest, split, spells, deep, is)), only) = (
-    of_input_answer OfInput s t i schema T means bytes _ v u loaded there (longer tree x rest b split spells deep (ap (λ (q : ℕ). refused (input_line q (codes "Trailing"))) is)),
+    of_input_answer OfInput s t i schema T means planned bytes _ v u loaded there (longer tree x rest b split spells deep (ap (λ (q : ℕ). refused (input_line q (codes "Trailing"))) is)),
     then_reads v u w loaded.1 only,
   )
   input_stops input.ReadFault v u w loaded only = then_reads v u w loaded.1 only
@@ -46,7 +47,7 @@ module _ (s t i : List ℕ) (schema : Declared) (T : Shape) (means : IsTypeText 
   value_there : (x : Value) (line : List ℕ) → line ≡ line_text schema.decls T (view x) → (v u w : View) → LoadsSchema s (Ok schema) v u → LoadsValue schema T i (Ok x) u w
       → MakesOutput (decode_job s t i) (made line) v w
   value_there x line is v u w loaded ((bytes, there, h), only) =
-      (of_input_answer OfInput s t i schema T means bytes _ v u loaded there (whole (view x) h.0 h.1 (ap done is)), then_reads v u w loaded.1 only)
+      (of_input_answer OfInput s t i schema T means planned bytes _ v u loaded there (whole (view x) h.0 h.1 (ap done is)), then_reads v u w loaded.1 only)
 
   pub value_line : (x : Value) (line : List ℕ) (a m b : Option View) → Told a m (LoadsSchema s (Ok schema)) → Told m b (LoadsValue schema T i (Ok x))
       → line ≡ line_text schema.decls T (view x) → Told a b (MakesOutput (decode_job s t i) (made line))

@@ -22,7 +22,7 @@ use Rattle.tl_show.specs.Reading.{read, Read}
 use Rattle.command_base.specs.Answer.{Answer}
 use Rattle.command_base.proofs.SameFiles.{file_bytes}
 use Rattle.codec_commands.specs.Check.{OfChecked, no_schema, listed, CheckAnswer}
-use Rattle.codec_commands.specs.Typed.{ToInput, OfType, no_type, typed, OfSchema, schema_of, TypedAnswer}
+use Rattle.codec_commands.specs.Typed.{ToInput, OfType, no_type, no_plan, typed, OfSchema, schema_of, TypedAnswer}
 use Rattle.codec_commands.specs.Typed as typing
 use Rattle.codec_commands.specs.Decode.{OfInput, whole, longer, faulty, DecodeAnswer}
 use Rattle.codec_commands.specs.JsonInput.{IsJson, IsNoJson}
@@ -31,6 +31,7 @@ use Rattle.codec_commands.specs.declared.json_input.TheConstants.{JSON_BYTES}
 use Rattle.codec_commands.proofs.FormedWords.{word_formed}
 use Rattle.codec_commands.proofs.OneSchemaText.{schema_or_refused}
 use Rattle.codec_commands.proofs.OneTypeName.{type_or_refused}
+use Rattle.codec_commands.proofs.TypePlans.{plan_or_refused}
 
 -- some file has this name
 abbrev IsFile : Files → List ℕ → Type 0
@@ -56,7 +57,10 @@ TellsEach Tells = (schema : Declared) → IsSchema schema → (T : Shape) → Is
 module _ (Tells : ToInput) (each_input : TellsEach Tells) (files : Files) (good : HoldBytes files) where
   each_type : (schema : Declared) → IsSchema schema → (type input : List ℕ) → IsFile files input → (a : Answer) × OfType Tells schema type input files a
   each_type schema sound type input (bytes, has) = elim (type_or_refused schema type) [
-    | inl (s, means) ↦ (let tells = each_input schema sound s (word_formed schema sound type s means) bytes (file_bytes files input bytes good has) in (tells.0, typed s bytes means has tells.1))
+    | inl (s, means) ↦ elim (plan_or_refused schema s) [
+      | inl plan ↦ (let tells = each_input schema sound s (word_formed schema sound type s means) bytes (file_bytes files input bytes good has) in (tells.0, typed s bytes means plan has tells.1))
+      | inr (cause, none) ↦ (_, no_plan s cause means none refl)
+    ]
     | inr (cause, r) ↦ (_, no_type cause r refl)
   ]
 

@@ -24,6 +24,7 @@ use Rattle.codec_commands.specs.declared.refusal.CodecFault.TheVariants as fault
 use Rattle.codec_commands.specs.Faults.{of_json, codec_making}
 use Rattle.codec_commands.specs.Encode.{OfJson, too_long, no_json, badly_formed, misfit, spelled, encode_job}
 use Rattle.codec_commands.specs.Parts.{LoadsSchema, LoadsJson}
+use Rattle.codec_commands.specs.Loaded.{HasPlan}
 use Rattle.codec_commands.proofs.TypedLines.{of_input_answer}
 
 -- of the input's faults only a failed read stops for one
@@ -33,16 +34,16 @@ read_stop (json.Refused cause) (Err z) is failed = absurd cc
 read_stop json.ReadFault (Err z) is failed = refl
 read_stop json.Memory (Err z) is failed = absurd cc
 
-module _ (s t i : List ℕ) (schema : Declared) (T : Shape) (means : IsTypeText schema.program t T) where
+module _ (s t i : List ℕ) (schema : Declared) (T : Shape) (means : IsTypeText schema.program t T) (planned : HasPlan schema T) where
   pub input_stops : (e : JsonFault) (v u w : View) → LoadsSchema s (Ok schema) v u → LoadsJson schema T i (Err e) u w → MakesOutput (encode_job s t i) (codec_making (of_json e)) v w
   input_stops (json.Refused why.TooLong) v u w loaded ((bytes, there, h), only) =
-      (of_input_answer OfJson s t i schema T means bytes _ v u loaded there (too_long h refl), then_reads v u w loaded.1 only)
+      (of_input_answer OfJson s t i schema T means planned bytes _ v u loaded there (too_long h refl), then_reads v u w loaded.1 only)
   input_stops (json.Refused why.NoJson) v u w loaded ((bytes, there, h), only) =
-      (of_input_answer OfJson s t i schema T means bytes _ v u loaded there (no_json h refl), then_reads v u w loaded.1 only)
+      (of_input_answer OfJson s t i schema T means planned bytes _ v u loaded there (no_json h refl), then_reads v u w loaded.1 only)
   input_stops (json.Refused (why.Form path cause)) v u w loaded ((bytes, there, (d, is, reads)), only) =
-      (of_input_answer OfJson s t i schema T means bytes _ v u loaded there (badly_formed d path.items cause is reads refl), then_reads v u w loaded.1 only)
+      (of_input_answer OfJson s t i schema T means planned bytes _ v u loaded there (badly_formed d path.items cause is reads refl), then_reads v u w loaded.1 only)
   input_stops (json.Refused (why.Misfit told)) v u w loaded ((bytes, there, (d, x, is, reads, told_so)), only) =
-      (of_input_answer OfJson s t i schema T means bytes _ v u loaded there (misfit d x told.path.items told.cause is reads told_so refl), then_reads v u w loaded.1 only)
+      (of_input_answer OfJson s t i schema T means planned bytes _ v u loaded there (misfit d x told.path.items told.cause is reads told_so refl), then_reads v u w loaded.1 only)
   input_stops json.ReadFault v u w loaded only = then_reads v u w loaded.1 only
   input_stops json.Memory v u w loaded only = then_reads v u w loaded.1 only
 
@@ -54,7 +55,7 @@ module _ (s t i : List ℕ) (schema : Declared) (T : Shape) (means : IsTypeText 
       → MakesOutput (encode_job s t i) (made bytes) v w
   value_there x bytes formed are v u w loaded ((input, there, (d, is, reads, fits)), only) =
       let spells = (each_fits_exactly schema loaded.0.2.good MAX_LEVELS T (view x) formed).spelled fits in
-      (of_input_answer OfJson s t i schema T means input _ v u loaded there (spelled d (view x) spells.0 is reads spells.1 spells.2 (ap done (are spells.0 spells.1))), then_reads v u w loaded.1 only)
+      (of_input_answer OfJson s t i schema T means planned input _ v u loaded there (spelled d (view x) spells.0 is reads spells.1 spells.2 (ap done (are spells.0 spells.1))), then_reads v u w loaded.1 only)
 
   pub value_spelled : (x : Value) (bytes : List ℕ) (a m b : Option View) → IsFormed schema T → Told a m (LoadsSchema s (Ok schema)) → Told m b (LoadsJson schema T i (Ok x))
       → AreSpelling x bytes → Told a b (MakesOutput (encode_job s t i) (made bytes))

@@ -14,6 +14,7 @@ pub mod OneCheck
 pub mod EachAnswer
 pub mod ListedLines
 pub mod TypeWords
+mod TypePlans
 pub mod TypedLines
 pub mod DecodedLines
 pub mod EncodedValues

@@ -10,11 +10,14 @@ use Rattle.command_base.specs.Answer.{Answer, refused}
 use Rattle.command_base.proofs.SameFiles.{same_file}
 use Rattle.codec_commands.specs.declared.causes.SchemaCause.{SchemaCause}
 use Rattle.codec_commands.specs.declared.causes.TypeNameCause.{TypeNameCause}
-use Rattle.codec_commands.specs.Lines.{schema_line, type_line}
-use Rattle.codec_commands.specs.Typed.{ToInput, OfType, no_type, typed, OfSchema, no_schema, schema_of, TypedAnswer}
+use Rattle.codec_commands.specs.declared.causes.PlanCause.{PlanCause}
+use Rattle.codec_commands.specs.Lines.{schema_line, type_line, plan_line}
+use Rattle.codec_commands.specs.Typed.{ToInput, OfType, no_type, no_plan, typed, OfSchema, no_schema, schema_of, TypedAnswer}
 use Rattle.codec_commands.proofs.FormedWords.{word_formed}
 use Rattle.codec_commands.proofs.OneSchemaText.{one_schema_text, one_schema_cause, never_schema}
 use Rattle.codec_commands.proofs.OneTypeName.{one_type_cause, never_type}
+use Rattle.codec_commands.specs.Loaded.{HasPlan, PlanRefused}
+use Rattle.codec_commands.proofs.TypePlans.{one_plan_cause, never_plan}
 
 -- bytes have one answer at most, of each formed type of a schema
 abbrev pub TellsOne : ToInput → Type 0
@@ -23,9 +26,18 @@ TellsOne Tells = (schema : Declared) → IsSchema schema → (T : Shape) → IsF
 module _ (Tells : ToInput) (one_input : TellsOne Tells) where
   one_type : (schema : Declared) → IsSchema schema → (type input : List ℕ) (files : Files) (a c : Answer) → OfType Tells schema type input files a → OfType Tells schema type input files c → a ≡ c
   one_type schema good type input files a c (no_type b r is) (no_type d s at) = is ∙ ap (λ (x : TypeNameCause). refused (type_line x)) (one_type_cause schema type b d r s) ∙ sym at
-  one_type schema good type input files a c (no_type b r is) (typed s bytes means has tells) = absurd (never_type schema type s b means r)
-  one_type schema good type input files a c (typed s bytes means has tells) (no_type b r is) = absurd (never_type schema type s b means r)
-  one_type schema good type input files a c (typed s bytes means has tells) (typed u more also holds says) =
+  one_type schema good type input files a c (no_type b r is) (no_plan s d means no at) = absurd (never_type schema type s b means r)
+  one_type schema good type input files a c (no_type b r is) (typed s bytes means plan has tells) = absurd (never_type schema type s b means r)
+  one_type schema good type input files a c (no_plan s b means no is) (no_type d r at) = absurd (never_type schema type s d means r)
+  one_type schema good type input files a c (no_plan s b means no is) (no_plan u d also none at) =
+      let same : u ≡ s = one_meaning schema.program type u s also means in
+      is ∙ ap (λ (x : PlanCause). refused (plan_line x)) (one_plan_cause schema s b d no (subst (λ (x : Shape). PlanRefused schema x d) same none)) ∙ sym at
+  one_type schema good type input files a c (no_plan s b means no is) (typed u more also plan holds says) =
+      absurd (never_plan schema s b (subst (HasPlan schema) (one_meaning schema.program type u s also means) plan) no)
+  one_type schema good type input files a c (typed s bytes means plan has tells) (no_type b r is) = absurd (never_type schema type s b means r)
+  one_type schema good type input files a c (typed s bytes means plan has tells) (no_plan u d also none at) =
+      absurd (never_plan schema u d (subst (HasPlan schema) (one_meaning schema.program type s u means also) plan) none)
+  one_type schema good type input files a c (typed s bytes means plan has tells) (typed u more also planned holds says) =
       let same : u ≡ s = one_meaning schema.program type u s also means in
       let contents : more ≡ bytes = same_file files input more bytes holds has in
       let there = subst (λ (x : Shape). Tells schema x bytes c) same (subst (λ (z : List ℕ). Tells schema u z c) contents says) in

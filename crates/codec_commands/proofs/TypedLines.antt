@@ -19,14 +19,19 @@ use Rattle.codec_commands.specs.declared.schema_text.SchemaFault.{SchemaFault}
 use Rattle.codec_commands.specs.declared.schema_text.SchemaFault.TheVariants as loading
 use Rattle.codec_commands.specs.declared.type_word.TypeWordFault.{TypeWordFault}
 use Rattle.codec_commands.specs.declared.type_word.TypeWordFault.TheVariants as word
+use Rattle.tl_plan.specs.Plans.{PlanView}
+use Rattle.codec_commands.specs.declared.type_plan.TypePlanFault.{TypePlanFault}
+use Rattle.codec_commands.specs.declared.type_plan.TypePlanFault.TheVariants as plan
 use Rattle.codec_commands.specs.declared.refusal.CodecFault.{CodecFault}
 use Rattle.codec_commands.specs.declared.refusal.CodecFault.TheVariants as fault
-use Rattle.codec_commands.specs.Faults.{of_no_schema, of_no_type, of_codec, codec_making}
-use Rattle.codec_commands.specs.Loaded.{IsSchemaText}
-use Rattle.codec_commands.specs.Typed.{ToInput, OfType, no_type, typed, OfSchema, no_schema, schema_of, TypedAnswer, typed_job}
-use Rattle.codec_commands.specs.Parts.{LoadsSchema, MeansType}
+use Rattle.codec_commands.specs.Faults.{of_no_schema, of_no_type, of_no_plan, of_codec, codec_making}
+use Rattle.codec_commands.specs.Loaded.{IsSchemaText, HasPlan, PlanRefused}
+use Rattle.codec_commands.specs.Typed.{ToInput, OfType, no_type, no_plan, typed, OfSchema, no_schema, schema_of, TypedAnswer, typed_job}
+use Rattle.codec_commands.specs.Parts.{LoadsSchema, MeansType, PlansType}
 use Rattle.codec_commands.proofs.OneSchemaText.{one_schema_text, never_schema}
 use Rattle.codec_commands.proofs.OneTypeName.{never_type}
+use Rattle.codec_commands.proofs.TypePlans.{never_plan}
+use Rattle.tl_schema.proofs.OneType.{one_meaning}
 
 -- the exit of a `?`
 pub stops : (job : Job) (e : CodecFault) (r : Result (Vec ℕ Global) CodecFault) (v w : View) → MakesOutput job (codec_making e) v w → IsErrAnd r (λ z. z ≡ e) → MakesOutput job (of_codec r) v w
@@ -59,13 +64,25 @@ module _ (Tells : ToInput) (s t i : List ℕ) where
   no_type_line schema e r a b loaded h is =
       told_as a b (LoadsSchema s (Ok schema)) (MakesOutput job (of_codec r)) (λ v w l. stops job (of_no_type e) r v w (type_stops schema e v w l h) is) loaded
 
+  -- ---- the plan
+
+  plan_stops : (schema : Declared) (T : Shape) (e : TypePlanFault) (v w : View) → LoadsSchema s (Ok schema) v w → IsTypeText schema.program t T → PlansType schema T (Err e)
+      → MakesOutput job (codec_making (of_no_plan e)) v w
+  plan_stops schema T (plan.Refused cause) v w ((text, has, is), only) means h = ((text, has, schema_of schema is (no_plan T cause means h refl)), only)
+  plan_stops schema T plan.Memory v w (is, only) means h = only
+
+  pub no_plan_line : (schema : Declared) (T : Shape) (e : TypePlanFault) (r : Result (Vec ℕ Global) CodecFault) (a b : Option View) → Told a b (LoadsSchema s (Ok schema))
+      → IsTypeText schema.program t T → PlansType schema T (Err e) → IsErrAnd r (λ z. z ≡ of_no_plan e) → Told a b (MakesOutput job (of_codec r))
+  no_plan_line schema T e r a b loaded means h is =
+      told_as a b (LoadsSchema s (Ok schema)) (MakesOutput job (of_codec r)) (λ v w l. stops job (of_no_plan e) r v w (plan_stops schema T e v w l means h) is) loaded
+
   -- ---- the input
 
-  module _ (schema : Declared) (T : Shape) (means : IsTypeText schema.program t T) where
+  module _ (schema : Declared) (T : Shape) (means : IsTypeText schema.program t T) (planned : HasPlan schema T) where
     -- what the input tells, after the schema and its type
     pub of_input_answer : (bytes : List ℕ) (a : Answer) (v u : View) → LoadsSchema s (Ok schema) v u → HasFile u.files i bytes → Tells schema T bytes a → TypedAnswer Tells v.files s t i a
     of_input_answer bytes a v u ((text, has, is), only) there tells =
-        (text, has, schema_of schema is (typed T bytes means (subst (λ (fs : Files). HasFile fs i bytes) (ap (λ (x : View). x.files) only.rest) there) tells))
+        (text, has, schema_of schema is (typed T bytes means planned (subst (λ (fs : Files). HasFile fs i bytes) (ap (λ (x : View). x.files) only.rest) there) tells))
 
     -- an input that stops for this fault, by what reading it tells
     pub no_value_line : (Loads : View → View → Type 0) (e : CodecFault) → ((v u w : View) → LoadsSchema s (Ok schema) v u → Loads u w → MakesOutput job (codec_making e) v w)
@@ -78,7 +95,9 @@ module _ (Tells : ToInput) (s t i : List ℕ) where
     -- an answer after the schema names the input's file, since the word is a type
     type_there : (files : Files) (a : Answer) → OfType Tells schema t i files a → (bytes : List ℕ) × HasFile files i bytes
     type_there files a (no_type cause refused is) = absurd (never_type schema t T cause means refused)
-    type_there files a (typed other bytes also has tells) = (bytes, has)
+    type_there files a (no_plan other cause also refused is) =
+        absurd (never_plan schema T cause planned (subst (λ (x : Shape). PlanRefused schema x cause) (one_meaning schema.program t other T also means) refused))
+    type_there files a (typed other bytes also has_plan has tells) = (bytes, has)
 
     schema_there : (text : List ℕ) (files : Files) (a : Answer) → IsSchemaText text schema → OfSchema Tells text t i files a → (bytes : List ℕ) × HasFile files i bytes
     schema_there text files a h (no_schema cause r is) = absurd (never_schema text schema cause h r)

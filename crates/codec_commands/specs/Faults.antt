@@ -26,6 +26,11 @@ use Rattle.codec_commands.specs.declared.schema_text.SchemaFault.{SchemaFault}
 use Rattle.codec_commands.specs.declared.schema_text.SchemaFault.TheVariants as schema
 use Rattle.codec_commands.specs.declared.type_word.TypeWordFault.{TypeWordFault}
 use Rattle.codec_commands.specs.declared.type_word.TypeWordFault.TheVariants as word
+use Rattle.tl_plan.specs.declared.fault.PlanFault.{PlanFault}
+use Rattle.tl_plan.specs.declared.fault.PlanFault.TheVariants as planning
+use Rattle.codec_commands.specs.declared.causes.PlanCause.TheVariants as plan_cause
+use Rattle.codec_commands.specs.declared.type_plan.TypePlanFault.{TypePlanFault}
+use Rattle.codec_commands.specs.declared.type_plan.TypePlanFault.TheVariants as plan
 use Rattle.codec_commands.specs.declared.whole.InputFault.{InputFault}
 use Rattle.codec_commands.specs.declared.whole.InputFault.TheVariants as input
 use Rattle.codec_commands.specs.declared.json_input.JsonCause.TheVariants as why
@@ -34,10 +39,10 @@ use Rattle.codec_commands.specs.declared.json_input.JsonTextFault.TheVariants as
 use Rattle.codec_commands.specs.declared.json_input.JsonFault.{JsonFault}
 use Rattle.codec_commands.specs.declared.json_input.JsonFault.TheVariants as json
 use Rattle.codec_commands.specs.declared.refusal.Refusal.{Refusal}
-use Rattle.codec_commands.specs.declared.refusal.Refusal.TheVariants.{Schema, TypeName, Input, Trailing, Json}
+use Rattle.codec_commands.specs.declared.refusal.Refusal.TheVariants.{Schema, TypeName, Plan, Input, Trailing, Json}
 use Rattle.codec_commands.specs.declared.refusal.CodecFault.{CodecFault}
 use Rattle.codec_commands.specs.declared.refusal.CodecFault.TheVariants.{Refused, ReadFault, Memory}
-use Rattle.codec_commands.specs.Lines.{schema_line, type_line, input_line, cause_text, json_line}
+use Rattle.codec_commands.specs.Lines.{schema_line, type_line, plan_line, input_line, cause_text, json_line}
 
 -- ---- texts
 
@@ -97,6 +102,13 @@ of_type (type.Syntax fault) = of_type_text (syntax_cause fault)
 of_type (type.Refused c) = word.Refused (name.Checked c)
 of_type type.Memory = word.Memory
 
+-- ---- plans
+
+abbrev pub of_plan : PlanFault → TypePlanFault
+of_plan (planning.TypeTooDeep decl) = plan.Refused (plan_cause.TypeTooDeep decl)
+of_plan planning.TooManyInstances = plan.Refused plan_cause.TooManyInstances
+of_plan planning.Memory = plan.Memory
+
 -- ---- inputs of JSON
 
 -- a text that is refused is no JSON, unless memory was out
@@ -127,6 +139,10 @@ abbrev pub of_no_type : TypeWordFault → CodecFault
 of_no_type (word.Refused c) = Refused (TypeName c)
 of_no_type word.Memory = Memory
 
+abbrev pub of_no_plan : TypePlanFault → CodecFault
+of_no_plan (plan.Refused c) = Refused (Plan c)
+of_no_plan plan.Memory = Memory
+
 abbrev pub of_input : InputFault → CodecFault
 of_input (input.Refused place c) = Refused (Input place c)
 of_input (input.Trailing place) = Refused (Trailing place)
@@ -141,6 +157,7 @@ of_json json.Memory = Memory
 abbrev pub refusal_line : Refusal → List ℕ
 refusal_line (Schema c) = schema_line c
 refusal_line (TypeName c) = type_line c
+refusal_line (Plan c) = plan_line c
 refusal_line (Input place c) = input_line place (cause_text c)
 refusal_line (Trailing place) = input_line place (codes "Trailing")
 refusal_line (Json c) = json_line c

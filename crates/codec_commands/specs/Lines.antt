@@ -26,6 +26,8 @@ use Rattle.codec_commands.specs.declared.causes.SchemaCause.{SchemaCause}
 use Rattle.codec_commands.specs.declared.causes.SchemaCause.TheVariants as schema
 use Rattle.codec_commands.specs.declared.causes.TypeNameCause.{TypeNameCause}
 use Rattle.codec_commands.specs.declared.causes.TypeNameCause.TheVariants as name
+use Rattle.codec_commands.specs.declared.causes.PlanCause.{PlanCause}
+use Rattle.codec_commands.specs.declared.causes.PlanCause.TheVariants.{TypeTooDeep, TooManyInstances}
 use Rattle.codec_commands.specs.declared.json_input.JsonCause.{JsonCause}
 use Rattle.codec_commands.specs.declared.json_input.JsonCause.TheVariants as json
 
@@ -80,6 +82,11 @@ schema_line (schema.Checked decl c) = placed_line (codes "schema decl") decl (ch
 abbrev pub type_line : TypeNameCause → List ℕ
 type_line (name.Text c) = text_line (codes "type") c
 type_line (name.Checked c) = unplaced_line (codes "type") (type_cause_name c)
+
+-- a refusal of a type without a plan
+abbrev pub plan_line : PlanCause → List ℕ
+plan_line (TypeTooDeep decl) = placed_line (codes "plan decl") decl (codes "TypeTooDeep")
+plan_line TooManyInstances = unplaced_line (codes "plan") (codes "TooManyInstances")
 
 -- a cause with its values: the word of an unknown number as eight hexadecimal digits, a count in decimal
 abbrev pub cause_text : Cause → List ℕ

@@ -1,5 +1,5 @@
--- What a schema's text is, and a word that is a type: a schema, a type of it, or why it is none. This project's own.
-use Rattle.std.specs.Prelude.{ℕ, List}
+-- What a schema's text is, and a word that is a type, and which plan a type has: a schema, a type of it, a plan, or why it is none. This project's own.
+use Rattle.std.specs.Prelude.{◌≡◌, ℕ, List, [], ◌∷◌, Ok, Err}
 use Rattle.tl_lexer.specs.declared.token.Token.{Token}
 use Rattle.tl_lexer.specs.declared.fault.LexFault.TheVariants as lex
 use Rattle.tl_lexer.specs.Tokens.{Tokens, LexRefused}
@@ -10,12 +10,17 @@ use Rattle.tl_combinators.specs.declared.fault.SyntaxFault.{SyntaxFault}
 use Rattle.tl_combinators.specs.declared.fault.SyntaxFault.TheVariants as syntax
 use Rattle.tl_combinators.specs.Sentences.{Reads, SyntaxRefused}
 use Rattle.tl_combinators.specs.Sentences as sentence
+use Rattle.tl_schema.specs.Types.{Shape}
 use Rattle.tl_schema.specs.Schemas.{Declared}
 use Rattle.tl_schema.specs.CheckCauses.{RefusedAt}
 use Rattle.tl_schema.specs.CheckedPrograms.{IsSchema}
 use Rattle.tl_schema.specs.AskedTypes.{AsksFor, RefusedTypeBy, type_causes}
 use Rattle.tl_schema.specs.declared.fault.CheckCause.{CheckCause}
 use Rattle.tl_schema.specs.declared.fault.TypeCause.{TypeCause}
+use Rattle.tl_plan.specs.Plans.{PlanView, answer}
+use Rattle.tl_plan.specs.declared.fault.PlanFault.TheVariants as planning
+use Rattle.codec_commands.specs.declared.causes.PlanCause.{PlanCause}
+use Rattle.codec_commands.specs.declared.causes.PlanCause.TheVariants.{TypeTooDeep, TooManyInstances}
 use Rattle.codec_commands.specs.declared.causes.TextCause.{TextCause}
 use Rattle.codec_commands.specs.declared.causes.TextCause.TheVariants.{TextTooLong, BadByte, OpenComment, Unexpected, NotProfile, TooMany}
 use Rattle.codec_commands.specs.declared.causes.SchemaCause.{SchemaCause}
@@ -52,3 +57,14 @@ pub data SchemaRefused (text : List ℕ) : SchemaCause → Type 0 where
 pub data TypeNameRefused (schema : Declared) (text : List ℕ) : TypeNameCause → Type 0 where
   by_text : (cause : TextCause) → TextRefused text (sentence.TypeRefused text) cause → TypeNameRefused schema text (name.Text cause)
   by_checks : (t : Tree) (cause : TypeCause) → AsksFor text t → RefusedTypeBy schema.program type_causes t cause → TypeNameRefused schema text (name.Checked cause)
+
+-- ---- a type's plan
+
+-- the type has a plan
+abbrev pub HasPlan : Declared → Shape → Type 0
+HasPlan schema T = (p : PlanView) × (answer schema (T ∷ []) ≡ Ok p)
+
+-- it has none, for this cause
+abbrev pub PlanRefused : Declared → Shape → PlanCause → Type 0
+PlanRefused schema T (TypeTooDeep decl) = answer schema (T ∷ []) ≡ Err (planning.TypeTooDeep decl)
+PlanRefused schema T TooManyInstances = answer schema (T ∷ []) ≡ Err planning.TooManyInstances

@@ -1,5 +1,5 @@
 -- What the parts of the commands answer, and what they do to the outside. This project's own.
-use Rattle.std.specs.Prelude.{ℕ, List, Result, Ok, Err}
+use Rattle.std.specs.Prelude.{◌≡◌, ℕ, List, [], ◌∷◌, Result, Ok, Err}
 use Rattle.tl_base.specs.Outside.{View, HasFile, left_of}
 use Rattle.tl_base.specs.Hosted.{OnlySlot}
 use Rattle.tl_base.specs.declared.host.Slot.TheVariants.{Input}
@@ -23,7 +23,10 @@ use Rattle.codec_commands.specs.declared.schema_text.SchemaFault.{SchemaFault}
 use Rattle.codec_commands.specs.declared.schema_text.SchemaFault.TheVariants as schema
 use Rattle.codec_commands.specs.declared.type_word.TypeWordFault.{TypeWordFault}
 use Rattle.codec_commands.specs.declared.type_word.TypeWordFault.TheVariants as word
-use Rattle.codec_commands.specs.Loaded.{IsSchemaText, SchemaRefused, TypeNameRefused}
+use Rattle.tl_plan.specs.Plans.{PlanView, answer}
+use Rattle.codec_commands.specs.declared.type_plan.TypePlanFault.{TypePlanFault}
+use Rattle.codec_commands.specs.declared.type_plan.TypePlanFault.TheVariants as plan
+use Rattle.codec_commands.specs.Loaded.{IsSchemaText, SchemaRefused, TypeNameRefused, PlanRefused}
 
 -- the schema of a text
 abbrev pub ReadsSchema : List ℕ → Result Declared SchemaTextFault → Type 0
@@ -43,6 +46,12 @@ abbrev pub MeansType : Declared → List ℕ → Result TypeRef TypeWordFault �
 MeansType schema text (Ok type) = IsTypeText schema.program text (shape type)
 MeansType schema text (Err (word.Refused cause)) = TypeNameRefused schema text cause
 MeansType schema text (Err word.Memory) = Unit {0}
+
+-- the plan of a type
+abbrev pub PlansType : Declared → Shape → Result PlanView TypePlanFault → Type 0
+PlansType schema T (Ok p) = answer schema (T ∷ []) ≡ Ok p
+PlansType schema T (Err (plan.Refused cause)) = PlanRefused schema T cause
+PlansType schema T (Err plan.Memory) = Unit {0}
 
 -- what was left of the input was taken as one value of the type
 abbrev pub TakesValue : Declared → Shape → Result Value InputFault → View → View → Type 0

@@ -1,4 +1,4 @@
--- What a command answers that takes a schema, one of its types and an input: what the input tells, or where and why schema or type is refused.
+-- What a command answers that takes a schema, one of its types and an input: what the input tells, or where and why schema, type or plan is refused.
 -- This project's own.
 use Rattle.std.specs.Prelude.{◌≡◌, ℕ, List}
 use Rattle.tl_base.specs.Contents.{Files}
@@ -8,8 +8,9 @@ use Rattle.tl_schema.specs.Schemas.{Declared}
 use Rattle.tl_schema.specs.AskedTypes.{IsTypeText}
 use Rattle.codec_commands.specs.declared.causes.SchemaCause.{SchemaCause}
 use Rattle.codec_commands.specs.declared.causes.TypeNameCause.{TypeNameCause}
-use Rattle.codec_commands.specs.Loaded.{IsSchemaText, SchemaRefused, TypeNameRefused}
-use Rattle.codec_commands.specs.Lines.{schema_line, type_line}
+use Rattle.codec_commands.specs.declared.causes.PlanCause.{PlanCause}
+use Rattle.codec_commands.specs.Loaded.{IsSchemaText, SchemaRefused, TypeNameRefused, HasPlan, PlanRefused}
+use Rattle.codec_commands.specs.Lines.{schema_line, type_line, plan_line}
 use Rattle.command_base.specs.Answer.{Answer, refused}
 use Rattle.command_base.specs.Jobs.{Job}
 use Rattle.command_base.specs.Kept.{KeepsRest}
@@ -18,10 +19,11 @@ use Rattle.command_base.specs.Kept.{KeepsRest}
 abbrev pub ToInput : Type 1
 ToInput = Declared → Shape → List ℕ → Answer → Type 0
 
--- the word is refused as a type, or it is one, and then the input's file tells
+-- the word is refused as a type, or the type that it is has no plan, or it has one, and then the input's file tells
 pub data OfType (Tells : ToInput) (schema : Declared) (type input : List ℕ) (files : Files) (a : Answer) : Type 0 where
   no_type : (cause : TypeNameCause) → TypeNameRefused schema type cause → a ≡ refused (type_line cause) → OfType Tells schema type input files a
-  typed : (s : Shape) (bytes : List ℕ) → IsTypeText schema.program type s → HasFile files input bytes → Tells schema s bytes a → OfType Tells schema type input files a
+  no_plan : (s : Shape) (cause : PlanCause) → IsTypeText schema.program type s → PlanRefused schema s cause → a ≡ refused (plan_line cause) → OfType Tells schema type input files a
+  typed : (s : Shape) (bytes : List ℕ) → IsTypeText schema.program type s → HasPlan schema s → HasFile files input bytes → Tells schema s bytes a → OfType Tells schema type input files a
 
 -- the text is no schema's, or it is one's, and then the type tells
 pub data OfSchema (Tells : ToInput) (text type input : List ℕ) (files : Files) (a : Answer) : Type 0 where

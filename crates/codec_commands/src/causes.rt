@@ -50,6 +50,17 @@ pub enum TypeNameCause {
     Checked { cause: TypeCause },
 }
 
+/// Why a type has no plan.
+#[derive(Clone, Copy, Debug, PartialEq, Eq, Error)]
+pub enum PlanCause {
+    /// One of the types that it reaches has more than 16 levels; this declaration has the field that names the first such.
+    #[error("declaration {decl} names a type that is too deep")]
+    TypeTooDeep { decl: u32 },
+    /// It reaches more than 65,536 types.
+    #[error("too many types")]
+    TooManyInstances,
+}
+
 /// The cause that a lexer's fault is; out of memory is none.
 pub fn lex_cause(fault: LexFault) -> Option<TextCause>
     ensures { result ≡ lex_cause fault }

@@ -14,6 +14,7 @@ ghost use Rattle.codec_commands.specs.Faults.{of_codec};
 use crate::json_input::load_json;
 use crate::refusal::{CodecFault, unmade};
 use crate::schema_text::load_schema;
+use crate::type_plan::plan_of;
 use crate::type_word::type_named;
 use command_base::{Stop, Unmade, write_made};
 use std::alloc::{AllocError, Global};
@@ -49,6 +50,7 @@ fn encoded_value<H: Host>(
 {
     let schema = load_schema(alloc, host, schema)?;
     let of = type_named(alloc, &schema, of)?;
+    let _plan = plan_of(alloc, &schema, &of)?;
     let value = load_json(alloc, host, &schema, &of, input)?;
     let bytes = spelling_of(alloc, &schema, &of, &value)?;
     Ok(bytes)

@@ -11,6 +11,7 @@ mod lines;
 mod listing;
 mod refusal;
 mod schema_text;
+mod type_plan;
 mod type_word;
 mod whole;
 

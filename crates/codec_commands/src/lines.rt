@@ -3,9 +3,9 @@ ghost use Rattle.std.specs.Prelude.{◌≡◌, ◌++◌, IfOk, OnOk, string_byte
 ghost use Rattle.command_base.specs.Answer.{placed_line, unplaced_line};
 ghost use Rattle.command_base.specs.Jobs.{TellsAs};
 ghost use Rattle.codec_commands.specs.Faults.{schema_making};
-ghost use Rattle.codec_commands.specs.Lines.{cause_text, check_name, form_cause_name, form_name, form_text, input_line, json_line, misfit_cause_name, misfit_text, path_text, schema_line, steps_text, text_line, type_cause_name, type_line};
+ghost use Rattle.codec_commands.specs.Lines.{cause_text, check_name, form_cause_name, form_name, form_text, input_line, json_line, misfit_cause_name, misfit_text, path_text, plan_line, schema_line, steps_text, text_line, type_cause_name, type_line};
 
-use crate::causes::{SchemaCause, TextCause, TypeNameCause};
+use crate::causes::{PlanCause, SchemaCause, TextCause, TypeNameCause};
 use crate::json_input::JsonCause;
 use crate::schema_text::SchemaFault;
 use command_base::{Unmade, placed_line, unplaced_line};
@@ -118,6 +118,18 @@ pub fn type_line(alloc: Global, cause: TypeNameCause) -> Result<String, AllocErr
     match cause {
         TypeNameCause::Text { cause } => text_line(alloc, "type", cause),
         TypeNameCause::Checked { cause } => { unplaced_line(alloc, "type", type_cause_name(cause)) }
+    }
+}
+
+/// The line of a type without a plan.
+pub fn plan_line(alloc: Global, cause: PlanCause) -> Result<String, AllocError>
+    ensures { IfOk result (λ s. string_bytes s ≡ plan_line cause) }
+{
+    match cause {
+        PlanCause::TypeTooDeep { decl } => {
+            placed_line(alloc, "plan decl", decl as u64, "TypeTooDeep")
+        }
+        PlanCause::TooManyInstances => unplaced_line(alloc, "plan", "TooManyInstances"),
     }
 }
 

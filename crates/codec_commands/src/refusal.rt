@@ -3,10 +3,11 @@ ghost use Rattle.std.specs.Prelude.{◌≡◌, IfOk, string_bytes};
 ghost use Rattle.command_base.specs.Jobs.{TellsAs};
 ghost use Rattle.codec_commands.specs.Faults.{codec_making, refusal_line};
 
-use crate::causes::{SchemaCause, TypeNameCause};
+use crate::causes::{PlanCause, SchemaCause, TypeNameCause};
 use crate::json_input::{JsonCause, JsonFault};
-use crate::lines::{input_line, json_line, schema_line, trailing_line, type_line};
+use crate::lines::{input_line, json_line, plan_line, schema_line, trailing_line, type_line};
 use crate::schema_text::SchemaFault;
+use crate::type_plan::TypePlanFault;
 use crate::type_word::TypeWordFault;
 use crate::whole::InputFault;
 use command_base::Unmade;
@@ -21,6 +22,8 @@ pub enum Refusal {
     Schema { cause: SchemaCause },
     #[error("the type is refused: {cause}")]
     TypeName { cause: TypeNameCause },
+    #[error("the type has no plan: {cause}")]
+    Plan { cause: PlanCause },
     #[error("the input is refused at {place}: {cause}")]
     Input { place: u64, cause: Cause },
     #[error("more bytes follow the value, at {place}")]
@@ -65,6 +68,20 @@ impl From<TypeWordFault> for CodecFault {
         match fault {
             TypeWordFault::Refused(cause) => CodecFault::Refused(Refusal::TypeName { cause }),
             TypeWordFault::Memory => CodecFault::Memory,
+        }
+    }
+}
+
+impl From<TypePlanFault> for CodecFault {
+    ghost use Rattle.std.specs.Prelude.{◌≡◌};
+    ghost use Rattle.codec_commands.specs.Faults.{of_no_plan};
+
+    ghost from_gives = { λ e fault. fault ≡ of_no_plan e };
+
+    fn from(fault: TypePlanFault) -> CodecFault {
+        match fault {
+            TypePlanFault::Refused(cause) => CodecFault::Refused(Refusal::Plan { cause }),
+            TypePlanFault::Memory => CodecFault::Memory,
         }
     }
 }
@@ -120,6 +137,7 @@ fn refusal_line(alloc: Global, refusal: Refusal) -> Result<String, AllocError>
     match refusal {
         Refusal::Schema { cause } => schema_line(alloc, cause),
         Refusal::TypeName { cause } => type_line(alloc, cause),
+        Refusal::Plan { cause } => plan_line(alloc, cause),
         Refusal::Input { place, cause } => input_line(alloc, place, cause),
         Refusal::Trailing { place } => trailing_line(alloc, place),
         Refusal::Json { cause } => json_line(alloc, &cause),
