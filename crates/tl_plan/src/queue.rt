@@ -1,0 +1,91 @@
+//! The types that are reached, in order.
+ghost use Rattle.std.specs.Prelude.{◌≡◌, ◌<◌, ◌≤◌, [], OnErr, OnOk, length, slice_get, Some};
+ghost use Rattle.tl_plan.specs.inner.Queues.{Adds, KeepsFirst, Meets};
+
+use crate::fault::{MAX_INSTANCES, MAX_LEVELS, PlanFault};
+use std::alloc::{AllocError, Global};
+use std::collections::BTreeMap;
+use std::marker::Model;
+
+/// The numbers of the types that are reached, and at which index each stands first.
+#[derive(Drop)]
+pub struct Queue {
+    nodes: Vec<u32>,
+    places: BTreeMap<u32, u32>,
+}
+
+impl Model for Queue {
+    ghost use Rattle.std.specs.Prelude.{List, ℕ};
+    ghost use Rattle.tl_plan.specs.inner.Queues.{IsQueue};
+
+    ghost Value = { List ℕ };
+
+    ghost view = { λ q. q.nodes.items };
+
+    ghost invariant = { λ q. IsQueue q.nodes.items q.places.entries };
+}
+
+impl Queue {
+    pub fn new(alloc: Global) -> Queue
+        ensures { result ≡ [] }
+    {
+        Queue {
+            nodes: Vec::new(alloc),
+            places: BTreeMap::new(alloc),
+        }
+    }
+
+    /// How many types are reached.
+    pub fn len(&self) -> u32
+        ensures count { result ≡ length self.now }
+        ensures few { length self.now ≤ MAX_INSTANCES }
+    {
+        self.nodes.len() as u32
+    }
+
+    /// The type at an index.
+    pub fn node(&self, i: u32) -> u32
+        requires { i < length self.now }
+        ensures { slice_get self.now i ≡ Some result }
+    {
+        self.nodes[i as usize]
+    }
+
+    /// The index of a type of so many levels, which is reached now if it wasn't before.
+    pub fn meet(&mut self, node: u32, levels: u32, decl: u32) -> Result<u32, PlanFault>
+        ensures { Meets self.old self.new node levels decl result }
+    {
+        if let Some(place) = self.places.get(&node).copied() {
+            return Ok(place);
+        }
+        self.add(node, levels, decl)
+    }
+
+    /// Adds a type, whether it is reached already or not.
+    pub fn add(&mut self, node: u32, levels: u32, decl: u32) -> Result<u32, PlanFault>
+        ensures { Adds self.old self.new node levels decl result }
+    {
+        if levels > MAX_LEVELS {
+            return Err(PlanFault::TypeTooDeep { decl });
+        }
+        let place = self.nodes.len() as u32;
+        if place >= MAX_INSTANCES {
+            return Err(PlanFault::TooManyInstances);
+        }
+        self.nodes.reserve(1)?;
+        keep_first(&mut self.places, node, place)?;
+        self.nodes.push_reserved(node);
+        Ok(place)
+    }
+}
+
+// Notes where a type stands, unless it stands somewhere already.
+fn keep_first(places: &mut BTreeMap<u32, u32>, node: u32, place: u32) -> Result<(), AllocError>
+    ensures kept { OnOk result (KeepsFirst places.old.entries places.new.entries node place) }
+    ensures unchanged { OnErr result (places.new.entries ≡ places.old.entries) }
+{
+    if places.get(&node).is_none() {
+        places.insert(node, place)?;
+    }
+    Ok(())
+}
