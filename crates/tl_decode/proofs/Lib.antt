@@ -9,3 +9,5 @@ pub mod Values
 pub mod Opaques
 pub mod Closings
 pub mod Outcomes
+pub mod SizesNamed
+pub mod SizesBounded

@@ -1,0 +1,12 @@
+//! Laws of the definitions, each carried by a function that does nothing.
+ghost use Rattle.tl_decode.specs.Sizes.{EachSizeIsBounded, EachTextIsSo};
+
+/// A value has at most 32,768 E (n / 4 + 1) nodes, where n bytes spell it and E bounds the nodes of what no bytes spell.
+pub fn each_size_is_bounded()
+    ensures { EachSizeIsBounded }
+{}
+
+/// In the schema of a text each declaration has at most 256 fields, and each flag has a condition.
+pub fn each_text_has_few_fields()
+    ensures { EachTextIsSo }
+{}
