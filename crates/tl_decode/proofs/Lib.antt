@@ -11,3 +11,4 @@ pub mod Closings
 pub mod Outcomes
 pub mod SizesNamed
 pub mod SizesBounded
+pub mod SizesBare
