@@ -12,3 +12,7 @@ pub mod Outcomes
 pub mod SizesNamed
 pub mod SizesBounded
 pub mod SizesBare
+pub mod SizesEmpty
+pub mod SizesWidths
+pub mod SizesUsed
+pub mod SizesTexts

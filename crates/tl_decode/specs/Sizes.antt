@@ -9,6 +9,7 @@ use Rattle.tl_schema.specs.Types as type
 use Rattle.tl_schema.specs.Closing.{closed, list_of_shapes}
 use Rattle.tl_schema.specs.Schemas.{Slot, Declaration, Declared}
 use Rattle.tl_schema.specs.CheckedPrograms.{IsSchema, IsSchemaOf}
+use Rattle.tl_schema.specs.AskedTypes.{IsTypeText}
 use Rattle.tl_schema.specs.Formed.{IsFormed, IsMember, IsFunction}
 use Rattle.tl_types.specs.Values.{ValueView, ValueViews, no_values, value, depth}
 use Rattle.tl_types.specs.Values as view
@@ -60,6 +61,10 @@ abbrev mutual
   pub HaveWidths : Shapes → Type 0
   HaveWidths type.no_shapes = Unit {0}
   HaveWidths (type.shape T args) = HasWidths T × HaveWidths args
+
+-- a type that a text asks for has such widths
+abbrev pub EachTypeHasWidths : Type 0
+EachTypeHasWidths = (ds : List DeclText) (text : List ℕ) (T : Shape) → IsTypeText ds text T → HasWidths T
 
 -- field k of declaration d has this type, with these in place of its variables
 pub record IsFieldType (d : Declaration) (args : List Shape) (k : ℕ) (T : Shape) : Type 0 where
