@@ -1,5 +1,5 @@
 -- A type that means one of no bytes is a bare constructor that takes none.
-use Rattle.std.proofs.Common.{◌≡◌, inl, inr, ℕ, ◌<◌, Bool, true, false, ◌||◌, List, [], ◌∷◌, bytes_eq, codes, Option, Some, None, refl, ap, sym, ◌∙◌, subst, true≢false, arith, if◌then◌else◌}
+use Rattle.std.proofs.Common.{◌≡◌, inl, inr, ℕ, Bool, true, false, ◌||◌, List, [], ◌∷◌, bytes_eq, codes, Option, Some, None, refl, ap, sym, ◌∙◌, subst, true≢false, arith, if◌then◌else◌}
 use Rattle.std.specs.Prelude.{is_some}
 use Rattle.std.proofs.lemmas.Bool.{cases_Bool}
 use Rattle.std.proofs.lemmas.Option.{none-some, same_Some}
@@ -25,7 +25,7 @@ use Rattle.tl_schema.specs.Schemas.{Declared}
 use Rattle.tl_schema.specs.UnknownType.{BeginsUnknown, no_constructor}
 use Rattle.tl_schema.specs.NotBare.{HasBare, HasNoBare}
 use Rattle.tl_schema.specs.NotBare as only
-use Rattle.tl_schema.specs.Meanings.{base_shape, built_in_shape, declared_shape, known_shape, named_shape, bare_shape, meaning, meanings}
+use Rattle.tl_schema.specs.Meanings.{built_in_shape, declared_shape, known_shape, named_shape, bare_shape, meaning, meanings}
 use Rattle.tl_schema.specs.Formed.{IsEmpty}
 use Rattle.tl_schema.proofs.NotBareFirst.{bare_decided}
 

@@ -1,12 +1,12 @@
 -- A value that no bytes spell is a flag, or its type is a bare constructor that takes none.
-use Rattle.std.proofs.Common.{◌≡◌, ◌⊎◌, inl, inr, ℕ, zero, suc, ◌+◌, ◌<◌, List, [], ◌∷◌, ◌++◌, length, length-append, slice_get, Option, Some, None, IsSome, Bool, true, false, not, ◌&&◌, refl, sym, ap, ◌∙◌, subst, arith, true≢false}
+use Rattle.std.proofs.Common.{◌≡◌, ◌⊎◌, inl, inr, ℕ, zero, suc, ◌<◌, List, [], ◌∷◌, ◌++◌, length, length-append, slice_get, Option, Some, None, IsSome, Bool, true, false, not, ◌&&◌, refl, sym, ap, ◌∙◌, subst, arith, true≢false}
 use Rattle.std.specs.Prelude.{nat_le}
 use Rattle.std.proofs.lemmas.Option.{none-some, same_Some}
 use Rattle.tl_base.specs.Numbers.{word}
 use Rattle.tl_combinators.specs.Trees.{Tree, named, percent, any_call}
 use Rattle.tl_combinators.specs.Program.{KindText, FieldText, DeclText}
 use Rattle.tl_combinators.specs.Program as kind
-use Rattle.tl_names.specs.Writing.{is_constructor, is_function}
+use Rattle.tl_names.specs.Writing.{is_constructor}
 use Rattle.tl_names.specs.Parts.{FieldAt, HeldBy, Writes, IsPart}
 use Rattle.tl_names.specs.BareFields.{HoldsBare, TakesNone, takes_none}
 use Rattle.tl_names.proofs.Maps.{slice_get_made}

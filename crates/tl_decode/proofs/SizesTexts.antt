@@ -1,5 +1,5 @@
 -- The schema of a text: each declaration has few fields, and each flag a condition.
-use Rattle.std.proofs.Common.{◌≡◌, inl, inr, ℕ, ◌+◌, ◌≤◌, Bool, true, false, List, [], ◌∷◌, ◌++◌, length, map, slice_get, Option, Some, None, IsSome, All, refl, sym, ap, ◌∙◌, subst, arith, if◌then◌else◌}
+use Rattle.std.proofs.Common.{◌≡◌, ℕ, Bool, true, false, List, [], length, slice_get, bytes_eq, codes, true≢false, Option, Some, None, IsSome, All, refl, sym, ap, ◌∙◌, subst, arith, if◌then◌else◌}
 use Rattle.std.specs.Option.{option_map}
 use Rattle.std.proofs.lemmas.List.{length-map}
 use Rattle.std.proofs.lemmas.List.Elements.{All-nil, All-push, All-get_or}
@@ -8,23 +8,26 @@ use Rattle.tl_lexer.specs.Rule.{Rule}
 use Rattle.tl_lexer.specs.declared.token.Token.{Token}
 use Rattle.tl_combinators.specs.declared.fault.SyntaxFault.{SyntaxFault}
 use Rattle.tl_combinators.specs.declared.built_in.BuiltIn.{BuiltIn}
+use Rattle.tl_combinators.specs.declared.built_in.BuiltIn.TheVariants.{Int, Long, Double, Str, Bytes, Vector, Int128, Int256}
 use Rattle.tl_combinators.specs.Names.{NameText}
-use Rattle.tl_combinators.specs.Trees.{Tree, is_plain}
+use Rattle.tl_combinators.specs.Trees.{Tree, named, percent, any_call}
 use Rattle.tl_combinators.specs.Program.{KindText, DeclText, FieldText, HasFewParts}
 use Rattle.tl_combinators.specs.Program as kind
 use Rattle.tl_combinators.specs.Description.{Piece}
-use Rattle.tl_combinators.specs.Fields.{HeldText, conditional, called, in_condition, held, FieldsText, field, field_too_many, one_field, fields, where_field}
-use Rattle.tl_combinators.specs.BuiltIns.{built_in_line}
+use Rattle.tl_combinators.specs.Fields.{HeldText, called, in_condition, held, FieldsText, field, field_too_many, one_field, fields, where_field}
+use Rattle.tl_combinators.specs.BuiltIns.{built_in, built_in_line}
 use Rattle.tl_combinators.specs.Declarations.{combinator, named_declaration, declaration, where_declaration, declaration_too_many}
-use Rattle.tl_combinators.specs.Sentences.{ProgramText, Reads, item, one_declaration, program}
+use Rattle.tl_combinators.specs.Sentences.{ProgramText, item, one_declaration, program}
 use Rattle.tl_combinators.proofs.Values.{Only, only_gives, only_fails, only_chain, only_choice, only_loop, only_taken}
 use Rattle.tl_combinators.proofs.WithinLimits.{within_limits}
+use Rattle.tl_names.specs.Writing.{is_type_name, is_variable}
+use Rattle.tl_schema.specs.Types.{Shape, Shapes}
 use Rattle.tl_schema.specs.Types as type
 use Rattle.tl_schema.specs.Schemas.{Slot, Declaration, Declared}
-use Rattle.tl_schema.specs.CheckedPrograms.{IsSchema, IsSchemaOf}
-use Rattle.tl_schema.specs.Meanings.{condition_of, kind_shape, slot_of, meaning}
+use Rattle.tl_schema.specs.CheckedPrograms.{IsSchema}
+use Rattle.tl_schema.specs.Meanings.{built_in_shape, condition_of, kind_shape, known_shape, slot_of, meaning, meanings}
 use Rattle.tl_schema.proofs.Members.{declaration_at}
-use Rattle.tl_decode.specs.Sizes.{HasFewFields, FlagsHaveConditions, EachTextIsSo}
+use Rattle.tl_decode.specs.Sizes.{HasFewFields, FlagsHaveConditions, HoldsOfTexts}
 
 -- ---- texts
 
@@ -143,11 +146,42 @@ module _ (text : List ℕ) where
 one_of : {A : Type 0} (P : A → Type 0) (xs : List A) (k : ℕ) (x : A) → All P xs → slice_get xs k ≡ Some x → P x
 one_of P xs k x all at = subst P (get_or_from_slice_get xs k x x at) (All-get_or P xs k x (slice_get_within xs k x at) all)
 
+-- what is written means no flag
+abbrev is_flag : Shape → Bool
+is_flag type.flag = true
+is_flag s = false
+
+either_plain : (b : Bool) (s u : Shape) → is_flag s ≡ false → is_flag u ≡ false → is_flag (if b then s else u) ≡ false
+either_plain true s u first second = first
+either_plain false s u first second = second
+
+module _ (ds : List DeclText) (d : DeclText) where
+  known_plain : (name : List ℕ) (args : Shapes) (b : Option BuiltIn) → is_flag (known_shape ds name args (built_in_shape b)) ≡ false
+  known_plain name args (Some Int) = refl
+  known_plain name args (Some Long) = refl
+  known_plain name args (Some Double) = refl
+  known_plain name args (Some Str) = refl
+  known_plain name args (Some Bytes) = refl
+  known_plain name args (Some Vector) = either_plain (is_type_name name) _ _ refl refl
+  known_plain name args (Some Int128) = refl
+  known_plain name args (Some Int256) = refl
+  known_plain name args None = either_plain (is_type_name name) _ _ refl refl
+
+  meaning_plain : (t : Tree) → is_flag (meaning ds d t) ≡ false
+  meaning_plain (named name ts) =
+      let args = meanings ds d ts in
+      either_plain (is_variable d name) _ _ refl
+      (either_plain (bytes_eq name (codes "vector")) _ _ refl (either_plain (bytes_eq name (codes "Vector")) _ _ refl (known_plain name args (built_in name))))
+  meaning_plain (percent (named name ts)) = either_plain (bytes_eq name (codes "Vector")) _ _ refl refl
+  meaning_plain (percent (percent t)) = refl
+  meaning_plain (percent any_call) = refl
+  meaning_plain any_call = refl
+
 flag_kind : (ds : List DeclText) (d : DeclText) (k : KindText) → kind_shape ds d k ≡ type.flag → k ≡ kind.flag
 flag_kind ds d kind.nat e = absurd cc
 flag_kind ds d kind.flag e = refl
 flag_kind ds d (kind.call var) e = absurd cc
-flag_kind ds d (kind.of t) e = ?
+flag_kind ds d (kind.of t) e = absurd (true≢false (sym (ap is_flag e) ∙ meaning_plain ds d t))
 
 mapped_some : (d : DeclText) (o : Option kind.CondText) → IsSome o → IsSome (option_map (condition_of d) o)
 mapped_some d (Some c) is = refl
@@ -174,8 +208,8 @@ module _ (schema : Declared) (good : IsSchema schema) where
       field_so_of schema.program t.0 f k (slice_get t.0.fields k) refl (one_of IsDeclSo schema.program i t.0 all t.1)
       (sym (slice_get-map (slot_of schema.program t.0) t.0.fields k) ∙ sym (ap (λ (x : Declaration). slice_get x.fields k) t.2.1) ∙ at) flag
 
-pub each_text_is_so : EachTextIsSo
-each_text_is_so text tokens ds read schema is =
-    let few = few_fields schema is.0 (subst (All HasFewParts) (sym is.1) (within_limits text tokens ds read).parts) in
-    let flags = flags_so schema is.0 (subst (All IsDeclSo) (sym is.1) ((program_so text).each tokens [] _ read.1)) in
-    (few, flags)
+pub texts_have_few_fields : HoldsOfTexts HasFewFields
+texts_have_few_fields text tokens ds read schema is = few_fields schema is.0 (subst (All HasFewParts) (sym is.1) (within_limits text tokens ds read).parts)
+
+pub texts_have_conditions : HoldsOfTexts FlagsHaveConditions
+texts_have_conditions text tokens ds read schema is = flags_so schema is.0 (subst (All IsDeclSo) (sym is.1) ((program_so text).each tokens [] _ read.1))

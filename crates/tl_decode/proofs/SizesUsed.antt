@@ -1,11 +1,11 @@
 -- The types that a type uses: with each those that it names; and in a schema each is a flag or formed, and has widths.
-use Rattle.std.proofs.Common.{◌≡◌, ◌⊎◌, inl, inr, ℕ, List, [], slice_get, Some, refl, sym, subst}
+use Rattle.std.proofs.Common.{◌≡◌, inr, ℕ, slice_get, Some, refl, sym, subst}
 use Rattle.tl_schema.specs.Types.{Shape, Shapes}
 use Rattle.tl_schema.specs.Types as type
 use Rattle.tl_schema.specs.Closing.{closed, list_of_shapes}
-use Rattle.tl_schema.specs.Schemas.{Slot, Declaration, Declared}
+use Rattle.tl_schema.specs.Schemas.{Declaration, Declared}
 use Rattle.tl_schema.specs.CheckedPrograms.{IsSchema}
-use Rattle.tl_schema.specs.Formed.{IsFormed, IsMember, IsFunction}
+use Rattle.tl_schema.specs.Formed.{IsFormed}
 use Rattle.tl_types.proofs.FormedParts.{PartsTell, IsRead, deep_formed}
 use Rattle.tl_types.proofs.SchemaTells.{schema_tells}
 use Rattle.tl_decode.specs.Sizes.{HasWidths, HaveWidths, IsFieldType, Uses, EachSizeIsBounded}

@@ -1,5 +1,5 @@
 -- The opaque types that a program means are as wide as a double, an int128 or an int256.
-use Rattle.std.proofs.Common.{◌≡◌, inl, inr, ℕ, zero, suc, List, [], ◌∷◌, map, get_or, slice_get, bytes_eq, codes, Bool, true, false, Option, Some, None, refl, sym, ap, ◌∙◌, subst, if◌then◌else◌}
+use Rattle.std.proofs.Common.{◌≡◌, inl, inr, ℕ, zero, suc, List, get_or, slice_get, bytes_eq, codes, Bool, true, false, Option, Some, None, refl, sym, ap, ◌∙◌, subst, if◌then◌else◌}
 use Rattle.std.specs.Option.{option_map}
 use Rattle.std.proofs.lemmas.Option.{none-some, same_Some, slice_get-map}
 use Rattle.tl_combinators.specs.declared.built_in.BuiltIn.{BuiltIn}
@@ -9,16 +9,15 @@ use Rattle.tl_combinators.specs.Trees.{Tree, Trees, named, percent, any_call, no
 use Rattle.tl_combinators.specs.Program.{KindText, DeclText, FieldText}
 use Rattle.tl_combinators.specs.Program as kind
 use Rattle.tl_names.specs.Writing.{is_type_name, is_variable}
-use Rattle.tl_names.specs.Places.{head_of, place_of, first_of, variable_of}
 use Rattle.tl_schema.specs.Types.{Shape, Shapes}
 use Rattle.tl_schema.specs.Types as type
 use Rattle.tl_schema.specs.Closing.{closed, closed_each, list_of_shapes}
 use Rattle.tl_schema.specs.Schemas.{Slot, Declaration, Declared}
 use Rattle.tl_schema.specs.CheckedPrograms.{IsSchema}
 use Rattle.tl_schema.specs.AskedTypes.{asker}
-use Rattle.tl_schema.specs.Meanings.{item_of, built_in_shape, base_shape, declared_shape, known_shape, named_shape, bare_shape, meaning, bare_meaning, meanings, kind_shape, slot_of}
+use Rattle.tl_schema.specs.Meanings.{item_of, built_in_shape, declared_shape, known_shape, named_shape, bare_shape, meaning, bare_meaning, meanings, kind_shape, slot_of}
 use Rattle.tl_schema.proofs.Members.{declaration_at}
-use Rattle.tl_decode.specs.Sizes.{HasWidths, HaveWidths, EachTypeHasWidths}
+use Rattle.tl_decode.specs.Sizes.{HasWidths, HaveWidths, HoldsOfTypes}
 
 -- ---- types where they are written
 
@@ -76,8 +75,8 @@ module _ (ds : List DeclText) (d : DeclText) where
   kind_wide (kind.of t) = meaning_wide t
 
 -- a type that a text asks for
-pub each_type_has_widths : EachTypeHasWidths
-each_type_has_widths ds text s is = subst HasWidths (sym is.means) (meaning_wide ds asker is.t)
+pub types_have_widths : HoldsOfTypes HasWidths
+types_have_widths ds text s is = subst HasWidths (sym is.means) (meaning_wide ds asker is.t)
 
 -- ---- types of fields
 

@@ -39,9 +39,9 @@ abbrev pub FlagsHaveConditions : Declared → Type 0
 FlagsHaveConditions schema =
     (i k : ℕ) (d : Declaration) (f : Slot) → slice_get schema.decls i ≡ Some d → slice_get d.fields k ≡ Some f → f.of ≡ type.flag → IsSome f.cond
 
--- of the schema of a text, that is of a program that tokens of a text read as, both hold
-abbrev pub EachTextIsSo : Type 0
-EachTextIsSo = (text : List ℕ) (tokens : List Token) (ds : List DeclText) → Reads text tokens ds → (schema : Declared) → IsSchemaOf ds schema → HasFewFields schema × FlagsHaveConditions schema
+-- it holds of the schema of each text, that is of each program that tokens of a text read as
+abbrev pub HoldsOfTexts : (Declared → Type 0) → Type 0
+HoldsOfTexts Holds = (text : List ℕ) (tokens : List Token) (ds : List DeclText) → Reads text tokens ds → (schema : Declared) → IsSchemaOf ds schema → Holds schema
 
 -- ---- types
 
@@ -62,9 +62,9 @@ abbrev mutual
   HaveWidths type.no_shapes = Unit {0}
   HaveWidths (type.shape T args) = HasWidths T × HaveWidths args
 
--- a type that a text asks for has such widths
-abbrev pub EachTypeHasWidths : Type 0
-EachTypeHasWidths = (ds : List DeclText) (text : List ℕ) (T : Shape) → IsTypeText ds text T → HasWidths T
+-- it holds of each type that a text asks for
+abbrev pub HoldsOfTypes : (Shape → Type 0) → Type 0
+HoldsOfTypes Holds = (ds : List DeclText) (text : List ℕ) (T : Shape) → IsTypeText ds text T → Holds T
 
 -- field k of declaration d has this type, with these in place of its variables
 pub record IsFieldType (d : Declaration) (args : List Shape) (k : ℕ) (T : Shape) : Type 0 where

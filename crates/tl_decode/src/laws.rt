@@ -1,17 +1,15 @@
 //! Laws of the definitions, each carried by a function that does nothing.
-ghost use Rattle.tl_decode.specs.Sizes.{EachSizeIsBounded, EachTextIsSo, EachTypeHasWidths};
+ghost use Rattle.tl_decode.specs.Sizes.{EachSizeIsBounded, FlagsHaveConditions, HasFewFields, HasWidths, HoldsOfTexts, HoldsOfTypes};
 
-/// A value has at most 32,768 E (n / 4 + 1) nodes, where n bytes spell it and E bounds the nodes of what no bytes spell.
+/// A value that n bytes spell, of at most `MAX_LEVELS` levels, has at most 32,768 E (n / 4 + 1) nodes. E is at least 1, and bounds the nodes of those
+/// of its type's parts that no bytes spell.
 pub fn each_size_is_bounded()
     ensures { EachSizeIsBounded }
 {}
 
-/// In the schema of a text each declaration has at most 256 fields, and each flag has a condition.
-pub fn each_text_has_few_fields()
-    ensures { EachTextIsSo }
-{}
-
-/// A type that a text asks for has no opaque types but those of the language: of 8, 16 or 32 bytes.
-pub fn each_type_has_widths()
-    ensures { EachTypeHasWidths }
+/// The schema of each text and each type that a text asks for is as the bound wants them.
+pub fn each_text_allows_the_bound()
+    ensures fields { HoldsOfTexts HasFewFields }
+    ensures flags { HoldsOfTexts FlagsHaveConditions }
+    ensures widths { HoldsOfTypes HasWidths }
 {}

@@ -11,6 +11,6 @@ mod texts;
 mod walk;
 
 pub use fault::DecodeFault;
-pub use laws::{each_size_is_bounded, each_text_has_few_fields, each_type_has_widths};
+pub use laws::{each_size_is_bounded, each_text_allows_the_bound};
 pub use tl_types::MAX_LEVELS;
 pub use walk::decode_walk;
