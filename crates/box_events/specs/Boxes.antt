@@ -1,10 +1,10 @@
--- Boxes: lists of events, their ends, boundaries and stretches.
+-- Lists of events: their ends, boundaries and stretches.
 -- From "Working with Updates" (core.telegram.org/api/updates): a box's number is the sum of the counts of its events. Stretches and
 -- boundaries, as words for what a difference holds, are this project's own.
 use Rattle.std.specs.Prelude.{◌≡◌, ℕ, ◌+◌, ◌≤◌, List, [], ◌∷◌, ◌++◌}
 use Rattle.box_events.specs.Events.{EventView, count_of}
 
--- where a box ends: the sum of its events' counts
+-- where a box that begins at 0 ends: the sum of its events' counts
 abbrev pub ending : List EventView → ℕ
 ending [] = 0
 ending (e ∷ es) = count_of e + ending es
@@ -28,9 +28,3 @@ pub record Between (box : List EventView) (p q : ℕ) (middle : List EventView) 
 abbrev pub AreCounted : List EventView → Type 0
 AreCounted [] = Unit {0}
 AreCounted (e ∷ es) = (1 ≤ count_of e) × AreCounted es
-
--- what holds of every box, with the number at which it ends
-pub record IsBox (box : List EventView) (to : ℕ) : Type 0 where
-  pub end : to ≡ ending box
-  pub limit : to ≤ 1000000
-  pub counted : AreCounted box

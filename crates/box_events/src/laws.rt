@@ -2,6 +2,7 @@
 ghost use Rattle.std.specs.Prelude.{◌≡◌, ◌+◌, ◌≤◌, ◌++◌, ℕ, List};
 ghost use Rattle.box_events.specs.Events.{EventView};
 ghost use Rattle.box_events.specs.Boxes.{ending, IsBoundary, Between, AreCounted};
+ghost use Rattle.box_events.specs.BoxViews.{BoxView, end_of, IsBoundaryOf, BetweenOf, KeepsLast};
 
 /// What lies between two numbers of a box.
 pub fn stretches_of_boxes()
@@ -13,4 +14,19 @@ pub fn stretches_of_boxes()
     ensures counts { (box : List EventView) (p q : ℕ) (xs : List EventView) → Between box p q xs → p + ending xs ≡ q }
     ensures inside { (box : List EventView) (p q : ℕ) (xs : List EventView) → Between box p q xs → q ≤ ending box }
     ensures one { (box : List EventView) (p q : ℕ) (xs ys : List EventView) → AreCounted box → Between box p q xs → Between box p q ys → xs ≡ ys }
+{}
+
+/// What lies between two numbers of a box that may have dropped its first events.
+pub fn stretches_of_kept_boxes()
+    ensures grows { (old new : BoxView) (more : List EventView) (p q : ℕ) (xs : List EventView) → new.first ≡ old.first → new.events ≡ old.events ++ more → BetweenOf old p q xs → BetweenOf new p q xs }
+    ensures cut { (old new : BoxView) (n p q : ℕ) (xs : List EventView) → AreCounted old.events → KeepsLast old new n → new.first ≤ p → BetweenOf old p q xs → BetweenOf new p q xs }
+    ensures was { (old new : BoxView) (n p q : ℕ) (xs : List EventView) → KeepsLast old new n → BetweenOf new p q xs → BetweenOf old p q xs }
+    ensures whole { (gone : List EventView) (b : BoxView) (p q : ℕ) (xs : List EventView) → b.first ≡ ending gone → BetweenOf b p q xs → Between (gone ++ b.events) p q xs }
+    ensures kept { (gone : List EventView) (b : BoxView) (p q : ℕ) (xs : List EventView) → AreCounted (gone ++ b.events) → b.first ≡ ending gone → b.first ≤ p → Between (gone ++ b.events) p q xs → BetweenOf b p q xs }
+    ensures joins { (b : BoxView) (p q r : ℕ) (xs ys : List EventView) → AreCounted b.events → BetweenOf b p q xs → BetweenOf b q r ys → BetweenOf b p r (xs ++ ys) }
+    ensures starts { (b : BoxView) (p q : ℕ) (xs : List EventView) → BetweenOf b p q xs → IsBoundaryOf b p }
+    ensures stops { (b : BoxView) (p q : ℕ) (xs : List EventView) → BetweenOf b p q xs → IsBoundaryOf b q }
+    ensures counts { (b : BoxView) (p q : ℕ) (xs : List EventView) → BetweenOf b p q xs → p + ending xs ≡ q }
+    ensures inside { (b : BoxView) (p q : ℕ) (xs : List EventView) → BetweenOf b p q xs → q ≤ end_of b }
+    ensures one { (b : BoxView) (p q : ℕ) (xs ys : List EventView) → AreCounted b.events → BetweenOf b p q xs → BetweenOf b p q ys → xs ≡ ys }
 {}

@@ -9,6 +9,8 @@ mod ids;
 mod laws;
 mod limits;
 mod list_of;
+mod page;
+mod paging;
 mod positions;
 mod replies;
 mod requests;
@@ -22,7 +24,7 @@ pub use event::{Event, Kind};
 pub use event_box::EventBox;
 pub use fault::BoxFault;
 pub use ids::Ids;
-pub use laws::stretches_of_boxes;
+pub use laws::{stretches_of_boxes, stretches_of_kept_boxes};
 pub use limits::{
     ID_BYTES, KEPT_EVENTS, MAX_ASKS, MAX_BEHIND, MAX_BODY_BYTES, MAX_CHANNELS, MAX_END,
     MAX_FRAME_BYTES, MAX_IDS, MAX_KEY_BYTES, MAX_KEYS, MAX_POST_BYTES, MAX_POSTS, MAX_VALUE_BYTES,

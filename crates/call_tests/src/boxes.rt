@@ -42,8 +42,8 @@ fn is_event(event: &Event, kind: Kind, body: &[u8], ids: &[i32]) -> bool {
 
 // Whether the box has these three events in order.
 fn has_three(events: &EventBox) -> bool {
-    match events.events() {
-        [one, two, three] => is_event(one, Kind::New, b"one", &[])
+    match (events.event_at(0), events.event_at(1), events.event_at(2)) {
+        (Some(one), Some(two), Some(three)) => is_event(one, Kind::New, b"one", &[])
             && is_event(two, Kind::Edit, b"two", &[])
             && is_event(three, Kind::Delete, b"", &[7, -8, 9]),
         _ => false,
@@ -72,6 +72,7 @@ fn a_box_ends_at_the_sum_of_its_counts(rt: HostRuntime) -> Result<(), Fail> {
         assert_eq!(rt; events.at_boundary(at as u32), wanted, "at {at}");
     }
     assert!(rt; has_three(&events));
+    assert!(rt; events.event_at(3).is_none() && events.event_at(5).is_none());
     Ok(())
 }
 
@@ -97,5 +98,44 @@ fn a_box_is_full_at_a_million(rt: HostRuntime) -> Result<(), Fail> {
         append(&mut events, last),
         Err(BoxFault::BoxFull { at: 1_000_000 })
     );
+    Ok(())
+}
+
+// Copies of the events from one number to another.
+fn part(rt: &impl Abort, events: &EventBox, from: u32, to: u32) -> Result<Vec<Event>, Fail> {
+    assert!(rt; from <= to && events.at_boundary(from) && events.at_boundary(to));
+    Ok(events.between(from, to)?)
+}
+
+// 600 read marks fill three pages. The last 300 are kept, so that the box begins at 300, within the second page. Then one more is appended.
+#[test]
+fn a_box_keeps_its_last_events(rt: HostRuntime) -> Result<(), Fail> {
+    let alloc = rt.alloc();
+    let mut events = EventBox::new(alloc);
+    events.reserve(600)?;
+    for max_id in 0..600 {
+        append(&mut events, Event::read(max_id))?;
+    }
+    events.keep_last(300);
+    append(&mut events, message(alloc, b"last")?)?;
+    assert_eq!(rt;
+        (events.first(), events.end(), events.len()),
+        (300, 601, 301)
+    );
+    for (at, wanted) in [
+        (0, false),
+        (299, false),
+        (300, true),
+        (601, true),
+        (602, false),
+    ] {
+        assert_eq!(rt; events.at_boundary(at), wanted, "at {at}");
+    }
+    let copies = part(&rt, &events, 510, 514)?;
+    for (copy, max_id) in copies.iter().zip(510..) {
+        assert!(rt; is_event(copy, Kind::Read { max_id }, b"", &[]), "{max_id}");
+    }
+    assert_eq!(rt; copies.len(), 4);
+    assert_eq!(rt; part(&rt, &events, 300, 601)?.len(), 301);
     Ok(())
 }

@@ -1,8 +1,10 @@
 //! Journals, worlds and replays.
+ghost use Rattle.std.specs.Prelude.{◌≡◌, IfOk};
+ghost use Rattle.box_events.specs.Events.{count_of};
 ghost use Rattle.update_replay.specs.Reached.{IsShort};
 ghost use Rattle.update_replay.specs.Reading.{step_of};
 
-use box_events::{Event, EventBox, Ids};
+use box_events::{Event, Ids};
 use std::alloc::{AllocError, Global};
 use std::process::Abort;
 use std::test::Fail;
@@ -204,12 +206,13 @@ fn three_pushes_are_heard_backwards(rt: HostRuntime) -> Result<(), Fail> {
 
 // ---- Closing lines
 
-// A server at 3, and a client that saw an edit to an empty body and a delete of the ids 1 and -1.
+// A server at 4, and a client that saw an edit to an empty body, a delete of the ids 1 and -1, and a mark that is read up to 7.
 const CHANGE_LINES: &str = "\
-server pts 3 qts 0 seq 0 date 0
-client 0 common from 0 to 3
+server pts 4 qts 0 seq 0 date 0
+client 0 common from 0 to 4
 edit 1 \n\
 delete 3 01000000ffffffff
+read 4 07000000
 client 0 secret from 0 to 0
 client 0 settings seq 0
 ";
@@ -223,49 +226,25 @@ client 0 secret from 0 to 0
 client 0 settings seq 0
 ";
 
-// The closing lines for a client whose events are those of the box, after the number `restart`.
-fn closing_lines(
-    rt: &impl Abort,
-    alloc: Global,
-    server_end: u32,
-    restart: u32,
-    seen: &EventBox,
-) -> Result<Vec<u8>, Fail> {
-    let at = restart as u64 + seen.end() as u64;
-    assert!(rt; at <= 1_000_000);
-    let mut lines = Vec::new(alloc);
-    put_closing(
-        alloc,
-        &mut lines,
-        server_end,
-        restart,
-        at as u32,
-        seen.events(),
-    )?;
-    Ok(lines)
-}
-
-// An edit to an empty body, and a delete of the ids 1 and -1.
-fn changes(alloc: Global) -> Result<EventBox, Fail> {
-    let mut seen = EventBox::new(alloc);
-    seen.append(Event::edit(Bytes::new(alloc)))?;
-    seen.append(Event::delete(Ids::from_slice(alloc, &[1, -1])?))?;
-    Ok(seen)
-}
-
-// A message of one byte.
-fn message(alloc: Global, byte: u8) -> Result<EventBox, Fail> {
-    let mut seen = EventBox::new(alloc);
-    seen.append(Event::new_message(Bytes::from_slice(alloc, &[byte])?))?;
-    Ok(seen)
+// The delete of the ids 1 and -1.
+fn delete_two(alloc: Global) -> Result<Event, Fail>
+    ensures { IfOk result (λ e. count_of e ≡ 2) }
+{
+    Ok(Event::delete(Ids::from_slice(alloc, &[1, -1])?))
 }
 
 #[test]
 fn the_closing_lines_tell_each_event(rt: HostRuntime) -> Result<(), Fail> {
     let alloc = rt.alloc();
-    let lines = closing_lines(&rt, alloc, 3, 0, &changes(alloc)?)?;
+    let edit = Event::edit(Bytes::new(alloc));
+    let seen = vec![in alloc; edit, delete_two(alloc)?, Event::read(7)]?;
+    let mut lines = Vec::new(alloc);
+    put_closing(alloc, &mut lines, 4, 0, 4, &seen)?;
     assert!(rt; lines.as_slice() == CHANGE_LINES.as_bytes());
-    let lines = closing_lines(&rt, alloc, 9, 7, &message(alloc, 0x61)?)?;
+    let message = Event::new_message(Bytes::from_slice(alloc, &[0x61])?);
+    let seen = vec![in alloc; message]?;
+    let mut lines = Vec::new(alloc);
+    put_closing(alloc, &mut lines, 9, 7, 8, &seen)?;
     assert!(rt; lines.as_slice() == LATER_LINES.as_bytes());
     Ok(())
 }

@@ -9,3 +9,10 @@ pub mod Values
 pub mod Opaques
 pub mod Closings
 pub mod Outcomes
+pub mod SizesNamed
+pub mod SizesBounded
+pub mod SizesBare
+pub mod SizesEmpty
+pub mod SizesWidths
+pub mod SizesUsed
+pub mod SizesTexts

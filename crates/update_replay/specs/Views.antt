@@ -1,10 +1,11 @@
 -- A world's fields as a world. This project's own.
-use Rattle.std.specs.Prelude.{ℕ, ℤ, ◌+◌, List, map, refl}
+use Rattle.std.specs.Prelude.{◌≡◌, ℕ, ℤ, ◌+◌, List, map, refl}
 use Rattle.std.specs.Coded.{Coded, code_by, coded×, coded_ℕ, coded_ℤ, coded_list}
 use Rattle.box_events.specs.Events.{EventView, count_of}
 use Rattle.box_events.specs.inner.EventCodes.{event_code}
 use Rattle.pts_machine.specs.States.{LaneState, state_code}
 use Rattle.update_replay.specs.Worlds.{World, Push}
+use Rattle.update_replay.specs.Reached.{IsReached}
 use Rattle.update_replay.specs.declared.world.Sent.{Sent}
 use Rattle.update_replay.specs.declared.world.World.TheInside.{Inside}
 
@@ -13,7 +14,12 @@ abbrev pub push_from : Sent → Push
 push_from s = record { start = s.start; end = s.start + count_of s.event; event = s.event }
 
 abbrev pub world_of : Inside → World
-world_of w = record { box = w.server; ids = w.ids.keys; pool = map push_from w.pool.items; lane = w.lane.state }
+world_of w = record { box = w.server.events; ids = w.ids.keys; pool = map push_from w.pool.items; lane = w.lane.state }
+
+-- what holds of every world: steps led to it, and its box begins at 0
+pub record IsWhole (w : Inside) : Type 0 where
+  pub reached : IsReached (world_of w)
+  pub begins : w.server.first ≡ 0
 
 -- a push as a row of its parts
 abbrev pub push_code : Coded Push

@@ -56,8 +56,7 @@ pub struct World {
 
 impl Model for World {
     ghost use Rattle.update_replay.specs.Worlds.{World};
-    ghost use Rattle.update_replay.specs.Reached.{IsReached};
-    ghost use Rattle.update_replay.specs.Views.{world_code, world_of};
+    ghost use Rattle.update_replay.specs.Views.{world_code, world_of, IsWhole};
 
     ghost Value = { World };
 
@@ -65,7 +64,7 @@ impl Model for World {
 
     ghost view = { world_of };
 
-    ghost invariant = { λ w. IsReached (world_of w) };
+    ghost invariant = { IsWhole };
 }
 
 // Puts a new message behind the box, knows its id, and sends its push. It answers where the push starts.
@@ -76,14 +75,16 @@ fn send(
     ids: &mut IndexSet<i64>,
     pool: &mut Vec<Sent>,
 ) -> Result<u32, StepFault>
-    requires space { ending server.old < 1000000 }
+    requires space { ending server.old.events < 1000000 }
+    requires begins { server.old.first ≡ 0 }
     requires new { is_known ids.old.keys random_id ≡ false }
-    ensures start { IfOk result (λ s. s ≡ ending server.old) }
-    ensures server { OnOk result (server.new ≡ server.old ++ added body ∷ []) }
+    ensures start { IfOk result (λ s. s ≡ ending server.old.events) }
+    ensures server { OnOk result (server.new.events ≡ server.old.events ++ added body ∷ []) }
     ensures ids { OnOk result (ids.new.keys ≡ ids.old.keys ++ random_id ∷ []) }
-    ensures pool { OnOk result (pool.new.items ≡ pool.old.items ++ record { start = ending server.old; event = added body } ∷ []) }
+    ensures pool { OnOk result (pool.new.items ≡ pool.old.items ++ record { start = ending server.old.events; event = added body } ∷ []) }
     ensures refused { (k : ℕ) → result ≡ Err (StepFault.NoPacket k) → ⊥ }
-    ensures err_server { OnErr result (server.new ≡ server.old) }
+    ensures stays { server.new.first ≡ server.old.first }
+    ensures err_server { OnErr result (server.new.events ≡ server.old.events) }
     ensures err_ids { OnErr result (ids.new.keys ≡ ids.old.keys) }
     ensures err_pool { OnErr result (pool.new.items ≡ pool.old.items) }
 {

@@ -11,13 +11,13 @@ use Rattle.update_replay.proofs.world.World.hear.Goals as goal
 pub push-requires-clause-limit : goal.push-requires-clause-limit
 push-requires-clause-limit c =
     let at = sent_at c.self.inside.pool.items c.len.result c.args.packet c.index-sent.result.now (search rules) (omega arith) c.index-sent.ensures in
-    let below = push_below (world_of c.self.inside) c.args.packet (push_from c.index-sent.result.now) c.end.result c.self.invariant at c.end.ensures.value c.end.ensures.most in
+    let below = push_below (world_of c.self.inside) c.args.packet (push_from c.index-sent.result.now) c.end.result c.self.invariant.reached at (omega (arith, c.end.ensures.value, c.self.invariant.begins)) c.end.ensures.most in
     omega (arith, below, end_is c.index-sent.result.now c.in_ok-event.event c.count.result c.count.ensures.value c.in_ok-event.ensures)
 
 pub overflow_add-end : goal.overflow_add-end
 overflow_add-end c =
     let at = sent_at c.self.inside.pool.items c.len.result c.args.packet c.index-sent.result.now (search rules) (omega arith) c.index-sent.ensures in
-    let below = push_below (world_of c.self.inside) c.args.packet (push_from c.index-sent.result.now) c.end.result c.self.invariant at c.end.ensures.value c.end.ensures.most in
+    let below = push_below (world_of c.self.inside) c.args.packet (push_from c.index-sent.result.now) c.end.result c.self.invariant.reached at (omega (arith, c.end.ensures.value, c.self.invariant.begins)) c.end.ensures.most in
     omega (arith, below, end_is c.index-sent.result.now c.in_ok-event.event c.count.result c.count.ensures.value c.in_ok-event.ensures)
 
 pub returns-clause-ok : goal.returns-clause-ok
@@ -30,8 +30,11 @@ pub returns-clause-outcome : goal.returns-clause-outcome
 returns-clause-outcome c = ap Heard (c.at.ensures.value ∙ ap (λ (w : World). w.lane.at) (returns-clause-ok c))
 
 pub invariant_of-self-2 : goal.invariant_of-self-2
-invariant_of-self-2 c =
-    goes_on (world_of c.self.inside) _ (hears c.args.packet) c.self.invariant tt
-    (heard_is (world_of c.self.inside) (world_of c.self.inside) c.reserve.new.self.state c.push.new.self.state c.args.packet (c.index-sent.result.now.start + c.count.result) c.in_ok-event.event c.index-sent.result.now refl
-    (sent_at c.self.inside.pool.items c.len.result c.args.packet c.index-sent.result.now (search rules) (omega arith) c.index-sent.ensures) c.in_ok-reserve.ensures.state
-    (end_is c.index-sent.result.now c.in_ok-event.event c.count.result c.count.ensures.value c.in_ok-event.ensures) c.in_ok-event.ensures (ap (λ (h : HeardItem EventView). h.state) c.push.ensures.step))
+invariant_of-self-2 c = record {
+  reached =
+      goes_on (world_of c.self.inside) _ (hears c.args.packet) c.self.invariant.reached tt
+      (heard_is (world_of c.self.inside) (world_of c.self.inside) c.reserve.new.self.state c.push.new.self.state c.args.packet (c.index-sent.result.now.start + c.count.result) c.in_ok-event.event c.index-sent.result.now refl
+      (sent_at c.self.inside.pool.items c.len.result c.args.packet c.index-sent.result.now (search rules) (omega arith) c.index-sent.ensures) c.in_ok-reserve.ensures.state
+      (end_is c.index-sent.result.now c.in_ok-event.event c.count.result c.count.ensures.value c.in_ok-event.ensures) c.in_ok-event.ensures (ap (λ (h : HeardItem EventView). h.state) c.push.ensures.step));
+  begins = c.self.invariant.begins;
+}

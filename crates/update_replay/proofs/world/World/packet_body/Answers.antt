@@ -8,4 +8,4 @@ use Rattle.update_replay.proofs.world.World.packet_body.Goals as goal
 pub returns-clause-short : goal.returns-clause-short
 returns-clause-short c =
     let within : c.args.packet < length c.self.inside.pool.items = omega (arith, c.requires, ap (λ (w : World). length w.pool) c.self.view_is, length-map c.self.inside.pool.items push_from) in
-    short_body (world_of c.self.inside) c.args.packet c.index.result.now c.body.result.now c.self.invariant (sent_at c.self.inside.pool.items _ c.args.packet c.index.result.now refl within c.index.ensures) c.body.ensures
+    short_body (world_of c.self.inside) c.args.packet c.index.result.now c.body.result.now c.self.invariant.reached (sent_at c.self.inside.pool.items _ c.args.packet c.index.result.now refl within c.index.ensures) c.body.ensures
