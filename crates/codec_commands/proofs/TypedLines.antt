@@ -13,7 +13,9 @@ use Rattle.command_base.specs.Sound.{Answered}
 use Rattle.command_base.specs.declared.stop.Unmade.{Unmade}
 use Rattle.command_base.proofs.SameFiles.{same_file}
 use Rattle.command_base.proofs.Faults.{NeverFails, fails_as, then_fails}
+use Rattle.command_base.specs.Kept.{OnlyReads}
 use Rattle.command_base.proofs.Made.{not_made}
+use Rattle.command_base.proofs.Rests.{then_reads}
 use Rattle.command_base.proofs.Views.{told_as, told_then}
 use Rattle.codec_commands.specs.declared.schema_text.SchemaFault.{SchemaFault}
 use Rattle.codec_commands.specs.declared.schema_text.SchemaFault.TheVariants as loading
@@ -76,6 +78,12 @@ module _ (Tells : ToInput) (s t i : List ℕ) where
   no_plan_line schema T e r a b loaded means h is =
       told_as a b (LoadsSchema s (Ok schema)) (MakesOutput job (of_codec r)) (λ v w l. stops job (of_no_plan e) r v w (plan_stops schema T e v w l means h) is) loaded
 
+  -- a plan is made without a read
+  pub plan_unread : (e : TypePlanFault) (r : Result (Vec ℕ Global) CodecFault) → IsErrAnd r (λ z. z ≡ of_no_plan e) → IsErrOf r fault.ReadFault → ⊥
+  plan_unread e (Ok x) is failed = absurd is
+  plan_unread (plan.Refused cause) (Err z) is failed = absurd cc
+  plan_unread plan.Memory (Err z) is failed = absurd cc
+
   -- ---- the input
 
   module _ (schema : Declared) (T : Shape) (means : IsTypeText schema.program t T) (planned : HasPlan schema T) where
@@ -89,6 +97,11 @@ module _ (Tells : ToInput) (s t i : List ℕ) where
         → (r : Result (Vec ℕ Global) CodecFault) (a m b : Option View) → Told a m (LoadsSchema s (Ok schema)) → Told m b Loads → IsErrAnd r (λ z. z ≡ e) → Told a b (MakesOutput job (of_codec r))
     no_value_line Loads e makes r a m b loaded h is =
         told_then a m b (LoadsSchema s (Ok schema)) Loads (MakesOutput job (of_codec r)) (λ v u w l k. stops job e r v w (makes v u w l k) is) loaded h
+
+    -- out of memory after the input was read
+    pub no_memory_line : (Loads : View → View → Type 0) → ((u w : View) → Loads u w → OnlyReads u w) → (r : Result (Vec ℕ Global) CodecFault) (a m b : Option View)
+        → Told a m (LoadsSchema s (Ok schema)) → Told m b Loads → IsErrAnd r (λ z. z ≡ fault.Memory) → Told a b (MakesOutput job (of_codec r))
+    no_memory_line Loads reads r a m b loaded h is = no_value_line Loads fault.Memory (λ v u w l k. then_reads v u w l.1 (reads u w k)) r a m b loaded h is
 
     -- ---- where reading the input can't fail
 
