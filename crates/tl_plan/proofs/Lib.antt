@@ -16,3 +16,4 @@ pub mod WalkSteps
 pub mod HeadLists
 pub mod PlanSteps
 pub mod PlanFacts
+pub mod RootFacts

@@ -7,12 +7,13 @@ use Rattle.std.proofs.lemmas.Option.{slice_get-map}
 use Rattle.tl_schema.specs.Types.{Shape}
 use Rattle.tl_schema.specs.Types as type
 use Rattle.tl_schema.specs.Closing.{closed}
+use Rattle.tl_schema.specs.Formed.{IsFunction, IsMember}
 use Rattle.tl_schema.specs.Schemas.{Slot, Declaration, Declared}
 use Rattle.tl_plan.specs.Types.{arguments_of, index_of, is_among}
 use Rattle.tl_plan.specs.Entries.{entries_of, fields_at, fields_in}
 use Rattle.tl_plan.specs.Reached.{Named, fields_named, names_of}
 use Rattle.tl_plan.specs.Plans.{AreAmong, InstanceView, IsFlagOrFormed, IsPlan, MemberView, PlanView, Plans, answer, instance_of, item_in, member_of, types_of_plan}
-use Rattle.tl_plan.specs.PlanLaws.{EachIsFormed, HasMembers, InstancesHaveMembers, IsInstance, IsMemberOf, ItemsHaveInstances, OneAnswer}
+use Rattle.tl_plan.specs.PlanLaws.{AreThose, EachIsFormed, HasMembers, InstancesHaveMembers, IsInstance, IsMemberOf, ItemsHaveInstances, OneAnswer, entries_in}
 use Rattle.tl_plan.specs.declared.fault.PlanFault.{PlanFault}
 use Rattle.tl_plan.specs.declared.fault.PlanFault.TheVariants.{TypeTooDeep, TooManyInstances, Memory}
 use Rattle.tl_plan.proofs.EntryLists.{these_constructors, these_functions}
@@ -125,8 +126,16 @@ module _ (p : PlanView) (good : IsPlan p) where
           },
         )
 
+    entries_are : (T : Shape) → x.of ≡ T → entries_in x ≡ entries_of S T
+    entries_are T e = ap (map (λ (m : MemberView). m.entry)) members_are ∙ entries_again (entries_of S x.of) (arguments_of x.of) ∙ ap (entries_of S) e
+
     has_members : HasMembers p x
-    has_members = record { entries = ap (map (λ (m : MemberView). m.entry)) members_are ∙ entries_again (entries_of S x.of) (arguments_of x.of); each = member_is }
+    has_members = record {
+      of_boxed = λ h args e. subst (AreThose (λ i. (d : Declaration) × IsMember S h i d)) (sym (entries_are (type.boxed h args) e)) (these_constructors S h);
+      of_bare = λ i args e. entries_are (type.bare i args) e;
+      of_call = λ e. subst (AreThose (λ i. (d : Declaration) × IsFunction S i d)) (sym (entries_are type.call e)) (these_functions S);
+      each = member_is;
+    }
 
 pub items_have_instances : ItemsHaveInstances
 items_have_instances p good k x b T at e = item_is p good k x at b T e

@@ -1,12 +1,17 @@
 //! Laws of plans and of their definitions, each carried by a function that does nothing.
-ghost use Rattle.tl_plan.specs.PlanLaws.{EachIsFormed, EntriesAreDeclared, InstancesHaveMembers, ItemsHaveInstances, OneAnswer, SameTypes};
+ghost use Rattle.tl_plan.specs.PlanLaws.{EachIsFormed, EntriesAreDeclared, InstancesHaveMembers, ItemsHaveInstances, OneAnswer, RootsHaveInstances, SameTypes};
+
+/// The plan of some roots is one of their schema, and root k is instance k.
+pub fn roots_have_instances()
+    ensures { RootsHaveInstances }
+{}
 
 /// The element of each vector of a plan has its instance.
 pub fn items_have_instances()
     ensures { ItemsHaveInstances }
 {}
 
-/// The members of each instance are the declarations of its type, in order, and each of their fields has its instance.
+/// The members of each instance are exactly the constructors of its type, or the functions, in order, and each of their fields has its instance.
 pub fn instances_have_members()
     ensures { InstancesHaveMembers }
 {}

@@ -84,7 +84,7 @@ impl<'s> Plan<'s> {
         ensures root { result ≡ k }
         ensures within { result < length self.now.instances }
     {
-        let _instances = &self.instances;
+        prove!(k < self.roots);
         k
     }
 
