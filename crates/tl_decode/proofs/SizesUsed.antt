@@ -1,5 +1,5 @@
 -- The types that a type uses: with each those that it names; and in a schema each is a flag or formed, and has widths.
-use Rattle.std.proofs.Common.{◌≡◌, inr, ℕ, slice_get, Some, refl, sym, subst}
+use Rattle.std.proofs.Common.{◌≡◌, inr, ℕ, ◌+◌, ◌*◌, ◌/◌, ◌≤◌, List, [], length, slice_get, Some, refl, sym, subst}
 use Rattle.tl_schema.specs.Types.{Shape, Shapes}
 use Rattle.tl_schema.specs.Types as type
 use Rattle.tl_schema.specs.Closing.{closed, list_of_shapes}
@@ -8,7 +8,10 @@ use Rattle.tl_schema.specs.CheckedPrograms.{IsSchema}
 use Rattle.tl_schema.specs.Formed.{IsFormed}
 use Rattle.tl_types.proofs.FormedParts.{PartsTell, IsRead, deep_formed}
 use Rattle.tl_types.proofs.SchemaTells.{schema_tells}
-use Rattle.tl_decode.specs.Sizes.{HasWidths, HaveWidths, IsFieldType, Uses, EachSizeIsBounded}
+use Rattle.tl_types.specs.Values.{ValueView, depth}
+use Rattle.tl_types.specs.Spelling.{Spells}
+use Rattle.tl_types.specs.declared.value.TheConstants.{MAX_LEVELS}
+use Rattle.tl_decode.specs.Sizes.{nodes, HasFewFields, FlagsHaveConditions, HasWidths, HaveWidths, IsFieldType, Uses, EachSizeIsBounded}
 use Rattle.tl_decode.specs.Sizes as used
 use Rattle.tl_decode.proofs.SizesNamed.{IsClosedUnderNames, HasWidth}
 use Rattle.tl_decode.proofs.SizesWidths.{field_wide, closed_wide}
@@ -65,7 +68,12 @@ module _ (schema : Declared) (good : IsSchema schema) (T : Shape) (formed : IsFo
     call = λ i d uses m k f at. used.call i k d _ uses m (record { f = f; there = at; closes = refl });
   }
 
+-- over any set of types that is closed under names
+pub bounded_under_names : (schema : Declared) → IsSchema schema → HasFewFields schema → FlagsHaveConditions schema → (P : Shape → Type 0) → IsClosedUnderNames schema P
+    → (E : ℕ) → 1 ≤ E → ((T : Shape) (v : ValueView) → P T → Spells schema T v [] → nodes v ≤ E) → (T : Shape) (v : ValueView) (b : List ℕ) → P T → Spells schema T v b → depth v ≤ MAX_LEVELS → nodes v ≤ 32768 * E * (length b / 4 + 1)
+bounded_under_names schema good few flags P closed_under E one small T v b p s deep =
+    size_bounded schema P E closed_under few one small (λ U u. free_of schema good flags P closed_under u U) v T b p s deep
+
 pub each_size_is_bounded : EachSizeIsBounded
 each_size_is_bounded schema good few flags T formed wide E one small v b s deep =
-    let named = uses_named schema good T formed wide in
-    size_bounded schema (Uses schema T) E named few one small (λ U u. free_of schema good flags (Uses schema T) named u U) v T b used.itself s deep
+    bounded_under_names schema good few flags (Uses schema T) (uses_named schema good T formed wide) E one small T v b used.itself s deep

@@ -17,7 +17,7 @@ use Rattle.tl_types.specs.Spelling.{Spells}
 use Rattle.tl_types.specs.declared.value.TheConstants.{MAX_LEVELS}
 
 abbrev mutual
-  -- a value and all its parts
+  -- the number of nodes: the value itself and all its parts
   pub nodes : ValueView → ℕ
   nodes (view.list vs) = suc (nodes_of vs)
   nodes (view.node i vs) = suc (nodes_of vs)
