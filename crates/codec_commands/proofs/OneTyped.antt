@@ -26,14 +26,14 @@ TellsOne Tells = (schema : Declared) → IsSchema schema → (T : Shape) → IsF
 module _ (Tells : ToInput) (one_input : TellsOne Tells) where
   one_type : (schema : Declared) → IsSchema schema → (type input : List ℕ) (files : Files) (a c : Answer) → OfType Tells schema type input files a → OfType Tells schema type input files c → a ≡ c
   one_type schema good type input files a c (no_type b r is) (no_type d s at) = is ∙ ap (λ (x : TypeNameCause). refused (type_line x)) (one_type_cause schema type b d r s) ∙ sym at
-  one_type schema good type input files a c (no_type b r is) (no_plan s d means no at) = absurd (never_type schema type s b means r)
+  one_type schema good type input files a c (no_type b r is) (no_plan s d means lacks at) = absurd (never_type schema type s b means r)
   one_type schema good type input files a c (no_type b r is) (typed s bytes means plan has tells) = absurd (never_type schema type s b means r)
-  one_type schema good type input files a c (no_plan s b means no is) (no_type d r at) = absurd (never_type schema type s d means r)
-  one_type schema good type input files a c (no_plan s b means no is) (no_plan u d also none at) =
+  one_type schema good type input files a c (no_plan s b means lacks is) (no_type d r at) = absurd (never_type schema type s d means r)
+  one_type schema good type input files a c (no_plan s b means lacks is) (no_plan u d also none at) =
       let same : u ≡ s = one_meaning schema.program type u s also means in
-      is ∙ ap (λ (x : PlanCause). refused (plan_line x)) (one_plan_cause schema s b d no (subst (λ (x : Shape). PlanRefused schema x d) same none)) ∙ sym at
-  one_type schema good type input files a c (no_plan s b means no is) (typed u more also plan holds says) =
-      absurd (never_plan schema s b (subst (HasPlan schema) (one_meaning schema.program type u s also means) plan) no)
+      is ∙ ap (λ (x : PlanCause). refused (plan_line x)) (one_plan_cause schema s b d lacks (subst (λ (x : Shape). PlanRefused schema x d) same none)) ∙ sym at
+  one_type schema good type input files a c (no_plan s b means lacks is) (typed u more also plan holds says) =
+      absurd (never_plan schema s b (subst (HasPlan schema) (one_meaning schema.program type u s also means) plan) lacks)
   one_type schema good type input files a c (typed s bytes means plan has tells) (no_type b r is) = absurd (never_type schema type s b means r)
   one_type schema good type input files a c (typed s bytes means plan has tells) (no_plan u d also none at) =
       absurd (never_plan schema u d (subst (HasPlan schema) (one_meaning schema.program type s u means also) plan) none)

@@ -1,8 +1,8 @@
 -- A type has one plan, or one cause why it has none.
 use Rattle.std.proofs.Common.{◌≡◌, ◌⊎◌, inl, inr, ℕ, List, [], ◌∷◌, Bool, true, false, Option, Some, None, Result, Ok, Err, refl, sym, ap, ◌∙◌}
-use Rattle.std.specs.Prelude.{length, nat_lt, if◌then◌else◌}
+use Rattle.std.specs.Prelude.{◌+◌, length, nat_lt, take, if◌then◌else◌}
 use Rattle.tl_plan.specs.Plans.{PlanView, answer, answer_by}
-use Rattle.tl_plan.specs.Reached.{Named}
+use Rattle.tl_plan.specs.Reached.{Named, all_reached, first_too_deep}
 use Rattle.tl_plan.specs.declared.fault.TheConstants.{MAX_INSTANCES}
 use Rattle.tl_plan.specs.declared.fault.PlanFault.{PlanFault}
 use Rattle.tl_plan.specs.declared.fault.PlanFault.TheVariants as planning
@@ -52,7 +52,7 @@ module _ (schema : Declared) (T : Shape) where
 
   answered : IsAnswered (answer schema (T ∷ []))
   unfolding answer
-  answered = answered_by 1 _ _
+  answered = answered_by 1 (all_reached schema (T ∷ [])) (first_too_deep (take (MAX_INSTANCES + 1) (all_reached schema (T ∷ []))))
 
   pub plan_or_refused : HasPlan schema T ⊎ ((c : PlanCause) × PlanRefused schema T c)
   plan_or_refused = elim answered [ inl plan ↦ inl plan | inr (c, is) ↦ inr (c, refused_so c is) ]
