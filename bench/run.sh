@@ -1,5 +1,5 @@
 #!/bin/sh
-# Builds the program, and times one of its commands, or each of them where none is named: run.sh [check|decode|values|encode|replay [NUMBERS ..]]
+# Builds the program, and times one of its commands, or each of them where none is named: run.sh [check|decode|values|encode|replay|calls [NUMBERS ..]]
 # README.md tells what it prints.
 set -eu
 
@@ -14,10 +14,15 @@ trap 'rm -f "$log"' EXIT
     exit 1
 }
 
+(cd "$top/crates/call_bench" && rt run -- boundary 1000 100) >"$log" 2>&1 || {
+    cat "$log" >&2
+    exit 1
+}
+
 if [ $# -gt 0 ]; then
     python3 "$bench/$1.py" "$top/crates/tlbox" "$@"
 else
-    for command in check decode values encode replay; do
+    for command in check decode values encode replay calls; do
         python3 "$bench/$command.py" "$top/crates/tlbox" "$command"
     done
 fi

@@ -1,5 +1,5 @@
 -- Items in order of start, about the index of a start.
-use Rattle.std.proofs.Common.{◌≡◌, ℕ, zero, suc, ◌+◌, ◌<◌, ◌≤◌, List, [], ◌∷◌, length, get_or, drop, Some, None, Bool, true, false, not, T, leb, ◌&&◌, refl, sym, ap, ◌∙◌, arith, suc-add, Result, Ok, Err, inl, inr, slice_get}
+use Rattle.std.proofs.Common.{◌≡◌, ℕ, zero, suc, ◌+◌, ◌<◌, ◌≤◌, List, [], ◌∷◌, length, get_or, drop, Some, None, Bool, true, false, not, T, leb, ◌&&◌, refl, sym, ap, ◌∙◌, subst, arith, suc-add, Result, Ok, Err, inl, inr, slice_get}
 use Rattle.std.proofs.lemmas.Option.{same_Some}
 use Rattle.std.specs.List.{HoldsAt, AllWithin, insert as insert_at, remove as without}
 use Rattle.std.specs.List.Sorted.{IsBinarySearchResult, IsSearchInRange}
@@ -61,6 +61,9 @@ neighbours : {X : Type 0} (es : List (ℕ × X)) → AreRising es → (i : ℕ) 
 neighbours [] rising i d le lt = absurd (omega arith)
 neighbours (e ∷ es) rising zero d le lt = not_below e.0 (get_or es 0 d).0 (ahead e.0 es 0 d (both _ _ rising).0 (omega arith))
 neighbours (e ∷ es) rising (suc i) d le lt = rw suc-add (neighbours es (both _ _ rising).1 i d (omega arith) (omega arith))
+
+pub in_range : (r : Result ℕ ℕ) (m n : ℕ) → m ≡ n → IsSearchInRange r m → IsSearchInRange r n
+in_range r m n e within = subst (λ (k : ℕ). IsSearchInRange r k) e within
 
 pub is_index : {X : Type 0} (es : List (ℕ × X)) (q : ℕ) (r : Result ℕ ℕ) → AreRising es → IsSearchInRange r (length es) → IsBinarySearchResult (λ e. nat_cmp e.0 q) es r → IsIndex es q r
 is_index es q (Ok i) rising within at = (within, λ d. from_equal _ q (at d))

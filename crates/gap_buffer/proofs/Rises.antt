@@ -1,5 +1,5 @@
 -- A list of items in order of start as a map by starts.
-use Rattle.std.proofs.Common.{◌≡◌, ℕ, ◌≤◌, List, [], ◌∷◌, length, get_or, drop, Option, Some, None, Bool, true, false, cond, not, leb, refl, sym, ap, ◌∙◌, subst, arith, Ok, Err, inl, inr, slice_get}
+use Rattle.std.proofs.Common.{◌≡◌, ℕ, ◌<◌, ◌≤◌, List, [], ◌∷◌, length, get_or, drop, Option, Some, None, Bool, true, false, cond, not, leb, refl, sym, ap, ◌∙◌, subst, arith, Ok, Err, inl, inr, slice_get}
 use Rattle.std.proofs.lemmas.Bool.Decides.{nat_tests}
 use Rattle.std.proofs.lemmas.Bool.{cases_lt}
 use Rattle.std.proofs.lemmas.Option.{none-some, same_Some}
@@ -98,3 +98,13 @@ first_from {X} es e m p s x rising seen first le is = elim (cases_lt s p) [
 pub none_at_all : {X : Type 0} (es : List (ℕ × X)) (m : FinMap nat_cmp X) (s : ℕ) (x : X) → AreRising es → from_sorted es ≡ m → None ≡ slice_get es 0 → get m s ≡ Some x → ⊥
 none_at_all {X} [] m s x rising seen none is = none-some x (sym (ap (λ (n : FinMap nat_cmp X). get n s) (sym seen) ∙ get-from_sorted nat_cmp [] s rising) ∙ is)
 none_at_all {X} (e ∷ es) m s x rising seen none is = none-some e none
+
+-- ---- the first item
+
+pub first_is : {X : Type 0} (es : List (ℕ × X)) (e : ℕ × X) → 0 < length es → e ≡ get_or es 0 e → Some e ≡ slice_get es 0
+first_is [] e some is = absurd (omega arith)
+first_is (x ∷ es) e some is = ap Some is
+
+pub none_first : {X : Type 0} (es : List (ℕ × X)) → (0 < length es → ⊥) → None ≡ slice_get es 0
+none_first [] none = refl
+none_first (x ∷ es) none = absurd (none (omega arith))

@@ -1,5 +1,7 @@
 //! Gaps.
-ghost use Rattle.std.specs.Prelude.{◌≡◌, ◌<◌, ◌≤◌, ◌+◌, OnOk, OnErr, leb, length, drop};
+ghost use Rattle.std.specs.Prelude.{◌≡◌, ◌<◌, ◌≤◌, ◌+◌, OnOk, OnErr, leb, length, drop, slice_index_or};
+ghost use Rattle.std.specs.List.{remove};
+ghost use Rattle.std.specs.VecDeque.{deque_len, deque_capacity};
 ghost use Rattle.std.specs.Ordering.{nat_cmp};
 ghost use Rattle.std.specs.FinMap as map;
 ghost use Rattle.std.specs.FinMap.Entries.{where_key};
@@ -8,16 +10,20 @@ ghost use Rattle.gap_buffer.specs.inner.Indexes.{AreRising, IsIndex};
 
 use crate::held::Held;
 use std::alloc::Global;
+use std::collections::VecDeque;
 use std::marker::Model;
 use tl_base::Memory;
 
 /// So many items are held at most.
 const MOST: usize = 1_024;
 
-/// Held items by their starts, each with its end, in order of start.
+/// Held items by their starts, each with its end, in order of start. They stand in a ring, so that an item at either end is put and taken without
+/// moving the others.
 #[derive(Drop)]
 pub struct Gap<E> {
-    items: Vec<(u32, (u32, E))>,
+    items: VecDeque<(u32, (u32, E))>,
+    // for how many more items memory was taken
+    spare: u32,
 }
 
 impl<E> Model for Gap<E> {
@@ -34,22 +40,48 @@ impl<E> Model for Gap<E> {
 }
 
 // Where the item with a start stands among items whose starts rise, or else where it belongs.
-fn index_of<E>(items: &[(u32, E)], start: u32) -> Result<usize, usize>
-    requires rising { AreRising items.now }
-    ensures index { IsIndex items.now start result }
+fn index_of<E>(items: &VecDeque<(u32, E)>, start: u32) -> Result<usize, usize>
+    requires rising { AreRising items.now.items }
+    ensures index { IsIndex items.now.items start result }
 {
     items.binary_search_by(|held| held.0.cmp(&start))
 }
 
 // How many items start below a position: they are the first.
-fn number_below<E>(items: &[(u32, E)], at: u32) -> usize
-    requires rising { AreRising items.now }
-    ensures within { result ≤ length items.now }
-    ensures rest { drop result items.now ≡ where_key nat_cmp (leb at) items.now }
+fn number_below<E>(items: &VecDeque<(u32, E)>, at: u32) -> usize
+    requires rising { AreRising items.now.items }
+    ensures within { result ≤ length items.now.items }
+    ensures rest { drop result items.now.items ≡ where_key nat_cmp (leb at) items.now.items }
 {
     match index_of(items, at) {
         Ok(i) => i,
         Err(i) => i,
+    }
+}
+
+// Takes the item at an index. The items on its shorter side move.
+fn remove_at<E>(items: &mut VecDeque<(u32, E)>, index: usize) -> (u32, E)
+    requires within { index < length items.old.items }
+    ensures value { result ≡ slice_index_or items.old.items index result }
+    ensures items { items.new.items ≡ remove items.old.items index }
+    ensures len { deque_len items.new + 1 ≡ deque_len items.old }
+    ensures capacity { deque_capacity items.new ≡ deque_capacity items.old }
+{
+    match items.remove(index) {
+        Some(item) => item,
+        None => unreachable!(),
+    }
+}
+
+// Drops so many of the first items.
+fn drop_first<E: Drop>(items: &mut VecDeque<(u32, E)>, number: usize)
+    requires within { number ≤ length items.old.items }
+    ensures items { items.new.items ≡ drop number items.old.items }
+    ensures len { deque_len items.new + number ≡ deque_len items.old }
+    ensures capacity { deque_capacity items.new ≡ deque_capacity items.old }
+{
+    for _ in 0..number {
+        let _first = items.pop_front();
     }
 }
 
@@ -59,7 +91,8 @@ impl<E> Gap<E> {
         ensures { result.held ≡ map.empty }
     {
         Gap {
-            items: Vec::new(alloc),
+            items: VecDeque::new(alloc),
+            spare: 0,
         }
     }
 
@@ -70,7 +103,9 @@ impl<E> Gap<E> {
         ensures ok { OnOk result (more ≤ self.new.spare) }
         ensures err { OnErr result (self.new ≡ self.old) }
     {
-        self.items.reserve(more as usize)
+        self.items.reserve(more as usize)?;
+        self.spare = self.spare.max(more);
+        Ok(())
     }
 
     /// Holds an item. There is to be room for it.
@@ -87,9 +122,11 @@ impl<E> Gap<E> {
             return Held::Full(item);
         }
         match self.items.insert(i, (start, (end, item))) {
-            Ok(()) => Held::Kept,
+            Ok(()) => {}
             Err(_) => unreachable!(),
         }
+        self.spare -= 1;
+        Held::Kept
     }
 
     /// Takes the item that starts here, with its end.
@@ -100,7 +137,7 @@ impl<E> Gap<E> {
     {
         match index_of(&self.items, at) {
             Ok(i) => {
-                let (_, held) = self.items.remove(i);
+                let (_, held) = remove_at(&mut self.items, i);
                 Some(held)
             }
             Err(_) => None,
@@ -112,11 +149,11 @@ impl<E> Gap<E> {
         ensures taken { TakesBelow self.old self.new at result }
         ensures spare { self.old.spare ≤ self.new.spare }
     {
-        let start = self.items.first()?.0;
+        let start = self.items.front()?.0;
         if at <= start {
             return None;
         }
-        let (_, held) = self.items.remove(0);
+        let (_, held) = remove_at(&mut self.items, 0);
         Some(held)
     }
 
@@ -129,7 +166,7 @@ impl<E> Gap<E> {
         ensures spare { self.old.spare ≤ self.new.spare }
     {
         let below = number_below(&self.items, at);
-        self.items.drain(..below);
+        drop_first(&mut self.items, below);
         below as u32
     }
 

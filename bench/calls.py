@@ -1,0 +1,32 @@
+#!/usr/bin/env python3
+"""Counts the instructions of calls of which no command makes many: searches in a box, and items held in a gap.
+
+Each figure is the difference of two runs of crates/call_bench under callgrind, with the calls and without them, by the number of calls.
+"""
+import os
+import sys
+
+import runs
+
+EVENTS, CALLS, ITEMS = 1_000_000, 1_000, 1_024
+
+
+def each(program, words, more, fewer, count):
+    """The instructions of one call."""
+    counted = [runs.instructions([program, *words, str(number)]) for number in (more, fewer)]
+    return "-" if None in counted else "%.0f" % ((counted[0] - counted[1]) / count)
+
+
+def main():
+    program = os.path.join(sys.argv[1], "..", "call_bench", "out", "call_bench")
+    print(f"{'call':<44} {'instructions':>12}")
+    for name, words, count in (
+        ("at_boundary, of 1,000,000 events", ["boundary", str(EVENTS)], CALLS),
+        ("between, 100 of 1,000,000 events", ["between", str(EVENTS)], CALLS),
+    ):
+        print(f"{name:<44} {each(program, words, count, 0, count):>12}")
+    for name, word in (("hold, 1,024 items in order of start", "forward"), ("hold, 1,024 items, the last first", "backward")):
+        print(f"{name:<44} {each(program, [word], ITEMS, 0, ITEMS):>12}")
+
+
+main()

@@ -1,0 +1,127 @@
+//! call_bench: makes calls of which no command makes many, so that bench/calls.py can count what one costs.
+#![tactic(auto)]
+
+ghost use Rattle.std.specs.Prelude.{◌≤◌, ◌<◌, ◌+◌};
+
+use box_events::{BoxFault, Event, EventBox};
+use gap_buffer::{Gap, Held};
+use std::alloc::{AllocError, Global};
+use std::process::ExitCode;
+use std::{env, io};
+
+const USAGE: &str =
+    "usage: call_bench boundary|between EVENTS CALLS, call_bench forward|backward ITEMS";
+
+// A box of so many read marks.
+fn box_of(alloc: Global, events: u32) -> Result<EventBox, BoxFault> {
+    let mut marks = EventBox::new(alloc);
+    marks.reserve(events)?;
+    for _ in 0..events {
+        marks.append(Event::read(0))?;
+    }
+    Ok(marks)
+}
+
+// A number from 0 to `most`, spread over them as calls go on.
+fn spread(call: u32, most: u32) -> u32
+    ensures { result ≤ most }
+{
+    let far = call.wrapping_mul(2_654_435_761);
+    match most.checked_add(1) {
+        Some(count) => far % count,
+        None => far,
+    }
+}
+
+// How many of so many numbers of the box are boundaries.
+fn boundaries(marks: &EventBox, calls: u32) -> u32 {
+    let mut found: u32 = 0;
+    for call in 0..calls {
+        if marks.at_boundary(spread(call, marks.end())) {
+            found = found.saturating_add(1);
+        }
+    }
+    found
+}
+
+// Copies the events from a number to the hundredth after it, where both are boundaries, and tells how many they are.
+fn copied(marks: &EventBox, from: u32) -> Result<usize, AllocError> {
+    let to = from.saturating_add(100);
+    if marks.at_boundary(from) && marks.at_boundary(to) {
+        return Ok(marks.between(from, to)?.len());
+    }
+    Ok(0)
+}
+
+// How many events are copied by so many calls.
+fn copies(marks: &EventBox, calls: u32) -> Result<usize, AllocError> {
+    let most = marks.end().saturating_sub(100);
+    let mut events: usize = 0;
+    for call in 0..calls {
+        events = events.saturating_add(copied(marks, spread(call, most))?);
+    }
+    Ok(events)
+}
+
+// Holds so many items in order of start, or the last first, and tells how many are kept.
+fn hold_all(alloc: Global, items: u16, is_backward: bool) -> Result<u32, AllocError> {
+    let mut gap: Gap<u32> = Gap::new(alloc);
+    gap.reserve(items as u32)?;
+    for index in 0..items {
+        let start = if is_backward { items - index } else { index } as u32;
+        gap.reserve(1)?;
+        let _held: Held<u32> = gap.hold(start, start + 1, 0);
+    }
+    Ok(gap.len())
+}
+
+// What the calls that the words name come to; None where the words name none.
+fn outcome(alloc: Global, words: &[String]) -> Result<Option<u64>, BoxFault> {
+    match words {
+        [name, events, calls] => {
+            let (Ok(events), Ok(calls)) = (events.parse::<u32>(), calls.parse::<u32>()) else {
+                return Ok(None);
+            };
+            match name.as_str() {
+                "boundary" => Ok(Some(boundaries(&box_of(alloc, events)?, calls) as u64)),
+                "between" => Ok(Some(copies(&box_of(alloc, events)?, calls)? as u64)),
+                _ => Ok(None),
+            }
+        }
+        [name, items] => {
+            let Ok(items) = items.parse::<u16>() else {
+                return Ok(None);
+            };
+            match name.as_str() {
+                "forward" => Ok(Some(hold_all(alloc, items, false)? as u64)),
+                "backward" => Ok(Some(hold_all(alloc, items, true)? as u64)),
+                _ => Ok(None),
+            }
+        }
+        _ => Ok(None),
+    }
+}
+
+// Prints what the calls come to, and answers the exit status.
+fn tell(rt: &HostRuntime) -> io::Result<u8> {
+    let alloc = rt.alloc();
+    let words = env::args(rt)?.skip(1).collect::<Vec<String>>(alloc)?;
+    match outcome(alloc, words.as_slice()) {
+        Ok(Some(number)) => {
+            println!(rt; "{number}")?;
+            Ok(0)
+        }
+        Ok(None) => {
+            println!(rt; "{USAGE}")?;
+            Ok(2)
+        }
+        Err(_) => Ok(1),
+    }
+}
+
+fn main(rt: HostRuntime) -> ExitCode {
+    match tell(&rt) {
+        Ok(status) => ExitCode::from(status),
+        Err(_) => ExitCode::from(1),
+    }
+}
