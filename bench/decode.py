@@ -2,7 +2,8 @@
 """Times how `tlbox decode` reads a schema of records and one value.
 
 Each schema has so many records like `r#00000001 n:int t:long = R;`, once each of a type of its own and once all of one type; the
-value is of the last record. Then come records of 256 fields, the most that a declaration may have.
+value is of the last record. Then come records of 256 fields, the most that a declaration may have, and 1,500 declarations of which one type
+is asked for, and then a call, whose plan reaches all of them.
 """
 import os
 import struct
@@ -44,6 +45,18 @@ def wide_value(count):
     return value, '{"_":"w%d",%s}' % (count - 1, ",".join(numbers + longs))
 
 
+def calls():
+    """Records and functions that carry a call, 750 of each, and the functions' sections; a plan of `!` reaches each of them."""
+    records = "".join(record(number, "R%d" % number) for number in range(750))
+    wraps = "".join("f%d#%08x {X:Type} r:R%d q:!X = X;\n" % (number, 0x10000 + number, number) for number in range(749))
+    return records + "---functions---\n" + wraps + "ping#%08x id:int = R0;\n" % 0x20000
+
+
+def call_value():
+    value = struct.pack("<IIiqIi", 0x10000, 1, 2, -3, 0x20000, 5)
+    return value, '{"_":"f0","q":{"_":"ping","id":5},"r":{"_":"r0","n":2,"t":-3}}'
+
+
 def cases(counts):
     """A name for each case, the schema and the type, the value and its line."""
     for count in counts:
@@ -51,6 +64,8 @@ def cases(counts):
         yield f"{count} of one", one_type(count), record_value(count)
     most = 1_000
     yield f"{most} wide", wide(most), wide_value(most)
+    yield "1500, a record", (calls(), "R0"), (struct.pack("<Iiq", 1, 2, -3), '{"_":"r0","n":2,"t":-3}')
+    yield "1500, a call", (calls(), "!"), call_value()
 
 
 def main():
