@@ -6,3 +6,4 @@ pub mod PageRuns
 pub mod Copying
 pub mod BoxFacts
 pub mod KeptStretches
+pub mod LastSettings

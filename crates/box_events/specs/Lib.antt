@@ -5,4 +5,5 @@ pub mod BoxViews
 pub mod Finding
 pub mod Appending
 pub mod Asking
+pub mod SettingLists
 pub mod inner

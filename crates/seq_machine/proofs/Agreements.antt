@@ -16,10 +16,11 @@ use Rattle.pts_machine.specs.Steps.{settle, Hears}
 use Rattle.pts_machine.proofs.Ends.{none_at, some_at, look}
 use Rattle.pts_machine.proofs.Kept.{hears}
 use Rattle.box_events.specs.declared.settings.Setting.{Setting}
-use Rattle.seq_machine.specs.Packs.{Values, Pack, puts, last_date}
+use Rattle.box_events.specs.SettingLists.{Values, Dated, IsLatest, AreSince, IsOverlay, NeverFallFrom}
+use Rattle.seq_machine.specs.Packs.{Pack, puts, last_date}
 use Rattle.seq_machine.specs.States.{SettingsState, lane_of, applied, hear_pack, overlaid, asked, asks_again, forgotten, loaded, new_settings}
-use Rattle.seq_machine.specs.Latest.{Dated, IsLatest, IsStretch, AreStretches, AreSince, IsOverlay}
-use Rattle.seq_machine.specs.Agreeing.{NeverFallFrom, LieWithin, SettingsAgree}
+use Rattle.seq_machine.specs.Latest.{IsStretch, AreStretches}
+use Rattle.seq_machine.specs.Agreeing.{LieWithin, SettingsAgree}
 use Rattle.seq_machine.proofs.Stays.{latest_hear, latest_over}
 use Rattle.seq_machine.proofs.Growing.{latest_none, latest_longer}
 use Rattle.seq_machine.proofs.Dates.{first_date, since_hear, since_over, since_grows, last_append}

@@ -17,8 +17,9 @@ use Rattle.pts_machine.proofs.Kept.{hears}
 use Rattle.box_events.specs.declared.settings.Setting.{Setting}
 use Rattle.seq_machine.specs.Packs.{Pack, puts, last_date}
 use Rattle.seq_machine.specs.States.{SettingsState, lane_of, applied, hear_pack, overlaid}
-use Rattle.seq_machine.specs.Latest.{Dated, IsStretch, AreStretches, AreSince, IsSince}
-use Rattle.seq_machine.specs.Agreeing.{NeverFallFrom, LieWithin}
+use Rattle.box_events.specs.SettingLists.{Dated, AreSince, NeverFallFrom}
+use Rattle.seq_machine.specs.Latest.{IsStretch, AreStretches, IsSince}
+use Rattle.seq_machine.specs.Agreeing.{LieWithin}
 
 -- the first setting of a stretch has its date
 pub first_date : (L : List Dated) (s e : ℕ) (pack : Pack) (d : Dated) → s < e → e ≤ length L → IsStretch L s e pack → (get_or L s d).date ≡ pack.date

@@ -9,9 +9,10 @@ use Rattle.std.proofs.lemmas.Option.{none-some}
 use Rattle.std.proofs.Math.Seq.{take-append-add, take-length, drop-append_seam}
 use Rattle.std.proofs.lemmas.List.{take-append-le, length-take, length-drop, length-map}
 use Rattle.box_events.specs.declared.settings.Setting.{Setting}
-use Rattle.seq_machine.specs.Packs.{Values, Pack, size}
+use Rattle.box_events.specs.SettingLists.{Values, Dated, last_of, value_of, IsLatest, IsOverlay, value_since}
+use Rattle.seq_machine.specs.Packs.{Pack, size}
 use Rattle.seq_machine.specs.States.{SettingsState, new_settings, IsSoundState}
-use Rattle.seq_machine.specs.Latest.{Dated, last_of, value_of, IsLatest, latest, IsStretch, AreStretches, IsLatestState, IsOverlay, value_since}
+use Rattle.seq_machine.specs.Latest.{latest, IsStretch, AreStretches, IsLatestState}
 use Rattle.seq_machine.specs.Agreeing.{LieWithin}
 use Rattle.seq_machine.proofs.LatestValues.{latest_puts}
 

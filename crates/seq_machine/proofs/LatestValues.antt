@@ -7,8 +7,9 @@ use Rattle.std.proofs.lemmas.List.{take-append-drop, take-take, drop-take}
 use Rattle.std.proofs.lemmas.List.Elements.{All-head, All-tail, All-same, All-take}
 use Rattle.std.specs.FinMap.{get, insert, get-insert}
 use Rattle.box_events.specs.declared.settings.Setting.{Setting}
-use Rattle.seq_machine.specs.Packs.{Values, same_key, puts}
-use Rattle.seq_machine.specs.Latest.{Dated, or_else, last_of, last_set, value_of, value_since, IsLatest, IsOverlay, AreSince}
+use Rattle.box_events.specs.SettingLists.{Values, same_key, Dated, or_else, last_of, last_set, value_of, value_since, IsLatest, IsOverlay, AreSince}
+use Rattle.seq_machine.specs.Packs.{puts}
+use Rattle.box_events.proofs.LastSettings.{last_append, last_each, value_else}
 
 join : {A : Type 0} (o p : Option A) (b : Bool) (v : A) → or_else o (cond b (Some v) p) ≡ or_else (or_else o (cond b (Some v) None)) p
 join None p true v = refl
@@ -20,33 +21,6 @@ pub get_puts : (xs : List Setting) (m : Values) (q : List ℕ) → get (puts m x
 get_puts [] m q = refl
 get_puts (x ∷ xs) m q =
     get_puts xs (insert m x.key x.value) q ∙ ap (or_else (last_set xs q)) (get-insert nat_list_cmp_total m x.key x.value q) ∙ join (last_set xs q) (get m q) (same_key q x.key) x.value
-
-else_assoc : {A : Type 0} (o p r : Option A) → or_else (or_else o p) r ≡ or_else o (or_else p r)
-else_assoc None p r = refl
-else_assoc (Some x) p r = refl
-
-else_none : {A : Type 0} (o : Option A) → or_else o None ≡ o
-else_none None = refl
-else_none (Some x) = refl
-
-pub last_append : (xs ys : List Dated) (q : List ℕ) → last_of (xs ++ ys) q ≡ or_else (last_of ys q) (last_of xs q)
-last_append [] ys q = sym (else_none (last_of ys q))
-last_append (x ∷ xs) ys q = ap (λ (o : Option Dated). or_else o (cond (same_key q x.setting.key) (Some x) None)) (last_append xs ys q) ∙ else_assoc (last_of ys q) (last_of xs q) (cond (same_key q x.setting.key) (Some x) None)
-
-value_step : (o : Option Dated) (b : Bool) (x : Dated) → or_else (value_of o) (cond b (Some x.setting.value) None) ≡ value_of (or_else o (cond b (Some x) None))
-value_step None true x = refl
-value_step None false x = refl
-value_step (Some e) b x = refl
-
-value_else : (o p : Option Dated) → or_else (value_of o) (value_of p) ≡ value_of (or_else o p)
-value_else None p = refl
-value_else (Some e) p = refl
-
-pub last_each : (xs : List Dated) (q : List ℕ) → last_set (each (λ e. e.setting) xs) q ≡ value_of (last_of xs q)
-last_each [] q = refl
-last_each (x ∷ xs) q =
-    ap (λ (o : Option (List ℕ)). or_else o (cond (same_key q x.setting.key) (Some x.setting.value) None)) (last_each xs q)
-    ∙ value_step (last_of xs q) (same_key q x.setting.key) x
 
 -- the first entries, and those up to a later place
 prefixes : (L : List Dated) (s e : ℕ) → s ≤ e → take s L ++ drop s (take e L) ≡ take e L

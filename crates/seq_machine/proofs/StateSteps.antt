@@ -15,7 +15,8 @@ use Rattle.pts_machine.proofs.Kept.{hear_is, hears, HoldsAhead, ahead_by, ahead_
 use Rattle.pts_machine.proofs.Moves.{hear_mode, hear_at, hear_events}
 use Rattle.pts_machine.proofs.Ends.{reach_up}
 use Rattle.box_events.specs.declared.settings.Setting.{Setting}
-use Rattle.seq_machine.specs.Packs.{Values, Pack, puts, puts_all, last_date, size}
+use Rattle.box_events.specs.SettingLists.{Values}
+use Rattle.seq_machine.specs.Packs.{Pack, puts, puts_all, last_date, size}
 use Rattle.seq_machine.specs.States.{SettingsState, lane_of, applied, hear_pack, overlaid, asked, asks_again, forgotten, loaded, new_settings, IsSoundState}
 
 pub heard_pack : (b : SettingsState) (start end : ℕ) (p : Pack) (r : Seen) (u : LaneState Pack) → Hears (lane_of b) start end p r u → hear_pack b start end p ≡ record { state = applied b u; seen = r }

@@ -12,9 +12,10 @@ use Rattle.pts_machine.proofs.Ends.{none_at, some_at, look}
 use Rattle.gap_buffer.proofs.Maps.{from_some, insert_some}
 use Rattle.pts_machine.proofs.Kept.{hears}
 use Rattle.box_events.specs.declared.settings.Setting.{Setting}
-use Rattle.seq_machine.specs.Packs.{Values, Pack, puts, puts_all}
+use Rattle.box_events.specs.SettingLists.{Values, Dated, IsLatest, IsOverlay, AreSince}
+use Rattle.seq_machine.specs.Packs.{Pack, puts, puts_all}
 use Rattle.seq_machine.specs.States.{SettingsState, lane_of, applied, hear_pack, overlaid}
-use Rattle.seq_machine.specs.Latest.{Dated, IsLatest, IsStretch, AreStretches, IsLatestState, IsOverlay, AreSince}
+use Rattle.seq_machine.specs.Latest.{IsStretch, AreStretches, IsLatestState}
 use Rattle.seq_machine.proofs.LatestValues.{latest_puts, latest_overlay}
 
 pub latest_chain : (L : List Dated) (n p : ℕ) (m : Items Pack) (t : Values) → AreStretches L m → IsLatest L p t → IsLatest L (reach n p m) (puts_all t (chain n p m))

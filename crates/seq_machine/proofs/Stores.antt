@@ -6,7 +6,8 @@ use Rattle.box_events.specs.declared.settings.Setting.{Setting}
 use Rattle.pts_machine.specs.Takings.{InTurn}
 use Rattle.pts_machine.specs.Takings.InTurn.{none, one_more}
 use Rattle.seq_machine.specs.declared.store.Store.{Store}
-use Rattle.seq_machine.specs.Packs.{Values, Pack, puts, puts_all, last_date}
+use Rattle.box_events.specs.SettingLists.{Values}
+use Rattle.seq_machine.specs.Packs.{Pack, puts, puts_all, last_date}
 use Rattle.seq_machine.specs.Stores.{Applied}
 
 cond_le : (b : Bool) (n : ℕ) → cond b n (n + 1) ≤ n + 1

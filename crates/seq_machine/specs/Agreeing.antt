@@ -1,14 +1,11 @@
 -- A client's settings that agree with a server's list of them. This project's own.
-use Rattle.std.specs.Prelude.{◌≡◌, ℕ, ◌<◌, ◌≤◌, List, Some, length, slice_index_or}
+use Rattle.std.specs.Prelude.{◌≡◌, ℕ, ◌<◌, ◌≤◌, List, Some, length}
 use Rattle.std.specs.FinMap as map
 use Rattle.gap_buffer.specs.Holding.{Items}
+use Rattle.box_events.specs.SettingLists.{Dated}
 use Rattle.seq_machine.specs.Packs.{Pack}
 use Rattle.seq_machine.specs.States.{SettingsState}
-use Rattle.seq_machine.specs.Latest.{Dated, IsLatestState, IsSince}
-
--- from a seq on, no setting is dated before one that stands ahead of it
-abbrev pub NeverFallFrom : ℕ → List Dated → Type 0
-NeverFallFrom seq L = (i j : ℕ) (d : Dated) → seq ≤ i → i ≤ j → j < length L → (slice_index_or L i d).date ≤ (slice_index_or L j d).date
+use Rattle.seq_machine.specs.Latest.{IsLatestState, IsSince}
 
 -- each held pack starts before its end, and ends within the list
 abbrev pub LieWithin : List Dated → Items Pack → Type 0

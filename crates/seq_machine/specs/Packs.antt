@@ -1,18 +1,9 @@
--- Settings that came together, and values by their keys. This project's own.
-use Rattle.std.specs.Prelude.{ℕ, List, [], ◌∷◌, Bool, length, refl}
+-- Settings that came together. This project's own.
+use Rattle.std.specs.Prelude.{ℕ, List, [], ◌∷◌, length, refl}
 use Rattle.std.specs.Coded.{Coded, code_by, coded×, coded_ℕ, coded_list}
-use Rattle.std.specs.Ordering.{nat_cmp, eq_by_cmp}
-use Rattle.std.specs.Cmp.Lexicographic.{slice_cmp}
 use Rattle.std.specs.FinMap as map
 use Rattle.box_events.specs.declared.settings.Setting.{Setting}
-
--- values by their keys, in byte order of keys
-abbrev pub Values : Type 0
-Values = map.FinMap (slice_cmp nat_cmp) (List ℕ)
-
--- two keys are one
-abbrev pub same_key : List ℕ → List ℕ → Bool
-same_key q k = eq_by_cmp (slice_cmp nat_cmp) q k
+use Rattle.box_events.specs.SettingLists.{Values}
 
 -- settings that came together, in order, and their date
 pub record Pack : Type 0 where

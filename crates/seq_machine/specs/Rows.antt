@@ -8,7 +8,7 @@ use Rattle.std.specs.FinMap.Entries.{by_order}
 use Rattle.box_events.specs.declared.settings.Setting.{Setting}
 use Rattle.seq_machine.specs.declared.table.Spot.{Spot}
 use Rattle.seq_machine.specs.declared.table.Spot.TheVariants.{At, Before}
-use Rattle.seq_machine.specs.Packs.{Values}
+use Rattle.box_events.specs.SettingLists.{Values}
 
 -- settings as pairs of key and value
 abbrev pub pairs : List Setting → List (List ℕ × List ℕ)

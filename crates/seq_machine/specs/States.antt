@@ -11,7 +11,8 @@ use Rattle.pts_machine.specs.declared.seen.Seen.{Seen}
 use Rattle.pts_machine.specs.States.{LaneState, mode_code, AreSized, StartAfter}
 use Rattle.pts_machine.specs.Steps.{hear, settle}
 use Rattle.box_events.specs.declared.settings.Setting.{Setting}
-use Rattle.seq_machine.specs.Packs.{Values, Pack, size, puts, puts_all, last_date, pack_code}
+use Rattle.box_events.specs.SettingLists.{Values}
+use Rattle.seq_machine.specs.Packs.{Pack, size, puts, puts_all, last_date, pack_code}
 use Rattle.seq_machine.specs.Tables.{values_code}
 use Rattle.seq_machine.specs.Totals.{total}
 

@@ -2,7 +2,7 @@
 use Rattle.std.specs.Prelude.{ℕ, refl}
 use Rattle.std.specs.Coded.{Coded, code_by, coded×, coded_ℕ, coded_list}
 use Rattle.std.specs.FinMap as map
-use Rattle.seq_machine.specs.Packs.{Values}
+use Rattle.box_events.specs.SettingLists.{Values}
 
 -- its values, and for how many more keys there is room
 pub record TableView : Type 0 where

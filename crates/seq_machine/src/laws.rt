@@ -4,10 +4,11 @@ ghost use Rattle.std.specs.List.{All};
 ghost use Rattle.box_events.specs.declared.settings.Setting.{Setting};
 ghost use Rattle.pts_machine.specs.declared.mode.Mode.TheVariants.{Live};
 ghost use Rattle.pts_machine.specs.States.{is_live};
-ghost use Rattle.seq_machine.specs.Packs.{Values, Pack, size};
+ghost use Rattle.box_events.specs.SettingLists.{Values, Dated, IsLatest, AreSince, IsOverlay, NeverFallFrom};
+ghost use Rattle.seq_machine.specs.Packs.{Pack, size};
 ghost use Rattle.seq_machine.specs.States.{SettingsState, IsSoundState, new_settings, hear_pack, overlaid, asked, asks_again, forgotten, loaded};
-ghost use Rattle.seq_machine.specs.Latest.{Dated, IsLatest, latest, IsStretch, AreStretches, AreSince, IsSince, IsOverlay, IsLatestState};
-ghost use Rattle.seq_machine.specs.Agreeing.{NeverFallFrom, LieWithin, SettingsAgree};
+ghost use Rattle.seq_machine.specs.Latest.{latest, IsStretch, AreStretches, IsSince, IsLatestState};
+ghost use Rattle.seq_machine.specs.Agreeing.{LieWithin, SettingsAgree};
 
 /// The latest settings of a list are one table, and settings stay the latest as they hear packs and as the list grows.
 pub fn settings_stay_latest()

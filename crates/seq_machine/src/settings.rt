@@ -6,8 +6,8 @@ ghost use Rattle.seq_machine.specs.Rows.{pairs, values_of, AreSorted};
 ghost use Rattle.seq_machine.specs.Totals.{total};
 ghost use Rattle.seq_machine.specs.Packs.{pack_of};
 ghost use Rattle.seq_machine.specs.States.{IsSoundState, IsBounded, new_settings, hear_pack, overlaid, asked, asks_again, forgotten, loaded};
-ghost use Rattle.seq_machine.specs.Latest.{Dated, IsLatestState, IsStretch, AreSince, IsSince, IsOverlay};
-ghost use Rattle.seq_machine.specs.Agreeing.{NeverFallFrom};
+ghost use Rattle.box_events.specs.SettingLists.{Dated, AreSince, IsOverlay, NeverFallFrom};
+ghost use Rattle.seq_machine.specs.Latest.{IsLatestState, IsStretch, IsSince};
 
 use crate::chains::settle;
 use crate::held_pack::HeldPack;
