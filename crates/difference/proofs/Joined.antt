@@ -7,7 +7,7 @@ use Rattle.box_events.specs.declared.updates.Placed.{Placed}
 use Rattle.difference.specs.Weaving.{bodies, others_from, ends_at}
 use Rattle.difference.specs.Laws.{Joins, EachHasParts}
 
-ending_join : (xs ys : List EventView) → ending (xs ++ ys) ≡ ending xs + ending ys
+pub ending_join : (xs ys : List EventView) → ending (xs ++ ys) ≡ ending xs + ending ys
 ending_join [] ys = omega arith
 ending_join (x ∷ xs) ys = omega (arith, ending_join xs ys)
 

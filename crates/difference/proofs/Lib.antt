@@ -4,3 +4,4 @@ pub mod Merged
 pub mod Once
 pub mod Joined
 pub mod Added
+pub mod Made

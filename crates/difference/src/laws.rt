@@ -1,7 +1,7 @@
 //! Laws of the definitions, carried by a function that does nothing.
-ghost use Rattle.difference.specs.Laws.{IsOneList, EachFits, EachThatFitsIsWoven, HasOthers, IsNotRefused, EachHasParts, Joins};
+ghost use Rattle.difference.specs.Laws.{IsOneList, EachFits, EachThatFitsIsWoven, HasOthers, IsNotRefused, EachHasParts, Joins, IsMade, IsWovenOfOthers, Reaches, IsWhy, KeepsCounts};
 
-/// Woven lists: a list is woven of its parts and of no others, and no other list of these; of parts that fit a list is woven, and of no others.
+/// Woven lists: a list is woven of its parts and of no others, and no other list of these; of parts that fit a list is woven, and of no others. What `woven_of` makes is that list, and why it makes none is the fault's cause.
 pub fn woven_lists()
     ensures one { IsOneList }
     ensures fits { EachFits }
@@ -10,4 +10,9 @@ pub fn woven_lists()
     ensures taken { IsNotRefused }
     ensures parts { EachHasParts }
     ensures joins { Joins }
+    ensures made { IsMade }
+    ensures made_back { IsWovenOfOthers }
+    ensures reaches { Reaches }
+    ensures why { IsWhy }
+    ensures counted { KeepsCounts }
 {}

@@ -1,17 +1,9 @@
 -- Messages put into the numbers that the other events leave free. This project's own.
-use Rattle.std.specs.Prelude.{◌≡◌, ◌≤◌, ℕ, ◌-◌, List, [], ◌∷◌, ◌++◌, map, take, drop, Some, None, Result, Ok, Err}
-use Rattle.box_events.specs.Events.{EventView, added, count_of}
+use Rattle.std.specs.Prelude.{◌≡◌, ◌≤◌, ℕ, List, ◌++◌, map, take, drop, Some, None, Result, Ok, Err}
+use Rattle.box_events.specs.Events.{EventView, added}
 use Rattle.box_events.specs.declared.updates.Placed.{Placed}
 use Rattle.difference.specs.Refusal.{overlap, counts}
-
--- how many numbers are free before an event, where what stands before it ends at `at`
-abbrev pub free : ℕ → Placed → ℕ
-free at o = (o.pts - count_of o.event) - at
-
--- before each other event as many messages as numbers are free, and the messages that are left at the end
-abbrev pub merged : ℕ → List (List ℕ) → List Placed → List EventView
-merged at news [] = map added news
-merged at news (o ∷ os) = map added (take (free at o) news) ++ o.event ∷ merged o.pts (drop (free at o) news) os
+pub use Rattle.difference.specs.Weaves.{free, merged}
 
 -- so many messages, or all where there are fewer, went to the end of the list
 pub record Moved (old new : List EventView) (news left : List (List ℕ)) (most : ℕ) : Type 0 where

@@ -1,5 +1,6 @@
 use Rattle.difference.proofs.Once.{is_one_list, each_fits, each_that_fits_is_woven, has_others, is_not_refused}
 use Rattle.difference.proofs.Joined.{joins, each_has_parts}
+use Rattle.difference.proofs.Made.{is_made, is_woven_of_others, reaches, is_why, keeps_counts}
 use Rattle.difference.proofs.laws.woven_lists.Goals as goal
 
 pub returns-clause-one : goal.returns-clause-one
@@ -22,3 +23,18 @@ returns-clause-parts c = each_has_parts
 
 pub returns-clause-joins : goal.returns-clause-joins
 returns-clause-joins c = joins
+
+pub returns-clause-made : goal.returns-clause-made
+returns-clause-made c = is_made
+
+pub returns-clause-made_back : goal.returns-clause-made_back
+returns-clause-made_back c = is_woven_of_others
+
+pub returns-clause-reaches : goal.returns-clause-reaches
+returns-clause-reaches c = reaches
+
+pub returns-clause-why : goal.returns-clause-why
+returns-clause-why c = is_why
+
+pub returns-clause-counted : goal.returns-clause-counted
+returns-clause-counted c = keeps_counts

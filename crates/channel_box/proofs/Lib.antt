@@ -1,0 +1,5 @@
+pub mod Brought
+pub mod Ids
+pub mod Indexes
+pub mod Loops
+pub mod Whole

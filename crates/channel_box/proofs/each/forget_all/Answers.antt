@@ -1,0 +1,8 @@
+use Rattle.std.proofs.Common.{refl, sym, ap, ◌∙◌, arith}
+use Rattle.channel_box.specs.States.{ChannelView}
+use Rattle.channel_box.specs.Steps.{forgot}
+use Rattle.channel_box.proofs.Loops.{mapping_more}
+use Rattle.channel_box.proofs.each.forget_all.Goals as goal
+
+pub loop-channel-preserved : goal.loop-channel-preserved
+loop-channel-preserved c = mapping_more forgot c.args.channels.now c.loop-channel.channels c.loop-channel.channel-index c.channel-item.result c.forget.new.self (λ _. refl) c.loop-channel.invariant (omega (arith, c.loop-channel-test.true, c.loop-channel.auto.channels)) c.channel-item.is (c.forget.ensures.step ∙ ap (λ (z : ChannelView). forgot z.state) (sym c.channel-item.is)) (omega (arith, c.forget.ensures.spare, ap (λ (z : ChannelView). z.spare) c.channel-item.is))
