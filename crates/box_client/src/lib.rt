@@ -1,0 +1,13 @@
+//! A client: its lanes, its settings and its channels, what it asks and what it makes of the answers.
+#![tactic(auto)]
+
+mod asking;
+mod brought;
+mod client;
+mod fault;
+mod parts;
+mod pushing;
+mod replying;
+
+pub use client::Client;
+pub use fault::{ClientFault, Told};
