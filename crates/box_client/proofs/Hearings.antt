@@ -3,7 +3,7 @@ use Rattle.std.proofs.Common.{◌≡◌, ◌≤◌, ◌+◌, ◌++◌, List, len
 use Rattle.box_events.specs.declared.settings.Setting.{Setting}
 use Rattle.box_events.specs.declared.updates.Update.{Update}
 use Rattle.box_client.specs.declared.parts.Parts.{Parts}
-use Rattle.box_client.specs.Pushes.{updated, all_updated, settings_in}
+use Rattle.box_client.specs.Pushes.{all_updated, settings_in}
 use Rattle.box_client.specs.Ranges.{AreUpdatesInRange}
 use Rattle.box_client.specs.Rooms.{HasRoom}
 use Rattle.box_client.specs.Views.{client_of}

@@ -1,1 +1,4 @@
 pub mod Hearings
+pub mod Modes
+pub mod RoomSteps
+pub mod Brings

@@ -1,11 +1,11 @@
 -- When a client asks, and what. This project's own.
-use Rattle.std.specs.Prelude.{ℕ, ◌+◌, pos, List, [], ◌∷◌, ◌++◌, Bool, true, false, cond, ◌||◌}
+use Rattle.std.specs.Prelude.{◌+◌, pos, List, [], ◌∷◌, ◌++◌, Bool, true, false, cond, ◌||◌}
 use Rattle.std.specs.FinMap as map_of
 use Rattle.box_events.specs.declared.requests.Numbered.{Numbered}
 use Rattle.box_events.specs.declared.requests.Request.TheVariants.{Difference}
 use Rattle.pts_machine.specs.Steps.{asked, forget}
 use Rattle.seq_machine.specs.States.{asked as settings_asked, forgotten as settings_forgotten}
-use Rattle.channel_box.specs.Steps.{is_due, ticked, woken, forgotten, watched}
+use Rattle.channel_box.specs.Steps.{is_due, ticked, woken, forgotten}
 use Rattle.channel_box.specs.Looks.{is_waiting, any_asks}
 use Rattle.box_client.specs.States.{ClientState}
 
@@ -15,8 +15,12 @@ group_is_due c = is_due c.flag (map_of.len c.common.held + map_of.len c.secret.h
 
 abbrev pub group_asks : ClientState → ClientState
 group_asks c = record {
-  next = c.next + 1; common = asked c.common c.next; secret = asked c.secret c.next; settings = settings_asked c.settings c.next;
-  flag = false; channels = c.channels;
+  next = c.next + 1;
+  common = asked c.common c.next;
+  secret = asked c.secret c.next;
+  settings = settings_asked c.settings c.next;
+  flag = false;
+  channels = c.channels;
 }
 
 abbrev pub difference_of : ClientState → Numbered
@@ -46,7 +50,11 @@ wakes c = record c { flag = true; channels = woken c.channels }
 -- What is held goes, no answer is waited for, and all is to be asked about. Request numbers go on.
 abbrev pub restarted : ClientState → ClientState
 restarted c = record {
-  next = c.next; common = forget c.common; secret = forget c.secret; settings = settings_forgotten c.settings; flag = true;
+  next = c.next;
+  common = forget c.common;
+  secret = forget c.secret;
+  settings = settings_forgotten c.settings;
+  flag = true;
   channels = woken (forgotten c.channels);
 }
 

@@ -1,7 +1,6 @@
 -- What the calls do, by what they answer. This project's own.
-use Rattle.std.specs.Prelude.{◌≡◌, ◌≢◌, ℕ, ℤ, ◌<◌, ◌≤◌, List, [], ◌∷◌, ◌++◌, length, Bool, true, false, Result, Ok, Err}
+use Rattle.std.specs.Prelude.{◌≡◌, ◌≢◌, ℤ, ◌<◌, ◌≤◌, [], ◌∷◌, ◌++◌, length, true, false, Result, Ok, Err}
 use Rattle.box_events.specs.declared.limits.TheConstants.{MAX_CHANNELS}
-use Rattle.box_events.specs.declared.replies.Reply.{Reply}
 use Rattle.difference.specs.declared.fault.WeaveFault.TheVariants.{Overlap, Uneven, Memory as WeaveMemory}
 use Rattle.difference.specs.Weaves.{overlaps, uneven}
 use Rattle.pts_machine.specs.Steps.{new_lane}
@@ -13,7 +12,7 @@ use Rattle.box_client.specs.declared.fault.ClientFault.TheVariants.{PeerError, W
 use Rattle.box_client.specs.declared.fault.Told.{Told}
 use Rattle.box_client.specs.declared.fault.Told.TheVariants.{Reply as Taken, Stale}
 use Rattle.box_client.specs.States.{ClientState}
-use Rattle.box_client.specs.Replies.{Outcome, ignored, refuses, becomes, peer_error, wrong_kind, no_list, seq_back, replied}
+use Rattle.box_client.specs.Replies.{Outcome, ignored, refuses, becomes, peer_error, wrong_kind, no_list, seq_back}
 
 -- What a call answers, by what comes of the answer that it was handed. Only where somebody asks its number is memory asked for.
 abbrev pub Answers : ClientState → Outcome → Result Told ClientFault → ClientState → Type 0

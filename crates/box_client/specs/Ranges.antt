@@ -8,9 +8,6 @@ use Rattle.box_events.specs.declared.updates.Push.{Push}
 use Rattle.box_events.specs.declared.updates.Push.TheVariants.{TooLong, Container}
 use Rattle.box_events.specs.declared.replies.Reply.{Reply}
 use Rattle.box_events.specs.declared.replies.Reply.TheVariants.{State, Empty, Difference, Channel as ChannelAnswer, Receipt, Error}
-use Rattle.box_events.specs.declared.saved.SavedLane.{SavedLane}
-use Rattle.box_events.specs.declared.saved.SavedChannel.{SavedChannel}
-use Rattle.box_events.specs.declared.saved.Saved.{Saved}
 use Rattle.difference.specs.Refusal.{AreOthers}
 use Rattle.difference.specs.Laws.{AreCountedOthers}
 use Rattle.channel_box.specs.Calls.{IsInRange}

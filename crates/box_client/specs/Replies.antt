@@ -1,7 +1,7 @@
 -- What an answer does to a client.
 -- From "Working with Updates" (core.telegram.org/api/updates): updates.difference, its slices and differenceEmpty; the channels' answers. The
 -- numbers of requests, and the order of causes, are this project's own.
-use Rattle.std.specs.Prelude.{ℕ, ℤ, List, [], ◌∷◌, Bool, true, false, ◌&&◌, ltb, cond, is_some, Option, Result, Ok, Err}
+use Rattle.std.specs.Prelude.{ℕ, ℤ, List, [], Bool, true, false, ◌&&◌, ltb, cond, is_some, Result, Ok, Err}
 use Rattle.box_events.specs.Events.{EventView, count_of}
 use Rattle.box_events.specs.declared.replies.Reply.{Reply}
 use Rattle.box_events.specs.declared.replies.Reply.TheVariants.{State, Empty, Difference, Channel, Receipt, Error}
@@ -29,7 +29,10 @@ pub data Outcome : Type 0 where
 -- nothing is new since the client's positions
 abbrev pub nothing_new : ClientState → ℕ → ℕ → Brought
 nothing_new c date seq = record {
-  news = []; secrets = []; others = []; settings = [];
+  news = [];
+  secrets = [];
+  others = [];
+  settings = [];
   state = record { pts = c.common.at; qts = c.secret.at; date = date; seq = seq };
   last = true;
 }
@@ -37,10 +40,14 @@ nothing_new c date seq = record {
 -- Both lanes grow. After the last part the settings are laid over the others, with its seq and date; after another all are to ask again.
 abbrev pub group_done : Bool → ClientState → Brought → List EventView → List EventView → ClientState
 group_done true c b xs ys = record c {
-  common = extend count_of c.common xs true; secret = extend count_of c.secret ys true; settings = overlaid c.settings b.settings b.state.seq b.state.date;
+  common = extend count_of c.common xs true;
+  secret = extend count_of c.secret ys true;
+  settings = overlaid c.settings b.settings b.state.seq b.state.date;
 }
 group_done false c b xs ys = record c {
-  common = extend count_of c.common xs false; secret = extend count_of c.secret ys false; settings = asks_again c.settings;
+  common = extend count_of c.common xs false;
+  secret = extend count_of c.secret ys false;
+  settings = asks_again c.settings;
 }
 
 -- the last part's seq may not be below the client's

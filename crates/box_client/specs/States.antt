@@ -1,7 +1,7 @@
 -- A client, apart from the code.
 -- From "Working with Updates" (core.telegram.org/api/updates): a client has the events of the common box up to pts, those of the secret box up
 -- to qts, what is numbered by seq, and a box for each channel. Flags, modes and request numbers are this project's own.
-use Rattle.std.specs.Prelude.{◌≡◌, ◌≤◌, ℕ, List, [], Bool, false, refl}
+use Rattle.std.specs.Prelude.{◌≡◌, ℕ, List, [], Bool, false, refl}
 use Rattle.std.specs.Coded.{Coded, code_by, coded×, coded_ℕ, coded_bool, coded_list}
 use Rattle.box_events.specs.Events.{EventView}
 use Rattle.box_events.specs.inner.EventCodes.{event_code}

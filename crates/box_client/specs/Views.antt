@@ -1,5 +1,4 @@
 -- The parts of a client as a client. This project's own.
-use Rattle.std.specs.Prelude.{◌≡◌, ◌≤◌}
 use Rattle.box_client.specs.declared.parts.Parts.{Parts}
 use Rattle.channel_box.specs.States.{states}
 use Rattle.box_client.specs.States.{ClientState}

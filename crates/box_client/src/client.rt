@@ -8,11 +8,9 @@ ghost use Rattle.box_client.specs.Asking.{ticks, wakes, restarted, is_one_asking
 ghost use Rattle.box_client.specs.Ranges.{IsPushInRange, IsReplyInRange};
 ghost use Rattle.box_client.specs.Calls.{Answers, WatchesOne};
 
-use crate::asking;
 use crate::fault::{ClientFault, Told};
 use crate::parts::Parts;
-use crate::pushing;
-use crate::replying;
+use crate::{asking, pushing, replying};
 use box_events::{Asks, Event, Push, Reply};
 use channel_box::{Channels, WatchFault};
 use pts_machine::{Lane, Mode};

@@ -1,7 +1,8 @@
 //! Answers.
-ghost use Rattle.std.specs.Prelude.{◌≡◌, ◌≤◌, ◌<◌, ◌^◌, length, true, false};
+ghost use Rattle.std.specs.Prelude.{◌≡◌, ◌≤◌, ◌<◌, ◌^◌, length, OnOk, OnErr};
 ghost use Rattle.difference.specs.Refusal.{AreOthers};
 ghost use Rattle.difference.specs.Laws.{AreCountedOthers};
+ghost use Rattle.seq_machine.specs.States.{overlaid};
 ghost use Rattle.channel_box.specs.Steps.{is_asking, asks_number};
 ghost use Rattle.box_client.specs.Replies.{brings, group_replied, channel_replied, replied};
 ghost use Rattle.box_client.specs.Ranges.{IsReplyInRange};
@@ -11,10 +12,12 @@ ghost use Rattle.box_client.specs.Views.{client_of};
 use crate::brought::Brought;
 use crate::fault::{ClientFault, Told};
 use crate::parts::Parts;
-use box_events::{ListOf, MAX_END, Reply, State};
+use box_events::{ListOf, MAX_END, Reply, Setting, State};
 use channel_box::weave_onto;
 use pts_machine::Mode;
-use std::alloc::Global;
+use seq_machine::Settings;
+use std::alloc::{AllocError, Global};
+use tl_base::Memory;
 
 /// The answer to the request of a number comes.
 pub fn hear_reply(
@@ -101,27 +104,46 @@ fn take(parts: &mut Parts, alloc: Global, brought: Brought) -> Result<Told, Clie
     requires counted { AreCountedOthers brought.others }
     ensures step { Answers (client_of parts.old) (brings (client_of parts.old) brought) result (client_of parts.new) }
 {
-    let none = ListOf::new(alloc);
-    let state = brought.state;
-    let news = weave_onto(alloc, &mut parts.common, state.pts, brought.news, brought.others)?;
-    let secrets = weave_onto(alloc, &mut parts.secret, state.qts, brought.secrets, none)?;
+    let Brought {
+        news,
+        secrets,
+        others,
+        settings,
+        state,
+        last,
+    } = brought;
     let at = parts.settings.at();
-    if brought.last && state.seq < at {
+    let events = weave_onto(alloc, &mut parts.common, state.pts, news, others)?;
+    let none = ListOf::new(alloc);
+    let messages = weave_onto(alloc, &mut parts.secret, state.qts, secrets, none)?;
+    if !last {
+        parts.settings.again();
+        parts.common.extend(events, false);
+        parts.secret.extend(messages, false);
+        return Ok(Told::Reply);
+    }
+    if state.seq < at {
         return Err(ClientFault::SeqBack { at, seq: state.seq });
     }
-    if brought.last {
-        let settings = brought.settings.into_vec();
-        if settings.len() > u32::MAX as usize {
-            return Err(ClientFault::Memory);
-        }
-        parts.settings.reserve(settings.len() as u32)?;
-        parts.settings.overlay(settings, state.seq, state.date);
-    } else {
-        parts.settings.again();
-    }
-    parts.common.extend(news, brought.last);
-    parts.secret.extend(secrets, brought.last);
+    lay(&mut parts.settings, settings, state)?;
+    parts.common.extend(events, true);
+    parts.secret.extend(messages, true);
     Ok(Told::Reply)
+}
+
+// The settings of a final answer are laid over the others.
+fn lay(settings: &mut Settings, more: ListOf<Setting>, state: State) -> Result<(), Memory>
+    requires order { settings.old.state.at ≤ state.seq }
+    ensures ok { OnOk result (settings.new.state ≡ overlaid settings.old.state more state.seq state.date) }
+    ensures err { OnErr result (settings.new.state ≡ settings.old.state) }
+{
+    let more = more.into_vec();
+    if more.len() > u32::MAX as usize {
+        return Err(AllocError);
+    }
+    settings.reserve(more.len() as u32)?;
+    settings.overlay(more, state.seq, state.date);
+    Ok(())
 }
 
 // An answer comes that a channel asked for.
@@ -142,9 +164,8 @@ fn reply_to_channel(
             }
             Ok(Told::Stale)
         }
-        Reply::State(_)
-        | Reply::Empty { .. }
-        | Reply::Difference { .. }
-        | Reply::Receipt(_) => Err(ClientFault::WrongKind),
+        Reply::State(_) | Reply::Empty { .. } | Reply::Difference { .. } | Reply::Receipt(_) => Err(
+            ClientFault::WrongKind,
+        ),
     }
 }
