@@ -3,6 +3,8 @@ pub mod Pushes
 pub mod Replies
 pub mod Asking
 pub mod Ranges
+pub mod Numbers
+pub mod Laws
 pub mod Calls
 pub mod Faults
 pub mod Rooms

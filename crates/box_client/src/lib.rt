@@ -5,9 +5,11 @@ mod asking;
 mod brought;
 mod client;
 mod fault;
+mod laws;
 mod parts;
 mod pushing;
 mod replying;
 
 pub use client::Client;
 pub use fault::{ClientFault, Told};
+pub use laws::{numbers_alone, numbers_are_given_once};
