@@ -6,3 +6,4 @@ pub mod Mapped
 pub mod Counted
 pub mod NumberSteps
 pub mod GivenOnce
+pub mod Savings

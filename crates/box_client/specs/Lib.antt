@@ -5,6 +5,7 @@ pub mod Asking
 pub mod Ranges
 pub mod Numbers
 pub mod Laws
+pub mod Saving
 pub mod Calls
 pub mod Faults
 pub mod Rooms

@@ -1,17 +1,18 @@
 //! Clients.
-ghost use Rattle.std.specs.Prelude.{◌≡◌, ◌≤◌, OnOk, OnErr};
+ghost use Rattle.std.specs.Prelude.{◌≡◌, ◌≤◌, OnOk, OnErr, IfOk};
 ghost use Rattle.channel_box.specs.States.{states};
 ghost use Rattle.box_client.specs.States.{new_client, HasOneMode};
 ghost use Rattle.box_client.specs.Pushes.{pushed};
 ghost use Rattle.box_client.specs.Replies.{replied};
 ghost use Rattle.box_client.specs.Asking.{ticks, wakes, restarted, is_one_asking};
 ghost use Rattle.box_client.specs.Ranges.{IsPushInRange, IsReplyInRange};
+ghost use Rattle.box_client.specs.Saving.{saved_of};
 ghost use Rattle.box_client.specs.Calls.{Answers, WatchesOne};
 
 use crate::fault::{ClientFault, Told};
 use crate::parts::Parts;
-use crate::{asking, pushing, replying};
-use box_events::{Asks, Event, Push, Reply};
+use crate::{asking, pushing, replying, saving};
+use box_events::{Asks, Event, Push, Reply, Saved};
 use channel_box::{Channels, WatchFault};
 use pts_machine::{Lane, Mode};
 use seq_machine::Settings;
@@ -149,5 +150,12 @@ impl Client {
         ensures { states result.now ≡ self.now.channels }
     {
         &self.parts.channels
+    }
+
+    /// What the client saves: all but what it holds, its modes and its flags.
+    pub fn save(&self, alloc: Global) -> Result<Saved, Memory>
+        ensures { IfOk result (λ saved. saved ≡ saved_of self.now) }
+    {
+        saving::save(&self.parts, alloc)
     }
 }

@@ -9,6 +9,7 @@ mod laws;
 mod parts;
 mod pushing;
 mod replying;
+mod saving;
 
 pub use client::Client;
 pub use fault::{ClientFault, Told};
