@@ -67,6 +67,12 @@ pub watched_where : (vs : List ChannelView) (id : ℤ) (o : Option ℕ) → IsFi
 watched_where vs id None none = ap is_some none
 watched_where vs id (Some i) at = watched_at vs i id at
 
+pub asked_where : (p : ChannelState → Bool) (vs : List ChannelView) (o : Option ℕ) → IsFirst p vs o → is_some o ≡ is_some (first p (states vs))
+asked_where p vs None none = sym (ap is_some none)
+asked_where p [] (Some i) at = absurd at
+asked_where p (v ∷ vs) (Some zero) at = rw at refl
+asked_where p (v ∷ vs) (Some (suc i)) at = rw at.0 (asked_where p vs (Some i) at.1)
+
 pub unwatched : (cs : List ChannelState) (id : ℤ) → first (has_id id) cs ≡ None → is_watched cs id ≡ false
 unwatched cs id none = ap is_some none
 

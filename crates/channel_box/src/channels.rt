@@ -1,11 +1,11 @@
 //! The channels of a client.
-ghost use Rattle.std.specs.Prelude.{◌≡◌, ◌≢◌, ◌<◌, ◌≤◌, ◌+◌, ◌++◌, ◌∷◌, ◌^◌, ℤ, [], map, OnOk, MatchOption, None, Some, length, true, false};
+ghost use Rattle.std.specs.Prelude.{◌≡◌, ◌≢◌, ◌<◌, ◌≤◌, ◌+◌, ◌++◌, ◌∷◌, ◌^◌, ℤ, [], map, OnOk, MatchOption, None, Some, length, is_some, true, false};
 ghost use Rattle.std.specs.Ordering.{int_eq};
 ghost use Rattle.box_events.specs.Events.{count_of};
 ghost use Rattle.pts_machine.specs.declared.mode.Mode.TheVariants.{Asking};
 ghost use Rattle.pts_machine.specs.Steps.{new_lane};
 ghost use Rattle.channel_box.specs.States.{has_id, states, ids_of, first, spare_of, AreDistinct};
-ghost use Rattle.channel_box.specs.Steps.{is_watched, channel_of, heard, told_too_long, woken, forgotten, ticked};
+ghost use Rattle.channel_box.specs.Steps.{is_watched, channel_of, heard, told_too_long, woken, forgotten, asks_number, ticked};
 ghost use Rattle.channel_box.specs.Calls.{Watches, Replies, KeepsRoom, HasRoomFor, IsInRange};
 ghost use Rattle.channel_box.specs.Looks.{LaneIs, recent_of, any_asks};
 
@@ -195,5 +195,12 @@ impl Channels {
         ensures { result ≡ any_asks (states self.now) }
     {
         is_one_waiting(&self.channels)
+    }
+
+    /// Whether a channel waits for the answer to the request of this number.
+    pub fn asks(&self, number: u32) -> bool
+        ensures { result ≡ is_some (first (asks_number number) (states self.now)) }
+    {
+        index_asking(&self.channels, number).is_some()
     }
 }

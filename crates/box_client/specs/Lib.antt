@@ -1,0 +1,13 @@
+pub mod States
+pub mod Pushes
+pub mod Replies
+pub mod Asking
+pub mod Ranges
+pub mod Numbers
+pub mod Laws
+pub mod Saving
+pub mod Calls
+pub mod Faults
+pub mod Rooms
+pub mod Views
+pub mod Insides

@@ -1,0 +1,57 @@
+//! What comes of an answer.
+use difference::WeaveFault;
+use std::alloc::AllocError;
+use thiserror::Error;
+
+/// What came of an answer that isn't refused.
+#[derive(Clone, Copy, Debug, PartialEq, Eq)]
+pub enum Told {
+    /// It was asked for, and is taken.
+    Reply,
+    /// Nobody asks its number.
+    Stale,
+}
+
+/// Why an answer is refused.
+#[derive(Clone, Copy, Debug, PartialEq, Eq, Error)]
+pub enum ClientFault {
+    /// The server refuses the request.
+    #[error("the server answers error {code}")]
+    PeerError { code: i32 },
+    /// It is no answer to what was asked.
+    #[error("the answer is of another kind")]
+    WrongKind,
+    /// Its events make no list. Never out of memory, which is a fault of its own.
+    #[error("the events make no list")]
+    Weave(WeaveFault),
+    /// The seq of a final answer is below the client's.
+    #[error("seq {seq} is below {at}")]
+    SeqBack { at: u32, seq: u32 },
+    #[error("out of memory")]
+    Memory,
+}
+
+impl From<AllocError> for ClientFault {
+    ghost use Rattle.std.specs.Prelude.{◌≡◌};
+    ghost use Rattle.box_client.specs.declared.fault.ClientFault.TheVariants.{Memory};
+
+    ghost from_gives = { λ _ e. e ≡ Memory };
+
+    fn from(_e: AllocError) -> ClientFault {
+        ClientFault::Memory
+    }
+}
+
+impl From<WeaveFault> for ClientFault {
+    ghost use Rattle.std.specs.Prelude.{◌≡◌};
+    ghost use Rattle.box_client.specs.Faults.{fault_by};
+
+    ghost from_gives = { λ f e. e ≡ fault_by f };
+
+    fn from(fault: WeaveFault) -> ClientFault {
+        match fault {
+            WeaveFault::Overlap { .. } | WeaveFault::Uneven { .. } => ClientFault::Weave(fault),
+            WeaveFault::Memory => ClientFault::Memory,
+        }
+    }
+}

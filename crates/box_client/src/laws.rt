@@ -1,0 +1,12 @@
+//! Laws of the definitions, carried by functions that do nothing.
+ghost use Rattle.box_client.specs.Laws.{FollowFromNumbers, AreGivenOnce};
+
+/// A client's numbers after a step follow from its numbers alone: its events, values and recent messages say nothing of them.
+pub fn numbers_alone()
+    ensures { FollowFromNumbers }
+{}
+
+/// No request number is given twice, restarts included.
+pub fn numbers_are_given_once()
+    ensures { AreGivenOnce }
+{}

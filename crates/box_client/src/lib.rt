@@ -1,0 +1,16 @@
+//! A client: its lanes, its settings and its channels, what it asks and what it makes of the answers.
+#![tactic(auto)]
+
+mod asking;
+mod brought;
+mod client;
+mod fault;
+mod laws;
+mod parts;
+mod pushing;
+mod replying;
+mod saving;
+
+pub use client::Client;
+pub use fault::{ClientFault, Told};
+pub use laws::{numbers_alone, numbers_are_given_once};

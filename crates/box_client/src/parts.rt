@@ -1,0 +1,33 @@
+//! The parts of a client.
+ghost use Rattle.std.specs.Prelude.{◌≡◌, ◌≤◌};
+ghost use Rattle.box_client.specs.Asking.{group_is_due};
+ghost use Rattle.box_client.specs.Views.{client_of};
+
+use box_events::Event;
+use channel_box::Channels;
+use pts_machine::{Lane, Mode};
+use seq_machine::Settings;
+
+/// What a client has.
+#[derive(Drop)]
+pub struct Parts {
+    pub next: u32,
+    pub common: Lane<Event>,
+    pub secret: Lane<Event>,
+    pub settings: Settings,
+    pub flag: bool,
+    pub channels: Channels,
+}
+
+/// Whether the common group is to ask.
+pub fn is_due(parts: &Parts) -> bool
+    ensures { result ≡ group_is_due (client_of parts.now) }
+{
+    match parts.common.mode() {
+        Mode::Live => {
+            parts.flag || 0 < parts.common.held() + parts.secret.held() + parts.settings.held()
+        }
+        Mode::Asking(_) => false,
+        Mode::Again => true,
+    }
+}
