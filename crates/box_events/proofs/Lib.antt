@@ -7,3 +7,4 @@ pub mod Copying
 pub mod BoxFacts
 pub mod KeptStretches
 pub mod LastSettings
+pub mod SettingDates

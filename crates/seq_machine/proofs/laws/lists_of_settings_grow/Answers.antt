@@ -1,5 +1,5 @@
 use Rattle.seq_machine.proofs.Growing.{stretch_grows, overlay_grows, stretch_appended}
-use Rattle.seq_machine.proofs.Dates.{since_append, rise_pushed}
+use Rattle.box_events.proofs.SettingDates.{since_append, rise_pushed}
 use Rattle.seq_machine.proofs.laws.lists_of_settings_grow.Goals as goal
 
 pub returns-clause-stretch : goal.returns-clause-stretch

@@ -1,0 +1,8 @@
+pub mod AfterNumbers
+mod RunSteps
+pub mod LastLists
+pub mod NewServers
+pub mod Replying
+pub mod Growths
+pub mod Carrying
+pub mod Soundness

@@ -1,0 +1,11 @@
+pub mod Servers
+pub mod Entries
+pub mod LastEntries
+pub mod Posting
+pub mod Refusing
+pub mod Receiving
+pub mod Runs
+pub mod Answers
+pub mod Sound
+pub mod Growing
+pub mod inner

@@ -1,0 +1,5 @@
+-- What inner clauses cite; a reader of the contracts needs none of it.
+pub mod ServerCodes
+pub mod LastIndexes
+pub mod Insides
+pub mod Carrying

@@ -1,0 +1,27 @@
+-- A server's fields as a server. This project's own.
+use Rattle.std.specs.Prelude.{◌≡◌, map as each}
+use Rattle.std.specs.FinMap as map
+use Rattle.box_server.specs.declared.channel.Channel.{Channel}
+use Rattle.box_server.specs.declared.server.Server.TheInside.{Inside}
+use Rattle.box_server.specs.Servers.{ChannelBox, ServerState}
+use Rattle.box_server.specs.Sound.{IsSound}
+
+-- a channel's fields as its box
+abbrev pub channel_view : Channel → ChannelBox
+channel_view c = record { id = c.id; first = c.events.first; events = c.events.events }
+
+abbrev pub server_view : Inside → ServerState
+server_view s = record {
+  date = s.date;
+  common = s.common.events;
+  secret = s.secret.events;
+  channels = each channel_view s.channels.items;
+  settings = s.settings;
+  receipts = map.from_sorted s.receipts.entries;
+}
+
+-- what holds of the fields: the common and the secret box keep all their events
+pub record IsServer (s : Inside) : Type 0 where
+  pub sound : IsSound (server_view s)
+  pub common : s.common.first ≡ 0
+  pub secret : s.secret.first ≡ 0

@@ -1,0 +1,19 @@
+//! The server: it takes posts, keeps boxes of events and settings, and answers requests for what is new.
+#![tactic(auto)]
+
+mod answers;
+mod channel;
+mod dated;
+mod fault;
+mod laws;
+mod posted;
+mod runs;
+mod server;
+mod setting_list;
+
+pub use fault::PostFault;
+pub use laws::{
+    differences_lie_in_boxes, pushes_lie_in_boxes, servers_only_grow, servers_stay_sound,
+};
+pub use posted::Posted;
+pub use server::Server;
