@@ -8,6 +8,13 @@ pub mod Loops
 pub mod Values
 pub mod Opaques
 pub mod Closings
+pub mod PlanTypes
+pub mod FrameLists
+pub mod Opened
+pub mod PartSteps
+pub mod ItemSteps
+pub mod Searches
+pub mod Onward
 pub mod Outcomes
 pub mod SizesNamed
 pub mod SizesBounded
