@@ -15,6 +15,8 @@ pub mod PartSteps
 pub mod ItemSteps
 pub mod Searches
 pub mod Onward
+pub mod HeldBytes
+pub mod PieceSteps
 pub mod Outcomes
 pub mod SizesNamed
 pub mod SizesBounded

@@ -24,11 +24,11 @@ use Rattle.tl_decode.proofs.FrameLists.{resume_err}
 use Rattle.tl_decode.proofs.Steps.{Continues, continues_none, continues_done}
 
 module _ (p : PlanView) (fs : List FrameView) (W : Wanted) where
-  item_then : (s : Spot) (x : ItemView) (r : Spot) → item_at W s ≡ Ok (x, r) → wanted_at p (levels_below fs) W s ≡ after p (levels_below fs) W s.place x r
+  pub item_then : (s : Spot) (x : ItemView) (r : Spot) → item_at W s ≡ Ok (x, r) → wanted_at p (levels_below fs) W s ≡ after p (levels_below fs) W s.place x r
   unfolding wanted_at
   item_then s x r e = rw e refl
 
-  item_fails : (s : Spot) (place : ℕ) (cause : _) → item_at W s ≡ Err (place, cause) → wanted_at p (levels_below fs) W s ≡ Err (place, cause)
+  pub item_fails : (s : Spot) (place : ℕ) (cause : _) → item_at W s ≡ Err (place, cause) → wanted_at p (levels_below fs) W s ≡ Err (place, cause)
   unfolding wanted_at
   item_fails s place cause e = rw e refl
 

@@ -3,6 +3,8 @@
 
 mod decoder;
 mod fault;
+mod feeding;
+mod held_items;
 mod items;
 mod laws;
 mod machine;
@@ -10,6 +12,7 @@ mod members;
 mod opening;
 mod parts;
 mod plain;
+mod piecewise;
 mod planned;
 mod stack;
 mod taking;
@@ -18,6 +21,8 @@ mod walk;
 
 pub use fault::DecodeFault;
 pub use laws::{each_size_is_bounded, each_text_allows_the_bound};
+pub use piecewise::Decoder;
 pub use planned::decode;
+pub use stack::Fed;
 pub use tl_types::MAX_LEVELS;
 pub use walk::decode_walk;

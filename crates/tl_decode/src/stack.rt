@@ -70,6 +70,15 @@ pub enum Step {
     Stops { found: Found },
 }
 
+/// What came of a piece.
+#[derive(Clone, Copy, Debug, PartialEq, Eq)]
+pub enum Fed {
+    /// The value isn't whole yet; all of the piece is taken.
+    More,
+    /// The value is there. It ends after so many bytes of the piece.
+    Done { used: usize },
+}
+
 /// Why reading doesn't go on.
 pub enum Stop {
     /// The bytes are refused at the item that is looked for.

@@ -309,3 +309,7 @@ SettlesAt p old work place fs (Err fault.Memory) = Unit {0}
 abbrev pub IsStop : Stop → ℕ → DecodeFault → Type 0
 IsStop (stop.Refused cause) place e = e ≡ fault.Refused place cause
 IsStop stop.Memory place e = e ≡ fault.Memory
+
+-- what is read after an item at a place
+abbrev pub goes_after : PlanView → List FrameView → Wanted → ℕ → ItemView → Reader
+goes_after p fs W place x s = resumes p fs (after p (levels_below fs) W place x s)
