@@ -1,11 +1,11 @@
 -- Lists of frames: what the last of them does, and how much work they leave.
-use Rattle.std.proofs.Common.{◌≡◌, ℕ, zero, suc, ◌+◌, ◌-◌, ◌*◌, ◌^◌, ◌<◌, ◌≤◌, List, [], ◌∷◌, ◌++◌, length, map, Ok, Err, Result, refl, ap, sym, ◌∙◌, arith}
-use Rattle.std.proofs.lemmas.List.{length-map, map_push, length_push}
+use Rattle.std.proofs.Common.{◌≡◌, ℕ, zero, suc, ◌+◌, ◌-◌, ◌*◌, ◌^◌, ◌<◌, ◌≤◌, List, [], ◌∷◌, ◌++◌, length, Ok, Err, Result, refl, ap, ◌∙◌, arith}
+use Rattle.std.proofs.lemmas.List.{map_push, length_push}
 use Rattle.std.proofs.lemmas.Nat.{mul-le}
 use Rattle.tl_schema.specs.Schemas.{Declaration}
 use Rattle.tl_plan.specs.Plans.{PlanView}
 use Rattle.tl_types.specs.Values.{ValueView}
-use Rattle.tl_types.specs.inner.Reading.{Spot, Fault, Read, ◌>>=◌}
+use Rattle.tl_types.specs.inner.Reading.{Fault, Read, ◌>>=◌}
 use Rattle.tl_types.specs.declared.value.TheConstants.{MAX_LEVELS}
 use Rattle.tl_decode.specs.declared.stack.Frame.{Frame}
 use Rattle.tl_decode.specs.inner.Frames.{FrameView, frame_view, views, goes_on, with_value, resume, resumes, levels_in, levels_below, IsWellFrame, AreWell, cost, parts_after, frames_work}

@@ -1,17 +1,14 @@
 -- How many bytes an item needs, and items that are whole.
-use Rattle.std.proofs.Common.{◌≡◌, inl, inr, ℕ, ◌+◌, ◌-◌, ◌*◌, ◌<◌, ◌≤◌, List, [], ◌∷◌, ◌++◌, length, take, drop, get_or, Option, Some, None, Ok, Err, Result, refl, ap, sym, ◌∙◌, subst, arith, Bool, true, false, ◌==◌, if◌then◌else◌, ltb, lt-ltb, le-ltb, nat_le, take-append-drop, take-add, append_assoc}
-use Rattle.std.specs.Prelude.{◌%◌}
+use Rattle.std.proofs.Common.{◌≡◌, inl, inr, ℕ, ◌+◌, ◌-◌, ◌<◌, ◌≤◌, List, [], ◌++◌, length, take, drop, get_or, Some, None, Ok, Err, Result, refl, ap, sym, ◌∙◌, arith, Bool, true, false, ◌==◌, if◌then◌else◌, ltb, lt-ltb, le-ltb, nat_le, take-append-drop, take-add, append_assoc}
 use Rattle.std.specs.Int.{w32, w64, cast_signed, from_le_bytes}
 use Rattle.std.proofs.lemmas.Bool.{cases_lt}
-use Rattle.std.proofs.lemmas.List.{take_at, drop_at, length-append, length-take-le, length-drop, drop-drop, drop-append-le, take-append-le, take-take, take_all}
-use Rattle.tl_schema.specs.Types.{str, long, opaque}
+use Rattle.std.proofs.lemmas.List.{length-append, length-take-le, length-drop, drop-drop, drop-append-le, take-append-le, take_all}
 use Rattle.tl_types.specs.Offsets.{moved}
-use Rattle.tl_types.specs.Texts.{missing}
 use Rattle.tl_types.specs.Values as value
-use Rattle.tl_types.specs.inner.Reading.{Head, Spot, spot, Read, ◌>>=◌, exact_at, added_at, word_at, double_at, plain_at, text_at, text_rest, text_head_of, text_more, text_end, all_zero, long_length}
+use Rattle.tl_types.specs.inner.Reading.{Head, Spot, spot, Read, ◌>>=◌, exact_at, word_at, double_at, plain_at, text_at, text_rest, text_head_of, text_more, text_end, all_zero, long_length}
 use Rattle.tl_types.specs.declared.cause.Cause.{Cause}
 use Rattle.tl_types.specs.declared.cause.Cause.TheVariants.{Truncated, LongString, LooseString, BadPadding}
-use Rattle.tl_types.proofs.Numbers.{exact_again, exact_short, word_short, double_short, moved_moved}
+use Rattle.tl_types.proofs.Numbers.{exact_again, exact_short, word_short, moved_moved}
 use Rattle.tl_decode.specs.declared.stack.Wanted.{Wanted}
 use Rattle.tl_decode.specs.declared.stack.Wanted.TheVariants as wanted
 use Rattle.tl_decode.specs.declared.stack.Item.{Item}
@@ -29,9 +26,11 @@ head_cases P w a b c d = outer (get_or w 0 0 == 255)
     inner : (x : Bool) → P (if x then Err LooseString else Ok (4, long_length w))
     inner true = b
     inner false = c
+
     middle : (x : Bool) → P (if x then (if nat_le (long_length w) 253 then Err LooseString else Ok (4, long_length w)) else Ok (1, get_or w 0 0))
     middle true = inner (nat_le (long_length w) 253)
     middle false = d
+
     outer : (x : Bool) → P (if x then Err LongString else if get_or w 0 0 == 254 then (if nat_le (long_length w) 253 then Err LooseString else Ok (4, long_length w)) else Ok (1, get_or w 0 0))
     outer true = a
     outer false = middle (get_or w 0 0 == 254)
@@ -182,6 +181,7 @@ head_whole w cause is = head_cases (λ (r : Result Head Cause). r ≡ Err cause 
   where
     of_err : {c : Cause} → ◌≡◌ {A = Result Head Cause} (Err c) (Err cause) → cause ≡ c
     of_err e = cc
+
     never : {x : Head} → ◌≡◌ {A = Result Head Cause} (Ok x) (Err cause) → ⊥
     never e = cc
 
@@ -205,13 +205,16 @@ direct_item W old next size x none le whole =
       none,
       le,
       λ p more.
-        ap (λ (z : List ℕ). item_at W (spot p z)) (split_next old next more size ∙ ap (λ (z : List ℕ). (z ++ take size next) ++ (drop size next ++ more)) none)
-        ∙ whole p (drop size next ++ more) ∙ ap (λ (n : ℕ). Ok (item_view x, spot (moved p n) (drop size next ++ more))) len,
+          ap (λ (z : List ℕ). item_at W (spot p z)) (split_next old next more size ∙ ap (λ (z : List ℕ). (z ++ take size next) ++ (drop size next ++ more)) none)
+          ∙ whole p (drop size next ++ more) ∙ ap (λ (n : ℕ). Ok (item_view x, spot (moved p n) (drop size next ++ more))) len,
     )
 
 pub direct_stop : (W : Wanted) (old new next : List ℕ) (size : ℕ) (st : Stop) → old ≡ [] → IsWhole W (take size next) (Err st) → FindsItem W old new next (Err st)
-direct_stop W old new next size (stop.Refused cause) none whole = (whole.0, λ p more.
-  ap (λ (z : List ℕ). item_at W (spot p z)) (split_next old next more size ∙ ap (λ (z : List ℕ). (z ++ take size next) ++ (drop size next ++ more)) none) ∙ whole.1 p (drop size next ++ more))
+direct_stop W old new next size (stop.Refused cause) none whole = (
+  whole.0,
+  λ p more.
+      ap (λ (z : List ℕ). item_at W (spot p z)) (split_next old next more size ∙ ap (λ (z : List ℕ). (z ++ take size next) ++ (drop size next ++ more)) none) ∙ whole.1 p (drop size next ++ more),
+)
 direct_stop W old new next size stop.Memory none whole = tt
 
 pub held_more : (W : Wanted) (old new next : List ℕ) (count : ℕ) → Fills W old new next count → length new < needs W new → FindsItem W old new next (Ok None)
@@ -223,13 +226,16 @@ held_item W old mid new next count x f whole none =
       none,
       f.within,
       λ p more.
-        ap (λ (z : List ℕ). item_at W (spot p z)) (split_next old next more count ∙ ap (λ (z : List ℕ). z ++ (drop count next ++ more)) (sym f.more))
-        ∙ whole p (drop count next ++ more) ∙ ap (λ (n : ℕ). Ok (item_view x, spot (moved p n) (drop count next ++ more))) len,
+          ap (λ (z : List ℕ). item_at W (spot p z)) (split_next old next more count ∙ ap (λ (z : List ℕ). z ++ (drop count next ++ more)) (sym f.more))
+          ∙ whole p (drop count next ++ more) ∙ ap (λ (n : ℕ). Ok (item_view x, spot (moved p n) (drop count next ++ more))) len,
     )
 
 pub held_stop : (W : Wanted) (old mid new next : List ℕ) (count : ℕ) (st : Stop) → Fills W old mid next count → IsWhole W mid (Err st) → FindsItem W old new next (Err st)
-held_stop W old mid new next count (stop.Refused cause) f whole = (whole.0, λ p more.
-  ap (λ (z : List ℕ). item_at W (spot p z)) (split_next old next more count ∙ ap (λ (z : List ℕ). z ++ (drop count next ++ more)) (sym f.more)) ∙ whole.1 p (drop count next ++ more))
+held_stop W old mid new next count (stop.Refused cause) f whole = (
+  whole.0,
+  λ p more.
+      ap (λ (z : List ℕ). item_at W (spot p z)) (split_next old next more count ∙ ap (λ (z : List ℕ). z ++ (drop count next ++ more)) (sym f.more)) ∙ whole.1 p (drop count next ++ more),
+)
 held_stop W old mid new next count stop.Memory f whole = tt
 
 pub filled : (W : Wanted) (old held new next : List ℕ) (used count : ℕ) → held ≡ old ++ take used next → new ≡ held ++ take ((used + count) - used) (drop used next) → used + count ≤ length next → length held + count ≤ needs W held

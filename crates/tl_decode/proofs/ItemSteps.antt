@@ -1,5 +1,5 @@
 -- What comes after an item.
-use Rattle.std.proofs.Common.{◌≡◌, ℕ, zero, suc, ◌+◌, ◌-◌, ◌*◌, ◌^◌, ◌<◌, ◌≤◌, List, [], length, map, Vec, Option, Some, None, Ok, Err, Result, refl, ap, sym, ◌∙◌, arith, Bool, true, false, ◌==◌, if◌then◌else◌, lt-ltb, le-ltb}
+use Rattle.std.proofs.Common.{◌≡◌, ℕ, ◌+◌, ◌^◌, ◌<◌, ◌≤◌, [], Vec, Some, None, Ok, Err, refl, ap, sym, ◌∙◌, arith, Bool, true, false, ◌==◌, if◌then◌else◌, lt-ltb, le-ltb}
 use Rattle.std.specs.Prelude.{◌≢◌}
 use Rattle.std.specs.declared.alloc.Global.{Global}
 use Rattle.std.specs.Int.{w32, cast_signed}
@@ -13,14 +13,13 @@ use Rattle.tl_types.specs.inner.Reading.{Spot, Reader, wide_at, list_at, element
 use Rattle.tl_types.specs.declared.cause.Cause.{Cause}
 use Rattle.tl_types.specs.declared.cause.Cause.TheVariants.{BadCount, Packed, UnknownNumber}
 use Rattle.tl_types.specs.declared.value.Value.{Value}
-use Rattle.tl_types.specs.declared.value.TheConstants.{MAX_LEVELS}
 use Rattle.tl_decode.specs.declared.stack.Frame.{Frame}
 use Rattle.tl_decode.specs.declared.stack.Frame.TheVariants as frame
 use Rattle.tl_decode.specs.declared.stack.Wanted.{Wanted}
 use Rattle.tl_decode.specs.declared.stack.Wanted.TheVariants as wanted
 use Rattle.tl_decode.specs.declared.stack.Next.TheVariants as next
 use Rattle.tl_decode.specs.declared.stack.Stop.TheVariants as stop
-use Rattle.tl_decode.specs.inner.Frames.{FrameView, in_list, word, plain, frame_view, type_in, entry_in, goes_on, resumes, after, number_at, find_in, levels_below, wanted_work, cost, parts_left, IsInPlan, IsFresh, IsWellFrame, Takes, is_truncated}
+use Rattle.tl_decode.specs.inner.Frames.{word, plain, frame_view, type_in, entry_in, goes_on, resumes, after, number_at, find_in, levels_below, wanted_work, cost, parts_left, IsInPlan, IsFresh, IsWellFrame, Takes, is_truncated}
 use Rattle.tl_decode.proofs.FrameLists.{parts_few}
 use Rattle.tl_decode.proofs.Opened.{count_wanted, fresh_left}
 

@@ -18,6 +18,7 @@ pub mod Onward
 pub mod HeldBytes
 pub mod PieceSteps
 pub mod Outcomes
+pub mod FedBytes
 pub mod SizesNamed
 pub mod SizesBounded
 pub mod SizesBare

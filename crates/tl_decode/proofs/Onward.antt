@@ -1,10 +1,9 @@
 -- An item that is taken from a source, and how reading goes on from there.
-use Rattle.std.proofs.Common.{◌≡◌, ℕ, ◌+◌, ◌<◌, ◌≤◌, List, [], Option, Some, None, Result, Ok, Err, refl, ap, sym, ◌∙◌, subst, arith}
+use Rattle.std.proofs.Common.{◌≡◌, ℕ, ◌<◌, List, [], Option, Some, None, Result, Ok, Err, refl, ap, sym, ◌∙◌, subst, arith}
 use Rattle.std.specs.Prelude.{IfOk}
 use Rattle.tl_plan.specs.Plans.{PlanView}
 use Rattle.tl_types.specs.Seen.{view}
-use Rattle.tl_types.specs.Values.{ValueView}
-use Rattle.tl_types.specs.inner.Reading.{Spot, spot, Read, Reader, ◌>>=◌, value_at}
+use Rattle.tl_types.specs.inner.Reading.{Spot, spot, Reader, value_at}
 use Rattle.tl_types.specs.declared.value.Value.{Value}
 use Rattle.tl_types.specs.declared.value.TheConstants.{MAX_LEVELS}
 use Rattle.tl_decode.specs.declared.fault.DecodeFault.{DecodeFault}
@@ -19,7 +18,7 @@ use Rattle.tl_decode.specs.declared.stack.Found.TheVariants as found
 use Rattle.tl_decode.specs.declared.stack.Stop.{Stop}
 use Rattle.tl_decode.specs.declared.stack.Stop.TheVariants as stop
 use Rattle.tl_decode.specs.inner.Steps.{ReadsAs, FailsAs}
-use Rattle.tl_decode.specs.inner.Frames.{FrameView, ItemView, views, type_in, resume, resumes, item_at, item_view, after, wanted_at, levels_below, next_at, found_at, next_work, found_work, frames_work, wanted_work, AreWell, IsWellFound, IsFound, IsStop, ReadsOn, Settles, SettlesAt, Steps, Takes}
+use Rattle.tl_decode.specs.inner.Frames.{FrameView, ItemView, views, type_in, resume, resumes, item_at, item_view, after, wanted_at, levels_below, next_at, found_at, next_work, found_work, IsFound, IsStop, ReadsOn, Settles, SettlesAt, Steps, Takes}
 use Rattle.tl_decode.proofs.FrameLists.{resume_err}
 use Rattle.tl_decode.proofs.Steps.{Continues, continues_none, continues_done}
 

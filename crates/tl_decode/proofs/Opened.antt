@@ -1,31 +1,26 @@
 -- A value that is opened: the item that it begins with, or its parts.
-use Rattle.std.proofs.Common.{◌≡◌, inl, inr, ℕ, zero, suc, ◌+◌, ◌-◌, ◌*◌, ◌^◌, ◌<◌, ◌≤◌, List, [], ◌∷◌, ◌++◌, length, map, Ok, Err, Result, refl, ap, sym, ◌∙◌, subst, arith, Bool, true, false}
+use Rattle.std.proofs.Common.{◌≡◌, inl, inr, ℕ, zero, suc, ◌+◌, ◌*◌, ◌^◌, ◌<◌, ◌≤◌, List, length, Ok, Err, refl, ap, sym, ◌∙◌, arith, Bool, true, false}
 use Rattle.std.proofs.lemmas.List.{length-map}
-use Rattle.std.specs.Int.{w32, cast_signed}
 use Rattle.tl_schema.specs.Types.{Shape, Shapes}
 use Rattle.tl_schema.specs.Types as type
-use Rattle.tl_schema.specs.Closing.{list_of_shapes}
-use Rattle.tl_schema.specs.Schemas.{Slot, Declaration}
-use Rattle.tl_plan.specs.Types.{arguments_of}
+use Rattle.tl_schema.specs.Schemas.{Declaration}
 use Rattle.tl_plan.specs.Plans.{PlanView}
 use Rattle.tl_types.specs.Values.{ValueView, values_of}
 use Rattle.tl_types.specs.Values as value
 use Rattle.tl_types.specs.Seen.{view}
-use Rattle.tl_types.specs.inner.Reading.{Spot, spot, Fault, Read, Reader, ◌>>=◌, word_at, plain_at, deep_at, value_at, is_deep, long_list_at, wide_at, list_at, elements_at, fields_at, boxed_at, call_at, by_number_at, numbered_at, record_at, bare_at, fields_in, first_from, is_member, is_function}
+use Rattle.tl_types.specs.inner.Reading.{Spot, Read, Reader, ◌>>=◌, word_at, plain_at, deep_at, value_at, is_deep, long_list_at, list_at, by_number_at, record_at, bare_at}
 use Rattle.tl_types.specs.declared.cause.Cause.TheVariants.{TooDeep}
 use Rattle.tl_types.specs.declared.value.Value.{Value}
 use Rattle.tl_types.specs.declared.value.TheConstants.{MAX_LEVELS}
 use Rattle.tl_decode.specs.declared.stack.Frame.{Frame}
-use Rattle.tl_decode.specs.declared.stack.Frame.TheVariants as frame
 use Rattle.tl_decode.specs.declared.stack.Wanted.{Wanted}
 use Rattle.tl_decode.specs.declared.stack.Wanted.TheVariants as wanted
-use Rattle.tl_decode.specs.declared.stack.Next.{Next}
 use Rattle.tl_decode.specs.declared.stack.Next.TheVariants as next
 use Rattle.tl_decode.specs.declared.stack.Found.TheVariants as found
 use Rattle.tl_decode.specs.declared.stack.Step.TheVariants as step
 use Rattle.tl_decode.specs.declared.stack.Stop.TheVariants as stop
-use Rattle.tl_decode.specs.inner.Frames.{FrameView, ItemView, word, plain, frame_view, views, type_in, entry_in, goes_on, resumes, item_at, after, after_word, number_at, find_in, made, wanted_at, levels_in, levels_below, next_at, found_at, next_work, found_work, wanted_work, frames_work, cost, IsWellWanted, IsWellNext, AreWell, IsWellFrame, IsFresh, IsList, IsNumbered, IsBare, StepsFrom, parts_left}
-use Rattle.tl_decode.proofs.FrameLists.{bind_again, resume_err, cost_least, cost_more, parts_few}
+use Rattle.tl_decode.specs.inner.Frames.{FrameView, ItemView, word, plain, frame_view, views, type_in, entry_in, goes_on, resumes, item_at, after, number_at, wanted_at, levels_in, levels_below, next_at, found_at, next_work, found_work, wanted_work, cost, IsWellWanted, AreWell, IsWellFrame, IsFresh, IsList, IsNumbered, IsBare, StepsFrom, parts_left}
+use Rattle.tl_decode.proofs.FrameLists.{resume_err, cost_least, cost_more, parts_few}
 
 -- ---- items, read by parts
 

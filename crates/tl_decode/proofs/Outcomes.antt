@@ -27,18 +27,18 @@ use Rattle.tl_plan.proofs.PlanFacts.{instances_are_formed}
 use Rattle.tl_decode.specs.inner.Frames.{type_in}
 use Rattle.tl_decode.proofs.PlanTypes.{instance_type}
 
-same_ok : {x y : ValueView × Spot} → ◌≡◌ {A = Read ValueView} (Ok x) (Ok y) → x ≡ y
+pub same_ok : {x y : ValueView × Spot} → ◌≡◌ {A = Read ValueView} (Ok x) (Ok y) → x ≡ y
 same_ok e = cc
 
-never_err : {P : Type 0} {f : Fault} {y : ValueView × Spot} → ◌≡◌ {A = Read ValueView} (Err f) (Ok y) → P
+pub never_err : {P : Type 0} {f : Fault} {y : ValueView × Spot} → ◌≡◌ {A = Read ValueView} (Err f) (Ok y) → P
 never_err e = absurd cc
 
-same_err : {p q : ℕ} {c d : Cause} → ◌≡◌ {A = Read ValueView} (Err (p, c)) (Err (q, d)) → (p ≡ q) × (c ≡ d)
+pub same_err : {p q : ℕ} {c d : Cause} → ◌≡◌ {A = Read ValueView} (Err (p, c)) (Err (q, d)) → (p ≡ q) × (c ≡ d)
 same_err e =
     (ap (λ (r : Read ValueView). elim r as (λ _. ℕ) [ Ok y ↦ 0 | Err f ↦ f.0 ]) e, ap (λ (r : Read ValueView). elim r as (λ _. Cause) [ Ok y ↦ TooDeep | Err f ↦ f.1 ]) e)
 
 -- reading what begins with a spelling
-reads : (schema : Declared) → IsSchema schema → (T : Shape) (n p : ℕ) → p < 2 ^ 64 → (bytes : List ℕ) (v : ValueView) (x rest : List ℕ) → bytes ≡ x ++ rest → Spells schema T v x → depth v ≤ n → value_at schema.decls n T (spot p bytes) ≡ Ok (v, spot (moved p (length x)) rest)
+pub reads : (schema : Declared) → IsSchema schema → (T : Shape) (n p : ℕ) → p < 2 ^ 64 → (bytes : List ℕ) (v : ValueView) (x rest : List ℕ) → bytes ≡ x ++ rest → Spells schema T v x → depth v ≤ n → value_at schema.decls n T (spot p bytes) ≡ Ok (v, spot (moved p (length x)) rest)
 reads schema good T n p lt bytes v x rest split s deep = ap (λ (z : List ℕ). value_at schema.decls n T (spot p z)) split ∙ spelled schema (schema_tells schema good).numbers v T n x rest p lt s deep
 
 pub gives_value : (schema : Declared) → IsSchema schema → (T : Shape) (n : ℕ) (a b : Option (List ℕ)) (p q : ℕ) (r : Result Value DecodeFault) → p < 2 ^ 64 → ReadsAs view a b p q r (value_at schema.decls n T)
@@ -53,7 +53,7 @@ gives_value schema good T n (Some bytes) b p q (Err fault.ReadFault) lt h = λ v
 gives_value schema good T n (Some bytes) b p q (Err fault.Memory) lt h = λ v x rest split s deep. tt
 
 -- reading what is refused
-fails : (schema : Declared) → IsSchema schema → (T : Shape) → IsRead schema T → (n p : ℕ) → p < 2 ^ 64 → (bytes : List ℕ) (offset : ℕ) (cause : Cause) → Refused schema n T bytes offset cause → value_at schema.decls n T (spot p bytes) ≡ Err (moved p offset, cause)
+pub fails : (schema : Declared) → IsSchema schema → (T : Shape) → IsRead schema T → (n p : ℕ) → p < 2 ^ 64 → (bytes : List ℕ) (offset : ℕ) (cause : Cause) → Refused schema n T bytes offset cause → value_at schema.decls n T (spot p bytes) ≡ Err (moved p offset, cause)
 fails schema good T read n p lt bytes offset cause s = refused schema (schema_tells schema good) n T read bytes offset cause p lt s
 
 pub gives_fault : (schema : Declared) → IsSchema schema → (T : Shape) → IsRead schema T → (n : ℕ) (a b : Option (List ℕ)) (p q : ℕ) (r : Result Value DecodeFault) → p < 2 ^ 64 → ReadsAs view a b p q r (value_at schema.decls n T)

@@ -1,5 +1,5 @@
 -- The parts of a list or a record, one after the other, and a value that closes.
-use Rattle.std.proofs.Common.{◌≡◌, ℕ, zero, suc, ◌+◌, ◌-◌, ◌*◌, ◌^◌, ◌<◌, ◌≤◌, List, [], ◌∷◌, ◌++◌, length, map, drop, slice_get, Vec, Some, Ok, Err, Result, refl, ap, sym, ◌∙◌, subst, arith, Bool, true, false}
+use Rattle.std.proofs.Common.{◌≡◌, ℕ, suc, ◌+◌, ◌-◌, ◌*◌, ◌≤◌, List, [], ◌∷◌, ◌++◌, length, map, drop, slice_get, Vec, Some, Ok, Err, refl, ap, sym, ◌∙◌, subst, arith, true, false}
 use Rattle.std.specs.declared.alloc.Global.{Global}
 use Rattle.std.proofs.lemmas.List.{length-map, map_push, length_push, drop_more, drop_all}
 use Rattle.std.proofs.lemmas.Option.{slice_get_within, get_or_from_slice_get}
@@ -14,16 +14,14 @@ use Rattle.tl_types.specs.Values.{ValueView, values_of}
 use Rattle.tl_types.specs.Values as value
 use Rattle.tl_types.specs.Conditions.{stands_by}
 use Rattle.tl_types.specs.Seen.{view}
-use Rattle.tl_types.specs.inner.Reading.{Spot, spot, Fault, Read, Reader, ◌>>=◌, value_at, each_at, fields_at, at_field, fields_in}
+use Rattle.tl_types.specs.inner.Reading.{Spot, Read, ◌>>=◌, value_at, each_at, fields_at, at_field, fields_in}
 use Rattle.tl_types.specs.declared.value.Value.{Value}
-use Rattle.tl_types.specs.declared.value.TheConstants.{MAX_LEVELS}
 use Rattle.tl_decode.specs.declared.stack.Frame.{Frame}
 use Rattle.tl_decode.specs.declared.stack.Frame.TheVariants as frame
-use Rattle.tl_decode.specs.declared.stack.Next.{Next}
 use Rattle.tl_decode.specs.declared.stack.Next.TheVariants as next
 use Rattle.tl_decode.specs.declared.stack.Found.TheVariants as found
 use Rattle.tl_decode.specs.declared.stack.Step.TheVariants as step
-use Rattle.tl_decode.specs.inner.Frames.{FrameView, in_list, in_record, frame_view, views, with_value, type_in, entry_in, goes_on, resume, resumes, made, levels_in, levels_below, next_at, found_at, next_work, found_work, frames_work, cost, IsInPlan, AreWell, IsWellFrame, StepsFrom, parts_left, parts_after}
+use Rattle.tl_decode.specs.inner.Frames.{FrameView, in_list, in_record, frame_view, views, with_value, type_in, entry_in, goes_on, resume, resumes, made, levels_in, levels_below, cost, IsInPlan, AreWell, IsWellFrame, StepsFrom, parts_left, parts_after}
 use Rattle.tl_decode.proofs.FrameLists.{bind_again, closing, resumes_push, levels_push, works_push, well_push, well_pop, one_part}
 use Rattle.tl_decode.proofs.PlanTypes.{IsHere, instance_type, instance_within}
 

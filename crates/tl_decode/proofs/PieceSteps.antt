@@ -1,12 +1,11 @@
 -- A piece, taken item by item.
-use Rattle.std.proofs.Common.{◌≡◌, ℕ, ◌+◌, ◌<◌, ◌≤◌, List, [], ◌++◌, length, take, drop, Option, Some, None, Result, Ok, Err, refl, ap, sym, ◌∙◌, subst, arith, append_assoc, false}
-use Rattle.std.specs.Prelude.{IfOk}
+use Rattle.std.proofs.Common.{◌≡◌, ℕ, ◌+◌, ◌<◌, ◌≤◌, List, [], ◌++◌, length, drop, Some, None, Result, Ok, Err, refl, ap, sym, ◌∙◌, subst, arith, append_assoc}
 use Rattle.std.proofs.lemmas.List.{drop-drop, length-drop}
 use Rattle.tl_plan.specs.Plans.{PlanView}
 use Rattle.tl_types.specs.Offsets.{moved}
 use Rattle.tl_types.specs.Seen.{view}
 use Rattle.tl_types.specs.Values.{ValueView}
-use Rattle.tl_types.specs.inner.Reading.{Spot, spot, Read, Reader}
+use Rattle.tl_types.specs.inner.Reading.{spot, Read}
 use Rattle.tl_types.specs.declared.value.Value.{Value}
 use Rattle.tl_types.specs.declared.value.TheConstants.{MAX_LEVELS}
 use Rattle.tl_decode.specs.declared.fault.DecodeFault.{DecodeFault}
@@ -21,7 +20,7 @@ use Rattle.tl_decode.specs.declared.stack.Found.TheVariants as found
 use Rattle.tl_decode.specs.declared.stack.Fed.TheVariants as fed
 use Rattle.tl_decode.specs.declared.stack.Stop.{Stop}
 use Rattle.tl_decode.specs.declared.stack.Stop.TheVariants as stop
-use Rattle.tl_decode.specs.inner.Frames.{FrameView, ItemView, views, item_at, item_view, after, goes_after, levels_below, next_at, found_at, next_work, found_work, resumes, IsStop, IsWellFound, SettlesAt, Takes}
+use Rattle.tl_decode.specs.inner.Frames.{FrameView, ItemView, views, item_view, goes_after, levels_below, next_at, found_at, next_work, found_work, resumes, IsStop, IsWellFound, SettlesAt, Takes}
 use Rattle.tl_decode.specs.inner.Needs.{FindsItem, IsHeld, IsInOrder, TakesItem, TakesPiece, reads_on}
 use Rattle.tl_decode.proofs.FrameLists.{resume_err}
 use Rattle.tl_decode.proofs.HeldBytes.{text_least}
@@ -99,7 +98,7 @@ pub record SoFar (p : PlanView) (old : List ℕ → Read ValueView) (piece : Lis
 
 module _ (p : PlanView) (old : List ℕ → Read ValueView) (piece : List ℕ) (used at : ℕ) (fs : List Frame) (held : List ℕ) where
   pub piece_done : (v : Value) → SoFar p old piece used fs (found.Done v) at held → TakesPiece p old piece fs at held (Ok (found.Done v, fed.Done used))
-  piece_done v s = (s.within, s.order.begins, λ more. s.reads more ∙ ap (λ (z : List ℕ). Ok (view v, spot at (z ++ (drop used piece ++ more)))) s.order.begins)
+  piece_done v s = (s.within, s.order.frames, s.order.begins, λ more. s.reads more ∙ ap (λ (z : List ℕ). Ok (view v, spot at (z ++ (drop used piece ++ more)))) s.order.begins)
 
   module _ (W : Wanted) (s : SoFar p old piece used fs (found.Wants W) at held) (new : List Frame) (then work : ℕ) (kept : List ℕ) where
     pub piece_more : TakesItem p (reads_on p fs (found.Wants W) at held) work W (drop used piece) new then kept (Ok None) → TakesPiece p old piece new then kept (Ok (found.Wants W, fed.More))
@@ -115,6 +114,6 @@ module _ (p : PlanView) (old : List ℕ → Read ValueView) (piece : List ℕ) (
       within = omega (arith, t.2, length-drop used piece, s.within);
       order = t.0;
       reads = λ more.
-        s.reads more ∙ t.4 more ∙ ap (λ (z : List ℕ). reads_on p new g then [] (z ++ more)) (drop-drop n used piece)
-        ∙ ap (λ (z : List ℕ). reads_on p new g then z (drop (used + n) piece ++ more)) (sym t.1);
+          s.reads more ∙ t.4 more ∙ ap (λ (z : List ℕ). reads_on p new g then [] (z ++ more)) (drop-drop n used piece)
+          ∙ ap (λ (z : List ℕ). reads_on p new g then z (drop (used + n) piece ++ more)) (sym t.1);
     }

@@ -1,8 +1,7 @@
 -- The member of an instance whose declaration has a number.
-use Rattle.std.proofs.Common.{◌≡◌, inl, inr, ℕ, ◌+◌, ◌-◌, ◌/◌, ◌<◌, ◌≤◌, List, length, map, get_or, slice_get, Option, Some, None, refl, ap, sym, ◌∙◌, subst, arith}
+use Rattle.std.proofs.Common.{◌≡◌, inl, inr, ℕ, ◌-◌, ◌<◌, ◌≤◌, List, length, map, get_or, slice_get, Some, None, refl, ap, sym, ◌∙◌, subst, arith}
 use Rattle.std.specs.Option.{option_map}
 use Rattle.std.proofs.lemmas.Bool.{cases_order}
-use Rattle.std.proofs.lemmas.List.{length-map}
 use Rattle.std.proofs.lemmas.Option.{slice_get-map, slice_get_within, slice_get_read, same_Some}
 use Rattle.tl_names.specs.Places.{types_of}
 use Rattle.tl_schema.specs.Types.{Shape, Shapes}
@@ -10,7 +9,7 @@ use Rattle.tl_schema.specs.Types as type
 use Rattle.tl_schema.specs.Schemas.{Declaration}
 use Rattle.tl_schema.specs.Formed.{IsMember, IsFunction, IsFormed}
 use Rattle.tl_plan.specs.Plans.{InstanceView, IsFlagOrFormed, IsPlan, MemberView, PlanView}
-use Rattle.tl_plan.specs.PlanLaws.{AreThose, StandsIn, entries_in}
+use Rattle.tl_plan.specs.PlanLaws.{StandsIn, entries_in}
 use Rattle.tl_plan.specs.Seen.{ShowsAt, member_view}
 use Rattle.tl_plan.specs.declared.instances.Member.{Member}
 use Rattle.tl_plan.specs.declared.instances.Instance.{Instance}
@@ -18,7 +17,6 @@ use Rattle.tl_plan.proofs.PlanFacts.{instances_have_members, instances_are_forme
 use Rattle.tl_plan.proofs.FormedReached.{in_map}
 use Rattle.tl_types.specs.inner.Reading.{first_from, is_member, is_function}
 use Rattle.tl_types.proofs.Members.{NumbersTell, SoughtNumber, has, lacks, member_found, function_found, no_member, no_function, seek_member, seek_function}
-use Rattle.tl_types.proofs.FormedParts.{PartsTell}
 use Rattle.tl_types.proofs.SchemaTells.{schema_tells}
 use Rattle.tl_decode.specs.inner.Frames.{type_in, members_in, entry_in, find_in, entries_shown}
 use Rattle.tl_decode.proofs.PlanTypes.{type_there, shown_members, entry_there}

@@ -1,9 +1,8 @@
 -- A decoder that takes its input in pieces, and the bytes that it has taken. This project's own.
-use Rattle.std.specs.Prelude.{◌≡◌, ◌≢◌, ℕ, ◌-◌, ◌<◌, List, ◌++◌, length, false, Option, Some, None, Result, Ok, Err}
+use Rattle.std.specs.Prelude.{◌≡◌, ℕ, ◌-◌, ◌<◌, List, ◌++◌, false, Option, Some, None, Result, Ok, Err}
 use Rattle.tl_plan.specs.Plans.{IsPlan, PlanView}
 use Rattle.tl_types.specs.Values.{ValueView}
 use Rattle.tl_types.specs.Seen.{view}
-use Rattle.tl_types.specs.Offsets.{moved}
 use Rattle.tl_types.specs.inner.Reading.{Read, spot, value_at}
 use Rattle.tl_types.specs.declared.cause.Cause.{Cause}
 use Rattle.tl_types.specs.declared.value.Value.{Value}

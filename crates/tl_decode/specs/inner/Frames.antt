@@ -15,7 +15,7 @@ use Rattle.tl_plan.specs.declared.instances.Member.{Member}
 use Rattle.tl_decode.specs.inner.Steps.{FailsAs}
 use Rattle.tl_decode.specs.declared.fault.DecodeFault.{DecodeFault}
 use Rattle.tl_decode.specs.declared.fault.DecodeFault.TheVariants as fault
-use Rattle.tl_types.specs.inner.Reading.{Spot, spot, Read, Reader, ◌>>=◌, word_at, plain_at, value_at, wide_at, list_at, elements_at, each_at, fields_at, numbered_at, first_from, is_member, is_function, fields_in}
+use Rattle.tl_types.specs.inner.Reading.{Spot, spot, Read, Reader, ◌>>=◌, word_at, plain_at, value_at, wide_at, elements_at, each_at, fields_at, numbered_at, first_from, is_member, is_function, fields_in}
 use Rattle.tl_types.specs.declared.cause.Cause.{Cause}
 use Rattle.tl_types.specs.declared.cause.Cause.TheVariants.{Truncated}
 use Rattle.tl_types.specs.declared.value.Value.{Value}

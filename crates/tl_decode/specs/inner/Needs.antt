@@ -7,7 +7,6 @@ use Rattle.tl_types.specs.Seen.{view}
 use Rattle.tl_types.specs.Values.{ValueView}
 use Rattle.tl_types.specs.inner.Reading.{Head, Read, spot, text_head_of}
 use Rattle.tl_types.specs.declared.cause.Cause.{Cause}
-use Rattle.tl_types.specs.declared.value.Value.{Value}
 use Rattle.tl_decode.specs.declared.fault.DecodeFault.{DecodeFault}
 use Rattle.tl_decode.specs.declared.fault.DecodeFault.TheVariants as fault
 use Rattle.tl_decode.specs.declared.stack.Frame.{Frame}
@@ -20,7 +19,7 @@ use Rattle.tl_decode.specs.declared.stack.Stop.{Stop}
 use Rattle.tl_decode.specs.declared.stack.Stop.TheVariants as stop
 use Rattle.tl_decode.specs.declared.stack.Fed.{Fed}
 use Rattle.tl_decode.specs.declared.stack.Fed.TheVariants as fed
-use Rattle.tl_decode.specs.inner.Frames.{FrameView, views, item_at, item_view, found_at, found_work, is_truncated, AreWell, IsWellFound}
+use Rattle.tl_decode.specs.inner.Frames.{views, item_at, item_view, found_at, found_work, is_truncated, AreWell, IsWellFound}
 
 -- ---- items
 
@@ -81,7 +80,7 @@ pub record IsInOrder (p : PlanView) (fs : List Frame) (f : Found) (held : List �
 -- A piece is taken: what was read on is read on from the new state, or the value is there or refused, however the input goes on.
 abbrev pub TakesPiece : PlanView → (List ℕ → Read ValueView) → List ℕ → List Frame → ℕ → List ℕ → Result (Found × Fed) DecodeFault → Type 0
 TakesPiece p old piece fs at held (Ok (found.Wants W, fed.More)) = IsInOrder p fs (found.Wants W) held × ((more : List ℕ) → old (piece ++ more) ≡ reads_on p fs (found.Wants W) at held more)
-TakesPiece p old piece fs at held (Ok (found.Done v, fed.Done used)) = (used ≤ length piece) × (held ≡ []) × ((more : List ℕ) → old (piece ++ more) ≡ Ok (view v, spot at (drop used piece ++ more)))
+TakesPiece p old piece fs at held (Ok (found.Done v, fed.Done used)) = (used ≤ length piece) × AreWell p fs × (held ≡ []) × ((more : List ℕ) → old (piece ++ more) ≡ Ok (view v, spot at (drop used piece ++ more)))
 TakesPiece p old piece fs at held (Ok (found.Wants W, fed.Done used)) = ⊥
 TakesPiece p old piece fs at held (Ok (found.Done v, fed.More)) = ⊥
 TakesPiece p old piece fs at held (Err (fault.Refused place cause)) = (is_truncated cause ≡ false) × ((more : List ℕ) → old (piece ++ more) ≡ Err (place, cause))

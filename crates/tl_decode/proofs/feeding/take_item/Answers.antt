@@ -14,7 +14,7 @@ returns-in_err-found-in-Ok-Some c =
     let p = err_from_is_err_and c.from_residual.result c.from_residual.ensures.1 in
     rw (p.1, p.2)
     (item_error c.args.plan.now c.args.frames.now.items c.args.wanted c.args.at.now c.saturating_add-in-Ok-Some.result c.args.held.now.items c.next_item.new.held.items c.args.next.now x.item x.count (rw x.field-0-is at x.ensures) is
-        (found_work c.args.plan.now vs (found.Wants c.args.wanted)) (found_work c.args.plan.now vs (found.Wants c.args.wanted)) c.after_item.new.frames.items _ c.in_err-found-in-Ok-Some.ensures.goes)
+    (found_work c.args.plan.now vs (found.Wants c.args.wanted)) (found_work c.args.plan.now vs (found.Wants c.args.wanted)) c.after_item.new.frames.items _ c.in_err-found-in-Ok-Some.ensures.goes)
 
 pub returns-in_ok-found-in-Ok-Some : goal.returns-in_ok-found-in-Ok-Some
 returns-in_ok-found-in-Ok-Some c =

@@ -1,4 +1,4 @@
-use Rattle.std.proofs.Common.{◌≡◌, ◌≤◌, ◌+◌, length, ap, arith, rules}
+use Rattle.std.proofs.Common.{◌≡◌, ◌≤◌, ◌+◌, length, arith}
 use Rattle.tl_decode.specs.inner.Needs.{needs}
 use Rattle.tl_decode.proofs.HeldBytes.{filled}
 use Rattle.tl_decode.proofs.held_items.fill.Goals as goal

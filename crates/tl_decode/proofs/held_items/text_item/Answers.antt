@@ -1,4 +1,4 @@
-use Rattle.std.proofs.Common.{◌≡◌, ℕ, List, Ok, ◌+◌, ◌-◌, take, drop, length, refl, ap, sym, ◌∙◌, arith}
+use Rattle.std.proofs.Common.{◌≡◌, ℕ, Ok, ◌+◌, ◌-◌, take, drop, length, refl, ap, sym, ◌∙◌, arith}
 use Rattle.tl_types.specs.Offsets.{moved}
 use Rattle.tl_types.specs.Values.{ValueView}
 use Rattle.tl_types.specs.Values as value
@@ -18,5 +18,5 @@ returns c =
     let b = c.args.bytes.now in
     let size : (c.args.head + c.args.size) - c.args.head ≡ c.args.size = omega arith in
     λ p more.
-      text_whole (c.args.head, c.args.size) b c.requires.some c.requires.few c.requires.head c.requires.all p more (padding_is _ b _ c.args.head c.args.size c.is_zero.ensures refl ∙ c.if-not-is_zero.false)
-      ∙ ap (λ (v : ValueView). Ok (plain v, spot (moved p (length b)) more)) (sym (view-Text _ ∙ ap value.text (c.in_ok-text.ensures ∙ ap (λ (n : ℕ). take n (drop c.args.head b)) size)))
+    text_whole (c.args.head, c.args.size) b c.requires.some c.requires.few c.requires.head c.requires.all p more (padding_is _ b _ c.args.head c.args.size c.is_zero.ensures refl ∙ c.if-not-is_zero.false)
+    ∙ ap (λ (v : ValueView). Ok (plain v, spot (moved p (length b)) more)) (sym (view-Text _ ∙ ap value.text (c.in_ok-text.ensures ∙ ap (λ (n : ℕ). take n (drop c.args.head b)) size)))

@@ -1,4 +1,4 @@
-use Rattle.std.proofs.Common.{◌≡◌, ℕ, List, Ok, Err, sym, ap, ◌∙◌, arith, take}
+use Rattle.std.proofs.Common.{ℕ, List, sym, ap, ◌∙◌, arith}
 use Rattle.tl_types.specs.inner.Reading.{text_head_of}
 use Rattle.tl_decode.specs.inner.Needs.{head_needs}
 use Rattle.tl_decode.proofs.HeldBytes.{text_four, text_more_than}

@@ -1,4 +1,4 @@
-use Rattle.std.proofs.Common.{◌≡◌, ℕ, List, length, Ok, ap, sym, ◌∙◌, refl}
+use Rattle.std.proofs.Common.{length, Ok, ap, sym, ◌∙◌, refl}
 use Rattle.std.specs.Int.{w64, from_le_bytes}
 use Rattle.tl_types.specs.Offsets.{moved}
 use Rattle.tl_types.specs.Values.{ValueView}
@@ -18,7 +18,7 @@ pub returns-in_ok-from_slice-in-Opaque : goal.returns-in_ok-from_slice-in-Opaque
 returns-in_ok-from_slice-in-Opaque c =
     let b = c.args.bytes.now in
     rw c.in-Opaque.is (λ p more.
-      opaque_whole p c.in-Opaque.width b more (rw c.in-Opaque.is at c.requires) ∙ ap (λ (v : ValueView). Ok (plain v, spot (moved p (length b)) more)) (sym (view-Opaque _ ∙ ap value.opaque c.in_ok-from_slice-in-Opaque.ensures)))
+    opaque_whole p c.in-Opaque.width b more (rw c.in-Opaque.is at c.requires) ∙ ap (λ (v : ValueView). Ok (plain v, spot (moved p (length b)) more)) (sym (view-Opaque _ ∙ ap value.opaque c.in_ok-from_slice-in-Opaque.ensures)))
 
 pub returns-in-Int : goal.returns-in-Int
 unfolding item_at

@@ -1,4 +1,4 @@
-use Rattle.std.proofs.Common.{◌≡◌, ◌≤◌, List, length, Ok, Err, ap, sym, ◌∙◌, arith}
+use Rattle.std.proofs.Common.{◌≤◌, List, length, ap, sym, ◌∙◌, arith}
 use Rattle.tl_types.specs.inner.Reading.{text_head_of}
 use Rattle.tl_decode.specs.inner.Needs.{head_needs}
 use Rattle.tl_decode.proofs.HeldBytes.{head_whole, text_least, text_more_than, text_wrong}

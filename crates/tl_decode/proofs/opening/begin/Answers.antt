@@ -1,4 +1,4 @@
-use Rattle.std.proofs.Common.{◌≡◌, ◌<◌, length, ap, refl, arith}
+use Rattle.std.proofs.Common.{length, ap, refl, arith}
 use Rattle.tl_decode.proofs.PlanTypes.{shown_count, is_here}
 use Rattle.tl_decode.proofs.opening.begin.Goals as goal
 

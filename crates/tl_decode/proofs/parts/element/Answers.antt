@@ -1,4 +1,4 @@
-use Rattle.std.proofs.Common.{refl, arith}
+use Rattle.std.proofs.Common.{arith}
 use Rattle.tl_types.proofs.Views.{view-List}
 use Rattle.tl_decode.proofs.PartSteps.{list_closes, list_opens}
 use Rattle.tl_decode.proofs.parts.element.Goals as goal

@@ -1,5 +1,4 @@
-use Rattle.std.proofs.Common.{arith, sym, subst}
-use Rattle.tl_types.specs.inner.Reading.{value_at}
+use Rattle.std.proofs.Common.{arith}
 use Rattle.tl_decode.proofs.Outcomes.{gives_root, gives_root_fault}
 use Rattle.tl_decode.proofs.planned.decode.Goals as goal
 

@@ -1,6 +1,6 @@
 use Rattle.std.proofs.lemmas.Result.{err_from_is_err_and}
-use Rattle.tl_decode.specs.inner.Frames.{found_at, next_work, next_at, views}
-use Rattle.tl_decode.proofs.Onward.{item_failed, item_refused, item_settled, item_work, settled_well}
+use Rattle.tl_decode.specs.inner.Frames.{found_at, next_work, views}
+use Rattle.tl_decode.proofs.Onward.{item_failed, item_refused, item_settled}
 use Rattle.tl_decode.proofs.planned.one_item.Goals as goal
 
 pub returns-in_err-item-clause-read : goal.returns-in_err-item-clause-read

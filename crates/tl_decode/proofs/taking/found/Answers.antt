@@ -1,4 +1,4 @@
-use Rattle.std.proofs.Common.{◌≡◌, ℕ, List, Some, ap, sym, ◌∙◌, subst}
+use Rattle.std.proofs.Common.{List, sym, subst}
 use Rattle.tl_plan.specs.PlanLaws.{StandsIn}
 use Rattle.tl_plan.specs.declared.instances.Member.{Member}
 use Rattle.tl_decode.specs.inner.Frames.{entries_shown}

@@ -1,4 +1,4 @@
-use Rattle.std.proofs.Common.{ℕ, refl, ap, sym, ◌∙◌, None}
+use Rattle.std.proofs.Common.{refl, ap, sym, ◌∙◌}
 use Rattle.tl_schema.specs.Types.{Shape}
 use Rattle.tl_schema.specs.Schemas.{Declared}
 use Rattle.tl_plan.specs.declared.instances.Form.TheVariants as form
