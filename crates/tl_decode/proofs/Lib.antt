@@ -8,7 +8,17 @@ pub mod Loops
 pub mod Values
 pub mod Opaques
 pub mod Closings
+pub mod PlanTypes
+pub mod FrameLists
+pub mod Opened
+pub mod PartSteps
+pub mod ItemSteps
+pub mod Searches
+pub mod Onward
+pub mod HeldBytes
+pub mod PieceSteps
 pub mod Outcomes
+pub mod FedBytes
 pub mod SizesNamed
 pub mod SizesBounded
 pub mod SizesBare

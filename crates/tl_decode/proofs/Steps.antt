@@ -50,7 +50,7 @@ as_read look (Some bytes) b p q (Err ReadFault) f g h e = tt
 as_read look (Some bytes) b p q (Err Memory) f g h e = tt
 
 -- the whole is what is read on from here
-pub Continues : {Y : Type 0} → (Spot → Read Y) → Option (List ℕ) → Option (List ℕ) → ℕ → ℕ → (Spot → Read Y) → Type 0
+unfoldable pub Continues : {Y : Type 0} → (Spot → Read Y) → Option (List ℕ) → Option (List ℕ) → ℕ → ℕ → (Spot → Read Y) → Type 0
 Continues whole None b p q on = Unit {0}
 Continues whole (Some bytes) b p q on = (rest : List ℕ) × (b ≡ Some rest) × (on (spot q rest) ≡ whole (spot p bytes))
 

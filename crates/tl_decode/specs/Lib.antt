@@ -1,3 +1,4 @@
 pub mod Decoding
+pub mod Decoders
 pub mod Sizes
 pub mod inner

@@ -267,8 +267,8 @@ fn field_of<S: Source>(
     value_of(alloc, schema, levels, &of, at, from)
 }
 
-// Why a word is no number.
-fn wrong(word: u32) -> Cause
+/// Why a word is no number.
+pub fn wrong(word: u32) -> Cause
     ensures { result ≡ wrong_number word }
 {
     if word == PACKED {

@@ -3,14 +3,26 @@
 
 mod decoder;
 mod fault;
+mod feeding;
+mod held_items;
 mod items;
 mod laws;
+mod machine;
 mod members;
+mod opening;
+mod parts;
+mod piecewise;
 mod plain;
+mod planned;
+mod stack;
+mod taking;
 mod texts;
 mod walk;
 
 pub use fault::DecodeFault;
 pub use laws::{each_size_is_bounded, each_text_allows_the_bound};
+pub use piecewise::Decoder;
+pub use planned::decode;
+pub use stack::Fed;
 pub use tl_types::MAX_LEVELS;
 pub use walk::decode_walk;

@@ -64,7 +64,8 @@ pub fn plain_of<S: Source>(
     }
 }
 
-fn string_of<S: Source>(alloc: Global, at: &mut u64, from: &mut S) -> Result<Value, DecodeFault>
+/// A string, of a type `string` or `bytes`.
+pub fn string_of<S: Source>(alloc: Global, at: &mut u64, from: &mut S) -> Result<Value, DecodeFault>
     ensures read { ReadsAs view (S.state from.old).left (S.state from.new).left at.old at.new result (plain_at str) }
     ensures used { Used (S.state from.old) (S.state from.new) (IsErrOf result DecodeFault.ReadFault) }
 {
@@ -72,7 +73,8 @@ fn string_of<S: Source>(alloc: Global, at: &mut u64, from: &mut S) -> Result<Val
     Ok(Value::Text(Bytes::from_vec(text)))
 }
 
-fn opaque_of<S: Source>(
+/// So many bytes.
+pub fn opaque_of<S: Source>(
     alloc: Global,
     count: u64,
     at: &mut u64,

@@ -11,8 +11,8 @@ use std::alloc::Global;
 use tl_base::Source;
 use tl_types::Cause;
 
-// How many bytes the head of a string has, and how many its text.
-fn head_of(word: [u8; 4]) -> Result<(u64, u64), Cause>
+/// How many bytes the head of a string has, and how many its text.
+pub fn head_of(word: [u8; 4]) -> Result<(u64, u64), Cause>
     ensures head { result ≡ text_head_of word }
     ensures bounds { IfOk result (λ h. (1 ≤ h.0) × (h.0 ≤ 4) × (h.1 < 2 ^ 24)) }
 {
@@ -29,7 +29,8 @@ fn head_of(word: [u8; 4]) -> Result<(u64, u64), Cause>
     Ok((4, length))
 }
 
-fn is_zero(bytes: &[u8]) -> bool
+/// Whether all of them are zero.
+pub fn is_zero(bytes: &[u8]) -> bool
     ensures { result ≡ all_zero bytes.now }
 {
     for byte in bytes {
@@ -40,8 +41,8 @@ fn is_zero(bytes: &[u8]) -> bool
     true
 }
 
-// How many zeros make a multiple of 4.
-fn missing_of(count: u64) -> u64
+/// How many zeros make a multiple of 4.
+pub fn missing_of(count: u64) -> u64
     ensures { result ≡ missing count }
 {
     (4 - count % 4) % 4

@@ -1,0 +1,14 @@
+use Rattle.tl_decode.specs.inner.Frames.{found_work, item_view, views}
+use Rattle.tl_decode.specs.declared.stack.Found.TheVariants as found
+use Rattle.tl_decode.proofs.PieceSteps.{after_goes, after_stops}
+use Rattle.tl_decode.proofs.feeding.after_item.Goals as goal
+
+pub returns-in-Ok-clause-goes : goal.returns-in-Ok-clause-goes
+returns-in-Ok-clause-goes c =
+    let vs = views c.args.plan.now c.args.frames.now.items in
+    after_goes c.args.plan.now vs c.args.wanted c.args.place c.args.then 0 (item_view c.args.item) c.in-Ok.next c.settle_at.new.frames.items c.settle_at.result c.in-Ok.ensures c.settle_at.ensures
+
+pub returns-in-Err-clause-goes : goal.returns-in-Err-clause-goes
+returns-in-Err-clause-goes c =
+    let vs = views c.args.plan.now c.args.frames.now.items in
+    after_stops c.args.plan.now vs c.args.wanted c.args.place c.args.then (found_work c.args.plan.now vs (found.Wants c.args.wanted)) (item_view c.args.item) c.in-Err.stop c.stopped.result c.args.frames.now.items c.in-Err.ensures c.stopped.ensures

@@ -1,0 +1,10 @@
+use Rattle.std.proofs.Common.{arith}
+use Rattle.tl_types.proofs.Views.{view-List}
+use Rattle.tl_decode.proofs.PartSteps.{list_closes, list_opens}
+use Rattle.tl_decode.proofs.parts.element.Goals as goal
+
+pub returns-then-left-eq0 : goal.returns-then-left-eq0
+returns-then-left-eq0 c = list_closes c.args.plan.now c.args.frames.now.items c.requires.frames c.args.item c.args.left c.args.items _ c.if-left-eq0.true (view-List c.args.items)
+
+pub returns : goal.returns
+returns c = list_opens c.args.plan.now c.args.frames.now.items c.requires.frames c.args.item c.args.left _ c.args.items _ (omega arith) c.in_ok-push.ensures.items c.requires.top

@@ -1,0 +1,97 @@
+-- How many bytes an item has, as far as its first bytes tell; and items that are whole. This project's own.
+use Rattle.std.specs.Prelude.{◌≡◌, ℕ, ◌+◌, ◌<◌, ◌≤◌, List, [], ◌++◌, length, take, drop, false, Option, Some, None, Result, Ok, Err, nat_lt, if◌then◌else◌}
+use Rattle.tl_plan.specs.Plans.{PlanView}
+use Rattle.tl_types.specs.Offsets.{moved}
+use Rattle.tl_types.specs.Texts.{missing}
+use Rattle.tl_types.specs.Seen.{view}
+use Rattle.tl_types.specs.Values.{ValueView}
+use Rattle.tl_types.specs.inner.Reading.{Head, Read, spot, text_head_of}
+use Rattle.tl_types.specs.declared.cause.Cause.{Cause}
+use Rattle.tl_decode.specs.declared.fault.DecodeFault.{DecodeFault}
+use Rattle.tl_decode.specs.declared.fault.DecodeFault.TheVariants as fault
+use Rattle.tl_decode.specs.declared.stack.Frame.{Frame}
+use Rattle.tl_decode.specs.declared.stack.Wanted.{Wanted}
+use Rattle.tl_decode.specs.declared.stack.Wanted.TheVariants as wanted
+use Rattle.tl_decode.specs.declared.stack.Item.{Item}
+use Rattle.tl_decode.specs.declared.stack.Found.{Found}
+use Rattle.tl_decode.specs.declared.stack.Found.TheVariants as found
+use Rattle.tl_decode.specs.declared.stack.Stop.{Stop}
+use Rattle.tl_decode.specs.declared.stack.Stop.TheVariants as stop
+use Rattle.tl_decode.specs.declared.stack.Fed.{Fed}
+use Rattle.tl_decode.specs.declared.stack.Fed.TheVariants as fed
+use Rattle.tl_decode.specs.inner.Frames.{views, item_at, item_view, found_at, found_work, is_truncated, AreWell, IsWellFound}
+
+-- ---- items
+
+abbrev pub head_needs : Result Head Cause → ℕ
+head_needs (Ok h) = h.0 + h.1 + missing (h.0 + h.1)
+head_needs (Err cause) = 4
+
+-- so many bytes a string has, as far as these first bytes tell: 4, until there are as many
+unfoldable pub text_needs : List ℕ → ℕ
+text_needs b = if nat_lt (length b) 4 then 4 else head_needs (text_head_of (take 4 b))
+
+-- so many bytes the item has that is looked for
+abbrev pub needs : Wanted → List ℕ → ℕ
+needs wanted.Long b = 8
+needs (wanted.Opaque k) b = k
+needs wanted.Text b = text_needs b
+needs W b = 4
+
+-- these bytes are the item, however the input goes on, or they are refused
+abbrev pub IsWhole : Wanted → List ℕ → Result Item Stop → Type 0
+IsWhole W b (Ok x) = (p : ℕ) (more : List ℕ) → item_at W (spot p (b ++ more)) ≡ Ok (item_view x, spot (moved p (length b)) more)
+IsWhole W b (Err (stop.Refused cause)) = (is_truncated cause ≡ false) × ((p : ℕ) (more : List ℕ) → item_at W (spot p (b ++ more)) ≡ Err (p, cause))
+IsWhole W b (Err stop.Memory) = Unit {0}
+
+-- So many of the next bytes came to those that are held: all of them, unless the item is whole.
+pub record Fills (W : Wanted) (old new next : List ℕ) (count : ℕ) : Type 0 where
+  pub within : count ≤ length next
+  pub more : new ≡ old ++ take count next
+  pub most : length new ≤ needs W new
+  pub all : length new < needs W new → count ≡ length next
+
+-- The item begins in the held bytes and goes on in the next ones; where it isn't whole there, these are held too.
+abbrev pub FindsItem : Wanted → List ℕ → List ℕ → List ℕ → Result (Option (Item × ℕ)) Stop → Type 0
+FindsItem W old new next (Ok None) = (new ≡ old ++ next) × (length new < needs W new)
+FindsItem W old new next (Ok (Some x)) =
+    (new ≡ []) × (x.1 ≤ length next)
+    × ((p : ℕ) (more : List ℕ) → item_at W (spot p (old ++ (next ++ more))) ≡ Ok (item_view x.0, spot (moved p (length old + x.1)) (drop x.1 next ++ more)))
+FindsItem W old new next (Err (stop.Refused cause)) = (is_truncated cause ≡ false) × ((p : ℕ) (more : List ℕ) → item_at W (spot p (old ++ (next ++ more))) ≡ Err (p, cause))
+FindsItem W old new next (Err stop.Memory) = Unit {0}
+
+-- ---- pieces
+
+-- what is read on with these frames, where so many bytes were taken and these are held
+abbrev pub reads_on : PlanView → List Frame → Found → ℕ → List ℕ → List ℕ → Read ValueView
+reads_on p fs f at held more = found_at p (views p fs) f (spot at (held ++ more))
+
+-- the item that is looked for isn't whole; where the value is there, nothing is held
+abbrev pub IsHeld : Found → List ℕ → Type 0
+IsHeld (found.Wants W) held = length held < needs W held
+IsHeld (found.Done v) held = held ≡ []
+
+-- the frames and numbers are in range, and what is held begins an item
+pub record IsInOrder (p : PlanView) (fs : List Frame) (f : Found) (held : List ℕ) : Type 0 where
+  pub frames : AreWell p fs
+  pub well : IsWellFound p f
+  pub begins : IsHeld f held
+
+-- A piece is taken: what was read on is read on from the new state, or the value is there or refused, however the input goes on.
+abbrev pub TakesPiece : PlanView → (List ℕ → Read ValueView) → List ℕ → List Frame → ℕ → List ℕ → Result (Found × Fed) DecodeFault → Type 0
+TakesPiece p old piece fs at held (Ok (found.Wants W, fed.More)) = IsInOrder p fs (found.Wants W) held × ((more : List ℕ) → old (piece ++ more) ≡ reads_on p fs (found.Wants W) at held more)
+TakesPiece p old piece fs at held (Ok (found.Done v, fed.Done used)) = (used ≤ length piece) × AreWell p fs × (held ≡ []) × ((more : List ℕ) → old (piece ++ more) ≡ Ok (view v, spot at (drop used piece ++ more)))
+TakesPiece p old piece fs at held (Ok (found.Wants W, fed.Done used)) = ⊥
+TakesPiece p old piece fs at held (Ok (found.Done v, fed.More)) = ⊥
+TakesPiece p old piece fs at held (Err (fault.Refused place cause)) = (is_truncated cause ≡ false) × ((more : List ℕ) → old (piece ++ more) ≡ Err (place, cause))
+TakesPiece p old piece fs at held (Err fault.ReadFault) = ⊥
+TakesPiece p old piece fs at held (Err fault.Memory) = Unit {0}
+
+-- One item is taken of the next bytes, or all of them are held.
+abbrev pub TakesItem : PlanView → (List ℕ → Read ValueView) → ℕ → Wanted → List ℕ → List Frame → ℕ → List ℕ → Result (Option (Found × ℕ)) DecodeFault → Type 0
+TakesItem p old work W next fs at held (Ok None) = IsInOrder p fs (found.Wants W) held × ((more : List ℕ) → old (next ++ more) ≡ reads_on p fs (found.Wants W) at held more)
+TakesItem p old work W next fs at held (Ok (Some x)) =
+    IsInOrder p fs x.0 held × (held ≡ []) × (x.1 ≤ length next) × (found_work p (views p fs) x.0 < work) × ((more : List ℕ) → old (next ++ more) ≡ reads_on p fs x.0 at [] (drop x.1 next ++ more))
+TakesItem p old work W next fs at held (Err (fault.Refused place cause)) = (is_truncated cause ≡ false) × ((more : List ℕ) → old (next ++ more) ≡ Err (place, cause))
+TakesItem p old work W next fs at held (Err fault.ReadFault) = ⊥
+TakesItem p old work W next fs at held (Err fault.Memory) = Unit {0}

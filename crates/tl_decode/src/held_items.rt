@@ -1,0 +1,170 @@
+//! Items of bytes that are there.
+ghost use Rattle.std.specs.Prelude.{◌≡◌, ◌≤◌, ◌<◌, IfOk, Ok, length, take};
+ghost use Rattle.std.specs.Int.{w64, cast_signed, from_le_bytes};
+ghost use Rattle.tl_types.specs.Seen.{view};
+ghost use Rattle.tl_types.specs.Values.{long};
+ghost use Rattle.tl_types.specs.inner.Reading.{text_head_of};
+ghost use Rattle.tl_decode.specs.inner.Needs.{Fills, FindsItem, IsWhole, head_needs, needs, text_needs};
+
+use crate::stack::{Item, Stop, Wanted};
+use crate::texts::{head_of, is_zero, missing_of};
+use std::alloc::{AllocError, Global};
+use tl_base::Bytes;
+use tl_types::{Cause, Value};
+
+/// The item that begins in the held bytes and goes on in the next ones, and how many of these it takes. Where it isn't whole there, these are held too.
+/// An item that is whole in the next bytes is not copied.
+pub fn next_item(
+    alloc: Global,
+    wanted: Wanted,
+    held: &mut Vec<u8>,
+    next: &[u8],
+) -> Result<Option<(Item, usize)>, Stop>
+    requires { length held.old.items < needs wanted held.old.items }
+    ensures { FindsItem wanted held.old.items held.new.items next.now result }
+{
+    if held.is_empty() {
+        let size = need_of(wanted, next);
+        if size <= next.len() {
+            let item = whole_item(alloc, wanted, &next[..size])?;
+            return Ok(Some((item, size)));
+        }
+    }
+    let count = fill(wanted, held, next)?;
+    if held.len() < need_of(wanted, held) {
+        return Ok(None);
+    }
+    let item = whole_item(alloc, wanted, held)?;
+    held.clear();
+    Ok(Some((item, count)))
+}
+
+// Holds the next bytes of an item, until it is whole.
+fn fill(wanted: Wanted, held: &mut Vec<u8>, next: &[u8]) -> Result<usize, AllocError>
+    requires { length held.old.items < needs wanted held.old.items }
+    ensures { IfOk result (Fills wanted held.old.items held.new.items next.now) }
+{
+    let mut used = 0usize;
+    while used < next.len() {
+        let size = need_of(wanted, held);
+        if held.len() >= size {
+            return Ok(used);
+        }
+        let count = (size - held.len()).min(next.len() - used);
+        held.extend_from_slice(&next[used..used + count])?;
+        used += count;
+    }
+    Ok(used)
+}
+
+// How many bytes the item has that is looked for, as far as its first bytes tell.
+fn need_of(wanted: Wanted, bytes: &[u8]) -> usize
+    ensures { result ≡ needs wanted bytes.now }
+{
+    match wanted {
+        Wanted::Long => 8,
+        Wanted::Opaque { width } => width as usize,
+        Wanted::Text => text_need_of(bytes),
+        Wanted::Int => 4,
+        Wanted::Nat => 4,
+        Wanted::Number { .. } => 4,
+        Wanted::ListNumber { .. } => 4,
+        Wanted::Count { .. } => 4,
+    }
+}
+
+fn text_need_of(bytes: &[u8]) -> usize
+    ensures { result ≡ text_needs bytes.now }
+{
+    if bytes.len() < 4 {
+        return 4;
+    }
+    match head_of(four_bytes(bytes)) {
+        Ok((head, length)) => (head + length + missing_of(head + length)) as usize,
+        Err(_) => 4,
+    }
+}
+
+fn four_bytes(bytes: &[u8]) -> [u8; 4]
+    requires { 4 ≤ length bytes.now }
+    ensures { result ≡ take 4 bytes.now }
+{
+    let mut word = [0u8; 4];
+    word.copy_from_slice(&bytes[..4]);
+    word
+}
+
+fn eight_bytes(bytes: &[u8]) -> [u8; 8]
+    requires { 8 ≤ length bytes.now }
+    ensures { result ≡ take 8 bytes.now }
+{
+    let mut word = [0u8; 8];
+    word.copy_from_slice(&bytes[..8]);
+    word
+}
+
+// The item that these bytes are.
+fn whole_item(alloc: Global, wanted: Wanted, bytes: &[u8]) -> Result<Item, Stop>
+    requires { length bytes.now ≡ needs wanted bytes.now }
+    ensures { IsWhole wanted bytes.now result }
+{
+    match wanted {
+        Wanted::Long => Ok(Item::Plain {
+            value: long_value(bytes),
+        }),
+        Wanted::Opaque { .. } => Ok(Item::Plain {
+            value: Value::Opaque(Bytes::from_slice(alloc, bytes)?),
+        }),
+        Wanted::Text => whole_text(alloc, bytes),
+        Wanted::Int => Ok(whole_word(bytes)),
+        Wanted::Nat => Ok(whole_word(bytes)),
+        Wanted::Number { .. } => Ok(whole_word(bytes)),
+        Wanted::ListNumber { .. } => Ok(whole_word(bytes)),
+        Wanted::Count { .. } => Ok(whole_word(bytes)),
+    }
+}
+
+fn long_value(bytes: &[u8]) -> Value
+    requires { length bytes.now ≡ 8 }
+    ensures { view result ≡ long (cast_signed w64 (from_le_bytes w64 bytes.now)) }
+{
+    Value::Long(u64::from_le_bytes(eight_bytes(bytes)).cast_signed())
+}
+
+fn whole_word(bytes: &[u8]) -> Item
+    requires { length bytes.now ≡ 4 }
+    ensures { IsWhole Wanted.Nat bytes.now (Ok result) }
+{
+    Item::Word {
+        word: u32::from_le_bytes(four_bytes(bytes)),
+    }
+}
+
+fn whole_text(alloc: Global, bytes: &[u8]) -> Result<Item, Stop>
+    requires { length bytes.now ≡ text_needs bytes.now }
+    ensures { IsWhole Wanted.Text bytes.now result }
+{
+    match head_of(four_bytes(bytes)) {
+        Ok((head, length)) => text_item(alloc, bytes, head as usize, length as usize),
+        Err(cause) => Err(Stop::Refused { cause }),
+    }
+}
+
+// A string with such a head and text.
+fn text_item(alloc: Global, bytes: &[u8], head: usize, size: usize) -> Result<Item, Stop>
+    requires head { text_head_of (take 4 bytes.now) ≡ Ok (head, size) }
+    requires few { head ≤ 4 }
+    requires all { length bytes.now ≡ head_needs (Ok (head, size)) }
+    requires some { 4 ≤ length bytes.now }
+    ensures { IsWhole Wanted.Text bytes.now result }
+{
+    if !is_zero(&bytes[head + size..]) {
+        return Err(Stop::Refused {
+            cause: Cause::BadPadding,
+        });
+    }
+    let text = Bytes::from_slice(alloc, &bytes[head..head + size])?;
+    Ok(Item::Plain {
+        value: Value::Text(text),
+    })
+}

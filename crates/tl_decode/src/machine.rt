@@ -1,0 +1,87 @@
+//! The steps that need no bytes: values are opened, their parts come in order, and values close.
+ghost use Rattle.std.specs.Prelude.{◌≡◌, ◌<◌, length};
+ghost use Rattle.tl_decode.specs.inner.Frames.{AreWell, IsWellNext, SettlesFrom, StepsFrom};
+
+use crate::opening::open;
+use crate::parts::part;
+use crate::stack::{Found, Frame, Next, Step, Stop, Wanted};
+use std::alloc::Global;
+use tl_plan::Plan;
+use tl_types::Value;
+
+/// Everything that needs no bytes, until an item is looked for or the value is there.
+pub fn settle(
+    alloc: Global,
+    plan: &Plan,
+    frames: &mut Vec<Frame>,
+    first: Next,
+) -> Result<Found, Stop>
+    requires frames { AreWell plan.now frames.old.items }
+    requires first { IsWellNext plan.now first }
+    ensures { SettlesFrom plan.now frames.old.items first frames.new.items result }
+{
+    let mut next = first;
+    'steps: loop {
+        match step(alloc, plan, frames, next)? {
+            Step::Goes { next: later } => next = later,
+            Step::Stops { found } => return Ok(found),
+        }
+    }
+}
+
+fn step(alloc: Global, plan: &Plan, frames: &mut Vec<Frame>, next: Next) -> Result<Step, Stop>
+    requires frames { AreWell plan.now frames.old.items }
+    requires next { IsWellNext plan.now next }
+    ensures { StepsFrom plan.now frames.old.items next frames.new.items result }
+{
+    match next {
+        Next::Open { of } => open(alloc, plan, frames, of),
+        Next::Part { top } => part(plan, frames, top),
+        Next::Close { value } => close(plan, frames, value),
+        Next::Begin { item } => Ok(Step::Stops {
+            found: Found::Wants {
+                wanted: Wanted::Count { item },
+            },
+        }),
+    }
+}
+
+// A value becomes a part of the innermost list or record; without one it is the whole.
+fn close(plan: &Plan, frames: &mut Vec<Frame>, value: Value) -> Result<Step, Stop>
+    requires frames { AreWell plan.now frames.old.items }
+    ensures { StepsFrom plan.now frames.old.items (Next.Close value) frames.new.items result }
+{
+    match frames.pop() {
+        None => Ok(Step::Stops {
+            found: Found::Done { value },
+        }),
+        Some(
+            Frame::List {
+                item,
+                left,
+                mut items,
+            },
+        ) => {
+            items.push(value)?;
+            Ok(Step::Goes {
+                next: Next::Part {
+                    top: Frame::List { item, left, items },
+                },
+            })
+        }
+        Some(
+            Frame::Record {
+                of,
+                member,
+                mut fields,
+            },
+        ) => {
+            fields.push(value)?;
+            Ok(Step::Goes {
+                next: Next::Part {
+                    top: Frame::Record { of, member, fields },
+                },
+            })
+        }
+    }
+}

@@ -1,0 +1,124 @@
+//! The beginning of a value of an instance.
+ghost use Rattle.std.specs.Prelude.{◌≡◌, ◌<◌, ◌↔◌, IfOk, IsTrue, length};
+ghost use Rattle.tl_decode.specs.inner.Frames.{AreWell, IsBare, IsFresh, IsInPlan, IsList, IsNumbered, StepsFrom, members_in, type_in};
+
+use crate::stack::{Found, Frame, Next, Step, Stop, Wanted};
+use std::alloc::{AllocError, Global};
+use tl_plan::{Form, Plan};
+use tl_types::{Cause, MAX_LEVELS, Value};
+
+/// A value of this instance is to be read: its first item is looked for, or it has none.
+pub fn open(alloc: Global, plan: &Plan, frames: &Vec<Frame>, of: u32) -> Result<Step, Stop>
+    requires frames { AreWell plan.now frames.now.items }
+    requires within { IsInPlan plan.now of }
+    ensures { StepsFrom plan.now frames.now.items (Next.Open of) frames.now.items result }
+{
+    match plan.instance(of).form {
+        Form::Int => Ok(wants(Wanted::Int)),
+        Form::Long => Ok(wants(Wanted::Long)),
+        Form::Nat => Ok(wants(Wanted::Nat)),
+        Form::Double => Ok(wants(Wanted::Opaque { width: 8 })),
+        Form::Int128 => Ok(wants(Wanted::Opaque { width: 16 })),
+        Form::Int256 => Ok(wants(Wanted::Opaque { width: 32 })),
+        Form::Str => Ok(wants(Wanted::Text)),
+        Form::Raw => Ok(wants(Wanted::Text)),
+        Form::Flag => Ok(closes(Value::Truth)),
+        Form::Var { .. } => Ok(closes(Value::Absent)),
+        Form::Vector { boxed } => open_list(plan, frames, of, boxed),
+        Form::Boxed { .. } => open_numbered(plan, frames, of),
+        Form::Call => open_numbered(plan, frames, of),
+        Form::Bare { entry } => open_bare(alloc, plan, frames, of, entry),
+    }
+}
+
+fn wants(wanted: Wanted) -> Step
+    ensures { result ≡ Step.Stops (Found.Wants wanted) }
+{
+    Step::Stops {
+        found: Found::Wants { wanted },
+    }
+}
+
+fn closes(value: Value) -> Step
+    ensures { result ≡ Step.Goes (Next.Close value) }
+{
+    Step::Goes {
+        next: Next::Close { value },
+    }
+}
+
+// A vector: its number is looked for where it is boxed, else its count.
+fn open_list(plan: &Plan, frames: &Vec<Frame>, of: u32, boxed: bool) -> Result<Step, Stop>
+    requires frames { AreWell plan.now frames.now.items }
+    requires within { IsInPlan plan.now of }
+    requires list { IsList (type_in plan.now of) boxed }
+    ensures { StepsFrom plan.now frames.now.items (Next.Open of) frames.now.items result }
+{
+    if frames.len() >= MAX_LEVELS as usize {
+        return Err(Stop::Refused {
+            cause: Cause::TooDeep,
+        });
+    }
+    match plan.instance(of).item {
+        Some(item) => {
+            if boxed {
+                Ok(wants(Wanted::ListNumber { item }))
+            } else {
+                Ok(wants(Wanted::Count { item }))
+            }
+        }
+        None => unreachable!(),
+    }
+}
+
+// A boxed value or a call: its number is looked for.
+fn open_numbered(plan: &Plan, frames: &Vec<Frame>, of: u32) -> Result<Step, Stop>
+    requires frames { AreWell plan.now frames.now.items }
+    requires within { IsInPlan plan.now of }
+    requires numbered { IsNumbered (type_in plan.now of) }
+    ensures { StepsFrom plan.now frames.now.items (Next.Open of) frames.now.items result }
+{
+    if frames.len() >= MAX_LEVELS as usize {
+        return Err(Stop::Refused {
+            cause: Cause::TooDeep,
+        });
+    }
+    Ok(wants(Wanted::Number { of }))
+}
+
+// A bare record: its fields come next.
+fn open_bare(
+    alloc: Global,
+    plan: &Plan,
+    frames: &Vec<Frame>,
+    of: u32,
+    entry: u32,
+) -> Result<Step, Stop>
+    requires frames { AreWell plan.now frames.now.items }
+    requires within { IsInPlan plan.now of }
+    requires bare { IsBare (type_in plan.now of) entry }
+    ensures { StepsFrom plan.now frames.now.items (Next.Open of) frames.now.items result }
+{
+    if frames.len() >= MAX_LEVELS as usize {
+        return Err(Stop::Refused {
+            cause: Cause::TooDeep,
+        });
+    }
+    // Read for the proof alone: that the plan is sound.
+    let _count = plan.count();
+    let top = begin(alloc, plan, of, 0)?;
+    Ok(Step::Goes {
+        next: Next::Part { top },
+    })
+}
+
+/// A record of a member of an instance, before its first field.
+pub fn begin(alloc: Global, plan: &Plan, of: u32, member: usize) -> Result<Frame, AllocError>
+    requires within { IsInPlan plan.now of }
+    requires member { member < length (members_in plan.now of) }
+    ensures { IfOk result (IsFresh plan.now of member) }
+{
+    let count = plan.instance(of).members[member].fields.len();
+    let fields = Vec::with_capacity(alloc, count)?;
+    Ok(Frame::Record { of, member, fields })
+}

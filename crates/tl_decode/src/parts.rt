@@ -1,0 +1,97 @@
+//! The parts of a list or a record, in order.
+ghost use Rattle.std.specs.Prelude.{◌≡◌, ◌<◌, length};
+ghost use Rattle.tl_types.specs.Seen.{view, views as values};
+ghost use Rattle.tl_decode.specs.inner.Frames.{AreWell, IsWellFrame, StepsFrom, made, type_in};
+
+use crate::stack::{Frame, Next, Step, Stop};
+use tl_plan::{Form, Plan};
+use tl_types::{Value, stands};
+
+/// The next part is to be read, or the list or record is whole.
+pub fn part(plan: &Plan, frames: &mut Vec<Frame>, top: Frame) -> Result<Step, Stop>
+    requires frames { AreWell plan.now frames.old.items }
+    requires top { IsWellFrame plan.now top }
+    ensures { StepsFrom plan.now frames.old.items (Next.Part top) frames.new.items result }
+{
+    match top {
+        Frame::List { item, left, items } => element(plan, frames, item, left, items),
+        Frame::Record { of, member, fields } => field(plan, frames, of, member, fields),
+    }
+}
+
+fn element(
+    plan: &Plan,
+    frames: &mut Vec<Frame>,
+    item: u32,
+    left: u32,
+    items: Vec<Value>,
+) -> Result<Step, Stop>
+    requires frames { AreWell plan.now frames.old.items }
+    requires top { IsWellFrame plan.now (Frame.List item left items) }
+    ensures { StepsFrom plan.now frames.old.items (Next.Part (Frame.List item left items)) frames.new.items result }
+{
+    if left == 0 {
+        return Ok(Step::Goes {
+            next: Next::Close {
+                value: Value::List(items),
+            },
+        });
+    }
+    frames.push(Frame::List {
+        item,
+        left: left - 1,
+        items,
+    })?;
+    Ok(Step::Goes {
+        next: Next::Open { of: item },
+    })
+}
+
+// A field is read, or it isn't there, since its bit is clear.
+fn field(
+    plan: &Plan,
+    frames: &mut Vec<Frame>,
+    of: u32,
+    member: usize,
+    mut fields: Vec<Value>,
+) -> Result<Step, Stop>
+    requires frames { AreWell plan.now frames.old.items }
+    requires top { IsWellFrame plan.now (Frame.Record of member fields) }
+    ensures { StepsFrom plan.now frames.old.items (Next.Part (Frame.Record of member fields)) frames.new.items result }
+{
+    let instance = plan.instance(of);
+    let here = &instance.members[member];
+    let k = fields.len();
+    if k >= here.fields.len() {
+        return Ok(Step::Goes {
+            next: Next::Close {
+                value: record_of(plan, of, here.entry, fields),
+            },
+        });
+    }
+    let slot = &plan.schema().entry(here.entry).fields[k];
+    if !stands(slot.cond, &fields) {
+        fields.push(Value::Absent)?;
+        return Ok(Step::Goes {
+            next: Next::Part {
+                top: Frame::Record { of, member, fields },
+            },
+        });
+    }
+    let next = here.fields[k];
+    frames.push(Frame::Record { of, member, fields })?;
+    Ok(Step::Goes {
+        next: Next::Open { of: next },
+    })
+}
+
+// A call of a function, or a record of a constructor.
+fn record_of(plan: &Plan, of: u32, entry: u32, fields: Vec<Value>) -> Value
+    requires within { of < length plan.now.instances }
+    ensures { view result ≡ made (type_in plan.now of) entry (values fields.items) }
+{
+    match plan.instance(of).form {
+        Form::Call => Value::Call { entry, fields },
+        _ => Value::Node { entry, fields },
+    }
+}

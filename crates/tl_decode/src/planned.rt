@@ -1,0 +1,170 @@
+//! Values of a plan's roots, from a source.
+ghost use Rattle.std.specs.Prelude.{◌≡◌, ◌≤◌, ◌<◌, ◌++◌, ℕ, List, IfSome, IfOk, IsErrOf, map};
+ghost use Rattle.tl_base.specs.Using.{Used};
+ghost use Rattle.tl_schema.specs.Types.{Shape, long};
+ghost use Rattle.tl_plan.specs.PlanLaws.{IsInstance};
+ghost use Rattle.tl_types.specs.Offsets.{moved};
+ghost use Rattle.tl_types.specs.Refusal.{Refused};
+ghost use Rattle.tl_types.specs.Seen.{view};
+ghost use Rattle.tl_types.specs.Spelling.{Spells};
+ghost use Rattle.tl_types.specs.Values.{ValueView, depth};
+ghost use Rattle.tl_types.specs.declared.cause.Cause.{Cause};
+ghost use Rattle.tl_types.specs.inner.Reading.{plain_at, value_at};
+ghost use Rattle.tl_decode.specs.Decoding.{GivesFault, GivesValue};
+ghost use Rattle.tl_decode.specs.inner.Frames.{AreWell, IsFound, IsInPlan, IsStop, IsWellNext, IsWellWanted, ReadsOn, SettlesAt, found_at, found_work, item_at, item_view, next_at, next_work, type_in, views};
+ghost use Rattle.tl_decode.specs.inner.Steps.{ReadsAs};
+
+use crate::fault::DecodeFault;
+use crate::items::{double_of, word_of};
+use crate::machine::settle;
+use crate::plain::{opaque_of, string_of};
+use crate::stack::{Found, Frame, Item, Next, Stop, Wanted};
+use crate::taking::take;
+use std::alloc::Global;
+use tl_base::Source;
+use tl_plan::Plan;
+use tl_types::{MAX_LEVELS, Value};
+
+/// Reads the value of a root of a plan, and takes exactly its bytes. `at` rises by their number, up to 2^64 - 1. After a refusal the source isn't
+/// read again. Memory is taken for what was read, never for a length or a count that was only announced.
+pub fn decode<S: Source>(
+    alloc: Global,
+    plan: &Plan,
+    root: u32,
+    at: &mut u64,
+    from: &mut S,
+) -> Result<Value, DecodeFault>
+    requires root { root < plan.now.roots }
+    // What is spelled is read, and exactly its bytes are taken.
+    ensures spelled { IfSome (S.state from.old).left (λ bytes. (T : Shape) → IsInstance plan.now root T → (v : ValueView) (x rest : List ℕ) → bytes ≡ x ++ rest → Spells plan.now.schema T v x → depth v ≤ MAX_LEVELS → GivesValue result (S.state from.new).left at.old at.new v x rest) }
+    // What is refused is refused at its offset, for its cause.
+    ensures refused { IfSome (S.state from.old).left (λ bytes. (T : Shape) → IsInstance plan.now root T → (offset : ℕ) (cause : Cause) → Refused plan.now.schema MAX_LEVELS T bytes offset cause → GivesFault result (moved at.old offset) cause) }
+    ensures used { Used (S.state from.old) (S.state from.new) (IsErrOf result DecodeFault.ReadFault) }
+{
+    // Read for the proof alone: that the offset fits, and that the plan is sound.
+    let _start = *at;
+    let _count = plan.count();
+    root_of(alloc, plan, plan.root(root), at, from)
+}
+
+fn root_of<S: Source>(
+    alloc: Global,
+    plan: &Plan,
+    root: u32,
+    at: &mut u64,
+    from: &mut S,
+) -> Result<Value, DecodeFault>
+    requires within { IsInPlan plan.now root }
+    ensures read { ReadsAs view (S.state from.old).left (S.state from.new).left at.old at.new result (value_at plan.now.schema.decls MAX_LEVELS (type_in plan.now root)) }
+    ensures used { Used (S.state from.old) (S.state from.new) (IsErrOf result DecodeFault.ReadFault) }
+{
+    let mut frames = Vec::new(alloc);
+    let mut found = settle_at(alloc, plan, &mut frames, Next::Open { of: root }, *at)?;
+    'items: loop {
+        match found {
+            Found::Done { value } => return Ok(value),
+            Found::Wants { wanted } => {
+                found = one_item(alloc, plan, &mut frames, wanted, at, from)?;
+            }
+        }
+    }
+}
+
+// The item that is looked for, and all after it that needs no bytes.
+fn one_item<S: Source>(
+    alloc: Global,
+    plan: &Plan,
+    frames: &mut Vec<Frame>,
+    wanted: Wanted,
+    at: &mut u64,
+    from: &mut S,
+) -> Result<Found, DecodeFault>
+    requires frames { AreWell plan.now frames.old.items }
+    requires wanted { IsWellWanted plan.now wanted }
+    ensures found { IsFound plan.now frames.new.items result }
+    ensures read { ReadsOn (found_at plan.now (views plan.now frames.old.items) (Found.Wants wanted)) (S.state from.old).left (S.state from.new).left at.old at.new result (found_at plan.now (views plan.now frames.new.items)) }
+    ensures work { IfOk result (λ f. found_work plan.now (views plan.now frames.new.items) f < found_work plan.now (views plan.now frames.old.items) (Found.Wants wanted)) }
+    ensures used { Used (S.state from.old) (S.state from.new) (IsErrOf result DecodeFault.ReadFault) }
+{
+    let place = *at;
+    let item = item_of(alloc, wanted, at, from)?;
+    match take(alloc, plan, wanted, item) {
+        Ok(next) => settle_at(alloc, plan, frames, next, *at),
+        Err(stop) => Err(stopped(stop, place)),
+    }
+}
+
+/// Everything that needs no bytes; a refusal is one at the place.
+pub fn settle_at(
+    alloc: Global,
+    plan: &Plan,
+    frames: &mut Vec<Frame>,
+    next: Next,
+    place: u64,
+) -> Result<Found, DecodeFault>
+    requires frames { AreWell plan.now frames.old.items }
+    requires next { IsWellNext plan.now next }
+    ensures { SettlesAt plan.now (next_at plan.now (views plan.now frames.old.items) next) (next_work plan.now (views plan.now frames.old.items) next) place frames.new.items result }
+{
+    match settle(alloc, plan, frames, next) {
+        Ok(found) => Ok(found),
+        Err(stop) => Err(stopped(stop, place)),
+    }
+}
+
+/// The fault of a stop at a place.
+pub fn stopped(stop: Stop, place: u64) -> DecodeFault
+    ensures { IsStop stop place result }
+{
+    match stop {
+        Stop::Refused { cause } => DecodeFault::Refused { place, cause },
+        Stop::Memory => DecodeFault::Memory,
+    }
+}
+
+// The item that is looked for.
+fn item_of<S: Source>(
+    alloc: Global,
+    wanted: Wanted,
+    at: &mut u64,
+    from: &mut S,
+) -> Result<Item, DecodeFault>
+    ensures read { ReadsAs item_view (S.state from.old).left (S.state from.new).left at.old at.new result (item_at wanted) }
+    ensures used { Used (S.state from.old) (S.state from.new) (IsErrOf result DecodeFault.ReadFault) }
+{
+    match wanted {
+        Wanted::Long => {
+            let value = long_of(at, from)?;
+            Ok(Item::Plain { value })
+        }
+        Wanted::Opaque { width } => {
+            let value = opaque_of(alloc, width, at, from)?;
+            Ok(Item::Plain { value })
+        }
+        Wanted::Text => {
+            let value = string_of(alloc, at, from)?;
+            Ok(Item::Plain { value })
+        }
+        Wanted::Int => word_item(at, from),
+        Wanted::Nat => word_item(at, from),
+        Wanted::Number { .. } => word_item(at, from),
+        Wanted::ListNumber { .. } => word_item(at, from),
+        Wanted::Count { .. } => word_item(at, from),
+    }
+}
+
+fn word_item<S: Source>(at: &mut u64, from: &mut S) -> Result<Item, DecodeFault>
+    ensures read { ReadsAs item_view (S.state from.old).left (S.state from.new).left at.old at.new result (item_at Wanted.Nat) }
+    ensures used { Used (S.state from.old) (S.state from.new) (IsErrOf result DecodeFault.ReadFault) }
+{
+    let word = word_of(at, from)?;
+    Ok(Item::Word { word })
+}
+
+fn long_of<S: Source>(at: &mut u64, from: &mut S) -> Result<Value, DecodeFault>
+    ensures read { ReadsAs view (S.state from.old).left (S.state from.new).left at.old at.new result (plain_at long) }
+    ensures used { Used (S.state from.old) (S.state from.new) (IsErrOf result DecodeFault.ReadFault) }
+{
+    let word = double_of(at, from)?;
+    Ok(Value::Long(word.cast_signed()))
+}

@@ -1,0 +1,109 @@
+//! How far a value is read: the lists and records that were begun, and what comes next.
+use std::alloc::{AllocError, AllocFailed};
+use tl_types::{Cause, Value};
+
+/// A list or a record that was begun.
+#[derive(Drop)]
+pub enum Frame {
+    /// The instance of its elements, how many come after the one that is read, and those that are there.
+    List {
+        item: u32,
+        left: u32,
+        items: Vec<Value>,
+    },
+    /// A record or a call: its instance, the index of its member there, and the fields that are there.
+    Record {
+        of: u32,
+        member: usize,
+        fields: Vec<Value>,
+    },
+}
+
+/// The item that is looked for.
+#[derive(Clone, Copy)]
+pub enum Wanted {
+    Int,
+    Nat,
+    Long,
+    /// So many bytes.
+    Opaque { width: u64 },
+    /// A string.
+    Text,
+    /// The number of a constructor or a function, for a value of this instance.
+    Number { of: u32 },
+    /// The number of a boxed vector of elements of this instance.
+    ListNumber { item: u32 },
+    /// The count of a vector of elements of this instance.
+    Count { item: u32 },
+}
+
+/// An item: four bytes as a number, or a value.
+#[derive(Drop)]
+pub enum Item {
+    Word { word: u32 },
+    Plain { value: Value },
+}
+
+/// What is to be done next.
+#[derive(Drop)]
+pub enum Next {
+    /// A value of this instance is to be read.
+    Open { of: u32 },
+    /// The parts of the innermost list or record that are still to come are to be read.
+    Part { top: Frame },
+    /// A value is there.
+    Close { value: Value },
+    /// The count of a vector of elements of this instance is to be read.
+    Begin { item: u32 },
+}
+
+/// Where nothing goes on without bytes.
+#[derive(Drop)]
+pub enum Found {
+    Wants { wanted: Wanted },
+    Done { value: Value },
+}
+
+#[derive(Drop)]
+pub enum Step {
+    Goes { next: Next },
+    Stops { found: Found },
+}
+
+/// What came of a piece.
+#[derive(Clone, Copy, Debug, PartialEq, Eq)]
+pub enum Fed {
+    /// The value isn't whole yet; all of the piece is taken.
+    More,
+    /// The value is there. It ends after so many bytes of the piece.
+    Done { used: usize },
+}
+
+/// Why reading doesn't go on.
+pub enum Stop {
+    /// The bytes are refused at the item that is looked for.
+    Refused { cause: Cause },
+    Memory,
+}
+
+impl From<AllocError> for Stop {
+    ghost use Rattle.std.specs.Prelude.{◌≡◌};
+    ghost use Rattle.tl_decode.specs.declared.stack.Stop.TheVariants.{Memory};
+
+    ghost from_gives = { λ _ e. e ≡ Memory };
+
+    fn from(_e: AllocError) -> Stop {
+        Stop::Memory
+    }
+}
+
+impl<T: Drop> From<AllocFailed<T>> for Stop {
+    ghost use Rattle.std.specs.Prelude.{◌≡◌};
+    ghost use Rattle.tl_decode.specs.declared.stack.Stop.TheVariants.{Memory};
+
+    ghost from_gives = { λ _ e. e ≡ Memory };
+
+    fn from(_e: AllocFailed<T>) -> Stop {
+        Stop::Memory
+    }
+}
