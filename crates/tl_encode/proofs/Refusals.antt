@@ -4,6 +4,7 @@ use Rattle.tl_types.specs.Fitting.{MisfitView, TellsMisfit}
 use Rattle.tl_types.specs.declared.misfit.FitFault.{FitFault}
 use Rattle.tl_types.specs.declared.misfit.FitFault.TheVariants as fit
 use Rattle.tl_encode.specs.Encoding.{WritesSpelling, as_encode_fault}
+use Rattle.tl_encode.specs.inner.Walks.{GivesBytes}
 
 never_told : {P : Type 0} (m : Option MisfitView) (n : MisfitView) → m ≡ None → m ≡ Some n → P
 never_told m n none some = absurd cc
@@ -11,3 +12,7 @@ never_told m n none some = absurd cc
 pub only_memory : (m : Option MisfitView) (fault : FitFault) (old new : Option (List ℕ)) (spelling : List ℕ) → m ≡ None → TellsMisfit m (Err fault) → WritesSpelling old new spelling (Err (as_encode_fault fault))
 only_memory m (fit.Misfit told) old new spelling none tells = never_told m (told.path.items, told.cause) none tells
 only_memory m fit.Memory old new spelling none tells = tt
+
+pub only_memory_given : (m : Option MisfitView) (bytes : List ℕ) (fault : FitFault) (old new : Option (List ℕ)) (spelling : List ℕ) → m ≡ None → GivesBytes m bytes (Err fault) → WritesSpelling old new spelling (Err (as_encode_fault fault))
+only_memory_given m bytes (fit.Misfit told) old new spelling none gives = never_told m (told.path.items, told.cause) none gives
+only_memory_given m bytes fit.Memory old new spelling none gives = tt
