@@ -1,5 +1,5 @@
 //! Values by a plan, on an explicit stack.
-ghost use Rattle.std.specs.Prelude.{◌≡◌, ◌≤◌, ◌<◌, ℕ, List, None, IfSome, IsErrOf, length};
+ghost use Rattle.std.specs.Prelude.{◌≡◌, ◌≤◌, ◌<◌, ℕ, List, None, IfOk, IfSome, IsErrOf, length};
 ghost use Rattle.tl_base.specs.Using.{WritesOnly, Wrote};
 ghost use Rattle.tl_schema.specs.Types.{Shape};
 ghost use Rattle.tl_plan.specs.PlanLaws.{IsInstance};
@@ -8,7 +8,7 @@ ghost use Rattle.tl_types.specs.Seen.{view};
 ghost use Rattle.tl_types.specs.Spelling.{Spells};
 ghost use Rattle.tl_types.specs.Values.{depth};
 ghost use Rattle.tl_types.specs.declared.value.TheConstants as limits;
-ghost use Rattle.tl_encode.specs.Encoding.{AnswersMisfit, KeepsSink, WritesSpelling};
+ghost use Rattle.tl_encode.specs.Encoding.{AnswersMisfit, KeepsSink, TellsFit, WritesSpelling};
 ghost use Rattle.tl_encode.specs.Lengths.{FitsInstance, IsSpelledLength};
 ghost use Rattle.tl_encode.specs.inner.Bytes.{spelling};
 ghost use Rattle.tl_encode.specs.inner.Frames.{EachIsCounted, HasPlaces, frames_of};
@@ -45,6 +45,20 @@ pub fn encode<K: Sink>(
 {
     let bytes = bytes_of(alloc, plan, plan.root(root), value)?;
     write_bytes(&bytes, to)
+}
+
+/// The spelling of a value of a root's type, for a caller that wants the bytes in memory.
+pub fn spelling_of(
+    alloc: Global,
+    plan: &Plan,
+    root: u32,
+    value: &Value,
+) -> Result<Vec<u8>, FitFault>
+    requires root { root < plan.now.roots }
+    ensures spelled { (T : Shape) (spelling : List ℕ) → IsInstance plan.now root T → Spells plan.now.schema T (view value.now) spelling → IfOk result (λ bytes. bytes.items ≡ spelling) }
+    ensures fits { (T : Shape) → IsInstance plan.now root T → TellsFit (misfit plan.now.schema.decls limits.MAX_LEVELS None T (view value.now)) result }
+{
+    bytes_of(alloc, plan, plan.root(root), value)
 }
 
 /// The length of the spelling of a value of a root's type, up to 2^64 - 1. It takes no memory.
