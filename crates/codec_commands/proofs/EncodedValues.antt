@@ -1,5 +1,5 @@
 -- What `encode` makes of its input.
-use Rattle.std.proofs.Common.{◌≡◌, ℕ, List, Option, None, Result, Ok, Err, Vec, Global, refl, ap}
+use Rattle.std.proofs.Common.{◌≡◌, ℕ, ◌<◌, List, [], ◌∷◌, Option, Some, None, Result, Ok, Err, Vec, Global, refl, sym, ap, subst, arith}
 use Rattle.std.specs.Prelude.{IsErrAnd, IsErrOf}
 use Rattle.tl_base.specs.Outside.{View}
 use Rattle.tl_base.specs.Calls.{Told}
@@ -7,6 +7,16 @@ use Rattle.tl_schema.specs.Types.{Shape}
 use Rattle.tl_schema.specs.Schemas.{Declared}
 use Rattle.tl_schema.specs.AskedTypes.{IsTypeText}
 use Rattle.tl_schema.specs.Formed.{IsFormed}
+use Rattle.tl_plan.specs.Plans.{PlanView, answer}
+use Rattle.tl_plan.specs.PlanLaws.{IsInstance}
+use Rattle.tl_plan.proofs.RootFacts.{roots_have_instances}
+use Rattle.tl_types.specs.Fitting.{MisfitView}
+use Rattle.tl_types.specs.Fitting.{misfit as misfit_of}
+use Rattle.tl_types.specs.declared.misfit.Misfit.{Misfit}
+use Rattle.tl_types.specs.declared.misfit.FitFault.{FitFault}
+use Rattle.tl_types.specs.declared.misfit.FitFault.TheVariants as fit
+use Rattle.tl_encode.specs.Encoding.{TellsFit}
+use Rattle.tl_types.specs.Values.{ValueView}
 use Rattle.tl_types.specs.Seen.{view}
 use Rattle.tl_types.specs.Spelling.{Spells}
 use Rattle.tl_types.specs.declared.value.Value.{Value}
@@ -33,6 +43,31 @@ read_stop e (Ok bytes) is failed = absurd is
 read_stop (json.Refused cause) (Err z) is failed = absurd cc
 read_stop json.ReadFault (Err z) is failed = refl
 read_stop json.Memory (Err z) is failed = absurd cc
+
+never_told : (m : Option MisfitView) (n : MisfitView) → m ≡ None → m ≡ Some n → ⊥
+never_told m n none some = absurd cc
+
+-- of a value without a misfit none is told
+pub never_misfit : (m : Option MisfitView) (fault : FitFault) (told : Misfit) → TellsFit m (Err fault) → fault ≡ fit.Misfit told → m ≡ None → ⊥
+never_misfit m fault told tells is none = never_told m (told.path.items, told.cause) none (subst (λ (e : FitFault). TellsFit m (Err e)) is tells)
+
+-- the plan of a type is one of the schema, and its root is an instance of the type
+pub planned : (schema : Declared) (T : Shape) (p : PlanView) → answer schema (T ∷ []) ≡ Ok p → (p.schema ≡ schema) × (0 < p.roots) × IsInstance p 0 T
+planned schema T p is = let of = roots_have_instances schema (T ∷ []) p (sym is) in (of.schema, omega (arith, of.count), of.roots 0 T refl)
+
+-- what fits a type of the schema fits it in the plan's
+pub fits_planned : (schema : Declared) (T : Shape) (p : PlanView) (v : ValueView) → answer schema (T ∷ []) ≡ Ok p → misfit_of schema.decls MAX_LEVELS None T v ≡ None
+    → (U : Shape) × IsInstance p 0 U × (misfit_of p.schema.decls MAX_LEVELS None U v ≡ None)
+fits_planned schema T p v is fits =
+    let of = planned schema T p is in
+    (T, of.2, subst (λ (S : Declared). misfit_of S.decls MAX_LEVELS None T v ≡ None) (sym of.0) fits)
+
+-- each spelling by the schema is one by the plan
+pub spelled_planned : {P : List ℕ → Type 0} (schema : Declared) (T : Shape) (p : PlanView) (v : ValueView) → answer schema (T ∷ []) ≡ Ok p
+    → ((U : Shape) (b : List ℕ) → IsInstance p 0 U → Spells p.schema U v b → P b) → (b : List ℕ) → Spells schema T v b → P b
+spelled_planned schema T p v is given b spells =
+    let of = planned schema T p is in
+    given T b of.2 (subst (λ (S : Declared). Spells S T v b) (sym of.0) spells)
 
 module _ (s t i : List ℕ) (schema : Declared) (T : Shape) (means : IsTypeText schema.program t T) (planned : HasPlan schema T) where
   pub input_stops : (e : JsonFault) (v u w : View) → LoadsSchema s (Ok schema) v u → LoadsJson schema T i (Err e) u w → MakesOutput (encode_job s t i) (codec_making (of_json e)) v w

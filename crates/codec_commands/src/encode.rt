@@ -1,13 +1,16 @@
 //! `encode`: schema, type and input are loaded, and the spelling of the value is written.
-ghost use Rattle.std.specs.Prelude.{◌≡◌, ℕ, List, IfOk, IsErrOf};
+ghost use Rattle.std.specs.Prelude.{◌≡◌, ◌<◌, ℕ, List, None, IfOk, IsErrOf};
 ghost use Rattle.tl_base.specs.Calls.{Told};
 ghost use Rattle.tl_base.specs.Using.{MeetsFaults};
 ghost use Rattle.tl_base.specs.declared.counts.Kind.TheVariants as kinds;
 ghost use Rattle.command_base.specs.Jobs.{MakesOutput, Works, making};
 ghost use Rattle.command_base.specs.Sound.{Answered, Fits, MeetsBothFaults};
-ghost use Rattle.tl_schema.specs.Seen.{shape};
+ghost use Rattle.tl_schema.specs.Types.{Shape};
+ghost use Rattle.tl_plan.specs.PlanLaws.{IsInstance};
+ghost use Rattle.tl_types.specs.Fitting.{misfit};
 ghost use Rattle.tl_types.specs.Seen.{view};
 ghost use Rattle.tl_types.specs.Spelling.{Spells};
+ghost use Rattle.tl_types.specs.declared.value.TheConstants.{MAX_LEVELS};
 ghost use Rattle.codec_commands.specs.Encode.{encode_job};
 ghost use Rattle.codec_commands.specs.Faults.{of_codec};
 
@@ -19,22 +22,21 @@ use crate::type_word::type_named;
 use command_base::{Stop, Unmade, write_made};
 use std::alloc::{AllocError, Global};
 use tl_base::Host;
-use tl_encode::spell;
-use tl_schema::{Schema, TypeRef};
-use tl_types::Value;
+use tl_encode::spelling_of;
+use tl_plan::Plan;
+use tl_types::{FitFault, Value};
 
-// The spelling of a value that has one.
-fn spelling_of(
-    alloc: Global,
-    schema: &Schema,
-    of: &TypeRef,
-    value: &Value,
-) -> Result<Vec<u8>, AllocError>
-    ensures { (b : List ℕ) → Spells schema.now (shape of.now) (view value.now) b → IfOk result (λ bytes. bytes.items ≡ b) }
+// The spelling of a value that fits the plan's type.
+fn fitting_spelling(alloc: Global, plan: &Plan, value: &Value) -> Result<Vec<u8>, AllocError>
+    requires root { 0 < plan.now.roots }
+    requires fits { (T : Shape) × IsInstance plan.now 0 T × (misfit plan.now.schema.decls MAX_LEVELS None T (view value.now) ≡ None) }
+    ensures { (T : Shape) (b : List ℕ) → IsInstance plan.now 0 T → Spells plan.now.schema T (view value.now) b → IfOk result (λ bytes. bytes.items ≡ b) }
 {
-    let mut bytes = Vec::new(alloc);
-    spell(alloc, value, schema, of, &mut bytes)?;
-    Ok(bytes)
+    match spelling_of(alloc, plan, 0, value) {
+        Ok(bytes) => Ok(bytes),
+        Err(FitFault::Misfit(_)) => unreachable!(),
+        Err(FitFault::Memory) => Err(AllocError),
+    }
 }
 
 // The spelling of the value that the input's JSON is.
@@ -50,9 +52,9 @@ fn encoded_value<H: Host>(
 {
     let schema = load_schema(alloc, host, schema)?;
     let of = type_named(alloc, &schema, of)?;
-    let _plan = plan_of(alloc, &schema, &of)?;
+    let plan = plan_of(alloc, &schema, &of)?;
     let value = load_json(alloc, host, &schema, &of, input)?;
-    let bytes = spelling_of(alloc, &schema, &of, &value)?;
+    let bytes = fitting_spelling(alloc, &plan, &value)?;
     Ok(bytes)
 }
 

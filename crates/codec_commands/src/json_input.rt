@@ -1,10 +1,13 @@
 //! The input's value, from its JSON.
-ghost use Rattle.std.specs.Prelude.{IsErrOf};
+ghost use Rattle.std.specs.Prelude.{◌≡◌, None, IfOk, IsErrOf};
 ghost use Rattle.tl_base.specs.Calls.{Told};
 ghost use Rattle.tl_base.specs.Outside.{IsThere};
 ghost use Rattle.tl_base.specs.Using.{MeetsFaults};
 ghost use Rattle.tl_base.specs.declared.counts.Kind.TheVariants as kinds;
 ghost use Rattle.tl_schema.specs.Seen.{shape};
+ghost use Rattle.tl_types.specs.Fitting.{misfit};
+ghost use Rattle.tl_types.specs.Seen.{view};
+ghost use Rattle.tl_types.specs.declared.value.TheConstants.{MAX_LEVELS};
 ghost use Rattle.codec_commands.specs.JsonInput.{ReadsJson};
 ghost use Rattle.codec_commands.specs.Parts.{LoadsJson};
 
@@ -140,6 +143,7 @@ pub fn load_json<H: Host>(
     name: &str,
 ) -> Result<Value, JsonFault>
     ensures loads { Told (H.state host.old).view (H.state host.new).view (LoadsJson schema.now (shape of.now) name.now result) }
+    ensures fits { IfOk result (λ value. misfit schema.now.decls MAX_LEVELS None (shape of.now) (view value) ≡ None) }
     ensures faults { MeetsFaults kinds.Reads (H.state host.old) (H.state host.new) (IsErrOf result JsonFault.ReadFault) (IsThere name.now) }
 {
     let text = read_file(alloc, host, Slot::Input, name, JSON_BYTES)?;

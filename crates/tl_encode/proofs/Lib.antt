@@ -3,6 +3,15 @@ pub mod Joins
 pub mod Elements
 pub mod Declared
 pub mod Fields
+pub mod Spelled
 pub mod OneSpelling
 pub mod ReadBack
 pub mod Refusals
+pub mod ByForm
+pub mod Tops
+pub mod NextParts
+pub mod GoingOn
+pub mod Opened
+pub mod Named
+pub mod Entering
+pub mod Walking

@@ -1,5 +1,6 @@
 -- What encoding answers, and what it writes: the spelling of a value, or nothing where the value doesn't fit its type. This project's own.
-use Rattle.std.specs.Prelude.{◌≡◌, ℕ, List, length, Option, Result, Ok, Err}
+use Rattle.std.specs.Prelude.{◌≡◌, ℕ, List, length, Option, Some, None, Vec, Result, Ok, Err}
+use Rattle.std.specs.declared.alloc.Global.{Global}
 use Rattle.std.specs.Io.KnownBytes.{Appends}
 use Rattle.tl_base.specs.Writing.{AppendsPrefix}
 use Rattle.tl_types.specs.Fitting.{MisfitView}
@@ -28,6 +29,12 @@ KeepsSink old new (Ok count) = Unit {0}
 KeepsSink old new (Err (Misfit told)) = new ≡ old
 KeepsSink old new (Err WriteFault) = Unit {0}
 KeepsSink old new (Err Memory) = new ≡ old
+
+-- Bytes are given where the value has no misfit, and otherwise the misfit is told. Out of memory is free here.
+abbrev pub TellsFit : Option MisfitView → Result (Vec ℕ Global) FitFault → Type 0
+TellsFit m (Ok bytes) = m ≡ None
+TellsFit m (Err (fit.Misfit told)) = m ≡ Some (told.path.items, told.cause)
+TellsFit m (Err fit.Memory) = Unit {0}
 
 -- why a value doesn't fit, as a fault of encoding
 abbrev pub as_encode_fault : FitFault → EncodeFault

@@ -20,6 +20,16 @@ pub fn put_text(text: &[u8], out: &mut Vec<u8>) -> Result<(), AllocError>
     put_zeros(missing_of(head_bytes(count) + count), out)
 }
 
+/// How many bytes a string of fewer than 2^24 bytes takes.
+pub fn text_len(text: &[u8]) -> u64
+    requires { length text.now < 2 ^ 24 }
+    ensures { result ≡ length (text_bytes text.now) }
+{
+    let count = text.len() as u32;
+    let bytes = head_bytes(count) + count;
+    (bytes + missing_of(bytes)) as u64
+}
+
 // How many bytes the head of a string of so many bytes has.
 fn head_bytes(count: u32) -> u32
     ensures { result ≡ length (text_head count) }

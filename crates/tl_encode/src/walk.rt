@@ -11,8 +11,9 @@ ghost use Rattle.tl_encode.specs.Encoding.{AnswersMisfit, KeepsSink, WritesSpell
 
 use crate::fault::EncodeFault;
 use crate::spelling::spell;
+use crate::writing::write_bytes;
 use std::alloc::Global;
-use tl_base::{Sink, write_all};
+use tl_base::Sink;
 use tl_schema::{Schema, TypeRef};
 use tl_types::{MAX_LEVELS, Value, fits};
 
@@ -55,6 +56,5 @@ fn write_spelling<K: Sink>(
 {
     let mut bytes = Vec::new(alloc);
     spell(alloc, value, schema, of, &mut bytes)?;
-    write_all(to, &bytes)?;
-    Ok(bytes.len() as u64)
+    write_bytes(&bytes, to)
 }

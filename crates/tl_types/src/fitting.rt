@@ -116,8 +116,8 @@ fn field_fits(
     value_fits(alloc, value, schema, levels, bit, &closed)
 }
 
-// The bit that a field with this condition stands by, after fields with these values.
-fn bit_of(cond: Option<(u32, u32)>, before: &[Value]) -> Option<bool>
+/// The bit that a field with this condition stands by, after fields with these values.
+pub fn bit_of(cond: Option<(u32, u32)>, before: &[Value]) -> Option<bool>
     ensures { result ≡ bit_of cond (map view before.now) }
 {
     if cond.is_none() {

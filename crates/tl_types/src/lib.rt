@@ -14,9 +14,10 @@ mod value;
 pub use cause::Cause;
 pub use closing::close;
 pub use conditions::stands;
-pub use fitting::fits;
+pub use fitting::{bit_of, fits};
 pub use laws::{each_input_is_spelled_or_refused, each_value_fits_or_is_a_misfit};
 pub use misfit::{FitFault, Misfit, MisfitCause};
+pub use nodes::{constructs, has_flag, has_level, is_called, is_in_range};
 pub use parts::{arguments_of, is_absent, item_of, slots_of};
 pub use tl_schema::{
     CheckCause, CheckFault, Entry, Schema, SchemaField, TypeCause, TypeFault, TypeRef, check,

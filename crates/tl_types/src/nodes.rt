@@ -87,15 +87,15 @@ fn is_constructor(schema: &Schema, of: &TypeRef, entry: u32) -> bool
     }
 }
 
-// Whether the declaration is there and constructs the type with this number.
-fn constructs(schema: &Schema, head: u32, entry: u32) -> bool
+/// Whether the declaration is there and constructs the type with this number.
+pub fn constructs(schema: &Schema, head: u32, entry: u32) -> bool
     ensures { result ≡ constructs head (slice_get schema.now.decls entry) }
 {
     entry < schema.count() && schema.entry(entry).head == head
 }
 
-// Whether the declaration is there and is a function.
-fn is_called(schema: &Schema, entry: u32) -> bool
+/// Whether the declaration is there and is a function.
+pub fn is_called(schema: &Schema, entry: u32) -> bool
     ensures { result ≡ is_called (slice_get schema.now.decls entry) }
 {
     entry < schema.count() && schema.entry(entry).function
@@ -125,8 +125,8 @@ fn has_width(of: &TypeRef, count: usize) -> bool
     }
 }
 
-// Whether a value that stands by a bit is there exactly where it is set.
-fn has_flag(value: &Value, bit: Option<bool>) -> bool
+/// Whether a value that stands by a bit is there exactly where it is set.
+pub fn has_flag(value: &Value, bit: Option<bool>) -> bool
     ensures { result ≡ has_flag bit (view value.now) }
 {
     match bit {
@@ -136,8 +136,8 @@ fn has_flag(value: &Value, bit: Option<bool>) -> bool
     }
 }
 
-// Whether a number is in range, and a string or a list short enough.
-fn is_in_range(value: &Value) -> bool
+/// Whether a number is in range, and a string or a list short enough.
+pub fn is_in_range(value: &Value) -> bool
     ensures { result ≡ is_in_range (view value.now) }
 {
     match value {
@@ -171,8 +171,8 @@ fn is_nat(_number: u32) -> bool
     true
 }
 
-// Whether there is a level for the value, with so many left.
-fn has_level(value: &Value, levels: u32) -> bool
+/// Whether there is a level for the value, with so many left.
+pub fn has_level(value: &Value, levels: u32) -> bool
     ensures { result ≡ has_level levels (view value.now) }
 {
     levels > 0 || !is_deep(value)

@@ -1,0 +1,108 @@
+-- What is left of a walk, before and after its next part.
+use Rattle.std.proofs.Common.{◌≡◌, ℕ, ◌+◌, ◌-◌, ◌<◌, ◌≤◌, List, [], ◌∷◌, ◌++◌, append_assoc, length, map, reverse, Option, Some, None, nat_lt, refl, sym, ap, ◌∙◌, subst, arith, ltb-true, ltb-false}
+use Rattle.std.proofs.lemmas.List.{reverse-append, map_push}
+use Rattle.tl_plan.specs.Plans.{PlanView}
+use Rattle.tl_types.specs.Fitting.{MisfitView, inside, or_else}
+use Rattle.tl_types.specs.Fitting.{misfit as misfit_of}
+use Rattle.tl_types.specs.Seen.{view}
+use Rattle.tl_types.proofs.Members.{by_test}
+use Rattle.tl_encode.specs.declared.frames.Frame.{Frame}
+use Rattle.tl_encode.specs.declared.frames.Part.{Part}
+use Rattle.tl_encode.specs.inner.Frames.{EachIsCounted, IsCounted, after, first_of, path_of, rested, stepped}
+use Rattle.tl_encode.specs.inner.Walks.{AreOfPlan, GoesOn, HasInstances, IsNextPart, bytes_left, frame_bytes, frame_misfit, levels_in, misfit_left, part_type, under, weight_left}
+use Rattle.tl_encode.proofs.NextParts.{no_bytes_left, none_left}
+
+-- ---- paths
+
+pub path_more : (f : Frame) (fs : List Frame) → path_of (after f ∷ fs) ≡ path_of fs ++ f.at ∷ []
+path_more f fs =
+    let i : f.at + 1 - 1 ≡ f.at = omega arith in
+    ap (map (λ (g : Frame). g.at - 1)) (reverse-append (after f ∷ []) fs) ∙ map_push (λ (g : Frame). g.at - 1) (reverse fs) (after f) ∙ ap (λ (k : ℕ). path_of fs ++ k ∷ []) i
+
+pub under_first : (path : List ℕ) (i : ℕ) (m rest later : Option MisfitView) → or_else (under path (or_else (inside i m) rest)) later ≡ or_else (under (path ++ i ∷ []) m) (or_else (under path rest) later)
+under_first path i None rest later = refl
+under_first path i (Some m) rest later = ap (λ (q : List ℕ). Some (q, m.1)) (sym (append_assoc path (i ∷ []) m.0))
+
+-- ---- frames with no part left are passed over
+
+-- what holds of the frames that are left: they begin with one that has a part, or there is none
+abbrev IsRested : List Frame → Type 0
+IsRested [] = Unit {0}
+IsRested (f ∷ fs) = f.at < length f.values.now
+
+rested_is : (fs : List Frame) → IsRested (rested fs)
+rested_is [] = tt
+rested_is (f ∷ fs) = by_test (nat_lt f.at (length f.values.now)) (λ some. rw some (ltb-true f.at (length f.values.now) some)) (λ none. rw none (rested_is fs))
+
+pub rested_counted : (fs : List Frame) → EachIsCounted fs → EachIsCounted (rested fs)
+rested_counted [] all = tt
+rested_counted (f ∷ fs) all = by_test (nat_lt f.at (length f.values.now)) (λ some. rw some all) (λ none. rw none (rested_counted fs all.1))
+
+pub stepped_counted : (fs : List Frame) → EachIsCounted fs → EachIsCounted (stepped fs)
+stepped_counted [] all = tt
+stepped_counted (f ∷ fs) all = all
+
+rested_weight : (fs : List Frame) → weight_left (rested fs) ≤ weight_left fs
+rested_weight [] = omega arith
+rested_weight (f ∷ fs) = by_test (nat_lt f.at (length f.values.now)) (λ some. rw some (omega arith)) (λ none. rw none (let rest = rested_weight fs in omega (arith, rest)))
+
+-- the first frame of those has a part left
+pub first_has : (fs : List Frame) (f : Frame) → first_of (rested fs) ≡ Some f → EachIsCounted fs → (f.at < length f.values.now) × IsCounted f
+first_has fs f is counted = has (rested fs) is (rested_is fs) (rested_counted fs counted)
+  where
+    has : (gs : List Frame) → first_of gs ≡ Some f → IsRested gs → EachIsCounted gs → (f.at < length f.values.now) × IsCounted f
+    has [] is here all = absurd cc
+    has (g ∷ gs) is here all = let same : g ≡ f = cc in (subst (λ (x : Frame). x.at < length x.values.now) same here, subst IsCounted same all.0)
+
+module _ (p : PlanView) where
+  rested_plan : (fs : List Frame) → AreOfPlan p fs → AreOfPlan p (rested fs)
+  rested_plan [] all = tt
+  rested_plan (f ∷ fs) all = by_test (nat_lt f.at (length f.values.now)) (λ some. rw some all) (λ none. rw none (rested_plan fs all.1))
+
+  rested_misfit : (fs : List Frame) → misfit_left p fs ≡ misfit_left p (rested fs)
+  rested_misfit [] = refl
+  rested_misfit (f ∷ fs) =
+      by_test (nat_lt f.at (length f.values.now)) (λ some. rw some refl)
+      (λ none. rw none (ap (λ (m : Option MisfitView). or_else (under (path_of fs) m) (misfit_left p fs)) (none_left p (levels_in (f ∷ fs)) f.parts f.values.now f.at (ltb-false f.at (length f.values.now) none)) ∙ rested_misfit fs))
+
+  rested_bytes : (fs : List Frame) → bytes_left p fs ≡ bytes_left p (rested fs)
+  rested_bytes [] = refl
+  rested_bytes (f ∷ fs) =
+      by_test (nat_lt f.at (length f.values.now)) (λ some. rw some refl)
+      (λ none. rw none (ap (λ (b : List ℕ). b ++ bytes_left p fs) (no_bytes_left p f.parts f.values.now f.at (ltb-false f.at (length f.values.now) none)) ∙ rested_bytes fs))
+
+  -- ---- the next part
+
+  ended : (fs gs : List Frame) → first_of gs ≡ None → misfit_left p fs ≡ misfit_left p gs → bytes_left p fs ≡ bytes_left p gs → AreOfPlan p gs → GoesOn p fs (stepped gs) None
+  ended fs [] is misfit bytes all = record { frames = tt; part = tt; misfit = misfit; bytes = bytes; less = omega arith }
+  ended fs (g ∷ gs) is misfit bytes all = absurd cc
+
+  next : (fs gs : List Frame) (f : Frame) (x : Part) → first_of gs ≡ Some f → IsNextPart p f x → misfit_left p fs ≡ misfit_left p gs → bytes_left p fs ≡ bytes_left p gs → weight_left gs ≤ weight_left fs
+      → AreOfPlan p gs → GoesOn p fs (stepped gs) (Some x)
+  next fs [] f x is part misfit bytes less all = absurd cc
+  next fs (g ∷ gs) f x is part misfit bytes less all =
+      let same : f ≡ g = cc in
+      let own = subst (λ (h : Frame). IsNextPart p h x) same part in
+      let m = misfit_of p.schema.decls (levels_in (g ∷ gs)) x.bit (part_type p x) (view x.value.now) in
+      record {
+        frames = all;
+        part = own.instance;
+        misfit = misfit ∙ ap (λ (m : Option MisfitView). or_else (under (path_of gs) m) (misfit_left p gs)) (own.misfit (levels_in (g ∷ gs)))
+            ∙ under_first (path_of gs) g.at m (frame_misfit p (levels_in (g ∷ gs)) (after g)) (misfit_left p gs)
+            ∙ ap (λ (path : List ℕ). or_else (under path m) (or_else (under (path_of gs) (frame_misfit p (levels_in (g ∷ gs)) (after g))) (misfit_left p gs))) (sym (path_more g gs));
+        bytes = bytes ∙ ap (λ (b : List ℕ). b ++ bytes_left p gs) own.bytes ∙ append_assoc _ (frame_bytes p (after g)) (bytes_left p gs);
+        less = omega (arith, own.weight, less);
+      }
+
+  pub goes_none : (fs new : List Frame) (r : Option Part) → first_of (rested fs) ≡ None → new ≡ stepped (rested fs) → r ≡ None → AreOfPlan p fs → GoesOn p fs new r
+  goes_none fs new r is stepped_is none all = rw (stepped_is, none) (ended fs (rested fs) is (rested_misfit fs) (rested_bytes fs) (rested_plan fs all))
+
+  -- the first frame's instances are the plan's
+  first_plan : (gs : List Frame) (f : Frame) → first_of gs ≡ Some f → AreOfPlan p gs → HasInstances p f.parts
+  first_plan [] f is all = absurd cc
+  first_plan (g ∷ gs) f is all = let same : g ≡ f = cc in subst (λ (h : Frame). HasInstances p h.parts) same all.0
+
+  pub goes_some : (fs new : List Frame) (f : Frame) (x : Part) → first_of (rested fs) ≡ Some f → new ≡ stepped (rested fs) → (HasInstances p f.parts → IsNextPart p f x) → AreOfPlan p fs → GoesOn p fs new (Some x)
+  goes_some fs new f x is stepped_is part all =
+      let rest = rested_plan fs all in
+      rw stepped_is (next fs (rested fs) f x is (part (first_plan (rested fs) f is rest)) (rested_misfit fs) (rested_bytes fs) (rested_weight fs) rest)

@@ -1,0 +1,6 @@
+-- What inner clauses cite; a reader of the contracts needs none of it.
+pub mod Bytes
+pub mod Forms
+pub mod Frames
+pub mod Walks
+pub mod Openings

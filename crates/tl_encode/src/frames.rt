@@ -1,0 +1,160 @@
+//! The lists, records and calls that a walk over a value stands in.
+ghost use Rattle.std.specs.Prelude.{◌≡◌, ◌<◌, ◌-◌, [], ◌∷◌, length, true, IfOk};
+ghost use Rattle.std.specs.Prelude.{nat_lt};
+ghost use Rattle.tl_plan.specs.Plans.{PlanView};
+ghost use Rattle.tl_types.specs.declared.value.TheConstants.{MAX_LEVELS};
+ghost use Rattle.tl_encode.specs.inner.Frames.{AreCounted, EachIsCounted, HasPlaces, IsCounted, first_of, frames_of, path_of, rested, stepped};
+ghost use Rattle.tl_encode.specs.inner.Walks.{AreOfPlan, GoesOn, HasInstances, IsNextPart};
+
+use std::alloc::{AllocError, Global};
+use tl_schema::SchemaField;
+use tl_types::{MAX_LEVELS, Value, bit_of};
+
+/// A part of a value, or the whole.
+#[derive(Clone, Copy)]
+pub struct Part<'a> {
+    pub value: &'a Value,
+    /// The instance of its type.
+    pub of: u32,
+    /// The bit that it stands by, or none.
+    pub bit: Option<bool>,
+}
+
+/// The instances of a value's parts.
+#[derive(Clone, Copy)]
+pub enum Parts<'a> {
+    /// Of a list: all of one instance.
+    Elements {
+        of: u32,
+    },
+    /// Of a record or call: an instance for each field, and its declaration.
+    Fields {
+        of: &'a [u32],
+        slots: &'a [SchemaField],
+    },
+}
+
+/// The parts of a list, record or call; those before the index `at` were walked.
+#[derive(Clone, Copy)]
+pub struct Frame<'a> {
+    pub values: &'a [Value],
+    pub parts: Parts<'a>,
+    pub at: u32,
+}
+
+// The part at the frame's index.
+fn part_of<'a>(frame: Frame<'a>) -> Part<'a>
+    requires left { frame.at < length frame.values.now }
+    requires counted { AreCounted frame.parts frame.values.now }
+    ensures { (p : PlanView) → HasInstances p frame.entry.parts → IsNextPart p frame.entry result }
+{
+    let at = frame.at as usize;
+    let value = &frame.values[at];
+    match frame.parts {
+        Parts::Elements { of } => Part {
+            value,
+            of,
+            bit: None,
+        },
+        Parts::Fields { of, slots } => Part {
+            value,
+            of: of[at],
+            bit: bit_of(slots[at].cond, &frame.values[..at]),
+        },
+    }
+}
+
+// The most frames.
+const PLACES: usize = MAX_LEVELS as usize;
+
+/// The frames that a walk stands in, each inside the one before it.
+#[derive(Drop)]
+pub struct Stack<'a> {
+    frames: [Frame<'a>; PLACES],
+    height: usize,
+}
+
+impl<'a> Stack<'a> {
+    /// No frames.
+    pub fn new() -> Stack<'a>
+        ensures frames { frames_of result ≡ [] }
+        ensures places { HasPlaces result }
+    {
+        let frame = Frame {
+            values: &[],
+            parts: Parts::Elements { of: 0 },
+            at: 0,
+        };
+        Stack {
+            frames: [frame; PLACES],
+            height: 0,
+        }
+    }
+
+    /// How many levels are left for what stands in these frames.
+    pub fn levels(&self) -> u32
+        requires places { HasPlaces self.now }
+        ensures { result ≡ MAX_LEVELS - length (frames_of self.now) }
+    {
+        MAX_LEVELS - self.height as u32
+    }
+
+    /// The indices of the parts that were walked last, the outermost first.
+    pub fn path(&self, alloc: Global) -> Result<Vec<u32>, AllocError>
+        requires places { HasPlaces self.now }
+        ensures { IfOk result (λ path. path.items ≡ path_of (frames_of self.now)) }
+    {
+        let mut path = Vec::new(alloc);
+        for frame in &self.frames[..self.height] {
+            path.push(frame.at.saturating_sub(1))?;
+        }
+        Ok(path)
+    }
+
+    /// One frame more.
+    pub fn push(&mut self, frame: Frame<'a>)
+        requires places { HasPlaces self.old }
+        requires few { length (frames_of self.old) < MAX_LEVELS }
+        ensures frames { frames_of self.new ≡ frame.entry ∷ frames_of self.old }
+        ensures places { HasPlaces self.new }
+    {
+        let height = self.height;
+        let frames = &mut self.frames[..];
+        frames[height] = frame;
+        self.height = height + 1;
+    }
+
+    // The innermost frame with a part left, which counts as walked from now on; those that have none are taken off.
+    fn next_frame(&mut self) -> Option<Frame<'a>>
+        requires places { HasPlaces self.old }
+        requires counted { EachIsCounted (frames_of self.old) }
+        ensures frame { result ≡ first_of (rested (frames_of self.old)) }
+        ensures frames { frames_of self.new ≡ stepped (rested (frames_of self.old)) }
+        ensures places { HasPlaces self.new }
+    {
+        while self.height > 0 {
+            let top = self.height - 1;
+            let frames = &mut self.frames[..];
+            let frame = frames[top];
+            let at = frames[top].at;
+            if (at as usize) < frame.values.len() {
+                frames[top].at = at + 1;
+                return Some(frame);
+            }
+            self.height = top;
+        }
+        None
+    }
+
+    /// The next part of the frames, the innermost first.
+    pub fn next_part(&mut self) -> Option<Part<'a>>
+        requires places { HasPlaces self.old }
+        requires counted { EachIsCounted (frames_of self.old) }
+        ensures goes_on { (p : PlanView) → AreOfPlan p (frames_of self.old) → GoesOn p (frames_of self.old) (frames_of self.new) result }
+        ensures places { HasPlaces self.new }
+        ensures counted { EachIsCounted (frames_of self.new) }
+    {
+        let frame = self.next_frame()?;
+        Some(part_of(frame))
+    }
+}
