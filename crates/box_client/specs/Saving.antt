@@ -14,7 +14,7 @@ use Rattle.box_events.specs.declared.saved.SavedLane.{SavedLane}
 use Rattle.box_events.specs.declared.saved.SavedChannel.{SavedChannel}
 use Rattle.pts_machine.specs.States.{LaneState}
 use Rattle.pts_machine.specs.Steps.{loaded}
-use Rattle.seq_machine.specs.Packs.{Values}
+use Rattle.box_events.specs.SettingLists.{Values}
 use Rattle.seq_machine.specs.Rows.{values_of}
 use Rattle.seq_machine.specs.States.{loaded as settings_loaded}
 use Rattle.channel_box.specs.States.{ChannelState, is_in}

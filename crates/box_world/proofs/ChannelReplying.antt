@@ -1,0 +1,244 @@
+-- What an honest answer does to the channel that asked for it.
+use Rattle.std.proofs.Common.{◌≡◌, ℕ, zero, suc, ◌+◌, ◌-◌, ◌≤◌, ◌<◌, ◌⊎◌, inl, inr, ℤ, pos, List, [], ◌∷◌, ◌++◌, length, drop, Bool, true, false, cond, ◌&&◌, ◌||◌, is_some, Option, Some, None, Result, Ok, Err, leb, ltb, eqb, refl, sym, ap, ap₂, ◌∙◌, subst, arith}
+use Rattle.std.proofs.lemmas.Bool.Decides.{nat_tests}
+use Rattle.box_events.specs.Events.{EventView, count_of}
+use Rattle.box_events.specs.Boxes.{ending, IsBoundary, Between, AreCounted}
+use Rattle.box_events.proofs.Boundaries.{ending-append}
+use Rattle.box_events.specs.declared.replies.Reply.{Reply}
+use Rattle.box_events.specs.declared.replies.Reply.TheVariants.{State, Empty, Difference, Channel, Receipt, Error}
+use Rattle.box_events.specs.declared.replies.ChannelReply.{ChannelReply}
+use Rattle.box_events.specs.declared.replies.ChannelReply.TheVariants.{Empty as EmptyPart, Part, TooLong}
+use Rattle.box_events.specs.declared.requests.Request.{Request}
+use Rattle.pts_machine.specs.declared.mode.Mode.{Mode}
+use Rattle.pts_machine.specs.declared.mode.Mode.TheVariants.{Live, Asking, Again}
+use Rattle.pts_machine.specs.States.{LaneState}
+use Rattle.pts_machine.specs.Steps.{extend, settle, restart_at}
+use Rattle.pts_machine.proofs.Fitting.{fits_extend, fits_restart}
+use Rattle.difference.specs.Weaving.{bodies, others_from}
+use Rattle.difference.specs.Weaves.{WeaveCause, woven_of}
+use Rattle.channel_box.specs.States.{ChannelState, first}
+use Rattle.channel_box.specs.Steps.{at_first, asks_number, is_asking, grown, Answered, stale, refused, taken, taken_by, answered_by, answered}
+use Rattle.channel_box.specs.Steps as channels
+use Rattle.box_server.specs.Servers.{ChannelBox, ServerState, channel_end, channel_in}
+use Rattle.box_server.specs.Runs.{events_after, limited, run_of, recent_of}
+use Rattle.box_server.specs.Answers.{is_whole, is_far, channel_part, channel_by, channel_difference}
+use Rattle.box_client.specs.States.{ClientState}
+use Rattle.box_client.specs.Replies.{Outcome, becomes, by_channels, channel_replied}
+use Rattle.box_world.specs.WholeBoxes.{kept_of}
+use Rattle.box_world.specs.Agreeing.{Reaches, Boxes, Each, IsRecent, ChannelAgrees, Agrees}
+use Rattle.box_world.specs.Awaiting.{Asked, ChannelAsksBy}
+use Rattle.box_world.specs.Growing.{HasMore, Continues, IsKept, IsLedger}
+use Rattle.box_world.proofs.Answering.{RunAt, run_at, run_after, run_lies, append_append, run_woven, none_woven, both_true}
+use Rattle.box_world.proofs.Pushing.{Goes, each_at_first, recent_same}
+use Rattle.box_world.proofs.Replying.{Told, takes, told_as, extend_live, extend_again, asks_never}
+
+-- ---- a lane's restart and mode after an answer
+
+settle_restart : (t : LaneState EventView) → (settle t).restart ≡ t.restart
+unfolding settle
+settle_restart t = refl
+
+extend_restart : (t : LaneState EventView) (xs : List EventView) (last : Bool) → (extend count_of t xs last).restart ≡ t.restart
+unfolding extend settle
+extend_restart t xs true = refl
+extend_restart t xs false = refl
+
+restart_restart : (t : LaneState EventView) (p : ℕ) → (restart_at count_of t p).restart ≡ p
+unfolding restart_at extend settle
+restart_restart t p = refl
+
+restart_live : (t : LaneState EventView) (p : ℕ) → (restart_at count_of t p).mode ≡ Live
+unfolding restart_at extend settle
+restart_live t p = refl
+
+extend_free : (t : LaneState EventView) (xs : List EventView) (last : Bool) → ((extend count_of t xs last).mode ≡ Live) ⊎ ((extend count_of t xs last).mode ≡ Again)
+extend_free t xs true = inl (extend_live t xs)
+extend_free t xs false = inr (extend_again t xs)
+
+-- ---- the channel takes the answer
+
+-- the channel that an answer makes agrees with its box, and asks no more
+pub record Taken (box : List EventView) (d : ChannelState) (r : ChannelReply) : Type 0 where
+  pub channel : ChannelState
+  pub is : channels.replied d r ≡ Ok channel
+  pub id : channel.id ≡ d.id
+  pub agrees : ChannelAgrees box channel
+  pub free : (channel.lane.mode ≡ Live) ⊎ (channel.lane.mode ≡ Again)
+
+grows : (box : List EventView) (d : ChannelState) (to : ℕ) (news : List (List ℕ)) (others : List _) (xs : List EventView) (last : Bool) (r : ChannelReply)
+    → AreCounted box → ChannelAgrees box d → Between box d.lane.at to xs → channels.replied d r ≡ grown d last (woven_of d.lane.at to news others) → woven_of d.lane.at to news others ≡ Ok xs → Taken box d r
+grows box d to news others xs last r k h b e w = record {
+  channel = record d { lane = extend count_of d.lane xs last };
+  is = e ∙ ap (grown d last) w;
+  id = refl;
+  agrees = record {
+    lane = fits_extend box d.lane to xs last k h.lane b;
+    recent = recent_same box d (record d { lane = extend count_of d.lane xs last }) (extend_restart d.lane xs last) refl h.recent;
+  };
+  free = extend_free d.lane xs last;
+}
+
+begins_anew : (front box : List EventView) (d : ChannelState) (end : ℕ) (recent : List (List ℕ)) (last : Bool) → AreCounted box → HasMore front box → end ≡ ending front → recent ≡ recent_of (kept_of front)
+    → ChannelAgrees box d → Taken box d (TooLong end recent last)
+begins_anew front box d end recent last k m e c h = record {
+  channel = record d { lane = restart_at count_of d.lane end; recent = recent };
+  is = refl;
+  id = refl;
+  agrees = record {
+    lane = fits_restart box d.lane end k h.lane (record { front = front; rest = m.0; whole = m.1; stop = sym e });
+    recent = record { front = front; rest = m.0; whole = m.1; stop = sym e ∙ sym (restart_restart d.lane end); content = c };
+  };
+  free = inl (restart_live d.lane end);
+}
+
+-- ---- the answer of an earlier server
+
+not_past : (a b : ℕ) → a ≤ b → ltb b a ≡ false
+not_past a b le = grind (arith, nat_tests)
+
+from_by : (a b : ℕ) (x t : Bool) → ltb a b ≡ x → (x || t) ≡ false → b ≤ a
+from_by a b true t is e = absurd cc
+from_by a b false t is e = grind (arith, nat_tests)
+
+-- what isn't far begins no earlier than the kept events
+from_first : (a b : ℕ) (t : Bool) → (ltb a b || t) ≡ false → b ≤ a
+from_first a b t e = from_by a b (ltb a b) t refl e
+
+counted_right : (xs ys : List EventView) → AreCounted (xs ++ ys) → AreCounted ys
+counted_right [] ys c = c
+counted_right (x ∷ xs) ys c = counted_right xs ys c.1
+
+end_is : (whole : List EventView) (b : ChannelBox) → IsKept whole b → channel_end b ≡ ending whole
+end_is whole b k = ap (λ (n : ℕ). n + ending b.events) k.first ∙ sym (ending-append k.gone b.events) ∙ sym (ap ending k.parts)
+
+-- a boundary of the whole box that isn't before the kept events is one of these
+cut_prefix : (gone kept front rest : List EventView) → gone ++ kept ≡ front ++ rest → AreCounted (gone ++ kept) → ending gone ≤ ending front → (mid : List EventView) × (kept ≡ mid ++ rest) × (ending gone + ending mid ≡ ending front)
+cut_prefix [] kept front rest e c le = (front, e, omega arith)
+cut_prefix (g ∷ gone) kept [] rest e c le = absurd (omega (arith, le, c.0))
+cut_prefix (g ∷ gone) kept (f ∷ front) rest e c le =
+    let head : g ≡ f = cc in
+    let tail : gone ++ kept ≡ front ++ rest = cc in
+    let m = cut_prefix gone kept front rest tail c.1 (omega (arith, le, ap count_of head)) in
+    (m.0, m.1, omega (arith, m.2, ap count_of head))
+
+kept_boundary : (whole : List EventView) (b : ChannelBox) (p : ℕ) → AreCounted whole → IsKept whole b → IsBoundary whole p → b.first ≤ p → IsBoundary b.events (p - b.first)
+kept_boundary whole b p c k h le =
+    let m = cut_prefix k.gone b.events h.front h.rest (sym k.parts ∙ h.whole) (subst AreCounted k.parts c) (omega (arith, le, k.first, h.stop)) in
+    record { front = m.0; rest = h.rest; whole = m.1; stop = omega (arith, m.2, k.first, h.stop) }
+
+-- the run from p lies in the whole box, after the events that are gone
+kept_lies : (whole box : List EventView) (b : ChannelBox) (p : ℕ) (es : List EventView) → HasMore whole box → IsKept whole b → b.first ≤ p → RunAt b.events (p - b.first) es → Between box p (p + ending (run_of es)) (run_of es)
+kept_lies whole box b p es m k le r =
+    run_lies whole box p es m (record {
+      front = k.gone ++ r.front;
+      whole = k.parts ∙ ap (λ (l : List EventView). k.gone ++ l) r.whole ∙ sym (append_append k.gone r.front es);
+      stop = omega (arith, ending-append k.gone r.front, r.stop, k.first, le);
+      rest = r.rest;
+      run = r.run;
+    })
+
+-- ---- what comes of the answer
+
+plus_none : (n : ℕ) → n + ending [] ≡ n
+plus_none n = omega arith
+
+nothing_lies : (whole box : List EventView) (b : ChannelBox) (d : ChannelState) → HasMore whole box → IsKept whole b → b.first ≤ d.lane.at → RunAt b.events (d.lane.at - b.first) [] → Between box d.lane.at (d.lane.at + ending []) []
+unfolding limited
+nothing_lies whole box b d m kept le run = kept_lies whole box b d.lane.at [] m kept le run
+
+part_taken : (whole box : List EventView) (b : ChannelBox) (d : ChannelState) (es : List EventView) → AreCounted box → HasMore whole box → IsKept whole b → b.first ≤ d.lane.at
+    → RunAt b.events (d.lane.at - b.first) es → ChannelAgrees box d → (r : ChannelReply) × (channel_part d.lane.at (Some es) ≡ Channel r) × Taken box d r
+part_taken whole box b d [] k m kept le run h = (
+  EmptyPart d.lane.at true,
+  refl,
+  grows box d d.lane.at [] [] [] true (EmptyPart d.lane.at true) k h
+      (subst (λ (q : ℕ). Between box d.lane.at q []) (plus_none d.lane.at) (nothing_lies whole box b d m kept le run)) refl (none_woven d.lane.at),
+)
+part_taken whole box b d (e ∷ es) k m kept le run h =
+    let xs : List EventView = run_of (e ∷ es) in
+    let p : ℕ = d.lane.at in
+    let r : ChannelReply = Part (p + ending xs) (bodies xs) (others_from p xs) (is_whole (e ∷ es)) in
+    (r, refl, grows box d (p + ending xs) (bodies xs) (others_from p xs) xs (is_whole (e ∷ es)) r k h (kept_lies whole box b p (e ∷ es) m kept le run) refl (run_woven p xs))
+
+-- the answer to a request from a boundary of the whole box
+pub record TakenFrom (box : List EventView) (d : ChannelState) (v : Reply) : Type 0 where
+  pub reply : ChannelReply
+  pub is : v ≡ Channel reply
+  pub taken : Taken box d reply
+
+near_taken : (whole box : List EventView) (b : ChannelBox) (d : ChannelState) → AreCounted whole → AreCounted box → HasMore whole box → IsKept whole b → IsBoundary whole d.lane.at → b.first ≤ d.lane.at → ChannelAgrees box d
+    → TakenFrom box d (channel_part d.lane.at (events_after b.events (d.lane.at - b.first)))
+near_taken whole box b d cw cb m kept h le a =
+    let here = kept_boundary whole b d.lane.at cw kept h le in
+    let t = part_taken whole box b d here.rest cb m kept le (run_at b.events (d.lane.at - b.first) here) a in
+    let after = run_after b.events (d.lane.at - b.first) (counted_right kept.gone b.events (subst AreCounted kept.parts cw)) here in
+    record { reply = t.0; is = ap (channel_part d.lane.at) after ∙ t.1; taken = t.2 }
+
+far_by : (whole box : List EventView) (b : ChannelBox) (d : ChannelState) (far : Bool) → is_far b d.lane.at ≡ far → AreCounted whole → AreCounted box → HasMore whole box → IsKept whole b → IsBoundary whole d.lane.at → ChannelAgrees box d
+    → TakenFrom box d (channel_by false far b d.lane.at)
+far_by whole box b d true e cw cb m kept h a = record {
+  reply = TooLong (channel_end b) (recent_of b.events) true;
+  is = refl;
+  taken = begins_anew whole box d (channel_end b) (recent_of b.events) true cb m (end_is whole b kept) (ap recent_of kept.kept) a;
+}
+far_by whole box b d false e cw cb m kept h a = near_taken whole box b d cw cb m kept h (from_first d.lane.at b.first (ltb 1000 (channel_end b - d.lane.at)) e) a
+
+inside_of : (box : List EventView) (p : ℕ) → IsBoundary box p → p ≤ ending box
+inside_of box p b = omega (arith, b.stop, ap ending b.whole, ending-append b.front b.rest)
+
+channel_taken : (whole box : List EventView) (b : ChannelBox) (d : ChannelState) → AreCounted whole → AreCounted box → HasMore whole box → IsKept whole b → IsBoundary whole d.lane.at → ChannelAgrees box d
+    → TakenFrom box d (channel_difference b (pos d.lane.at))
+channel_taken whole box b d cw cb m kept h a =
+    let t = far_by whole box b d (is_far b d.lane.at) refl cw cb m kept h a in
+    let within : ltb (channel_end b) d.lane.at ≡ false = not_past d.lane.at (channel_end b) (omega (arith, inside_of whole d.lane.at h, end_is whole b kept)) in
+    record { reply = t.reply; is = ap (λ (x : Bool). channel_by x (is_far b d.lane.at) b d.lane.at) within ∙ t.is; taken = t.taken }
+
+-- ---- the client
+
+first_by : (P : ChannelState → Type 0) (p : ChannelState → Bool) (c d : ChannelState) (cs : List ChannelState) (b : Bool) → p c ≡ b → cond b (Some c) (first p cs) ≡ Some d → P c → (first p cs ≡ Some d → P d × (p d ≡ true)) → P d × (p d ≡ true)
+first_by P p c d cs true t e h rest = let same : c ≡ d = cc in (subst P same h, ap p (sym same) ∙ t)
+first_by P p c d cs false t e h rest = rest e
+
+pub first_has : (P : ChannelState → Type 0) (p : ChannelState → Bool) (cs : List ChannelState) (d : ChannelState) → Each P cs → first p cs ≡ Some d → P d × (p d ≡ true)
+first_has P p [] d h e = absurd cc
+first_has P p (c ∷ cs) d h e = first_by P p c d cs (p c) refl e h.0 (first_has P p cs d h.1)
+
+pub is_asked : (n : ℕ) (m : Mode) → is_asking n m ≡ true → m ≡ Asking n
+is_asked n Live e = absurd cc
+is_asked n (Asking k) e = let same : k ≡ n = grind (arith, nat_tests) in ap Asking same
+is_asked n Again e = absurd cc
+
+free_asks : (n : ℕ) (o : Option Asked) (d : ChannelState) → (d.lane.mode ≡ Live) ⊎ (d.lane.mode ≡ Again) → ChannelAsksBy n o d
+free_asks n o d f e = absurd (asks_never d.lane.mode n f e)
+
+goes_taken : (s : ServerState) (boxes : Boxes) (c : ClientState) (n : ℕ) (d : ChannelState) (v : ChannelReply) (t : Taken (boxes d.id) d v) → Agrees s boxes c
+    → Goes s boxes c (record c { channels = at_first (asks_number n) (λ _. t.channel) c.channels })
+goes_taken s boxes c n d v t a = record {
+  agrees = record {
+    common = a.common;
+    secret = a.secret;
+    settings = a.settings;
+    one_mode = a.one_mode;
+    channels = each_at_first (λ x. ChannelAgrees (boxes x.id) x) (asks_number n) (λ _. t.channel)
+        (λ x e h. subst (λ (i : ℤ). ChannelAgrees (boxes i) t.channel) (sym t.id) t.agrees) c.channels a.channels;
+  };
+  still = record {
+    next = refl;
+    asks = λ k o h. record { group = h.group; channels = each_at_first (ChannelAsksBy k o) (asks_number n) (λ _. t.channel) (λ x e g. free_asks k o t.channel t.free) c.channels h.channels };
+  };
+}
+
+answered_is : (c : ClientState) (n : ℕ) (d : ChannelState) (v : ChannelReply) (e : ChannelState) → first (asks_number n) c.channels ≡ Some d → channels.replied d v ≡ Ok e
+    → by_channels c (answered c.channels n v) ≡ becomes (record c { channels = at_first (asks_number n) (λ _. e) c.channels })
+answered_is c n d v e f is = ap (λ (o : Option ChannelState). by_channels c (answered_by c.channels n v o)) f ∙ ap (λ (o : Result ChannelState WeaveCause). by_channels c (taken_by c.channels n o)) is
+
+-- the answer to a channel's own request, by an earlier server
+pub told_channel : (m s : ServerState) (bm boxes : Boxes) (c : ClientState) (n : ℕ) (d : ChannelState) → IsLedger m bm → IsLedger s boxes → Continues m s bm boxes → Agrees s boxes c
+    → first (asks_number n) c.channels ≡ Some d → IsBoundary (bm d.id) d.lane.at → Told s boxes c (Reaches m (channel_difference (channel_in m.channels d.id) (pos d.lane.at))) (channel_replied c n (channel_difference (channel_in m.channels d.id) (pos d.lane.at)))
+told_channel m s bm boxes c n d km k g a f h =
+    let agrees = (first_has (λ x. ChannelAgrees (boxes x.id) x) (asks_number n) c.channels d a.channels f).0 in
+    let t = channel_taken (bm d.id) (boxes d.id) (channel_in m.channels d.id) d (km.channels d.id) (k.channels d.id) (g.channels d.id) (km.kept d.id) h agrees in
+    takes (record c { channels = at_first (asks_number n) (λ _. t.taken.channel) c.channels })
+    (ap (channel_replied c n) t.is ∙ answered_is c n d t.reply t.taken.channel f t.taken.is)
+    (goes_taken s boxes c n d t.reply t.taken a)
+    (subst (λ (r : Reply). Reaches m r (record c { channels = at_first (asks_number n) (λ _. t.taken.channel) c.channels })) (sym t.is) (λ e. absurd cc))

@@ -1,0 +1,15 @@
+pub mod Growing
+pub mod GoingOn
+pub mod Pushing
+pub mod Answering
+pub mod Replying
+pub mod ChannelReplying
+pub mod Alls
+pub mod Continuing
+pub mod Telling
+pub mod Lists
+pub mod Worlds
+pub mod Ticking
+pub mod Posting
+pub mod Stepping
+pub mod Reaching

@@ -1,0 +1,10 @@
+pub mod Worlds
+pub mod Possible
+pub mod WholeBoxes
+pub mod Agreeing
+pub mod Growing
+pub mod Awaiting
+pub mod Pushing
+pub mod Requesting
+pub mod Reached
+pub mod Laws

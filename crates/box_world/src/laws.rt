@@ -1,0 +1,33 @@
+//! Laws of worlds, each carried by a function that does nothing.
+ghost use Rattle.std.specs.Prelude.{ℤ};
+ghost use Rattle.box_client.specs.States.{ClientState};
+ghost use Rattle.box_client.specs.Asking.{ticks, wakes, restarted};
+ghost use Rattle.box_world.specs.Laws.{NewClientsAgree, AgreeAsServersGrow, AgreeAsClientsGoOn, StillAsClientsGoOn, ClientsAgree, PacketsFit, RepliesAreTaken, ClientsCatchUp, ServersKeepOrder, WorldsGrow};
+ghost use Rattle.box_world.specs.Worlds.{watches};
+
+/// A new client agrees with every server, and one that agrees with a server does so as the server goes on.
+pub fn servers_go_on()
+    ensures new { NewClientsAgree }
+    ensures grow { AgreeAsServersGrow }
+{}
+
+/// A client that asks, wakes, watches a channel or begins anew agrees with its server as before; where it asks no more it stands still.
+pub fn clients_go_on()
+    ensures ticks { AgreeAsClientsGoOn (λ c. (ticks c).client) }
+    ensures wakes { AgreeAsClientsGoOn wakes }
+    ensures watches { (id : ℤ) → AgreeAsClientsGoOn (watches id) }
+    ensures restarts { AgreeAsClientsGoOn restarted }
+    ensures wakes_still { StillAsClientsGoOn wakes }
+    ensures watches_still { (id : ℤ) → StillAsClientsGoOn (watches id) }
+    ensures restarts_still { StillAsClientsGoOn restarted }
+{}
+
+/// After every list of steps, where messages may be lost, repeated and reordered, each client agrees with the server, and takes each reply that it still awaits.
+pub fn worlds_agree()
+    ensures agree { ClientsAgree }
+    ensures taken { RepliesAreTaken }
+    ensures catch_up { ClientsCatchUp }
+    ensures packets { PacketsFit }
+    ensures order { ServersKeepOrder }
+    ensures grow { WorldsGrow }
+{}

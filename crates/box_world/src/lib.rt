@@ -1,0 +1,6 @@
+//! The world of a replay: a server, its clients and all messages, and what holds after every list of steps. There is no code, only laws.
+#![tactic(auto)]
+
+mod laws;
+
+pub use laws::{clients_go_on, servers_go_on, worlds_agree};
