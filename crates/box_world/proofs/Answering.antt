@@ -1,12 +1,10 @@
 -- What a server answers from a boundary: a run of the events there, which makes the list that it is.
-use Rattle.std.proofs.Common.{◌≡◌, ℕ, zero, suc, ◌+◌, ◌-◌, ◌≤◌, ◌<◌, ℤ, pos, List, [], ◌∷◌, ◌++◌, length, drop, take, Bool, true, false, cond, ◌&&◌, Option, Some, None, Ok, Err, leb, ltb, eqb, if◌then◌else◌, refl, sym, ap, ap₂, ◌∙◌, subst, arith}
+use Rattle.std.proofs.Common.{◌≡◌, ℕ, zero, suc, ◌+◌, ◌-◌, List, [], ◌∷◌, ◌++◌, length, Bool, true, false, ◌&&◌, Some, Ok, leb, eqb, if◌then◌else◌, refl, sym, ap, ap₂, ◌∙◌, subst, arith}
 use Rattle.std.proofs.lemmas.Bool.Decides.{nat_tests}
-use Rattle.std.proofs.Math.Seq.{drop-length}
-use Rattle.std.proofs.lemmas.List.{length-append}
 use Rattle.box_events.specs.Events.{EventView, is_new, count_of}
 use Rattle.box_events.specs.Boxes.{ending, IsBoundary, Between, AreCounted}
 use Rattle.box_events.proofs.Boundaries.{ending-append}
-use Rattle.difference.specs.Weaving.{Woven, bodies, others_from}
+use Rattle.difference.specs.Weaving.{bodies, others_from}
 use Rattle.difference.specs.Weaves.{woven_of}
 use Rattle.difference.proofs.Made.{is_made}
 use Rattle.difference.proofs.Merged.{new_first}

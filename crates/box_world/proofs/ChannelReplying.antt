@@ -1,14 +1,13 @@
 -- What an honest answer does to the channel that asked for it.
-use Rattle.std.proofs.Common.{◌≡◌, ℕ, zero, suc, ◌+◌, ◌-◌, ◌≤◌, ◌<◌, ◌⊎◌, inl, inr, ℤ, pos, List, [], ◌∷◌, ◌++◌, length, drop, Bool, true, false, cond, ◌&&◌, ◌||◌, is_some, Option, Some, None, Result, Ok, Err, leb, ltb, eqb, refl, sym, ap, ap₂, ◌∙◌, subst, arith}
+use Rattle.std.proofs.Common.{◌≡◌, ℕ, ◌+◌, ◌-◌, ◌≤◌, ◌⊎◌, inl, inr, ℤ, pos, List, [], ◌∷◌, ◌++◌, Bool, true, false, cond, ◌||◌, Option, Some, Result, Ok, ltb, refl, sym, ap, ◌∙◌, subst, arith}
 use Rattle.std.proofs.lemmas.Bool.Decides.{nat_tests}
 use Rattle.box_events.specs.Events.{EventView, count_of}
 use Rattle.box_events.specs.Boxes.{ending, IsBoundary, Between, AreCounted}
 use Rattle.box_events.proofs.Boundaries.{ending-append}
 use Rattle.box_events.specs.declared.replies.Reply.{Reply}
-use Rattle.box_events.specs.declared.replies.Reply.TheVariants.{State, Empty, Difference, Channel, Receipt, Error}
+use Rattle.box_events.specs.declared.replies.Reply.TheVariants.{Channel}
 use Rattle.box_events.specs.declared.replies.ChannelReply.{ChannelReply}
 use Rattle.box_events.specs.declared.replies.ChannelReply.TheVariants.{Empty as EmptyPart, Part, TooLong}
-use Rattle.box_events.specs.declared.requests.Request.{Request}
 use Rattle.pts_machine.specs.declared.mode.Mode.{Mode}
 use Rattle.pts_machine.specs.declared.mode.Mode.TheVariants.{Live, Asking, Again}
 use Rattle.pts_machine.specs.States.{LaneState}
@@ -23,14 +22,14 @@ use Rattle.box_server.specs.Servers.{ChannelBox, ServerState, channel_end, chann
 use Rattle.box_server.specs.Runs.{events_after, limited, run_of, recent_of}
 use Rattle.box_server.specs.Answers.{is_whole, is_far, channel_part, channel_by, channel_difference}
 use Rattle.box_client.specs.States.{ClientState}
-use Rattle.box_client.specs.Replies.{Outcome, becomes, by_channels, channel_replied}
+use Rattle.box_client.specs.Replies.{becomes, by_channels, channel_replied}
 use Rattle.box_world.specs.WholeBoxes.{kept_of}
-use Rattle.box_world.specs.Agreeing.{Reaches, Boxes, Each, IsRecent, ChannelAgrees, Agrees}
+use Rattle.box_world.specs.Agreeing.{Reaches, Boxes, Each, ChannelAgrees, Agrees}
 use Rattle.box_world.specs.Awaiting.{Asked, ChannelAsksBy}
 use Rattle.box_world.specs.Growing.{HasMore, Continues, IsKept, IsLedger}
-use Rattle.box_world.proofs.Answering.{RunAt, run_at, run_after, run_lies, append_append, run_woven, none_woven, both_true}
+use Rattle.box_world.proofs.Answering.{RunAt, run_at, run_after, run_lies, append_append, run_woven, none_woven}
 use Rattle.box_world.proofs.Pushing.{Goes, each_at_first, recent_same}
-use Rattle.box_world.proofs.Replying.{Told, takes, told_as, extend_live, extend_again, asks_never}
+use Rattle.box_world.proofs.Replying.{Told, takes, extend_live, extend_again, asks_never}
 
 -- ---- a lane's restart and mode after an answer
 

@@ -1,6 +1,5 @@
 -- Servers that continue, and what is kept of packets as they do.
-use Rattle.std.proofs.Common.{◌≡◌, ℕ, ◌+◌, ◌-◌, ◌≤◌, ◌<◌, ℤ, pos, List, [], ◌∷◌, ◌++◌, length, Option, Some, None, Bool, true, false, cond, refl, sym, ap, ◌∙◌, subst, arith}
-use Rattle.std.specs.List.{All}
+use Rattle.std.proofs.Common.{◌≡◌, ℕ, ◌-◌, ◌≤◌, ℤ, List, [], ◌∷◌, ◌++◌, length, refl, sym, ap, ◌∙◌, subst, arith}
 use Rattle.box_world.proofs.Alls.{all_append, all_weaker}
 use Rattle.std.proofs.lemmas.List.{length-append}
 use Rattle.box_events.specs.Events.{EventView}
@@ -21,9 +20,9 @@ use Rattle.box_world.specs.Worlds.{Packet, push, request, reply}
 use Rattle.box_world.specs.Agreeing.{Boxes}
 use Rattle.box_world.specs.Growing.{HasMore, HasLater, Continues}
 use Rattle.box_world.specs.Pushing.{PackLies, PushLies}
-use Rattle.box_world.specs.Requesting.{GroupFits, RequestFits}
-use Rattle.box_world.specs.Awaiting.{Asked, Awaits}
-use Rattle.box_world.specs.Reached.{ClientAwaits, WasSent, WasAnswered, PacketFits}
+use Rattle.box_world.specs.Requesting.{RequestFits}
+use Rattle.box_world.specs.Awaiting.{Asked}
+use Rattle.box_world.specs.Reached.{ClientAwaits, PacketFits}
 use Rattle.box_world.proofs.Answering.{append_append}
 
 -- ---- continuing

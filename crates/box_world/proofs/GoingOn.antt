@@ -1,25 +1,23 @@
 -- What a client does by itself.
-use Rattle.std.proofs.Common.{◌≡◌, ℕ, ◌+◌, ◌<◌, ◌≤◌, ℤ, pos, List, [], ◌∷◌, ◌++◌, map, Bool, true, false, cond, Option, refl, sym, ap, ◌∙◌, subst, arith}
+use Rattle.std.proofs.Common.{◌≡◌, ℕ, ◌+◌, ℤ, List, [], ◌∷◌, ◌++◌, map, Bool, true, false, Option, refl, sym, ◌∙◌}
 use Rattle.box_events.specs.Events.{EventView}
-use Rattle.box_events.specs.declared.requests.Request.{Request}
 use Rattle.pts_machine.specs.declared.mode.Mode.{Mode}
-use Rattle.pts_machine.specs.declared.mode.Mode.TheVariants.{Live, Asking, Again}
+use Rattle.pts_machine.specs.declared.mode.Mode.TheVariants.{Live, Asking}
 use Rattle.pts_machine.specs.States.{LaneState}
-use Rattle.pts_machine.specs.Steps.{asked, forget, new_lane}
+use Rattle.pts_machine.specs.Steps.{forget, new_lane}
 use Rattle.pts_machine.proofs.Fitting.{fits_asked, fits_forget, fits_new}
 use Rattle.seq_machine.proofs.Agreements.{agree_asked, agree_forgotten}
 use Rattle.channel_box.specs.States.{ChannelState}
-use Rattle.channel_box.specs.Steps.{channel_is_due, channel_asks, ticked, flagged, forgot, woken, forgotten, channel_of, may_watch, watched_if, watched}
+use Rattle.channel_box.specs.Steps.{channel_is_due, channel_asks, ticked, flagged, forgot, forgotten, channel_of, may_watch, watched_if}
 use Rattle.box_server.specs.Servers.{ServerState}
 use Rattle.box_server.specs.Runs.{limited}
 use Rattle.box_client.specs.States.{ClientState}
 use Rattle.box_client.specs.Asking as asking
 use Rattle.box_client.specs.Asking.{group_is_due, group_asks, difference_of, group_ticked, channels_ticked, ticks, wakes, restarted}
 use Rattle.box_world.specs.Worlds.{watches}
-use Rattle.box_world.specs.Agreeing.{Boxes, Each, IsRecent, ChannelAgrees, Agrees}
-use Rattle.box_world.specs.Awaiting.{Asked, ChannelAsksBy, AskBy, Still}
+use Rattle.box_world.specs.Agreeing.{Boxes, Each, ChannelAgrees, Agrees}
+use Rattle.box_world.specs.Awaiting.{Asked, ChannelAsksBy}
 use Rattle.box_world.specs.Laws.{AgreeAsClientsGoOn, StillAsClientsGoOn}
-use Rattle.box_world.proofs.Growing.{each_map}
 
 -- ---- channels
 

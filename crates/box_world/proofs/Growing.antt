@@ -1,19 +1,15 @@
 -- Clients that agree with a server agree with it as it goes on.
-use Rattle.std.proofs.Common.{◌≡◌, ℕ, ◌+◌, ◌<◌, ◌≤◌, ℤ, List, [], ◌∷◌, ◌++◌, length, refl, sym, ap, ◌∙◌, subst, arith}
-use Rattle.std.specs.List.{All}
+use Rattle.std.proofs.Common.{◌≡◌, List, [], ◌∷◌, ◌++◌, refl, sym, ap, ◌∙◌, subst, arith}
 use Rattle.box_events.specs.Events.{EventView}
 use Rattle.box_events.specs.SettingLists.{Dated}
 use Rattle.pts_machine.specs.States.{LaneState}
 use Rattle.pts_machine.specs.Fitting.{Fits}
 use Rattle.pts_machine.proofs.Fitting.{fits_grows, fits_new}
-use Rattle.seq_machine.specs.States.{SettingsState}
 use Rattle.seq_machine.specs.Agreeing.{SettingsAgree}
 use Rattle.seq_machine.proofs.Agreements.{agree_grows, agree_new}
 use Rattle.channel_box.specs.States.{ChannelState}
-use Rattle.box_server.specs.Servers.{ServerState}
-use Rattle.box_client.specs.States.{ClientState, new_client}
-use Rattle.box_world.specs.Agreeing.{Boxes, Each, IsRecent, ChannelAgrees, Agrees}
-use Rattle.box_world.specs.Growing.{HasMore, Continues}
+use Rattle.box_world.specs.Agreeing.{Each, IsRecent, ChannelAgrees}
+use Rattle.box_world.specs.Growing.{HasMore}
 use Rattle.box_world.specs.Laws.{NewClientsAgree, AgreeAsServersGrow}
 
 pub each_map : {A : Type 0} (P Q : A → Type 0) → ((x : A) → P x → Q x) → (xs : List A) → Each P xs → Each Q xs

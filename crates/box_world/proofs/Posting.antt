@@ -1,5 +1,5 @@
 -- A new post: the server grows by its events and settings, and its push tells where they lie.
-use Rattle.std.proofs.Common.{◌≡◌, ℕ, zero, suc, ◌+◌, ◌-◌, ◌<◌, ◌≤◌, ℤ, List, [], ◌∷◌, ◌++◌, length, take, drop, map as each, Bool, true, false, ◌||◌, cond, if◌then◌else◌, eqb, ltb, Option, Some, None, refl, sym, ap, ◌∙◌, subst, arith}
+use Rattle.std.proofs.Common.{◌≡◌, ℕ, zero, suc, ◌+◌, ◌-◌, ◌<◌, ◌≤◌, ℤ, List, [], ◌∷◌, ◌++◌, length, take, drop, map as each, Bool, true, false, ◌||◌, cond, if◌then◌else◌, eqb, Option, Some, None, refl, sym, ap, ◌∙◌, subst, arith}
 use Rattle.std.specs.List.{All, list_any}
 use Rattle.std.specs.Ordering.{int_eq}
 use Rattle.std.proofs.lemmas.Bool.Decides.{nat_tests}
@@ -7,27 +7,27 @@ use Rattle.std.proofs.lemmas.List.{length-append, length-map, length-drop, take-
 use Rattle.std.proofs.Math.Seq.{drop-append-add}
 use Rattle.box_events.specs.declared.requests.Post.{Post}
 use Rattle.box_events.specs.declared.settings.Setting.{Setting}
-use Rattle.box_events.specs.declared.updates.Update.{Update}
 use Rattle.box_events.specs.declared.limits.TheConstants.{KEPT_EVENTS}
 use Rattle.box_events.specs.Events.{EventView, added, count_of, is_new}
-use Rattle.box_events.specs.Boxes.{ending, AreCounted}
+use Rattle.box_events.specs.Boxes.{AreCounted}
 use Rattle.box_events.specs.SettingLists.{Dated, NeverFallFrom, or_else}
 use Rattle.box_events.proofs.Boundaries.{ending-append}
 use Rattle.box_server.specs.declared.fault.PostFault.{PostFault}
 use Rattle.box_server.specs.Servers.{ChannelBox, ServerState, channel_in}
 use Rattle.box_server.specs.Entries.{Entry, to_common, to_secret, to_channel, to_settings, entries_of, is_event}
-use Rattle.box_server.specs.Posting.{applied, applied_all, cut, excess, posted, push_of, updates_of, settings_of, dated_with, first_number, last_number}
+use Rattle.box_server.specs.Posting.{applied, applied_all, cut, excess, posted, push_of, updates_of, settings_of, first_number, last_number}
+use Rattle.box_server.proofs.Growths.{dated_with}
 use Rattle.box_server.specs.Refusing.{first_cause, bad_entries, too_many, box_full, post_cause}
-use Rattle.box_server.specs.Growing.{IsWhole, GrowsTo, channel_events, AllLie}
-use Rattle.box_server.proofs.Growths.{with_more, channel_posted, posted_grows, lies_grow, updates_lie, settings_posted}
+use Rattle.box_server.specs.Growing.{IsWhole, channel_events}
+use Rattle.box_server.proofs.Growths.{with_more, channel_posted, posted_grows, updates_lie, settings_posted}
 use Rattle.box_client.specs.Pushes.{settings_in}
 use Rattle.seq_machine.specs.Packs.{pack_of}
 use Rattle.seq_machine.specs.Latest.{IsStretch}
 use Rattle.seq_machine.proofs.Growing.{stretch_appended}
 use Rattle.box_world.specs.Agreeing.{Boxes, Each}
-use Rattle.box_world.specs.Growing.{HasMore, Continues, IsKept, IsLedger}
+use Rattle.box_world.specs.Growing.{Continues, IsKept, IsLedger}
 use Rattle.box_world.specs.Pushing.{PackLies, PushLies}
-use Rattle.box_world.specs.WholeBoxes.{events_for, kept_of}
+use Rattle.box_world.specs.WholeBoxes.{events_for}
 use Rattle.box_world.proofs.Alls.{all_append}
 use Rattle.box_world.proofs.Answering.{append_append}
 use Rattle.box_events.proofs.SettingDates.{rise_pushed}

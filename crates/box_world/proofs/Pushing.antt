@@ -1,19 +1,16 @@
 -- What pushes do to a client that agrees with its server.
-use Rattle.std.proofs.Common.{◌≡◌, ℕ, ◌+◌, ◌-◌, ◌<◌, ◌≤◌, ℤ, pos, List, [], ◌∷◌, ◌++◌, Bool, true, false, cond, Option, ltb, ◌||◌, refl, sym, ap, ◌∙◌, subst, arith}
-use Rattle.std.specs.Ordering.{int_eq}
+use Rattle.std.proofs.Common.{◌≡◌, ℕ, ◌-◌, ◌<◌, ℤ, List, [], ◌∷◌, Bool, true, false, cond, Option, ltb, refl, sym, ap, ◌∙◌, subst, arith}
 use Rattle.std.proofs.lemmas.Bool.Decides.{nat_tests}
 use Rattle.box_events.specs.Events.{EventView, added, count_of}
-use Rattle.box_events.specs.Boxes.{Between}
 use Rattle.box_events.specs.SettingLists.{NeverFallFrom}
 use Rattle.box_events.specs.declared.updates.Update.{Update}
 use Rattle.box_events.specs.declared.updates.Update.TheVariants.{Common, Secret, Channel, ChannelTooLong, Setting}
 use Rattle.box_events.specs.declared.updates.Push.{Push}
 use Rattle.box_events.specs.declared.updates.Push.TheVariants.{TooLong, Container}
-use Rattle.box_events.specs.declared.settings.Setting as settings
 use Rattle.pts_machine.specs.declared.mode.Mode.{Mode}
-use Rattle.pts_machine.specs.declared.mode.Mode.TheVariants.{Live, Asking, Again}
-use Rattle.pts_machine.specs.States.{LaneState, is_live}
-use Rattle.pts_machine.specs.Steps.{Heard, hear}
+use Rattle.pts_machine.specs.declared.mode.Mode.TheVariants.{Asking}
+use Rattle.pts_machine.specs.States.{is_live}
+use Rattle.pts_machine.specs.Steps.{hear}
 use Rattle.pts_machine.proofs.Fitting.{fits_hear}
 use Rattle.pts_machine.proofs.Moves.{hear_mode, hear_at, hear_restart}
 use Rattle.seq_machine.specs.Packs.{Pack, pack_of}
@@ -21,14 +18,14 @@ use Rattle.seq_machine.specs.States.{SettingsState, hear_pack}
 use Rattle.seq_machine.proofs.StateSteps.{pack_mode, pack_stands}
 use Rattle.seq_machine.proofs.Agreements.{agree_hear}
 use Rattle.channel_box.specs.States.{ChannelState, has_id}
-use Rattle.channel_box.specs.Steps.{at_first, heard_by, heard, flagged, told_too_long}
+use Rattle.channel_box.specs.Steps.{at_first, heard_by, flagged}
 use Rattle.channel_box.proofs.Ids.{eq_of}
 use Rattle.box_server.specs.Servers.{ServerState}
 use Rattle.box_server.specs.Growing.{LiesAt, AllLie}
-use Rattle.box_client.specs.States.{ClientState, HasOneMode}
-use Rattle.box_client.specs.Pushes.{common_heard, secret_heard, settings_heard, updated, all_updated, settings_in, pack_heard, pushed}
+use Rattle.box_client.specs.States.{ClientState}
+use Rattle.box_client.specs.Pushes.{settings_heard, updated, all_updated, settings_in, pack_heard, pushed}
 use Rattle.box_world.specs.Agreeing.{Boxes, Each, IsRecent, ChannelAgrees, Agrees}
-use Rattle.box_world.specs.Awaiting.{Asked, GroupAsks, ChannelAsks, ChannelAsksBy, AskBy, Still}
+use Rattle.box_world.specs.Awaiting.{Asked, GroupAsks, ChannelAsks, ChannelAsksBy, Still}
 use Rattle.box_world.specs.Growing.{IsLedger}
 use Rattle.box_world.specs.Pushing.{PackLies, PushLies}
 

@@ -1,20 +1,19 @@
 -- What holds after every list of steps.
-use Rattle.std.proofs.Common.{◌≡◌, ◌≢◌, ℕ, List, [], ◌∷◌, ◌++◌, Some, refl, sym, ap, ◌∙◌, subst}
-use Rattle.std.specs.Prelude.{slice_get}
+use Rattle.std.proofs.Common.{◌≡◌, ◌≢◌, ℕ, List, [], ◌∷◌, ◌++◌, refl, sym, ◌∙◌, subst}
 use Rattle.box_events.specs.declared.replies.Reply.{Reply}
 use Rattle.box_events.specs.declared.steps.Step.{Step}
 use Rattle.box_server.specs.Servers.{ServerState}
 use Rattle.box_client.specs.States.{ClientState}
 use Rattle.box_client.specs.Replies.{Outcome, ignored, becomes, refuses, Cause, replied}
-use Rattle.box_world.specs.Worlds.{Packet, reply, World, happens, run_from, run, start}
-use Rattle.box_world.specs.Agreeing.{IsPast, Reaches, is_final, Boxes, Agrees}
+use Rattle.box_world.specs.Worlds.{reply, World, happens, run_from, run, start}
+use Rattle.box_world.specs.Agreeing.{Reaches, Boxes}
 use Rattle.box_world.specs.Growing.{Continues}
 use Rattle.box_world.specs.Reached.{boxes_of, IsGood}
 use Rattle.box_world.specs.Laws.{ClientsAgree, PacketsFit, RepliesAreTaken, ClientsCatchUp, ServersKeepOrder, WorldsGrow}
 use Rattle.box_world.proofs.Continuing.{continues_same, continues_then}
 use Rattle.box_world.proofs.Replying.{Carries, Told, stale, takes}
 use Rattle.box_world.proofs.Stepping.{advances, good_run, reply_told}
-use Rattle.box_world.proofs.Worlds.{Advances, good_advances}
+use Rattle.box_world.proofs.Worlds.{good_advances}
 
 good : (carries : Carries) (n : ℕ) (ss : List Step) → IsGood (run n ss)
 good carries n ss = good_run carries n ss

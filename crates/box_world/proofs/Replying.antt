@@ -1,48 +1,42 @@
 -- What an honest answer does to a client that agrees with its server: it is never refused, and the client agrees with the server as before.
-use Rattle.std.proofs.Common.{◌≡◌, ℕ, zero, suc, ◌+◌, ◌-◌, ◌≤◌, ◌<◌, ◌⊎◌, inl, inr, ℤ, pos, List, [], ◌∷◌, ◌++◌, length, drop, Bool, true, false, cond, ◌&&◌, ◌||◌, is_some, Option, Some, None, Result, Ok, Err, leb, ltb, eqb, refl, sym, ap, ap₂, ◌∙◌, subst, arith}
+use Rattle.std.proofs.Common.{◌≡◌, ℕ, ◌+◌, ◌≤◌, ◌⊎◌, inl, inr, pos, List, [], ◌∷◌, length, Bool, true, false, ◌&&◌, Option, Ok, ltb, eqb, refl, sym, ap, ap₂, ◌∙◌, subst, arith}
 use Rattle.std.specs.List.{All}
 use Rattle.std.proofs.lemmas.Bool.Decides.{nat_tests}
 use Rattle.std.proofs.Math.Seq.{drop-length}
 use Rattle.std.proofs.lemmas.List.{length-append}
 use Rattle.box_events.specs.Events.{EventView, is_new, count_of}
-use Rattle.box_events.specs.Boxes.{ending, IsBoundary, Between, AreCounted}
+use Rattle.box_events.specs.Boxes.{ending, Between}
 use Rattle.box_events.specs.SettingLists.{Dated, AreSince, IsOverlay, NeverFallFrom}
-use Rattle.box_events.specs.declared.positions.State.{State as Position}
 use Rattle.std.specs.FinMap.{len}
 use Rattle.box_events.specs.declared.replies.Reply.{Reply}
-use Rattle.box_events.specs.declared.replies.Reply.TheVariants.{State, Empty, Difference, Channel, Receipt, Error}
-use Rattle.box_events.specs.declared.replies.ChannelReply.{ChannelReply}
-use Rattle.box_events.specs.declared.replies.ChannelReply.TheVariants.{Empty as EmptyPart, Part, TooLong}
-use Rattle.box_events.specs.declared.requests.Request.{Request}
-use Rattle.box_events.specs.declared.requests.Request.TheVariants.{State as StateRequest, Difference as DifferenceRequest, Channel as ChannelRequest, Post}
 use Rattle.box_events.specs.declared.settings.Setting.{Setting}
 use Rattle.pts_machine.specs.declared.mode.Mode.{Mode}
 use Rattle.pts_machine.specs.declared.mode.Mode.TheVariants.{Live, Asking, Again}
 use Rattle.pts_machine.specs.States.{LaneState}
-use Rattle.pts_machine.specs.Steps.{extend, settle, restart_at}
+use Rattle.pts_machine.specs.Steps.{extend, settle}
 use Rattle.pts_machine.proofs.Ends.{reach_up}
-use Rattle.pts_machine.proofs.Fitting.{fits_extend, fits_restart, fits_inside, fits_reaches}
+use Rattle.pts_machine.proofs.Fitting.{fits_extend, fits_reaches}
 use Rattle.pts_machine.specs.Steps.{settle}
 use Rattle.seq_machine.specs.Agreeing.{SettingsAgree}
-use Rattle.seq_machine.specs.States.{SettingsState, overlaid, asks_again}
+use Rattle.seq_machine.specs.States.{SettingsState, overlaid}
 use Rattle.seq_machine.proofs.StateSteps.{overlay_live}
 use Rattle.seq_machine.proofs.Agreements.{agree_over, agree_again}
 use Rattle.seq_machine.proofs.Growing.{overlay_grows}
 use Rattle.box_events.proofs.SettingDates.{since_append}
 use Rattle.difference.specs.Weaving.{bodies, others_from}
-use Rattle.difference.specs.Weaves.{WeaveCause, woven_of}
+use Rattle.difference.specs.Weaves.{woven_of}
 use Rattle.box_server.specs.Servers.{ServerState, state_of}
 use Rattle.box_server.specs.LastEntries.{changed_since}
-use Rattle.box_server.specs.Runs.{events_after, run_of}
-use Rattle.box_server.specs.Answers.{is_whole, reached, last_by, last_difference, slice, carried, difference_by, difference_of, answer}
+use Rattle.box_server.specs.Runs.{run_of}
+use Rattle.box_server.specs.Answers.{is_whole, reached, last_by, slice, carried, difference_by, difference_of}
 use Rattle.box_client.specs.declared.brought.Brought.{Brought}
 use Rattle.box_client.specs.States.{ClientState}
-use Rattle.box_client.specs.Replies.{Outcome, ignored, refuses, becomes, no_list, seq_back, nothing_new, group_done, group_taken, group_woven, brings, group_replied, replied}
-use Rattle.box_world.specs.Agreeing.{IsPast, Reaches, Boxes, Each, ChannelAgrees, Agrees}
+use Rattle.box_client.specs.Replies.{Outcome, ignored, becomes, nothing_new, group_done, group_taken, group_woven, brings, group_replied}
+use Rattle.box_world.specs.Agreeing.{IsPast, Reaches, Boxes, Each, Agrees}
 use Rattle.box_world.specs.Growing.{HasMore, HasLater, Continues, IsLedger}
-use Rattle.box_world.specs.Requesting.{GroupFits, RequestFits}
+use Rattle.box_world.specs.Requesting.{GroupFits}
 use Rattle.box_world.proofs.Answering.{RunAt, run_at, run_after, run_lies, run_woven, none_woven, messages_woven, each_left, each_right, both_true, whole_run, empty_run}
-use Rattle.box_world.proofs.Pushing.{Goes, goes_none}
+use Rattle.box_world.proofs.Pushing.{Goes}
 
 -- what a final answer carries brings an older table to the latest
 abbrev pub Carries : Type 0

@@ -1,7 +1,6 @@
 -- Each step of a world keeps what holds of it.
-use Rattle.std.proofs.Common.{◌≡◌, ◌≢◌, inl, inr, ℕ, zero, suc, ◌≤◌, ◌<◌, ℤ, List, [], ◌∷◌, ◌++◌, map as each, set, max, Bool, true, false, cond, eqb, Option, Some, None, refl, sym, ap, ◌∙◌, subst, arith}
+use Rattle.std.proofs.Common.{◌≡◌, inl, inr, ℕ, zero, suc, ◌≤◌, ℤ, List, [], ◌∷◌, ◌++◌, map as each, set, max, Bool, true, false, cond, eqb, Option, Some, None, refl, sym, ap, ◌∙◌, subst, arith}
 use Rattle.std.specs.Prelude.{slice_get}
-use Rattle.std.specs.List.{All}
 use Rattle.std.specs.FinMap as map
 use Rattle.std.proofs.lemmas.Bool.Decides.{nat_tests}
 use Rattle.std.proofs.lemmas.Option.{none-some, same_Some}
@@ -15,35 +14,31 @@ use Rattle.box_events.specs.declared.updates.Push.{Push}
 use Rattle.box_events.specs.declared.updates.Push.TheVariants.{TooLong}
 use Rattle.box_events.specs.Events.{EventView}
 use Rattle.box_events.specs.SettingLists.{Dated}
-use Rattle.channel_box.specs.Steps.{ticked}
 use Rattle.box_server.specs.Servers.{ServerState, new_server, dated_at}
 use Rattle.box_server.specs.Answers.{answer}
 use Rattle.box_server.specs.Entries.{entries_of}
-use Rattle.box_server.specs.Posting.{posted, push_of, updates_of}
+use Rattle.box_server.specs.Posting.{posted, push_of}
 use Rattle.box_server.specs.Refusing.{post_cause}
-use Rattle.box_server.specs.Growing.{channel_events}
 use Rattle.box_server.specs.declared.fault.PostFault.{PostFault}
 use Rattle.box_client.specs.States.{ClientState, new_client}
-use Rattle.box_client.specs.Pushes.{pushed}
-use Rattle.box_client.specs.Replies.{Outcome, becomes, replied}
-use Rattle.box_client.specs.Asking.{group_is_due, group_ticked, channels_ticked, ticks, wakes, restarted}
-use Rattle.box_world.specs.Worlds.{Packet, push, request, reply, World, sent, all_sent, goes_on, client_steps, post_by, post_happens, served, channel_too_long, after_reply, received, heard, asks, watches, happens, run_from, new_clients, start, run}
-use Rattle.box_world.specs.WholeBoxes.{events_for, events_pushed, whole_box}
+use Rattle.box_client.specs.Replies.{Outcome, replied}
+use Rattle.box_client.specs.Asking.{ticks, wakes, restarted}
+use Rattle.box_world.specs.Worlds.{Packet, push, request, reply, World, sent, all_sent, goes_on, client_steps, post_by, served, channel_too_long, after_reply, received, heard, asks, watches, happens, run_from, new_clients, start, run}
+use Rattle.box_world.specs.WholeBoxes.{events_pushed, whole_box}
 use Rattle.box_world.specs.Agreeing.{Reaches, Boxes, Agrees}
 use Rattle.box_world.specs.Awaiting.{Asked, Awaits, Below, Still}
-use Rattle.box_world.specs.Growing.{Continues, IsKept, IsLedger}
-use Rattle.box_world.specs.Pushing.{PushLies}
-use Rattle.box_world.specs.Reached.{ClientAwaits, WasSent, WasAnswered, PacketFits, boxes_of, IsGood}
+use Rattle.box_world.specs.Growing.{Continues}
+use Rattle.box_world.specs.Reached.{ClientAwaits, WasSent, PacketFits, boxes_of, IsGood}
 use Rattle.box_world.proofs.Alls.{all_weaker}
-use Rattle.box_world.proofs.Lists.{of_both, of_map, written}
+use Rattle.box_world.proofs.Lists.{of_map, written}
 use Rattle.box_world.proofs.Growing.{agree_as_servers_grow, new_clients_agree}
 use Rattle.box_world.proofs.GoingOn.{agree_ticks, agree_wakes, agree_watches, agree_restarts, still_wakes, still_watches, still_restarts}
-use Rattle.box_world.proofs.Continuing.{ClientsWait, push_more, continues_then, continues_same, more_none, later_none}
+use Rattle.box_world.proofs.Continuing.{push_more, continues_then, continues_same, more_none, later_none}
 use Rattle.box_world.proofs.Pushing.{Goes, goes_none, goes_pushed}
 use Rattle.box_world.proofs.Posting.{after, carried_events, ledger_posted, continues_posted, push_posted}
 use Rattle.box_world.proofs.Replying.{Carries, Told, stale, takes}
 use Rattle.box_world.proofs.Telling.{told}
-use Rattle.box_world.proofs.Ticking.{IsNew, awaits_ticks, below_ticks, tick_new}
+use Rattle.box_world.proofs.Ticking.{awaits_ticks, below_ticks, tick_new}
 use Rattle.box_world.proofs.Worlds.{Advances, good_advances, still_below, still_awaits, waits_same, waits_set, of_set, whole_append, whole_same, append_none, ledger_same}
 
 -- ---- nothing happens

@@ -1,22 +1,18 @@
 -- Whatever reply of the pool a client receives, it is taken, or nobody asks its number.
-use Rattle.std.proofs.Common.{◌≡◌, ◌≤◌, length, ℕ, ℤ, pos, List, [], ◌∷◌, Bool, true, false, cond, is_some, Option, Some, None, refl, sym, ap, ap₂, ◌∙◌, subst, arith}
-use Rattle.std.proofs.lemmas.Bool.Decides.{nat_tests}
-use Rattle.box_events.specs.Events.{EventView}
+use Rattle.std.proofs.Common.{◌≡◌, ◌≤◌, length, ℕ, ℤ, pos, Bool, true, false, cond, is_some, Option, Some, None, refl, sym, ap, ◌∙◌, subst}
 use Rattle.box_events.specs.Boxes.{IsBoundary}
 use Rattle.box_events.specs.declared.replies.Reply.{Reply}
 use Rattle.box_events.specs.declared.requests.Request.{Request}
-use Rattle.box_events.specs.declared.requests.Request.TheVariants.{State, Difference, Channel, Post}
-use Rattle.pts_machine.specs.declared.mode.Mode.{Mode}
+use Rattle.box_events.specs.declared.requests.Request.TheVariants.{Difference, Channel}
 use Rattle.pts_machine.specs.declared.mode.Mode.TheVariants.{Asking}
 use Rattle.channel_box.specs.States.{ChannelState, first}
 use Rattle.channel_box.specs.Steps.{is_asking, asks_number}
 use Rattle.box_server.specs.Servers.{ServerState, channel_in}
-use Rattle.box_server.specs.LastEntries.{changed_since}
 use Rattle.box_server.specs.Answers.{difference_of, channel_difference, answer}
 use Rattle.box_client.specs.States.{ClientState}
-use Rattle.box_client.specs.Replies.{Outcome, ignored, becomes, group_replied, channel_replied, replied}
-use Rattle.box_world.specs.Agreeing.{Reaches, Boxes, Each, Agrees}
-use Rattle.box_world.specs.Awaiting.{Asked, GroupAsks, ChannelAsksBy, AskBy, Awaits}
+use Rattle.box_client.specs.Replies.{Outcome, ignored, group_replied, channel_replied, replied}
+use Rattle.box_world.specs.Agreeing.{Reaches, Boxes, Agrees}
+use Rattle.box_world.specs.Awaiting.{GroupAsks, ChannelAsksBy, Awaits}
 use Rattle.box_world.specs.Growing.{Continues, IsLedger}
 use Rattle.box_world.specs.Requesting.{GroupFits, RequestFits}
 use Rattle.box_world.proofs.Replying.{Carries, Told, stale, told_as, told_group}

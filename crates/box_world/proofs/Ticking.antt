@@ -1,11 +1,11 @@
 -- What a client asks: each request says where who asks it stands, and its number is new.
-use Rattle.std.proofs.Common.{◌≡◌, ◌⊎◌, inl, inr, ℕ, zero, suc, ◌+◌, ◌≤◌, ◌<◌, ℤ, pos, List, [], ◌∷◌, ◌++◌, length, Bool, true, false, cond, Option, Some, None, refl, sym, ap, ◌∙◌, subst, arith}
+use Rattle.std.proofs.Common.{◌≡◌, inl, inr, ℕ, zero, suc, ◌+◌, ◌≤◌, ◌<◌, pos, List, [], ◌∷◌, ◌++◌, Bool, true, false, Option, Some, None, refl, sym, ap, ◌∙◌, subst, arith}
 use Rattle.std.specs.Prelude.{slice_get}
 use Rattle.std.proofs.lemmas.Option.{none-some, same_Some}
 use Rattle.box_events.specs.Events.{EventView}
-use Rattle.box_events.specs.Boxes.{ending, IsBoundary, Between}
+use Rattle.box_events.specs.Boxes.{IsBoundary}
 use Rattle.box_events.specs.declared.requests.Numbered.{Numbered}
-use Rattle.box_events.specs.declared.requests.Request.TheVariants.{Difference, Channel}
+use Rattle.box_events.specs.declared.requests.Request.TheVariants.{Channel}
 use Rattle.pts_machine.specs.declared.mode.Mode.TheVariants.{Asking}
 use Rattle.pts_machine.specs.States.{LaneState}
 use Rattle.pts_machine.specs.Fitting.{Fits}
@@ -16,7 +16,7 @@ use Rattle.box_client.specs.States.{ClientState}
 use Rattle.box_client.specs.Asking as asking
 use Rattle.box_client.specs.Asking.{group_is_due, group_asks, difference_of, group_ticked, channels_ticked, ticks}
 use Rattle.box_world.specs.Agreeing.{Boxes, Each, ChannelAgrees, Agrees}
-use Rattle.box_world.specs.Awaiting.{Asked, ChannelAsks, ChannelAsksBy, AskBy, Awaits, Below}
+use Rattle.box_world.specs.Awaiting.{Asked, ChannelAsksBy, AskBy, Awaits, Below}
 use Rattle.box_world.specs.Requesting.{RequestFits}
 use Rattle.box_world.proofs.Lists.{of_both}
 use Rattle.box_world.proofs.GoingOn.{agree_group_ticked}

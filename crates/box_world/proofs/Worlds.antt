@@ -1,46 +1,18 @@
 -- Every step keeps what holds of worlds.
-use Rattle.std.proofs.Common.{◌≡◌, ◌≢◌, ◌⊎◌, inl, inr, ℕ, zero, suc, ◌+◌, ◌≤◌, ◌<◌, ℤ, pos, List, [], ◌∷◌, ◌++◌, length, map, set, max, Bool, true, false, cond, eqb, Option, Some, None, refl, sym, ap, ◌∙◌, subst, arith}
+use Rattle.std.proofs.Common.{◌≡◌, inl, inr, ℕ, ℤ, List, [], ◌∷◌, ◌++◌, set, Some, None, refl, sym, ap, ◌∙◌, subst, arith}
 use Rattle.std.specs.Prelude.{slice_get}
-use Rattle.std.specs.List.{All}
-use Rattle.std.specs.FinMap as map_of
-use Rattle.std.proofs.lemmas.Bool.Decides.{nat_tests}
-use Rattle.std.proofs.lemmas.Option.{none-some, same_Some}
-use Rattle.box_events.specs.Events.{EventView, is_new}
+use Rattle.box_events.specs.Events.{EventView}
 use Rattle.box_events.specs.Boxes.{AreCounted}
-use Rattle.box_events.specs.SettingLists.{Dated}
-use Rattle.box_events.specs.declared.positions.Receipt.{Receipt}
-use Rattle.box_events.specs.declared.requests.Numbered.{Numbered}
-use Rattle.box_events.specs.declared.requests.Post.{Post}
-use Rattle.box_events.specs.declared.replies.Reply.{Reply}
-use Rattle.box_events.specs.declared.steps.Step.{Step}
-use Rattle.box_events.specs.declared.steps.Step.TheVariants as step
-use Rattle.box_events.specs.declared.updates.Push.{Push}
-use Rattle.box_events.specs.declared.updates.Push.TheVariants.{TooLong, Container}
-use Rattle.box_server.specs.Servers.{ServerState, channel_in, new_server, dated_at}
-use Rattle.box_server.specs.Answers.{answer}
-use Rattle.box_server.specs.Posting.{posted, push_of}
-use Rattle.box_server.specs.Refusing.{post_cause}
-use Rattle.box_server.specs.declared.fault.PostFault.{PostFault}
-use Rattle.box_client.specs.States.{ClientState, new_client}
-use Rattle.box_client.specs.Replies.{Outcome, ignored, becomes, replied}
-use Rattle.box_client.specs.Pushes.{pushed}
-use Rattle.box_client.specs.Asking.{ticks, wakes, restarted}
-use Rattle.box_world.specs.Worlds.{Packet, push, request, reply, World, sent, all_sent, goes_on, client_steps, post_by, post_happens, served, channel_too_long, after_reply, received, heard, asks, watches, happens, run_from, new_clients, start, run}
+use Rattle.box_server.specs.Servers.{ServerState, channel_in}
+use Rattle.box_client.specs.States.{ClientState}
+use Rattle.box_world.specs.Worlds.{Packet, push, request, reply, World}
 use Rattle.box_world.specs.WholeBoxes.{events_pushed, whole_box}
 use Rattle.box_world.specs.Agreeing.{Boxes, Agrees}
-use Rattle.box_world.specs.Awaiting.{Asked, AskBy, Awaits, Below, Still}
-use Rattle.box_world.specs.Growing.{HasLater, Continues, IsKept, IsLedger}
-use Rattle.box_world.specs.Pushing.{PushLies}
-use Rattle.box_world.specs.Requesting.{RequestFits}
-use Rattle.box_world.specs.Reached.{ClientAwaits, WasSent, WasAnswered, PacketFits, boxes_of, IsGood}
-use Rattle.box_world.proofs.Alls.{all_weaker}
+use Rattle.box_world.specs.Awaiting.{Asked, Awaits, Below, Still}
+use Rattle.box_world.specs.Growing.{Continues, IsKept, IsLedger}
+use Rattle.box_world.specs.Reached.{PacketFits, boxes_of, IsGood}
 use Rattle.box_world.proofs.Lists.{of_both, written}
-use Rattle.box_world.proofs.Growing.{agree_as_servers_grow, new_clients_agree}
-use Rattle.box_world.proofs.GoingOn.{agree_wakes, agree_watches, agree_restarts, still_wakes, still_watches, still_restarts}
-use Rattle.box_world.proofs.Continuing.{ClientsWait, packet_more, continues_same, more_none, later_none}
-use Rattle.box_world.proofs.Pushing.{Goes, goes_none, goes_pushed}
-use Rattle.box_world.proofs.Replying.{Carries, Told, stale, takes}
-use Rattle.box_world.proofs.Telling.{told}
+use Rattle.box_world.proofs.Continuing.{ClientsWait, packet_more}
 use Rattle.box_world.proofs.Answering.{append_append}
 
 -- ---- who goes on

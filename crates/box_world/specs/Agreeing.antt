@@ -1,6 +1,6 @@
 -- A client that agrees with a server: what it has is what lies in the server's boxes, each event once.
 -- From "Working with Updates" (core.telegram.org/api/updates): what a client is to have of a box at its pts, and of the settings at its seq.
-use Rattle.std.specs.Prelude.{◌≡◌, ◌≤◌, ℕ, ℤ, List, [], ◌∷◌, ◌++◌, length, Bool, true, false}
+use Rattle.std.specs.Prelude.{◌≡◌, ◌≤◌, ℤ, List, [], ◌∷◌, ◌++◌, length, Bool, true, false}
 use Rattle.box_events.specs.Events.{EventView}
 use Rattle.box_events.specs.Boxes.{ending}
 use Rattle.box_events.specs.declared.replies.Reply.{Reply}

@@ -1,5 +1,5 @@
 -- Laws of worlds. This project's own.
-use Rattle.std.specs.Prelude.{◌≡◌, ◌≢◌, ℕ, ℤ, List, ◌++◌, true, Some, slice_get}
+use Rattle.std.specs.Prelude.{◌≡◌, ◌≢◌, ℕ, List, ◌++◌, true, Some, slice_get}
 use Rattle.box_events.specs.declared.replies.Reply.{Reply}
 use Rattle.box_events.specs.declared.steps.Step.{Step}
 use Rattle.box_server.specs.Servers.{ServerState}

@@ -1,5 +1,5 @@
 -- Which steps are possible in a world, and why another is refused. This project's own.
-use Rattle.std.specs.Prelude.{◌≡◌, ℕ, ◌+◌, List, [], ◌∷◌, length, Bool, true, false, not, ltb, eqb, cond, Option, Some, None, slice_get}
+use Rattle.std.specs.Prelude.{◌≡◌, ℕ, ◌+◌, List, [], ◌∷◌, length, Bool, true, false, ltb, eqb, cond, Option, Some, None, slice_get}
 use Rattle.box_events.specs.declared.steps.Step.{Step}
 use Rattle.box_events.specs.declared.steps.Step.TheVariants as step
 use Rattle.box_world.specs.Worlds.{Packet, push, request, reply, World, happens}

@@ -1,7 +1,6 @@
 -- What holds of every world that steps lead to. This project's own.
-use Rattle.std.specs.Prelude.{◌≡◌, ℕ, ℤ, List, Some, slice_get}
+use Rattle.std.specs.Prelude.{◌≡◌, ℕ, List, Some, slice_get}
 use Rattle.box_events.specs.declared.requests.Request.{Request}
-use Rattle.box_events.specs.Events.{EventView}
 use Rattle.box_server.specs.Servers.{ServerState}
 use Rattle.box_server.specs.Answers.{answer}
 use Rattle.box_client.specs.States.{ClientState}

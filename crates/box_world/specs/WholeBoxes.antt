@@ -1,5 +1,5 @@
 -- The whole box of a channel: all events that were posted to it, of which the server keeps the last. This project's own.
-use Rattle.std.specs.Prelude.{ℕ, ◌-◌, ℤ, List, [], ◌∷◌, ◌++◌, length, drop, cond}
+use Rattle.std.specs.Prelude.{◌-◌, ℤ, List, [], ◌∷◌, ◌++◌, length, drop, cond}
 use Rattle.std.specs.Ordering.{int_eq}
 use Rattle.box_events.specs.declared.limits.TheConstants.{KEPT_EVENTS}
 use Rattle.box_events.specs.declared.updates.Push.{Push}

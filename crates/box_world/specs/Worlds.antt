@@ -1,6 +1,6 @@
 -- A server, its clients, and every message that was ever sent, over any list of steps.
 -- This project's own: a message may be delivered any number of times, at any moment, or never.
-use Rattle.std.specs.Prelude.{ℕ, zero, suc, ℤ, List, [], ◌∷◌, ◌++◌, length, map as each, Bool, true, false, cond, eqb, Option, Some, None, slice_get, set}
+use Rattle.std.specs.Prelude.{ℕ, zero, suc, ℤ, List, [], ◌∷◌, ◌++◌, map as each, cond, eqb, Option, Some, None, slice_get, set}
 use Rattle.std.specs.FinMap as map
 use Rattle.box_events.specs.declared.positions.Receipt.{Receipt}
 use Rattle.box_events.specs.declared.requests.Numbered.{Numbered}
@@ -20,7 +20,7 @@ use Rattle.box_server.specs.Answers.{answer}
 use Rattle.box_client.specs.States.{ClientState, new_client}
 use Rattle.box_client.specs.Pushes.{pushed}
 use Rattle.box_client.specs.Replies.{Outcome, ignored, refuses, becomes, replied}
-use Rattle.box_client.specs.Asking.{Asked, ticks, wakes, restarted}
+use Rattle.box_client.specs.Asking.{ticks, wakes, restarted}
 
 -- A message that was sent: a push, the request of a client, or the reply to a client's request of a number, with the server that made it.
 pub data Packet : Type 0 where
