@@ -1,5 +1,5 @@
 -- Files of bytes have an answer to `check`, to `decode` and to `encode`.
-use Rattle.std.proofs.Common.{◌≡◌, ℕ, ◌≤◌, List, [], ◌∷◌, ◌++◌, length, append-nil, Option, Some, None, Ok, Err, Bool, true, false, true≢false, refl, sym, ◌∙◌, subst, ap, inl, inr, arith}
+use Rattle.std.proofs.Common.{◌≡◌, ℕ, ◌≤◌, List, [], ◌∷◌, ◌++◌, length, append-nil, Option, Some, None, Ok, Err, Bool, true, false, true≢false, refl, sym, ◌∙◌, subst, inl, inr, arith}
 use Rattle.std.proofs.lemmas.Bool.{cases_lt}
 use Rattle.std.proofs.lemmas.Str.{IsUtf8-from_is_utf8, is_utf8-from_IsUtf8}
 use Rattle.std.specs.Prelude.{IsUtf8}
@@ -25,7 +25,7 @@ use Rattle.codec_commands.specs.Check.{OfChecked, no_schema, listed, CheckAnswer
 use Rattle.codec_commands.specs.Typed.{ToInput, OfType, no_type, no_plan, typed, OfSchema, schema_of, TypedAnswer}
 use Rattle.codec_commands.specs.Typed as typing
 use Rattle.codec_commands.specs.Decode.{OfInput, whole, longer, faulty, DecodeAnswer}
-use Rattle.codec_commands.specs.JsonInput.{IsJson, IsNoJson}
+use Rattle.codec_commands.specs.JsonInput.{IsJson}
 use Rattle.codec_commands.specs.Encode.{OfJson, too_long, no_json, badly_formed, misfit, spelled, EncodeAnswer}
 use Rattle.codec_commands.specs.declared.json_input.TheConstants.{JSON_BYTES}
 use Rattle.codec_commands.proofs.FormedWords.{word_formed}

@@ -1,5 +1,5 @@
 -- A type has one plan, or one cause why it has none.
-use Rattle.std.proofs.Common.{◌≡◌, ◌⊎◌, inl, inr, ℕ, List, [], ◌∷◌, Bool, true, false, Option, Some, None, Result, Ok, Err, refl, sym, ap, ◌∙◌}
+use Rattle.std.proofs.Common.{◌≡◌, ◌⊎◌, inl, inr, ℕ, List, [], ◌∷◌, Bool, true, false, Option, Some, None, Result, Ok, Err, refl, sym, ◌∙◌}
 use Rattle.std.specs.Prelude.{◌+◌, length, nat_lt, take, if◌then◌else◌}
 use Rattle.tl_plan.specs.Plans.{PlanView, answer, answer_by}
 use Rattle.tl_plan.specs.Reached.{Named, all_reached, first_too_deep}

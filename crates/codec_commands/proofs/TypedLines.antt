@@ -21,7 +21,6 @@ use Rattle.codec_commands.specs.declared.schema_text.SchemaFault.{SchemaFault}
 use Rattle.codec_commands.specs.declared.schema_text.SchemaFault.TheVariants as loading
 use Rattle.codec_commands.specs.declared.type_word.TypeWordFault.{TypeWordFault}
 use Rattle.codec_commands.specs.declared.type_word.TypeWordFault.TheVariants as word
-use Rattle.tl_plan.specs.Plans.{PlanView}
 use Rattle.codec_commands.specs.declared.type_plan.TypePlanFault.{TypePlanFault}
 use Rattle.codec_commands.specs.declared.type_plan.TypePlanFault.TheVariants as plan
 use Rattle.codec_commands.specs.declared.refusal.CodecFault.{CodecFault}

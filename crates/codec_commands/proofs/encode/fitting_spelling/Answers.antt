@@ -1,4 +1,3 @@
-use Rattle.tl_types.specs.Fitting.{misfit}
 use Rattle.codec_commands.proofs.EncodedValues.{never_misfit}
 use Rattle.codec_commands.proofs.encode.fitting_spelling.Goals as goal
 
