@@ -1,11 +1,13 @@
 -- What `decode` makes of its input.
-use Rattle.std.proofs.Common.{◌≡◌, ℕ, List, Option, Result, Ok, Err, Vec, Global, refl, ap, codes}
+use Rattle.std.proofs.Common.{◌≡◌, ℕ, List, [], ◌∷◌, Option, Result, Ok, Err, Vec, Global, refl, ap, codes}
 use Rattle.std.specs.Prelude.{IsErrAnd, IsErrOf}
 use Rattle.tl_base.specs.Outside.{View}
 use Rattle.tl_base.specs.Calls.{Told}
 use Rattle.tl_schema.specs.Types.{Shape}
 use Rattle.tl_schema.specs.Schemas.{Declared}
 use Rattle.tl_schema.specs.AskedTypes.{IsTypeText}
+use Rattle.tl_plan.specs.Plans.{PlanView, answer}
+use Rattle.tl_plan.specs.PlanLaws.{IsInstance}
 use Rattle.tl_types.specs.Seen.{view}
 use Rattle.tl_types.specs.declared.value.Value.{Value}
 use Rattle.command_base.specs.Answer.{done, refused}
@@ -21,6 +23,7 @@ use Rattle.codec_commands.specs.Lines.{line_text, input_line, cause_text}
 use Rattle.codec_commands.specs.Decode.{OfInput, whole, longer, faulty, decode_job}
 use Rattle.codec_commands.specs.Parts.{LoadsSchema, LoadsValue}
 use Rattle.codec_commands.specs.Loaded.{HasPlan}
+use Rattle.codec_commands.proofs.Planned.{by_plan}
 use Rattle.codec_commands.proofs.TypedLines.{of_input_answer}
 
 -- of the input's faults only a failed read stops for one
@@ -30,6 +33,11 @@ read_stop (input.Refused at why) (Err z) is failed = absurd cc
 read_stop (input.Trailing at) (Err z) is failed = absurd cc
 read_stop input.ReadFault (Err z) is failed = refl
 read_stop input.Memory (Err z) is failed = absurd cc
+
+-- what is loaded by the plan of a type is loaded by the schema
+pub loaded_planned : (schema : Declared) (T : Shape) (p : PlanView) (name : List ℕ) (r : Result Value InputFault) (v w : Option View) → answer schema (T ∷ []) ≡ Ok p
+    → ((U : Shape) → IsInstance p 0 U → Told v w (LoadsValue p.schema U name r)) → Told v w (LoadsValue schema T name r)
+loaded_planned schema T p name r v w is = by_plan schema T p (λ S U. Told v w (LoadsValue S U name r)) is
 
 module _ (s t i : List ℕ) (schema : Declared) (T : Shape) (means : IsTypeText schema.program t T) (planned : HasPlan schema T) where
   pub input_stops : (e : InputFault) (v u w : View) → LoadsSchema s (Ok schema) v u → LoadsValue schema T i (Err e) u w → MakesOutput (decode_job s t i) (codec_making (of_input e)) v w

@@ -1,5 +1,5 @@
 -- What `encode` makes of its input.
-use Rattle.std.proofs.Common.{◌≡◌, ℕ, ◌<◌, List, [], ◌∷◌, Option, Some, None, Result, Ok, Err, Vec, Global, refl, sym, ap, subst, arith}
+use Rattle.std.proofs.Common.{◌≡◌, ℕ, List, [], ◌∷◌, Option, Some, None, Result, Ok, Err, Vec, Global, refl, sym, ap, subst}
 use Rattle.std.specs.Prelude.{IsErrAnd, IsErrOf}
 use Rattle.tl_base.specs.Outside.{View}
 use Rattle.tl_base.specs.Calls.{Told}
@@ -9,7 +9,7 @@ use Rattle.tl_schema.specs.AskedTypes.{IsTypeText}
 use Rattle.tl_schema.specs.Formed.{IsFormed}
 use Rattle.tl_plan.specs.Plans.{PlanView, answer}
 use Rattle.tl_plan.specs.PlanLaws.{IsInstance}
-use Rattle.tl_plan.proofs.RootFacts.{roots_have_instances}
+use Rattle.codec_commands.proofs.Planned.{planned}
 use Rattle.tl_types.specs.Fitting.{MisfitView}
 use Rattle.tl_types.specs.Fitting.{misfit as misfit_of}
 use Rattle.tl_types.specs.declared.misfit.Misfit.{Misfit}
@@ -50,10 +50,6 @@ never_told m n none some = absurd cc
 -- of a value without a misfit none is told
 pub never_misfit : (m : Option MisfitView) (fault : FitFault) (told : Misfit) → TellsFit m (Err fault) → fault ≡ fit.Misfit told → m ≡ None → ⊥
 never_misfit m fault told tells is none = never_told m (told.path.items, told.cause) none (subst (λ (e : FitFault). TellsFit m (Err e)) is tells)
-
--- the plan of a type is one of the schema, and its root is an instance of the type
-pub planned : (schema : Declared) (T : Shape) (p : PlanView) → answer schema (T ∷ []) ≡ Ok p → (p.schema ≡ schema) × (0 < p.roots) × IsInstance p 0 T
-planned schema T p is = let of = roots_have_instances schema (T ∷ []) p (sym is) in (of.schema, omega (arith, of.count), of.roots 0 T refl)
 
 -- what fits a type of the schema fits it in the plan's
 pub fits_planned : (schema : Declared) (T : Shape) (p : PlanView) (v : ValueView) → answer schema (T ∷ []) ≡ Ok p → misfit_of schema.decls MAX_LEVELS None T v ≡ None

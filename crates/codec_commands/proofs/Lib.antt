@@ -15,6 +15,7 @@ pub mod EachAnswer
 pub mod ListedLines
 pub mod TypeWords
 mod TypePlans
+pub mod Planned
 pub mod TypedLines
 pub mod DecodedLines
 pub mod EncodedValues

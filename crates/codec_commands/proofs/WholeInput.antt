@@ -8,6 +8,8 @@ use Rattle.tl_schema.specs.Types.{Shape}
 use Rattle.tl_schema.specs.Schemas.{Declared}
 use Rattle.tl_schema.specs.CheckedPrograms.{IsSchema}
 use Rattle.tl_schema.specs.Formed.{IsFormed}
+use Rattle.tl_plan.specs.Plans.{PlanView}
+use Rattle.tl_plan.specs.PlanLaws.{IsInstance}
 use Rattle.tl_types.specs.Values.{ValueView, depth}
 use Rattle.tl_types.specs.Seen.{view}
 use Rattle.tl_types.specs.Spelling.{Spells}
@@ -29,6 +31,14 @@ pub record Decoded (schema : Declared) (T : Shape) (a b : Option (List ℕ)) (q 
   pub are : IfSome a AreBytes
   pub spelled : IfSome a (λ bytes. (v : ValueView) (x rest : List ℕ) → bytes ≡ x ++ rest → Spells schema T v x → depth v ≤ MAX_LEVELS → GivesValue r b 0 q v x rest)
   pub refused : IfSome a (λ bytes. (offset : ℕ) (cause : Cause) → Refused schema MAX_LEVELS T bytes offset cause → GivesFault r (moved 0 offset) cause)
+
+-- what a plan's root is decoded as holds of its type
+pub decoded_of : (p : PlanView) (T : Shape) (a b : Option (List ℕ)) (q : ℕ) (r : Result Value DecodeFault) → IsInstance p 0 T → IfSome a AreBytes
+    → IfSome a (λ bytes. (U : Shape) → IsInstance p 0 U → (v : ValueView) (x rest : List ℕ) → bytes ≡ x ++ rest → Spells p.schema U v x → depth v ≤ MAX_LEVELS → GivesValue r b 0 q v x rest)
+    → IfSome a (λ bytes. (U : Shape) → IsInstance p 0 U → (offset : ℕ) (cause : Cause) → Refused p.schema MAX_LEVELS U bytes offset cause → GivesFault r (moved 0 offset) cause)
+    → Decoded p.schema T a b q r
+decoded_of p T None b q r is are spelled refused = record { are = tt; spelled = tt; refused = tt }
+decoded_of p T (Some bytes) b q r is are spelled refused = record { are = are; spelled = spelled T is; refused = refused T is }
 
 abbrev pub Whole : Declared → Shape → Option (List ℕ) → Result Value InputFault → Type 0
 Whole schema T a r = IfSome a (λ bytes. DecodesWhole schema T bytes r)

@@ -50,8 +50,8 @@ fn decoded_line<H: Host>(
 {
     let schema = load_schema(alloc, host, schema)?;
     let of = type_named(alloc, &schema, of)?;
-    let _plan = plan_of(alloc, &schema, &of)?;
-    let value = load_value(alloc, host, &schema, &of, input)?;
+    let plan = plan_of(alloc, &schema, &of)?;
+    let value = load_value(alloc, host, &plan, input)?;
     let line = value_line(alloc, &schema, &of, &value)?;
     Ok(line)
 }

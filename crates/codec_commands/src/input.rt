@@ -1,48 +1,45 @@
 //! The input's value.
-ghost use Rattle.std.specs.Prelude.{IsErrOf};
+ghost use Rattle.std.specs.Prelude.{◌<◌, IsErrOf};
 ghost use Rattle.tl_base.specs.Calls.{Told};
 ghost use Rattle.tl_base.specs.Outside.{IsThere};
 ghost use Rattle.tl_base.specs.Using.{MeetsFaults};
 ghost use Rattle.tl_base.specs.declared.counts.Kind.TheVariants as kinds;
+ghost use Rattle.tl_schema.specs.Types.{Shape};
 ghost use Rattle.tl_schema.specs.Formed.{IsFormed};
-ghost use Rattle.tl_schema.specs.Seen.{shape};
+ghost use Rattle.tl_plan.specs.PlanLaws.{IsInstance};
 ghost use Rattle.codec_commands.specs.Parts.{LoadsValue, TakesValue};
 
 use crate::whole::{InputFault, decode_whole};
 use std::alloc::Global;
 use tl_base::{Host, Slot, SourceOf};
-use tl_schema::{Schema, TypeRef};
+use tl_plan::Plan;
 use tl_types::Value;
 
 // The value that is what is left of the input.
-fn slot_value<H: Host>(
-    alloc: Global,
-    host: &mut H,
-    schema: &Schema,
-    of: &TypeRef,
-) -> Result<Value, InputFault>
-    requires formed { IsFormed schema.now (shape of.now) }
-    ensures value { Told (H.state host.old).view (H.state host.new).view (TakesValue schema.now (shape of.now) result) }
+fn slot_value<H: Host>(alloc: Global, host: &mut H, plan: &Plan) -> Result<Value, InputFault>
+    requires root { 0 < plan.now.roots }
+    requires formed { (T : Shape) → IsInstance plan.now 0 T → IsFormed plan.now.schema T }
+    ensures value { (T : Shape) → IsInstance plan.now 0 T → Told (H.state host.old).view (H.state host.new).view (TakesValue plan.now.schema T result) }
     ensures faults { MeetsFaults kinds.Reads (H.state host.old) (H.state host.new) (IsErrOf result InputFault.ReadFault) (λ _. Unit {0}) }
 {
     let mut source = SourceOf::new(host, Slot::Input);
-    decode_whole(alloc, schema, of, &mut source)
+    decode_whole(alloc, plan, &mut source)
 }
 
-/// The value that is the whole of a file.
+/// The value that is the whole of a file, by the plan of its type.
 pub fn load_value<H: Host>(
     alloc: Global,
     host: &mut H,
-    schema: &Schema,
-    of: &TypeRef,
+    plan: &Plan,
     name: &str,
 ) -> Result<Value, InputFault>
-    requires formed { IsFormed schema.now (shape of.now) }
-    ensures loads { Told (H.state host.old).view (H.state host.new).view (LoadsValue schema.now (shape of.now) name.now result) }
+    requires root { 0 < plan.now.roots }
+    requires formed { (T : Shape) → IsInstance plan.now 0 T → IsFormed plan.now.schema T }
+    ensures loads { (T : Shape) → IsInstance plan.now 0 T → Told (H.state host.old).view (H.state host.new).view (LoadsValue plan.now.schema T name.now result) }
     ensures faults { MeetsFaults kinds.Reads (H.state host.old) (H.state host.new) (IsErrOf result InputFault.ReadFault) (IsThere name.now) }
 {
     match host.open_slot(Slot::Input, name) {
-        Ok(()) => slot_value(alloc, host, schema, of),
+        Ok(()) => slot_value(alloc, host, plan),
         Err(_) => Err(InputFault::ReadFault),
     }
 }

@@ -1,15 +1,16 @@
 //! Values that are whole inputs.
-ghost use Rattle.std.specs.Prelude.{IsErrOf, IfSome};
+ghost use Rattle.std.specs.Prelude.{◌<◌, IsErrOf, IfSome};
 ghost use Rattle.tl_base.specs.Using.{Used};
+ghost use Rattle.tl_schema.specs.Types.{Shape};
 ghost use Rattle.tl_schema.specs.Formed.{IsFormed};
-ghost use Rattle.tl_schema.specs.Seen.{shape};
+ghost use Rattle.tl_plan.specs.PlanLaws.{IsInstance};
 ghost use Rattle.codec_commands.specs.Decoding.{DecodesWhole};
 
 use std::alloc::Global;
 use thiserror::Error;
 use tl_base::{Failed, Source, take_end};
-use tl_decode::{DecodeFault, decode_walk};
-use tl_schema::{Schema, TypeRef};
+use tl_decode::{DecodeFault, decode};
+use tl_plan::Plan;
 use tl_types::{Cause, Value};
 
 /// Why an input is no value of a type.
@@ -53,21 +54,21 @@ impl From<Failed> for InputFault {
     }
 }
 
-/// Reads the one value that is the whole input.
+/// Reads the one value that is the whole input, by the plan of its type.
 pub fn decode_whole<S: Source>(
     alloc: Global,
-    schema: &Schema,
-    of: &TypeRef,
+    plan: &Plan,
     from: &mut S,
 ) -> Result<Value, InputFault>
-    requires formed { IsFormed schema.now (shape of.now) }
-    ensures whole { IfSome (S.state from.old).left (λ bytes. DecodesWhole schema.now (shape of.now) bytes result) }
+    requires root { 0 < plan.now.roots }
+    requires formed { (T : Shape) → IsInstance plan.now 0 T → IsFormed plan.now.schema T }
+    ensures whole { (T : Shape) → IsInstance plan.now 0 T → IfSome (S.state from.old).left (λ bytes. DecodesWhole plan.now.schema T bytes result) }
     ensures used { Used (S.state from.old) (S.state from.new) (IsErrOf result InputFault.ReadFault) }
 {
-    // Read for the proof alone: that the schema is sound.
-    let _count = schema.count();
+    // Read for the proof alone: that the plan is sound.
+    let _count = plan.count();
     let mut at = 0;
-    let value = decode_walk(alloc, schema, of, &mut at, from)?;
+    let value = decode(alloc, plan, 0, &mut at, from)?;
     if !take_end(from)? {
         return Err(InputFault::Trailing { place: at });
     }

@@ -2,7 +2,8 @@ use Rattle.std.proofs.Common.{Ok, Err, rules}
 use Rattle.tl_schema.specs.Seen.{shape}
 use Rattle.command_base.proofs.Faults.{safe, never_failed, stays_sound}
 use Rattle.codec_commands.proofs.TypedLines.{no_schema_line, no_type_line, no_plan_line, plan_unread, no_value_line, no_memory_line, no_value_sound}
-use Rattle.codec_commands.proofs.DecodedLines.{read_stop, input_stops, value_line}
+use Rattle.codec_commands.proofs.Planned.{formed_planned, planned}
+use Rattle.codec_commands.proofs.DecodedLines.{loaded_planned, read_stop, input_stops, value_line}
 use Rattle.codec_commands.specs.Decode.{OfInput}
 use Rattle.codec_commands.specs.Faults.{of_input}
 use Rattle.codec_commands.specs.Parts.{LoadsSchema, LoadsValue}
@@ -17,28 +18,28 @@ returns-in_err-of-clause-line g c =
     no_type_line OfInput c.args.schema.now c.args.of.now c.args.input.now c.in_ok-schema.schema c.in_err-of.field-0.0 c.from_residual-in_err-of.result _ _
     c.in_ok-schema.ensures.loads c.in_err-of.ensures.names c.from_residual-in_err-of.ensures.1
 
-pub returns-in_err-_plan-clause-line : goal.returns-in_err-_plan-clause-line
-returns-in_err-_plan-clause-line g c =
-    no_plan_line OfInput c.args.schema.now c.args.of.now c.args.input.now c.in_ok-schema.schema (shape c.in_ok-of.of) c.in_err-_plan.field-0.0 c.from_residual-in_err-_plan.result _ _
-    c.in_ok-schema.ensures.loads c.in_ok-of.ensures.names c.in_err-_plan.ensures.plans c.from_residual-in_err-_plan.ensures.1
+pub returns-in_err-plan-clause-line : goal.returns-in_err-plan-clause-line
+returns-in_err-plan-clause-line g c =
+    no_plan_line OfInput c.args.schema.now c.args.of.now c.args.input.now c.in_ok-schema.schema (shape c.in_ok-of.of) c.in_err-plan.field-0.0 c.from_residual-in_err-plan.result _ _
+    c.in_ok-schema.ensures.loads c.in_ok-of.ensures.names c.in_err-plan.ensures.plans c.from_residual-in_err-plan.ensures.1
 
 pub returns-in_err-value-clause-line : goal.returns-in_err-value-clause-line
 returns-in_err-value-clause-line g c =
     let T = shape c.in_ok-of.of in
-    no_value_line OfInput c.args.schema.now c.args.of.now c.args.input.now c.in_ok-schema.schema T c.in_ok-of.ensures.names (c.in_ok-_plan._plan, c.in_ok-_plan.ensures.plans)
+    no_value_line OfInput c.args.schema.now c.args.of.now c.args.input.now c.in_ok-schema.schema T c.in_ok-of.ensures.names (c.in_ok-plan.plan, c.in_ok-plan.ensures.plans)
     (LoadsValue c.in_ok-schema.schema T c.args.input.now (Err c.in_err-value.field-0.0)) (of_input c.in_err-value.field-0.0)
-    (input_stops c.args.schema.now c.args.of.now c.args.input.now c.in_ok-schema.schema T c.in_ok-of.ensures.names (c.in_ok-_plan._plan, c.in_ok-_plan.ensures.plans) c.in_err-value.field-0.0)
-    c.from_residual-in_err-value.result _ _ _ c.in_ok-schema.ensures.loads c.in_err-value.ensures.loads c.from_residual-in_err-value.ensures.1
+    (input_stops c.args.schema.now c.args.of.now c.args.input.now c.in_ok-schema.schema T c.in_ok-of.ensures.names (c.in_ok-plan.plan, c.in_ok-plan.ensures.plans) c.in_err-value.field-0.0)
+    c.from_residual-in_err-value.result _ _ _ c.in_ok-schema.ensures.loads (loaded_planned c.in_ok-schema.schema (shape c.in_ok-of.of) c.in_ok-plan.plan c.args.input.now (Err c.in_err-value.field-0.0) _ _ c.in_ok-plan.ensures.plans c.in_err-value.ensures.loads) c.from_residual-in_err-value.ensures.1
 
 pub returns-clause-line : goal.returns-clause-line
 returns-clause-line g c =
-    value_line c.args.schema.now c.args.of.now c.args.input.now c.in_ok-schema.schema (shape c.in_ok-of.of) c.in_ok-of.ensures.names (c.in_ok-_plan._plan, c.in_ok-_plan.ensures.plans) c.in_ok-value.value _ _ _ _
-    c.in_ok-schema.ensures.loads c.in_ok-value.ensures.loads (search rules)
+    value_line c.args.schema.now c.args.of.now c.args.input.now c.in_ok-schema.schema (shape c.in_ok-of.of) c.in_ok-of.ensures.names (c.in_ok-plan.plan, c.in_ok-plan.ensures.plans) c.in_ok-value.value _ _ _ _
+    c.in_ok-schema.ensures.loads (loaded_planned c.in_ok-schema.schema (shape c.in_ok-of.of) c.in_ok-plan.plan c.args.input.now (Ok c.in_ok-value.value) _ _ c.in_ok-plan.ensures.plans c.in_ok-value.ensures.loads) (search rules)
 
 pub returns-in_err-value-clause-faults : goal.returns-in_err-value-clause-faults
 returns-in_err-value-clause-faults g c =
     let p =
-    no_value_sound OfInput c.args.schema.now c.args.of.now c.args.input.now c.in_ok-schema.schema (shape c.in_ok-of.of) c.in_ok-of.ensures.names (c.in_ok-_plan._plan, c.in_ok-_plan.ensures.plans)
+    no_value_sound OfInput c.args.schema.now c.args.of.now c.args.input.now c.in_ok-schema.schema (shape c.in_ok-of.of) c.in_ok-of.ensures.names (c.in_ok-plan.plan, c.in_ok-plan.ensures.plans)
     _ c.from_residual-in_err-value.result _ _ _ _ _ (read_stop c.in_err-value.field-0.0 c.from_residual-in_err-value.result c.from_residual-in_err-value.ensures.1)
     c.in_ok-schema.ensures.loads c.in_ok-schema.ensures.faults.stays (safe c.in_err-value.ensures.faults) in
     record {
@@ -67,10 +68,10 @@ returns-clause-faults g c = record {
   never = never_failed (g.H.Host.state c.args.host.now).view _ _ _ (λ failed. search rules);
 }
 
-pub returns-in_err-_plan-clause-faults : goal.returns-in_err-_plan-clause-faults
-returns-in_err-_plan-clause-faults g c =
+pub returns-in_err-plan-clause-faults : goal.returns-in_err-plan-clause-faults
+returns-in_err-plan-clause-faults g c =
     let unread =
-    plan_unread OfInput c.args.schema.now c.args.of.now c.args.input.now c.in_err-_plan.field-0.0 c.from_residual-in_err-_plan.result c.from_residual-in_err-_plan.ensures.1 in
+    plan_unread OfInput c.args.schema.now c.args.of.now c.args.input.now c.in_err-plan.field-0.0 c.from_residual-in_err-plan.result c.from_residual-in_err-plan.ensures.1 in
     record {
       later = c.in_ok-schema.ensures.faults.later;
       cause = λ failed. absurd (unread failed);
@@ -82,6 +83,12 @@ returns-in_err-_plan-clause-faults g c =
 pub returns-in_err-line-clause-line : goal.returns-in_err-line-clause-line
 returns-in_err-line-clause-line g c =
     let T = shape c.in_ok-of.of in
-    no_memory_line OfInput c.args.schema.now c.args.of.now c.args.input.now c.in_ok-schema.schema T c.in_ok-of.ensures.names (c.in_ok-_plan._plan, c.in_ok-_plan.ensures.plans)
+    no_memory_line OfInput c.args.schema.now c.args.of.now c.args.input.now c.in_ok-schema.schema T c.in_ok-of.ensures.names (c.in_ok-plan.plan, c.in_ok-plan.ensures.plans)
     (LoadsValue c.in_ok-schema.schema T c.args.input.now (Ok c.in_ok-value.value)) (λ u w k. k.1) c.from_residual-in_err-line.result _ _ _
-    c.in_ok-schema.ensures.loads c.in_ok-value.ensures.loads c.from_residual-in_err-line.ensures.1
+    c.in_ok-schema.ensures.loads (loaded_planned c.in_ok-schema.schema (shape c.in_ok-of.of) c.in_ok-plan.plan c.args.input.now (Ok c.in_ok-value.value) _ _ c.in_ok-plan.ensures.plans c.in_ok-value.ensures.loads) c.from_residual-in_err-line.ensures.1
+
+pub load_value-requires-clause-root : goal.load_value-requires-clause-root
+load_value-requires-clause-root g c = (planned c.in_ok-schema.schema (shape c.in_ok-of.of) c.in_ok-plan.plan c.in_ok-plan.ensures.plans).1
+
+pub load_value-requires-clause-formed : goal.load_value-requires-clause-formed
+load_value-requires-clause-formed g c = formed_planned c.in_ok-schema.schema (shape c.in_ok-of.of) c.in_ok-plan.plan c.in_ok-plan.ensures.plans c.in_ok-of.ensures.formed

@@ -3,7 +3,8 @@ use Rattle.tl_types.specs.Seen.{view}
 use Rattle.tl_schema.specs.Seen.{shape}
 use Rattle.command_base.proofs.Faults.{safe, never_failed, stays_sound}
 use Rattle.codec_commands.proofs.TypedLines.{no_schema_line, no_type_line, no_plan_line, plan_unread, no_value_line, no_memory_line, no_value_sound}
-use Rattle.codec_commands.proofs.EncodedValues.{fits_planned, input_stops, planned, read_stop, spelled_planned, value_spelled}
+use Rattle.codec_commands.proofs.Planned.{planned}
+use Rattle.codec_commands.proofs.EncodedValues.{fits_planned, input_stops, read_stop, spelled_planned, value_spelled}
 use Rattle.codec_commands.specs.Encode.{OfJson}
 use Rattle.codec_commands.specs.Faults.{of_json}
 use Rattle.codec_commands.specs.Parts.{LoadsSchema, LoadsJson}
