@@ -6,6 +6,8 @@ mod boxes;
 #[cfg(test)]
 mod bytes;
 #[cfg(test)]
+mod clients;
+#[cfg(test)]
 mod encodes;
 #[cfg(test)]
 mod grammar;
@@ -21,6 +23,8 @@ mod packets;
 mod replays;
 #[cfg(test)]
 mod schemas;
+#[cfg(test)]
+mod servers;
 #[cfg(test)]
 mod settings;
 #[cfg(test)]
