@@ -12,7 +12,8 @@ use Rattle.pts_machine.specs.declared.mode.Mode.{Mode}
 use Rattle.pts_machine.specs.declared.mode.Mode.TheVariants.{Live, Asking, Again}
 use Rattle.pts_machine.specs.States.{LaneState}
 use Rattle.pts_machine.specs.Steps.{extend, settle, restart_at}
-use Rattle.pts_machine.proofs.Fitting.{fits_extend, fits_restart}
+use Rattle.pts_machine.proofs.Fitting.{fits_after, fits_extend, fits_reaches, fits_restart}
+use Rattle.pts_machine.proofs.Moves.{restart_up}
 use Rattle.difference.specs.Weaving.{bodies, others_from}
 use Rattle.difference.specs.Weaves.{WeaveCause, woven_of}
 use Rattle.channel_box.specs.States.{ChannelState, first}
@@ -24,10 +25,10 @@ use Rattle.box_server.specs.Answers.{is_whole, is_far, channel_part, channel_by,
 use Rattle.box_client.specs.States.{ClientState}
 use Rattle.box_client.specs.Replies.{becomes, by_channels, channel_replied}
 use Rattle.box_world.specs.WholeBoxes.{kept_of}
-use Rattle.box_world.specs.Agreeing.{Reaches, Boxes, Each, ChannelAgrees, Agrees}
+use Rattle.box_world.specs.Agreeing.{Reaches, is_last_part, Boxes, Each, ChannelAgrees, Agrees}
 use Rattle.box_world.specs.Awaiting.{Asked, ChannelAsksBy}
 use Rattle.box_world.specs.Growing.{HasMore, Continues, IsKept, IsLedger}
-use Rattle.box_world.proofs.Answering.{RunAt, run_at, run_after, run_lies, append_append, run_woven, none_woven}
+use Rattle.box_world.proofs.Answering.{whole_run, RunAt, run_at, run_after, run_lies, append_append, run_woven, none_woven}
 use Rattle.box_world.proofs.Pushing.{Goes, each_at_first, recent_same}
 use Rattle.box_world.proofs.Replying.{Told, takes, extend_live, extend_again, asks_never}
 
@@ -57,16 +58,17 @@ extend_free t xs false = inr (extend_again t xs)
 -- ---- the channel takes the answer
 
 -- the channel that an answer makes agrees with its box, and asks no more
-pub record Taken (box : List EventView) (d : ChannelState) (r : ChannelReply) : Type 0 where
+pub record Taken (front box : List EventView) (d : ChannelState) (r : ChannelReply) : Type 0 where
   pub channel : ChannelState
   pub is : channels.replied d r ≡ Ok channel
   pub id : channel.id ≡ d.id
   pub agrees : ChannelAgrees box channel
   pub free : (channel.lane.mode ≡ Live) ⊎ (channel.lane.mode ≡ Again)
+  pub reaches : is_last_part r ≡ true → ending front ≤ channel.lane.at
 
-grows : (box : List EventView) (d : ChannelState) (to : ℕ) (news : List (List ℕ)) (others : List _) (xs : List EventView) (last : Bool) (r : ChannelReply)
-    → AreCounted box → ChannelAgrees box d → Between box d.lane.at to xs → channels.replied d r ≡ grown d last (woven_of d.lane.at to news others) → woven_of d.lane.at to news others ≡ Ok xs → Taken box d r
-grows box d to news others xs last r k h b e w = record {
+grows : (front box : List EventView) (d : ChannelState) (to : ℕ) (news : List (List ℕ)) (others : List _) (xs : List EventView) (last : Bool) (r : ChannelReply)
+    → AreCounted box → ChannelAgrees box d → Between box d.lane.at to xs → channels.replied d r ≡ grown d last (woven_of d.lane.at to news others) → woven_of d.lane.at to news others ≡ Ok xs → (is_last_part r ≡ true → ending front ≤ to) → Taken front box d r
+grows front box d to news others xs last r k h b e w up = record {
   channel = record d { lane = extend count_of d.lane xs last };
   is = e ∙ ap (grown d last) w;
   id = refl;
@@ -75,10 +77,11 @@ grows box d to news others xs last r k h b e w = record {
     recent = recent_same box d (record d { lane = extend count_of d.lane xs last }) (extend_restart d.lane xs last) refl h.recent;
   };
   free = extend_free d.lane xs last;
+  reaches = λ final. omega (arith, up final, fits_reaches box d.lane to xs last k h.lane b);
 }
 
 begins_anew : (front box : List EventView) (d : ChannelState) (end : ℕ) (recent : List (List ℕ)) (last : Bool) → AreCounted box → HasMore front box → end ≡ ending front → recent ≡ recent_of (kept_of front)
-    → ChannelAgrees box d → Taken box d (TooLong end recent last)
+    → ChannelAgrees box d → Taken front box d (TooLong end recent last)
 begins_anew front box d end recent last k m e c h = record {
   channel = record d { lane = restart_at count_of d.lane end; recent = recent };
   is = refl;
@@ -88,6 +91,7 @@ begins_anew front box d end recent last k m e c h = record {
     recent = record { front = front; rest = m.0; whole = m.1; stop = sym e ∙ sym (restart_restart d.lane end); content = c };
   };
   free = inl (restart_live d.lane end);
+  reaches = λ final. omega (arith, e, restart_up count_of d.lane end (fits_after box d.lane k h.lane));
 }
 
 -- ---- the answer of an earlier server
@@ -145,28 +149,34 @@ nothing_lies : (whole box : List EventView) (b : ChannelBox) (d : ChannelState) 
 unfolding limited
 nothing_lies whole box b d m kept le run = kept_lies whole box b d.lane.at [] m kept le run
 
+nothing_left : (whole : List EventView) (b : ChannelBox) (p : ℕ) → IsKept whole b → b.first ≤ p → RunAt b.events (p - b.first) [] → ending whole ≤ p
+nothing_left whole b p k le r = omega (arith, end_is whole b k, ap ending r.whole, ending-append r.front [], r.stop, le)
+
+kept_ends : (whole : List EventView) (b : ChannelBox) (p : ℕ) (es : List EventView) → IsKept whole b → b.first ≤ p → RunAt b.events (p - b.first) es → is_whole es ≡ true → ending whole ≤ p + ending (run_of es)
+kept_ends whole b p es k le r final = omega (arith, end_is whole b k, whole_run b.events (p - b.first) es r final, le)
+
 part_taken : (whole box : List EventView) (b : ChannelBox) (d : ChannelState) (es : List EventView) → AreCounted box → HasMore whole box → IsKept whole b → b.first ≤ d.lane.at
-    → RunAt b.events (d.lane.at - b.first) es → ChannelAgrees box d → (r : ChannelReply) × (channel_part d.lane.at (Some es) ≡ Channel r) × Taken box d r
+    → RunAt b.events (d.lane.at - b.first) es → ChannelAgrees box d → (r : ChannelReply) × (channel_part d.lane.at (Some es) ≡ Channel r) × Taken whole box d r
 part_taken whole box b d [] k m kept le run h = (
   EmptyPart d.lane.at true,
   refl,
-  grows box d d.lane.at [] [] [] true (EmptyPart d.lane.at true) k h
-      (subst (λ (q : ℕ). Between box d.lane.at q []) (plus_none d.lane.at) (nothing_lies whole box b d m kept le run)) refl (none_woven d.lane.at),
+  grows whole box d d.lane.at [] [] [] true (EmptyPart d.lane.at true) k h
+      (subst (λ (q : ℕ). Between box d.lane.at q []) (plus_none d.lane.at) (nothing_lies whole box b d m kept le run)) refl (none_woven d.lane.at) (λ final. nothing_left whole b d.lane.at kept le run),
 )
 part_taken whole box b d (e ∷ es) k m kept le run h =
     let xs : List EventView = run_of (e ∷ es) in
     let p : ℕ = d.lane.at in
     let r : ChannelReply = Part (p + ending xs) (bodies xs) (others_from p xs) (is_whole (e ∷ es)) in
-    (r, refl, grows box d (p + ending xs) (bodies xs) (others_from p xs) xs (is_whole (e ∷ es)) r k h (kept_lies whole box b p (e ∷ es) m kept le run) refl (run_woven p xs))
+    (r, refl, grows whole box d (p + ending xs) (bodies xs) (others_from p xs) xs (is_whole (e ∷ es)) r k h (kept_lies whole box b p (e ∷ es) m kept le run) refl (run_woven p xs) (kept_ends whole b p (e ∷ es) kept le run))
 
 -- the answer to a request from a boundary of the whole box
-pub record TakenFrom (box : List EventView) (d : ChannelState) (v : Reply) : Type 0 where
+pub record TakenFrom (front box : List EventView) (d : ChannelState) (v : Reply) : Type 0 where
   pub reply : ChannelReply
   pub is : v ≡ Channel reply
-  pub taken : Taken box d reply
+  pub taken : Taken front box d reply
 
 near_taken : (whole box : List EventView) (b : ChannelBox) (d : ChannelState) → AreCounted whole → AreCounted box → HasMore whole box → IsKept whole b → IsBoundary whole d.lane.at → b.first ≤ d.lane.at → ChannelAgrees box d
-    → TakenFrom box d (channel_part d.lane.at (events_after b.events (d.lane.at - b.first)))
+    → TakenFrom whole box d (channel_part d.lane.at (events_after b.events (d.lane.at - b.first)))
 near_taken whole box b d cw cb m kept h le a =
     let here = kept_boundary whole b d.lane.at cw kept h le in
     let t = part_taken whole box b d here.rest cb m kept le (run_at b.events (d.lane.at - b.first) here) a in
@@ -174,7 +184,7 @@ near_taken whole box b d cw cb m kept h le a =
     record { reply = t.0; is = ap (channel_part d.lane.at) after ∙ t.1; taken = t.2 }
 
 far_by : (whole box : List EventView) (b : ChannelBox) (d : ChannelState) (far : Bool) → is_far b d.lane.at ≡ far → AreCounted whole → AreCounted box → HasMore whole box → IsKept whole b → IsBoundary whole d.lane.at → ChannelAgrees box d
-    → TakenFrom box d (channel_by false far b d.lane.at)
+    → TakenFrom whole box d (channel_by false far b d.lane.at)
 far_by whole box b d true e cw cb m kept h a = record {
   reply = TooLong (channel_end b) (recent_of b.events) true;
   is = refl;
@@ -186,7 +196,7 @@ inside_of : (box : List EventView) (p : ℕ) → IsBoundary box p → p ≤ endi
 inside_of box p b = omega (arith, b.stop, ap ending b.whole, ending-append b.front b.rest)
 
 channel_taken : (whole box : List EventView) (b : ChannelBox) (d : ChannelState) → AreCounted whole → AreCounted box → HasMore whole box → IsKept whole b → IsBoundary whole d.lane.at → ChannelAgrees box d
-    → TakenFrom box d (channel_difference b (pos d.lane.at))
+    → TakenFrom whole box d (channel_difference b (pos d.lane.at))
 channel_taken whole box b d cw cb m kept h a =
     let t = far_by whole box b d (is_far b d.lane.at) refl cw cb m kept h a in
     let within : ltb (channel_end b) d.lane.at ≡ false = not_past d.lane.at (channel_end b) (omega (arith, inside_of whole d.lane.at h, end_is whole b kept)) in
@@ -210,9 +220,9 @@ is_asked n Again e = absurd cc
 free_asks : (n : ℕ) (o : Option Asked) (d : ChannelState) → (d.lane.mode ≡ Live) ⊎ (d.lane.mode ≡ Again) → ChannelAsksBy n o d
 free_asks n o d f e = absurd (asks_never d.lane.mode n f e)
 
-goes_taken : (s : ServerState) (boxes : Boxes) (c : ClientState) (n : ℕ) (d : ChannelState) (v : ChannelReply) (t : Taken (boxes d.id) d v) → Agrees s boxes c
+goes_taken : (s : ServerState) (boxes : Boxes) (c : ClientState) (n : ℕ) (d : ChannelState) (v : ChannelReply) (front : List EventView) (t : Taken front (boxes d.id) d v) → Agrees s boxes c
     → Goes s boxes c (record c { channels = at_first (asks_number n) (λ _. t.channel) c.channels })
-goes_taken s boxes c n d v t a = record {
+goes_taken s boxes c n d v front t a = record {
   agrees = record {
     common = a.common;
     secret = a.secret;
@@ -239,5 +249,30 @@ told_channel m s bm boxes c n d km k g a f h =
     let t = channel_taken (bm d.id) (boxes d.id) (channel_in m.channels d.id) d (km.channels d.id) (k.channels d.id) (g.channels d.id) (km.kept d.id) h agrees in
     takes (record c { channels = at_first (asks_number n) (λ _. t.taken.channel) c.channels })
     (ap (channel_replied c n) t.is ∙ answered_is c n d t.reply t.taken.channel f t.taken.is)
-    (goes_taken s boxes c n d t.reply t.taken a)
+    (goes_taken s boxes c n d t.reply (bm d.id) t.taken a)
     (subst (λ (r : Reply). Reaches m r (record c { channels = at_first (asks_number n) (λ _. t.taken.channel) c.channels })) (sym t.is) (λ e. absurd cc))
+
+-- ---- a channel catches up
+
+channel_same : (a b : ChannelReply) → Channel a ≡ Channel b → a ≡ b
+channel_same a b e = cc
+
+-- the channel that asks a number takes its answer, and with a last part it stands at or past where the server's was
+pub record ChannelTakes (m : ServerState) (c : ClientState) (n : ℕ) (d : ChannelState) (v : ChannelReply) : Type 0 where
+  pub channel : ChannelState
+  pub id : channel.id ≡ d.id
+  pub is : channel_replied c n (Channel v) ≡ becomes (record c { channels = at_first (asks_number n) (λ _. channel) c.channels })
+  pub reaches : is_last_part v ≡ true → channel_end (channel_in m.channels d.id) ≤ channel.lane.at
+
+pub channel_takes : (m s : ServerState) (bm boxes : Boxes) (c : ClientState) (n : ℕ) (d : ChannelState) (v : ChannelReply) → IsLedger m bm → IsLedger s boxes → Continues m s bm boxes → Agrees s boxes c
+    → first (asks_number n) c.channels ≡ Some d → IsBoundary (bm d.id) d.lane.at → Channel v ≡ channel_difference (channel_in m.channels d.id) (pos d.lane.at) → ChannelTakes m c n d v
+channel_takes m s bm boxes c n d v km k g a f h is =
+    let agrees = (first_has (λ x. ChannelAgrees (boxes x.id) x) (asks_number n) c.channels d a.channels f).0 in
+    let t = channel_taken (bm d.id) (boxes d.id) (channel_in m.channels d.id) d (km.channels d.id) (k.channels d.id) (g.channels d.id) (km.kept d.id) h agrees in
+    let same : v ≡ t.reply = channel_same v t.reply (is ∙ t.is) in
+    record {
+      channel = t.taken.channel;
+      id = t.taken.id;
+      is = ap (λ (r : ChannelReply). channel_replied c n (Channel r)) same ∙ answered_is c n d t.reply t.taken.channel f t.taken.is;
+      reaches = λ final. omega (arith, end_is (bm d.id) (channel_in m.channels d.id) (km.kept d.id), t.taken.reaches (ap is_last_part (sym same) ∙ final));
+    }

@@ -35,7 +35,7 @@ answer_is : (m : ServerState) (c : ClientState) → answer m (Difference (pos c.
 unfolding answer
 answer_is m c = refl
 
-channel_answer_is : (m : ServerState) (id pts : ℤ) → answer m (Channel id pts) ≡ channel_difference (channel_in m.channels id) pts
+pub channel_answer_is : (m : ServerState) (id pts : ℤ) → answer m (Channel id pts) ≡ channel_difference (channel_in m.channels id) pts
 unfolding answer
 channel_answer_is m id pts = refl
 
@@ -48,7 +48,7 @@ told_by_group carries m s whole boxes c n r seq v km k g a f is u e =
     told_as s boxes c (Reaches m w) (Reaches m v) (group_replied c w) (group_replied c v) (ap (group_replied c) same) (λ d h. subst (λ (x : Reply). Reaches m x d) (sym same) h)
     (told_group carries m s whole boxes c km k g a (group_fits m whole c r seq asks f))
 
-channel_fits : (m : ServerState) (whole : Boxes) (d : ChannelState) (r : Request) (seq : ℕ) → r ≡ Channel d.id (pos d.lane.at) → RequestFits m whole r seq → IsBoundary (whole d.id) d.lane.at
+pub channel_fits : (m : ServerState) (whole : Boxes) (d : ChannelState) (r : Request) (seq : ℕ) → r ≡ Channel d.id (pos d.lane.at) → RequestFits m whole r seq → IsBoundary (whole d.id) d.lane.at
 channel_fits m whole d r seq e f =
     let h = subst (λ (x : Request). RequestFits m whole x seq) e f in
     subst (IsBoundary (whole d.id)) (sym (same_pos d.lane.at h.0 h.1)) h.2

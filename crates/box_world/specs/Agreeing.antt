@@ -7,6 +7,8 @@ use Rattle.box_events.specs.declared.replies.Reply.{Reply}
 use Rattle.box_events.specs.declared.replies.Reply.TheVariants.{State, Empty, Difference, Channel, Receipt, Error}
 use Rattle.pts_machine.specs.Fitting.{Fits}
 use Rattle.seq_machine.specs.Agreeing.{SettingsAgree}
+use Rattle.box_events.specs.declared.replies.ChannelReply.{ChannelReply}
+use Rattle.box_events.specs.declared.replies.ChannelReply.TheVariants.{Empty as EmptyPart, Part, TooLong}
 use Rattle.channel_box.specs.States.{ChannelState}
 use Rattle.box_server.specs.Servers.{ServerState}
 use Rattle.box_server.specs.Runs.{recent_of}
@@ -60,3 +62,9 @@ is_final (Error code text) = false
 -- with a last part a client reaches where the server was that answered
 abbrev pub Reaches : ServerState → Reply → ClientState → Type 0
 Reaches m r c = is_final r ≡ true → IsPast m c
+
+-- whether a reply is the last part of a channel's difference
+abbrev pub is_last_part : ChannelReply → Bool
+is_last_part (EmptyPart pts last) = last
+is_last_part (Part pts news others last) = last
+is_last_part (TooLong pts recent last) = last

@@ -1,12 +1,22 @@
 -- Laws of worlds. This project's own.
-use Rattle.std.specs.Prelude.{◌≡◌, ◌≢◌, ℕ, List, ◌++◌, true, Some, slice_get}
+use Rattle.std.specs.Prelude.{◌≡◌, ◌≢◌, ◌≤◌, ℕ, ℤ, List, ◌++◌, true, false, Some, None, slice_get}
+use Rattle.std.specs.FinMap as map
+use Rattle.box_events.specs.declared.positions.Receipt.{Receipt}
+use Rattle.box_events.specs.declared.requests.Post.{Post}
 use Rattle.box_events.specs.declared.replies.Reply.{Reply}
+use Rattle.box_events.specs.declared.replies.Reply.TheVariants.{Channel}
+use Rattle.box_events.specs.declared.replies.ChannelReply.{ChannelReply}
 use Rattle.box_events.specs.declared.steps.Step.{Step}
-use Rattle.box_server.specs.Servers.{ServerState}
+use Rattle.box_events.specs.declared.steps.Step.TheVariants as step
+use Rattle.channel_box.specs.States.{ChannelState, first}
+use Rattle.channel_box.specs.Steps.{at_first, asks_number, is_asking}
+use Rattle.box_server.specs.Servers.{ServerState, channel_end, channel_in}
+use Rattle.box_server.specs.Refusing.{post_cause}
+use Rattle.box_server.specs.declared.fault.PostFault.{PostFault}
 use Rattle.box_client.specs.States.{ClientState, new_client}
 use Rattle.box_client.specs.Replies.{Cause, refuses, becomes, replied}
-use Rattle.box_world.specs.Worlds.{Packet, reply, run}
-use Rattle.box_world.specs.Agreeing.{Agrees, Boxes, IsPast, is_final}
+use Rattle.box_world.specs.Worlds.{Packet, reply, World, happens, run}
+use Rattle.box_world.specs.Agreeing.{Agrees, Boxes, IsPast, is_final, is_last_part}
 use Rattle.box_world.specs.Growing.{Continues, IsLedger}
 use Rattle.box_world.specs.Awaiting.{Still}
 use Rattle.box_world.specs.Reached.{PacketFits, boxes_of}
@@ -46,6 +56,20 @@ RepliesAreTaken = (n : ℕ) (steps : List Step) (m k number : ℕ) (r : Reply) (
 abbrev pub ClientsCatchUp : Type 0
 ClientsCatchUp = (n : ℕ) (steps : List Step) (m k number : ℕ) (r : Reply) (s : ServerState) (c d : ClientState) → slice_get (run n steps).pool m ≡ Some (reply k number r s) → slice_get (run n steps).clients k ≡ Some c
     → is_final r ≡ true → replied c number r ≡ becomes d → IsPast s d
+
+-- the same of a channel: where the group doesn't ask the number and a channel does, that channel takes the reply, and with the last part it stands
+-- at or past where the channel's box ended in the server that answered
+abbrev pub ChannelsCatchUp : Type 0
+ChannelsCatchUp = (n : ℕ) (steps : List Step) (m k number : ℕ) (v : ChannelReply) (s : ServerState) (c : ClientState) (d : ChannelState) → slice_get (run n steps).pool m ≡ Some (reply k number (Channel v) s)
+    → slice_get (run n steps).clients k ≡ Some c → is_asking number c.common.mode ≡ false → first (asks_number number) c.channels ≡ Some d → is_last_part v ≡ true
+    → (e : ChannelState) × (e.id ≡ d.id) × (replied c number (Channel v) ≡ becomes (record c { channels = at_first (asks_number number) (λ _. e) c.channels })) × (channel_end (channel_in s.channels d.id) ≤ e.lane.at)
+
+-- a post under a known id changes nothing, and neither does a refused one
+abbrev pub KnownPostsChangeNothing : Type 0
+KnownPostsChangeNothing = (w : World) (random_id : ℤ) (posts : List Post) (receipt : Receipt) → map.get w.server.receipts random_id ≡ Some receipt → happens w (step.Post random_id posts) ≡ w
+
+abbrev pub RefusedPostsChangeNothing : Type 0
+RefusedPostsChangeNothing = (w : World) (random_id : ℤ) (posts : List Post) (cause : PostFault) → map.get w.server.receipts random_id ≡ None → post_cause w.server posts ≡ Some cause → happens w (step.Post random_id posts) ≡ w
 
 -- the server's events count, its last 500 of each channel are the last of the whole box, and the dates of its settings never fall
 abbrev pub ServersKeepOrder : Type 0

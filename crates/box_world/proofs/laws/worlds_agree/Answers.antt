@@ -1,5 +1,5 @@
 use Rattle.box_server.proofs.Carrying.{changed_overlays}
-use Rattle.box_world.proofs.Reaching.{clients_agree, replies_are_taken, clients_catch_up, packets_fit, servers_keep_order, worlds_grow}
+use Rattle.box_world.proofs.Reaching.{clients_agree, replies_are_taken, clients_catch_up, channels_catch_up, packets_fit, servers_keep_order, worlds_grow}
 use Rattle.box_world.proofs.laws.worlds_agree.Goals as goal
 
 pub returns-clause-agree : goal.returns-clause-agree
@@ -10,6 +10,9 @@ returns-clause-taken c = replies_are_taken changed_overlays
 
 pub returns-clause-catch_up : goal.returns-clause-catch_up
 returns-clause-catch_up c = clients_catch_up changed_overlays
+
+pub returns-clause-channels_catch_up : goal.returns-clause-channels_catch_up
+returns-clause-channels_catch_up c = channels_catch_up changed_overlays
 
 pub returns-clause-packets : goal.returns-clause-packets
 returns-clause-packets c = packets_fit changed_overlays
