@@ -43,7 +43,7 @@ pub record RunAt (box : List EventView) (p : ℕ) (es : List EventView) : Type 0
   pub rest : List EventView
   pub run : es ≡ run_of es ++ rest
 
-counted_left : (xs ys : List EventView) → AreCounted (xs ++ ys) → AreCounted xs
+pub counted_left : (xs ys : List EventView) → AreCounted (xs ++ ys) → AreCounted xs
 counted_left [] ys c = tt
 counted_left (x ∷ xs) ys c = (c.0, counted_left xs ys c.1)
 

@@ -29,7 +29,7 @@ use Rattle.box_world.specs.Agreeing.{Reaches, is_last_part, Boxes, Each, Channel
 use Rattle.box_world.specs.Awaiting.{Asked, ChannelAsksBy}
 use Rattle.box_world.specs.Growing.{HasMore, Continues, IsKept, IsLedger}
 use Rattle.box_world.proofs.Answering.{whole_run, RunAt, run_at, run_after, run_lies, append_append, run_woven, none_woven}
-use Rattle.box_world.proofs.Pushing.{Goes, each_at_first, recent_same}
+use Rattle.box_world.proofs.Pushing.{few_at_first, Goes, each_at_first, recent_same}
 use Rattle.box_world.proofs.Replying.{Told, takes, extend_live, extend_again, asks_never}
 
 -- ---- a lane's restart and mode after an answer
@@ -96,7 +96,7 @@ begins_anew front box d end recent last k m e c h = record {
 
 -- ---- the answer of an earlier server
 
-not_past : (a b : ℕ) → a ≤ b → ltb b a ≡ false
+pub not_past : (a b : ℕ) → a ≤ b → ltb b a ≡ false
 not_past a b le = grind (arith, nat_tests)
 
 from_by : (a b : ℕ) (x t : Bool) → ltb a b ≡ x → (x || t) ≡ false → b ≤ a
@@ -104,14 +104,14 @@ from_by a b true t is e = absurd cc
 from_by a b false t is e = grind (arith, nat_tests)
 
 -- what isn't far begins no earlier than the kept events
-from_first : (a b : ℕ) (t : Bool) → (ltb a b || t) ≡ false → b ≤ a
+pub from_first : (a b : ℕ) (t : Bool) → (ltb a b || t) ≡ false → b ≤ a
 from_first a b t e = from_by a b (ltb a b) t refl e
 
-counted_right : (xs ys : List EventView) → AreCounted (xs ++ ys) → AreCounted ys
+pub counted_right : (xs ys : List EventView) → AreCounted (xs ++ ys) → AreCounted ys
 counted_right [] ys c = c
 counted_right (x ∷ xs) ys c = counted_right xs ys c.1
 
-end_is : (whole : List EventView) (b : ChannelBox) → IsKept whole b → channel_end b ≡ ending whole
+pub end_is : (whole : List EventView) (b : ChannelBox) → IsKept whole b → channel_end b ≡ ending whole
 end_is whole b k = ap (λ (n : ℕ). n + ending b.events) k.first ∙ sym (ending-append k.gone b.events) ∙ sym (ap ending k.parts)
 
 -- a boundary of the whole box that isn't before the kept events is one of these
@@ -124,7 +124,7 @@ cut_prefix (g ∷ gone) kept (f ∷ front) rest e c le =
     let m = cut_prefix gone kept front rest tail c.1 (omega (arith, le, ap count_of head)) in
     (m.0, m.1, omega (arith, m.2, ap count_of head))
 
-kept_boundary : (whole : List EventView) (b : ChannelBox) (p : ℕ) → AreCounted whole → IsKept whole b → IsBoundary whole p → b.first ≤ p → IsBoundary b.events (p - b.first)
+pub kept_boundary : (whole : List EventView) (b : ChannelBox) (p : ℕ) → AreCounted whole → IsKept whole b → IsBoundary whole p → b.first ≤ p → IsBoundary b.events (p - b.first)
 kept_boundary whole b p c k h le =
     let m = cut_prefix k.gone b.events h.front h.rest (sym k.parts ∙ h.whole) (subst AreCounted k.parts c) (omega (arith, le, k.first, h.stop)) in
     record { front = m.0; rest = h.rest; whole = m.1; stop = omega (arith, m.2, k.first, h.stop) }
@@ -192,7 +192,7 @@ far_by whole box b d true e cw cb m kept h a = record {
 }
 far_by whole box b d false e cw cb m kept h a = near_taken whole box b d cw cb m kept h (from_first d.lane.at b.first (ltb 1000 (channel_end b - d.lane.at)) e) a
 
-inside_of : (box : List EventView) (p : ℕ) → IsBoundary box p → p ≤ ending box
+pub inside_of : (box : List EventView) (p : ℕ) → IsBoundary box p → p ≤ ending box
 inside_of box p b = omega (arith, b.stop, ap ending b.whole, ending-append b.front b.rest)
 
 channel_taken : (whole box : List EventView) (b : ChannelBox) (d : ChannelState) → AreCounted whole → AreCounted box → HasMore whole box → IsKept whole b → IsBoundary whole d.lane.at → ChannelAgrees box d
@@ -233,6 +233,7 @@ goes_taken s boxes c n d v front t a = record {
   };
   still = record {
     next = refl;
+    few = few_at_first (asks_number n) (λ _. t.channel) c.channels;
     asks = λ k o h. record { group = h.group; channels = each_at_first (ChannelAsksBy k o) (asks_number n) (λ _. t.channel) (λ x e g. free_asks k o t.channel t.free) c.channels h.channels };
   };
 }

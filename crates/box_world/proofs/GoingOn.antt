@@ -1,5 +1,8 @@
 -- What a client does by itself.
-use Rattle.std.proofs.Common.{◌≡◌, ℕ, ◌+◌, ℤ, List, [], ◌∷◌, ◌++◌, map, Bool, true, false, Option, refl, sym, ◌∙◌}
+use Rattle.std.proofs.Common.{◌≡◌, ℕ, ◌+◌, ◌<◌, ◌≤◌, ℤ, List, [], ◌∷◌, ◌++◌, length, map, Bool, true, false, cond, ltb, Option, refl, sym, ◌∙◌, arith}
+use Rattle.std.proofs.lemmas.Bool.Decides.{nat_tests}
+use Rattle.std.proofs.lemmas.List.{length-append, length-map}
+use Rattle.box_events.specs.declared.limits.TheConstants.{MAX_CHANNELS}
 use Rattle.box_events.specs.Events.{EventView}
 use Rattle.pts_machine.specs.declared.mode.Mode.{Mode}
 use Rattle.pts_machine.specs.declared.mode.Mode.TheVariants.{Live, Asking}
@@ -8,7 +11,7 @@ use Rattle.pts_machine.specs.Steps.{forget, new_lane}
 use Rattle.pts_machine.proofs.Fitting.{fits_asked, fits_forget, fits_new}
 use Rattle.seq_machine.proofs.Agreements.{agree_asked, agree_forgotten}
 use Rattle.channel_box.specs.States.{ChannelState}
-use Rattle.channel_box.specs.Steps.{channel_is_due, channel_asks, ticked, flagged, forgot, forgotten, channel_of, may_watch, watched_if}
+use Rattle.channel_box.specs.Steps.{channel_is_due, channel_asks, ticked, flagged, forgot, forgotten, channel_of, is_watched, may_watch, watched_if}
 use Rattle.box_server.specs.Servers.{ServerState}
 use Rattle.box_server.specs.Runs.{limited}
 use Rattle.box_client.specs.States.{ClientState}
@@ -144,6 +147,7 @@ asking_is m n e = cc
 pub still_wakes : StillAsClientsGoOn wakes
 still_wakes c = record {
   next = refl;
+  few = λ h. omega (arith, h, length-map c.channels flagged);
   asks = λ n o h. record { group = h.group; channels = each_by (ChannelAsksBy n o) (ChannelAsksBy n o) flagged (λ d g. g) c.channels h.channels };
 }
 
@@ -153,6 +157,7 @@ forgot_asks n o d g e = absurd (live_asks n (forget d.lane).mode (forget_mode d.
 pub still_restarts : StillAsClientsGoOn restarted
 still_restarts c = record {
   next = refl;
+  few = λ h. omega (arith, h, length-map c.channels forgot, length-map (forgotten c.channels) flagged);
   asks = λ n o h. record {
     group = λ e. absurd (live_asks n (forget c.common).mode (forget_mode c.common) e);
     channels = each_by (ChannelAsksBy n o) (ChannelAsksBy n o) flagged (λ d g. g) (forgotten c.channels)
@@ -167,8 +172,17 @@ asks_watched : (n : ℕ) (o : Option Asked) (ds : List ChannelState) (id : ℤ) 
 asks_watched n o ds id true h = each_last (ChannelAsksBy n o) ds (channel_of id new_lane []) h (new_asks n o id)
 asks_watched n o ds id false h = h
 
+free_by : (b : Bool) (n : ℕ) → cond b false (ltb n MAX_CHANNELS) ≡ true → n < MAX_CHANNELS
+free_by true n e = absurd (let w : false ≡ true = e in cc)
+free_by false n e = grind (arith, nat_tests)
+
+few_watched : (ds : List ChannelState) (id : ℤ) (b : Bool) → may_watch ds id ≡ b → length ds ≤ MAX_CHANNELS → length (watched_if b ds (channel_of id new_lane [])) ≤ MAX_CHANNELS
+few_watched ds id true e h = omega (arith, free_by (is_watched ds id) (length ds) e, length-append ds (channel_of id new_lane [] ∷ []))
+few_watched ds id false e h = h
+
 pub still_watches : (id : ℤ) → StillAsClientsGoOn (watches id)
 still_watches id c = record {
   next = refl;
+  few = few_watched c.channels id (may_watch c.channels id) refl;
   asks = λ n o h. record { group = h.group; channels = asks_watched n o c.channels id (may_watch c.channels id) h.channels };
 }

@@ -13,3 +13,5 @@ pub mod Ticking
 pub mod Posting
 pub mod Stepping
 pub mod Reaching
+pub mod Numbers
+pub mod Ranges

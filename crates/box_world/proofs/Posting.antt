@@ -47,7 +47,7 @@ carried_events id s (to_channel k e ∷ xs) = event_by (int_eq k id) e (events_f
 carried_events id s (to_settings x ∷ xs) = carried_events id (applied s (to_settings x)) xs
 
 -- and the settings
-carried_settings : (s : ServerState) (xs : List Entry) → settings_in (updates_of s xs) ≡ settings_of xs
+pub carried_settings : (s : ServerState) (xs : List Entry) → settings_in (updates_of s xs) ≡ settings_of xs
 carried_settings s [] = refl
 carried_settings s (to_common e ∷ xs) = carried_settings (applied s (to_common e)) xs
 carried_settings s (to_secret body ∷ xs) = carried_settings (applied s (to_secret body)) xs
@@ -152,22 +152,30 @@ kept_cut whole more c k =
 
 -- ---- posts that a server takes
 
-none_if : (b : Bool) (x : PostFault) (o : Option PostFault) → (if b then Some x else o) ≡ None → (b ≡ false) × (o ≡ None)
+pub none_if : (b : Bool) (x : PostFault) (o : Option PostFault) → (if b then Some x else o) ≡ None → (b ≡ false) × (o ≡ None)
 none_if true x o e = absurd (let w : Some x ≡ None = e in cc)
 none_if false x o e = (refl, e)
 
-none_else : (o p : Option PostFault) → or_else o p ≡ None → o ≡ None
-none_else None p e = refl
-none_else (Some x) p e = e
+none_else : (o p : Option PostFault) → or_else o p ≡ None → (o ≡ None) × (p ≡ None)
+none_else None p e = (refl, e)
+none_else (Some x) p e = absurd (let w : Some x ≡ None = e in cc)
 
 counted_taken : (s : ServerState) (posts : List Post) → post_cause s posts ≡ None → Counted (entries_of posts)
 unfolding post_cause
 counted_taken s posts none =
     let xs : List Entry = entries_of posts in
-    let bad : first_cause (bad_entries xs) ≡ None = none_else (first_cause (bad_entries xs)) (or_else (first_cause (too_many (applied_all s xs))) (box_full s xs)) none in
+    let bad : first_cause (bad_entries xs) ≡ None = (none_else (first_cause (bad_entries xs)) (or_else (first_cause (too_many (applied_all s xs))) (box_full s xs)) none).0 in
     let few = none_if (eqb (length xs) 0) _ _ bad in
     let many = none_if _ _ _ few.1 in
     (none_if (list_any (is_event (λ e. eqb (count_of e) 0)) xs) _ _ many.1).0
+
+-- no box is full
+pub room_taken : (s : ServerState) (posts : List Post) → post_cause s posts ≡ None → box_full s (entries_of posts) ≡ None
+unfolding post_cause
+room_taken s posts none =
+    let xs : List Entry = entries_of posts in
+    let rest = (none_else (first_cause (bad_entries xs)) (or_else (first_cause (too_many (applied_all s xs))) (box_full s xs)) none).1 in
+    (none_else (first_cause (too_many (applied_all s xs))) (box_full s xs) rest).1
 
 -- ---- the server after a new post
 

@@ -1,6 +1,7 @@
 -- What pushes do to a client that agrees with its server.
-use Rattle.std.proofs.Common.{◌≡◌, ℕ, ◌-◌, ◌<◌, ℤ, List, [], ◌∷◌, Bool, true, false, cond, Option, ltb, refl, sym, ap, ◌∙◌, subst, arith}
+use Rattle.std.proofs.Common.{◌≡◌, ℕ, ◌-◌, ◌<◌, ℤ, List, [], ◌∷◌, Bool, true, false, cond, Option, ltb, refl, sym, ap, ◌∙◌, subst, arith, length, ◌≤◌}
 use Rattle.std.proofs.lemmas.Bool.Decides.{nat_tests}
+use Rattle.box_events.specs.declared.limits.TheConstants.{MAX_CHANNELS}
 use Rattle.box_events.specs.Events.{EventView, added, count_of}
 use Rattle.box_events.specs.SettingLists.{NeverFallFrom}
 use Rattle.box_events.specs.declared.updates.Update.{Update}
@@ -36,10 +37,10 @@ pub record Goes (s : ServerState) (boxes : Boxes) (c d : ClientState) : Type 0 w
   pub still : Still c d
 
 pub goes_none : (s : ServerState) (boxes : Boxes) (c : ClientState) → Agrees s boxes c → Goes s boxes c c
-goes_none s boxes c a = record { agrees = a; still = record { next = refl; asks = λ n o h. h } }
+goes_none s boxes c a = record { agrees = a; still = record { next = refl; few = λ h. h; asks = λ n o h. h } }
 
 pub goes_then : (s : ServerState) (boxes : Boxes) (b c d : ClientState) → Goes s boxes b c → Goes s boxes c d → Goes s boxes b d
-goes_then s boxes b c d g h = record { agrees = h.agrees; still = record { next = h.still.next ∙ g.still.next; asks = λ n o w. h.still.asks n o (g.still.asks n o w) } }
+goes_then s boxes b c d g h = record { agrees = h.agrees; still = record { next = h.still.next ∙ g.still.next; few = λ f. h.still.few (g.still.few f); asks = λ n o w. h.still.asks n o (g.still.asks n o w) } }
 
 -- ---- channels
 
@@ -52,6 +53,17 @@ pub each_at_first : (P : ChannelState → Type 0) (p : ChannelState → Bool) (f
     → (ds : List ChannelState) → Each P ds → Each P (at_first p f ds)
 each_at_first P p f g [] h = tt
 each_at_first P p f g (d ∷ ds) h = first_by P f d ds (at_first p f ds) (p d) (λ e. g d e h.0) h.0 h.1 (each_at_first P p f g ds h.1)
+
+length_by : (f : ChannelState → ChannelState) (d : ChannelState) (ds es : List ChannelState) (b : Bool) → length es ≡ length ds → length (cond b (f d ∷ ds) (d ∷ es)) ≡ length (d ∷ ds)
+length_by f d ds es true e = refl
+length_by f d ds es false e = omega (arith, e)
+
+length_at_first : (p : ChannelState → Bool) (f : ChannelState → ChannelState) (ds : List ChannelState) → length (at_first p f ds) ≡ length ds
+length_at_first p f [] = refl
+length_at_first p f (d ∷ ds) = length_by f d ds (at_first p f ds) (p d) (length_at_first p f ds)
+
+pub few_at_first : (p : ChannelState → Bool) (f : ChannelState → ChannelState) (ds : List ChannelState) → length ds ≤ MAX_CHANNELS → length (at_first p f ds) ≤ MAX_CHANNELS
+few_at_first p f ds h = omega (arith, h, length_at_first p f ds)
 
 pub recent_same : (box : List EventView) (c d : ChannelState) → d.lane.restart ≡ c.lane.restart → d.recent ≡ c.recent → IsRecent box c → IsRecent box d
 recent_same box c d e f h = record { front = h.front; rest = h.rest; whole = h.whole; stop = h.stop ∙ sym e; content = f ∙ h.content }
@@ -91,6 +103,7 @@ goes_common s boxes c event pts k lies a =
       };
       still = record {
         next = refl;
+        few = λ h. h;
         asks = λ n o h. record {
           group = λ e.
               let was : c.common.mode ≡ Asking n = sym (hear_mode c.common start pts event) ∙ e in
@@ -113,6 +126,7 @@ goes_secret s boxes c body qts k lies a =
       };
       still = record {
         next = refl;
+        few = λ h. h;
         asks = λ n o h. record {
           group = λ e. subst (λ (x : ℕ). GroupAsks o c.common.at x c.settings.date c.settings.at) (sym (hear_at c.secret start qts (added body) (not_live c.secret.mode n (a.one_mode.0 ∙ e)))) (h.group e);
           channels = h.channels;
@@ -134,6 +148,7 @@ goes_channel s boxes c id event pts k lies a =
       };
       still = record {
         next = refl;
+        few = few_at_first (has_id id) (λ d. heard_by d (hear d.lane start pts event)) c.channels;
         asks = λ n o h. record {
           group = h.group;
           channels = each_at_first (ChannelAsksBy n o) (has_id id) (λ d. heard_by d (hear d.lane start pts event)) (λ d e g. hear_asks n o start pts event d g) c.channels h.channels;
@@ -152,6 +167,7 @@ goes_flagged s boxes c id a = record {
   };
   still = record {
     next = refl;
+    few = few_at_first (has_id id) flagged c.channels;
     asks = λ n o h. record { group = h.group; channels = each_at_first (ChannelAsksBy n o) (has_id id) flagged (λ d e g. g) c.channels h.channels };
   };
 }
@@ -193,6 +209,7 @@ goes_pack s boxes c start end pack k lies a = record {
   };
   still = record {
     next = refl;
+    few = λ h. h;
     asks = λ n o h. record {
       group = λ e.
           let same = pack_stands c.settings start end pack (not_live c.settings.mode n (a.one_mode.1 ∙ e)) in
@@ -215,7 +232,7 @@ above n e = grind (arith, nat_tests)
 pub goes_pushed : (s : ServerState) (boxes : Boxes) (c : ClientState) (p : Push) → IsLedger s boxes → PushLies s boxes p → Agrees s boxes c → Goes s boxes c (pushed c p)
 goes_pushed s boxes c TooLong k lies a = record {
   agrees = record { common = a.common; secret = a.secret; settings = a.settings; one_mode = a.one_mode; channels = a.channels };
-  still = record { next = refl; asks = λ n o h. record { group = h.group; channels = h.channels } };
+  still = record { next = refl; few = λ h. h; asks = λ n o h. record { group = h.group; channels = h.channels } };
 }
 goes_pushed s boxes c (Container us date seq_start seq) k lies a =
     let one = goes_updates s boxes c us k lies.0 a in

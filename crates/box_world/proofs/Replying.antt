@@ -80,7 +80,7 @@ goes_done s boxes c b true tx ty xs ys k a x y over =
         one_mode = (extend_live c.secret ys ∙ sym (extend_live c.common xs), overlay_live c.settings b.settings b.state.seq b.state.date ∙ sym (extend_live c.common xs));
         channels = a.channels;
       };
-      still = record { next = refl; asks = λ n o h. record { group = λ e. absurd (asks_never (extend count_of c.common xs true).mode n (inl (extend_live c.common xs)) e); channels = h.channels } };
+      still = record { next = refl; few = λ h. h; asks = λ n o h. record { group = λ e. absurd (asks_never (extend count_of c.common xs true).mode n (inl (extend_live c.common xs)) e); channels = h.channels } };
     }
 goes_done s boxes c b false tx ty xs ys k a x y over = record {
   agrees = record {
@@ -90,7 +90,7 @@ goes_done s boxes c b false tx ty xs ys k a x y over = record {
     one_mode = (extend_again c.secret ys ∙ sym (extend_again c.common xs), sym (extend_again c.common xs));
     channels = a.channels;
   };
-  still = record { next = refl; asks = λ n o h. record { group = λ e. absurd (asks_never (extend count_of c.common xs false).mode n (inr (extend_again c.common xs)) e); channels = h.channels } };
+  still = record { next = refl; few = λ h. h; asks = λ n o h. record { group = λ e. absurd (asks_never (extend count_of c.common xs false).mode n (inr (extend_again c.common xs)) e); channels = h.channels } };
 }
 
 -- an answer that makes lists becomes a client

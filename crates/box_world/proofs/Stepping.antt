@@ -57,7 +57,7 @@ idle w g = record {
 
 -- ---- a packet without events is sent
 
-only : (P : Packet → Type 0) (m p : Packet) (i : ℕ) → slice_get (m ∷ []) i ≡ Some p → P m → P p
+pub only : (P : Packet → Type 0) (m p : Packet) (i : ℕ) → slice_get (m ∷ []) i ≡ Some p → P m → P p
 only P m p zero is h = subst P (same_Some m p is) h
 only P m p (suc i) is h = absurd (none-some p is)
 
@@ -203,7 +203,7 @@ goes_reply carries w j k c n v m true e g at h =
     goes_told w.server (boxes_of w) c (Reaches m v) (replied c n v) (g.agrees k c at) (reply_told carries w k c n v m g at own)
 goes_reply carries w j k c n v m false e g at h = goes_none w.server (boxes_of w) c (g.agrees k c at)
 
-goes_received : (carries : Carries) (w : World) (k : ℕ) (c : ClientState) (p : Packet) → IsGood w → slice_get w.clients k ≡ Some c → PacketFits w.server (boxes_of w) w.clients p → Goes w.server (boxes_of w) c (received k c p)
+pub goes_received : (carries : Carries) (w : World) (k : ℕ) (c : ClientState) (p : Packet) → IsGood w → slice_get w.clients k ≡ Some c → PacketFits w.server (boxes_of w) w.clients p → Goes w.server (boxes_of w) c (received k c p)
 goes_received carries w k c (push p) g at h = goes_pushed w.server (boxes_of w) c p g.ledger h (g.agrees k c at)
 goes_received carries w k c (request j n) g at h = goes_none w.server (boxes_of w) c (g.agrees k c at)
 goes_received carries w k c (reply j n v m) g at h = goes_reply carries w j k c n v m (eqb j k) refl g at h
@@ -266,7 +266,7 @@ advances carries w (step.ChannelTooLong id) g = quiet w (push (channel_too_long 
 
 -- ---- every world that steps lead to
 
-new_is : (n k : ℕ) (c : ClientState) → slice_get (new_clients n) k ≡ Some c → c ≡ new_client
+pub new_is : (n k : ℕ) (c : ClientState) → slice_get (new_clients n) k ≡ Some c → c ≡ new_client
 new_is zero k c is = absurd (none-some c is)
 new_is (suc n) zero c is = sym (same_Some new_client c is)
 new_is (suc n) (suc k) c is = new_is n k c is
@@ -274,7 +274,7 @@ new_is (suc n) (suc k) c is = new_is n k c is
 new_below : Below new_client
 new_below n le = record { group = λ e. absurd cc; channels = tt }
 
-good_start : (n : ℕ) → IsGood (start n)
+pub good_start : (n : ℕ) → IsGood (start n)
 good_start n = record {
   ledger = record {
     common = tt;

@@ -1,5 +1,6 @@
 -- Who asks a number, and where it stands: a request's answer finds its client where the request says. This project's own.
-use Rattle.std.specs.Prelude.{◌≡◌, ◌<◌, ◌≤◌, ℕ, ℤ, pos, Option, Some, None}
+use Rattle.std.specs.Prelude.{◌≡◌, ◌<◌, ◌≤◌, ℕ, ℤ, pos, Option, Some, None, length}
+use Rattle.box_events.specs.declared.limits.TheConstants.{MAX_CHANNELS}
 use Rattle.box_events.specs.declared.requests.Request.{Request}
 use Rattle.box_events.specs.declared.requests.Request.TheVariants.{Difference, Channel}
 use Rattle.pts_machine.specs.declared.mode.Mode.TheVariants.{Asking}
@@ -38,7 +39,8 @@ pub record Awaits (n : ℕ) (a : Asked) (c : ClientState) : Type 0 where
 abbrev pub Below : ClientState → Type 0
 Below c = (n : ℕ) → c.next ≤ n → AskBy n None c
 
--- a client goes on without asking, and stands still where it asks
+-- a client goes on without asking, and stands still where it asks; it watches no more channels than it may
 pub record Still (c d : ClientState) : Type 0 where
   pub next : d.next ≡ c.next
+  pub few : length c.channels ≤ MAX_CHANNELS → length d.channels ≤ MAX_CHANNELS
   pub asks : (n : ℕ) (o : Option Asked) → AskBy n o c → AskBy n o d

@@ -1,5 +1,6 @@
 -- Laws of worlds. This project's own.
-use Rattle.std.specs.Prelude.{◌≡◌, ◌≢◌, ◌≤◌, ℕ, ℤ, List, ◌++◌, true, false, Some, None, slice_get}
+use Rattle.std.specs.Prelude.{◌≡◌, ◌≢◌, ◌≤◌, ℕ, ℤ, ◌+◌, ◌*◌, List, ◌++◌, length, true, false, Some, None, slice_get}
+use Rattle.box_events.specs.declared.limits.TheConstants.{MAX_ASKS, MAX_CHANNELS}
 use Rattle.std.specs.FinMap as map
 use Rattle.box_events.specs.declared.positions.Receipt.{Receipt}
 use Rattle.box_events.specs.declared.requests.Post.{Post}
@@ -15,7 +16,8 @@ use Rattle.box_server.specs.Refusing.{post_cause}
 use Rattle.box_server.specs.declared.fault.PostFault.{PostFault}
 use Rattle.box_client.specs.States.{ClientState, new_client}
 use Rattle.box_client.specs.Replies.{Cause, refuses, becomes, replied}
-use Rattle.box_world.specs.Worlds.{Packet, reply, World, happens, run}
+use Rattle.box_client.specs.Ranges.{IsPushInRange, IsReplyInRange}
+use Rattle.box_world.specs.Worlds.{Packet, push, request, reply, World, happens, run}
 use Rattle.box_world.specs.Agreeing.{Agrees, Boxes, IsPast, is_final, is_last_part}
 use Rattle.box_world.specs.Growing.{Continues, IsLedger}
 use Rattle.box_world.specs.Awaiting.{Still}
@@ -70,6 +72,19 @@ KnownPostsChangeNothing = (w : World) (random_id : ℤ) (posts : List Post) (rec
 
 abbrev pub RefusedPostsChangeNothing : Type 0
 RefusedPostsChangeNothing = (w : World) (random_id : ℤ) (posts : List Post) (cause : PostFault) → map.get w.server.receipts random_id ≡ None → post_cause w.server posts ≡ Some cause → happens w (step.Post random_id posts) ≡ w
+
+-- the numbers of a packet are those that the calls of a client take
+abbrev pub IsPacketInRange : Packet → Type 0
+IsPacketInRange (push p) = IsPushInRange p
+IsPacketInRange (request k n) = Unit {0}
+IsPacketInRange (reply k n r s) = IsReplyInRange r
+
+abbrev pub PacketsAreInRange : Type 0
+PacketsAreInRange = (n : ℕ) (steps : List Step) (m : ℕ) (p : Packet) → slice_get (run n steps).pool m ≡ Some p → IsPacketInRange p
+
+-- a client watches no more channels than it may, and gives so many numbers at a tick at most
+abbrev pub NumbersStayBelow : Type 0
+NumbersStayBelow = (n : ℕ) (steps : List Step) (k : ℕ) (c : ClientState) → slice_get (run n steps).clients k ≡ Some c → (length c.channels ≤ MAX_CHANNELS) × (c.next ≤ 1 + MAX_ASKS * length steps)
 
 -- the server's events count, its last 500 of each channel are the last of the whole box, and the dates of its settings never fall
 abbrev pub ServersKeepOrder : Type 0

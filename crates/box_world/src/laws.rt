@@ -2,7 +2,7 @@
 ghost use Rattle.std.specs.Prelude.{ℤ};
 ghost use Rattle.box_client.specs.States.{ClientState};
 ghost use Rattle.box_client.specs.Asking.{ticks, wakes, restarted};
-ghost use Rattle.box_world.specs.Laws.{NewClientsAgree, AgreeAsServersGrow, AgreeAsClientsGoOn, StillAsClientsGoOn, ClientsAgree, PacketsFit, RepliesAreTaken, ClientsCatchUp, ChannelsCatchUp, KnownPostsChangeNothing, RefusedPostsChangeNothing, ServersKeepOrder, WorldsGrow};
+ghost use Rattle.box_world.specs.Laws.{NewClientsAgree, AgreeAsServersGrow, AgreeAsClientsGoOn, StillAsClientsGoOn, ClientsAgree, PacketsFit, RepliesAreTaken, ClientsCatchUp, ChannelsCatchUp, KnownPostsChangeNothing, NumbersStayBelow, PacketsAreInRange, RefusedPostsChangeNothing, ServersKeepOrder, WorldsGrow};
 ghost use Rattle.box_world.specs.Worlds.{watches};
 
 /// A new client agrees with every server, and one that agrees with a server does so as the server goes on.
@@ -29,6 +29,8 @@ pub fn worlds_agree()
     ensures catch_up { ClientsCatchUp }
     ensures channels_catch_up { ChannelsCatchUp }
     ensures packets { PacketsFit }
+    ensures numbers { NumbersStayBelow }
+    ensures ranges { PacketsAreInRange }
     ensures order { ServersKeepOrder }
     ensures grow { WorldsGrow }
 {}
