@@ -15,3 +15,4 @@ pub mod Stepping
 pub mod Reaching
 pub mod Numbers
 pub mod Ranges
+pub mod Streams

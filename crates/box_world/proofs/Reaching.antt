@@ -38,7 +38,7 @@ packets_fit carries n ss = (good carries n ss).pool
 pub servers_keep_order : Carries → ServersKeepOrder
 servers_keep_order carries n ss = (good carries n ss).ledger
 
-never_refused : (s : ServerState) (boxes : Boxes) (c : ClientState) (P : ClientState → Type 0) (o : Outcome) (cause : Cause) → Told s boxes c P o → o ≢ refuses cause
+pub never_refused : (s : ServerState) (boxes : Boxes) (c : ClientState) (P : ClientState → Type 0) (o : Outcome) (cause : Cause) → Told s boxes c P o → o ≢ refuses cause
 never_refused s boxes c P o cause (stale is) e = absurd (let w : ignored ≡ refuses cause = sym is ∙ e in cc)
 never_refused s boxes c P o cause (takes d is g past) e = absurd (let w : becomes d ≡ refuses cause = sym is ∙ e in cc)
 

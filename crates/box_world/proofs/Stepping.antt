@@ -27,7 +27,7 @@ use Rattle.box_world.specs.Worlds.{Packet, push, request, reply, World, sent, al
 use Rattle.box_world.specs.WholeBoxes.{events_pushed, whole_box}
 use Rattle.box_world.specs.Agreeing.{Reaches, Boxes, Agrees}
 use Rattle.box_world.specs.Awaiting.{Asked, Awaits, Below, Still}
-use Rattle.box_world.specs.Growing.{Continues}
+use Rattle.box_world.specs.Growing.{Continues, IsLedger}
 use Rattle.box_world.specs.Reached.{ClientAwaits, WasSent, PacketFits, boxes_of, IsGood}
 use Rattle.box_world.proofs.Alls.{all_weaker}
 use Rattle.box_world.proofs.Lists.{of_map, written}
@@ -184,7 +184,7 @@ steps w k f (Some c) is agrees still g = goes w k c (f c) is (record { agrees = 
 
 -- ---- a client hears
 
-goes_told : (s : ServerState) (boxes : Boxes) (c : ClientState) (P : ClientState → Type 0) (o : Outcome) → Agrees s boxes c → Told s boxes c P o → Goes s boxes c (after_reply c o)
+pub goes_told : (s : ServerState) (boxes : Boxes) (c : ClientState) (P : ClientState → Type 0) (o : Outcome) → Agrees s boxes c → Told s boxes c P o → Goes s boxes c (after_reply c o)
 goes_told s boxes c P o a (stale is) = subst (λ (x : Outcome). Goes s boxes c (after_reply c x)) (sym is) (goes_none s boxes c a)
 goes_told s boxes c P o a (takes d is h past) = subst (λ (x : Outcome). Goes s boxes c (after_reply c x)) (sym is) h
 
@@ -274,17 +274,20 @@ new_is (suc n) (suc k) c is = new_is n k c is
 new_below : Below new_client
 new_below n le = record { group = λ e. absurd cc; channels = tt }
 
+pub ledger_start : IsLedger new_server (λ id. [])
+ledger_start = record {
+  common = tt;
+  secret = tt;
+  messages = tt;
+  channels = λ id. tt;
+  kept = λ id. record { gone = []; parts = refl; first = refl; kept = refl };
+  dates = λ i d lt. absurd (omega (arith, lt));
+  rise = λ i j d a b lt. absurd (omega (arith, lt));
+}
+
 pub good_start : (n : ℕ) → IsGood (start n)
 good_start n = record {
-  ledger = record {
-    common = tt;
-    secret = tt;
-    messages = tt;
-    channels = λ id. tt;
-    kept = λ id. record { gone = []; parts = refl; first = refl; kept = refl };
-    dates = λ i d lt. absurd (omega (arith, lt));
-    rise = λ i j d a b lt. absurd (omega (arith, lt));
-  };
+  ledger = ledger_start;
   agrees = λ k c is. subst (Agrees new_server (λ id. [])) (sym (new_is n k c is)) (new_clients_agree new_server (λ id. []));
   below = λ k c is. subst Below (sym (new_is n k c is)) new_below;
   pool = λ m p is. absurd (none-some p is);

@@ -31,7 +31,7 @@ group_fits m whole c r seq asks f =
     let g = h.4 in
     record { common = subst (IsBoundary m.common) ep g.common; secret = subst (IsBoundary m.secret) eq g.secret; settings = subst (λ (n : ℕ). n ≤ length m.settings) asks.1 g.settings }
 
-answer_is : (m : ServerState) (c : ClientState) → answer m (Difference (pos c.common.at) (pos c.secret.at) c.settings.date) ≡ difference_of m (pos c.common.at) (pos c.secret.at) c.settings.date
+pub answer_is : (m : ServerState) (c : ClientState) → answer m (Difference (pos c.common.at) (pos c.secret.at) c.settings.date) ≡ difference_of m (pos c.common.at) (pos c.secret.at) c.settings.date
 unfolding answer
 answer_is m c = refl
 

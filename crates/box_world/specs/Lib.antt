@@ -8,3 +8,4 @@ pub mod Pushing
 pub mod Requesting
 pub mod Reached
 pub mod Laws
+pub mod Streams

@@ -3,6 +3,7 @@ ghost use Rattle.std.specs.Prelude.{ℤ};
 ghost use Rattle.box_client.specs.States.{ClientState};
 ghost use Rattle.box_client.specs.Asking.{ticks, wakes, restarted};
 ghost use Rattle.box_world.specs.Laws.{NewClientsAgree, AgreeAsServersGrow, AgreeAsClientsGoOn, StillAsClientsGoOn, ClientsAgree, PacketsFit, RepliesAreTaken, ClientsCatchUp, ChannelsCatchUp, KnownPostsChangeNothing, NumbersStayBelow, PacketsAreInRange, RefusedPostsChangeNothing, ServersKeepOrder, WorldsGrow};
+ghost use Rattle.box_world.specs.Streams.{HonestStreamsAgree};
 ghost use Rattle.box_world.specs.Worlds.{watches};
 
 /// A new client agrees with every server, and one that agrees with a server does so as the server goes on.
@@ -39,4 +40,9 @@ pub fn worlds_agree()
 pub fn posts_change_nothing()
     ensures known { KnownPostsChangeNothing }
     ensures refused { RefusedPostsChangeNothing }
+{}
+
+/// Over every honest stream of frames a client agrees with the server, before and after each frame, and refuses none.
+pub fn honest_streams_agree()
+    ensures { HonestStreamsAgree }
 {}
