@@ -16,3 +16,4 @@ pub mod Reaching
 pub mod Numbers
 pub mod Ranges
 pub mod Streams
+pub mod NumberWorlds

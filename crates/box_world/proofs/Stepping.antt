@@ -188,7 +188,7 @@ pub goes_told : (s : ServerState) (boxes : Boxes) (c : ClientState) (P : ClientS
 goes_told s boxes c P o a (stale is) = subst (λ (x : Outcome). Goes s boxes c (after_reply c x)) (sym is) (goes_none s boxes c a)
 goes_told s boxes c P o a (takes d is h past) = subst (λ (x : Outcome). Goes s boxes c (after_reply c x)) (sym is) h
 
-same_number : (j k : ℕ) → eqb j k ≡ true → j ≡ k
+pub same_number : (j k : ℕ) → eqb j k ≡ true → j ≡ k
 same_number j k e = grind (arith, nat_tests)
 
 -- whatever client it is, a reply of the pool is taken or stale

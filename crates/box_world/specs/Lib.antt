@@ -9,3 +9,4 @@ pub mod Requesting
 pub mod Reached
 pub mod Laws
 pub mod Streams
+pub mod NumberWorlds

@@ -3,6 +3,7 @@ ghost use Rattle.std.specs.Prelude.{ℤ};
 ghost use Rattle.box_client.specs.States.{ClientState};
 ghost use Rattle.box_client.specs.Asking.{ticks, wakes, restarted};
 ghost use Rattle.box_world.specs.Laws.{NewClientsAgree, AgreeAsServersGrow, AgreeAsClientsGoOn, StillAsClientsGoOn, ClientsAgree, PacketsFit, RepliesAreTaken, ClientsCatchUp, ChannelsCatchUp, KnownPostsChangeNothing, NumbersStayBelow, PacketsAreInRange, RefusedPostsChangeNothing, ServersKeepOrder, WorldsGrow};
+ghost use Rattle.box_world.specs.NumberWorlds.{NumbersAlone};
 ghost use Rattle.box_world.specs.Streams.{HonestStreamsAgree};
 ghost use Rattle.box_world.specs.Worlds.{watches};
 
@@ -45,4 +46,9 @@ pub fn posts_change_nothing()
 /// Over every honest stream of frames a client agrees with the server, before and after each frame, and refuses none.
 pub fn honest_streams_agree()
     ensures { HonestStreamsAgree }
+{}
+
+/// After every list of steps the clients' numbers follow from numbers alone: no event, value or recent message says anything of them.
+pub fn numbers_follow()
+    ensures { NumbersAlone }
 {}
