@@ -1,16 +1,23 @@
 -- What an honest answer does to the channel that asked for it.
 use Rattle.std.proofs.Common.{◌≡◌, ℕ, ◌+◌, ◌-◌, ◌≤◌, ◌⊎◌, inl, inr, ℤ, pos, List, [], ◌∷◌, ◌++◌, Bool, true, false, cond, ◌||◌, Option, Some, Result, Ok, ltb, refl, sym, ap, ◌∙◌, subst, arith}
 use Rattle.std.proofs.lemmas.Bool.Decides.{nat_tests}
+use Rattle.std.specs.List.{sum_by}
+use Rattle.std.proofs.lemmas.List.Sums.{sum_by-cons}
 use Rattle.box_events.specs.Events.{EventView, count_of}
 use Rattle.box_events.specs.Boxes.{ending, IsBoundary, Between, AreCounted}
+use Rattle.box_events.specs.declared.limits.TheConstants.{MAX_BEHIND, MAX_END, RUN_BYTES}
 use Rattle.box_events.proofs.Boundaries.{ending-append}
+use Rattle.box_events.proofs.Stretches.{stretch_counts, stretch_inside}
+use Rattle.box_server.specs.Entries.{bytes_of}
+use Rattle.box_server.proofs.Carrying.{carries_first}
 use Rattle.box_events.specs.declared.replies.Reply.{Reply}
 use Rattle.box_events.specs.declared.replies.Reply.TheVariants.{Channel}
 use Rattle.box_events.specs.declared.replies.ChannelReply.{ChannelReply}
 use Rattle.box_events.specs.declared.replies.ChannelReply.TheVariants.{Empty as EmptyPart, Part, TooLong}
 use Rattle.pts_machine.specs.declared.mode.Mode.{Mode}
 use Rattle.pts_machine.specs.declared.mode.Mode.TheVariants.{Live, Asking, Again}
-use Rattle.pts_machine.specs.States.{LaneState}
+use Rattle.pts_machine.specs.States.{LaneState, IsSound, StartAfter}
+use Rattle.pts_machine.proofs.Kept.{sound_extend, sound_restart}
 use Rattle.pts_machine.specs.Steps.{extend, settle, restart_at}
 use Rattle.pts_machine.proofs.Fitting.{fits_after, fits_extend, fits_reaches, fits_restart}
 use Rattle.pts_machine.proofs.Moves.{restart_up}
@@ -28,7 +35,7 @@ use Rattle.box_world.specs.WholeBoxes.{kept_of}
 use Rattle.box_world.specs.Agreeing.{Reaches, is_last_part, Boxes, Each, ChannelAgrees, Agrees}
 use Rattle.box_world.specs.Awaiting.{Asked, ChannelAsksBy}
 use Rattle.box_world.specs.Growing.{HasMore, Continues, IsKept, IsLedger}
-use Rattle.box_world.proofs.Answering.{whole_run, RunAt, run_at, run_after, run_lies, append_append, run_woven, none_woven}
+use Rattle.box_world.proofs.Answering.{each_right, whole_run, RunAt, run_at, run_after, run_lies, append_append, run_woven, none_woven}
 use Rattle.box_world.proofs.Pushing.{few_at_first, Goes, each_at_first, recent_same}
 use Rattle.box_world.proofs.Replying.{Told, takes, extend_live, extend_again, asks_never}
 
@@ -65,10 +72,23 @@ pub record Taken (front box : List EventView) (d : ChannelState) (r : ChannelRep
   pub agrees : ChannelAgrees box channel
   pub free : (channel.lane.mode ≡ Live) ⊎ (channel.lane.mode ≡ Again)
   pub reaches : is_last_part r ≡ true → ending front ≤ channel.lane.at
+  pub flag : channel.flag ≡ d.flag
+  pub stops : is_last_part r ≡ true → channel.lane.mode ≡ Live
+  -- a part that isn't the last brings an event where none is larger than a part may be, and the channel wasn't far behind
+  pub goes_on : is_last_part r ≡ false → (channel.lane.mode ≡ Again) × (ending front - d.lane.at ≤ MAX_BEHIND) × (Each (λ e. bytes_of e ≤ RUN_BYTES) front → d.lane.at + 1 ≤ channel.lane.at)
+  pub ahead : IsSound count_of d.lane → ending box ≤ MAX_END → channel.lane.mode ≡ Live → StartAfter channel.lane.at channel.lane.held
+
+-- what a part that isn't the last says
+abbrev Parts : List EventView → ChannelState → ℕ → Bool → Type 0
+Parts front d to last = last ≡ false → (ending front - d.lane.at ≤ MAX_BEHIND) × (Each (λ e. bytes_of e ≤ RUN_BYTES) front → d.lane.at + 1 ≤ to)
+
+sum_is : (xs : List EventView) → sum_by count_of xs ≡ ending xs
+sum_is [] = refl
+sum_is (x ∷ xs) = omega (arith, sum_is xs, sum_by-cons count_of x xs)
 
 grows : (front box : List EventView) (d : ChannelState) (to : ℕ) (news : List (List ℕ)) (others : List _) (xs : List EventView) (last : Bool) (r : ChannelReply)
-    → AreCounted box → ChannelAgrees box d → Between box d.lane.at to xs → channels.replied d r ≡ grown d last (woven_of d.lane.at to news others) → woven_of d.lane.at to news others ≡ Ok xs → (is_last_part r ≡ true → ending front ≤ to) → Taken front box d r
-grows front box d to news others xs last r k h b e w up = record {
+    → AreCounted box → ChannelAgrees box d → Between box d.lane.at to xs → channels.replied d r ≡ grown d last (woven_of d.lane.at to news others) → woven_of d.lane.at to news others ≡ Ok xs → (is_last_part r ≡ true → ending front ≤ to) → is_last_part r ≡ last → Parts front d to last → Taken front box d r
+grows front box d to news others xs last r k h b e w up same more = record {
   channel = record d { lane = extend count_of d.lane xs last };
   is = e ∙ ap (grown d last) w;
   id = refl;
@@ -78,11 +98,18 @@ grows front box d to news others xs last r k h b e w up = record {
   };
   free = extend_free d.lane xs last;
   reaches = λ final. omega (arith, up final, fits_reaches box d.lane to xs last k h.lane b);
+  flag = refl;
+  stops = λ final. ap (λ (x : Bool). (extend count_of d.lane xs x).mode) (sym same ∙ final) ∙ extend_live d.lane xs;
+  goes_on = λ part.
+      let go : last ≡ false = sym same ∙ part in
+      let m = more go in
+      (ap (λ (x : Bool). (extend count_of d.lane xs x).mode) go ∙ extend_again d.lane xs, m.0, λ small. omega (arith, m.1 small, fits_reaches box d.lane to xs last k h.lane b));
+  ahead = λ sound le. (sound_extend count_of d.lane xs last sound (omega (arith, le, stretch_counts box d.lane.at to xs b, sum_is xs, stretch_inside box d.lane.at to xs b))).ahead;
 }
 
-begins_anew : (front box : List EventView) (d : ChannelState) (end : ℕ) (recent : List (List ℕ)) (last : Bool) → AreCounted box → HasMore front box → end ≡ ending front → recent ≡ recent_of (kept_of front)
-    → ChannelAgrees box d → Taken front box d (TooLong end recent last)
-begins_anew front box d end recent last k m e c h = record {
+begins_anew : (front box : List EventView) (d : ChannelState) (end : ℕ) (recent : List (List ℕ)) → AreCounted box → HasMore front box → end ≡ ending front → recent ≡ recent_of (kept_of front)
+    → ChannelAgrees box d → Taken front box d (TooLong end recent true)
+begins_anew front box d end recent k m e c h = record {
   channel = record d { lane = restart_at count_of d.lane end; recent = recent };
   is = refl;
   id = refl;
@@ -92,6 +119,10 @@ begins_anew front box d end recent last k m e c h = record {
   };
   free = inl (restart_live d.lane end);
   reaches = λ final. omega (arith, e, restart_up count_of d.lane end (fits_after box d.lane k h.lane));
+  flag = refl;
+  stops = λ final. restart_live d.lane end;
+  goes_on = λ part. absurd cc;
+  ahead = λ sound le. (sound_restart count_of d.lane end sound (omega (arith, le, e, ap ending m.1, ending-append front m.0))).ahead;
 }
 
 -- ---- the answer of an earlier server
@@ -110,6 +141,15 @@ from_first a b t e = from_by a b (ltb a b) t refl e
 pub counted_right : (xs ys : List EventView) → AreCounted (xs ++ ys) → AreCounted ys
 counted_right [] ys c = c
 counted_right (x ∷ xs) ys c = counted_right xs ys c.1
+
+-- and isn't further behind than it may be
+near_by : (n : ℕ) (x t : Bool) → ltb MAX_BEHIND n ≡ t → (x || t) ≡ false → n ≤ MAX_BEHIND
+near_by n true t is e = absurd cc
+near_by n false true is e = absurd cc
+near_by n false false is e = grind (arith, nat_tests)
+
+near_end : (a b n : ℕ) → (ltb a b || ltb MAX_BEHIND n) ≡ false → n ≤ MAX_BEHIND
+near_end a b n e = near_by n (ltb a b) (ltb MAX_BEHIND n) refl e
 
 pub end_is : (whole : List EventView) (b : ChannelBox) → IsKept whole b → channel_end b ≡ ending whole
 end_is whole b k = ap (λ (n : ℕ). n + ending b.events) k.first ∙ sym (ending-append k.gone b.events) ∙ sym (ap ending k.parts)
@@ -155,19 +195,29 @@ nothing_left whole b p k le r = omega (arith, end_is whole b k, ap ending r.whol
 kept_ends : (whole : List EventView) (b : ChannelBox) (p : ℕ) (es : List EventView) → IsKept whole b → b.first ≤ p → RunAt b.events (p - b.first) es → is_whole es ≡ true → ending whole ≤ p + ending (run_of es)
 kept_ends whole b p es k le r final = omega (arith, end_is whole b k, whole_run b.events (p - b.first) es r final, le)
 
-part_taken : (whole box : List EventView) (b : ChannelBox) (d : ChannelState) (es : List EventView) → AreCounted box → HasMore whole box → IsKept whole b → b.first ≤ d.lane.at
+-- a run of an event that isn't too large has it
+first_small : (e : EventView) (es : List EventView) → 1 ≤ count_of e → bytes_of e ≤ RUN_BYTES → 1 ≤ ending (run_of (e ∷ es))
+first_small e es some small = let run = carries_first e es small in omega (arith, some, ap ending run.1)
+
+run_goes_on : (whole : List EventView) (b : ChannelBox) (p : ℕ) (e : EventView) (es : List EventView) → IsKept whole b → RunAt b.events (p - b.first) (e ∷ es) → Each (λ x. bytes_of x ≤ RUN_BYTES) whole → AreCounted (e ∷ es) → p + 1 ≤ p + ending (run_of (e ∷ es))
+run_goes_on whole b p e es k r small c =
+    let all : whole ≡ (k.gone ++ r.front) ++ e ∷ es = k.parts ∙ ap (λ (l : List EventView). k.gone ++ l) r.whole ∙ sym (append_append k.gone r.front (e ∷ es)) in
+    let here = each_right (λ x. bytes_of x ≤ RUN_BYTES) (k.gone ++ r.front) (e ∷ es) (subst (Each (λ x. bytes_of x ≤ RUN_BYTES)) all small) in
+    omega (arith, first_small e es c.0 here.0)
+
+part_taken : (whole box : List EventView) (b : ChannelBox) (d : ChannelState) (es : List EventView) → AreCounted box → HasMore whole box → IsKept whole b → b.first ≤ d.lane.at → ending whole - d.lane.at ≤ MAX_BEHIND → AreCounted es
     → RunAt b.events (d.lane.at - b.first) es → ChannelAgrees box d → (r : ChannelReply) × (channel_part d.lane.at (Some es) ≡ Channel r) × Taken whole box d r
-part_taken whole box b d [] k m kept le run h = (
+part_taken whole box b d [] k m kept le near c run h = (
   EmptyPart d.lane.at true,
   refl,
   grows whole box d d.lane.at [] [] [] true (EmptyPart d.lane.at true) k h
-      (subst (λ (q : ℕ). Between box d.lane.at q []) (plus_none d.lane.at) (nothing_lies whole box b d m kept le run)) refl (none_woven d.lane.at) (λ final. nothing_left whole b d.lane.at kept le run),
+      (subst (λ (q : ℕ). Between box d.lane.at q []) (plus_none d.lane.at) (nothing_lies whole box b d m kept le run)) refl (none_woven d.lane.at) (λ final. nothing_left whole b d.lane.at kept le run) refl (λ part. absurd cc),
 )
-part_taken whole box b d (e ∷ es) k m kept le run h =
+part_taken whole box b d (e ∷ es) k m kept le near c run h =
     let xs : List EventView = run_of (e ∷ es) in
     let p : ℕ = d.lane.at in
     let r : ChannelReply = Part (p + ending xs) (bodies xs) (others_from p xs) (is_whole (e ∷ es)) in
-    (r, refl, grows whole box d (p + ending xs) (bodies xs) (others_from p xs) xs (is_whole (e ∷ es)) r k h (kept_lies whole box b p (e ∷ es) m kept le run) refl (run_woven p xs) (kept_ends whole b p (e ∷ es) kept le run))
+    (r, refl, grows whole box d (p + ending xs) (bodies xs) (others_from p xs) xs (is_whole (e ∷ es)) r k h (kept_lies whole box b p (e ∷ es) m kept le run) refl (run_woven p xs) (kept_ends whole b p (e ∷ es) kept le run) refl (λ part. (near, λ small. run_goes_on whole b p e es kept run small c)))
 
 -- the answer to a request from a boundary of the whole box
 pub record TakenFrom (front box : List EventView) (d : ChannelState) (v : Reply) : Type 0 where
@@ -175,12 +225,13 @@ pub record TakenFrom (front box : List EventView) (d : ChannelState) (v : Reply)
   pub is : v ≡ Channel reply
   pub taken : Taken front box d reply
 
-near_taken : (whole box : List EventView) (b : ChannelBox) (d : ChannelState) → AreCounted whole → AreCounted box → HasMore whole box → IsKept whole b → IsBoundary whole d.lane.at → b.first ≤ d.lane.at → ChannelAgrees box d
+near_taken : (whole box : List EventView) (b : ChannelBox) (d : ChannelState) → AreCounted whole → AreCounted box → HasMore whole box → IsKept whole b → IsBoundary whole d.lane.at → b.first ≤ d.lane.at → ending whole - d.lane.at ≤ MAX_BEHIND → ChannelAgrees box d
     → TakenFrom whole box d (channel_part d.lane.at (events_after b.events (d.lane.at - b.first)))
-near_taken whole box b d cw cb m kept h le a =
+near_taken whole box b d cw cb m kept h le near a =
     let here = kept_boundary whole b d.lane.at cw kept h le in
-    let t = part_taken whole box b d here.rest cb m kept le (run_at b.events (d.lane.at - b.first) here) a in
-    let after = run_after b.events (d.lane.at - b.first) (counted_right kept.gone b.events (subst AreCounted kept.parts cw)) here in
+    let counted = counted_right kept.gone b.events (subst AreCounted kept.parts cw) in
+    let t = part_taken whole box b d here.rest cb m kept le near (counted_right here.front here.rest (subst AreCounted here.whole counted)) (run_at b.events (d.lane.at - b.first) here) a in
+    let after = run_after b.events (d.lane.at - b.first) counted here in
     record { reply = t.0; is = ap (channel_part d.lane.at) after ∙ t.1; taken = t.2 }
 
 far_by : (whole box : List EventView) (b : ChannelBox) (d : ChannelState) (far : Bool) → is_far b d.lane.at ≡ far → AreCounted whole → AreCounted box → HasMore whole box → IsKept whole b → IsBoundary whole d.lane.at → ChannelAgrees box d
@@ -188,9 +239,9 @@ far_by : (whole box : List EventView) (b : ChannelBox) (d : ChannelState) (far :
 far_by whole box b d true e cw cb m kept h a = record {
   reply = TooLong (channel_end b) (recent_of b.events) true;
   is = refl;
-  taken = begins_anew whole box d (channel_end b) (recent_of b.events) true cb m (end_is whole b kept) (ap recent_of kept.kept) a;
+  taken = begins_anew whole box d (channel_end b) (recent_of b.events) cb m (end_is whole b kept) (ap recent_of kept.kept) a;
 }
-far_by whole box b d false e cw cb m kept h a = near_taken whole box b d cw cb m kept h (from_first d.lane.at b.first (ltb 1000 (channel_end b - d.lane.at)) e) a
+far_by whole box b d false e cw cb m kept h a = near_taken whole box b d cw cb m kept h (from_first d.lane.at b.first (ltb MAX_BEHIND (channel_end b - d.lane.at)) e) (omega (arith, end_is whole b kept, near_end d.lane.at b.first (channel_end b - d.lane.at) e)) a
 
 pub inside_of : (box : List EventView) (p : ℕ) → IsBoundary box p → p ≤ ending box
 inside_of box p b = omega (arith, b.stop, ap ending b.whole, ending-append b.front b.rest)
