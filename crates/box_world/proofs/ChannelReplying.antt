@@ -82,7 +82,7 @@ pub record Taken (front box : List EventView) (d : ChannelState) (r : ChannelRep
 abbrev Parts : List EventView → ChannelState → ℕ → Bool → Type 0
 Parts front d to last = last ≡ false → (ending front - d.lane.at ≤ MAX_BEHIND) × (Each (λ e. bytes_of e ≤ RUN_BYTES) front → d.lane.at + 1 ≤ to)
 
-sum_is : (xs : List EventView) → sum_by count_of xs ≡ ending xs
+pub sum_is : (xs : List EventView) → sum_by count_of xs ≡ ending xs
 sum_is [] = refl
 sum_is (x ∷ xs) = omega (arith, sum_is xs, sum_by-cons count_of x xs)
 
@@ -196,7 +196,7 @@ kept_ends : (whole : List EventView) (b : ChannelBox) (p : ℕ) (es : List Event
 kept_ends whole b p es k le r final = omega (arith, end_is whole b k, whole_run b.events (p - b.first) es r final, le)
 
 -- a run of an event that isn't too large has it
-first_small : (e : EventView) (es : List EventView) → 1 ≤ count_of e → bytes_of e ≤ RUN_BYTES → 1 ≤ ending (run_of (e ∷ es))
+pub first_small : (e : EventView) (es : List EventView) → 1 ≤ count_of e → bytes_of e ≤ RUN_BYTES → 1 ≤ ending (run_of (e ∷ es))
 first_small e es some small = let run = carries_first e es small in omega (arith, some, ap ending run.1)
 
 run_goes_on : (whole : List EventView) (b : ChannelBox) (p : ℕ) (e : EventView) (es : List EventView) → IsKept whole b → RunAt b.events (p - b.first) (e ∷ es) → Each (λ x. bytes_of x ≤ RUN_BYTES) whole → AreCounted (e ∷ es) → p + 1 ≤ p + ending (run_of (e ∷ es))
@@ -246,7 +246,7 @@ far_by whole box b d false e cw cb m kept h a = near_taken whole box b d cw cb m
 pub inside_of : (box : List EventView) (p : ℕ) → IsBoundary box p → p ≤ ending box
 inside_of box p b = omega (arith, b.stop, ap ending b.whole, ending-append b.front b.rest)
 
-channel_taken : (whole box : List EventView) (b : ChannelBox) (d : ChannelState) → AreCounted whole → AreCounted box → HasMore whole box → IsKept whole b → IsBoundary whole d.lane.at → ChannelAgrees box d
+pub channel_taken : (whole box : List EventView) (b : ChannelBox) (d : ChannelState) → AreCounted whole → AreCounted box → HasMore whole box → IsKept whole b → IsBoundary whole d.lane.at → ChannelAgrees box d
     → TakenFrom whole box d (channel_difference b (pos d.lane.at))
 channel_taken whole box b d cw cb m kept h a =
     let t = far_by whole box b d (is_far b d.lane.at) refl cw cb m kept h a in
@@ -271,7 +271,7 @@ is_asked n Again e = absurd cc
 free_asks : (n : ℕ) (o : Option Asked) (d : ChannelState) → (d.lane.mode ≡ Live) ⊎ (d.lane.mode ≡ Again) → ChannelAsksBy n o d
 free_asks n o d f e = absurd (asks_never d.lane.mode n f e)
 
-goes_taken : (s : ServerState) (boxes : Boxes) (c : ClientState) (n : ℕ) (d : ChannelState) (v : ChannelReply) (front : List EventView) (t : Taken front (boxes d.id) d v) → Agrees s boxes c
+pub goes_taken : (s : ServerState) (boxes : Boxes) (c : ClientState) (n : ℕ) (d : ChannelState) (v : ChannelReply) (front : List EventView) (t : Taken front (boxes d.id) d v) → Agrees s boxes c
     → Goes s boxes c (record c { channels = at_first (asks_number n) (λ _. t.channel) c.channels })
 goes_taken s boxes c n d v front t a = record {
   agrees = record {

@@ -17,3 +17,4 @@ pub mod Numbers
 pub mod Ranges
 pub mod Streams
 pub mod NumberWorlds
+pub mod Recovering

@@ -68,7 +68,7 @@ pub record OverlayFits (s : ServerState) (c : ClientState) (b : Brought) : Type 
 later_rise : (s : ServerState) (boxes : Boxes) (n : ℕ) → IsLedger s boxes → NeverFallFrom n s.settings
 later_rise s boxes n k i j d a b c = k.rise i j d (omega arith) b c
 
-goes_done : (s : ServerState) (boxes : Boxes) (c : ClientState) (b : Brought) (last : Bool) (tx ty : ℕ) (xs ys : List EventView) → IsLedger s boxes → Agrees s boxes c
+pub goes_done : (s : ServerState) (boxes : Boxes) (c : ClientState) (b : Brought) (last : Bool) (tx ty : ℕ) (xs ys : List EventView) → IsLedger s boxes → Agrees s boxes c
     → Between s.common c.common.at tx xs → Between s.secret c.secret.at ty ys → (last ≡ true → OverlayFits s c b) → Goes s boxes c (group_done last c b xs ys)
 goes_done s boxes c b true tx ty xs ys k a x y over =
     let o = over refl in
@@ -98,7 +98,7 @@ seq_kept : (last : Bool) (seq at : ℕ) → (last ≡ true → at ≤ seq) → (
 seq_kept false seq at le = refl
 seq_kept true seq at le = let up = le refl in grind (arith, nat_tests)
 
-brings_lists : (c : ClientState) (b : Brought) (xs ys : List EventView) → woven_of c.common.at b.state.pts b.news b.others ≡ Ok xs → woven_of c.secret.at b.state.qts b.secrets [] ≡ Ok ys
+pub brings_lists : (c : ClientState) (b : Brought) (xs ys : List EventView) → woven_of c.common.at b.state.pts b.news b.others ≡ Ok xs → woven_of c.secret.at b.state.qts b.secrets [] ≡ Ok ys
     → (b.last ≡ true → c.settings.at ≤ b.state.seq) → brings c b ≡ becomes (group_done b.last c b xs ys)
 brings_lists c b xs ys x y le =
     ap₂ (group_woven c b) x y ∙ ap (λ (t : Bool). group_taken t c b xs ys) (seq_kept b.last b.state.seq c.settings.at le)
@@ -117,7 +117,7 @@ settings_reach : (L : List Dated) (now : ℕ) (b : SettingsState) (xs : List Set
 unfolding overlaid settle
 settings_reach L now b xs seq date a = reach_up (len b.held) seq b.held (λ s x is. (a.within s x is).0)
 
-done_past : (m s : ServerState) (boxes : Boxes) (c : ClientState) (b : Brought) (tx ty : ℕ) (xs ys : List EventView) → IsLedger s boxes → Agrees s boxes c → Between s.common c.common.at tx xs → Between s.secret c.secret.at ty ys
+pub done_past : (m s : ServerState) (boxes : Boxes) (c : ClientState) (b : Brought) (tx ty : ℕ) (xs ys : List EventView) → IsLedger s boxes → Agrees s boxes c → Between s.common c.common.at tx xs → Between s.secret c.secret.at ty ys
     → ending m.common ≤ tx → ending m.secret ≤ ty → length m.settings ≤ b.state.seq → IsPast m (group_done true c b xs ys)
 done_past m s boxes c b tx ty xs ys k a x y p q r = record {
   common = omega (arith, p, fits_reaches s.common c.common tx xs true k.common a.common x);
@@ -128,7 +128,7 @@ done_past m s boxes c b tx ty xs ys k a x y p q r = record {
 -- ---- the group asks from boundaries
 
 -- two runs of an earlier server, from where the client stands
-record Runs (m s : ServerState) (c : ClientState) (es fs : List EventView) : Type 0 where
+pub record Runs (m s : ServerState) (c : ClientState) (es fs : List EventView) : Type 0 where
   pub common : RunAt m.common c.common.at es
   pub secret : RunAt m.secret c.secret.at fs
   pub more : HasMore m.common s.common
@@ -149,21 +149,36 @@ overlay_here : (carries : Carries) (m s : ServerState) (date : ℕ) → HasLater
 overlay_here carries m s date h = subst (λ (l : List Dated). IsOverlay l (length m.settings) date (changed_since m.settings date)) (sym h.1)
     (overlay_grows m.settings h.0 (length m.settings) date (changed_since m.settings date) (omega arith) (carries m.settings date))
 
-abbrev brought_slice : ServerState → ClientState → List EventView → List EventView → Brought
+abbrev pub brought_slice : ServerState → ClientState → List EventView → List EventView → Brought
 brought_slice m c xs ys = record { news = bodies xs; secrets = bodies ys; others = others_from c.common.at xs; settings = []; state = reached m c.common.at c.secret.at xs ys; last = false }
 
-abbrev brought_last : ServerState → ClientState → List EventView → List EventView → Brought
+abbrev pub brought_last : ServerState → ClientState → List EventView → List EventView → Brought
 brought_last m c xs ys = record { news = bodies xs; secrets = bodies ys; others = others_from c.common.at xs; settings = changed_since m.settings c.settings.date; state = state_of m; last = true }
+
+pub slice_is : (m s : ServerState) (c : ClientState) (es fs : List EventView) → Runs m s c es fs → group_replied c (slice m c.common.at c.secret.at (run_of es) (run_of fs)) ≡ becomes (group_done false c (brought_slice m c (run_of es) (run_of fs)) (run_of es) (run_of fs))
+slice_is m s c es fs r =
+    brings_lists c (brought_slice m c (run_of es) (run_of fs)) (run_of es) (run_of fs) (run_woven c.common.at (run_of es)) (messages_woven c.secret.at (run_of fs) r.messages) (λ e. absurd cc)
 
 told_slice : (m s : ServerState) (boxes : Boxes) (c : ClientState) (es fs : List EventView) → IsLedger s boxes → Agrees s boxes c → Runs m s c es fs
     → Told s boxes c (Reaches m (slice m c.common.at c.secret.at (run_of es) (run_of fs))) (group_replied c (slice m c.common.at c.secret.at (run_of es) (run_of fs)))
 told_slice m s boxes c es fs k a r =
     let b : Brought = brought_slice m c (run_of es) (run_of fs) in
     takes (group_done false c b (run_of es) (run_of fs))
-    (brings_lists c b (run_of es) (run_of fs) (run_woven c.common.at (run_of es)) (messages_woven c.secret.at (run_of fs) r.messages) (λ e. absurd cc))
+    (slice_is m s c es fs r)
     (goes_done s boxes c b false (c.common.at + ending (run_of es)) (c.secret.at + ending (run_of fs)) (run_of es) (run_of fs) k a
     (run_lies m.common s.common c.common.at es r.more r.common) (run_lies m.secret s.secret c.secret.at fs r.secret_more r.secret) (λ e. absurd cc))
     (λ e. absurd cc)
+
+pub last_is : (m s : ServerState) (c : ClientState) (es fs : List EventView) → is_whole es ≡ true → is_whole fs ≡ true → Runs m s c es fs → brings c (brought_last m c (run_of es) (run_of fs)) ≡ becomes (group_done true c (brought_last m c (run_of es) (run_of fs)) (run_of es) (run_of fs))
+last_is m s c es fs we wf r =
+    let pe : c.common.at + ending (run_of es) ≡ ending m.common = whole_run m.common c.common.at es r.common we in
+    let pf : c.secret.at + ending (run_of fs) ≡ ending m.secret = whole_run m.secret c.secret.at fs r.secret wf in
+    brings_lists c (brought_last m c (run_of es) (run_of fs)) (run_of es) (run_of fs)
+    (ap (λ (q : ℕ). woven_of c.common.at q (bodies (run_of es)) (others_from c.common.at (run_of es))) (sym pe) ∙ run_woven c.common.at (run_of es))
+    (ap (λ (q : ℕ). woven_of c.secret.at q (bodies (run_of fs)) []) (sym pf) ∙ messages_woven c.secret.at (run_of fs) r.messages) (λ e. r.order)
+
+pub last_over : (carries : Carries) (m s : ServerState) (c : ClientState) (es fs : List EventView) → Runs m s c es fs → OverlayFits s c (brought_last m c (run_of es) (run_of fs))
+last_over carries m s c es fs r = record { order = r.order; within = within_here m s r.later; since = since_here m s r.later; past = r.date; overlay = overlay_here carries m s c.settings.date r.later }
 
 told_last : (carries : Carries) (m s : ServerState) (boxes : Boxes) (c : ClientState) (es fs : List EventView) → is_whole es ≡ true → is_whole fs ≡ true → IsLedger s boxes → Agrees s boxes c → Runs m s c es fs
     → Told s boxes c (IsPast m) (brings c (brought_last m c (run_of es) (run_of fs)))
@@ -172,36 +187,42 @@ told_last carries m s boxes c es fs we wf k a r =
     let pe : c.common.at + ending (run_of es) ≡ ending m.common = whole_run m.common c.common.at es r.common we in
     let pf : c.secret.at + ending (run_of fs) ≡ ending m.secret = whole_run m.secret c.secret.at fs r.secret wf in
     takes (group_done true c b (run_of es) (run_of fs))
-    (brings_lists c b (run_of es) (run_of fs)
-    (ap (λ (q : ℕ). woven_of c.common.at q (bodies (run_of es)) (others_from c.common.at (run_of es))) (sym pe) ∙ run_woven c.common.at (run_of es))
-    (ap (λ (q : ℕ). woven_of c.secret.at q (bodies (run_of fs)) []) (sym pf) ∙ messages_woven c.secret.at (run_of fs) r.messages) (λ e. r.order))
+    (last_is m s c es fs we wf r)
     (goes_done s boxes c b true (c.common.at + ending (run_of es)) (c.secret.at + ending (run_of fs)) (run_of es) (run_of fs) k a
     (run_lies m.common s.common c.common.at es r.more r.common) (run_lies m.secret s.secret c.secret.at fs r.secret_more r.secret)
-    (λ e. record { order = r.order; within = within_here m s r.later; since = since_here m s r.later; past = r.date; overlay = overlay_here carries m s c.settings.date r.later }))
+    (λ e. last_over carries m s c es fs r))
     (done_past m s boxes c b (c.common.at + ending (run_of es)) (c.secret.at + ending (run_of fs)) (run_of es) (run_of fs) k a
     (run_lies m.common s.common c.common.at es r.more r.common) (run_lies m.secret s.secret c.secret.at fs r.secret_more r.secret) (omega (arith, pe)) (omega (arith, pf)) (omega arith))
+
+pub none_lies : (m s : List EventView) (p : ℕ) (es : List EventView) → run_of es ≡ [] → HasMore m s → RunAt m p es → Between s p (p + ending []) []
+none_lies m s p es ne more r = subst (λ (l : List EventView). Between s p (p + ending l) l) ne (run_lies m s p es more r)
+
+pub none_is : (m s : ServerState) (c : ClientState) (es fs : List EventView) → Runs m s c es fs → brings c (nothing_new c m.date (length m.settings)) ≡ becomes (group_done true c (nothing_new c m.date (length m.settings)) [] [])
+none_is m s c es fs r = brings_lists c (nothing_new c m.date (length m.settings)) [] [] (none_woven c.common.at) (none_woven c.secret.at) (λ e. r.order)
+
+pub none_over : (carries : Carries) (m s : ServerState) (c : ClientState) (es fs : List EventView) → changed_since m.settings c.settings.date ≡ [] → Runs m s c es fs → OverlayFits s c (nothing_new c m.date (length m.settings))
+none_over carries m s c es fs ns r = record {
+  order = r.order;
+  within = within_here m s r.later;
+  since = since_here m s r.later;
+  past = r.date;
+  overlay = subst (λ (l : List Setting). IsOverlay s.settings (length m.settings) c.settings.date l) ns (overlay_here carries m s c.settings.date r.later);
+}
 
 -- nothing is new: the runs are empty, and no setting is carried
 told_none : (carries : Carries) (m s : ServerState) (boxes : Boxes) (c : ClientState) (es fs : List EventView) → run_of es ≡ [] → run_of fs ≡ [] → changed_since m.settings c.settings.date ≡ []
     → is_whole es ≡ true → is_whole fs ≡ true → IsLedger s boxes → Agrees s boxes c → Runs m s c es fs → Told s boxes c (IsPast m) (brings c (nothing_new c m.date (length m.settings)))
 told_none carries m s boxes c es fs ne nf ns we wf k a r =
     let b : Brought = nothing_new c m.date (length m.settings) in
-    let x : Between s.common c.common.at (c.common.at + ending []) [] = subst (λ (l : List EventView). Between s.common c.common.at (c.common.at + ending l) l) ne (run_lies m.common s.common c.common.at es r.more r.common) in
-    let y : Between s.secret c.secret.at (c.secret.at + ending []) [] = subst (λ (l : List EventView). Between s.secret c.secret.at (c.secret.at + ending l) l) nf (run_lies m.secret s.secret c.secret.at fs r.secret_more r.secret) in
+    let x = none_lies m.common s.common c.common.at es ne r.more r.common in
+    let y = none_lies m.secret s.secret c.secret.at fs nf r.secret_more r.secret in
     takes (group_done true c b [] [])
-    (brings_lists c b [] [] (none_woven c.common.at) (none_woven c.secret.at) (λ e. r.order))
-    (goes_done s boxes c b true (c.common.at + ending []) (c.secret.at + ending []) [] [] k a x y
-    (λ e. record {
-      order = r.order;
-      within = within_here m s r.later;
-      since = since_here m s r.later;
-      past = r.date;
-      overlay = subst (λ (l : List Setting). IsOverlay s.settings (length m.settings) c.settings.date l) ns (overlay_here carries m s c.settings.date r.later);
-    }))
+    (none_is m s c es fs r)
+    (goes_done s boxes c b true (c.common.at + ending []) (c.secret.at + ending []) [] [] k a x y (λ e. none_over carries m s c es fs ns r))
     (done_past m s boxes c b (c.common.at + ending []) (c.secret.at + ending []) [] [] k a x y
     (omega (arith, whole_run m.common c.common.at es r.common we, ap ending ne)) (omega (arith, whole_run m.secret c.secret.at fs r.secret wf, ap ending nf)) (omega arith))
 
-no_settings : (xs : List Setting) → eqb (length xs) 0 ≡ true → xs ≡ []
+pub no_settings : (xs : List Setting) → eqb (length xs) 0 ≡ true → xs ≡ []
 no_settings [] e = refl
 no_settings (x ∷ xs) e = absurd (let z : length (x ∷ xs) ≡ 0 = grind (arith, nat_tests) in omega (arith, z))
 
@@ -223,16 +244,12 @@ told_carried carries m s boxes c es fs true e k a r =
     (told_last_by carries m s boxes c es fs (eqb (length (run_of es)) 0 && eqb (length (run_of fs)) 0 && eqb (length (changed_since m.settings c.settings.date)) 0) refl w.0 w.1 k a r)
 told_carried carries m s boxes c es fs false e k a r = told_slice m s boxes c es fs k a r
 
--- the answer to the group's own request, by an earlier server
-pub told_group : (carries : Carries) (m s : ServerState) (bm boxes : Boxes) (c : ClientState) → IsLedger m bm → IsLedger s boxes → Continues m s bm boxes → Agrees s boxes c
-    → GroupFits m c.common.at c.secret.at c.settings.at → Told s boxes c (Reaches m (difference_of m (pos c.common.at) (pos c.secret.at) c.settings.date)) (group_replied c (difference_of m (pos c.common.at) (pos c.secret.at) c.settings.date))
-told_group carries m s bm boxes c km k g a f =
-    let es : List EventView = f.common.rest in
+pub runs_from : (m s : ServerState) (bm boxes : Boxes) (c : ClientState) → IsLedger m bm → Continues m s bm boxes → (f : GroupFits m c.common.at c.secret.at c.settings.at) → Runs m s c f.common.rest f.secret.rest
+runs_from m s bm boxes c km g f =
     let fs : List EventView = f.secret.rest in
-    let x = run_at m.common c.common.at f.common in
     let y = run_at m.secret c.secret.at f.secret in
-    let runs : Runs m s c es fs = record {
-      common = x;
+    record {
+      common = run_at m.common c.common.at f.common;
       secret = y;
       more = g.common;
       secret_more = g.secret;
@@ -240,7 +257,15 @@ told_group carries m s bm boxes c km k g a f =
       order = f.settings;
       later = g.settings;
       date = g.date;
-    } in
+    }
+
+-- the answer to the group's own request, by an earlier server
+pub told_group : (carries : Carries) (m s : ServerState) (bm boxes : Boxes) (c : ClientState) → IsLedger m bm → IsLedger s boxes → Continues m s bm boxes → Agrees s boxes c
+    → GroupFits m c.common.at c.secret.at c.settings.at → Told s boxes c (Reaches m (difference_of m (pos c.common.at) (pos c.secret.at) c.settings.date)) (group_replied c (difference_of m (pos c.common.at) (pos c.secret.at) c.settings.date))
+told_group carries m s bm boxes c km k g a f =
+    let es : List EventView = f.common.rest in
+    let fs : List EventView = f.secret.rest in
+    let runs : Runs m s c es fs = runs_from m s bm boxes c km g f in
     let v : Reply = carried (is_whole es && is_whole fs) m c.common.at c.secret.at c.settings.date (run_of es) (run_of fs) in
     let w : Reply = difference_of m (pos c.common.at) (pos c.secret.at) c.settings.date in
     let same : w ≡ v = ap₂ (λ (o p : Option (List EventView)). difference_by m c.common.at c.secret.at c.settings.date o p) (run_after m.common c.common.at km.common f.common) (run_after m.secret c.secret.at km.secret f.secret) in

@@ -10,3 +10,4 @@ pub mod Reached
 pub mod Laws
 pub mod Streams
 pub mod NumberWorlds
+pub mod Recovering
