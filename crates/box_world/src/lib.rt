@@ -3,4 +3,7 @@
 
 mod laws;
 
-pub use laws::{clients_go_on, honest_streams_agree, numbers_follow, posts_change_nothing, servers_go_on, worlds_agree};
+pub use laws::{
+    clients_go_on, honest_streams_agree, numbers_follow, posts_change_nothing, servers_go_on,
+    worlds_agree,
+};

@@ -16,7 +16,11 @@ fn the_date_never_falls(rt: HostRuntime) -> Result<(), Fail> {
 #[test]
 fn nothing_is_new_in_a_new_server(rt: HostRuntime) -> Result<(), Fail> {
     let server = Server::new(rt.alloc());
-    let request = Request::Difference { pts: 0, qts: 0, date: 0 };
+    let request = Request::Difference {
+        pts: 0,
+        qts: 0,
+        date: 0,
+    };
     let is_empty = match server.answer(rt.alloc(), &request)? {
         Reply::Empty { date, seq } => date == 0 && seq == 0,
         _ => false,
@@ -28,9 +32,14 @@ fn nothing_is_new_in_a_new_server(rt: HostRuntime) -> Result<(), Fail> {
 #[test]
 fn a_position_past_the_end_is_refused(rt: HostRuntime) -> Result<(), Fail> {
     let server = Server::new(rt.alloc());
-    let request = Request::Difference { pts: 1, qts: 0, date: 0 };
+    let request = Request::Difference {
+        pts: 1,
+        qts: 0,
+        date: 0,
+    };
     let is_refused = match server.answer(rt.alloc(), &request)? {
-        Reply::Error { code, text } => code == 400 && text.as_slice() == b"PERSISTENT_TIMESTAMP_INVALID".as_slice(),
+        Reply::Error { code, text } => code == 400
+            && text.as_slice() == b"PERSISTENT_TIMESTAMP_INVALID".as_slice(),
         _ => false,
     };
     assert!(rt; is_refused);
