@@ -289,7 +289,7 @@ goes_taken s boxes c n d v front t a = record {
   };
 }
 
-answered_is : (c : ClientState) (n : ℕ) (d : ChannelState) (v : ChannelReply) (e : ChannelState) → first (asks_number n) c.channels ≡ Some d → channels.replied d v ≡ Ok e
+pub answered_is : (c : ClientState) (n : ℕ) (d : ChannelState) (v : ChannelReply) (e : ChannelState) → first (asks_number n) c.channels ≡ Some d → channels.replied d v ≡ Ok e
     → by_channels c (answered c.channels n v) ≡ becomes (record c { channels = at_first (asks_number n) (λ _. e) c.channels })
 answered_is c n d v e f is = ap (λ (o : Option ChannelState). by_channels c (answered_by c.channels n v o)) f ∙ ap (λ (o : Result ChannelState WeaveCause). by_channels c (taken_by c.channels n o)) is
 

@@ -18,3 +18,4 @@ pub mod Ranges
 pub mod Streams
 pub mod NumberWorlds
 pub mod Recovering
+pub mod Histories

@@ -1,34 +1,33 @@
 -- A world's numbers follow from numbers alone.
-use Rattle.std.proofs.Common.{◌≡◌, ℕ, zero, suc, ◌+◌, ℤ, pos, List, [], ◌∷◌, ◌++◌, length, map as each, set, Bool, true, false, cond, eqb, ltb, is_some, Option, Some, None, refl, sym, ap, ap₂, ◌∙◌, subst, arith}
+use Rattle.std.proofs.Common.{◌≡◌, ℕ, zero, suc, ◌+◌, ℤ, List, [], ◌∷◌, ◌++◌, map as each, set, Bool, true, false, cond, eqb, ltb, is_some, Option, Some, None, refl, sym, ap, ap₂, ◌∙◌, subst, arith}
 use Rattle.std.specs.Prelude.{slice_get}
 use Rattle.std.specs.Option.{option_map}
 use Rattle.std.specs.FinMap as map
 use Rattle.std.proofs.Math.Seq.{map-set}
 use Rattle.std.proofs.lemmas.List.{length-map}
-use Rattle.std.proofs.lemmas.Option.{slice_get-map, none-some, same_Some}
+use Rattle.std.proofs.lemmas.Option.{slice_get-map}
 use Rattle.box_events.specs.Events.{EventView}
 use Rattle.box_events.specs.declared.limits.TheConstants.{MAX_CHANNELS}
 use Rattle.box_events.specs.declared.positions.Receipt.{Receipt}
 use Rattle.box_events.specs.declared.requests.Numbered.{Numbered}
 use Rattle.box_events.specs.declared.requests.Post.{Post}
-use Rattle.box_events.specs.declared.requests.Request.TheVariants.{Difference, Channel}
 use Rattle.box_events.specs.declared.replies.Reply.{Reply}
 use Rattle.box_events.specs.declared.steps.Step.{Step}
 use Rattle.box_events.specs.declared.steps.Step.TheVariants as step
 use Rattle.channel_box.specs.States.{ChannelState, first, has_id}
-use Rattle.channel_box.specs.Steps.{is_due, channel_is_due, ticked, ask_of, is_watched, may_watch}
+use Rattle.channel_box.specs.Steps.{is_due, channel_is_due, ticked, ask_of, may_watch}
 use Rattle.box_server.specs.declared.fault.PostFault.{PostFault}
 use Rattle.box_server.specs.Servers.{ServerState}
 use Rattle.box_server.specs.Refusing.{post_cause}
-use Rattle.box_client.specs.States.{ClientState, new_client}
+use Rattle.box_client.specs.States.{ClientState}
 use Rattle.box_client.specs.Replies.{Outcome, ignored, refuses, becomes, replied}
-use Rattle.box_client.specs.Asking.{group_is_due, group_asks, difference_of, group_ticked, ticks, wakes, restarted}
+use Rattle.box_client.specs.Asking.{group_is_due, difference_of, group_ticked, ticks, wakes, restarted}
 use Rattle.box_client.specs.Laws.{HasNumbers}
 use Rattle.box_client.specs.Numbers.{ChannelNumbers, channel_numbers, ClientNumbers, client_numbers, n_first, n_has_id, n_group_is_due, n_group_asks, n_group_ticked, n_replied, n_wakes, n_client_restarted, n_watched_if}
 use Rattle.box_client.proofs.Mapped.{len_mapped}
 use Rattle.box_client.proofs.NumberSteps.{pushed_numbers, replied_numbers, ticks_numbers, wakes_numbers, restarted_numbers, watched_numbers, new_numbers}
-use Rattle.box_world.specs.Worlds.{Packet, push, request, reply, World, client_steps, post_by, served, after_reply, received, heard, asks, watches, happens, run_from, new_clients, start, run}
-use Rattle.box_world.specs.NumberWorlds.{n_group_requests, n_channel_requests, n_requests, n_may_watch, n_watches, NumberWorld, numbers_of, n_goes_on, n_post_by, n_served, n_received, n_heard, n_asks, n_steps, n_happens, n_run_from, n_new_clients, n_run, NumbersAlone}
+use Rattle.box_world.specs.Worlds.{Packet, push, request, reply, World, client_steps, post_by, served, after_reply, received, heard, asks, watches, happens, run_from, new_clients, start}
+use Rattle.box_world.specs.NumberWorlds.{n_channel_requests, n_requests, n_may_watch, n_watches, NumberWorld, numbers_of, n_post_by, n_served, n_received, n_heard, n_asks, n_steps, n_happens, n_run_from, n_new_clients, NumbersAlone}
 use Rattle.box_world.specs.Agreeing.{Boxes, Reaches}
 use Rattle.box_world.specs.Reached.{IsGood, boxes_of}
 use Rattle.box_world.proofs.Replying.{Carries, Told, stale, takes}

@@ -60,7 +60,7 @@ carried_settings s (to_settings x ∷ xs) = ap (λ (l : List Setting). x ∷ l) 
 abbrev Counted : List Entry → Type 0
 Counted xs = list_any (is_event (λ e. eqb (count_of e) 0)) xs ≡ false
 
-none_either : (a b : Bool) → (a || b) ≡ false → (a ≡ false) × (b ≡ false)
+pub none_either : (a b : Bool) → (a || b) ≡ false → (a ≡ false) × (b ≡ false)
 none_either true b e = absurd (let w : true ≡ false = e in cc)
 none_either false b e = (refl, e)
 
@@ -156,7 +156,7 @@ pub none_if : (b : Bool) (x : PostFault) (o : Option PostFault) → (if b then S
 none_if true x o e = absurd (let w : Some x ≡ None = e in cc)
 none_if false x o e = (refl, e)
 
-none_else : (o p : Option PostFault) → or_else o p ≡ None → (o ≡ None) × (p ≡ None)
+pub none_else : (o p : Option PostFault) → or_else o p ≡ None → (o ≡ None) × (p ≡ None)
 none_else None p e = (refl, e)
 none_else (Some x) p e = absurd (let w : Some x ≡ None = e in cc)
 

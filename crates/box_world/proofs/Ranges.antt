@@ -50,7 +50,7 @@ use Rattle.box_world.proofs.Worlds.{good_advances}
 
 -- ---- servers within the limit
 
-record IsWithin (s : ServerState) : Type 0 where
+pub record IsWithin (s : ServerState) : Type 0 where
   pub common : ending s.common ≤ MAX_END
   pub secret : ending s.secret ≤ MAX_END
   pub settings : length s.settings ≤ MAX_END
@@ -86,7 +86,7 @@ within_all s (x ∷ xs) full h =
 cut_end : (c : ChannelBox) → channel_end (cut c) ≡ channel_end c
 cut_end c = omega (arith, ending-append (take (excess c) c.events) (drop (excess c) c.events), ap ending (take-append-drop (excess c) c.events))
 
-within_posted : (s : ServerState) (random_id : ℤ) (ps : List Post) → post_cause s ps ≡ None → IsWithin s → IsWithin (posted s random_id ps)
+pub within_posted : (s : ServerState) (random_id : ℤ) (ps : List Post) → post_cause s ps ≡ None → IsWithin s → IsWithin (posted s random_id ps)
 unfolding posted
 within_posted s random_id ps none h =
     let t : ServerState = applied_all s (entries_of ps) in

@@ -1,17 +1,17 @@
 -- Each answer brings a client nearer to the end of its server's boxes.
-use Rattle.std.proofs.Common.{◌≡◌, ◌⊎◌, inl, inr, ℕ, zero, suc, ◌+◌, ◌-◌, ◌<◌, ◌≤◌, min, ℤ, pos, List, [], ◌∷◌, ◌++◌, length, take, drop, map as each, Bool, true, false, ◌&&◌, ◌||◌, cond, eqb, ltb, is_some, Option, Some, None, refl, sym, ap, ap₂, ◌∙◌, subst, arith}
-use Rattle.std.specs.Ordering.{nat_cmp, eq_by_cmp, is_lt}
+use Rattle.std.proofs.Common.{◌≡◌, ◌⊎◌, inl, inr, ℕ, ◌+◌, ◌-◌, ◌≤◌, min, ℤ, pos, List, [], ◌∷◌, length, take, drop, map as each, Bool, true, false, ◌&&◌, ◌||◌, cond, eqb, ltb, is_some, Option, Some, None, refl, sym, ap, ap₂, ◌∙◌, subst, arith}
+use Rattle.std.specs.Ordering.{nat_cmp}
 use Rattle.std.specs.Cmp.{nat_cmp_total}
 use Rattle.std.specs.FinMap.{get, len, empty, get-empty, len-empty, same_map, nat_cmp-IsAntisymmetric}
-use Rattle.std.proofs.lemmas.Bool.Decides.{nat_tests}
 use Rattle.std.proofs.lemmas.List.{length-map, length-drop, length-take-le}
 use Rattle.gap_buffer.specs.Holding.{Items}
 use Rattle.box_events.specs.declared.limits.TheConstants.{MAX_BEHIND, MAX_END, RUN_BYTES}
 use Rattle.box_events.specs.declared.requests.Request.{Request}
 use Rattle.box_events.specs.declared.requests.Request.TheVariants.{Channel}
+use Rattle.box_events.specs.declared.replies.ChannelReply.{ChannelReply}
 use Rattle.box_events.specs.declared.replies.Reply.{Reply}
-use Rattle.box_events.specs.declared.replies.Reply.TheVariants.{Empty, Difference, Channel as ChannelAnswer}
-use Rattle.box_events.specs.declared.settings.Setting.{Setting}
+use Rattle.std.proofs.lemmas.Option.{none-some, same_Some}
+use Rattle.box_events.specs.declared.replies.Reply.TheVariants.{Empty, Difference}
 use Rattle.box_events.specs.Events.{EventView, count_of}
 use Rattle.box_events.specs.Boxes.{ending, AreCounted, Between}
 use Rattle.box_events.specs.SettingLists.{Dated}
@@ -24,33 +24,37 @@ use Rattle.pts_machine.specs.Fitting.{Fits}
 use Rattle.pts_machine.proofs.Fitting.{fits_after, fits_inside, fits_reaches, fits_sound}
 use Rattle.pts_machine.proofs.Kept.{sound_extend}
 use Rattle.seq_machine.specs.Packs.{Pack, size}
-use Rattle.seq_machine.specs.States.{SettingsState, overlaid, IsSoundState}
+use Rattle.seq_machine.specs.States.{SettingsState, IsSoundState}
 use Rattle.seq_machine.specs.Agreeing.{SettingsAgree}
 use Rattle.seq_machine.proofs.StateSteps.{sound_overlaid, overlay_live}
 use Rattle.channel_box.specs.States.{ChannelState, first}
-use Rattle.channel_box.specs.Steps.{is_due, channel_is_due, channel_asks, ticked, at_first, asks_number, is_asking, flagged, woken}
+use Rattle.channel_box.specs.Steps.{is_due, channel_is_due, ticked, at_first, asks_number, is_asking, woken}
 use Rattle.channel_box.specs.Looks.{is_waiting, any_asks}
 use Rattle.box_server.specs.Servers.{ServerState, state_of, channel_in}
 use Rattle.box_server.specs.Entries.{bytes_of}
 use Rattle.box_client.specs.States.{ClientState}
-use Rattle.box_client.specs.Asking.{group_is_due, group_asks, group_ticked, ticks, wakes, is_one_asking}
+use Rattle.box_client.specs.Asking.{group_is_due, difference_of, group_ticked, ticks, wakes, is_one_asking}
 use Rattle.box_client.specs.declared.brought.Brought.{Brought}
-use Rattle.box_client.specs.Replies.{Outcome, ignored, becomes, nothing_new, group_done, group_replied, by_channels, channel_replied, replied}
-use Rattle.box_server.specs.Runs.{limited, run_of, events_after}
+use Rattle.box_client.specs.Replies.{Outcome, ignored, becomes, nothing_new, group_done, group_replied, channel_replied}
+use Rattle.box_server.specs.Runs.{limited, run_of}
 use Rattle.box_server.specs.Answers.{answer, is_whole, slice, last_by, carried, difference_by, channel_difference}
 use Rattle.box_server.specs.Answers as server
 use Rattle.box_server.specs.LastEntries.{changed_since}
 use Rattle.difference.specs.Weaving.{bodies, others_from}
-use Rattle.box_world.proofs.Answering.{RunAt, run_at, run_after, run_lies, whole_run, both_true, empty_run, each_right}
+use Rattle.box_world.proofs.Answering.{RunAt, run_after, run_lies, whole_run, both_true, empty_run, each_right}
 use Rattle.box_world.proofs.Continuing.{continues_same}
 use Rattle.box_world.proofs.Telling.{answer_is, channel_answer_is}
 use Rattle.box_world.proofs.Ticking.{stands_at}
 use Rattle.box_world.proofs.GoingOn.{agree_ticks, agree_wakes}
-use Rattle.box_world.proofs.ChannelReplying.{first_small, sum_is, counted_right, first_has, is_asked, channel_taken, goes_taken, ChannelTakes}
+use Rattle.box_world.proofs.ChannelReplying.{first_small, sum_is, counted_right, Taken, first_has, is_asked, answered_is, channel_taken, goes_taken}
+use Rattle.box_world.proofs.Pushing.{each_at_first}
+use Rattle.box_world.proofs.Posting.{none_either}
 use Rattle.box_world.proofs.Replying.{Carries, extend_live, extend_again, goes_done, done_past, Runs, runs_from, brought_slice, brought_last, slice_is, last_is, last_over, none_is, none_over, none_lies, no_settings}
-use Rattle.box_world.specs.Agreeing.{Boxes, Each, Agrees, IsPast}
+use Rattle.box_world.specs.Agreeing.{Boxes, Each, ChannelAgrees, Agrees, IsPast, is_last_part}
 use Rattle.box_world.specs.Growing.{IsLedger}
-use Rattle.box_world.specs.Recovering.{most_of_channels}
+use Rattle.box_world.specs.Worlds.{after_reply}
+use Rattle.box_world.specs.Streams.{Past, told_reply, heard_frame, begun, channel_request}
+use Rattle.box_world.specs.Recovering.{AnswersEach, most_of_channels, most_frames}
 
 -- ---- lanes that stand at the end hold nothing
 
@@ -209,11 +213,12 @@ record Nearer (s : ServerState) (c d : ClientState) : Type 0 where
   pub calm : is_waiting d.common.mode ≡ true → d.flag ≡ false
 
 -- what holds of the server: its events count, and it keeps within the limit
-record Known (s : ServerState) (boxes : Boxes) : Type 0 where
+pub record Known (s : ServerState) (boxes : Boxes) : Type 0 where
   pub ledger : IsLedger s boxes
   pub common : ending s.common ≤ MAX_END
   pub secret : ending s.secret ≤ MAX_END
   pub settings : length s.settings ≤ MAX_END
+  pub channels : (id : ℤ) → ending (boxes id) ≤ MAX_END
 
 lane_ahead : (box : List EventView) (t : LaneState EventView) (n to : ℕ) (xs : List EventView) → AreCounted box → ending box ≤ MAX_END → Fits box t → t.mode ≡ Asking n → Between box t.at to xs → StartAfter (extend count_of t xs true).at (extend count_of t xs true).held
 lane_ahead box t n to xs c le f e b =
@@ -336,7 +341,7 @@ next_last carries s boxes c n es fs true is we wf k a e flag r =
 next_last carries s boxes c n es fs false is we wf k a e flag r = next_final carries s boxes c n es fs we wf k a e flag r
 
 -- no event is larger than a part may be
-record AreSmall (s : ServerState) (boxes : Boxes) : Type 0 where
+pub record AreSmall (s : ServerState) (boxes : Boxes) : Type 0 where
   pub common : Each (λ e. bytes_of e ≤ RUN_BYTES) s.common
   pub secret : Each (λ e. bytes_of e ≤ RUN_BYTES) s.secret
   pub channels : (id : ℤ) → Each (λ e. bytes_of e ≤ RUN_BYTES) (boxes id)
@@ -367,3 +372,105 @@ next_group carries s boxes c n v k small a e flag is =
     let same : v ≡ carried (is_whole p.rest && is_whole q.rest) s c.common.at c.secret.at c.settings.date (run_of p.rest) (run_of q.rest) =
     is ∙ ap₂ (λ (o z : Option (List EventView)). difference_by s c.common.at c.secret.at c.settings.date o z) (run_after s.common c.common.at k.ledger.common p) (run_after s.secret c.secret.at k.ledger.secret q) in
     subst (Next s boxes c) (sym same) (next_carried carries s boxes c n p.rest q.rest (is_whole p.rest && is_whole q.rest) refl k small a e flag r)
+
+-- ---- an answer to a number that is asked
+
+record Stepped (s : ServerState) (boxes : Boxes) (c : ClientState) (o : Outcome) : Type 0 where
+  pub client : ClientState
+  pub is : o ≡ becomes client
+  pub agrees : Agrees s boxes client
+  pub calm : IsCalm client
+  pub left : left s boxes client + 1 ≤ left s boxes c
+
+channel_left : (s : ServerState) (boxes : Boxes) (d : ChannelState) (n : ℕ) (r : ChannelReply) (b : Bool) → is_last_part r ≡ b → Known s boxes → AreSmall s boxes → (t : Taken (boxes d.id) (boxes d.id) d r) → ChannelAgrees (boxes d.id) d → d.lane.mode ≡ Asking n → d.flag ≡ false
+    → left_channel boxes t.channel + 1 ≤ left_channel boxes d
+channel_left s boxes d n r true is k small t a mode flag =
+    let sound = asking_sound (boxes d.id) d.lane n (k.ledger.channels d.id) (k.channels d.id) a.lane mode in
+    channel_ends boxes d t.channel n mode (t.stops is) (t.flag ∙ flag) (lane_holds_none (boxes d.id) t.channel.lane (k.ledger.channels d.id) t.agrees.lane (t.ahead sound (k.channels d.id) (t.stops is)) (t.reaches is))
+channel_left s boxes d n r false is k small t a mode flag =
+    let go = t.goes_on is in
+    channel_part boxes d t.channel n mode go.0 t.id go.1 (go.2 (small.channels d.id)) (omega (arith, fits_inside (boxes d.id) t.channel.lane t.agrees.lane, ap (λ (i : ℤ). ending (boxes i)) t.id))
+
+calm_taken : (e : ChannelState) → (e.lane.mode ≡ Live) ⊎ (e.lane.mode ≡ Again) → CalmChannel e
+calm_taken e (inl live) w = absurd (not_waiting e.lane.mode Live live refl w)
+calm_taken e (inr again) w = absurd (not_waiting e.lane.mode Again again refl w)
+
+by_channel : (s : ServerState) (boxes : Boxes) (c : ClientState) (n : ℕ) (v : Reply) (d : ChannelState) → Known s boxes → AreSmall s boxes → Agrees s boxes c → IsCalm c → first (asks_number n) c.channels ≡ Some d → v ≡ answer s (Channel d.id (pos d.lane.at))
+    → Stepped s boxes c (channel_replied c n v)
+by_channel s boxes c n v d k small a calm f is =
+    let here = first_has (λ x. ChannelAgrees (boxes x.id) x) (asks_number n) c.channels d a.channels f in
+    let mode : d.lane.mode ≡ Asking n = is_asked n d.lane.mode here.1 in
+    let flag : d.flag ≡ false = (first_has CalmChannel (asks_number n) c.channels d calm.channels f).0 (ap is_waiting mode) in
+    let same = continues_same s boxes boxes (λ id. refl) in
+    let t = channel_taken (boxes d.id) (boxes d.id) (channel_in s.channels d.id) d (k.ledger.channels d.id) (k.ledger.channels d.id) (same.channels d.id) (k.ledger.kept d.id) (stands_at (boxes d.id) d.lane here.0.lane) here.0 in
+    let e : ChannelState = t.taken.channel in
+    let one = channel_left s boxes d n t.reply (is_last_part t.reply) refl k small t.taken here.0 mode flag in
+    record {
+      client = record c { channels = at_first (asks_number n) (λ _. e) c.channels };
+      is = ap (channel_replied c n) (is ∙ channel_answer_is s d.id (pos d.lane.at) ∙ t.is) ∙ answered_is c n d t.reply e f t.taken.is;
+      agrees = (goes_taken s boxes c n d t.reply (boxes d.id) t.taken a).agrees;
+      calm = record { group = calm.group; channels = each_at_first CalmChannel (asks_number n) (λ _. e) (λ x p h. calm_taken e t.taken.free) c.channels calm.channels };
+      left = omega (arith, left_at_first boxes (asks_number n) d e c.channels f one);
+    }
+
+same_request : (a b : Request) → Some a ≡ Some b → a ≡ b
+same_request a b e = same_Some a b e
+
+by_first : (s : ServerState) (boxes : Boxes) (c : ClientState) (n : ℕ) (v : Reply) (o : Option ChannelState) (r : Request) → first (asks_number n) c.channels ≡ o → channel_request o ≡ Some r → v ≡ answer s r → Known s boxes → AreSmall s boxes → Agrees s boxes c → IsCalm c
+    → Stepped s boxes c (cond (is_some o) (channel_replied c n v) ignored)
+by_first s boxes c n v None r f e is k small a calm = absurd (none-some r e)
+by_first s boxes c n v (Some d) r f e is k small a calm = by_channel s boxes c n v d k small a calm f (is ∙ ap (answer s) (sym (same_request (Channel d.id (pos d.lane.at)) r e)))
+
+by_whom : (carries : Carries) (s : ServerState) (boxes : Boxes) (c : ClientState) (n : ℕ) (v : Reply) (b : Bool) (r : Request) → is_asking n c.common.mode ≡ b → cond b (Some (difference_of c).request) (channel_request (first (asks_number n) c.channels)) ≡ Some r → v ≡ answer s r
+    → Known s boxes → AreSmall s boxes → Agrees s boxes c → IsCalm c → Stepped s boxes c (cond b (group_replied c v) (cond (is_some (first (asks_number n) c.channels)) (channel_replied c n v) ignored))
+by_whom carries s boxes c n v true r asks e is k small a calm =
+    let mode : c.common.mode ≡ Asking n = is_asked n c.common.mode asks in
+    let x = next_group carries s boxes c n v k small a mode (calm.group (ap is_waiting mode)) (is ∙ ap (answer s) (sym (same_request (difference_of c).request r e)) ∙ answer_is s c) in
+    record {
+      client = x.client;
+      is = x.is;
+      agrees = x.agrees;
+      calm = record { group = x.nearer.calm; channels = subst (Each CalmChannel) (sym x.nearer.channels) calm.channels };
+      left = omega (arith, x.nearer.left, ap (left_channels boxes) x.nearer.channels);
+    }
+by_whom carries s boxes c n v false r asks e is k small a calm = by_first s boxes c n v (first (asks_number n) c.channels) r refl e is k small a calm
+
+-- ---- all frames
+
+bounded : (carries : Carries) (s : ServerState) (boxes : Boxes) (fs : List (ℕ × Reply)) (c : ClientState) → Known s boxes → AreSmall s boxes → Agrees s boxes c → IsCalm c → AnswersEach s c fs → length fs ≤ left s boxes c
+bounded carries s boxes [] c k small a calm h = omega arith
+bounded carries s boxes (f ∷ fs) c k small a calm h =
+    let st = by_whom carries s boxes c f.0 f.1 (is_asking f.0 c.common.mode) h.0.0 refl h.0.1 h.0.2 k small a calm in
+    let d : ClientState = st.client in
+    let next : heard_frame c (told_reply f.0 f.1) ≡ (ticks d).client = ap (λ (o : Outcome). (ticks (after_reply c o)).client) st.is in
+    let rest = bounded carries s boxes fs (ticks d).client k small (agree_ticks s boxes d st.agrees) (calm_ticks d st.calm) (subst (λ (x : ClientState). AnswersEach s x fs) next h.1) in
+    omega (arith, rest, st.left, left_ticks s boxes d)
+
+-- ---- as a session begins
+
+woken_most : (boxes : Boxes) (ds : List ChannelState) → left_channels boxes (woken ds) ≤ most_of_channels boxes ds
+woken_most boxes [] = omega arith
+woken_most boxes (d ∷ ds) = omega (arith, left_most (busy true (len d.lane.held) d.lane.mode) (min (ending (boxes d.id) - d.lane.at) MAX_BEHIND + 1), woken_most boxes ds)
+
+woken_calm : (ds : List ChannelState) → any_asks ds ≡ false → Each CalmChannel (woken ds)
+woken_calm [] e = tt
+woken_calm (d ∷ ds) e =
+    let both = none_either (is_waiting d.lane.mode) (any_asks ds) e in
+    ((λ w. absurd (let t : true ≡ false = sym w ∙ both.0 in cc)), woken_calm ds both.1)
+
+wakes_calm : (c : ClientState) → is_one_asking c ≡ false → IsCalm (wakes c)
+wakes_calm c e =
+    let both = none_either (is_waiting c.common.mode) (any_asks c.channels) e in
+    record { group = λ w. absurd (let t : true ≡ false = sym w ∙ both.0 in cc); channels = woken_calm c.channels both.1 }
+
+pub frames_bounded : (carries : Carries) (p : Past) (c : ClientState) (fs : List (ℕ × Reply)) → Known p.server p.boxes → AreSmall p.server p.boxes → Agrees p.server p.boxes c → is_one_asking c ≡ false → AnswersEach p.server (begun c) fs → length fs ≤ most_frames p c
+frames_bounded carries p c fs k small a free h =
+    let woke = agree_wakes p.server p.boxes c a in
+    let most = bounded carries p.server p.boxes fs (begun c) k small (agree_ticks p.server p.boxes (wakes c) woke) (calm_ticks (wakes c) (wakes_calm c free)) h in
+    omega (
+      arith,
+      most,
+      left_ticks p.server p.boxes (wakes c),
+      left_most (busy true (group_held c) c.common.mode) ((ending p.server.common - c.common.at) + (ending p.server.secret - c.secret.at) + 1),
+      woken_most p.boxes c.channels,
+    )

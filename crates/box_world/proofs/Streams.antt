@@ -1,7 +1,6 @@
 -- Honest streams keep a client in agreement.
-use Rattle.std.proofs.Common.{◌≡◌, ◌≢◌, ℕ, zero, suc, ◌+◌, ◌≤◌, ◌<◌, ℤ, pos, List, [], ◌∷◌, ◌++◌, length, max, Bool, true, false, cond, is_some, Option, Some, None, refl, sym, ap, ◌∙◌, subst, arith}
+use Rattle.std.proofs.Common.{◌≡◌, ℕ, zero, suc, ◌≤◌, ℤ, pos, List, [], ◌∷◌, length, max, Bool, true, false, cond, is_some, Option, Some, None, refl, sym, ap, ◌∙◌, subst, arith}
 use Rattle.std.specs.Prelude.{slice_get}
-use Rattle.std.specs.List.{All}
 use Rattle.std.specs.FinMap as map
 use Rattle.std.proofs.lemmas.Option.{none-some, same_Some}
 use Rattle.box_events.specs.declared.positions.Receipt.{Receipt}
@@ -10,26 +9,25 @@ use Rattle.box_events.specs.declared.requests.Request.{Request}
 use Rattle.box_events.specs.declared.requests.Request.TheVariants.{Channel}
 use Rattle.box_events.specs.declared.replies.Reply.{Reply}
 use Rattle.box_events.specs.declared.updates.Push.{Push}
-use Rattle.box_events.specs.declared.updates.Push.TheVariants.{TooLong, Container}
 use Rattle.box_events.specs.SettingLists.{Dated}
 use Rattle.channel_box.specs.States.{ChannelState, first}
 use Rattle.channel_box.specs.Steps.{is_asking, asks_number}
 use Rattle.box_server.specs.declared.fault.PostFault.{PostFault}
-use Rattle.box_server.specs.Servers.{ServerState, new_server, dated_at, channel_in}
-use Rattle.box_server.specs.Posting.{posted, push_of}
+use Rattle.box_server.specs.Servers.{ServerState, channel_in}
+use Rattle.box_server.specs.Posting.{push_of}
 use Rattle.box_server.specs.Refusing.{post_cause}
 use Rattle.box_server.specs.Answers.{answer, channel_difference}
 use Rattle.box_server.specs.Answers as server
 use Rattle.box_client.specs.States.{ClientState}
 use Rattle.box_client.specs.Pushes.{pushed}
-use Rattle.box_client.specs.Replies.{Outcome, ignored, becomes, refuses, Cause, group_replied, channel_replied, replied}
-use Rattle.box_client.specs.Asking.{difference_of, ticks, wakes}
+use Rattle.box_client.specs.Replies.{ignored, group_replied, channel_replied, replied}
+use Rattle.box_client.specs.Asking.{difference_of, wakes}
 use Rattle.box_world.specs.Worlds.{after_reply}
 use Rattle.box_world.specs.Agreeing.{Boxes, Agrees, ChannelAgrees, Reaches}
 use Rattle.box_world.specs.Growing.{Continues, IsLedger}
 use Rattle.box_world.specs.Requesting.{GroupFits}
 use Rattle.box_world.specs.Pushing.{PushLies}
-use Rattle.box_world.specs.Streams.{Doing, posts, dates, Past, with_posts, posted_by, done, done_all, first_past, past_of, Frame, told_push, told_reply, heard_frame, begun, IsHonestPush, of_post, too_long, channel_too_long, channel_request, asked_by, IsHonestFrame, Honest, IsTaken, AgreesThrough, HonestStreamsAgree}
+use Rattle.box_world.specs.Streams.{Doing, posts, dates, Past, posted_by, done, done_all, first_past, past_of, Frame, told_push, told_reply, heard_frame, begun, IsHonestPush, of_post, too_long, channel_too_long, channel_request, IsHonestFrame, Honest, IsTaken, AgreesThrough, HonestStreamsAgree}
 use Rattle.box_world.proofs.Alls.{all_weaker}
 use Rattle.box_world.proofs.ChannelReplying.{first_has, told_channel}
 use Rattle.box_world.proofs.Continuing.{continues_same, continues_then, later_none, more_none, push_more}
@@ -37,7 +35,7 @@ use Rattle.box_world.proofs.GoingOn.{agree_ticks, agree_wakes}
 use Rattle.box_world.proofs.Growing.{agree_as_servers_grow}
 use Rattle.box_world.proofs.Posting.{ledger_posted, continues_posted, push_posted}
 use Rattle.box_world.proofs.Pushing.{goes_pushed}
-use Rattle.box_world.proofs.Replying.{Carries, Told, stale, takes, told_as, told_group}
+use Rattle.box_world.proofs.Replying.{Carries, Told, stale, told_as, told_group}
 use Rattle.box_world.proofs.Reaching.{never_refused}
 use Rattle.box_world.proofs.Stepping.{goes_told, ledger_start}
 use Rattle.box_world.proofs.Telling.{answer_is, channel_answer_is}
@@ -117,7 +115,7 @@ next_is p [] i x is = absurd (none-some x is)
 next_is p (y ∷ h) zero x is = ap (done p) (same_Some y x is)
 next_is p (y ∷ h) (suc i) x is = next_is (done p y) h i x is
 
-ordered : (h : List Doing) (m : ℕ) → IsOrdered (past_of h m)
+pub ordered : (h : List Doing) (m : ℕ) → IsOrdered (past_of h m)
 ordered h m = ordered_all first_past h m ledger_start
 
 -- ---- pushes

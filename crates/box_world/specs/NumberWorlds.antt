@@ -1,5 +1,5 @@
 -- A world with its clients as numbers alone: what a report needs of it, but for the server's boxes. This project's own.
-use Rattle.std.specs.Prelude.{◌≡◌, ℕ, zero, suc, ◌+◌, ℤ, pos, List, [], ◌∷◌, ◌++◌, length, map as each, Bool, true, false, cond, eqb, ltb, is_some, Option, Some, None, slice_get, set}
+use Rattle.std.specs.Prelude.{◌≡◌, ℕ, zero, suc, ◌+◌, ℤ, pos, List, [], ◌∷◌, ◌++◌, length, map as each, Bool, false, cond, eqb, ltb, is_some, Option, Some, None, slice_get, set}
 use Rattle.std.specs.FinMap as map
 use Rattle.box_events.specs.declared.limits.TheConstants.{MAX_CHANNELS}
 use Rattle.box_events.specs.declared.positions.Receipt.{Receipt}

@@ -4,6 +4,7 @@ ghost use Rattle.box_client.specs.States.{ClientState};
 ghost use Rattle.box_client.specs.Asking.{ticks, wakes, restarted};
 ghost use Rattle.box_world.specs.Laws.{NewClientsAgree, AgreeAsServersGrow, AgreeAsClientsGoOn, StillAsClientsGoOn, ClientsAgree, PacketsFit, RepliesAreTaken, ClientsCatchUp, ChannelsCatchUp, KnownPostsChangeNothing, NumbersStayBelow, PacketsAreInRange, RefusedPostsChangeNothing, ServersKeepOrder, WorldsGrow};
 ghost use Rattle.box_world.specs.NumberWorlds.{NumbersAlone};
+ghost use Rattle.box_world.specs.Recovering.{FramesAreBounded};
 ghost use Rattle.box_world.specs.Streams.{HonestStreamsAgree};
 ghost use Rattle.box_world.specs.Worlds.{watches};
 
@@ -51,4 +52,9 @@ pub fn honest_streams_agree()
 /// After every list of steps the clients' numbers follow from numbers alone: no event, value or recent message says anything of them.
 pub fn numbers_follow()
     ensures { NumbersAlone }
+{}
+
+/// A client that asks a server which doesn't change reads so many answers at most until it asks no more.
+pub fn frames_are_bounded()
+    ensures { FramesAreBounded }
 {}
