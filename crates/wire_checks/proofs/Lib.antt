@@ -1,1 +1,2 @@
 pub mod ClearValues
+pub mod RuleFacts

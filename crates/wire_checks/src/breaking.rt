@@ -22,6 +22,7 @@ use wire_forms::numbers::{
 };
 use wire_forms::{entry_in, entry_of, int_in, parts_of, word_in};
 
+// Whether a saved client of this version may have these fields.
 fn is_known(version: u32, fields: &[Value]) -> bool
     ensures { result ≡ rules.is_known version (views fields.now) }
 {
@@ -157,6 +158,7 @@ pub fn broken(rule: Rule, form: u32, fields: &[Value]) -> Option<WireFault>
     }
 }
 
+// Whether a server answers calls of this form.
 fn is_served(form: u32) -> bool
     ensures { result ≡ rules.is_served form }
 {
@@ -166,7 +168,7 @@ fn is_served(form: u32) -> bool
     )
 }
 
-/// Of a whole call.
+/// `NotServed`, where a call isn't one by which a client asks a server.
 pub fn not_served(call: &Value) -> Option<WireFault>
     ensures { result ≡ rules.not_served (view call.now) }
 {

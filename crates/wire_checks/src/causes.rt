@@ -9,6 +9,7 @@ use crate::fault::WireFault;
 use crate::rule::{ORDER, Root, Rule, is_for};
 use tl_types::Value;
 
+// What the first record breaks that breaks the rule, a record before those in its fields.
 #[cycle(walk)]
 fn first_broken(rule: Rule, value: &Value) -> Option<WireFault>
     ensures { result ≡ defined.first_broken rule (view value.now) }
@@ -39,6 +40,7 @@ fn first_among(rule: Rule, values: &[Value]) -> Option<WireFault>
     None
 }
 
+// What is broken of a rule, where the root has it.
 fn looked_for(root: Root, rule: Rule, value: &Value) -> Option<WireFault>
     ensures { result ≡ defined.looked_for root rule (view value.now) }
 {

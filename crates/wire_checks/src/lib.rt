@@ -4,6 +4,7 @@
 mod breaking;
 mod causes;
 mod fault;
+mod laws;
 mod ranges;
 mod rule;
 mod standing;
@@ -11,3 +12,4 @@ mod updates;
 
 pub use causes::{call_cause, frame_cause, saved_cause, step_cause};
 pub use fault::WireFault;
+pub use laws::values_without_a_cause;

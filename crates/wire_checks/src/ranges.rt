@@ -14,12 +14,14 @@ use wire_forms::{count_in, int_in, word_in};
 /// The greatest number of 32 bits with a sign.
 const MAX_NUMBER: u32 = 0x7fff_ffff;
 
+/// The fault, unless this holds.
 pub fn unless(holds: bool, fault: WireFault) -> Option<WireFault>
     ensures { result ≡ defined.unless holds fault }
 {
     if holds { None } else { Some(fault) }
 }
 
+/// `BadNumber`, where a field's number is below `least`.
 pub fn bad_number(least: u32, fields: &[Value], index: usize) -> Option<WireFault>
     ensures { result ≡ defined.bad_number least (at index (views fields.now)) }
 {
@@ -32,6 +34,7 @@ pub fn bad_number(least: u32, fields: &[Value], index: usize) -> Option<WireFaul
     )
 }
 
+/// `BadEnd`, where a field's number is below `least` or above the end that a box may have.
 pub fn bad_end(least: u32, fields: &[Value], index: usize) -> Option<WireFault>
     ensures { result ≡ defined.bad_end least (at index (views fields.now)) }
 {
@@ -44,6 +47,7 @@ pub fn bad_end(least: u32, fields: &[Value], index: usize) -> Option<WireFault>
     )
 }
 
+/// `BadDate`, where a field's number is below 0.
 pub fn bad_date(fields: &[Value], index: usize) -> Option<WireFault>
     ensures { result ≡ defined.bad_date (at index (views fields.now)) }
 {
@@ -55,7 +59,7 @@ pub fn bad_date(fields: &[Value], index: usize) -> Option<WireFault>
     )
 }
 
-/// Of a seq that stands by itself.
+/// `BadSeq`, where the seq in a field is out of range.
 pub fn bad_seq(fields: &[Value], index: usize) -> Option<WireFault>
     ensures { result ≡ defined.bad_seq (at index (views fields.now)) }
 {
@@ -80,13 +84,14 @@ fn bad_count(holds: bool, fields: &[Value], pts: usize, count: usize) -> Option<
     )
 }
 
-/// Of an event that counts 1.
+/// `BadCount`, where an event that counts 1 states another count.
 pub fn not_one(fields: &[Value], pts: usize, count: usize) -> Option<WireFault>
     ensures { result ≡ defined.not_one (at pts (views fields.now)) (at count (views fields.now)) }
 {
     bad_count(word_in(fields, count) == 1, fields, pts, count)
 }
 
+// Whether so many ids may stand in a delete.
 fn are_few(ids: usize) -> bool
     ensures { result ≡ defined.are_few ids }
 {
@@ -99,7 +104,7 @@ fn is_count(ids: usize, count: u32) -> bool
     are_few(ids) && count as usize == ids
 }
 
-/// Of an event that counts its ids.
+/// `BadCount`, where an event that counts its ids states another count, or has none or too many.
 pub fn not_of_ids(fields: &[Value], ids: usize, pts: usize, count: usize) -> Option<WireFault>
     ensures { result ≡ defined.not_of_ids (at ids (views fields.now)) (at pts (views fields.now)) (at count (views fields.now)) }
 {
@@ -107,6 +112,7 @@ pub fn not_of_ids(fields: &[Value], ids: usize, pts: usize, count: usize) -> Opt
     bad_count(holds, fields, pts, count)
 }
 
+// A number of elements, as far as 32 bits with a sign hold it.
 fn small(n: usize) -> i32
     ensures { result ≡ defined.small n }
 {
@@ -117,7 +123,7 @@ fn small(n: usize) -> i32
     }
 }
 
-/// Of an event's ids alone.
+/// `BadCount`, where an event whose count isn't stated has no ids or too many.
 pub fn bad_ids(fields: &[Value], ids: usize) -> Option<WireFault>
     ensures { result ≡ defined.bad_ids (at ids (views fields.now)) }
 {

@@ -36,6 +36,7 @@ pub const ORDER: [Rule; 8] = [
     Rule::Seq,
 ];
 
+/// Whether a rule's cause is answered for this root.
 pub fn is_for(root: Root, rule: Rule) -> bool
     ensures { result ≡ causes.is_for root rule }
 {

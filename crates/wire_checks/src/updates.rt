@@ -14,6 +14,7 @@ use wire_forms::numbers::{
 };
 use wire_forms::{entry_of, int_in, parts_in, word_in};
 
+// How many of the updates are settings.
 fn settings(updates: &[Value]) -> u64
     ensures { result ≡ defined.settings (views updates.now) }
 {
@@ -26,7 +27,7 @@ fn settings(updates: &[Value]) -> u64
     count
 }
 
-/// Of a container.
+/// `UnorderedSetting`, where a container without a seq has a setting.
 pub fn unordered(fields: &[Value], updates: usize, seq: usize) -> Option<WireFault>
     ensures { result ≡ defined.unordered (at updates (views fields.now)) (at seq (views fields.now)) }
 {
@@ -37,13 +38,14 @@ pub fn unordered(fields: &[Value], updates: usize, seq: usize) -> Option<WireFau
     )
 }
 
+// Whether so many settings have the seqs from `start` to `seq`, or there is no seq.
 fn is_pack(many: u64, start: u32, seq: u32) -> bool
     ensures { result ≡ defined.is_pack many start seq }
 {
     seq == 0 || (1 <= start && start <= seq && seq <= MAX_END && many == (seq - start) as u64 + 1)
 }
 
-/// Of a container.
+/// `BadSeq`, where a container's settings aren't those of its seqs.
 pub fn bad_pack(fields: &[Value], updates: usize, start: usize, seq: usize) -> Option<WireFault>
     ensures { result ≡ defined.bad_pack (at updates (views fields.now)) (at start (views fields.now)) (at seq (views fields.now)) }
 {
@@ -57,6 +59,7 @@ pub fn bad_pack(fields: &[Value], updates: usize, start: usize, seq: usize) -> O
     )
 }
 
+// Whether an update of this form may stand in a difference, beside new messages.
 fn is_other(with_settings: bool, form: u32) -> bool
     ensures { result ≡ defined.is_other with_settings form }
 {
@@ -67,6 +70,7 @@ fn is_other(with_settings: bool, form: u32) -> bool
     }
 }
 
+// An index, as far as 32 bits hold it.
 fn held(n: usize) -> u32
     ensures { result ≡ parts.held n }
 {
@@ -77,6 +81,7 @@ fn held(n: usize) -> u32
     }
 }
 
+// The first of the updates that may not stand in a difference.
 fn wrong_among(with_settings: bool, updates: &[Value]) -> Option<WireFault>
     ensures { result ≡ defined.wrong_among with_settings 0 (views updates.now) }
 {
@@ -88,7 +93,7 @@ fn wrong_among(with_settings: bool, updates: &[Value]) -> Option<WireFault>
     None
 }
 
-/// Of a difference's other updates.
+/// `WrongUpdate`, where one of a difference's other updates may not stand there.
 pub fn wrong_update(with_settings: bool, fields: &[Value], others: usize) -> Option<WireFault>
     ensures { result ≡ defined.wrong_update with_settings (at others (views fields.now)) }
 {
