@@ -42,8 +42,7 @@ pub fn is_for(root: Root, rule: Rule) -> bool
 {
     match root {
         Root::Frame => !matches!(rule, Rule::Version),
-        Root::Call => matches!(rule, Rule::Number | Rule::Date),
-        Root::Step => matches!(rule, Rule::Number | Rule::Date),
+        Root::Call | Root::Step => matches!(rule, Rule::Number | Rule::Date),
         Root::Saved => !matches!(rule, Rule::Update | Rule::Setting),
     }
 }

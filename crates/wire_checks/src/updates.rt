@@ -85,9 +85,9 @@ fn held(n: usize) -> u32
 fn wrong_among(with_settings: bool, updates: &[Value]) -> Option<WireFault>
     ensures { result ≡ defined.wrong_among with_settings 0 (views updates.now) }
 {
-    for i in 0..updates.len() {
-        if !is_other(with_settings, entry_of(&updates[i])) {
-            return Some(WireFault::WrongUpdate { place: held(i) });
+    for (index, update) in updates.iter().enumerate() {
+        if !is_other(with_settings, entry_of(update)) {
+            return Some(WireFault::WrongUpdate { place: held(index) });
         }
     }
     None
