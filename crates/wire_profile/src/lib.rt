@@ -1,0 +1,5 @@
+//! A schema that has the forms of the protocol.
+#![tactic(auto)]
+
+mod renaming;
+
