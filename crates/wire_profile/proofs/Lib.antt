@@ -1,1 +1,2 @@
 pub mod RenamedLists
+pub mod Comparing

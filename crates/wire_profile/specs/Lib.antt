@@ -1,1 +1,5 @@
+pub mod Places
 pub mod Renaming
+pub mod Profiles
+pub mod Faults
+pub mod inner
