@@ -3,3 +3,4 @@ pub mod Renaming
 pub mod Profiles
 pub mod Faults
 pub mod inner
+pub mod SpelledForms

@@ -2,7 +2,9 @@
 #![tactic(auto)]
 
 mod fault;
+mod laws;
 mod layout;
 mod renaming;
 
 pub use fault::ProfileFault;
+pub use laws::forms_are_spelled;
