@@ -1,6 +1,6 @@
 -- The value of a frame, and the frame of a value.
 -- From "Working with Updates" (core.telegram.org/api/updates); layouts and numbers are this project's own.
-use Rattle.std.specs.Prelude.{ℕ, List, [], ◌∷◌, Bool, ◌==◌, if◌then◌else◌}
+use Rattle.std.specs.Prelude.{ℕ, List, [], ◌∷◌, Bool, true, false, ◌==◌, if◌then◌else◌}
 use Rattle.tl_types.specs.Values.{ValueView, int, nat, text, list, node, ValueViews, no_values, values_of}
 use Rattle.box_events.specs.declared.settings.Setting as settings
 use Rattle.box_events.specs.declared.updates.Placed as placed
@@ -88,12 +88,13 @@ receipt_at ts = record { pts = word_of (at 0 ts); qts = word_of (at 1 ts); date 
 abbrev pub bodies_in : ValueView → List (List ℕ)
 bodies_in t = each text_of (parts_of t)
 
+-- only the last difference has settings
 abbrev pub difference_at : ℕ → ValueViews → Reply
 difference_at k ts =
     if k == DIFFERENCE_EMPTY then reply.Empty (word_of (at 0 ts)) (word_of (at 1 ts))
-    else reply.Difference (bodies_in (at 0 ts)) (bodies_in (at 1 ts))
-    (each placed_in (others_of (parts_of (at 2 ts)))) (each setting_in (settings_of (parts_of (at 2 ts))))
-    (state_at (parts_of (at 3 ts))) (k == DIFFERENCE)
+    else if k == DIFFERENCE
+    then reply.Difference (bodies_in (at 0 ts)) (bodies_in (at 1 ts)) (each placed_in (others_of (parts_of (at 2 ts)))) (each setting_in (settings_of (parts_of (at 2 ts)))) (state_at (parts_of (at 3 ts))) true
+    else reply.Difference (bodies_in (at 0 ts)) (bodies_in (at 1 ts)) (each placed_in (parts_of (at 2 ts))) [] (state_at (parts_of (at 3 ts))) false
 
 abbrev pub channel_reply_at : ℕ → ValueViews → ChannelReply
 channel_reply_at k ts =

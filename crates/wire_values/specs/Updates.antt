@@ -1,6 +1,6 @@
 -- The value of an update, and the update of a value.
 -- From "Working with Updates" (core.telegram.org/api/updates); layouts and numbers are this project's own.
-use Rattle.std.specs.Prelude.{ℕ, ℤ, List, [], ◌∷◌, length, Bool, ◌&&◌, ◌==◌, nat_le, if◌then◌else◌}
+use Rattle.std.specs.Prelude.{ℕ, ℤ, pos, List, [], ◌∷◌, length, Bool, ◌&&◌, ◌==◌, nat_le, if◌then◌else◌}
 use Rattle.tl_types.specs.Values.{ValueView, int, long, text, list, node, ValueViews, values_of}
 use Rattle.box_events.specs.Events.{EventView, added, edited, deleted, read, body_of, ids_of}
 use Rattle.box_events.specs.Views.{kind_of}
@@ -54,9 +54,9 @@ placed_tree p = common_tree p.event p.pts
 abbrev pub has_ids : ℕ → Bool
 has_ids n = nat_le 1 n && nat_le n MAX_IDS
 
--- the delete of these ids; where no delete has so many, an empty message
+-- the delete of these ids; where no delete has so many, a read mark
 abbrev pub deletion : List ℤ → EventView
-deletion ids = if has_ids (length ids) then deleted ids else added []
+deletion ids = if has_ids (length ids) then deleted ids else read (pos 0)
 
 abbrev pub ids_in : ValueView → List ℤ
 ids_in t = each int_of (parts_of t)

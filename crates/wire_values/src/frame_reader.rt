@@ -6,7 +6,7 @@ ghost use Rattle.wire_values.specs.Frames.{push_at, state_at, receipt_at, differ
 
 use crate::lists::bodies_in;
 use crate::update_reader::{others_of, placed_all, settings_of, updates_of};
-use box_events::{ChannelReply, Frame, Push, Receipt, Reply, State};
+use box_events::{ChannelReply, Frame, ListOf, Push, Receipt, Reply, State};
 use std::alloc::Global;
 use tl_base::Memory;
 use tl_types::Value;
@@ -68,21 +68,28 @@ fn receipt_of(fields: &[Value]) -> Receipt
 fn difference_of(alloc: Global, form: u32, fields: &[Value]) -> Result<Reply, Memory>
     ensures { IfOk result (λ r. r ≡ difference_at form (views fields.now)) }
 {
-    if form == DIFFERENCE_EMPTY {
-        return Ok(Reply::Empty {
+    match form {
+        DIFFERENCE_EMPTY => Ok(Reply::Empty {
             date: word_in(fields, 0),
             seq: word_in(fields, 1),
-        });
+        }),
+        DIFFERENCE => Ok(Reply::Difference {
+            news: bodies_in(alloc, fields, 0)?,
+            secrets: bodies_in(alloc, fields, 1)?,
+            others: others_of(alloc, parts_in(fields, 2))?,
+            settings: settings_of(alloc, parts_in(fields, 2))?,
+            state: state_of(parts_in(fields, 3)),
+            last: true,
+        }),
+        _ => Ok(Reply::Difference {
+            news: bodies_in(alloc, fields, 0)?,
+            secrets: bodies_in(alloc, fields, 1)?,
+            others: placed_all(alloc, parts_in(fields, 2))?,
+            settings: ListOf::new(alloc),
+            state: state_of(parts_in(fields, 3)),
+            last: false,
+        }),
     }
-    let items = parts_in(fields, 2);
-    Ok(Reply::Difference {
-        news: bodies_in(alloc, fields, 0)?,
-        secrets: bodies_in(alloc, fields, 1)?,
-        others: others_of(alloc, items)?,
-        settings: settings_of(alloc, items)?,
-        state: state_of(parts_in(fields, 3)),
-        last: form == DIFFERENCE,
-    })
 }
 
 // Bit 0 of the flags.

@@ -9,7 +9,7 @@ ghost use Rattle.wire_values.specs.Updates.{update_at, update_in, placed_in, set
 use crate::lists::ids_in;
 use box_events::{Event, Ids, ListOf, MAX_IDS, Placed, Setting, Update};
 use std::alloc::Global;
-use tl_base::{Bytes, Memory};
+use tl_base::Memory;
 use tl_types::Value;
 use wire_forms::numbers::{
     UPDATE_CHANNEL_TOO_LONG, UPDATE_DELETE_CHANNEL_MESSAGES, UPDATE_DELETE_MESSAGES,
@@ -19,15 +19,15 @@ use wire_forms::numbers::{
 };
 use wire_forms::{entry_of, int_in, long_in, parts_of, text_in, word_in};
 
-/// The delete of these ids; an empty message where no delete has so many.
-pub fn deletion(alloc: Global, ids: Ids) -> Event
+/// The delete of these ids; a read mark where no delete has so many.
+pub fn deletion(ids: Ids) -> Event
     ensures { result ≡ defined.deletion ids }
 {
     let many = ids.as_slice().len();
     if 1 <= many && many <= MAX_IDS {
         Event::delete(ids)
     } else {
-        Event::new_message(Bytes::new(alloc))
+        Event::read(0)
     }
 }
 
@@ -55,7 +55,7 @@ fn update_of(alloc: Global, form: u32, fields: &[Value]) -> Result<Update, Memor
             pts: word_in(fields, 1),
         }),
         UPDATE_DELETE_MESSAGES => Ok(Update::Common {
-            event: deletion(alloc, ids_in(alloc, fields, 0)?),
+            event: deletion(ids_in(alloc, fields, 0)?),
             pts: word_in(fields, 1),
         }),
         UPDATE_NEW_ENCRYPTED_MESSAGE => Ok(Update::Secret {
@@ -74,7 +74,7 @@ fn update_of(alloc: Global, form: u32, fields: &[Value]) -> Result<Update, Memor
         }),
         UPDATE_DELETE_CHANNEL_MESSAGES => Ok(Update::Channel {
             id: long_in(fields, 0),
-            event: deletion(alloc, ids_in(alloc, fields, 1)?),
+            event: deletion(ids_in(alloc, fields, 1)?),
             pts: word_in(fields, 2),
         }),
         UPDATE_CHANNEL_TOO_LONG => Ok(Update::ChannelTooLong {
@@ -112,7 +112,7 @@ fn other_at(alloc: Global, form: u32, fields: &[Value]) -> Result<Event, Memory>
 {
     match form {
         UPDATE_EDIT_MESSAGE => Ok(Event::edit(text_in(alloc, fields, 0)?)),
-        UPDATE_DELETE_MESSAGES => Ok(deletion(alloc, ids_in(alloc, fields, 0)?)),
+        UPDATE_DELETE_MESSAGES => Ok(deletion(ids_in(alloc, fields, 0)?)),
         _ => Ok(Event::read(int_in(fields, 0))),
     }
 }
