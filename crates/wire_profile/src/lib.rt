@@ -4,7 +4,10 @@
 mod fault;
 mod laws;
 mod layout;
+mod profile;
 mod renaming;
 
 pub use fault::ProfileFault;
 pub use laws::forms_are_spelled;
+pub use profile::Profile;
+pub use renaming::rename;
