@@ -16,7 +16,7 @@ use Rattle.wire_profile.specs.Places.{ProfileView, number_at, form_at}
 use Rattle.wire_profile.specs.Profiles.{IsProfile, IsForm, HasForm, AreHeads}
 use Rattle.wire_profile.proofs.FormTable.{IsFormAt, IsMemberForm, form_there, one_form, some_is, clash, within}
 
-few_forms : length forms < NO_FORM
+pub few_forms : length forms < NO_FORM
 unfolding forms
 few_forms = omega arith
 

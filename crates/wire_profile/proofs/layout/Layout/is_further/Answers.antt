@@ -1,0 +1,7 @@
+use Rattle.std.proofs.Common.{sym, ap, ◌∙◌, subst}
+use Rattle.wire_profile.specs.Faults.{IsFound}
+use Rattle.wire_profile.proofs.Differences.{few_places}
+use Rattle.wire_profile.proofs.layout.Layout.is_further.Goals as goal
+
+pub form_at-requires : goal.form_at-requires
+form_at-requires c = few_places _ c.deref.result.now c.self.invariant c.deref.ensures.value
