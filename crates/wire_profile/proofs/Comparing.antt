@@ -1,16 +1,15 @@
 -- Types and lists of fields, compared part by part.
-use Rattle.std.proofs.Common.{◌≡◌, ℕ, zero, suc, ◌+◌, ◌<◌, List, [], ◌∷◌, length, map, drop, get_or, Bool, true, false, ◌&&◌, ◌==◌, refl, ap, ap₂, ◌∙◌, sym, arith, rules, None, Vec, vec_len, Global, eq-eqb, true≢false}
+use Rattle.std.proofs.Common.{◌≡◌, ℕ, zero, suc, ◌<◌, List, [], ◌∷◌, length, map, drop, get_or, Bool, true, false, ◌&&◌, ◌==◌, refl, ap, ◌∙◌, sym, arith, None, Vec, vec_len, Global, eq-eqb, true≢false}
 use Rattle.std.proofs.lemmas.Bool.{ne_eqb}
 use Rattle.tl_schema.specs.Types.{no_shapes, shapes_of}
 use Rattle.tl_schema.specs.Types as type
-use Rattle.tl_schema.specs.Schemas.{Slot}
 use Rattle.tl_schema.specs.Seen.{shape, slot}
 use Rattle.tl_schema.specs.declared.schema.TypeRef as ref
 use Rattle.tl_schema.specs.declared.schema.TypeRef.{TypeRef}
 use Rattle.tl_schema.specs.declared.schema.SchemaField.{SchemaField}
 use Rattle.tl_types.proofs.Views.{shape-Boxed, shape-Bare}
 use Rattle.tl_plan.specs.Types.{is_same, are_same}
-use Rattle.wire_forms.specs.Forms.{PartView, part_view}
+use Rattle.wire_forms.specs.Forms.{part_view}
 use Rattle.wire_forms.specs.declared.form.Part.{Part}
 use Rattle.wire_profile.specs.Places.{ProfileView}
 use Rattle.wire_profile.specs.inner.Heads.{head_in}

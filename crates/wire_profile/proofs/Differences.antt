@@ -1,10 +1,10 @@
 -- Differences, looked for one after the other.
-use Rattle.std.proofs.Common.{◌≡◌, ℕ, zero, suc, ◌+◌, ◌<◌, ◌≤◌, ◌^◌, List, [], ◌∷◌, length, map, drop, get_or, Option, Some, None, Result, Ok, Err, Bool, true, false, ◌&&◌, ◌||◌, ◌==◌, refl, sym, ap, ◌∙◌, subst, arith}
+use Rattle.std.proofs.Common.{◌≡◌, ℕ, zero, suc, ◌<◌, ◌≤◌, ◌^◌, List, [], ◌∷◌, length, map, drop, get_or, Option, Some, None, Result, Err, Bool, true, false, ◌&&◌, ◌||◌, ◌==◌, refl, sym, ap, ◌∙◌, subst, arith}
 use Rattle.std.proofs.lemmas.List.{length-map}
 use Rattle.std.proofs.lemmas.Option.{slice_get-get_or}
 use Rattle.std.specs.Prelude.{slice_get, not, if◌then◌else◌}
-use Rattle.tl_schema.specs.Schemas.{Declaration, Declared}
-use Rattle.wire_forms.specs.Forms.{FormView, form_view, forms, constructs}
+use Rattle.tl_schema.specs.Schemas.{Declaration}
+use Rattle.wire_forms.specs.Forms.{form_view, forms, constructs}
 use Rattle.wire_forms.specs.declared.form.Form.{Form}
 use Rattle.wire_profile.specs.Places.{ProfileView, form_at}
 use Rattle.wire_profile.specs.Faults.{FaultView, TellsFault, differs, first_fault, first_further, form_fault, is_further, or_else, place_of, IsFound}

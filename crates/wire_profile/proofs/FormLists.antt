@@ -1,15 +1,13 @@
 -- The forms of declarations, one after the other.
-use Rattle.std.proofs.Common.{◌≡◌, ℕ, zero, suc, ◌+◌, ◌<◌, ◌≤◌, ◌^◌, List, [], ◌∷◌, ◌++◌, length, get_or, Option, Some, None, Bool, true, false, ◌==◌, refl, sym, ap, ◌∙◌, subst, arith, eq-eqb, eqb-true}
-use Rattle.std.specs.Prelude.{slice_get, nat_lt, unwrap_or, position}
+use Rattle.std.proofs.Common.{◌≡◌, ℕ, zero, suc, ◌<◌, ◌≤◌, List, [], ◌∷◌, ◌++◌, length, get_or, Option, Some, None, Bool, true, false, ◌==◌, refl, sym, ap, ◌∙◌, arith, eqb-true}
+use Rattle.std.specs.Prelude.{nat_lt, unwrap_or, position}
 use Rattle.std.proofs.lemmas.Bool.Decides.{nat_tests}
 use Rattle.std.proofs.lemmas.List.Quantifiers.{position-Some}
 use Rattle.wire_forms.specs.declared.numbers.TheConstants.{NO_FORM}
-use Rattle.wire_forms.specs.Forms.{forms}
 use Rattle.wire_profile.specs.Places.{ProfileView, number_at, form_at}
 use Rattle.wire_profile.specs.Profiles.{IsProfile}
 use Rattle.wire_profile.specs.inner.Insides.{IsTable}
 use Rattle.wire_profile.proofs.FormTable.{form_there, within}
-use Rattle.wire_profile.proofs.ProfileFacts.{few_forms}
 
 -- the forms of the first n declarations
 pub forms_up : List ℕ → ℕ → List ℕ

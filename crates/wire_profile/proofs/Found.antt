@@ -1,6 +1,6 @@
 -- The numbers of types and the places of forms, as they are found.
-use Rattle.std.proofs.Common.{◌≡◌, ℕ, zero, suc, ◌+◌, ◌<◌, ◌≤◌, ◌^◌, List, [], ◌∷◌, ◌++◌, length, map, take, get_or, Option, Some, None, Bool, true, false, ◌&&◌, ◌==◌, refl, sym, ap, ap₂, ◌∙◌, subst, inl, inr, arith, true≢false, eq-eqb, eqb-true}
-use Rattle.std.specs.Prelude.{slice_get, unwrap_or, bytes_eq}
+use Rattle.std.proofs.Common.{◌≡◌, ℕ, zero, suc, ◌<◌, ◌≤◌, List, [], ◌∷◌, ◌++◌, length, map, take, get_or, Option, Some, None, Bool, true, false, ◌&&◌, refl, sym, ap, ◌∙◌, subst, inl, inr, arith, true≢false}
+use Rattle.std.specs.Prelude.{unwrap_or}
 use Rattle.std.specs.List.{position_or_len}
 use Rattle.std.proofs.lemmas.List.Sums.{position_or_len_is}
 use Rattle.std.proofs.lemmas.Option.{get_or_from_slice_get, slice_get-get_or}
@@ -8,7 +8,7 @@ use Rattle.std.proofs.lemmas.Slice.Eq.{bytes_eq-Decides}
 use Rattle.tl_schema.specs.Types.{Shape, Shapes, boxed, no_shapes}
 use Rattle.tl_schema.specs.Types as type
 use Rattle.tl_schema.specs.Schemas.{Declaration, Declared}
-use Rattle.tl_schema.specs.CheckedPrograms.{Finds, HasName}
+use Rattle.tl_schema.specs.CheckedPrograms.{Finds}
 use Rattle.tl_schema.specs.AskedTypes.{IsTypeText}
 use Rattle.tl_names.specs.Places.{types_of}
 use Rattle.tl_plan.specs.Types.{is_equal}

@@ -1,7 +1,6 @@
 -- A schema in which no difference is found is a profile.
-use Rattle.std.proofs.Common.{◌≡◌, ℕ, zero, suc, ◌+◌, ◌<◌, ◌≤◌, List, [], ◌∷◌, length, map, get_or, Option, Some, None, Result, Ok, Err, Bool, true, false, ◌&&◌, ◌||◌, ◌==◌, refl, sym, ap, ap₂, ◌∙◌, subst, arith, true≢false, eq-eqb, eqb-true}
-use Rattle.std.specs.Prelude.{IsTrue, slice_get, not, nat_lt, bytes_eq, if◌then◌else◌, OnOk}
-use Rattle.std.specs.List.{position_or_len}
+use Rattle.std.proofs.Common.{◌≡◌, ℕ, zero, suc, ◌+◌, ◌<◌, List, [], ◌∷◌, length, map, Option, Some, None, Result, Ok, Err, Bool, true, false, ◌&&◌, ◌||◌, ◌==◌, refl, sym, ap, ap₂, ◌∙◌, subst, arith, true≢false, eq-eqb, eqb-true}
+use Rattle.std.specs.Prelude.{IsTrue, slice_get, not, nat_lt, if◌then◌else◌, OnOk}
 use Rattle.std.proofs.lemmas.Bool.Decides.{nat_tests}
 use Rattle.std.proofs.lemmas.List.{length-map}
 use Rattle.std.proofs.lemmas.List.Sums.{passes_at_first}
@@ -10,9 +9,7 @@ use Rattle.std.proofs.lemmas.Slice.Eq.{bytes_eq-Decides}
 use Rattle.tl_schema.specs.Schemas.{Slot, Declaration, Declared}
 use Rattle.tl_schema.specs.CheckedPrograms.{IsSchema}
 use Rattle.tl_names.specs.Places.{types_of}
-use Rattle.tl_plan.specs.Types.{is_same}
 use Rattle.tl_plan.proofs.SameTypes.{same_is}
-use Rattle.wire_forms.specs.declared.numbers.TheConstants.{NO_FORM}
 use Rattle.wire_forms.specs.Forms.{FormView, PartView, forms, constructs}
 use Rattle.wire_profile.specs.Places.{ProfileView, number_at, form_at, cell_cond, cell_shape, cell_var, slot_of, result_shape, variables_of}
 use Rattle.wire_profile.specs.Profiles.{IsForm, HasForm, IsProfile}

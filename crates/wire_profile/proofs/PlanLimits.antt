@@ -1,24 +1,21 @@
 -- The plan of a profile keeps within the limits: the types that its roots reach are those of cells of the forms.
-use Rattle.std.proofs.Common.{◌≡◌, ℕ, zero, suc, ◌+◌, ◌<◌, ◌≤◌, List, [], ◌∷◌, ◌++◌, length, map, take, Option, Some, None, Result, Ok, Err, Bool, true, false, ◌||◌, refl, sym, ap, ◌∙◌, subst, arith, true≢false, if◌then◌else◌}
+use Rattle.std.proofs.Common.{◌≡◌, ℕ, zero, suc, ◌+◌, ◌<◌, ◌≤◌, List, [], ◌∷◌, ◌++◌, length, map, take, Option, Some, None, Ok, Err, Bool, true, false, ◌||◌, refl, sym, ap, ◌∙◌, subst, arith, true≢false, if◌then◌else◌}
 use Rattle.std.specs.Prelude.{slice_get, nat_lt}
 use Rattle.std.specs.List.{flat_map}
 use Rattle.std.proofs.lemmas.Bool.Decides.{nat_tests}
 use Rattle.std.proofs.lemmas.List.{length-map, map-append, length-append}
 use Rattle.tl_schema.specs.Types.{Shape, no_shapes}
-use Rattle.tl_schema.specs.Types as type
 use Rattle.tl_schema.specs.Closing.{closed}
-use Rattle.tl_schema.specs.Schemas.{Slot, Declaration, Declared}
+use Rattle.tl_schema.specs.Schemas.{Slot, Declaration}
 use Rattle.tl_types.proofs.Closings.{closed_none}
 use Rattle.tl_plan.specs.Types.{is_among, levels}
-use Rattle.tl_plan.specs.Entries.{constructors_of, entries_of, fields_at, fields_in}
+use Rattle.tl_plan.specs.Entries.{constructors_of, fields_in}
 use Rattle.tl_plan.specs.Reached.{Named, all_reached, fields_named, first_too_deep, meet, meet_all, named_by, names_of, reached, types_in, unnamed}
-use Rattle.tl_plan.specs.Plans.{Plans, answer, answer_by, plan_of}
-use Rattle.tl_plan.specs.PlanLaws.{StandsIn}
-use Rattle.tl_plan.specs.declared.fault.PlanFault.{PlanFault}
-use Rattle.tl_plan.specs.declared.fault.PlanFault.TheVariants.{Memory, TooManyInstances, TypeTooDeep}
+use Rattle.tl_plan.specs.Plans.{answer, answer_by, plan_of}
+use Rattle.tl_plan.specs.declared.fault.PlanFault.TheVariants.{TooManyInstances}
 use Rattle.tl_plan.specs.declared.fault.TheConstants.{MAX_INSTANCES, MAX_LEVELS}
 use Rattle.tl_plan.proofs.EntryLists.{entries_are_declared}
-use Rattle.tl_plan.proofs.TypeLists.{among_at, among_here, among_more}
+use Rattle.tl_plan.proofs.TypeLists.{among_here, among_more}
 use Rattle.wire_forms.specs.declared.form.Cell.{Cell}
 use Rattle.wire_forms.specs.declared.form.Cell.TheVariants.{Whole, Signed, Long, Body, Key, Ids, Bodies, Flags, Final, Many, One, Bare, ManyBare, Query}
 use Rattle.wire_forms.specs.declared.numbers.TheConstants.{FRAME_TYPE, STEP_TYPE, CLIENT_TYPE}

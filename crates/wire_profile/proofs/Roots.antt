@@ -1,5 +1,5 @@
 -- The roots of a profile's plan are types with values.
-use Rattle.std.proofs.Common.{◌≡◌, ℕ, zero, suc, ◌<◌, List, [], ◌∷◌, length, get_or, Some, Ok, Err, Bool, true, false, refl, sym, ap, ◌∙◌, subst, inl, inr, arith, true≢false}
+use Rattle.std.proofs.Common.{◌≡◌, ℕ, zero, suc, ◌<◌, List, [], ◌∷◌, length, Some, Ok, Err, refl, sym, ap, ◌∙◌, subst, inl, inr, arith, true≢false}
 use Rattle.std.specs.Prelude.{slice_get, IsTrue}
 use Rattle.tl_combinators.specs.Trees.{Tree, named, percent, any_call}
 use Rattle.tl_names.specs.Parts.{IsPart}
@@ -9,7 +9,6 @@ use Rattle.tl_schema.specs.UnknownVariable.{NamesVariable}
 use Rattle.tl_schema.specs.Types.{Shape, boxed, no_shapes}
 use Rattle.tl_schema.specs.Schemas.{Declared}
 use Rattle.tl_schema.specs.CheckedPrograms.{IsSchema}
-use Rattle.tl_schema.specs.Meanings.{meaning}
 use Rattle.tl_schema.specs.AskedTypes.{asker, type_causes, IsTypeText, PassesTypeBy}
 use Rattle.tl_schema.specs.Formed.{IsFormed}
 use Rattle.tl_schema.proofs.FormedTypes.{IsFine, type_formed}
@@ -18,8 +17,8 @@ use Rattle.tl_plan.specs.declared.fault.PlanFault.{PlanFault}
 use Rattle.tl_plan.specs.declared.fault.PlanFault.TheVariants.{Memory, TooManyInstances, TypeTooDeep}
 use Rattle.tl_plan.specs.PlanLaws.{IsPlanOf}
 use Rattle.tl_plan.proofs.RootFacts.{roots_have_instances}
-use Rattle.wire_forms.specs.declared.numbers.TheConstants.{NO_FORM, FRAME_TYPE, STEP_TYPE, CLIENT_TYPE, PUSH, STEP_DATE, CLIENT}
-use Rattle.wire_forms.specs.Forms.{FormView, forms, type_names, constructs}
+use Rattle.wire_forms.specs.declared.numbers.TheConstants.{FRAME_TYPE, STEP_TYPE, CLIENT_TYPE, PUSH, STEP_DATE, CLIENT}
+use Rattle.wire_forms.specs.Forms.{forms, type_names, constructs}
 use Rattle.wire_profile.specs.Places.{ProfileView, number_at, result_shape}
 use Rattle.wire_profile.specs.Profiles.{IsHead, AreHeads, IsProfile, root_shapes}
 use Rattle.wire_profile.proofs.FormTable.{member_form, some_is}

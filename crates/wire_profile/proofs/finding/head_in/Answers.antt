@@ -1,4 +1,3 @@
-use Rattle.std.proofs.Common.{arith}
 use Rattle.wire_profile.proofs.Comparing.{no_head}
 use Rattle.wire_profile.proofs.finding.head_in.Goals as goal
 

@@ -1,4 +1,4 @@
-use Rattle.std.proofs.Common.{List, ℕ, [], ◌∷◌, ◌++◌, map, take, ap, sym, ◌∙◌, subst, add-one}
+use Rattle.std.proofs.Common.{List, ℕ, map, ap, ◌∙◌, subst, add-one}
 use Rattle.wire_profile.specs.Profiles.{AreHeads}
 use Rattle.wire_profile.proofs.Found.{heads_more, take_whole}
 use Rattle.wire_profile.proofs.finding.heads_of.Goals as goal

@@ -1,4 +1,4 @@
-use Rattle.std.proofs.Common.{◌≡◌, map, take}
+use Rattle.std.proofs.Common.{map, take}
 use Rattle.wire_profile.specs.Profiles.{AreHeads}
 use Rattle.wire_profile.proofs.finding.heads_of.Given as goal
 

@@ -1,5 +1,5 @@
 use Rattle.std.proofs.Common.{List, ℕ, [], ◌∷◌, ◌++◌, map, ap, ap₂, sym, ◌∙◌, add-one}
-use Rattle.wire_forms.specs.Forms.{FormView, form_view}
+use Rattle.wire_forms.specs.Forms.{form_view}
 use Rattle.wire_forms.specs.declared.form.Form.{Form}
 use Rattle.wire_profile.specs.Faults.{place_of}
 use Rattle.wire_profile.proofs.Found.{map_twice_more, take_whole}

@@ -1,4 +1,4 @@
-use Rattle.std.proofs.Common.{ℕ, List, ◌∙◌, ap, sym, subst, get_or, add-one}
+use Rattle.std.proofs.Common.{◌∙◌, ap, subst, get_or, add-one}
 use Rattle.std.proofs.lemmas.Result.{err_from_is_err_and}
 use Rattle.wire_profile.specs.Places.{ProfileView}
 use Rattle.wire_profile.specs.Faults.{IsFound}

@@ -1,5 +1,3 @@
-use Rattle.std.proofs.Common.{sym, ap, ◌∙◌, subst}
-use Rattle.wire_profile.specs.Faults.{IsFound}
 use Rattle.wire_profile.proofs.Differences.{few_places}
 use Rattle.wire_profile.proofs.layout.Layout.is_further.Goals as goal
 
