@@ -11,7 +11,6 @@ ghost use Rattle.box_wire.specs.Kinds.{frames};
 ghost use Rattle.box_wire.specs.inner.Wholes.{AnswersMessage};
 
 use crate::fault::SpellFault;
-use crate::naming::{own, place};
 use crate::wholes::{bytes_of, value_in, within};
 use box_events::Frame;
 use std::alloc::Global;
@@ -29,7 +28,7 @@ pub fn spell_frame(alloc: Global, profile: &Profile, frame: &Frame) -> Result<By
     ensures { Spelled (Framed profile.now frames (frame_tree frame.now)) result }
 {
     let mut value = frame_value(alloc, frame)?;
-    place(profile, &mut value);
+    profile.renamed(&mut value);
     within(bytes_of(alloc, profile.plan(), FRAME_ROOT, &value)?)
 }
 
@@ -38,7 +37,7 @@ pub fn read_frame(alloc: Global, profile: &Profile, bytes: &[u8]) -> Result<Fram
     ensures { Reads IsFrame (λ m. Means profile.now frames (frame_tree m) bytes.now) (WireRefused profile.now frames bytes.now) result }
 {
     let mut value = value_in(alloc, profile.plan(), FRAME_ROOT, bytes)?;
-    own(profile, &mut value);
+    profile.own(&mut value);
     frame_in(alloc, &value)
 }
 

@@ -4,7 +4,6 @@
 mod fault;
 mod frames;
 mod laws;
-mod naming;
 mod slices;
 mod wholes;
 
