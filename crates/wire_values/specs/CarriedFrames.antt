@@ -1,5 +1,5 @@
 -- Frames that are their value's again, and frames whose parts have a spelling. This project's own.
-use Rattle.std.specs.Prelude.{◌≡◌, ℕ, ◌+◌, ◌<◌, ◌^◌, ℤ, List, [], length, false}
+use Rattle.std.specs.Prelude.{◌≡◌, ℕ, ◌+◌, ◌<◌, ◌^◌, List, [], length, false}
 use Rattle.std.specs.List.{All}
 use Rattle.box_events.specs.Events.{EventView, added, edited, deleted, read, is_new}
 use Rattle.box_events.specs.Views.{HasCount}
