@@ -1,9 +1,9 @@
 -- The frame of a frame's value is the frame.
-use Rattle.std.proofs.Common.{◌≡◌, ℕ, List, [], ◌∷◌, Bool, true, false, refl, sym, ap, ◌∙◌}
-use Rattle.std.specs.Prelude.{ℤ, ◌==◌, if◌then◌else◌}
+use Rattle.std.proofs.Common.{◌≡◌, ℕ, List, [], Bool, true, false, refl, sym, ap, ◌∙◌}
+use Rattle.std.specs.Prelude.{◌==◌, if◌then◌else◌}
 use Rattle.std.specs.List.{All}
-use Rattle.std.proofs.lemmas.Bool.{eqb-true, eq-eqb}
-use Rattle.tl_types.specs.Values.{ValueView, text, list, ValueViews, no_values}
+use Rattle.std.proofs.lemmas.Bool.{eqb-true}
+use Rattle.tl_types.specs.Values.{ValueView, text, no_values}
 use Rattle.box_events.specs.declared.settings.Setting as settings
 use Rattle.box_events.specs.declared.updates.Placed as placed
 use Rattle.box_events.specs.declared.updates.Update.{Update}
@@ -20,7 +20,7 @@ use Rattle.box_events.specs.declared.replies.Frame.TheVariants as frame
 use Rattle.wire_forms.specs.Parts.{parts_of, entry_of, text_of, word_of, number, is_final, each, row}
 use Rattle.wire_forms.proofs.Words.{by_test, by_not, again}
 use Rattle.wire_forms.proofs.Records.{each_back}
-use Rattle.wire_values.specs.Updates.{update_tree, update_in, placed_tree, placed_in, setting_tree, setting_in}
+use Rattle.wire_values.specs.Updates.{placed_tree, placed_in, setting_tree, setting_in}
 use Rattle.wire_values.specs.Others.{joined, others_of, settings_of}
 use Rattle.wire_values.specs.Frames.{push_tree, push_at, state_tree, state_at, receipt_tree, receipt_at, bodies_tree, bodies_in, difference_tree, difference_at, bits, channel_reply_tree, channel_reply_at, reply_tree, frame_tree, frame_in, start_of}
 use Rattle.wire_values.specs.CarriedFrames.{IsUpdate, IsOther, IsPush, IsReply, IsFrame}

@@ -1,16 +1,16 @@
 -- The update of an update's value is the update.
-use Rattle.std.proofs.Common.{◌≡◌, ℕ, ◌≤◌, List, [], ◌∷◌, Bool, true, false, refl, sym, ap, ◌∙◌, arith}
+use Rattle.std.proofs.Common.{◌≡◌, ℕ, List, [], ◌∷◌, Bool, true, false, refl, sym, ap, ◌∙◌, arith}
 use Rattle.std.specs.Prelude.{ℤ, IsTrue, length, not, if◌then◌else◌}
 use Rattle.std.specs.List.{All}
 use Rattle.std.proofs.lemmas.Bool.Decides.{nat_tests}
-use Rattle.tl_types.specs.Values.{ValueView, int, text, ValueViews, no_values, value}
-use Rattle.box_events.specs.Events.{EventView, added, edited, deleted, read, is_new, count_of}
+use Rattle.tl_types.specs.Values.{ValueView, int, ValueViews, no_values, value}
+use Rattle.box_events.specs.Events.{EventView, added, edited, deleted, read, is_new}
 use Rattle.box_events.specs.Views.{HasCount}
 use Rattle.box_events.specs.declared.settings.Setting as settings
 use Rattle.box_events.specs.declared.updates.Placed as placed
 use Rattle.box_events.specs.declared.updates.Update.{Update}
 use Rattle.box_events.specs.declared.updates.Update.TheVariants.{Common, Secret, Channel, ChannelTooLong, Setting}
-use Rattle.wire_forms.specs.Parts.{int_of, text_of, word_of, number, each, row}
+use Rattle.wire_forms.specs.Parts.{int_of, each, row}
 use Rattle.wire_forms.proofs.Words.{clash, again}
 use Rattle.wire_forms.proofs.Records.{list_back, each_back}
 use Rattle.wire_values.specs.Updates.{has_ids, deletion, common_tree, update_tree, update_in, placed_tree, placed_in, setting_tree, setting_in}

@@ -1,8 +1,8 @@
 -- A frame's value is one of the type of frames, where its parts have a spelling.
-use Rattle.std.proofs.Common.{◌≡◌, ℕ, suc, ◌+◌, ◌<◌, ◌^◌, List, [], ◌∷◌, length, Bool, true, false, refl, sym, ap, ◌∙◌, subst, arith}
+use Rattle.std.proofs.Common.{◌≡◌, ℕ, ◌+◌, ◌<◌, ◌^◌, List, length, Bool, true, false, refl, sym, ap, ◌∙◌, subst, arith}
 use Rattle.std.specs.Prelude.{ℤ, ◌==◌, if◌then◌else◌}
 use Rattle.std.specs.List.{All}
-use Rattle.tl_types.specs.Values.{ValueView, int, nat, text, list, ValueViews, no_values, value, count}
+use Rattle.tl_types.specs.Values.{ValueView, int, text, list, ValueViews, no_values, value, count}
 use Rattle.box_events.specs.Events.{EventView, added, edited, deleted, read}
 use Rattle.box_events.specs.declared.settings.Setting as settings
 use Rattle.box_events.specs.declared.updates.Placed as placed
@@ -26,7 +26,7 @@ use Rattle.wire_forms.specs.Parts.{flag, held, row, is_final}
 use Rattle.wire_forms.specs.IsOf.{IsInt, IsText, IsShort, IsOf, EachOf}
 use Rattle.wire_forms.proofs.Words.{number_is}
 use Rattle.wire_forms.proofs.Records.{row_is, row_short, count_row}
-use Rattle.wire_values.specs.Updates.{common_tree, channel_tree, update_tree, placed_tree, setting_tree}
+use Rattle.wire_values.specs.Updates.{common_tree, update_tree, placed_tree, setting_tree}
 use Rattle.wire_values.specs.Others.{joined}
 use Rattle.wire_values.specs.Frames.{push_tree, state_tree, receipt_tree, bodies_tree, difference_tree, bits, channel_reply_tree, reply_tree, frame_tree}
 use Rattle.wire_values.specs.CarriedFrames.{IsWord, IsList, FitsEvent, FitsSetting, FitsUpdate, FitsPlaced, FitsPush, FitsState, FitsReceipt, FitsChannelReply, FitsReply, FitsFrame}
@@ -85,8 +85,8 @@ push_fits push.TooLong s = (refl, tt)
 push_fits (push.Container us date start seq) s =
     let all = list_fits FitsUpdate (One UPDATE_TYPE) update_tree update_fits us s.0 in
     by_either (IsOf (One UPDATES_TYPE)) (start == seq) _ _
-        (refl, (all, (number_is date s.1, (number_is seq s.3, tt))))
-        (refl, (all, (number_is date s.1, (number_is start s.2, (number_is seq s.3, tt)))))
+    (refl, (all, (number_is date s.1, (number_is seq s.3, tt))))
+    (refl, (all, (number_is date s.1, (number_is start s.2, (number_is seq s.3, tt)))))
 
 -- ---- replies
 
@@ -112,9 +112,10 @@ count_joined (value t ts) us = let e = count_joined ts us in omega (arith, e)
 
 others_fit : (others : List placed.Placed) (ss : List settings.Setting) → All FitsPlaced others → All FitsSetting ss → length others + length ss < 2 ^ 31 → IsOf (Many UPDATE_TYPE) (list (joined (row placed_tree others) (row setting_tree ss)))
 others_fit others ss p q few =
-    let many : count (joined (row placed_tree others) (row setting_tree ss)) ≡ length others + length ss = count_joined (row placed_tree others) (row setting_tree ss) ∙ ap (λ (n : ℕ). n + count (row setting_tree ss)) (count_row placed_tree others) ∙ ap (λ (n : ℕ). length others + n) (count_row setting_tree ss) in
-    (subst (λ (n : ℕ). n < 2 ^ 31) (sym many) few
-    , each_joined (One UPDATE_TYPE) (row placed_tree others) (row setting_tree ss) (row_is FitsPlaced (One UPDATE_TYPE) placed_tree placed_fits others p) (row_is FitsSetting (One UPDATE_TYPE) setting_tree setting_fits ss q))
+    let many : count (joined (row placed_tree others) (row setting_tree ss)) ≡ length others + length ss = count_joined (row placed_tree others) (row setting_tree ss) ∙ ap (λ (n : ℕ). n + count (row setting_tree ss)) (count_row placed_tree others) ∙ ap (λ (n : ℕ). length others + n) (count_row setting_tree ss) in (
+      subst (λ (n : ℕ). n < 2 ^ 31) (sym many) few,
+      each_joined (One UPDATE_TYPE) (row placed_tree others) (row setting_tree ss) (row_is FitsPlaced (One UPDATE_TYPE) placed_tree placed_fits others p) (row_is FitsSetting (One UPDATE_TYPE) setting_tree setting_fits ss q),
+    )
 
 difference_fits : (news secrets : List (List ℕ)) (others : List placed.Placed) (ss : List settings.Setting) (x : states.State) (last : Bool) → FitsReply (reply.Difference news secrets others ss x last) → IsOf (One DIFFERENCE_TYPE) (difference_tree news secrets others ss x last)
 unfolding forms

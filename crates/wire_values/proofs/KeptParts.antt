@@ -1,14 +1,14 @@
 -- The parts of a value of which all is kept.
-use Rattle.std.proofs.Common.{◌≡◌, ℕ, zero, suc, List, Bool, true, false, refl, sym, ap, ◌∙◌, arith}
+use Rattle.std.proofs.Common.{◌≡◌, ℕ, zero, suc, List, sym, ap, ◌∙◌, arith}
 use Rattle.std.specs.Prelude.{IsTrue, length}
 use Rattle.std.proofs.lemmas.Bool.Decides.{nat_tests}
-use Rattle.tl_types.specs.Values.{ValueView, int, long, nat, opaque, text, truth, absent, list, node, call, ValueViews, no_values, value, count}
+use Rattle.tl_types.specs.Values.{ValueView, list, node, call, ValueViews, no_values, value, count}
 use Rattle.box_events.specs.Events.{deleted}
-use Rattle.wire_forms.specs.Parts.{first, rest, at, parts_of, int_of, each, held}
+use Rattle.wire_forms.specs.Parts.{first, rest, at, parts_of, int_of, held}
 use Rattle.wire_forms.proofs.Words.{by_test}
 use Rattle.wire_forms.proofs.Records.{AllOf, length_each}
 use Rattle.wire_values.specs.Updates.{has_ids, deletion, ids_in}
-use Rattle.wire_values.specs.Kept.{CountsIds, IsKept, AllKept, EachKept}
+use Rattle.wire_values.specs.Kept.{CountsIds, AllKept, EachKept}
 
 pub kept_parts : (t : ValueView) → AllKept t → EachKept (parts_of t)
 kept_parts (list ts) c = c

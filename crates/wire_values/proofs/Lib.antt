@@ -6,3 +6,7 @@ pub mod BackUpdates
 pub mod BackFrames
 pub mod FitFrames
 pub mod ReadFrames
+pub mod PostsAndSteps
+pub mod CallsAndValues
+pub mod SavedFields
+pub mod SavedValues

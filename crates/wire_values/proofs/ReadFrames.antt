@@ -1,18 +1,13 @@
 -- The frame of any value is its value's again.
-use Rattle.std.proofs.Common.{◌≡◌, ℕ, zero, suc, ◌≤◌, ◌<◌, List, [], ◌∷◌, Bool, true, false, refl, sym, ap, ◌∙◌, arith}
-use Rattle.std.specs.Prelude.{ℤ, pos, IsTrue, length, ◌==◌, if◌then◌else◌, slice_index_or}
-use Rattle.std.specs.List.{All}
+use Rattle.std.proofs.Common.{◌≡◌, ℕ, zero, suc, ◌≤◌, ◌<◌, List, [], Bool, true, false, refl, sym, arith}
+use Rattle.std.specs.Prelude.{ℤ, pos, length, ◌==◌, if◌then◌else◌, slice_index_or}
 use Rattle.std.proofs.lemmas.Bool.{eq-eqb}
 use Rattle.std.proofs.lemmas.Bool.Decides.{nat_tests}
 use Rattle.tl_types.specs.Values.{ValueView, ValueViews, no_values, value}
-use Rattle.box_events.specs.Events.{EventView, added, edited, deleted, read, is_new}
+use Rattle.box_events.specs.Events.{EventView, deleted, read, is_new}
 use Rattle.box_events.specs.Views.{HasCount}
-use Rattle.box_events.specs.declared.updates.Update.{Update}
-use Rattle.box_events.specs.declared.updates.Push.{Push}
 use Rattle.box_events.specs.declared.replies.ChannelReply.{ChannelReply}
-use Rattle.box_events.specs.declared.replies.Reply.{Reply}
 use Rattle.box_events.specs.declared.replies.Reply.TheVariants as reply
-use Rattle.box_events.specs.declared.replies.Frame.{Frame}
 use Rattle.wire_forms.specs.Parts.{at, parts_of, entry_of, word_of, each}
 use Rattle.wire_forms.specs.declared.numbers.TheConstants.{UPDATE_NEW_MESSAGE, UPDATE_EDIT_MESSAGE, UPDATE_DELETE_MESSAGES, UPDATE_NEW_ENCRYPTED_MESSAGE, UPDATE_NEW_CHANNEL_MESSAGE, UPDATE_EDIT_CHANNEL_MESSAGE, UPDATE_DELETE_CHANNEL_MESSAGES, UPDATE_CHANNEL_TOO_LONG, UPDATE_READ_HISTORY, UPDATE_READ_CHANNEL_HISTORY, UPDATES_TOO_LONG, UPDATES, DIFFERENCE_EMPTY, DIFFERENCE, CHANNEL_DIFFERENCE_EMPTY, CHANNEL_DIFFERENCE, STATE_REPLY, DIFFERENCE_REPLY, CHANNEL_REPLY, RECEIPT_REPLY, ERROR_REPLY}
 use Rattle.wire_forms.proofs.Words.{by_test, clash}
@@ -22,30 +17,30 @@ use Rattle.wire_values.specs.Frames.{push_at, difference_at, channel_reply_at, f
 use Rattle.wire_values.specs.CarriedFrames.{IsUpdate, IsOther, IsPush, IsReply, IsFrame}
 
 -- a property of a value, kept together
-record It {A : Type 0} (P : A → Type 0) (x : A) : Type 0 where
-  it : P x
+pub record It {A : Type 0} (P : A → Type 0) (x : A) : Type 0 where
+  pub it : P x
 
-either : {A : Type 0} (P : A → Type 0) (b : Bool) (x y : A) → It P x → It P y → It P (if b then x else y)
+pub either : {A : Type 0} (P : A → Type 0) (b : Bool) (x y : A) → It P x → It P y → It P (if b then x else y)
 either P true x y p q = p
 either P false x y p q = q
 
-all_each : {A : Type 0} (P : A → Type 0) (f : ValueView → A) → ((t : ValueView) → P (f t)) → (ts : ValueViews) (k : ℕ) (d : A) → k < length (each f ts) → P (slice_index_or (each f ts) k d)
+pub all_each : {A : Type 0} (P : A → Type 0) (f : ValueView → A) → ((t : ValueView) → P (f t)) → (ts : ValueViews) (k : ℕ) (d : A) → k < length (each f ts) → P (slice_index_or (each f ts) k d)
 all_each P f law no_values k d lt = absurd (omega (arith, lt))
 all_each P f law (value t ts) zero d lt = law t
 all_each P f law (value t ts) (suc n) d lt = all_each P f law ts n d (omega (arith, lt))
 
 -- an event that is no message
-abbrev IsMark : EventView → Type 0
+abbrev pub IsMark : EventView → Type 0
 IsMark e = HasCount e × (is_new e ≡ false)
 
-one : (1 ≤ 1) × (1 ≤ 4096)
+pub one : (1 ≤ 1) × (1 ≤ 4096)
 one = (omega arith, omega arith)
 
 deletion_by : (ids : List ℤ) (b : Bool) → has_ids (length ids) ≡ b → IsMark (if b then deleted ids else read (pos 0))
 deletion_by ids true e = ((grind (arith, nat_tests, e), grind (arith, nat_tests, e)), refl)
 deletion_by ids false e = (one, refl)
 
-deletion_mark : (ids : List ℤ) → IsMark (deletion ids)
+pub deletion_mark : (ids : List ℤ) → IsMark (deletion ids)
 deletion_mark ids = deletion_by ids (has_ids (length ids)) refl
 
 update_at_is : (k : ℕ) (ts : ValueViews) → It IsUpdate (update_at k ts)

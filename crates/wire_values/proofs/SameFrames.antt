@@ -2,19 +2,19 @@
 use Rattle.std.proofs.Common.{◌≡◌, ℕ, List, [], ◌∷◌, Bool, true, false, refl, sym, ap, ◌∙◌, subst}
 use Rattle.std.specs.Prelude.{IsTrue, ◌==◌, ◌||◌, if◌then◌else◌}
 use Rattle.std.proofs.lemmas.Bool.{eqb-true, eq-eqb}
-use Rattle.tl_types.specs.Values.{ValueView, int, nat, text, list, node, ValueViews, no_values, value, values_of}
+use Rattle.tl_types.specs.Values.{ValueView, list, node, ValueViews, no_values, value, values_of}
 use Rattle.box_events.specs.declared.updates.Update.{Update}
 use Rattle.box_events.specs.declared.updates.Push.TheVariants as push
 use Rattle.wire_forms.specs.declared.form.Cell.{Cell}
 use Rattle.wire_forms.specs.declared.form.Cell.TheVariants.{Whole, Signed, Key, Bodies, Flags, Final, Many, One, Bare}
 use Rattle.wire_forms.specs.declared.numbers.TheConstants.{UPDATE_TYPE, UPDATES_TYPE, STATE_TYPE, DIFFERENCE_TYPE, CHANNEL_DIFFERENCE_TYPE, FRAME_TYPE, UPDATES_TOO_LONG, UPDATES, UPDATES_COMBINED, STATE, DIFFERENCE_EMPTY, DIFFERENCE, DIFFERENCE_SLICE, CHANNEL_DIFFERENCE_EMPTY, CHANNEL_DIFFERENCE, CHANNEL_DIFFERENCE_TOO_LONG, PUSH, STATE_REPLY, DIFFERENCE_REPLY, CHANNEL_REPLY, RECEIPT_REPLY, ERROR_REPLY, RECEIPT}
 use Rattle.wire_forms.specs.Forms.{forms, constructs, cells_of}
-use Rattle.wire_forms.specs.Parts.{first, rest, at, parts_of, entry_of, text_of, int_of, word_of, number, flag, is_final, each, row}
+use Rattle.wire_forms.specs.Parts.{first, rest, at, parts_of, entry_of, word_of, number, flag, is_final, each, row}
 use Rattle.wire_forms.specs.IsOf.{IsOf, AreOf}
 use Rattle.wire_forms.proofs.Words.{by_test}
 use Rattle.wire_forms.proofs.Cells.{fields_are, field_at}
 use Rattle.wire_forms.proofs.Records.{opened, opened_bare, by_member}
-use Rattle.wire_values.specs.Updates.{update_tree, update_in, placed_tree, placed_in, setting_tree, setting_in}
+use Rattle.wire_values.specs.Updates.{update_tree, update_in, setting_tree, setting_in}
 use Rattle.wire_values.specs.Others.{joined, others_of, settings_of}
 use Rattle.wire_values.specs.Frames.{push_tree, push_at, state_tree, state_at, receipt_tree, receipt_at, bodies_tree, bodies_in, difference_at, bits, channel_reply_tree, channel_reply_at, reply_tree, frame_tree, frame_at, frame_in, start_of}
 use Rattle.wire_values.specs.Normal.{normal_updates, normal_difference, normal_channel_reply, normal_frame_at, normal_frame}
@@ -56,11 +56,16 @@ SamePush k cs = (ts : ValueViews) → AreOf (first ts) cs ts → EachKept ts →
 
 push_forms : (k : ℕ) → IsTrue (constructs UPDATES_TYPE k) → SamePush k (cells_of k)
 unfolding forms
-push_forms = by_member SamePush UPDATES_TYPE
-    ((λ ts s c. ap (node UPDATES_TOO_LONG) (fields_are (first ts) [] ts s))
-    , (container_same
-    , (combined_same
-    , tt)))
+push_forms = by_member SamePush UPDATES_TYPE (
+  (λ ts s c. ap (node UPDATES_TOO_LONG) (fields_are (first ts) [] ts s)),
+  (
+    container_same,
+    (
+      combined_same,
+      tt,
+    ),
+  ),
+)
 
 pub push_same : (t : ValueView) → IsOf (One UPDATES_TYPE) t → AllKept t → push_tree (push_at (entry_of t) (parts_of t)) ≡ normal_updates (entry_of t) (parts_of t)
 push_same t s c =
@@ -127,11 +132,16 @@ slice_same ts s k c n =
 
 difference_forms : (k : ℕ) → IsTrue (constructs DIFFERENCE_TYPE k) → SameDifference k (cells_of k)
 unfolding forms
-difference_forms = by_member SameDifference DIFFERENCE_TYPE
-    ((λ ts s k c n. ap (λ (u : ValueViews). differing n (node DIFFERENCE_EMPTY u)) (fields_are (first ts) (Whole ∷ Whole ∷ []) ts s))
-    , (last_same
-    , (slice_same
-    , tt)))
+difference_forms = by_member SameDifference DIFFERENCE_TYPE (
+  (λ ts s k c n. ap (λ (u : ValueViews). differing n (node DIFFERENCE_EMPTY u)) (fields_are (first ts) (Whole ∷ Whole ∷ []) ts s)),
+  (
+    last_same,
+    (
+      slice_same,
+      tt,
+    ),
+  ),
+)
 
 difference_same : (t : ValueView) → IsOf (One DIFFERENCE_TYPE) t → AllKept t → (n : ℕ) → reply_tree n (difference_at (entry_of t) (parts_of t)) ≡ differing n (normal_difference (entry_of t) (parts_of t))
 difference_same t s c n =
@@ -152,11 +162,16 @@ part_same ts s k c =
 
 channel_forms : (k : ℕ) → IsTrue (constructs CHANNEL_DIFFERENCE_TYPE k) → SameChannel k (cells_of k)
 unfolding forms
-channel_forms = by_member SameChannel CHANNEL_DIFFERENCE_TYPE
-    ((λ ts s k c. ap (λ (u : ValueViews). node CHANNEL_DIFFERENCE_EMPTY (value (bits (is_final (at 0 ts))) (rest u))) (fields_are (first ts) (Flags ∷ Final ∷ Whole ∷ []) ts s))
-    , (part_same
-    , ((λ ts s k c. ap (λ (u : ValueViews). node CHANNEL_DIFFERENCE_TOO_LONG (value (bits (is_final (at 0 ts))) (rest u))) (fields_are (first ts) (Flags ∷ Final ∷ Whole ∷ Bodies ∷ []) ts s))
-    , tt)))
+channel_forms = by_member SameChannel CHANNEL_DIFFERENCE_TYPE (
+  (λ ts s k c. ap (λ (u : ValueViews). node CHANNEL_DIFFERENCE_EMPTY (value (bits (is_final (at 0 ts))) (rest u))) (fields_are (first ts) (Flags ∷ Final ∷ Whole ∷ []) ts s)),
+  (
+    part_same,
+    (
+      (λ ts s k c. ap (λ (u : ValueViews). node CHANNEL_DIFFERENCE_TOO_LONG (value (bits (is_final (at 0 ts))) (rest u))) (fields_are (first ts) (Flags ∷ Final ∷ Whole ∷ Bodies ∷ []) ts s)),
+      tt,
+    ),
+  ),
+)
 
 channel_same : (t : ValueView) → IsOf (One CHANNEL_DIFFERENCE_TYPE) t → AllKept t → channel_reply_tree (channel_reply_at (entry_of t) (parts_of t)) ≡ normal_channel_reply (entry_of t) (parts_of t)
 channel_same t s c =
@@ -195,14 +210,25 @@ receipt_frame ts s c =
 
 frame_forms : (k : ℕ) → IsTrue (constructs FRAME_TYPE k) → SameFrame k (cells_of k)
 unfolding forms
-frame_forms = by_member SameFrame FRAME_TYPE
-    (push_frame
-    , (state_frame
-    , (difference_frame
-    , (channel_frame
-    , (receipt_frame
-    , ((λ ts s c. ap (node ERROR_REPLY) (fields_are (first ts) (Whole ∷ Signed ∷ Key ∷ []) ts s))
-    , tt))))))
+frame_forms = by_member SameFrame FRAME_TYPE (
+  push_frame,
+  (
+    state_frame,
+    (
+      difference_frame,
+      (
+        channel_frame,
+        (
+          receipt_frame,
+          (
+            (λ ts s c. ap (node ERROR_REPLY) (fields_are (first ts) (Whole ∷ Signed ∷ Key ∷ []) ts s)),
+            tt,
+          ),
+        ),
+      ),
+    ),
+  ),
+)
 
 pub frame_same : (t : ValueView) → IsOf (One FRAME_TYPE) t → AllKept t → frame_tree (frame_in t) ≡ normal_frame t
 frame_same t s c =

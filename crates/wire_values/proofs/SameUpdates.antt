@@ -1,13 +1,13 @@
 -- An update's value is the value that it was read of.
 use Rattle.std.proofs.Common.{◌≡◌, ℕ, List, [], ◌∷◌, Bool, true, false, refl, sym, ap, ◌∙◌, subst}
-use Rattle.std.specs.Prelude.{IsTrue, length, not, ◌&&◌, ◌||◌, if◌then◌else◌}
+use Rattle.std.specs.Prelude.{IsTrue, not, ◌&&◌, ◌||◌, if◌then◌else◌}
 use Rattle.tl_types.specs.Values.{ValueView, int, long, text, list, node, ValueViews, no_values, value, values_of}
-use Rattle.box_events.specs.Events.{EventView, deleted}
+use Rattle.box_events.specs.Events.{EventView}
 use Rattle.wire_forms.specs.declared.form.Cell.{Cell}
 use Rattle.wire_forms.specs.declared.form.Cell.TheVariants.{Whole, Signed, Long, Body, Key, Ids, Many, One}
 use Rattle.wire_forms.specs.declared.numbers.TheConstants.{UPDATE_TYPE, UPDATE_NEW_MESSAGE, UPDATE_EDIT_MESSAGE, UPDATE_DELETE_MESSAGES, UPDATE_NEW_ENCRYPTED_MESSAGE, UPDATE_NEW_CHANNEL_MESSAGE, UPDATE_EDIT_CHANNEL_MESSAGE, UPDATE_DELETE_CHANNEL_MESSAGES, UPDATE_CHANNEL_TOO_LONG, UPDATE_SETTING, UPDATE_READ_HISTORY, UPDATE_READ_CHANNEL_HISTORY}
 use Rattle.wire_forms.specs.Forms.{forms, constructs, cells_of}
-use Rattle.wire_forms.specs.Parts.{first, at, parts_of, entry_of, text_of, int_of, long_of, word_of, number, each, row, held}
+use Rattle.wire_forms.specs.Parts.{first, at, parts_of, entry_of, text_of, int_of, long_of, word_of, number, each, row}
 use Rattle.wire_forms.specs.IsOf.{IsOf, EachOf, AreOf}
 use Rattle.wire_forms.proofs.Words.{clash}
 use Rattle.wire_forms.proofs.Cells.{fields_are, many_are}
@@ -73,19 +73,40 @@ SameUpdate k cs = (ts : ValueViews) → AreOf (first ts) cs ts → IsKept k ts �
 
 update_forms : (k : ℕ) → IsTrue (constructs UPDATE_TYPE k) → SameUpdate k (cells_of k)
 unfolding forms
-update_forms = by_member SameUpdate UPDATE_TYPE
-    (new_same
-    , (edit_same
-    , (delete_same
-    , ((λ ts s c. ap (node UPDATE_NEW_ENCRYPTED_MESSAGE) (fields_are (first ts) (Body ∷ Whole ∷ []) ts s))
-    , (channel_new_same
-    , (channel_edit_same
-    , (channel_delete_same
-    , ((λ ts s c. ap (node UPDATE_CHANNEL_TOO_LONG) (fields_are (first ts) (Long ∷ []) ts s))
-    , ((λ ts s c. setting_form ts s)
-    , (read_same
-    , (channel_read_same
-    , tt)))))))))))
+update_forms = by_member SameUpdate UPDATE_TYPE (
+  new_same,
+  (
+    edit_same,
+    (
+      delete_same,
+      (
+        (λ ts s c. ap (node UPDATE_NEW_ENCRYPTED_MESSAGE) (fields_are (first ts) (Body ∷ Whole ∷ []) ts s)),
+        (
+          channel_new_same,
+          (
+            channel_edit_same,
+            (
+              channel_delete_same,
+              (
+                (λ ts s c. ap (node UPDATE_CHANNEL_TOO_LONG) (fields_are (first ts) (Long ∷ []) ts s)),
+                (
+                  (λ ts s c. setting_form ts s),
+                  (
+                    read_same,
+                    (
+                      channel_read_same,
+                      tt,
+                    ),
+                  ),
+                ),
+              ),
+            ),
+          ),
+        ),
+      ),
+    ),
+  ),
+)
 
 pub update_same : (t : ValueView) → IsOf (One UPDATE_TYPE) t → AllKept t → update_tree (update_in t) ≡ t
 update_same t s c =
@@ -102,19 +123,40 @@ SameOther k cs = (ts : ValueViews) → AreOf (first ts) cs ts → IsKept k ts �
 
 other_forms : (k : ℕ) → IsTrue (constructs UPDATE_TYPE k) → SameOther k (cells_of k)
 unfolding forms
-other_forms = by_member SameOther UPDATE_TYPE
-    ((λ ts s c e. absurd (clash e))
-    , ((λ ts s c e. edit_same ts s c)
-    , ((λ ts s c e. delete_same ts s c)
-    , ((λ ts s c e. absurd (clash e))
-    , ((λ ts s c e. absurd (clash e))
-    , ((λ ts s c e. absurd (clash e))
-    , ((λ ts s c e. absurd (clash e))
-    , ((λ ts s c e. absurd (clash e))
-    , ((λ ts s c e. absurd (clash e))
-    , ((λ ts s c e. read_same ts s c)
-    , ((λ ts s c e. absurd (clash e))
-    , tt)))))))))))
+other_forms = by_member SameOther UPDATE_TYPE (
+  (λ ts s c e. absurd (clash e)),
+  (
+    (λ ts s c e. edit_same ts s c),
+    (
+      (λ ts s c e. delete_same ts s c),
+      (
+        (λ ts s c e. absurd (clash e)),
+        (
+          (λ ts s c e. absurd (clash e)),
+          (
+            (λ ts s c e. absurd (clash e)),
+            (
+              (λ ts s c e. absurd (clash e)),
+              (
+                (λ ts s c e. absurd (clash e)),
+                (
+                  (λ ts s c e. absurd (clash e)),
+                  (
+                    (λ ts s c e. read_same ts s c),
+                    (
+                      (λ ts s c e. absurd (clash e)),
+                      tt,
+                    ),
+                  ),
+                ),
+              ),
+            ),
+          ),
+        ),
+      ),
+    ),
+  ),
+)
 
 placed_same : (t : ValueView) → IsOf (One UPDATE_TYPE) t → AllKept t → IsTrue (is_other t) → placed_tree (placed_in t) ≡ t
 placed_same t s c e =
@@ -126,19 +168,40 @@ SameSetting k cs = (ts : ValueViews) → AreOf (first ts) cs ts → IsTrue (is_s
 
 setting_forms : (k : ℕ) → IsTrue (constructs UPDATE_TYPE k) → SameSetting k (cells_of k)
 unfolding forms
-setting_forms = by_member SameSetting UPDATE_TYPE
-    ((λ ts s e. absurd (clash e))
-    , ((λ ts s e. absurd (clash e))
-    , ((λ ts s e. absurd (clash e))
-    , ((λ ts s e. absurd (clash e))
-    , ((λ ts s e. absurd (clash e))
-    , ((λ ts s e. absurd (clash e))
-    , ((λ ts s e. absurd (clash e))
-    , ((λ ts s e. absurd (clash e))
-    , ((λ ts s e. setting_form ts s)
-    , ((λ ts s e. absurd (clash e))
-    , ((λ ts s e. absurd (clash e))
-    , tt)))))))))))
+setting_forms = by_member SameSetting UPDATE_TYPE (
+  (λ ts s e. absurd (clash e)),
+  (
+    (λ ts s e. absurd (clash e)),
+    (
+      (λ ts s e. absurd (clash e)),
+      (
+        (λ ts s e. absurd (clash e)),
+        (
+          (λ ts s e. absurd (clash e)),
+          (
+            (λ ts s e. absurd (clash e)),
+            (
+              (λ ts s e. absurd (clash e)),
+              (
+                (λ ts s e. absurd (clash e)),
+                (
+                  (λ ts s e. setting_form ts s),
+                  (
+                    (λ ts s e. absurd (clash e)),
+                    (
+                      (λ ts s e. absurd (clash e)),
+                      tt,
+                    ),
+                  ),
+                ),
+              ),
+            ),
+          ),
+        ),
+      ),
+    ),
+  ),
+)
 
 setting_same : (t : ValueView) → IsOf (One UPDATE_TYPE) t → IsTrue (is_setting t) → setting_tree (setting_in t) ≡ t
 setting_same t s e =

@@ -31,8 +31,8 @@ pub fn deletion(ids: Ids) -> Event
     }
 }
 
-// The setting of a record's fields.
-fn setting_at(alloc: Global, fields: &[Value]) -> Result<Setting, Memory>
+/// The setting of a record's fields.
+pub fn setting_at(alloc: Global, fields: &[Value]) -> Result<Setting, Memory>
     ensures { IfOk result (λ s. s ≡ defined.setting_at (views fields.now)) }
 {
     Ok(Setting {
