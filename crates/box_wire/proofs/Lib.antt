@@ -8,3 +8,8 @@ pub mod FrameLaws
 pub mod Levels
 pub mod ReadBack
 pub mod FrameLevels
+pub mod CallLaws
+pub mod StepLaws
+pub mod KeptSaved
+pub mod SavedLaws
+pub mod StepReads

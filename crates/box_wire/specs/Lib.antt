@@ -3,3 +3,4 @@ pub mod Framing
 pub mod Answers
 pub mod Laws
 pub mod inner
+pub mod StepReading

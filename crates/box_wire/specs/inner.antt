@@ -1,3 +1,4 @@
 -- What inner clauses cite; a reader of the contracts needs none of it.
 pub mod Slices
 pub mod Wholes
+pub mod Steps

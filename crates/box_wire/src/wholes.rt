@@ -1,7 +1,7 @@
 //! Values that are the whole of some bytes, and the bytes of values.
 ghost use Rattle.std.specs.Prelude.{◌≡◌, ◌≢◌, ◌<◌, IfOk, drop};
 ghost use Rattle.tl_base.specs.Contents.{AreBytes};
-ghost use Rattle.tl_schema.specs.Types.{Shape};
+ghost use Rattle.tl_schema.specs.Types.{Shape, call};
 ghost use Rattle.tl_schema.specs.Formed.{IsFormed};
 ghost use Rattle.tl_plan.specs.PlanLaws.{IsInstance};
 ghost use Rattle.tl_types.specs.Seen.{view};
@@ -13,10 +13,11 @@ use crate::slices::SliceSource;
 use box_events::MAX_FRAME_BYTES;
 use std::alloc::{AllocError, Global};
 use tl_base::Bytes;
-use tl_decode::{DecodeFault, decode};
-use tl_encode::spelling_of;
+use tl_decode::{DecodeFault, decode, decode_walk};
+use tl_encode::{spell, spelling_of};
 use tl_plan::Plan;
-use tl_types::Value;
+use tl_schema::{Schema, TypeRef};
+use tl_types::{Value, fits};
 use wire_checks::WireFault;
 
 // A fault over bytes in memory, which are always read.
@@ -47,6 +48,21 @@ pub fn value_in(alloc: Global, plan: &Plan, root: u32, bytes: &[u8]) -> Result<V
     }
 }
 
+/// The call of any function of a schema that is the whole of the bytes.
+pub fn value_of_call(alloc: Global, schema: &Schema, bytes: &[u8]) -> Result<Value, WireFault>
+    ensures whole { ReadsWhole schema.now call bytes.now result }
+    ensures bytes { AreBytes bytes.now }
+{
+    // Read for the proof alone: that the schema is sound.
+    let _count = schema.count();
+    let mut from = SliceSource::new(bytes);
+    let mut at = 0;
+    match decode_walk(alloc, schema, &TypeRef::Call, &mut at, &mut from) {
+        Ok(value) => ended(value, at, &from),
+        Err(fault) => Err(wire_fault(fault)),
+    }
+}
+
 // The value, unless bytes are left after it.
 fn ended(value: Value, at: u64, from: &SliceSource) -> Result<Value, WireFault>
     ensures { EndsWith (drop from.now.at from.now.bytes.now) at value result }
@@ -68,6 +84,22 @@ pub fn bytes_of(alloc: Global, plan: &Plan, root: u32, value: &Value) -> Result<
     let _count = plan.count();
     match spelling_of(alloc, plan, root, value) {
         Ok(bytes) => Ok(bytes),
+        Err(_) => Err(AllocError),
+    }
+}
+
+/// The spelling of a call of a function of a schema; a value that has none is answered as out of memory.
+pub fn bytes_of_call(alloc: Global, schema: &Schema, value: &Value) -> Result<Vec<u8>, AllocError>
+    ensures { IfOk result (λ bytes. IsSpelling schema.now call (view value.now) bytes.items) }
+{
+    // Read for the proof alone: that the schema is sound.
+    let _count = schema.count();
+    match fits(alloc, schema, &TypeRef::Call, value) {
+        Ok(()) => {
+            let mut bytes = Vec::new(alloc);
+            spell(alloc, value, schema, &TypeRef::Call, &mut bytes)?;
+            Ok(bytes)
+        }
         Err(_) => Err(AllocError),
     }
 }

@@ -1,0 +1,47 @@
+//! Calls of clients as bytes, and back.
+ghost use Rattle.std.specs.Prelude.{◌≡◌, ⊤};
+ghost use Rattle.tl_types.specs.Seen.{view};
+ghost use Rattle.wire_checks.specs.Causes.{call_cause};
+ghost use Rattle.wire_values.specs.Calls.{call_in as call_by, call_tree};
+ghost use Rattle.box_wire.specs.Answers.{Reads, Spelled};
+ghost use Rattle.box_wire.specs.Framing.{Framed, Means, WireRefused};
+ghost use Rattle.box_wire.specs.Kinds.{calls};
+ghost use Rattle.box_wire.specs.inner.Wholes.{AnswersMessage};
+
+use crate::fault::SpellFault;
+use crate::wholes::{bytes_of_call, value_of_call, within};
+use box_events::Numbered;
+use std::alloc::Global;
+use tl_base::Bytes;
+use tl_types::Value;
+use wire_checks::{WireFault, call_cause};
+use wire_profile::Profile;
+use wire_values::{call_of, call_value};
+
+/// Spells a call. Each of which `FitsCall` has a spelling; another is answered as out of memory.
+pub fn spell_call(alloc: Global, profile: &Profile, call: &Numbered) -> Result<Bytes, SpellFault>
+    ensures { Spelled (Framed profile.now calls (call_tree call.now)) result }
+{
+    let mut value = call_value(alloc, call)?;
+    profile.renamed(&mut value);
+    within(bytes_of_call(alloc, profile.schema(), &value)?)
+}
+
+/// Reads a call. A call of any function of the schema is decoded, so that one that no server answers is told from bytes that are none.
+pub fn read_call(alloc: Global, profile: &Profile, bytes: &[u8]) -> Result<Numbered, WireFault>
+    ensures { Reads (λ _. ⊤) (λ m. Means profile.now calls (call_tree m) bytes.now) (WireRefused profile.now calls bytes.now) result }
+{
+    let mut value = value_of_call(alloc, profile.schema(), bytes)?;
+    profile.own(&mut value);
+    call_in(alloc, &value)
+}
+
+// The call of a value, or its first cause.
+fn call_in(alloc: Global, value: &Value) -> Result<Numbered, WireFault>
+    ensures { AnswersMessage (call_cause (view value.now)) (call_by (view value.now)) result }
+{
+    match call_cause(value) {
+        Some(fault) => Err(fault),
+        None => Ok(call_of(alloc, value)?),
+    }
+}
