@@ -1,0 +1,2 @@
+pub mod ClearValues
+pub mod RuleFacts
