@@ -1,8 +1,10 @@
 -- What a decoder has after bytes, and what it answers for a piece.
-use Rattle.std.proofs.Common.{◌≡◌, ℕ, ◌-◌, ◌≤◌, List, [], ◌++◌, length, drop, Option, Some, None, Result, Ok, Err, refl, ap, sym, ◌∙◌, subst, arith, append_assoc, append-nil, true≢false, false}
+use Rattle.std.proofs.Common.{◌≡◌, ℕ, ◌-◌, ◌<◌, ◌≤◌, List, [], ◌++◌, length, drop, Option, Some, None, Result, Ok, Err, refl, ap, sym, ◌∙◌, subst, arith, append_assoc, append-nil, true≢false, false, inl, inr}
 use Rattle.std.specs.Prelude.{◌≢◌}
 use Rattle.std.proofs.lemmas.List.{length-append, length-drop}
+use Rattle.tl_base.specs.Contents.{AreBytes}
 use Rattle.tl_schema.specs.Types.{Shape}
+use Rattle.tl_schema.specs.Formed.{IsFormed}
 use Rattle.tl_plan.specs.Plans.{IsPlan, PlanView}
 use Rattle.tl_plan.specs.PlanLaws.{IsInstance}
 use Rattle.tl_types.specs.Offsets.{moved}
@@ -25,8 +27,9 @@ use Rattle.tl_decode.specs.declared.stack.Found.TheVariants as found
 use Rattle.tl_decode.specs.declared.stack.Fed.{Fed}
 use Rattle.tl_decode.specs.declared.stack.Fed.TheVariants as fed
 use Rattle.tl_decode.specs.inner.Frames.{views, type_in, found_at, next_at, resume, resumes, is_truncated, SettlesAt}
-use Rattle.tl_decode.specs.inner.Needs.{IsInOrder, TakesPiece, reads_on}
-use Rattle.tl_decode.specs.Decoders.{DecoderView, HasFound, HasStopped, HasTaken, HasValue, GivesEnd, GivesRefusal, GivesMore, reads_all}
+use Rattle.tl_decode.specs.inner.Needs.{IsInOrder, PieceLess, TakesPiece, piece_work, reads_on}
+use Rattle.tl_decode.specs.Decoders.{DecoderView, EachRefusalStays, HasFound, HasStopped, HasTaken, HasValue, GivesEnd, GivesRefusal, GivesMore, pieces_left, reads_all}
+use Rattle.tl_types.proofs.Exactly.{exactly_one}
 use Rattle.tl_decode.proofs.FrameLists.{resume_err}
 use Rattle.tl_decode.proofs.HeldBytes.{item_cut}
 use Rattle.tl_decode.proofs.Onward.{item_fails}
@@ -56,7 +59,7 @@ module _ (d : DecoderView) (bytes : List ℕ) where
       ∙ ap (λ (z : List ℕ). found_at d.plan (views d.plan d.frames) (found.Wants W) (spot d.at z)) (append-nil d.held)
       ∙ ap (resumes d.plan (views d.plan d.frames)) (item_fails d.plan (views d.plan d.frames) W (spot d.at d.held) d.at Truncated (item_cut W d.at d.held o.begins)) ∙ resume_err d.plan.schema.decls MAX_LEVELS (views d.plan d.frames) _
 
-  done_at : (v : Value) (rest : List ℕ) → ((more : List ℕ) → reads_all d (bytes ++ more) ≡ Ok (view v, spot d.at (rest ++ more))) → reads_all d bytes ≡ Ok (view v, spot d.at rest)
+  pub done_at : (v : Value) (rest : List ℕ) → ((more : List ℕ) → reads_all d (bytes ++ more) ≡ Ok (view v, spot d.at (rest ++ more))) → reads_all d bytes ≡ Ok (view v, spot d.at rest)
   done_at v rest h = at_end {r = λ more. Ok (view v, spot d.at (rest ++ more))} h ∙ ap (λ (z : List ℕ). Ok (view v, spot d.at z)) (append-nil rest)
 
   stop_at : (offset : ℕ) (cause : Cause) → ((more : List ℕ) → reads_all d (bytes ++ more) ≡ Err (offset, cause)) → reads_all d bytes ≡ Err (offset, cause)
@@ -263,3 +266,49 @@ not_wanted d f W v is e (other, there, none, seen) = never (sym e ∙ sym is ∙
   where
     never : found.Wants W ≡ found.Done other → ⊥
     never h = cc
+
+-- ---- a refusal stays
+
+refused_all : (d : DecoderView) → IsPlan d.plan → (all : List ℕ) → AreBytes all → (T : Shape) → IsInstance d.plan d.root T → IsFormed d.plan.schema T → (place : ℕ) (cause : Cause) → reads_all d all ≡ Err (place, cause)
+    → (offset : ℕ) × Refused d.plan.schema MAX_LEVELS T all offset cause × (place ≡ moved 0 offset)
+refused_all d good all are T is formed place cause e = elim (exactly_one d.plan.schema good.schema MAX_LEVELS T all formed are).either [
+  | inl (v, x, (rest, split, spells, deep)) ↦ never_err (sym e ∙ spelled_reads d good T is all v x rest split spells deep)
+  | inr (offset, why, r) ↦ (let same = same_err (sym e ∙ refused_reads d good T is all offset why r) in (offset, subst (Refused d.plan.schema MAX_LEVELS T all offset) (sym same.1) r, same.0))
+]
+
+pub each_refusal_stays : EachRefusalStays
+unfolding HasTaken
+each_refusal_stays d good bytes more are h T is formed place cause stopped =
+    refused_all d good (bytes ++ more) are T is formed place cause ((subst (HasStopped d bytes) stopped h).1 more)
+
+-- ---- the value, and how often more is asked for
+
+pub same_fed : {r s : Fed} → ◌≡◌ {A = Result Fed DecodeFault} (Ok r) (Ok s) → r ≡ s
+same_fed e = cc
+
+never_more : {P : Type 0} {used : ℕ} → fed.More ≡ fed.Done used → P
+never_more e = absurd cc
+
+pub done_value : (p : PlanView) (old : List ℕ → Read ValueView) (piece : List ℕ) (fs : List Frame) (at : ℕ) (held : List ℕ) (g : Found) (r : Fed) (d : DecoderView) → d.found ≡ g → d.stopped ≡ None → TakesPiece p old piece fs at held (Ok (g, r)) → (used : ℕ) → r ≡ fed.Done used → (v : ValueView) × HasValue d v
+done_value p old piece fs at held (found.Done v) (fed.Done u) d is none t used e = (view v, (v, is, none, refl))
+done_value p old piece fs at held (found.Wants W) fed.More d is none t used e = never_more e
+done_value p old piece fs at held (found.Wants W) (fed.Done u) d is none t used e = absurd t
+done_value p old piece fs at held (found.Done v) fed.More d is none t used e = absurd t
+
+pub less_left : (d : DecoderView) (f : Found) → d.found ≡ f → (fs : List Frame) (held piece : List ℕ) (g : Found) (r : Fed) (at : ℕ) (stopped : Option DecodeFault) → PieceLess d.plan (piece_work d.plan d.frames f d.held) piece fs held (Ok (g, r)) → 0 < length piece → r ≡ fed.More
+    → pieces_left (record { plan = d.plan; root = d.root; frames = fs; found = g; at = at; held = held; stopped = stopped }) < pieces_left d
+unfolding pieces_left
+less_left d f is fs held piece g fed.More at stopped t some e = subst (λ (z : Found). piece_work d.plan fs g held < piece_work d.plan d.frames z d.held) (sym is) (t some)
+less_left d f is fs held piece g (fed.Done u) at stopped t some e = never_more (sym e)
+
+-- ---- no read fault
+
+pub same_fault : {e f : DecodeFault} → ◌≡◌ {A = Result Fed DecodeFault} (Err e) (Err f) → e ≡ f
+same_fault e = cc
+
+pub stopped_unread : (d : DecoderView) (bytes : List ℕ) → HasTaken d bytes → (e : DecodeFault) → d.stopped ≡ Some e → e ≡ fault.ReadFault → ⊥
+unfolding HasTaken
+stopped_unread d bytes h e stopped is = subst (λ (f : DecodeFault). HasStopped d bytes (Some f)) is (subst (HasStopped d bytes) stopped h)
+
+pub piece_unread : (p : PlanView) (old : List ℕ → Read ValueView) (piece : List ℕ) (fs : List Frame) (at : ℕ) (held : List ℕ) (e : DecodeFault) → TakesPiece p old piece fs at held (Err e) → e ≡ fault.ReadFault → ⊥
+piece_unread p old piece fs at held e t is = subst (λ (f : DecodeFault). TakesPiece p old piece fs at held (Err f)) is t

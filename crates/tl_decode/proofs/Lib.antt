@@ -26,3 +26,8 @@ pub mod SizesEmpty
 pub mod SizesWidths
 pub mod SizesUsed
 pub mod SizesTexts
+pub mod FirstItems
+pub mod RootsOrEnds
+pub mod SizesGiven
+pub mod TakesFour
+pub mod PieceWork

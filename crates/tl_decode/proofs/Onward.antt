@@ -20,7 +20,7 @@ use Rattle.tl_decode.specs.declared.stack.Stop.TheVariants as stop
 use Rattle.tl_decode.specs.inner.Steps.{ReadsAs, FailsAs}
 use Rattle.tl_decode.specs.inner.Frames.{FrameView, ItemView, views, type_in, resume, resumes, item_at, item_view, after, wanted_at, levels_below, next_at, found_at, next_work, found_work, IsFound, IsStop, ReadsOn, Settles, SettlesAt, Steps, Takes}
 use Rattle.tl_decode.proofs.FrameLists.{resume_err}
-use Rattle.tl_decode.proofs.Steps.{Continues, continues_none, continues_done}
+use Rattle.tl_decode.proofs.Steps.{Continues, as_read}
 
 module _ (p : PlanView) (fs : List FrameView) (W : Wanted) where
   pub item_then : (s : Spot) (x : ItemView) (r : Spot) → item_at W s ≡ Ok (x, r) → wanted_at p (levels_below fs) W s ≡ after p (levels_below fs) W s.place x r
@@ -97,10 +97,11 @@ module _ (p : PlanView) (j : ℕ) where
   unfolding resume
   opens s = refl
 
-  pub begins : (none new : List Frame) (a : Option (List ℕ)) (m work : ℕ) (f : Found) → none ≡ [] → SettlesAt p (next_at p (views p none) (next.Open j)) work m new (Ok f) → Continues start a a m m (found_at p (views p new) f)
-  begins none new a m work f e s =
+  -- it goes on from what was found first
+  pub begins : (none new : List Frame) (a b : Option (List ℕ)) (m q work : ℕ) (f : Found) (r : Result Value DecodeFault) → none ≡ [] → SettlesAt p (next_at p (views p none) (next.Open j)) work m new (Ok f) → ReadsAs view a b m q r (found_at p (views p new) f) → ReadsAs view a b m q r start
+  begins none new a b m q work f r e s h =
       let first = subst (λ (fs : List Frame). SettlesAt p (next_at p (views p fs) (next.Open j)) work m new (Ok f)) e s in
-      continues_none start (found_at p (views p new) f) a m (λ r. sym (first.0.same r) ∙ opens r)
+      as_read view a b m q r (found_at p (views p new) f) start h (λ z. sym (opens z) ∙ first.0.same z)
 
   begins_empty : (new : List Frame) (a : Option (List ℕ)) (m r work : ℕ) (e : DecodeFault) → SettlesAt p (next_at p [] (next.Open j)) work m new (Err e) → ReadsAs {X = Value} view a a m r (Err e) start
   begins_empty new None m r work e s = tt
@@ -110,6 +111,3 @@ module _ (p : PlanView) (j : ℕ) where
 
   pub begins_not : (none new : List Frame) (a : Option (List ℕ)) (m r work : ℕ) (e : DecodeFault) → none ≡ [] → SettlesAt p (next_at p (views p none) (next.Open j)) work m new (Err e) → ReadsAs {X = Value} view a a m r (Err e) start
   begins_not none new a m r work e is s = begins_empty new a m r work e (subst (λ (fs : List Frame). SettlesAt p (next_at p (views p fs) (next.Open j)) work m new (Err e)) is s)
-
-  pub ends_done : (fs : List FrameView) (a b : Option (List ℕ)) (m q : ℕ) (v : Value) → Continues start a b m q (found_at p fs (found.Done v)) → ReadsAs view a b m q (Ok v) start
-  ends_done fs a b m q v h = continues_done view start (found_at p fs (found.Done v)) a b m q v h (λ s. refl)

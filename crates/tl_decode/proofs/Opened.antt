@@ -86,7 +86,7 @@ vector_count ds n U s = refl
 
 -- ---- a value of a type
 
-plain_is : (ds : List Declaration) (n : ℕ) (T : Shape) (s : Spot) → is_deep T ≡ false → value_at ds n T s ≡ plain_at T s
+pub plain_is : (ds : List Declaration) (n : ℕ) (T : Shape) (s : Spot) → is_deep T ≡ false → value_at ds n T s ≡ plain_at T s
 unfolding value_at
 plain_is ds zero T s e = rw e refl
 plain_is ds (suc n) T s e = rw e refl
@@ -138,7 +138,7 @@ module _ (p : PlanView) (fs : List Frame) (well : AreWell p fs) (j : ℕ) where
   pub opens_long : type_in p j ≡ type.long → StepsFrom p fs (next.Open j) fs (Ok (step.Stops (found.Wants wanted.Long)))
   opens_long is = stops type.long wanted.Long is refl (long_wanted p (levels_below vs)) tt refl
 
-  pub opens_opaque : (k : ℕ) → 0 < k → type_in p j ≡ type.opaque k → StepsFrom p fs (next.Open j) fs (Ok (step.Stops (found.Wants (wanted.Opaque k))))
+  pub opens_opaque : (k : ℕ) → 4 ≤ k → type_in p j ≡ type.opaque k → StepsFrom p fs (next.Open j) fs (Ok (step.Stops (found.Wants (wanted.Opaque k))))
   opens_opaque k some is = stops (type.opaque k) (wanted.Opaque k) is refl (opaque_wanted p (levels_below vs) k) some refl
 
   pub opens_str : type_in p j ≡ type.str → StepsFrom p fs (next.Open j) fs (Ok (step.Stops (found.Wants wanted.Text)))

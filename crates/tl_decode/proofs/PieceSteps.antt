@@ -46,7 +46,7 @@ pub begins_none : (p : PlanView) (f : Found) → IsWellFound p f → IsHeld f []
 begins_none p (found.Wants wanted.Int) w = omega arith
 begins_none p (found.Wants wanted.Nat) w = omega arith
 begins_none p (found.Wants wanted.Long) w = omega arith
-begins_none p (found.Wants (wanted.Opaque k)) w = w
+begins_none p (found.Wants (wanted.Opaque k)) w = omega (arith, w)
 begins_none p (found.Wants wanted.Text) w = let least = text_least [] in omega (arith, least)
 begins_none p (found.Wants (wanted.Number j)) w = omega arith
 begins_none p (found.Wants (wanted.ListNumber j)) w = omega arith

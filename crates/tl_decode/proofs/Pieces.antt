@@ -69,3 +69,7 @@ adding_done see x before place n (Some bytes) b p q now left h zero_left lt is =
     let none = exact_again place q [] h.0 0 refl in
     let stays : moved q 0 ≡ q = omega (arith, lt) in
     (h.0, h.1, sym h.2 ∙ rw (zero_left, none, stays, append-nil now, is) refl)
+
+-- what was added so far
+pub added_more : (old now xs : List ℕ) (count left size : ℕ) → ((more : List ℕ) × (now ≡ old ++ more) × (length more + left ≡ count)) → length xs ≡ size → size ≤ left → (more : List ℕ) × (now ++ xs ≡ old ++ more) × (length more + (left - size) ≡ count)
+added_more old now xs count left size (more, is, sum) len le = (more ++ xs, ap (λ (z : List ℕ). z ++ xs) is ∙ append_assoc old more xs, omega (arith, length-append more xs, sum, len, le))

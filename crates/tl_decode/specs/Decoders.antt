@@ -1,6 +1,12 @@
 -- A decoder that takes its input in pieces, and the bytes that it has taken. This project's own.
 use Rattle.std.specs.Prelude.{◌≡◌, ℕ, ◌-◌, ◌<◌, List, ◌++◌, false, Option, Some, None, Result, Ok, Err}
+use Rattle.tl_base.specs.Contents.{AreBytes}
+use Rattle.tl_schema.specs.Types.{Shape}
+use Rattle.tl_schema.specs.Formed.{IsFormed}
 use Rattle.tl_plan.specs.Plans.{IsPlan, PlanView}
+use Rattle.tl_plan.specs.PlanLaws.{IsInstance}
+use Rattle.tl_types.specs.Offsets.{moved}
+use Rattle.tl_types.specs.Refusal.{Refused}
 use Rattle.tl_types.specs.Values.{ValueView}
 use Rattle.tl_types.specs.Seen.{view}
 use Rattle.tl_types.specs.inner.Reading.{Read, spot, value_at}
@@ -15,7 +21,7 @@ use Rattle.tl_decode.specs.declared.stack.Found.TheVariants as found
 use Rattle.tl_decode.specs.declared.stack.Fed.{Fed}
 use Rattle.tl_decode.specs.declared.stack.Fed.TheVariants as fed
 use Rattle.tl_decode.specs.inner.Frames.{is_truncated, type_in}
-use Rattle.tl_decode.specs.inner.Needs.{IsInOrder, reads_on}
+use Rattle.tl_decode.specs.inner.Needs.{IsInOrder, piece_work, reads_on}
 
 -- a decoder: what it reads, the lists and records that were begun, what is looked for or found, the offset of the item that is looked for, its bytes
 -- so far, and why it has stopped
@@ -57,6 +63,10 @@ pub record IsDecoder (d : DecoderView) : Type 0 where
 abbrev pub HasValue : DecoderView → ValueView → Type 0
 HasValue d v = (value : Value) × (d.found ≡ found.Done value) × (d.stopped ≡ None) × (view value ≡ v)
 
+-- so often, at most, it asks for more after a piece that has bytes
+unfoldable pub pieces_left : DecoderView → ℕ
+pieces_left d = piece_work d.plan d.frames d.found d.held
+
 -- ---- what a piece gives, after so many bytes before it; out of memory is free
 
 -- The value, which ends after n bytes in all.
@@ -81,3 +91,11 @@ GivesMore d (Ok (fed.Done used)) offset = ⊥
 GivesMore d (Err (fault.Refused place why)) offset = ⊥
 GivesMore d (Err fault.ReadFault) offset = ⊥
 GivesMore d (Err fault.Memory) offset = Unit {0}
+
+-- ---- a law
+
+-- a refusal after some bytes is one of all bytes that begin with them
+abbrev pub EachRefusalStays : Type 0
+EachRefusalStays =
+    (d : DecoderView) → IsPlan d.plan → (bytes more : List ℕ) → AreBytes (bytes ++ more) → HasTaken d bytes → (T : Shape) → IsInstance d.plan d.root T → IsFormed d.plan.schema T
+    → (place : ℕ) (cause : Cause) → d.stopped ≡ Some (fault.Refused place cause) → (offset : ℕ) × Refused d.plan.schema MAX_LEVELS T (bytes ++ more) offset cause × (place ≡ moved 0 offset)

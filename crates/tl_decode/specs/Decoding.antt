@@ -1,10 +1,13 @@
 -- What decoding answers: the value that bytes spell, or the offset and the cause at which they are refused. This project's own.
-use Rattle.std.specs.Prelude.{◌≡◌, ℕ, List, length, Option, Some, Result, Ok, Err}
+use Rattle.std.specs.Prelude.{◌≡◌, ℕ, List, ◌++◌, length, Option, Some, Result, Ok, Err}
+use Rattle.tl_schema.specs.Types.{Shape}
+use Rattle.tl_schema.specs.Schemas.{Declared}
 use Rattle.tl_types.specs.Values.{ValueView}
 use Rattle.tl_types.specs.Seen.{view}
 use Rattle.tl_types.specs.Offsets.{moved}
 use Rattle.tl_types.specs.declared.value.Value.{Value}
 use Rattle.tl_types.specs.declared.cause.Cause.{Cause}
+use Rattle.tl_decode.specs.Sizes.{HasFewNodes}
 use Rattle.tl_decode.specs.declared.fault.DecodeFault.{DecodeFault}
 use Rattle.tl_decode.specs.declared.fault.DecodeFault.TheVariants.{Refused, ReadFault, Memory}
 
@@ -22,3 +25,8 @@ GivesFault (Ok value) offset cause = ⊥
 GivesFault (Err (Refused place why)) offset cause = (place ≡ offset) × (why ≡ cause)
 GivesFault (Err ReadFault) offset cause = Unit {0}
 GivesFault (Err Memory) offset cause = Unit {0}
+
+-- The value has few nodes for the bytes x that were taken.
+abbrev pub GivesFew : Declared → Shape → List ℕ → Option (List ℕ) → Result Value DecodeFault → Type 0
+GivesFew schema T bytes after (Ok value) = (x rest : List ℕ) → bytes ≡ x ++ rest → after ≡ Some rest → HasFewNodes schema T (length x) (view value)
+GivesFew schema T bytes after (Err e) = Unit {0}

@@ -1,4 +1,5 @@
 pub mod Decoding
 pub mod Decoders
+pub mod Endings
 pub mod Sizes
 pub mod inner

@@ -92,3 +92,17 @@ abbrev pub EachSizeIsBounded : Type 0
 EachSizeIsBounded =
     (schema : Declared) → IsSchema schema → HasFewFields schema → FlagsHaveConditions schema → (T : Shape) → IsFormed schema T → HasWidths T
     → (E : ℕ) → 1 ≤ E → HasSmallEmpty schema T E → (v : ValueView) (b : List ℕ) → Spells schema T v b → depth v ≤ MAX_LEVELS → nodes v ≤ 32768 * E * (length b / 4 + 1)
+
+-- ---- what a decoder gives
+
+-- what the bound asks of a schema, of a type, and of E
+pub record AllowsBound (schema : Declared) (T : Shape) (E : ℕ) : Type 0 where
+  pub fields : HasFewFields schema
+  pub flags : FlagsHaveConditions schema
+  pub widths : HasWidths T
+  pub one : 1 ≤ E
+  pub small : HasSmallEmpty schema T E
+
+-- a value after n bytes has at most 32,768 E (n / 4 + 1) nodes
+abbrev pub HasFewNodes : Declared → Shape → ℕ → ValueView → Type 0
+HasFewNodes schema T n v = (E : ℕ) → AllowsBound schema T E → nodes v ≤ 32768 * E * (n / 4 + 1)

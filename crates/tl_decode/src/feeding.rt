@@ -1,7 +1,7 @@
 //! A piece of the input, taken item by item.
 ghost use Rattle.std.specs.Prelude.{◌<◌, IfOk};
 ghost use Rattle.tl_decode.specs.inner.Frames.{AreWell, IsWellWanted, SettlesAt, found_work, goes_after, item_view, views};
-ghost use Rattle.tl_decode.specs.inner.Needs.{IsInOrder, TakesItem, TakesPiece, reads_on};
+ghost use Rattle.tl_decode.specs.inner.Needs.{IsInOrder, ItemLess, PieceLess, TakesItem, TakesPiece, piece_work, reads_on};
 
 use crate::fault::DecodeFault;
 use crate::held_items::next_item;
@@ -22,7 +22,8 @@ pub fn take_piece(
     piece: &[u8],
 ) -> Result<(Found, Fed), DecodeFault>
     requires { IsInOrder plan.now frames.old.items first held.old.items }
-    ensures { TakesPiece plan.now (reads_on plan.now frames.old.items first at.old held.old.items) piece.now frames.new.items at.new held.new.items result }
+    ensures takes { TakesPiece plan.now (reads_on plan.now frames.old.items first at.old held.old.items) piece.now frames.new.items at.new held.new.items result }
+    ensures less { PieceLess plan.now (piece_work plan.now frames.old.items first held.old.items) piece.now frames.new.items held.new.items result }
 {
     let mut found = first;
     let mut used = 0usize;
@@ -53,7 +54,8 @@ fn take_item(
     next: &[u8],
 ) -> Result<Option<(Found, usize)>, DecodeFault>
     requires { IsInOrder plan.now frames.old.items (Found.Wants wanted) held.old.items }
-    ensures { TakesItem plan.now (reads_on plan.now frames.old.items (Found.Wants wanted) at.old held.old.items) (found_work plan.now (views plan.now frames.old.items) (Found.Wants wanted)) wanted next.now frames.new.items at.new held.new.items result }
+    ensures takes { TakesItem plan.now (reads_on plan.now frames.old.items (Found.Wants wanted) at.old held.old.items) (found_work plan.now (views plan.now frames.old.items) (Found.Wants wanted)) wanted next.now frames.new.items at.new held.new.items result }
+    ensures less { ItemLess plan.now (piece_work plan.now frames.old.items (Found.Wants wanted) held.old.items) wanted next.now frames.new.items held.new.items result }
 {
     let place = *at;
     let had = held.len() as u64;
@@ -68,8 +70,8 @@ fn take_item(
     }
 }
 
-// All after an item at a place that needs no bytes.
-fn after_item(
+/// All after an item at a place that needs no bytes.
+pub fn after_item(
     alloc: Global,
     plan: &Plan,
     frames: &mut Vec<Frame>,

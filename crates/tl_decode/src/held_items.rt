@@ -57,8 +57,8 @@ fn fill(wanted: Wanted, held: &mut Vec<u8>, next: &[u8]) -> Result<usize, AllocE
     Ok(used)
 }
 
-// How many bytes the item has that is looked for, as far as its first bytes tell.
-fn need_of(wanted: Wanted, bytes: &[u8]) -> usize
+/// How many bytes the item has that is looked for, as far as its first bytes tell.
+pub fn need_of(wanted: Wanted, bytes: &[u8]) -> usize
     ensures { result ≡ needs wanted bytes.now }
 {
     match wanted {
@@ -103,8 +103,8 @@ fn eight_bytes(bytes: &[u8]) -> [u8; 8]
     word
 }
 
-// The item that these bytes are.
-fn whole_item(alloc: Global, wanted: Wanted, bytes: &[u8]) -> Result<Item, Stop>
+/// The item that these bytes are.
+pub fn whole_item(alloc: Global, wanted: Wanted, bytes: &[u8]) -> Result<Item, Stop>
     requires { length bytes.now ≡ needs wanted bytes.now }
     ensures { IsWhole wanted bytes.now result }
 {

@@ -1,5 +1,5 @@
 //! Items of a given number of bytes.
-ghost use Rattle.std.specs.Prelude.{◌≡◌, ◌+◌, IsErrOf, OnOk, length};
+ghost use Rattle.std.specs.Prelude.{◌≡◌, ◌++◌, ℕ, List, IsErrOf, OnOk, length};
 ghost use Rattle.tl_base.specs.Using.{Used};
 ghost use Rattle.tl_types.specs.inner.Reading.{added_at, double_at, word_at};
 ghost use Rattle.tl_decode.specs.inner.Steps.{ReadsAs, four_at};
@@ -66,7 +66,7 @@ pub fn exact_of<S: Source>(
     from: &mut S,
 ) -> Result<(), DecodeFault>
     ensures read { ReadsAs (λ _. out.new.items) (S.state from.old).left (S.state from.new).left at.old at.new result (added_at out.old.items place count) }
-    ensures grows { OnOk result (length out.new.items ≡ length out.old.items + count) }
+    ensures grows { OnOk result ((more : List ℕ) × (out.new.items ≡ out.old.items ++ more) × (length more ≡ count)) }
     ensures used { Used (S.state from.old) (S.state from.new) (IsErrOf result DecodeFault.ReadFault) }
 {
     // Read for the proof alone: that the offset fits.

@@ -1,4 +1,6 @@
 //! Laws of the definitions, each carried by a function that does nothing.
+ghost use Rattle.tl_decode.specs.Decoders.{EachRefusalStays};
+ghost use Rattle.tl_decode.specs.Endings.{EachItemTakesFour};
 ghost use Rattle.tl_decode.specs.Sizes.{EachSizeIsBounded, FlagsHaveConditions, HasFewFields, HasWidths, HoldsOfTexts, HoldsOfTypes};
 
 /// A value that n bytes spell, of at most `MAX_LEVELS` levels, has at most 32,768 E (n / 4 + 1) nodes. E is at least 1, and bounds the nodes of those
@@ -12,4 +14,14 @@ pub fn each_text_allows_the_bound()
     ensures fields { HoldsOfTexts HasFewFields }
     ensures flags { HoldsOfTexts FlagsHaveConditions }
     ensures widths { HoldsOfTypes HasWidths }
+{}
+
+/// A type that is no flag, no bare record and not opaque with fewer than four bytes takes four bytes at least.
+pub fn each_item_takes_four()
+    ensures { EachItemTakesFour }
+{}
+
+/// A decoder that has refused its bytes refuses all bytes that begin with them.
+pub fn each_refusal_stays()
+    ensures { EachRefusalStays }
 {}

@@ -2,8 +2,10 @@
 #![tactic(auto)]
 
 mod decoder;
+mod endings;
 mod fault;
 mod feeding;
+mod first_items;
 mod held_items;
 mod items;
 mod laws;
@@ -19,8 +21,11 @@ mod taking;
 mod texts;
 mod walk;
 
+pub use endings::{decode_or_end, takes_four};
 pub use fault::DecodeFault;
-pub use laws::{each_size_is_bounded, each_text_allows_the_bound};
+pub use laws::{
+    each_item_takes_four, each_refusal_stays, each_size_is_bounded, each_text_allows_the_bound,
+};
 pub use piecewise::Decoder;
 pub use planned::decode;
 pub use stack::Fed;

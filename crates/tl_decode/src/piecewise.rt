@@ -1,5 +1,6 @@
 //! A decoder that takes its input in pieces.
-ghost use Rattle.std.specs.Prelude.{◌≡◌, ◌≢◌, ◌≤◌, ◌<◌, ◌++◌, ℕ, List, [], length, IfErr, Some, Err};
+ghost use Rattle.std.specs.Prelude.{◌≡◌, ◌≢◌, ◌≤◌, ◌<◌, ◌++◌, ℕ, List, [], length, IfErr, Some, Ok, Err};
+ghost use Rattle.tl_base.specs.Contents.{AreBytes};
 ghost use Rattle.tl_schema.specs.Types.{Shape};
 ghost use Rattle.tl_plan.specs.PlanLaws.{IsInstance};
 ghost use Rattle.tl_types.specs.Offsets.{moved};
@@ -8,7 +9,8 @@ ghost use Rattle.tl_types.specs.Seen.{view};
 ghost use Rattle.tl_types.specs.Spelling.{Spells};
 ghost use Rattle.tl_types.specs.Values.{ValueView, depth};
 ghost use Rattle.tl_types.specs.declared.cause.Cause.{Cause};
-ghost use Rattle.tl_decode.specs.Decoders.{GivesEnd, GivesMore, GivesRefusal, HasTaken, HasValue};
+ghost use Rattle.tl_decode.specs.Decoders.{GivesEnd, GivesMore, GivesRefusal, HasTaken, HasValue, pieces_left};
+ghost use Rattle.tl_decode.specs.Sizes.{HasFewNodes};
 
 use crate::fault::DecodeFault;
 use crate::feeding::take_piece;
@@ -102,6 +104,11 @@ impl<'p, 's> Decoder<'p, 's> {
         ensures refused { (bytes : List ℕ) → HasTaken self.old bytes → (T : Shape) → IsInstance self.old.plan self.old.root T → (offset : ℕ) (cause : Cause) → cause ≢ Cause.Truncated → Refused self.old.plan.schema MAX_LEVELS T (bytes ++ piece.now) offset cause → GivesRefusal result (moved 0 offset) cause }
         // What would be cut off if the input ended asks for more.
         ensures cut_off { (bytes : List ℕ) → HasTaken self.old bytes → (T : Shape) → IsInstance self.old.plan self.old.root T → (offset : ℕ) → Refused self.old.plan.schema MAX_LEVELS T (bytes ++ piece.now) offset Cause.Truncated → GivesMore self.new result (moved 0 offset) }
+        // After Done the value is there.
+        ensures done { (used : ℕ) → result ≡ Ok (Fed.Done used) → (v : ValueView) × HasValue self.new v }
+        ensures unread { result ≢ Err DecodeFault.ReadFault }
+        // It doesn't ask for more without end.
+        ensures less { 0 < length piece.now → result ≡ Ok Fed.More → pieces_left self.new < pieces_left self.old }
         // A fault stays.
         ensures fault { IfErr result (λ e. self.new.stopped ≡ Some e) }
         ensures again { (e : DecodeFault) → self.old.stopped ≡ Some e → result ≡ Err e }
@@ -149,7 +156,9 @@ impl<'p, 's> Decoder<'p, 's> {
     /// The value, after the answer Done.
     pub fn into_value(self) -> Value
         requires { (v : ValueView) × HasValue self v }
-        ensures { (v : ValueView) → HasValue self.entry v → view result ≡ v }
+        ensures value { (v : ValueView) → HasValue self.entry v → view result ≡ v }
+        // It has few nodes for the bytes that were taken.
+        ensures bounded { (bytes : List ℕ) → AreBytes bytes → HasTaken self.entry bytes → (T : Shape) → IsInstance self.entry.plan self.entry.root T → HasFewNodes self.entry.plan.schema T (length bytes) (view result) }
     {
         let Decoder { found, .. } = self;
         match found {

@@ -10,8 +10,8 @@ ghost use Rattle.tl_types.specs.Spelling.{Spells};
 ghost use Rattle.tl_types.specs.Values.{ValueView, depth};
 ghost use Rattle.tl_types.specs.declared.cause.Cause.{Cause};
 ghost use Rattle.tl_types.specs.inner.Reading.{plain_at, value_at};
-ghost use Rattle.tl_decode.specs.Decoding.{GivesFault, GivesValue};
-ghost use Rattle.tl_decode.specs.inner.Frames.{AreWell, IsFound, IsInPlan, IsStop, IsWellNext, IsWellWanted, ReadsOn, SettlesAt, found_at, found_work, item_at, item_view, next_at, next_work, type_in, views};
+ghost use Rattle.tl_decode.specs.Decoding.{GivesFault, GivesFew, GivesValue};
+ghost use Rattle.tl_decode.specs.inner.Frames.{AreWell, IsFound, IsInPlan, IsStop, IsWellFound, IsWellNext, IsWellWanted, ReadsOn, SettlesAt, found_at, found_work, item_at, item_view, next_at, next_work, type_in, views};
 ghost use Rattle.tl_decode.specs.inner.Steps.{ReadsAs};
 
 use crate::fault::DecodeFault;
@@ -39,6 +39,8 @@ pub fn decode<S: Source>(
     ensures spelled { IfSome (S.state from.old).left (λ bytes. (T : Shape) → IsInstance plan.now root T → (v : ValueView) (x rest : List ℕ) → bytes ≡ x ++ rest → Spells plan.now.schema T v x → depth v ≤ MAX_LEVELS → GivesValue result (S.state from.new).left at.old at.new v x rest) }
     // What is refused is refused at its offset, for its cause.
     ensures refused { IfSome (S.state from.old).left (λ bytes. (T : Shape) → IsInstance plan.now root T → (offset : ℕ) (cause : Cause) → Refused plan.now.schema MAX_LEVELS T bytes offset cause → GivesFault result (moved at.old offset) cause) }
+    // What is given has few nodes for the bytes that were taken.
+    ensures bounded { IfSome (S.state from.old).left (λ bytes. (T : Shape) → IsInstance plan.now root T → GivesFew plan.now.schema T bytes (S.state from.new).left result) }
     ensures used { Used (S.state from.old) (S.state from.new) (IsErrOf result DecodeFault.ReadFault) }
 {
     // Read for the proof alone: that the offset fits, and that the plan is sound.
@@ -59,12 +61,30 @@ fn root_of<S: Source>(
     ensures used { Used (S.state from.old) (S.state from.new) (IsErrOf result DecodeFault.ReadFault) }
 {
     let mut frames = Vec::new(alloc);
-    let mut found = settle_at(alloc, plan, &mut frames, Next::Open { of: root }, *at)?;
+    let found = settle_at(alloc, plan, &mut frames, Next::Open { of: root }, *at)?;
+    finish(alloc, plan, &mut frames, found, at, from)
+}
+
+/// All that comes after what was found.
+pub fn finish<S: Source>(
+    alloc: Global,
+    plan: &Plan,
+    frames: &mut Vec<Frame>,
+    first: Found,
+    at: &mut u64,
+    from: &mut S,
+) -> Result<Value, DecodeFault>
+    requires frames { AreWell plan.now frames.old.items }
+    requires well { IsWellFound plan.now first }
+    ensures read { ReadsAs view (S.state from.old).left (S.state from.new).left at.old at.new result (found_at plan.now (views plan.now frames.old.items) first) }
+    ensures used { Used (S.state from.old) (S.state from.new) (IsErrOf result DecodeFault.ReadFault) }
+{
+    let mut found = first;
     'items: loop {
         match found {
             Found::Done { value } => return Ok(value),
             Found::Wants { wanted } => {
-                found = one_item(alloc, plan, &mut frames, wanted, at, from)?;
+                found = one_item(alloc, plan, frames, wanted, at, from)?;
             }
         }
     }

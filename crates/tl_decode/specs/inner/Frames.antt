@@ -174,7 +174,7 @@ AreWell p [] = Unit {0}
 AreWell p (f ∷ fs) = IsWellFrame p f × AreWell p fs
 
 abbrev pub IsWellWanted : PlanView → Wanted → Type 0
-IsWellWanted p (wanted.Opaque k) = 0 < k
+IsWellWanted p (wanted.Opaque k) = 4 ≤ k
 IsWellWanted p (wanted.Number j) = IsInPlan p j
 IsWellWanted p (wanted.ListNumber j) = IsInPlan p j
 IsWellWanted p (wanted.Count j) = IsInPlan p j
@@ -313,3 +313,10 @@ IsStop stop.Memory place e = e ≡ fault.Memory
 -- what is read after an item at a place
 abbrev pub goes_after : PlanView → List FrameView → Wanted → ℕ → ItemView → Reader
 goes_after p fs W place x s = resumes p fs (after p (levels_below fs) W place x s)
+
+-- the fault, unless no byte is left
+abbrev pub RefusesAt : DecodeFault → List ℕ → Option (List ℕ) → Result (Option Value) DecodeFault → Type 0
+RefusesAt e bytes b (Ok None) = (bytes ≡ []) × (b ≡ Some [])
+RefusesAt e bytes b (Ok (Some v)) = ⊥
+RefusesAt e bytes b (Err fault.ReadFault) = Unit {0}
+RefusesAt e bytes b (Err other) = (0 < length bytes) × (other ≡ e)

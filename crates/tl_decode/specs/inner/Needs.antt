@@ -1,5 +1,5 @@
 -- How many bytes an item has, as far as its first bytes tell; and items that are whole. This project's own.
-use Rattle.std.specs.Prelude.{◌≡◌, ℕ, ◌+◌, ◌<◌, ◌≤◌, List, [], ◌++◌, length, take, drop, false, Option, Some, None, Result, Ok, Err, nat_lt, if◌then◌else◌}
+use Rattle.std.specs.Prelude.{◌≡◌, ℕ, ◌+◌, ◌-◌, ◌*◌, ◌^◌, ◌<◌, ◌≤◌, List, [], ◌++◌, length, take, drop, false, Option, Some, None, Result, Ok, Err, nat_lt, if◌then◌else◌}
 use Rattle.tl_plan.specs.Plans.{PlanView}
 use Rattle.tl_types.specs.Offsets.{moved}
 use Rattle.tl_types.specs.Texts.{missing}
@@ -95,3 +95,21 @@ TakesItem p old work W next fs at held (Ok (Some x)) =
 TakesItem p old work W next fs at held (Err (fault.Refused place cause)) = (is_truncated cause ≡ false) × ((more : List ℕ) → old (next ++ more) ≡ Err (place, cause))
 TakesItem p old work W next fs at held (Err fault.ReadFault) = ⊥
 TakesItem p old work W next fs at held (Err fault.Memory) = Unit {0}
+
+-- ---- how often a decoder asks for more
+
+-- as often as this, at most: there are fewer items to come, or more bytes are held of the one that is looked for
+abbrev pub piece_work : PlanView → List Frame → Found → List ℕ → ℕ
+piece_work p fs f held = found_work p (views p fs) f * 2 ^ 64 + (2 ^ 64 - length held)
+
+-- an item leaves less to come, and so do bytes that are held
+abbrev pub ItemLess : PlanView → ℕ → Wanted → List ℕ → List Frame → List ℕ → Result (Option (Found × ℕ)) DecodeFault → Type 0
+ItemLess p work W next fs held (Ok None) = (piece_work p fs (found.Wants W) held ≤ work) × (0 < length next → piece_work p fs (found.Wants W) held < work)
+ItemLess p work W next fs held (Ok (Some x)) = piece_work p fs x.0 held < work
+ItemLess p work W next fs held (Err e) = Unit {0}
+
+-- a piece with bytes leaves less to come
+abbrev pub PieceLess : PlanView → ℕ → List ℕ → List Frame → List ℕ → Result (Found × Fed) DecodeFault → Type 0
+PieceLess p work piece fs held (Ok (f, fed.More)) = 0 < length piece → piece_work p fs f held < work
+PieceLess p work piece fs held (Ok (f, fed.Done used)) = Unit {0}
+PieceLess p work piece fs held (Err e) = Unit {0}
