@@ -4,6 +4,8 @@
 #[cfg(test)]
 mod bytes;
 #[cfg(test)]
+mod decodes;
+#[cfg(test)]
 mod encodes;
 #[cfg(test)]
 mod grammar;
