@@ -5,4 +5,6 @@ pub mod NewServers
 pub mod Replying
 pub mod Growths
 pub mod Carrying
+pub mod KeyPlaces
+pub mod KeyCounts
 pub mod Soundness

@@ -6,6 +6,7 @@ mod channel;
 mod dated;
 mod fault;
 mod laws;
+mod places;
 mod posted;
 mod runs;
 mod server;
