@@ -5,6 +5,8 @@ pub mod NewServers
 pub mod Replying
 pub mod Growths
 pub mod Carrying
+pub mod Tailing
+pub mod Drafting
 pub mod KeyPlaces
 pub mod KeyCounts
 pub mod Soundness

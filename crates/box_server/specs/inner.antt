@@ -3,3 +3,5 @@ pub mod ServerCodes
 pub mod LastIndexes
 pub mod Insides
 pub mod Carrying
+pub mod Drafts
+pub mod Drafted

@@ -4,6 +4,7 @@
 mod answers;
 mod channel;
 mod dated;
+mod draft;
 mod fault;
 mod laws;
 mod places;
@@ -11,6 +12,7 @@ mod posted;
 mod runs;
 mod server;
 mod setting_list;
+mod tail;
 
 pub use fault::PostFault;
 pub use laws::{
