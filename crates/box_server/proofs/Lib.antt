@@ -7,6 +7,7 @@ pub mod Growths
 pub mod Carrying
 pub mod Tailing
 pub mod Drafting
+pub mod Causes
 pub mod KeyPlaces
 pub mod KeyCounts
 pub mod Soundness

@@ -5,3 +5,4 @@ pub mod Insides
 pub mod Carrying
 pub mod Drafts
 pub mod Drafted
+pub mod Checks

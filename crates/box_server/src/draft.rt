@@ -1,9 +1,11 @@
 //! What posts bring to a server, apart from it.
-ghost use Rattle.std.specs.Prelude.{◌≡◌, ◌<◌, length};
+ghost use Rattle.std.specs.Prelude.{◌≡◌, false, eqb, ltb};
+ghost use Rattle.std.specs.List.{list_any};
+ghost use Rattle.box_events.specs.Events.{count_of};
 ghost use Rattle.box_events.specs.declared.limits.TheConstants.{MAX_IDS};
-ghost use Rattle.box_server.specs.Entries.{entry_of, to_common, to_secret, to_channel, to_settings};
+ghost use Rattle.box_server.specs.Entries.{entry_of, entries_of, is_event, to_common, to_secret, to_channel, to_settings};
 ghost use Rattle.box_server.specs.Servers.{ServerState};
-ghost use Rattle.box_server.specs.inner.Drafted.{Fits, Adds, HasIds};
+ghost use Rattle.box_server.specs.inner.Drafted.{Fits, Adds, AddsAll, HasIds};
 
 use crate::dated::DatedSetting;
 use crate::fault::PostFault;
@@ -27,6 +29,18 @@ pub struct Draft {
 }
 
 impl Draft {
+    /// Adds what posts do, in order.
+    pub fn add_all(&mut self, posts: &[Post]) -> Result<(), PostFault>
+        requires some { list_any (is_event (λ e. eqb (count_of e) 0)) (entries_of posts.now) ≡ false }
+        requires few { list_any (is_event (λ e. ltb MAX_IDS (count_of e))) (entries_of posts.now) ≡ false }
+        ensures { (s : ServerState) → Fits s self.old → AddsAll s self.old self.new posts.now result }
+    {
+        for post in posts {
+            self.add(post)?;
+        }
+        Ok(())
+    }
+
     /// Adds what a post does.
     pub fn add(&mut self, post: &Post) -> Result<(), PostFault>
         requires { HasIds (entry_of post.now) }

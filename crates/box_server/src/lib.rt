@@ -3,6 +3,7 @@
 
 mod answers;
 mod channel;
+mod checking;
 mod dated;
 mod draft;
 mod fault;

@@ -60,13 +60,24 @@ Adds s old new x (Err f) = Refuses (lane_of x) (lane_end (joined s old) (lane_of
 abbrev pub HasIds : Entry → Type 0
 HasIds x = (is_event (λ e. eqb (count_of e) 0) x ≡ false) × (is_event (λ e. ltb MAX_IDS (count_of e)) x ≡ false)
 
--- a draft of what posts bring, or why there is none
-pub record IsDraft (s : ServerState) (posts : List Post) (d : Draft) : Type 0 where
-  pub fits : Fits s d
-  pub applies : joined s d ≡ applied_all s (entries_of posts)
-  pub updates : d.updates ≡ updates_of s (entries_of posts)
-  pub room : box_full s (entries_of posts) ≡ None
+-- what posts do is added to a draft
+pub record AddsEntries (s : ServerState) (old new : Draft) (xs : List Entry) : Type 0 where
+  pub fits : Fits s new
+  pub applies : joined s new ≡ applied_all (joined s old) xs
+  pub updates : new.updates ≡ old.updates ++ updates_of (joined s old) xs
+  pub room : box_full (joined s old) xs ≡ None
 
+abbrev pub AddsAll : ServerState → Draft → Draft → List Post → Result (Unit {0}) PostFault → Type 0
+AddsAll s old new posts (Ok u) = AddsEntries s old new (entries_of posts)
+AddsAll s old new posts (Err f) = (f ≡ Memory) ⊎ (box_full (joined s old) (entries_of posts) ≡ Some f)
+
+-- a draft that adds nothing
+pub record IsBlank (s : ServerState) (d : Draft) : Type 0 where
+  pub fits : Fits s d
+  pub joins : joined s d ≡ s
+  pub updates : d.updates ≡ []
+
+-- a draft of what posts bring, or why there is none
 abbrev pub Drafts : ServerState → List Post → Result Draft PostFault → Type 0
-Drafts s posts (Ok d) = IsDraft s posts d
+Drafts s posts (Ok d) = Fits s d × (joined s d ≡ applied_all s (entries_of posts)) × (d.updates ≡ updates_of s (entries_of posts)) × (box_full s (entries_of posts) ≡ None)
 Drafts s posts (Err f) = (f ≡ Memory) ⊎ (box_full s (entries_of posts) ≡ Some f)
