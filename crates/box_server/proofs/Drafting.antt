@@ -1,11 +1,13 @@
 -- What an entry adds to a draft.
-use Rattle.std.proofs.Common.{◌≡◌, ℕ, ℤ, zero, suc, ◌+◌, ◌<◌, ◌≤◌, List, [], ◌∷◌, ◌++◌, Bool, true, false, ltb, Option, Some, None, Result, Ok, Err, if◌then◌else◌, length, refl, sym, ap, ap₂, ◌∙◌, subst, arith, append_assoc, append-nil, inl, inr}
+use Rattle.std.proofs.Common.{◌≡◌, ℕ, ℤ, zero, suc, ◌+◌, ◌<◌, ◌≤◌, List, [], ◌∷◌, ◌++◌, Bool, true, false, ltb, Option, Some, None, Result, Ok, Err, if◌then◌else◌, length, refl, sym, ap, ap₂, ◌∙◌, subst, arith, append_assoc, append-nil, inl, inr, ◌||◌, ◌⊎◌, eqb, drop, get_or}
+use Rattle.std.specs.List.{list_any}
 use Rattle.std.specs.Ordering.{int_eq}
 use Rattle.std.proofs.lemmas.Bool.Decides.{nat_tests}
 use Rattle.std.proofs.lemmas.List.{length_push, length-append}
-use Rattle.box_events.specs.declared.limits.TheConstants.{MAX_END}
+use Rattle.box_events.specs.declared.limits.TheConstants.{MAX_END, MAX_IDS}
 use Rattle.box_events.specs.declared.positions.LaneName.{LaneName}
 use Rattle.box_events.specs.declared.positions.LaneName.TheVariants.{Common, Secret, Channel, Seq}
+use Rattle.box_events.specs.declared.requests.Post.{Post}
 use Rattle.box_events.specs.declared.settings.Setting.{Setting}
 use Rattle.box_events.specs.declared.updates.Update.{Update}
 use Rattle.box_events.specs.declared.updates.Update.TheVariants.{Common as CommonUpdate, Secret as SecretUpdate, Channel as ChannelUpdate, Setting as SettingUpdate}
@@ -17,11 +19,13 @@ use Rattle.box_server.specs.declared.draft.Draft.{Draft}
 use Rattle.box_server.specs.declared.fault.PostFault.{PostFault}
 use Rattle.box_server.specs.declared.fault.PostFault.TheVariants.{BoxFull, Memory}
 use Rattle.box_server.specs.Servers.{ChannelBox, ServerState, channel_end, channel_in, lane_end}
-use Rattle.box_server.specs.Entries.{Entry, to_common, to_secret, to_channel, to_settings, lane_of, raise_of}
-use Rattle.box_server.specs.Posting.{with_event, applied, update_of, dated_with}
+use Rattle.box_server.specs.Entries.{Entry, to_common, to_secret, to_channel, to_settings, lane_of, raise_of, is_event, entry_of, entries_of}
+use Rattle.box_server.specs.Posting.{with_event, applied, applied_all, update_of, updates_of, dated_with}
+use Rattle.box_server.specs.Refusing.{box_full}
 use Rattle.box_server.specs.inner.Drafts.{Refuses, AddsTo, AddsToChannel}
-use Rattle.box_server.specs.inner.Drafted.{joined_channels, joined, AreAligned, Fits, AddsEntry, Adds}
+use Rattle.box_server.specs.inner.Drafted.{joined_channels, joined, AreAligned, Fits, AddsEntry, Adds, AddsEntries, HasIds}
 use Rattle.box_server.proofs.Tailing.{more}
+use Rattle.box_server.proofs.KeyCounts.{next_of, none_left}
 
 -- ---- channels
 
@@ -158,3 +162,62 @@ adds_setting s old new x date same less dates next put us f =
       updates = us;
       room = ap (λ (n : ℕ). ltb MAX_END (n + 1)) (sym (seq_end s old f)) ∙ not_past MAX_END old.seq less;
     })
+
+-- ---- posts, one by one
+
+or_parts : (a b : Bool) → (a || b) ≡ false → (a ≡ false) × (b ≡ false)
+or_parts true b e = absurd cc
+or_parts false b e = (refl, e)
+
+-- what is left to add
+pub record Adding (s : ServerState) (old d : Draft) (all rest : List Entry) : Type 0 where
+  pub fits : Fits s d
+  pub applies : applied_all (joined s d) rest ≡ applied_all (joined s old) all
+  pub updates : d.updates ++ updates_of (joined s d) rest ≡ old.updates ++ updates_of (joined s old) all
+  pub room : box_full (joined s d) rest ≡ box_full (joined s old) all
+
+pub adding_none : (s : ServerState) (d : Draft) (xs : List Entry) → Fits s d → Adding s d d xs xs
+adding_none s d xs f = record { fits = f; applies = refl; updates = refl; room = refl }
+
+pub adding_one : (s : ServerState) (old d e : Draft) (all xs rest : List Entry) (x : Entry) → xs ≡ x ∷ rest → AddsEntry s d e x → Adding s old d all xs → Adding s old e all rest
+adding_one s old d e all xs rest x next a k =
+    let t : ServerState = joined s d in
+    record {
+      fits = a.fits;
+      applies = ap (λ (u : ServerState). applied_all u rest) a.applies ∙ ap (applied_all t) (sym next) ∙ k.applies;
+      updates = (λ i. a.updates i ++ updates_of (a.applies i) rest) ∙ append_assoc d.updates (update_of t x ∷ []) (updates_of (applied t x) rest) ∙ ap (λ (l : List Entry). d.updates ++ updates_of t l) (sym next) ∙ k.updates;
+      room = ap (λ (u : ServerState). box_full u rest) a.applies
+          ∙ ap (λ (b : Bool). if b then Some (BoxFull (lane_of x) (lane_end t (lane_of x))) else box_full (applied t x) rest) (sym a.room)
+          ∙ ap (box_full t) (sym next) ∙ k.room;
+    }
+
+pub added_all : (s : ServerState) (old d : Draft) (all rest : List Entry) → rest ≡ [] → Adding s old d all rest → AddsEntries s old d all
+added_all s old d all rest none k = record {
+  fits = k.fits;
+  applies = ap (applied_all (joined s d)) (sym none) ∙ k.applies;
+  updates = sym (append-nil d.updates) ∙ ap (λ (l : List Entry). d.updates ++ updates_of (joined s d) l) (sym none) ∙ k.updates;
+  room = sym k.room ∙ ap (box_full (joined s d)) none;
+}
+
+pub adding_refused : (s : ServerState) (old d : Draft) (all xs rest : List Entry) (x : Entry) (f : PostFault) → xs ≡ x ∷ rest → Refuses (lane_of x) (lane_end (joined s d) (lane_of x)) (raise_of x) f → Adding s old d all xs → (f ≡ Memory) ⊎ (box_full (joined s old) all ≡ Some f)
+adding_refused s old d all xs rest x f next (inl memory) k = inl memory
+adding_refused s old d all xs rest x f next (inr full) k =
+    let t : ServerState = joined s d in
+    inr (sym k.room ∙ ap (box_full t) next ∙ ap (λ (b : Bool). if b then Some (BoxFull (lane_of x) (lane_end t (lane_of x))) else box_full (applied t x) rest) full.1 ∙ ap (λ (g : PostFault). Some g) (sym full.0))
+
+-- no delete of these has too few or too many ids
+abbrev pub AllHaveIds : List Entry → Type 0
+AllHaveIds xs = (list_any (is_event (λ e. eqb (count_of e) 0)) xs ≡ false) × (list_any (is_event (λ e. ltb MAX_IDS (count_of e))) xs ≡ false)
+
+pub ids_next : (xs rest : List Entry) (x : Entry) → xs ≡ x ∷ rest → AllHaveIds xs → HasIds x × AllHaveIds rest
+ids_next xs rest x next h =
+    let k = subst AllHaveIds next h in
+    let a = or_parts (is_event (λ e. eqb (count_of e) 0) x) (list_any (is_event (λ e. eqb (count_of e) 0)) rest) k.0 in
+    let b = or_parts (is_event (λ e. ltb MAX_IDS (count_of e)) x) (list_any (is_event (λ e. ltb MAX_IDS (count_of e))) rest) k.1 in
+    ((a.0, b.0), (a.1, b.1))
+
+pub next_entry : (posts : List Post) (i : ℕ) (p : Post) → i < length posts → p ≡ get_or posts i p → entries_of (drop i posts) ≡ entry_of p ∷ entries_of (drop (i + 1) posts)
+next_entry posts i p less is = ap entries_of (next_of posts i p less is)
+
+pub no_entry : (posts : List Post) (i : ℕ) → length posts ≤ i → entries_of (drop i posts) ≡ []
+no_entry posts i le = ap entries_of (none_left posts i le)
