@@ -8,6 +8,7 @@ pub mod Carrying
 pub mod Tailing
 pub mod Drafting
 pub mod Causes
+pub mod Openings
 pub mod KeyPlaces
 pub mod KeyCounts
 pub mod Soundness

@@ -6,3 +6,4 @@ pub mod Carrying
 pub mod Drafts
 pub mod Drafted
 pub mod Checks
+pub mod Opening

@@ -8,6 +8,7 @@ mod dated;
 mod draft;
 mod fault;
 mod laws;
+mod opening;
 mod places;
 mod posted;
 mod runs;

@@ -55,7 +55,8 @@ impl Tail {
 
     /// How many events there are.
     pub fn len(&self) -> usize
-        ensures { result ≡ length self.now.events }
+        ensures value { result ≡ length self.now.events }
+        ensures most { result ≤ MAX_END }
     {
         self.events.len()
     }

@@ -19,6 +19,7 @@ tail_view t = record { id = t.id; first = t.first; events = t.events.items }
 pub record IsTail (t : Inside) : Type 0 where
   pub stop : t.end ≡ t.first + ending t.events.items
   pub limit : t.end ≤ MAX_END
+  pub counted : length t.events.items ≤ ending t.events.items
 
 -- out of memory, or a lane that would pass the limit, with where it ends
 abbrev pub Refuses : LaneName → ℕ → ℕ → PostFault → Type 0
