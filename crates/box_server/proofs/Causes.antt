@@ -24,16 +24,22 @@ stops c cs holds = ap (λ (b : Bool). if b then Some c.1 else first_cause cs) (s
 -- the causes from the second, the third on, and so forth
 abbrev after_1 : List Entry → List (Bool × PostFault)
 after_1 xs = drop 1 (bad_entries xs)
+
 abbrev after_2 : List Entry → List (Bool × PostFault)
 after_2 xs = drop 2 (bad_entries xs)
+
 abbrev after_3 : List Entry → List (Bool × PostFault)
 after_3 xs = drop 3 (bad_entries xs)
+
 abbrev after_4 : List Entry → List (Bool × PostFault)
 after_4 xs = drop 4 (bad_entries xs)
+
 abbrev after_5 : List Entry → List (Bool × PostFault)
 after_5 xs = drop 5 (bad_entries xs)
+
 abbrev after_6 : List Entry → List (Bool × PostFault)
 after_6 xs = drop 6 (bad_entries xs)
+
 abbrev after_7 : List Entry → List (Bool × PostFault)
 after_7 xs = drop 7 (bad_entries xs)
 

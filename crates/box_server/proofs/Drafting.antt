@@ -77,10 +77,10 @@ end_in (c ∷ cs) (t ∷ ts) id a = end_by c t cs ts id (int_eq t.id id) refl a.
 
 -- ---- where lanes end
 
-common_end : (s : ServerState) (d : Draft) → Fits s d → channel_end d.common ≡ lane_end (joined s d) Common
+pub common_end : (s : ServerState) (d : Draft) → Fits s d → channel_end d.common ≡ lane_end (joined s d) Common
 common_end s d f = let sum = ending-append s.common d.common.events in omega (arith, f.common, sum)
 
-secret_end : (s : ServerState) (d : Draft) → Fits s d → channel_end d.secret ≡ lane_end (joined s d) Secret
+pub secret_end : (s : ServerState) (d : Draft) → Fits s d → channel_end d.secret ≡ lane_end (joined s d) Secret
 secret_end s d f = let sum = ending-append s.secret d.secret.events in omega (arith, f.secret, sum)
 
 channel_ends : (s : ServerState) (d : Draft) (id : ℤ) → Fits s d → channel_end (channel_in d.channels.items id) ≡ lane_end (joined s d) (Channel id)
@@ -135,7 +135,7 @@ adds_channel s old new id e end same a us f =
       room = ap (λ (n : ℕ). ltb MAX_END (n + count_of e)) (sym stops) ∙ a.2;
     })
 
-seq_end : (s : ServerState) (d : Draft) → Fits s d → d.seq ≡ length (s.settings ++ d.settings.items)
+pub seq_end : (s : ServerState) (d : Draft) → Fits s d → d.seq ≡ length (s.settings ++ d.settings.items)
 seq_end s d f = let sum = length-append s.settings d.settings.items in omega (arith, f.seq, sum)
 
 past : (a b : ℕ) → a ≤ b → ltb a (b + 1) ≡ true
@@ -154,7 +154,10 @@ adds_setting s old new x date same less dates next put us f =
     let t : ServerState = joined s old in
     subst (λ (d : Draft). AddsEntry s old d (to_settings x)) (sym same) (record {
       fits = record {
-        date = f.date; common = f.common; secret = f.secret; channels = f.channels;
+        date = f.date;
+        common = f.common;
+        secret = f.secret;
+        channels = f.channels;
         seq = let longer = ap length put ∙ length_push old.settings.items (dated_with date x) in omega (arith, next, f.seq, longer);
         limit = omega (arith, next, less);
       };

@@ -273,7 +273,7 @@ updates_lie s random_id posts whole are =
 
 -- ---- settings of posts
 
-settings_after : (s : ServerState) (xs : List Entry) → (applied_all s xs).settings ≡ s.settings ++ each (dated_with s.date) (settings_of xs)
+pub settings_after : (s : ServerState) (xs : List Entry) → (applied_all s xs).settings ≡ s.settings ++ each (dated_with s.date) (settings_of xs)
 settings_after s [] = sym (append-nil s.settings)
 settings_after s (to_common e ∷ xs) = settings_after (applied s (to_common e)) xs
 settings_after s (to_secret body ∷ xs) = settings_after (applied s (to_secret body)) xs

@@ -9,6 +9,8 @@ pub mod Tailing
 pub mod Drafting
 pub mod Causes
 pub mod Openings
+pub mod Roominess
+pub mod Taken
 pub mod KeyPlaces
 pub mod KeyCounts
 pub mod Soundness

@@ -7,3 +7,5 @@ pub mod Drafts
 pub mod Drafted
 pub mod Checks
 pub mod Opening
+pub mod Rooms
+pub mod Taking

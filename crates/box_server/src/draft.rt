@@ -78,9 +78,7 @@ impl Draft {
         ensures { (s : ServerState) → Fits s self.old → Adds s self.old self.new (to_secret body) result }
     {
         let copy = body.copy()?;
-        let qts = self
-            .secret
-            .add(LaneName::Secret, Event::new_message(body))?;
+        let qts = self.secret.add(LaneName::Secret, Event::new_message(body))?;
         self.updates.push(Update::Secret { body: copy, qts })?;
         Ok(())
     }

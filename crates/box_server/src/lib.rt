@@ -11,6 +11,7 @@ mod laws;
 mod opening;
 mod places;
 mod posted;
+mod room;
 mod runs;
 mod server;
 mod setting_list;

@@ -15,11 +15,7 @@ use std::alloc::Global;
 use tl_base::Memory;
 
 /// Whether more than 64 channels have a box after posts.
-pub fn opens_too_many(
-    alloc: Global,
-    channels: &[Channel],
-    posts: &[Post],
-) -> Result<bool, Memory>
+pub fn opens_too_many(alloc: Global, channels: &[Channel], posts: &[Post]) -> Result<bool, Memory>
     requires { length channels.now ≤ MAX_CHANNELS }
     ensures { IfOk result (λ b. (s : ServerState) → s.channels ≡ map channel_view channels.now → b ≡ ltb MAX_CHANNELS (length (applied_all s (entries_of posts.now)).channels)) }
 {

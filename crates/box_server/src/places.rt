@@ -71,11 +71,7 @@ pub fn note_all(
     ensures within { AreWithin settings.new.items last.new.entries }
 {
     for dated in more {
-        note(
-            last,
-            dated.setting().key.as_slice(),
-            settings.len() as u32,
-        );
+        note(last, dated.setting().key.as_slice(), settings.len() as u32);
         settings.push_reserved(dated);
     }
 }

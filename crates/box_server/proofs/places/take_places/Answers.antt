@@ -8,7 +8,7 @@ loop-dated-preserved c =
     let k = c.take_place.ensures in (
       λ q. k.same q ∙ c.loop-dated.invariant.0 q,
       places_more c.take_place.new.last.entries c.args.more.now c.loop-dated.dated-index c.dated-item.result c.loop-dated-test.true c.dated-item.is
-      (rw c.setting.ensures at c.in_ok-take_place.ensures.ok) (k.others (take c.loop-dated.dated-index c.args.more.now) c.loop-dated.invariant.1),
+          (rw c.setting.ensures at c.in_ok-take_place.ensures.ok) (k.others (take c.loop-dated.dated-index c.args.more.now) c.loop-dated.invariant.1),
     )
 
 pub returns-clause-ok : goal.returns-clause-ok
