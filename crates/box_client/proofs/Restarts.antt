@@ -4,7 +4,7 @@ use Rattle.std.specs.List.{sum_by}
 use Rattle.std.specs.FinMap as map_of
 use Rattle.std.proofs.lemmas.Bool.Decides.{nat_tests, Decides-eqb}
 use Rattle.box_events.specs.Events.{EventView, count_of}
-use Rattle.box_events.specs.declared.limits.TheConstants.{MAX_CHANNELS}
+use Rattle.box_events.specs.declared.limits.TheConstants.{MAX_CHANNELS, MAX_END}
 use Rattle.box_events.specs.declared.positions.LaneName.{LaneName}
 use Rattle.box_events.specs.declared.positions.LaneName.TheVariants.{Common, Secret, Channel}
 use Rattle.box_events.specs.declared.saved.Saved.{Saved}
@@ -21,6 +21,7 @@ use Rattle.box_client.specs.States.{ClientState}
 use Rattle.box_client.specs.Messages.{are_messages}
 use Rattle.box_client.specs.Asking.{restarted}
 use Rattle.box_client.specs.Saving.{lane_saved, channel_saved, saved_of, is_even, load_cause, uneven_channel, is_surplus, surplus_after, channel_loaded, client_loaded}
+use Rattle.box_client.specs.Ranges.{AreChannelsInRange}
 use Rattle.box_client.specs.Loads.{IsRight, IsLoadedAs, IsRestartOf}
 use Rattle.box_client.proofs.Orders.{saved_in_order, saved_again}
 use Rattle.box_client.proofs.Loadings.{next_in_range, no_cause, lanes_of}
@@ -51,6 +52,10 @@ even_last [] c none even = over_even (is_even c.lane) None c.id even refl
 even_last (d ∷ cs) c none even =
     let two = even_over (is_even d.lane) (uneven_channel cs) d.id none in
     over_even (is_even d.lane) (uneven_channel (cs ++ c ∷ [])) d.id two.0 (even_last cs c two.1 even)
+
+pub range_last : (cs : List SavedChannel) (c : SavedChannel) → AreChannelsInRange cs → c.lane.at ≤ MAX_END → AreChannelsInRange (cs ++ c ∷ [])
+range_last [] c range le = (le, tt)
+range_last (d ∷ cs) c range le = (range.0, range_last cs c range.1 le)
 
 channels_again : (cs : List ChannelState) → uneven_channel (map channel_saved cs) ≡ None → map channel_loaded (map channel_saved cs) ≡ woken (forgotten cs)
 channels_again [] none = refl

@@ -161,6 +161,7 @@ impl Client {
     /// next number isn't too high for that.
     pub fn save(&self, alloc: Global) -> Result<Saved, Memory>
         ensures value { IfOk result (λ saved. saved ≡ saved_of self.now) }
+        ensures range { IfOk result IsSavedInRange }
         ensures loads { self.now.next ≤ MAX_NEXT → IfOk result (IsRestartOf self.now) }
     {
         saving::save(&self.parts, alloc)

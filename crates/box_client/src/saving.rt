@@ -5,6 +5,8 @@ ghost use Rattle.channel_box.specs.Steps.{is_watched};
 ghost use Rattle.box_client.specs.Messages.{HasMessages};
 ghost use Rattle.box_client.specs.Saving.{lane_saved, channel_saved, IsSavedOf, saved_of, is_even, uneven_channel, surplus_after};
 ghost use Rattle.box_client.specs.Loads.{IsRestartOf};
+ghost use Rattle.box_client.specs.Ranges.{AreChannelsInRange, IsSavedInRange};
+ghost use Rattle.box_events.specs.declared.limits.TheConstants.{MAX_END};
 ghost use Rattle.box_client.specs.declared.loading.TheConstants.{MAX_NEXT};
 ghost use Rattle.box_client.specs.Views.{client_of};
 
@@ -20,6 +22,7 @@ pub fn save(parts: &Parts, alloc: Global) -> Result<Saved, Memory>
     requires next { 1 ≤ parts.now.next }
     requires messages { HasMessages parts.now.secret.state }
     ensures value { IfOk result (λ saved. saved ≡ saved_of (client_of parts.now)) }
+    ensures range { IfOk result IsSavedInRange }
     ensures loads { parts.now.next ≤ MAX_NEXT → IfOk result (IsRestartOf (client_of parts.now)) }
 {
     Ok(Saved {
@@ -36,6 +39,7 @@ pub fn save(parts: &Parts, alloc: Global) -> Result<Saved, Memory>
 fn save_lane(alloc: Global, lane: &Lane<Event>) -> Result<SavedLane, Memory>
     ensures value { IfOk result (λ saved. saved ≡ lane_saved lane.now.state) }
     ensures even { IfOk result (λ saved. is_even saved ≡ true) }
+    ensures limit { IfOk result (λ saved. saved.at ≤ MAX_END) }
 {
     Ok(SavedLane {
         restart: lane.restart(),
@@ -47,6 +51,7 @@ fn save_lane(alloc: Global, lane: &Lane<Event>) -> Result<SavedLane, Memory>
 fn save_channels(alloc: Global, channels: &Channels) -> Result<ListOf<SavedChannel>, Memory>
     ensures value { IfOk result (λ saved. saved ≡ map channel_saved (states channels.now)) }
     ensures even { IfOk result (λ saved. uneven_channel saved ≡ None) }
+    ensures limit { IfOk result AreChannelsInRange }
     ensures ids { IfOk result (λ saved. surplus_after [] saved ≡ None) }
 {
     let mut saved = Vec::with_capacity(alloc, channels.ids().len())?;
@@ -60,6 +65,7 @@ fn save_channel(alloc: Global, channels: &Channels, id: i64) -> Result<SavedChan
     requires watched { is_watched (states channels.now) id ≡ true }
     ensures value { IfOk result (λ saved. IsSavedOf (first (has_id id) (states channels.now)) saved) }
     ensures even { IfOk result (λ saved. is_even saved.lane ≡ true) }
+    ensures limit { IfOk result (λ saved. saved.lane.at ≤ MAX_END) }
 {
     let lane = match channels.lane(id) {
         Some(lane) => save_lane(alloc, lane)?,
