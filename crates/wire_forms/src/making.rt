@@ -6,8 +6,8 @@ ghost use Rattle.tl_types.specs.Values as values;
 ghost use Rattle.wire_forms.specs.Parts as parts;
 ghost use Rattle.wire_forms.specs.Parts.{held, row};
 
-use std::alloc::{AllocError, Global};
-use tl_base::Bytes;
+use std::alloc::Global;
+use tl_base::{Bytes, Memory};
 use tl_types::Value;
 
 /// A number of 32 bits as an int.
@@ -29,14 +29,14 @@ pub fn counted(n: usize) -> Value
 }
 
 /// A copy of bytes.
-pub fn text_value(alloc: Global, content: &[u8]) -> Result<Value, AllocError>
+pub fn text_value(alloc: Global, content: &[u8]) -> Result<Value, Memory>
     ensures { IfOk result (λ v. view v ≡ text content.now) }
 {
     Ok(Value::Text(Bytes::from_slice(alloc, content)?))
 }
 
 /// A list of ids.
-pub fn ids_value(alloc: Global, ids: &[i32]) -> Result<Value, AllocError>
+pub fn ids_value(alloc: Global, ids: &[i32]) -> Result<Value, Memory>
     ensures { IfOk result (λ v. view v ≡ list (row int ids.now)) }
 {
     let mut items = Vec::new(alloc);
@@ -47,7 +47,7 @@ pub fn ids_value(alloc: Global, ids: &[i32]) -> Result<Value, AllocError>
 }
 
 /// A list of copies of bodies.
-pub fn bodies_value(alloc: Global, bodies: &[Bytes]) -> Result<Value, AllocError>
+pub fn bodies_value(alloc: Global, bodies: &[Bytes]) -> Result<Value, Memory>
     ensures { IfOk result (λ v. view v ≡ list (row text bodies.now)) }
 {
     let mut items = Vec::new(alloc);
@@ -58,11 +58,7 @@ pub fn bodies_value(alloc: Global, bodies: &[Bytes]) -> Result<Value, AllocError
 }
 
 /// A record of this form.
-pub fn node<const N: usize>(
-    alloc: Global,
-    form: u32,
-    fields: [Value; N],
-) -> Result<Value, AllocError>
+pub fn node<const N: usize>(alloc: Global, form: u32, fields: [Value; N]) -> Result<Value, Memory>
     ensures { IfOk result (λ v. view v ≡ values.node form (views fields.entry)) }
 {
     Ok(Value::Node {
@@ -72,11 +68,7 @@ pub fn node<const N: usize>(
 }
 
 /// A call of this function.
-pub fn call<const N: usize>(
-    alloc: Global,
-    form: u32,
-    fields: [Value; N],
-) -> Result<Value, AllocError>
+pub fn call<const N: usize>(alloc: Global, form: u32, fields: [Value; N]) -> Result<Value, Memory>
     ensures { IfOk result (λ v. view v ≡ values.call form (views fields.entry)) }
 {
     Ok(Value::Call {

@@ -7,8 +7,8 @@ ghost use Rattle.wire_forms.specs.Parts as parts;
 ghost use Rattle.wire_forms.specs.Parts.{at, word_of};
 
 use crate::numbers::NO_FORM;
-use std::alloc::{AllocError, Global};
-use tl_base::Bytes;
+use std::alloc::Global;
+use tl_base::{Bytes, Memory};
 use tl_types::Value;
 
 /// The number of the form of a record or call.
@@ -135,11 +135,11 @@ pub fn bits_in(fields: &[Value], index: usize) -> u32
 }
 
 /// A copy of the bytes of a string or of bytes.
-pub fn text_in(alloc: Global, fields: &[Value], index: usize) -> Result<Bytes, AllocError>
+pub fn text_in(alloc: Global, fields: &[Value], index: usize) -> Result<Bytes, Memory>
     ensures { IfOk result (λ s. s ≡ parts.text_of (at index (views fields.now))) }
 {
     match fields.get(index) {
-        Some(value) => Bytes::from_slice(alloc, text_of(value)),
+        Some(value) => Ok(Bytes::from_slice(alloc, text_of(value))?),
         None => Ok(Bytes::new(alloc)),
     }
 }

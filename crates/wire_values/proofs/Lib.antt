@@ -1,0 +1,12 @@
+pub mod OtherLists
+pub mod KeptParts
+pub mod SameUpdates
+pub mod SameFrames
+pub mod BackUpdates
+pub mod BackFrames
+pub mod FitFrames
+pub mod ReadFrames
+pub mod PostsAndSteps
+pub mod CallsAndValues
+pub mod SavedFields
+pub mod SavedValues

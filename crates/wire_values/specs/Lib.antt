@@ -1,0 +1,12 @@
+pub mod Updates
+pub mod Others
+pub mod Frames
+pub mod Posts
+pub mod Steps
+pub mod Calls
+pub mod SavedClients
+pub mod Normal
+pub mod Kept
+pub mod CarriedFrames
+pub mod Carried
+pub mod Laws
