@@ -43,10 +43,10 @@ pub enum LoadFault {
     BadLane { lane: LaneName },
     /// The key at this index, from 0, is not above the one before.
     #[error("setting {place} isn't in order")]
-    BadSettings { place: usize },
+    BadSettings { place: u32 },
     /// The channel at this index, from 0, has the id of one before, or is one more than 64.
     #[error("channel {place} is one too many")]
-    BadChannels { place: usize },
+    BadChannels { place: u32 },
     #[error("out of memory")]
     Memory,
 }

@@ -1,5 +1,5 @@
 //! Loading what a client saved.
-ghost use Rattle.std.specs.Prelude.{◌≡◌, ◌≤◌, [], IfOk, IfErr, OnOk, map, true, None};
+ghost use Rattle.std.specs.Prelude.{◌≡◌, ◌<◌, ◌≤◌, ◌^◌, length, [], IfOk, IfErr, OnOk, map, true, None};
 ghost use Rattle.std.specs.Ordering.{nat_cmp, is_lt};
 ghost use Rattle.std.specs.Cmp.Lexicographic.{slice_cmp};
 ghost use Rattle.box_events.specs.Events.{count_of, is_new};
@@ -32,6 +32,9 @@ pub fn load(alloc: Global, saved: Saved) -> Result<Parts, LoadFault>
     ensures ok { IfOk result (λ parts. IsLoadedAs saved (client_of parts)) }
     ensures err { IfErr result (IsCauseOf saved) }
 {
+    if saved.settings.len() >= MOST_SETTINGS {
+        return Err(LoadFault::Memory);
+    }
     check(&saved)?;
     let Saved {
         next,
@@ -42,9 +45,6 @@ pub fn load(alloc: Global, saved: Saved) -> Result<Parts, LoadFault>
         settings,
         channels,
     } = saved;
-    if settings.len() >= MOST_SETTINGS {
-        return Err(LoadFault::Memory);
-    }
     Ok(Parts {
         next,
         common: load_lane(alloc, common),
@@ -57,6 +57,7 @@ pub fn load(alloc: Global, saved: Saved) -> Result<Parts, LoadFault>
 
 // The first cause, but for the ids of channels.
 fn check(saved: &Saved) -> Result<(), LoadFault>
+    requires few { length saved.now.settings < 2 ^ 31 }
     ensures ok { OnOk result (IsRight saved.now) }
     ensures err { IfErr result (IsCauseOf saved.now) }
 {
@@ -135,12 +136,13 @@ fn uneven_channel(channels: &[SavedChannel]) -> Option<LaneName>
 }
 
 // The index of the first setting whose key isn't above the one before.
-fn unsorted(settings: &[Setting]) -> Option<usize>
+fn unsorted(settings: &[Setting]) -> Option<u32>
+    requires few { length settings.now < 2 ^ 31 }
     ensures { result ≡ unsorted settings.now }
 {
     for i in 1..settings.len() {
         if !is_below(&settings[i - 1], &settings[i]) {
-            return Some(i);
+            return Some(i as u32);
         }
     }
     None
@@ -181,7 +183,7 @@ fn add(alloc: Global, channels: &mut Channels, saved: SavedChannel) -> Result<()
     requires limit { saved.lane.at ≤ MAX_END }
     ensures { Adds (states channels.old) saved result (states channels.new) }
 {
-    let place = channels.ids().len();
+    let place = channels.ids().len() as u32;
     let lane = load_lane(alloc, saved.lane);
     match channels.add(saved.id, lane, saved.recent) {
         Ok(()) => Ok(()),

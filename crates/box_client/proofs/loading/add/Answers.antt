@@ -14,8 +14,8 @@ returns-in-Ok c =
 pub returns-in-Err-Already : goal.returns-in-Err-Already
 returns-in-Err-Already c =
     let same : to_z w64 (of_z w64 c.args.saved.id) ≡ c.args.saved.id = (search rules) in
-    adds_again c.args.channels.now c.add.new.self _ c.add.result c.in-Err-Already.field-0 c.args.saved.id _ c.ids-place.result.now c.add.ensures.step c.in-Err-Already.is c.in-Err-Already.field-0-is same c.ids-place.ensures.value refl
+    adds_again c.args.channels.now c.add.new.self _ c.add.result c.in-Err-Already.field-0 c.args.saved.id _ c.ids.result.now c.add.ensures.step c.in-Err-Already.is c.in-Err-Already.field-0-is same c.ids.ensures.value refl
 
 pub returns-in-Err-TooMany : goal.returns-in-Err-TooMany
 returns-in-Err-TooMany c =
-    adds_too_many c.args.channels.now c.add.new.self _ c.add.result c.in-Err-TooMany.field-0 c.args.saved.id _ c.ids-place.result.now c.add.ensures.step c.in-Err-TooMany.is c.in-Err-TooMany.field-0-is c.ids-place.ensures.value refl
+    adds_too_many c.args.channels.now c.add.new.self _ c.add.result c.in-Err-TooMany.field-0 c.args.saved.id _ c.ids.result.now c.add.ensures.step c.in-Err-TooMany.is c.in-Err-TooMany.field-0-is c.ids.ensures.value refl
