@@ -8,6 +8,8 @@ mod bytes;
 #[cfg(test)]
 mod clients;
 #[cfg(test)]
+mod decodes;
+#[cfg(test)]
 mod encodes;
 #[cfg(test)]
 mod grammar;
