@@ -1,8 +1,9 @@
 -- A decoder that is fed with the whole input, piece by piece.
-use Rattle.std.proofs.Common.{◌≡◌, ◌⊎◌, ℕ, zero, suc, ◌+◌, ◌-◌, ◌≤◌, ◌<◌, List, [], ◌∷◌, ◌++◌, length, take, drop, append-nil, append_assoc, take-append-drop, true≢false, Option, Some, None, Result, Ok, Err, Bool, true, false, refl, sym, ap, ◌∙◌, subst, inl, inr, arith, get_or}
+use Rattle.std.proofs.Common.{◌≡◌, ◌⊎◌, ℕ, zero, suc, ◌+◌, ◌-◌, ◌≤◌, ◌<◌, List, [], ◌∷◌, ◌++◌, length, take, drop, append-nil, append_assoc, take-append-drop, true≢false, Option, Some, None, Result, Ok, Err, Bool, true, false, refl, sym, ap, ◌∙◌, subst, inl, inr, arith, get_or, ltb}
 use Rattle.std.specs.Prelude.{◌≢◌, IfSome, IfErr}
 use Rattle.std.specs.Io.KnownBytes.{ReadConsumes}
 use Rattle.std.proofs.lemmas.Bool.{cases_lt}
+use Rattle.std.proofs.lemmas.Bool.Decides.{nat_tests}
 use Rattle.std.proofs.lemmas.List.{length-append, take-append-le, take_at}
 use Rattle.tl_base.specs.Contents.{AreBytes}
 use Rattle.tl_base.specs.declared.fault.Failed.{Failed}
@@ -15,7 +16,7 @@ use Rattle.tl_types.specs.Values.{ValueView, depth}
 use Rattle.tl_types.specs.Seen.{view}
 use Rattle.tl_types.specs.Spelling.{Spells}
 use Rattle.tl_types.specs.Refusal.{Refused}
-use Rattle.tl_types.specs.Exactly.{BeginsWith, ExactlyOne}
+use Rattle.tl_types.specs.Exactly.{BeginsWith}
 use Rattle.tl_types.specs.Offsets.{moved}
 use Rattle.tl_types.specs.declared.cause.Cause.{Cause}
 use Rattle.tl_types.specs.declared.cause.Cause.TheVariants as cause
@@ -84,35 +85,35 @@ pub record EndsIn (schema : Declared) (T : Shape) (d : DecoderView) (front piece
   has : HasValue d v
 
 module _ (old new : DecoderView) (good : IsPlan old.plan) (T : Shape) (is : IsInstance old.plan old.root T) (formed : IsFormed old.plan.schema T) (front piece : List ℕ) (taken : HasTaken old front) where
-  abbrev schema : Declared
-  schema = old.plan.schema
+  abbrev own_schema : Declared
+  own_schema = old.plan.schema
 
   module _ (r : Result Fed DecodeFault) (f : Feeds old new piece r) (are : AreBytes (front ++ piece)) where
-    either : ((v : ValueView) × (x : List ℕ) × BeginsWith schema MAX_LEVELS T (front ++ piece) v x) ⊎ ((at : ℕ) × (why : Cause) × Refused schema MAX_LEVELS T (front ++ piece) at why)
-    either = (exactly_one schema good.schema MAX_LEVELS T (front ++ piece) formed are).either
+    either : ((v : ValueView) × (x : List ℕ) × BeginsWith own_schema MAX_LEVELS T (front ++ piece) v x) ⊎ ((at : ℕ) × (why : Cause) × Refused own_schema MAX_LEVELS T (front ++ piece) at why)
+    either = (exactly_one own_schema good.schema MAX_LEVELS T (front ++ piece) formed are).either
 
-  pub feeds_more : Feeds old new piece (Ok fed.More) → AreBytes (front ++ piece) → IsCut schema T new (front ++ piece)
+  pub feeds_more : Feeds old new piece (Ok fed.More) → AreBytes (front ++ piece) → IsCut own_schema T new (front ++ piece)
   feeds_more f are = elim (either (Ok fed.More) f are) [
     | inl (v, x, (rest, split, spells, deep)) ↦ absurd (f.spelled front taken T is v x rest split spells deep)
     | inr (at, why, r) ↦ elim (truncated_or_not why) [
       | inl e ↦
-          let cut = subst (Refused schema MAX_LEVELS T (front ++ piece) at) e r in
+          let cut = subst (Refused own_schema MAX_LEVELS T (front ++ piece) at) e r in
           record { taken = f.taken front taken; offset = at; refused = cut; place = f.cut_off front taken T is at cut }
       | inr e ↦ absurd (f.refused front taken T is at why e r)
     ]
   ]
 
-  pub feeds_done : (used : ℕ) → Feeds old new piece (Ok (fed.Done used)) → AreBytes (front ++ piece) → EndsIn schema T new front piece used
+  pub feeds_done : (used : ℕ) → Feeds old new piece (Ok (fed.Done used)) → AreBytes (front ++ piece) → EndsIn own_schema T new front piece used
   feeds_done used f are = elim (either (Ok (fed.Done used)) f are) [
     | inl (v, x, (rest, split, spells, deep)) ↦ (let got = f.spelled front taken T is v x rest split spells deep in record { v = v; x = x; rest = rest; split = split; spells = spells; deep = deep; count = got.0; has = got.1 })
     | inr (at, why, r) ↦ elim (truncated_or_not why) [
-      | inl e ↦ absurd (f.cut_off front taken T is at (subst (Refused schema MAX_LEVELS T (front ++ piece) at) e r))
+      | inl e ↦ absurd (f.cut_off front taken T is at (subst (Refused own_schema MAX_LEVELS T (front ++ piece) at) e r))
       | inr e ↦ absurd (f.refused front taken T is at why e r)
     ]
   ]
 
   -- a fault is one of all the bytes
-  pub feeds_fault : (more : List ℕ) → AreBytes ((front ++ piece) ++ more) → (e : DecodeFault) → Feeds old new piece (Err e) → DecodesWhole schema T ((front ++ piece) ++ more) (Err (input_fault e))
+  pub feeds_fault : (more : List ℕ) → AreBytes ((front ++ piece) ++ more) → (e : DecodeFault) → Feeds old new piece (Err e) → DecodesWhole own_schema T ((front ++ piece) ++ more) (Err (input_fault e))
   feeds_fault more are (fault.Refused place why) f =
       let stays = each_refusal_stays new (subst IsPlan (sym f.plan) good) (front ++ piece) more are (f.taken front taken) T (subst (λ (k : ℕ). IsInstance new.plan k T) (sym f.root) (subst (λ (p : PlanView). IsInstance p old.root T) (sym f.plan) is)) (subst (λ (p : PlanView). IsFormed p.schema T) (sym f.plan) formed) place why f.fault in
       (stays.0, subst (λ (p : PlanView). Refused p.schema MAX_LEVELS T ((front ++ piece) ++ more) stays.0 why) f.plan stays.1, stays.2)
@@ -256,6 +257,17 @@ module _ (old new : DecoderView) (good : IsPlan old.plan) (T : Shape) (is : IsIn
         let s = stands bytes front rest piece b c size buffer split left is_piece consumes in
         stands_done old new good T is formed bytes front piece s.0 c s.1 are cut.taken used at place more r c f (ends_later old new good T formed front piece used (front_bytes front rest (subst AreBytes split are)) cut) count e all some ends
 
+-- ---- how much of a piece was used
+
+pub piece_moved : (at size next n : ℕ) → size ≡ n → next ≡ moved at size → next ≡ moved at n
+piece_moved at size next n same e = e ∙ ap (moved at) same
+
+pub all_used : (used size n : ℕ) → size ≡ n → ltb used size ≡ false → n ≤ used
+all_used used size n same e = let le : size ≤ used = grind (arith, nat_tests) in omega (arith, le, same)
+
+pub some_left : (used size n : ℕ) → size ≡ n → ltb used size ≡ true → used < n
+some_left used size n same e = let lt : used < size = grind (arith, nat_tests) in omega (arith, lt, same)
+
 -- ---- no piece more
 
 end_is : (b c : Option (List ℕ)) (rest buffer : List ℕ) → b ≡ Some rest → 0 < length buffer → ReadConsumes {E = Failed} b c (Ok 0) buffer → rest ≡ []
@@ -288,12 +300,6 @@ module _ (old new : DecoderView) (good : IsPlan old.plan) (T : Shape) (is : IsIn
   first_goes a fed.More are taken other f = first_more old new good T is formed a are taken f
   first_goes a (fed.Done used) are taken other f = absurd (other used refl)
 
--- ---- what a read fault says
-
-pub unread : (schema : Declared) (T : Shape) (a : Option (List ℕ)) (d : DecoderView) → Whole schema T a d (Err input.ReadFault)
-unread schema T None d = tt
-unread schema T (Some bytes) d = tt
-
 -- ---- pieces of a decoder for a root of a plan
 
 module _ (p : PlanView) (k : ℕ) (good : IsPlan p) (T : Shape) (is : IsInstance p k T) (formed : IsFormed p.schema T) (old new : DecoderView) (plan : old.plan ≡ p) (root : old.root ≡ k) where
@@ -324,3 +330,15 @@ pub fault_unread : (d : DecodeFault) → (◌≡◌ {A = Result Fed DecodeFault}
 fault_unread (fault.Refused place why) other e = cc
 fault_unread fault.ReadFault other e = other refl
 fault_unread fault.Memory other e = cc
+
+-- ---- a decoder that was made for a root of a plan
+
+module _ (p : PlanView) (k : ℕ) (T : Shape) (is : IsInstance p k T) (made : DecoderView) (plan : made.plan ≡ p) (root : made.root ≡ k) (a : Option (List ℕ)) (new : DecoderView) where
+  made_is : IsInstance made.plan made.root T
+  made_is = subst (λ (q : PlanView). IsInstance q made.root T) (sym plan) (subst (λ (j : ℕ). IsInstance p j T) (sym root) is)
+
+  pub made_fault : (e : InputFault) → ((U : Shape) → IsInstance made.plan made.root U → Whole made.plan.schema U a new (Err e)) → IfSome a (λ bytes. DecodesWhole p.schema T bytes (Err e))
+  made_fault e h = subst (λ (q : PlanView). IfSome a (λ bytes. DecodesWhole q.schema T bytes (Err e))) plan (whole_fault made.plan.schema T a new e (h T made_is))
+
+  pub made_value : (value : Value) → ((U : Shape) → IsInstance made.plan made.root U → Whole made.plan.schema U a new (Ok tt)) → ((v : ValueView) → HasValue new v → view value ≡ v) → IfSome a (λ bytes. DecodesWhole p.schema T bytes (Ok value))
+  made_value value h seen = subst (λ (q : PlanView). IfSome a (λ bytes. DecodesWhole q.schema T bytes (Ok value))) plan (whole_value made.plan.schema T a new value (h T made_is) seen)

@@ -1,8 +1,8 @@
-use Rattle.std.proofs.Common.{◌≡◌, ◌∙◌, [], ap, arith, length, refl, rules, sym, subst, Ok, Err, true, false}
+use Rattle.std.proofs.Common.{◌∙◌, [], refl, rules, subst, take, ltb, Ok}
 use Rattle.std.proofs.lemmas.Result.{err_from_is_err_and}
 use Rattle.tl_base.proofs.Uses.{used_as, used_none, used_then}
 use Rattle.tl_decode.specs.declared.stack.Fed.{Fed}
-use Rattle.codec_commands.proofs.FedWhole.{Feeds, fed_end, first_done, fault_unread, first_fault, first_goes, next_done, next_fault, next_more, unread}
+use Rattle.codec_commands.proofs.FedWhole.{Feeds, all_used, fault_unread, fed_end, first_done, first_fault, first_goes, next_done, next_fault, next_more, piece_moved, some_left}
 use Rattle.codec_commands.proofs.whole.feed_all.Goals as goal
 
 pub returns-in_err-feed-clause-whole : goal.returns-in_err-feed-clause-whole
@@ -59,9 +59,15 @@ pieces-preserved g c =
       width = search rules;
       fed = λ T is.
           next_more old.plan old.root c.requires.sound T is (c.requires.formed T is) c.pieces.decoder c.feed-in-pieces.new.self i.plan i.root _ _ _ c.in_ok-size.size c.pieces.at c.read.new.into _ (g.met.S.Source.are_bytes c.args.from.now) refl c.in_ok-size.ensures.bytes (i.fed T is) c.saturating_add-at.result
-          (subst (λ (r : Fed). Feeds c.pieces.decoder c.feed-in-pieces.new.self _ (Ok r)) c.in-More.is (record { plan = c.in_ok-feed-2.ensures.plan; root = c.in_ok-feed-2.ensures.root; taken = c.in_ok-feed-2.ensures.taken; spelled = c.in_ok-feed-2.ensures.spelled; refused = c.in_ok-feed-2.ensures.refused; cut_off = c.in_ok-feed-2.ensures.cut_off; fault = tt })) ?;
+          (subst (λ (r : Fed). Feeds c.pieces.decoder c.feed-in-pieces.new.self (take c.in_ok-size.size c.read.new.into) (Ok r)) c.in-More.is (record { plan = c.in_ok-feed-2.ensures.plan; root = c.in_ok-feed-2.ensures.root; taken = c.in_ok-feed-2.ensures.taken; spelled = c.in_ok-feed-2.ensures.spelled; refused = c.in_ok-feed-2.ensures.refused; cut_off = c.in_ok-feed-2.ensures.cut_off; fault = tt })) (piece_moved c.pieces.at c.in_ok-size.size c.saturating_add-at.result _ c.in_ok-size.ensures.bound.1 c.saturating_add-at.ensures);
       used = search rules;
     }
 
 pub returns-in-Done-2-clause-whole : goal.returns-in-Done-2-clause-whole
-returns-in-Done-2-clause-whole g c = ?
+returns-in-Done-2-clause-whole g c = λ T is.
+    let i = c.pieces.invariant in
+    let old = c.args.decoder.now in
+    let same = c.in_ok-size.ensures.bound.1 in
+    next_done old.plan old.root c.requires.sound T is (c.requires.formed T is) c.pieces.decoder c.feed-in-pieces.new.self i.plan i.root _ _ _ c.in_ok-size.size c.pieces.at c.read.new.into _ (g.met.S.Source.are_bytes c.args.from.now) refl c.in_ok-size.ensures.bytes (i.fed T is) c.in-Done-2.used c.saturating_add.result (ltb c.in-Done-2.used c.in_ok-size.size) c.after_value-in-Done-2.result
+    (subst (λ (r : Fed). Feeds c.pieces.decoder c.feed-in-pieces.new.self (take c.in_ok-size.size c.read.new.into) (Ok r)) c.in-Done-2.is (record { plan = c.in_ok-feed-2.ensures.plan; root = c.in_ok-feed-2.ensures.root; taken = c.in_ok-feed-2.ensures.taken; spelled = c.in_ok-feed-2.ensures.spelled; refused = c.in_ok-feed-2.ensures.refused; cut_off = c.in_ok-feed-2.ensures.cut_off; fault = tt }))
+    c.saturating_add.ensures (all_used c.in-Done-2.used c.in_ok-size.size _ same) (some_left c.in-Done-2.used c.in_ok-size.size _ same) c.after_value-in-Done-2.ensures.end

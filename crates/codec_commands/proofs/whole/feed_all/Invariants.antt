@@ -1,4 +1,4 @@
-use Rattle.std.proofs.Common.{◌≡◌, ◌<◌, ◌^◌, length}
+use Rattle.std.proofs.Common.{◌≡◌, length}
 use Rattle.tl_base.specs.Using.{Used}
 use Rattle.tl_schema.specs.Types.{Shape}
 use Rattle.tl_plan.specs.PlanLaws.{IsInstance}
