@@ -26,12 +26,15 @@ part_view p = record { name = p.name.now; cell = p.cell }
 abbrev pub form_view : Form → FormView
 form_view f = record { name = f.name.now; function = f.function; result = f.result; parts = map part_view f.parts.now }
 
+-- a field
 abbrev pub part : List ℕ → Cell → PartView
 part name cell = record { name = name; cell = cell }
 
+-- a constructor of the type with this number
 abbrev pub constructor : List ℕ → ℕ → List PartView → FormView
 constructor name head parts = record { name = name; function = false; result = Some head; parts = parts }
 
+-- a function that answers the type with this number
 abbrev pub function : List ℕ → Option ℕ → List PartView → FormView
 function name result parts = record { name = name; function = true; result = result; parts = parts }
 
@@ -113,6 +116,7 @@ abbrev pub cells_in : Option FormView → List Cell
 cells_in None = []
 cells_in (Some f) = map (λ p. p.cell) f.parts
 
+-- likewise of the form with this number
 abbrev pub cells_of : ℕ → List Cell
 cells_of k = cells_in (slice_get forms k)
 

@@ -5,10 +5,12 @@ use Rattle.tl_types.specs.Values.{ValueView, int, long, text, truth, absent, lis
 use Rattle.tl_types.specs.Conditions.{is_bit, bits_of}
 use Rattle.wire_forms.specs.declared.numbers.TheConstants.{NO_FORM}
 
+-- the first part; none is absent
 abbrev pub first : ValueViews → ValueView
 first no_values = absent
 first (value v vs) = v
 
+-- the parts after the first
 abbrev pub rest : ValueViews → ValueViews
 rest no_values = no_values
 rest (value v vs) = vs
@@ -31,14 +33,17 @@ entry_of (node k vs) = k
 entry_of (call k vs) = k
 entry_of v = NO_FORM
 
+-- the bytes of a string or of bytes
 abbrev pub text_of : ValueView → List ℕ
 text_of (text s) = s
 text_of v = []
 
+-- an int
 abbrev pub int_of : ValueView → ℤ
 int_of (int z) = z
 int_of v = pos 0
 
+-- a long
 abbrev pub long_of : ValueView → ℤ
 long_of (long z) = z
 long_of v = pos 0
@@ -51,6 +56,7 @@ word_of v = cast_unsigned w32 (int_of v)
 abbrev pub as_int : ℕ → ℤ
 as_int n = if nat_lt n (2 ^ 32) then cast_signed w32 n else pos n
 
+-- a number as an int
 abbrev pub number : ℕ → ValueView
 number n = int (as_int n)
 

@@ -8,17 +8,20 @@ use Rattle.wire_forms.specs.Parts.{at, parts_of, entry_of, int_of, long_of, word
 use Rattle.wire_forms.specs.declared.numbers.TheConstants.{GET_STATE, GET_DIFFERENCE, GET_CHANNEL_DIFFERENCE, INVOKE, POST}
 use Rattle.wire_values.specs.Posts.{post_tree, post_in}
 
+-- a request
 abbrev pub request_tree : Request → ValueView
 request_tree request.State = call GET_STATE no_values
 request_tree (request.Difference pts qts date) = call GET_DIFFERENCE (values_of (int pts ∷ int qts ∷ number date ∷ []))
 request_tree (request.Channel id pts) = call GET_CHANNEL_DIFFERENCE (values_of (long id ∷ int pts ∷ []))
 request_tree (request.Post random_id posts) = call POST (values_of (long random_id ∷ list (row post_tree posts) ∷ []))
 
+-- a call
 abbrev pub call_tree : Numbered → ValueView
 call_tree n = call INVOKE (values_of (number n.number ∷ request_tree n.request ∷ []))
 
 -- ---- back: the last form stands for whatever else there is
 
+-- the request of a call of form k
 abbrev pub request_at : ℕ → ValueViews → Request
 request_at k ts =
     if k == GET_STATE then request.State
@@ -26,14 +29,17 @@ request_at k ts =
     else if k == GET_CHANNEL_DIFFERENCE then request.Channel (long_of (at 0 ts)) (int_of (at 1 ts))
     else request.Post (long_of (at 0 ts)) (each post_in (parts_of (at 1 ts)))
 
+-- the call of a record's fields
 abbrev pub call_at : ValueViews → Numbered
 call_at ts = record { number = word_of (at 0 ts); request = request_at (entry_of (at 1 ts)) (parts_of (at 1 ts)) }
 
+-- the call of a value
 abbrev pub call_in : ValueView → Numbered
 call_in t = call_at (parts_of t)
 
 -- ---- served calls
 
+-- form k is one of the four requests
 abbrev pub is_request : ℕ → Bool
 is_request k = (k == GET_STATE) || ((k == GET_DIFFERENCE) || ((k == GET_CHANNEL_DIFFERENCE) || (k == POST)))
 

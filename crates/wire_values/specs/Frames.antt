@@ -27,12 +27,15 @@ push_tree (push.Container us date start seq) =
     then node UPDATES (values_of (list (row update_tree us) ∷ number date ∷ number seq ∷ []))
     else node UPDATES_COMBINED (values_of (list (row update_tree us) ∷ number date ∷ number start ∷ number seq ∷ []))
 
+-- a state
 abbrev pub state_tree : states.State → ValueView
 state_tree s = node STATE (values_of (number s.pts ∷ number s.qts ∷ number s.date ∷ number s.seq ∷ []))
 
+-- a receipt
 abbrev pub receipt_tree : receipts.Receipt → ValueView
 receipt_tree r = node RECEIPT (values_of (number r.pts ∷ number r.qts ∷ number r.date ∷ number r.seq ∷ []))
 
+-- a list of bodies
 abbrev pub bodies_tree : List (List ℕ) → ValueView
 bodies_tree bodies = list (row text bodies)
 
@@ -46,6 +49,7 @@ difference_tree news secrets others settings state last =
 abbrev pub bits : Bool → ValueView
 bits last = nat (if last then 1 else 0)
 
+-- what is answered about a channel
 abbrev pub channel_reply_tree : ChannelReply → ValueView
 channel_reply_tree (channel.Empty pts last) = node CHANNEL_DIFFERENCE_EMPTY (values_of (bits last ∷ flag last ∷ number pts ∷ []))
 channel_reply_tree (channel.Part pts news others last) =
@@ -53,6 +57,7 @@ channel_reply_tree (channel.Part pts news others last) =
 channel_reply_tree (channel.TooLong pts recent last) =
     node CHANNEL_DIFFERENCE_TOO_LONG (values_of (bits last ∷ flag last ∷ number pts ∷ bodies_tree recent ∷ []))
 
+-- the reply to the request with number n
 abbrev pub reply_tree : ℕ → Reply → ValueView
 reply_tree n (reply.State s) = node STATE_REPLY (values_of (number n ∷ state_tree s ∷ []))
 reply_tree n (reply.Empty date seq) =
@@ -63,6 +68,7 @@ reply_tree n (reply.Channel c) = node CHANNEL_REPLY (values_of (number n ∷ cha
 reply_tree n (reply.Receipt r) = node RECEIPT_REPLY (values_of (number n ∷ receipt_tree r ∷ []))
 reply_tree n (reply.Error code message) = node ERROR_REPLY (values_of (number n ∷ int code ∷ text message ∷ []))
 
+-- a frame
 abbrev pub frame_tree : Frame → ValueView
 frame_tree (frame.Push p) = node PUSH (values_of (push_tree p ∷ []))
 frame_tree (frame.Reply n r) = reply_tree n r
@@ -73,18 +79,22 @@ frame_tree (frame.Reply n r) = reply_tree n r
 abbrev pub start_of : ℕ → ℕ → ℕ
 start_of start seq = if seq == 0 then 0 else start
 
+-- the push of a record of form k
 abbrev pub push_at : ℕ → ValueViews → Push
 push_at k ts =
     if k == UPDATES_TOO_LONG then push.TooLong
     else if k == UPDATES then push.Container (each update_in (parts_of (at 0 ts))) (word_of (at 1 ts)) (word_of (at 2 ts)) (word_of (at 2 ts))
     else push.Container (each update_in (parts_of (at 0 ts))) (word_of (at 1 ts)) (start_of (word_of (at 2 ts)) (word_of (at 3 ts))) (word_of (at 3 ts))
 
+-- the state of a record's fields
 abbrev pub state_at : ValueViews → states.State
 state_at ts = record { pts = word_of (at 0 ts); qts = word_of (at 1 ts); date = word_of (at 2 ts); seq = word_of (at 3 ts) }
 
+-- the receipt of a record's fields
 abbrev pub receipt_at : ValueViews → receipts.Receipt
 receipt_at ts = record { pts = word_of (at 0 ts); qts = word_of (at 1 ts); date = word_of (at 2 ts); seq = word_of (at 3 ts) }
 
+-- the bodies in a list
 abbrev pub bodies_in : ValueView → List (List ℕ)
 bodies_in t = each text_of (parts_of t)
 
@@ -96,6 +106,7 @@ difference_at k ts =
     then reply.Difference (bodies_in (at 0 ts)) (bodies_in (at 1 ts)) (each placed_in (others_of (parts_of (at 2 ts)))) (each setting_in (settings_of (parts_of (at 2 ts)))) (state_at (parts_of (at 3 ts))) true
     else reply.Difference (bodies_in (at 0 ts)) (bodies_in (at 1 ts)) (each placed_in (parts_of (at 2 ts))) [] (state_at (parts_of (at 3 ts))) false
 
+-- what a record of form k answers about a channel
 abbrev pub channel_reply_at : ℕ → ValueViews → ChannelReply
 channel_reply_at k ts =
     if k == CHANNEL_DIFFERENCE_EMPTY then channel.Empty (word_of (at 2 ts)) (is_final (at 0 ts))
@@ -103,6 +114,7 @@ channel_reply_at k ts =
     then channel.Part (word_of (at 2 ts)) (bodies_in (at 3 ts)) (each placed_in (parts_of (at 4 ts))) (is_final (at 0 ts))
     else channel.TooLong (word_of (at 2 ts)) (bodies_in (at 3 ts)) (is_final (at 0 ts))
 
+-- the frame of a record of form k
 abbrev pub frame_at : ℕ → ValueViews → Frame
 frame_at k ts =
     if k == STATE_REPLY then frame.Reply (word_of (at 0 ts)) (reply.State (state_at (parts_of (at 1 ts))))
@@ -112,5 +124,6 @@ frame_at k ts =
     else if k == ERROR_REPLY then frame.Reply (word_of (at 0 ts)) (reply.Error (int_of (at 1 ts)) (text_of (at 2 ts)))
     else frame.Push (push_at (entry_of (at 0 ts)) (parts_of (at 0 ts)))
 
+-- the frame of a value
 abbrev pub frame_in : ValueView → Frame
 frame_in t = frame_at (entry_of t) (parts_of t)

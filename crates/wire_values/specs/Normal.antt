@@ -25,6 +25,7 @@ normal_difference k ts =
 abbrev pub normal_channel_reply : ℕ → ValueViews → ValueView
 normal_channel_reply k ts = node k (value (bits (is_final (at 0 ts))) (rest ts))
 
+-- a frame of form k
 abbrev pub normal_frame_at : ℕ → ValueViews → ValueView
 normal_frame_at k ts =
     if k == PUSH then node k (values_of (normal_updates (entry_of (at 0 ts)) (parts_of (at 0 ts)) ∷ []))
@@ -32,6 +33,7 @@ normal_frame_at k ts =
     else if k == CHANNEL_REPLY then node k (values_of (at 0 ts ∷ normal_channel_reply (entry_of (at 1 ts)) (parts_of (at 1 ts)) ∷ []))
     else node k ts
 
+-- the value of a frame
 abbrev pub normal_frame : ValueView → ValueView
 normal_frame t = normal_frame_at (entry_of t) (parts_of t)
 

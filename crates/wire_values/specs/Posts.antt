@@ -7,9 +7,11 @@ use Rattle.wire_forms.specs.Parts.{at, parts_of, entry_of, text_of, int_of, long
 use Rattle.wire_forms.specs.declared.numbers.TheConstants.{POST_MESSAGE, POST_EDIT, POST_DELETE, POST_SECRET, POST_CHANNEL_MESSAGE, POST_CHANNEL_EDIT, POST_CHANNEL_DELETE, POST_SETTING, POST_READ, POST_CHANNEL_READ}
 use Rattle.wire_values.specs.Updates.{ids_in}
 
+-- a list of ids
 abbrev pub ids_tree : List ℤ → ValueView
 ids_tree ids = list (row int ids)
 
+-- a post
 abbrev pub post_tree : Post → ValueView
 post_tree (post.Message body) = node POST_MESSAGE (values_of (text body ∷ []))
 post_tree (post.Edit body) = node POST_EDIT (values_of (text body ∷ []))
@@ -24,6 +26,7 @@ post_tree (post.ChannelRead id max_id) = node POST_CHANNEL_READ (values_of (long
 
 -- ---- back: the last form stands for whatever else there is
 
+-- the post of a record of form k
 abbrev pub post_at : ℕ → ValueViews → Post
 post_at k ts =
     if k == POST_MESSAGE then post.Message (text_of (at 0 ts))
@@ -37,5 +40,6 @@ post_at k ts =
     else if k == POST_READ then post.Read (int_of (at 0 ts))
     else post.ChannelRead (long_of (at 0 ts)) (int_of (at 1 ts))
 
+-- the post of a value
 abbrev pub post_in : ValueView → Post
 post_in t = post_at (entry_of t) (parts_of t)

@@ -7,6 +7,7 @@ use Rattle.wire_forms.specs.Parts.{at, parts_of, entry_of, long_of, word_of, num
 use Rattle.wire_forms.specs.declared.numbers.TheConstants.{STEP_POST, STEP_DATE, STEP_SERVE, STEP_HEAR, STEP_TICK, STEP_WAKE, STEP_WATCH, STEP_RESTART, STEP_TOO_LONG, STEP_CHANNEL_TOO_LONG}
 use Rattle.wire_values.specs.Posts.{post_tree, post_in}
 
+-- a step
 abbrev pub step_tree : Step → ValueView
 step_tree (step.Post random_id posts) = node STEP_POST (values_of (long random_id ∷ list (row post_tree posts) ∷ []))
 step_tree (step.Date date) = node STEP_DATE (values_of (number date ∷ []))
@@ -21,6 +22,7 @@ step_tree (step.ChannelTooLong id) = node STEP_CHANNEL_TOO_LONG (values_of (long
 
 -- ---- back: the last form stands for whatever else there is
 
+-- the step of a record of form k
 abbrev pub step_at : ℕ → ValueViews → Step
 step_at k ts =
     if k == STEP_POST then step.Post (long_of (at 0 ts)) (each post_in (parts_of (at 1 ts)))
@@ -34,5 +36,6 @@ step_at k ts =
     else if k == STEP_TOO_LONG then step.TooLong
     else step.ChannelTooLong (long_of (at 0 ts))
 
+-- the step of a value
 abbrev pub step_in : ValueView → Step
 step_in t = step_at (entry_of t) (parts_of t)

@@ -21,6 +21,7 @@ common_by Edit body ids pts = node UPDATE_EDIT_MESSAGE (values_of (text body ∷
 common_by Delete body ids pts = node UPDATE_DELETE_MESSAGES (values_of (list (row int ids) ∷ number pts ∷ number (held (length ids)) ∷ []))
 common_by (Read id) body ids pts = node UPDATE_READ_HISTORY (values_of (int id ∷ number pts ∷ number 1 ∷ []))
 
+-- likewise, of the event itself
 abbrev pub common_tree : EventView → ℕ → ValueView
 common_tree e pts = common_by (kind_of e) (body_of e) (ids_of e) pts
 
@@ -31,12 +32,15 @@ channel_by id Edit body ids pts = node UPDATE_EDIT_CHANNEL_MESSAGE (values_of (l
 channel_by id Delete body ids pts = node UPDATE_DELETE_CHANNEL_MESSAGES (values_of (long id ∷ list (row int ids) ∷ number pts ∷ number (held (length ids)) ∷ []))
 channel_by id (Read max_id) body ids pts = node UPDATE_READ_CHANNEL_HISTORY (values_of (long id ∷ int max_id ∷ number pts ∷ number 1 ∷ []))
 
+-- likewise, of the event itself
 abbrev pub channel_tree : ℤ → EventView → ℕ → ValueView
 channel_tree id e pts = channel_by id (kind_of e) (body_of e) (ids_of e) pts
 
+-- a setting, as an update
 abbrev pub setting_tree : settings.Setting → ValueView
 setting_tree s = node UPDATE_SETTING (values_of (text s.key ∷ text s.value ∷ []))
 
+-- an update
 abbrev pub update_tree : Update → ValueView
 update_tree (Common e pts) = common_tree e pts
 update_tree (Secret body qts) = node UPDATE_NEW_ENCRYPTED_MESSAGE (values_of (text body ∷ number qts ∷ []))
@@ -58,12 +62,15 @@ has_ids n = nat_le 1 n && nat_le n MAX_IDS
 abbrev pub deletion : List ℤ → EventView
 deletion ids = if has_ids (length ids) then deleted ids else read (pos 0)
 
+-- the ids in a list
 abbrev pub ids_in : ValueView → List ℤ
 ids_in t = each int_of (parts_of t)
 
+-- the setting of a record's fields
 abbrev pub setting_at : ValueViews → settings.Setting
 setting_at ts = record { key = text_of (at 0 ts); value = text_of (at 1 ts) }
 
+-- the update of a record of form k
 abbrev pub update_at : ℕ → ValueViews → Update
 update_at k ts =
     if k == UPDATE_NEW_MESSAGE then Common (added (text_of (at 0 ts))) (word_of (at 1 ts))
@@ -78,6 +85,7 @@ update_at k ts =
     else if k == UPDATE_READ_CHANNEL_HISTORY then Channel (long_of (at 0 ts)) (read (int_of (at 1 ts))) (word_of (at 2 ts))
     else Setting (setting_at ts)
 
+-- the update of a value
 abbrev pub update_in : ValueView → Update
 update_in t = update_at (entry_of t) (parts_of t)
 
@@ -88,8 +96,10 @@ other_at k ts =
     else if k == UPDATE_DELETE_MESSAGES then deletion (ids_in (at 0 ts))
     else read (int_of (at 0 ts))
 
+-- an event of a difference, with the number at which it ends
 abbrev pub placed_in : ValueView → placed.Placed
 placed_in t = record { event = other_at (entry_of t) (parts_of t); pts = word_of (at 1 (parts_of t)) }
 
+-- the setting of a value
 abbrev pub setting_in : ValueView → settings.Setting
 setting_in t = setting_at (parts_of t)
