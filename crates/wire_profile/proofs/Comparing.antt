@@ -1,18 +1,18 @@
 -- Types and lists of fields, compared part by part.
-use Rattle.std.proofs.Common.{◌≡◌, ℕ, zero, suc, ◌+◌, ◌<◌, List, [], ◌∷◌, length, map, drop, get_or, Bool, true, false, ◌&&◌, ◌==◌, refl, ap, ap₂, ◌∙◌, sym, arith, rules, Vec, vec_len, Global, eq-eqb, true≢false}
+use Rattle.std.proofs.Common.{◌≡◌, ℕ, zero, suc, ◌<◌, List, [], ◌∷◌, length, map, drop, get_or, Bool, true, false, ◌&&◌, ◌==◌, refl, ap, ◌∙◌, sym, arith, None, Vec, vec_len, Global, eq-eqb, true≢false}
 use Rattle.std.proofs.lemmas.Bool.{ne_eqb}
 use Rattle.tl_schema.specs.Types.{no_shapes, shapes_of}
 use Rattle.tl_schema.specs.Types as type
-use Rattle.tl_schema.specs.Schemas.{Slot}
 use Rattle.tl_schema.specs.Seen.{shape, slot}
 use Rattle.tl_schema.specs.declared.schema.TypeRef as ref
 use Rattle.tl_schema.specs.declared.schema.TypeRef.{TypeRef}
 use Rattle.tl_schema.specs.declared.schema.SchemaField.{SchemaField}
 use Rattle.tl_types.proofs.Views.{shape-Boxed, shape-Bare}
 use Rattle.tl_plan.specs.Types.{is_same, are_same}
-use Rattle.wire_forms.specs.Forms.{PartView, part_view}
+use Rattle.wire_forms.specs.Forms.{part_view}
 use Rattle.wire_forms.specs.declared.form.Part.{Part}
 use Rattle.wire_profile.specs.Places.{ProfileView}
+use Rattle.wire_profile.specs.inner.Heads.{head_in}
 use Rattle.wire_profile.specs.Faults.{is_slot, are_slots}
 
 no_arguments : (args : List TypeRef) → (length args == 0) ≡ are_same no_shapes (shapes_of (map shape args))
@@ -59,3 +59,10 @@ slots_none p i [] (f ∷ fields) e h = absurd (omega arith)
 slots_none p i (q ∷ parts) [] e h = absurd (omega arith)
 slots_none p zero (q ∷ parts) (f ∷ fields) e h = absurd (omega arith)
 slots_none p (suc i) (q ∷ parts) (f ∷ fields) e h = slots_none p i parts fields (omega arith) (omega arith)
+
+arguments_are : (h : ℕ) (args : List TypeRef) → (length args == 0) ≡ false → None ≡ head_in (type.boxed h (shapes_of (map shape args)))
+arguments_are h [] e = absurd (true≢false e)
+arguments_are h (t ∷ ts) e = refl
+
+pub no_head : (t : TypeRef) (h : ℕ) (args : Vec TypeRef Global) (b : Bool) → t ≡ ref.Boxed h args → b ≡ (vec_len args == 0) → b ≡ false → None ≡ head_in (shape t)
+no_head t h args b is e some = rw (shape-Boxed t h args is) (arguments_are h args.items (ap (λ (k : ℕ). k == 0) (sym args.ok.0) ∙ sym e ∙ some))

@@ -5,3 +5,9 @@ pub mod ProfileFacts
 pub mod OwnValues
 pub mod PlacedValues
 pub mod Renamings
+pub mod Found
+pub mod Differences
+pub mod Passing
+pub mod FormLists
+pub mod Roots
+pub mod PlanLimits

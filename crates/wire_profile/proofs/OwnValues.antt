@@ -1,6 +1,6 @@
 -- What is spelled in a profile's schema is of the forms, once its numbers are the forms'.
-use Rattle.std.proofs.Common.{◌≡◌, ℕ, zero, suc, ◌+◌, ◌<◌, ◌^◌, List, [], ◌∷◌, ◌++◌, length, map, get_or, Option, Some, None, Bool, true, false, ◌||◌, refl, sym, ap, ◌∙◌, subst, arith, inl, inr, true≢false}
-use Rattle.std.specs.Prelude.{IsTrue, slice_get, ◌⊎◌}
+use Rattle.std.proofs.Common.{◌≡◌, ℕ, suc, ◌<◌, ◌^◌, List, [], ◌∷◌, ◌++◌, map, get_or, Some, None, Bool, true, false, ◌||◌, refl, sym, ap, ◌∙◌, subst, inl, inr, true≢false}
+use Rattle.std.specs.Prelude.{slice_get, ◌⊎◌}
 use Rattle.tl_schema.specs.Types.{Shape, Shapes, no_shapes}
 use Rattle.tl_schema.specs.Types as type
 use Rattle.tl_schema.specs.Closing.{closed, list_of_shapes}
@@ -14,14 +14,14 @@ use Rattle.tl_types.specs.Fitting.{is_kind}
 use Rattle.tl_types.proofs.Closings.{closed_none}
 use Rattle.wire_forms.specs.declared.form.Cell.{Cell}
 use Rattle.wire_forms.specs.declared.form.Cell.TheVariants.{Whole, Signed, Long, Body, Key, Ids, Bodies, Flags, Final, Many, One, Bare, ManyBare, Query}
-use Rattle.wire_forms.specs.Forms.{FormView, PartView, forms, cells_of, constructs, is_function}
+use Rattle.wire_forms.specs.Forms.{FormView, PartView, cells_of}
 use Rattle.wire_forms.specs.Parts.{first, flag, is_final}
 use Rattle.wire_forms.specs.IsOf.{IsShort, IsField, IsOf, EachOf, AreOf}
 use Rattle.wire_profile.specs.Places.{ProfileView, number_at, form_at, cell_shape, cell_cond, slot_of}
 use Rattle.wire_profile.specs.Profiles.{IsProfile, IsForm}
 use Rattle.wire_profile.specs.Renaming.{renamed, renamed_each}
 use Rattle.wire_profile.specs.SpelledForms.{owned, IsServed, AreServed, StandsAlone}
-use Rattle.wire_profile.proofs.FormTable.{IsFormAt, AreGood, form_is_good, is_query, has_query, no_query, is_flag, begins_with_flag, no_flag_first, member_form, function_form, form_there, cells_are, clash}
+use Rattle.wire_profile.proofs.FormTable.{IsFormAt, AreGood, form_is_good, is_query, has_query, no_query, is_flag, begins_with_flag, no_flag_first, member_form, function_form, cells_are, clash}
 use Rattle.wire_profile.proofs.ProfileFacts.{declared, member, own_again}
 
 -- ---- kinds of values

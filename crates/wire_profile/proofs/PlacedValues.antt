@@ -1,12 +1,11 @@
 -- Each value of the forms is spelled in a profile's schema, once its numbers are the schema's.
-use Rattle.std.proofs.Common.{◌≡◌, ℕ, zero, suc, ◌+◌, ◌<◌, ◌^◌, List, [], ◌∷◌, ◌++◌, length, map, get_or, Option, Some, None, Bool, true, false, refl, sym, ap, ◌∙◌, subst, arith, inl, inr, true≢false}
-use Rattle.std.specs.Prelude.{IsTrue, slice_get, ◌⊎◌}
+use Rattle.std.proofs.Common.{◌≡◌, ℕ, ◌<◌, ◌^◌, List, [], ◌∷◌, ◌++◌, map, get_or, Option, Some, None, Bool, true, false, refl, sym, ap, ◌∙◌, subst, inl, inr, true≢false}
+use Rattle.std.specs.Prelude.{◌⊎◌}
 use Rattle.tl_base.specs.Numbers.{word, double_word}
 use Rattle.tl_schema.specs.Types.{Shape, Shapes, no_shapes}
 use Rattle.tl_schema.specs.Types as type
-use Rattle.tl_schema.specs.Closing.{closed, list_of_shapes}
+use Rattle.tl_schema.specs.Closing.{closed}
 use Rattle.tl_schema.specs.Schemas.{Slot, Declaration, Declared}
-use Rattle.tl_schema.specs.Formed.{IsFunction}
 use Rattle.tl_types.specs.Values.{ValueView, int, long, nat, opaque, text, truth, absent, list, node, call, ValueViews, no_values, value, count}
 use Rattle.tl_types.specs.Conditions.{bits_of, is_bit, stands_by}
 use Rattle.tl_types.specs.Texts.{text_bytes}
@@ -22,7 +21,7 @@ use Rattle.wire_profile.specs.Places.{ProfileView, number_at, cell_shape, cell_c
 use Rattle.wire_profile.specs.Profiles.{IsProfile, IsForm}
 use Rattle.wire_profile.specs.Renaming.{renamed, renamed_each}
 use Rattle.wire_profile.specs.SpelledForms.{placed, StandsAlone}
-use Rattle.wire_profile.proofs.FormTable.{IsFormAt, AreGood, form_is_good, is_flag, begins_with_flag, no_flag_first, member_form, function_form, cells_are, clash}
+use Rattle.wire_profile.proofs.FormTable.{IsFormAt, AreGood, form_is_good, is_flag, begins_with_flag, no_flag_first, member_form, function_form, cells_are}
 use Rattle.wire_profile.proofs.ProfileFacts.{is_member}
 use Rattle.wire_profile.proofs.OwnValues.{cells, bits_same, count_same}
 

@@ -1,8 +1,8 @@
 -- Where a profile has the forms, and which form has a place.
-use Rattle.std.proofs.Common.{◌≡◌, ℕ, zero, suc, ◌+◌, ◌<◌, ◌≤◌, ◌^◌, ◌-◌, List, [], ◌∷◌, length, map, get_or, Option, Some, None, Bool, true, false, ◌==◌, refl, sym, ap, ◌∙◌, subst, arith, true≢false, eq-eqb, eqb-true}
+use Rattle.std.proofs.Common.{◌≡◌, ℕ, suc, ◌<◌, ◌≤◌, ◌^◌, List, [], ◌∷◌, length, get_or, Option, Some, None, Bool, true, false, ◌==◌, refl, sym, ap, ◌∙◌, subst, arith, eq-eqb, eqb-true}
 use Rattle.std.specs.Prelude.{IsTrue, slice_get, unwrap_or, position, nat_lt, cond}
 use Rattle.std.proofs.lemmas.List.Quantifiers.{position-Some}
-use Rattle.std.proofs.lemmas.Option.{get_or_from_slice_get, slice_get-get_or, unwrap_or-slice_get}
+use Rattle.std.proofs.lemmas.Option.{get_or_from_slice_get, unwrap_or-slice_get}
 use Rattle.std.proofs.lemmas.List.Sums.{fails_before_first}
 use Rattle.std.proofs.lemmas.Bool.Decides.{nat_tests}
 use Rattle.std.specs.List.{position_or_len}
@@ -11,12 +11,12 @@ use Rattle.tl_names.proofs.TypeNumbers.{few_types}
 use Rattle.tl_schema.specs.Schemas.{Declaration}
 use Rattle.tl_schema.specs.Formed.{IsMember}
 use Rattle.wire_forms.specs.declared.numbers.TheConstants.{NO_FORM}
-use Rattle.wire_forms.specs.Forms.{FormView, forms, type_names, constructs}
+use Rattle.wire_forms.specs.Forms.{FormView, forms, constructs}
 use Rattle.wire_profile.specs.Places.{ProfileView, number_at, form_at}
-use Rattle.wire_profile.specs.Profiles.{IsProfile, IsForm, HasForm, AreHeads}
+use Rattle.wire_profile.specs.Profiles.{IsProfile, IsForm, AreHeads}
 use Rattle.wire_profile.proofs.FormTable.{IsFormAt, IsMemberForm, form_there, one_form, some_is, clash, within}
 
-few_forms : length forms < NO_FORM
+pub few_forms : length forms < NO_FORM
 unfolding forms
 few_forms = omega arith
 

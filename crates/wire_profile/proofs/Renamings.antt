@@ -1,9 +1,9 @@
 -- Numbers of forms, put in place of a schema's and back.
-use Rattle.std.proofs.Common.{◌≡◌, ℕ, List, [], ◌∷◌, map, Bool, true, false, refl, sym, ap, ap₂, ◌∙◌, subst}
+use Rattle.std.proofs.Common.{◌≡◌, ℕ, List, [], ◌∷◌, Bool, true, false, refl, sym, ap, ap₂, subst}
 use Rattle.tl_types.specs.Values.{ValueView, int, long, nat, opaque, text, truth, absent, list, node, call, ValueViews, no_values, value}
 use Rattle.wire_forms.specs.declared.form.Cell.{Cell}
 use Rattle.wire_forms.specs.declared.form.Cell.TheVariants.{Whole, Signed, Long, Body, Key, Ids, Bodies, Flags, Final, Many, One, Bare, ManyBare, Query}
-use Rattle.wire_forms.specs.Forms.{FormView, PartView, cells_of}
+use Rattle.wire_forms.specs.Forms.{FormView, cells_of}
 use Rattle.wire_forms.specs.Parts.{first, flag, is_final}
 use Rattle.wire_forms.specs.IsOf.{IsField, IsOf, EachOf, AreOf}
 use Rattle.wire_profile.specs.Renaming.{renamed, renamed_each}

@@ -82,21 +82,26 @@ profile_fault p = or_else (first_fault p forms) (first_further p 0 p.schema.decl
 
 -- ---- answers
 
+-- the places are those of the forms' names, and the heads those of the types'
+pub record IsFound (p : ProfileView) : Type 0 where
+  pub places : p.places ≡ map (place_of p.schema) forms
+  pub heads : AreHeads p.schema type_names p.heads
+
 -- where the schema has the forms, if it has them
 unfoldable pub profile_of : Declared → List ℕ → ProfileView
 profile_of S heads = record { schema = S; places = map (place_of S) forms; heads = heads }
 
-abbrev pub answer_by : ProfileView → Option FaultView → Result ProfileView FaultView
-answer_by p None = Ok p
-answer_by p (Some fault) = Err fault
+abbrev pub told_by : ProfileView → Option FaultView → Result ProfileView FaultView
+told_by p None = Ok p
+told_by p (Some fault) = Err fault
 
 -- the profile that the schema is, its types having these numbers, or its first difference
 unfoldable pub profile_answer : Declared → List ℕ → Result ProfileView FaultView
-profile_answer S heads = answer_by (profile_of S heads) (profile_fault (profile_of S heads))
+profile_answer S heads = told_by (profile_of S heads) (profile_fault (profile_of S heads))
 
 -- this is answered, by the numbers of the schema's types
 abbrev pub IsAnswer : Declared → Result ProfileView FaultView → Type 0
-IsAnswer S answer = (heads : List ℕ) × AreHeads S type_names heads × (profile_answer S heads ≡ answer)
+IsAnswer S told = (heads : List ℕ) × AreHeads S type_names heads × (profile_answer S heads ≡ told)
 
 -- out of memory is free
 abbrev pub AnswersProfile : Declared → Result ProfileView ProfileFault → Type 0

@@ -1,9 +1,9 @@
 -- Where a schema has the forms of the protocol and their types: what a form's fields are there. This project's own.
-use Rattle.std.specs.Prelude.{ℕ, List, map, get_or, Option, Some, None, true, unwrap_or, position, ◌==◌}
+use Rattle.std.specs.Prelude.{ℕ, List, get_or, Option, Some, None, true, unwrap_or, position, ◌==◌}
 use Rattle.tl_schema.specs.Types.{Shape, no_shapes}
 use Rattle.tl_schema.specs.Types as type
 use Rattle.tl_schema.specs.Schemas.{Slot, Declared}
-use Rattle.wire_forms.specs.Forms.{FormView, PartView}
+use Rattle.wire_forms.specs.Forms.{PartView}
 use Rattle.wire_forms.specs.declared.form.Cell.{Cell}
 use Rattle.wire_forms.specs.declared.form.Cell.TheVariants.{Whole, Signed, Long, Body, Key, Ids, Bodies, Flags, Final, Many, One, Bare, ManyBare, Query}
 use Rattle.wire_forms.specs.declared.numbers.TheConstants.{NO_FORM}

@@ -1,14 +1,11 @@
 -- Profiles: schemas that have the forms of the protocol. This project's own.
-use Rattle.std.specs.Prelude.{◌≡◌, ◌⊎◌, ℕ, ◌<◌, List, [], ◌∷◌, length, map, Some, None, Option, slice_get, true, false, IsTrue}
+use Rattle.std.specs.Prelude.{◌≡◌, ◌⊎◌, ℕ, ◌<◌, List, [], ◌∷◌, length, map, Some, slice_get, false, IsTrue}
 use Rattle.tl_schema.specs.Types.{Shape, no_shapes}
 use Rattle.tl_schema.specs.Types as type
 use Rattle.tl_schema.specs.Schemas.{Declaration, Declared}
 use Rattle.tl_schema.specs.CheckedPrograms.{IsSchema}
 use Rattle.tl_schema.specs.AskedTypes.{IsTypeText}
-use Rattle.tl_schema.specs.Formed.{IsFormed}
 use Rattle.tl_names.specs.Places.{types_of}
-use Rattle.tl_plan.specs.PlanLaws.{IsPlanOf}
-use Rattle.tl_plan.specs.Plans.{PlanView}
 use Rattle.wire_forms.specs.Forms.{FormView, forms, type_names, constructs}
 use Rattle.wire_forms.specs.declared.numbers.TheConstants.{FRAME_TYPE, STEP_TYPE, CLIENT_TYPE}
 use Rattle.wire_profile.specs.Places.{ProfileView, number_at, form_at, slot_of, result_shape, variables_of}

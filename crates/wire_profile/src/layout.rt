@@ -1,13 +1,15 @@
 //! Where a schema has the forms.
-ghost use Rattle.std.specs.Prelude.{◌≡◌, map, true};
+ghost use Rattle.std.specs.Prelude.{◌≡◌, IfOk, map, true};
 ghost use Rattle.tl_schema.specs.Seen.{declaration, shape, slot};
 ghost use Rattle.tl_schema.specs.Types as type;
 ghost use Rattle.tl_schema.specs.Types.{no_shapes};
 ghost use Rattle.tl_plan.specs.Types.{is_same};
 ghost use Rattle.wire_forms.specs.Forms.{form_view, part_view};
-ghost use Rattle.wire_profile.specs.Faults.{are_slots, declares, has_head, is_condition, is_slot, is_variable};
+ghost use Rattle.wire_profile.specs.Faults.{IsFound, are_slots, declares, has_head, is_condition, is_slot, is_variable};
 ghost use Rattle.wire_profile.specs.Places.{cell_cond, cell_shape, cell_var, number_at, result_shape, variables_of};
 
+use crate::finding::{heads_of, places_of};
+use std::alloc::{AllocError, Global};
 use std::marker::Model;
 use tl_schema::{Entry, Schema, SchemaField, TypeRef};
 use wire_forms::numbers::NO_FORM;
@@ -23,6 +25,7 @@ pub struct Layout<'s> {
 
 impl<'s> Model for Layout<'s> {
     ghost use Rattle.wire_profile.specs.Places.{ProfileView};
+    ghost use Rattle.wire_profile.specs.Faults.{IsFound};
     ghost use Rattle.wire_profile.specs.inner.ProfileCodes.{profile_code};
 
     ghost Value = { ProfileView };
@@ -30,9 +33,25 @@ impl<'s> Model for Layout<'s> {
     ghost coded = { profile_code };
 
     ghost view = { λ l. record { schema = l.schema.now; places = l.places.items; heads = l.heads.items } };
+
+    ghost invariant = { λ l. IsFound (record { schema = l.schema.now; places = l.places.items; heads = l.heads.items }) };
 }
 
 impl<'s> Layout<'s> {
+    /// Where a schema has the forms and their types, so far as it has them.
+    pub fn of(alloc: Global, schema: &'s Schema) -> Result<Layout<'s>, AllocError>
+        ensures schema { IfOk result (λ l. l.schema ≡ schema.now) }
+        ensures found { IfOk result (λ l. IsFound l) }
+    {
+        let heads = heads_of(alloc, schema)?;
+        let places = places_of(alloc, schema)?;
+        Ok(Layout {
+            schema,
+            places,
+            heads,
+        })
+    }
+
     /// Whether the entry, which has the form's name, declares the form.
     pub fn declares(&self, form: &Form, entry: &Entry) -> bool
         ensures { result ≡ declares self.now (form_view form.now) (declaration entry.now) }

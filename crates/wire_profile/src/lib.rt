@@ -1,10 +1,16 @@
 //! A schema that has the forms of the protocol.
 #![tactic(auto)]
 
+mod checking;
 mod fault;
+mod finding;
 mod laws;
 mod layout;
+mod planning;
+mod profile;
 mod renaming;
+mod tables;
 
 pub use fault::ProfileFault;
 pub use laws::forms_are_spelled;
+pub use profile::Profile;

@@ -1,5 +1,4 @@
-use Rattle.std.proofs.Common.{◌≡◌, ◌≢◌, ◌+◌, ◌<◌, length, length-set, get_or, get_or-set_other, refl, ap, ◌∙◌, sym, arith, rules, add-one}
-use Rattle.tl_types.specs.Seen.{view}
+use Rattle.std.proofs.Common.{◌≢◌, ◌<◌, length, length-set, get_or-set_other, ap, ◌∙◌, arith, add-one}
 use Rattle.wire_profile.proofs.RenamedLists.{new_view, renamed_more, renamed_all}
 use Rattle.wire_profile.proofs.renaming.+rename.Goals as goal
 

@@ -1,4 +1,4 @@
-use Rattle.wire_profile.proofs.Comparing.{other_count, slots_more, slots_none}
+use Rattle.wire_profile.proofs.Comparing.{other_count}
 use Rattle.wire_profile.proofs.layout.Layout.are_slots.Goals as goal
 
 pub returns-then-parts-fields : goal.returns-then-parts-fields
