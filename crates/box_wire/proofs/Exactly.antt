@@ -1,0 +1,147 @@
+-- Bytes are one message of a kind, or are none for one cause; and what is answered of them.
+use Rattle.std.proofs.Common.{◌≡◌, ℕ, ◌+◌, ◌<◌, ◌≤◌, List, [], ◌++◌, length, append-nil, length-append, Option, Some, None, Result, Ok, Err, sym, ap, ◌∙◌, subst, refl, inl, inr, arith}
+use Rattle.std.specs.Prelude.{◌⊎◌, IfOk, IfErr}
+use Rattle.tl_base.specs.Contents.{AreBytes}
+use Rattle.tl_schema.specs.Formed.{IsFormed}
+use Rattle.tl_types.specs.Values.{ValueView, depth}
+use Rattle.tl_types.specs.Spelling.{Spells}
+use Rattle.tl_types.specs.Refusal as refusal
+use Rattle.tl_types.specs.Exactly.{BeginsWith, ExactlyOne}
+use Rattle.tl_types.specs.Offsets.{moved}
+use Rattle.tl_types.specs.declared.cause.Cause.{Cause}
+use Rattle.tl_types.specs.declared.value.TheConstants.{MAX_LEVELS}
+use Rattle.tl_types.proofs.Exactly.{exactly_one}
+use Rattle.wire_forms.specs.IsOf.{IsOf}
+use Rattle.wire_profile.specs.Places.{ProfileView, cell_shape}
+use Rattle.wire_profile.specs.Profiles.{IsProfile}
+use Rattle.wire_profile.specs.SpelledForms.{owned, IsServed, StandsAlone}
+use Rattle.wire_profile.proofs.OwnValues.{own_of}
+use Rattle.wire_checks.specs.declared.fault.WireFault.{WireFault}
+use Rattle.wire_checks.specs.declared.fault.WireFault.TheVariants as wire
+use Rattle.box_wire.specs.Kinds.{Kind}
+use Rattle.box_wire.specs.Framing.{SpellsWhole, Means, WireRefused, no_value, goes_on, no_message}
+use Rattle.box_wire.specs.Answers.{Reads}
+use Rattle.box_wire.specs.inner.Wholes.{NoWhole, AnswersMessage}
+use Rattle.box_wire.specs.inner.Wholes as whole
+
+-- Messages of a kind, and their values.
+pub record KindLaws {M : Type 0} (kind : Kind) (tree : M → ValueView) (inside : ValueView → M) (Is : M → Type 0) : Type 0 where
+  pub alone : StandsAlone kind.cell
+  pub served : (t : ValueView) → kind.cause t ≡ None → IsServed kind.cell t
+  pub same : (t : ValueView) → IsOf kind.cell t → kind.cause t ≡ None → tree (inside t) ≡ kind.normal t
+  pub back : (m : M) → Is m → inside (tree m) ≡ m
+  pub read : (t : ValueView) → IsOf kind.cell t → kind.cause t ≡ None → Is (inside t)
+
+none_some : {A : Type 0} (x : A) → None ≡ Some x → ⊥
+none_some x e = cc
+
+some_is : {A : Type 0} (x y : A) → Some x ≡ Some y → x ≡ y
+some_is x y e = cc
+
+ok_or_err : {M : Type 0} (x : M) (e : WireFault) → ◌≡◌ {A = Result M WireFault} (Ok x) (Err e) → ⊥
+ok_or_err x e is = cc
+
+err_is : {M : Type 0} (f e : WireFault) → ◌≡◌ {A = Result M WireFault} (Err f) (Err e) → f ≡ e
+err_is f e is = cc
+
+refused_as : (p q : ℕ) (c d : Cause) → p ≡ q → c ≡ d → wire.Refused (moved 0 p) c ≡ wire.Refused (moved 0 q) d
+refused_as p q c d e f = cc
+
+no_more : (bytes x rest : List ℕ) → bytes ≡ x → bytes ≡ x ++ rest → 0 < length rest → ⊥
+no_more bytes x rest same is some = let e = ap length same in let f = ap length is ∙ length-append x rest in omega (arith, e, f, some)
+
+module _ (p : ProfileView) (good : IsProfile p) (kind : Kind) (formed : IsFormed p.schema (cell_shape p kind.cell)) (bytes : List ℕ) (are : AreBytes bytes) where
+  one : ExactlyOne p.schema MAX_LEVELS (cell_shape p kind.cell) bytes
+  one = exactly_one p.schema good.schema MAX_LEVELS (cell_shape p kind.cell) bytes formed are
+
+  begins_whole : (v : ValueView) → SpellsWhole p kind v bytes → BeginsWith p.schema MAX_LEVELS (cell_shape p kind.cell) bytes v bytes
+  begins_whole v s = ([], sym (append-nil bytes), s.0, s.1)
+
+  begins_first : (v : ValueView) (x rest : List ℕ) → SpellsWhole p kind v x → bytes ≡ x ++ rest → BeginsWith p.schema MAX_LEVELS (cell_shape p kind.cell) bytes v x
+  begins_first v x rest s is = (rest, is, s.0, s.1)
+
+  same_whole : (v w : ValueView) → SpellsWhole p kind v bytes → SpellsWhole p kind w bytes → v ≡ w
+  same_whole v w s r = (one.one_value v w bytes bytes (begins_whole v s) (begins_whole w r)).0
+
+  not_on : (v w : ValueView) (x rest : List ℕ) → SpellsWhole p kind v bytes → SpellsWhole p kind w x → bytes ≡ x ++ rest → 0 < length rest → ⊥
+  not_on v w x rest s r is some = no_more bytes x rest (one.one_value v w bytes x (begins_whole v s) (begins_first w x rest r is)).1 is some
+
+  whole_or_refused : (v : ValueView) (offset : ℕ) (cause : Cause) → SpellsWhole p kind v bytes → refusal.Refused p.schema MAX_LEVELS (cell_shape p kind.cell) bytes offset cause → ⊥
+  whole_or_refused v offset cause s r = one.never_both v bytes offset cause (begins_whole v s) r
+
+  first_or_refused : (v : ValueView) (x rest : List ℕ) (offset : ℕ) (cause : Cause) → SpellsWhole p kind v x → bytes ≡ x ++ rest → refusal.Refused p.schema MAX_LEVELS (cell_shape p kind.cell) bytes offset cause → ⊥
+  first_or_refused v x rest offset cause s is r = one.never_both v x offset cause (begins_first v x rest s is) r
+
+  cause_as : (v w : ValueView) (a b : Option WireFault) → SpellsWhole p kind v bytes → SpellsWhole p kind w bytes → kind.cause (owned p v) ≡ a → kind.cause (owned p w) ≡ b → a ≡ b
+  cause_as v w a b s r d e = sym d ∙ ap (λ (u : ValueView). kind.cause (owned p u)) (same_whole v w s r) ∙ e
+
+  -- what means a message isn't refused
+  pub never_both : (t : ValueView) → Means p kind t bytes → (e : WireFault) → WireRefused p kind bytes e → ⊥
+  never_both t m e (no_value offset cause r is) = whole_or_refused m.v offset cause m.spelled r
+  never_both t m e (goes_on w x rest s is some at) = not_on m.v w x rest m.spelled s is some
+  never_both t m e (no_message w s c) = none_some e (cause_as m.v w None (Some e) m.spelled s m.clear c)
+
+  -- what is refused is so for one cause
+  pub one_fault : (e f : WireFault) → WireRefused p kind bytes e → WireRefused p kind bytes f → e ≡ f
+  one_fault e f (no_value i a r is) (no_value j b s at) = let same = one.one_fault i j a b r s in is ∙ refused_as i j a b same.0 same.1 ∙ sym at
+  one_fault e f (no_value i a r is) (goes_on w x rest s on some at) = absurd (first_or_refused w x rest i a s on r)
+  one_fault e f (no_value i a r is) (no_message w s c) = absurd (whole_or_refused w i a s r)
+  one_fault e f (goes_on w x rest s on some at) (no_value i a r is) = absurd (first_or_refused w x rest i a s on r)
+  one_fault e f (goes_on w x rest s on some at) (goes_on u y more r off any is) =
+      at ∙ ap (λ (z : List ℕ). wire.Trailing (moved 0 (length z))) (one.one_value w u x y (begins_first w x rest s on) (begins_first u y more r off)).1 ∙ sym is
+  one_fault e f (goes_on w x rest s on some at) (no_message v r c) = absurd (not_on v w x rest r s on some)
+  one_fault e f (no_message w s c) (no_value i a r is) = absurd (whole_or_refused w i a s r)
+  one_fault e f (no_message v r c) (goes_on w x rest s on some at) = absurd (not_on v w x rest r s on some)
+  one_fault e f (no_message w s c) (no_message v r d) = some_is e f (cause_as w v (Some e) (Some f) s r c d)
+
+  told_of : (e : WireFault) → NoWhole p.schema (cell_shape p kind.cell) bytes e → (e ≡ wire.Memory) ⊎ WireRefused p kind bytes e
+  told_of e (whole.no_value offset cause r is) = inr (no_value offset cause r is)
+  told_of e (whole.goes_on v x rest spells deep is some at) = inr (goes_on v x rest (spells, deep) is some at)
+  told_of e (whole.memory is) = inl is
+
+  module _ {M : Type 0} (tree : M → ValueView) (inside : ValueView → M) (Is : M → Type 0) (laws : KindLaws kind tree inside Is) where
+    -- what is answered, of the bytes
+    abbrev Given : Result M WireFault → Type 0
+    Given r = IfOk r (λ m. Is m × Means p kind (tree m) bytes)
+
+    abbrev Told : Result M WireFault → Type 0
+    Told r = IfErr r (λ e. (e ≡ wire.Memory) ⊎ WireRefused p kind bytes e)
+
+    abbrev ReadsThem : Result M WireFault → Type 0
+    ReadsThem r = Reads Is (λ m. Means p kind (tree m) bytes) (WireRefused p kind bytes) r
+
+    -- bytes mean one message
+    pub one_message : (m n : M) → Is m → Is n → Means p kind (tree m) bytes → Means p kind (tree n) bytes → m ≡ n
+    one_message m n a b s r =
+        sym (laws.back m a) ∙ ap inside (sym s.same ∙ ap (λ (u : ValueView). kind.normal (owned p u)) (same_whole s.v r.v s.spelled r.spelled) ∙ r.same) ∙ laws.back n b
+
+    reads_by : (r : Result M WireFault) → Given r → Told r → ReadsThem r
+    reads_by (Ok x) given told = record {
+      given = given;
+      told = tt;
+      meant = λ m is means. inl (ap Ok (one_message x m given.0 is given.1 means));
+      refused = λ e s. absurd (never_both (tree x) given.1 e s);
+    }
+    reads_by (Err e) given told = record {
+      given = tt;
+      told = told;
+      meant = λ m is means. elim told [ inl memory ↦ inr (ap Err memory) | inr s ↦ absurd (never_both (tree m) means e s) ];
+      refused = λ f s. elim told [ inl memory ↦ inr (ap Err memory) | inr t ↦ inl (ap Err (one_fault e f t s)) ];
+    }
+
+    pub reads_none : (e : WireFault) → NoWhole p.schema (cell_shape p kind.cell) bytes e → ReadsThem (Err e)
+    reads_none e none = reads_by (Err e) tt (told_of e none)
+
+    answered : (v : ValueView) → SpellsWhole p kind v bytes → (o : Option WireFault) → kind.cause (owned p v) ≡ o → (r : Result M WireFault) → AnswersMessage o (inside (owned p v)) r → Given r × Told r
+    answered v s (Some e) c (Ok x) is = absurd (ok_or_err x e is)
+    answered v s (Some e) c (Err f) is = (tt, inr (subst (WireRefused p kind bytes) (sym (err_is f e is)) (no_message v s c)))
+    answered v s None c (Ok x) is =
+        let t_is = own_of p good v kind.cell bytes laws.alone s.0 (laws.served (owned p v) c) in
+        ((subst Is (sym is) (laws.read (owned p v) t_is c), record { v = v; spelled = s; clear = c; same = sym (laws.same (owned p v) t_is c) ∙ ap tree (sym is) }), tt)
+    answered v s None c (Err f) is = (tt, inl is)
+
+    pub reads_value : (v : ValueView) → SpellsWhole p kind v bytes → (t : ValueView) → t ≡ owned p v → (r : Result M WireFault) → AnswersMessage (kind.cause t) (inside t) r → ReadsThem r
+    reads_value v s t is r answers =
+        let here : AnswersMessage (kind.cause (owned p v)) (inside (owned p v)) r = subst (λ (u : ValueView). AnswersMessage (kind.cause u) (inside u) r) is answers in
+        let both = answered v s (kind.cause (owned p v)) refl r here in
+        reads_by r both.0 both.1

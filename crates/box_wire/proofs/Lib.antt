@@ -1,0 +1,10 @@
+pub mod WholeValues
+pub mod KeptValues
+pub mod FormedTypes
+pub mod Exactly
+pub mod Spellings
+pub mod Roots
+pub mod FrameLaws
+pub mod Levels
+pub mod ReadBack
+pub mod FrameLevels

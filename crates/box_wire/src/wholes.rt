@@ -1,0 +1,86 @@
+//! Values that are the whole of some bytes, and the bytes of values.
+ghost use Rattle.std.specs.Prelude.{◌≡◌, ◌≢◌, ◌<◌, IfOk, drop};
+ghost use Rattle.tl_base.specs.Contents.{AreBytes};
+ghost use Rattle.tl_schema.specs.Types.{Shape};
+ghost use Rattle.tl_schema.specs.Formed.{IsFormed};
+ghost use Rattle.tl_plan.specs.PlanLaws.{IsInstance};
+ghost use Rattle.tl_types.specs.Seen.{view};
+ghost use Rattle.box_wire.specs.Answers.{GivesSpelling};
+ghost use Rattle.box_wire.specs.inner.Wholes.{EndsWith, IsSpelling, ReadsWhole, as_wire_fault};
+
+use crate::fault::SpellFault;
+use crate::slices::SliceSource;
+use box_events::MAX_FRAME_BYTES;
+use std::alloc::{AllocError, Global};
+use tl_base::Bytes;
+use tl_decode::{DecodeFault, decode};
+use tl_encode::spelling_of;
+use tl_plan::Plan;
+use tl_types::Value;
+use wire_checks::WireFault;
+
+// A fault over bytes in memory, which are always read.
+fn wire_fault(fault: DecodeFault) -> WireFault
+    requires { fault ≢ DecodeFault.ReadFault }
+    ensures { result ≡ as_wire_fault fault }
+{
+    match fault {
+        DecodeFault::Refused { place, cause } => WireFault::Refused { place, cause },
+        DecodeFault::ReadFault => unreachable!(),
+        DecodeFault::Memory => WireFault::Memory,
+    }
+}
+
+/// The value of a root of a plan that is the whole of the bytes.
+pub fn value_in(alloc: Global, plan: &Plan, root: u32, bytes: &[u8]) -> Result<Value, WireFault>
+    requires { root < plan.now.roots }
+    ensures whole { (T : Shape) → IsInstance plan.now root T → IsFormed plan.now.schema T → ReadsWhole plan.now.schema T bytes.now result }
+    ensures bytes { AreBytes bytes.now }
+{
+    // Read for the proof alone: that the plan is sound.
+    let _count = plan.count();
+    let mut from = SliceSource::new(bytes);
+    let mut at = 0;
+    match decode(alloc, plan, root, &mut at, &mut from) {
+        Ok(value) => ended(value, at, &from),
+        Err(fault) => Err(wire_fault(fault)),
+    }
+}
+
+// The value, unless bytes are left after it.
+fn ended(value: Value, at: u64, from: &SliceSource) -> Result<Value, WireFault>
+    ensures { EndsWith (drop from.now.at from.now.bytes.now) at value result }
+{
+    if from.is_empty() {
+        Ok(value)
+    } else {
+        Err(WireFault::Trailing { place: at })
+    }
+}
+
+/// The spelling of a value of a root of a plan. A value that has none is answered as out of memory: a text of it has 2^24 bytes or more, or a list 2^31
+/// elements.
+pub fn bytes_of(alloc: Global, plan: &Plan, root: u32, value: &Value) -> Result<Vec<u8>, AllocError>
+    requires { root < plan.now.roots }
+    ensures { (T : Shape) → IsInstance plan.now root T → IsFormed plan.now.schema T → IfOk result (λ bytes. IsSpelling plan.now.schema T (view value.now) bytes.items) }
+{
+    // Read for the proof alone: that the plan is sound.
+    let _count = plan.count();
+    match spelling_of(alloc, plan, root, value) {
+        Ok(bytes) => Ok(bytes),
+        Err(_) => Err(AllocError),
+    }
+}
+
+/// The spelling of a frame or call, unless it is too long.
+pub fn within(bytes: Vec<u8>) -> Result<Bytes, SpellFault>
+    ensures { GivesSpelling bytes.items result }
+{
+    let length = bytes.len();
+    if length > MAX_FRAME_BYTES as usize {
+        return Err(SpellFault::TooLong {
+            length: length as u64,
+        });
+    }
+    Ok(Bytes::from_vec(bytes))
+}
