@@ -1,5 +1,5 @@
 //! Clients: one that nobody asked for anything, the channels that it watches, and one that recovers what it missed, is saved and is loaded.
-ghost use Rattle.std.specs.Prelude.{◌≡◌, ◌∷◌, [], IfOk};
+ghost use Rattle.std.specs.Prelude.{◌≡◌, ◌∷◌, [], IfOk, false};
 ghost use Rattle.box_events.specs.Events.{count_of, is_new};
 ghost use Rattle.box_client.specs.Pushes.{settings_in};
 ghost use Rattle.box_client.specs.Ranges.{IsUpdateInRange};
