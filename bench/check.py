@@ -123,4 +123,5 @@ def main():
             print(f"{name:>12} {len(text):>9} {took:>8.3f} {took * 1e9 / len(text):>8.1f}")
 
 
-main()
+if __name__ == "__main__":
+    main()

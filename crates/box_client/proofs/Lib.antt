@@ -1,5 +1,6 @@
 pub mod Hearings
-pub mod Modes
+pub mod Stays
+pub mod Messages
 pub mod RoomSteps
 pub mod Brings
 pub mod Mapped
@@ -7,3 +8,6 @@ pub mod Counted
 pub mod NumberSteps
 pub mod GivenOnce
 pub mod Savings
+pub mod Orders
+pub mod Loadings
+pub mod Restarts

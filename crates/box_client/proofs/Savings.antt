@@ -1,5 +1,5 @@
 -- The channels that are saved.
-use Rattle.std.proofs.Common.{◌≡◌, ℕ, zero, suc, ◌+◌, ◌<◌, ℤ, List, [], ◌∷◌, ◌++◌, length, map, take, get_or, Bool, true, false, ◌||◌, cond, is_some, Option, Some, None, int_eq, refl, sym, ap, ◌∙◌, subst, arith}
+use Rattle.std.proofs.Common.{◌≡◌, ℕ, zero, suc, ◌+◌, ◌<◌, ◌≤◌, ℤ, List, [], ◌∷◌, ◌++◌, length, map, take, get_or, Bool, true, false, ◌||◌, cond, is_some, Option, Some, None, int_eq, refl, sym, ap, ◌∙◌, subst, arith}
 use native.Mathlib.Numerals.{add-one}
 use Rattle.std.proofs.lemmas.List.{map-append}
 use Rattle.std.proofs.lemmas.Bool.Decides.{Decides-int_eq}
@@ -95,6 +95,15 @@ pub saved_next : (cs : List ChannelState) (ks : List ℤ) (i : ℕ) (d id : ℤ)
 saved_next cs ks i d id x before after is apart lt at s so more =
     let here_at : id ≡ get_or ks i id = at ∙ get_again ks i d lt ∙ ap (λ (z : ℤ). get_or ks i z) (sym at) in
     saved_more cs i id x before after (subst AreDistinct is apart) (omega (arith, lt, ap length is)) (here_at ∙ ap (λ (l : List ℤ). get_or l i id) is) s so more
+
+all_taken : (cs : List ChannelState) (n : ℕ) → length (ids_of cs) ≤ n → take n cs ≡ cs
+all_taken [] zero le = refl
+all_taken [] (suc n) le = refl
+all_taken (c ∷ cs) zero le = absurd (omega (arith, le))
+all_taken (c ∷ cs) (suc n) le = ap (λ (l : List ChannelState). c ∷ l) (all_taken cs n (omega (arith, le)))
+
+pub all_saved : (cs : List ChannelState) (ks : List ℤ) (n : ℕ) (saved : List SavedChannel) → ks ≡ ids_of cs → length ks ≤ n → saved ≡ map channel_saved (take n cs) → saved ≡ map channel_saved cs
+all_saved cs ks n saved is le so = so ∙ ap (λ (l : List ChannelState). map channel_saved l) (all_taken cs n (omega (arith, le, ap length is)))
 
 -- settings
 

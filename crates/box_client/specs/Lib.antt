@@ -1,4 +1,5 @@
 pub mod States
+pub mod Messages
 pub mod Pushes
 pub mod Replies
 pub mod Asking
@@ -6,6 +7,7 @@ pub mod Ranges
 pub mod Numbers
 pub mod Laws
 pub mod Saving
+pub mod Loads
 pub mod Calls
 pub mod Faults
 pub mod Rooms

@@ -8,6 +8,8 @@ use Rattle.box_events.specs.declared.updates.Push.{Push}
 use Rattle.box_events.specs.declared.updates.Push.TheVariants.{TooLong, Container}
 use Rattle.box_events.specs.declared.replies.Reply.{Reply}
 use Rattle.box_events.specs.declared.replies.Reply.TheVariants.{State, Empty, Difference, Channel as ChannelAnswer, Receipt, Error}
+use Rattle.box_events.specs.declared.saved.Saved.{Saved}
+use Rattle.box_events.specs.declared.saved.SavedChannel.{SavedChannel}
 use Rattle.difference.specs.Refusal.{AreOthers}
 use Rattle.difference.specs.Laws.{AreCountedOthers}
 use Rattle.channel_box.specs.Calls.{IsInRange}
@@ -45,3 +47,13 @@ IsReplyInRange (Difference news secrets others settings state last) =
 IsReplyInRange (ChannelAnswer reply) = IsInRange reply
 IsReplyInRange (Receipt receipt) = Unit {0}
 IsReplyInRange (Error code text) = Unit {0}
+
+-- each saved lane ends at a number of a box
+abbrev pub AreChannelsInRange : List SavedChannel → Type 0
+AreChannelsInRange [] = Unit {0}
+AreChannelsInRange (c ∷ cs) = (c.lane.at ≤ MAX_END) × AreChannelsInRange cs
+
+pub record IsSavedInRange (s : Saved) : Type 0 where
+  pub common : s.common.at ≤ MAX_END
+  pub secret : s.secret.at ≤ MAX_END
+  pub channels : AreChannelsInRange s.channels

@@ -4,7 +4,7 @@ use Rattle.std.specs.List.{sum_by}
 use Rattle.std.specs.Ordering.{nat_cmp, is_lt}
 use Rattle.std.specs.Cmp.Lexicographic.{slice_cmp}
 use Rattle.std.specs.FinMap as map_of
-use Rattle.box_events.specs.Events.{EventView, count_of, is_new}
+use Rattle.box_events.specs.Events.{EventView, count_of}
 use Rattle.box_events.specs.declared.limits.TheConstants.{MAX_CHANNELS}
 use Rattle.box_events.specs.declared.positions.LaneName.{LaneName}
 use Rattle.box_events.specs.declared.positions.LaneName.TheVariants.{Common, Secret, Channel}
@@ -18,7 +18,9 @@ use Rattle.box_events.specs.SettingLists.{Values}
 use Rattle.seq_machine.specs.Rows.{values_of}
 use Rattle.seq_machine.specs.States.{loaded as settings_loaded}
 use Rattle.channel_box.specs.States.{ChannelState, is_in}
+use Rattle.box_client.specs.declared.loading.TheConstants.{MAX_NEXT}
 use Rattle.box_client.specs.States.{ClientState}
+use Rattle.box_client.specs.Messages.{are_messages}
 
 -- saving: what is held, modes and flags are left out
 
@@ -57,10 +59,6 @@ saved_of c = record {
 abbrev pub is_even : SavedLane → Bool
 is_even l = eqb l.at (l.restart + sum_by count_of l.events)
 
-abbrev pub are_messages : List EventView → Bool
-are_messages [] = true
-are_messages (e ∷ es) = is_new e && are_messages es
-
 -- the first channel whose lane isn't even
 abbrev pub uneven_channel : List SavedChannel → Option LaneName
 uneven_channel [] = None
@@ -79,10 +77,14 @@ abbrev pub unsorted : List Setting → Option ℕ
 unsorted [] = None
 unsorted (x ∷ xs) = unsorted_from 1 x.key xs
 
--- the index of the first channel whose id comes again, or that is one too many, after so many ids
+-- an id comes again, or is one too many, after these
+abbrev pub is_surplus : List ℤ → ℤ → Bool
+is_surplus ids id = is_in id ids || leb MAX_CHANNELS (length ids)
+
+-- the index of the first channel whose id does, after these ids
 abbrev pub surplus_after : List ℤ → List SavedChannel → Option ℕ
 surplus_after ids [] = None
-surplus_after ids (c ∷ cs) = cond (is_in c.id ids || leb MAX_CHANNELS (length ids)) (Some (length ids)) (surplus_after (ids ++ c.id ∷ []) cs)
+surplus_after ids (c ∷ cs) = cond (is_surplus ids c.id) (Some (length ids)) (surplus_after (ids ++ c.id ∷ []) cs)
 
 -- why nothing is loaded
 pub data LoadCause : Type 0 where
@@ -105,7 +107,7 @@ or_lane (Some lane) o = Some (bad_lane lane)
 
 -- a next number is from 1 to 2,000,000,000
 abbrev pub is_next : ℕ → Bool
-is_next n = ltb 0 n && leb n 2000000000
+is_next n = ltb 0 n && leb n MAX_NEXT
 
 -- the first cause
 unfoldable pub load_cause : Saved → Option LoadCause

@@ -1,17 +1,20 @@
 //! Clients.
-ghost use Rattle.std.specs.Prelude.{◌≡◌, ◌≤◌, OnOk, OnErr, IfOk};
+ghost use Rattle.std.specs.Prelude.{◌≡◌, ◌≤◌, OnOk, OnErr, IfOk, IfErr};
 ghost use Rattle.channel_box.specs.States.{states};
-ghost use Rattle.box_client.specs.States.{new_client, HasOneMode};
+ghost use Rattle.box_client.specs.States.{ClientState, new_client, HasOneMode};
 ghost use Rattle.box_client.specs.Pushes.{pushed};
 ghost use Rattle.box_client.specs.Replies.{replied};
 ghost use Rattle.box_client.specs.Asking.{ticks, wakes, restarted, is_one_asking};
-ghost use Rattle.box_client.specs.Ranges.{IsPushInRange, IsReplyInRange};
+ghost use Rattle.box_client.specs.Ranges.{IsPushInRange, IsReplyInRange, IsSavedInRange};
 ghost use Rattle.box_client.specs.Saving.{saved_of};
+ghost use Rattle.box_client.specs.Loads.{IsLoadedAs, IsCauseOf, IsRestartOf};
+ghost use Rattle.box_client.specs.Messages.{HasMessages};
+ghost use Rattle.box_client.specs.declared.loading.TheConstants.{MAX_NEXT};
 ghost use Rattle.box_client.specs.Calls.{Answers, WatchesOne};
 
-use crate::fault::{ClientFault, Told};
+use crate::fault::{ClientFault, LoadFault, Told};
 use crate::parts::Parts;
-use crate::{asking, pushing, replying, saving};
+use crate::{asking, loading, pushing, replying, saving};
 use box_events::{Asks, Event, Push, Reply, Saved};
 use channel_box::{Channels, WatchFault};
 use pts_machine::{Lane, Mode};
@@ -123,6 +126,7 @@ impl Client {
     /// The number of the next request.
     pub fn next(&self) -> u32
         ensures value { result ≡ self.now.next }
+        ensures low { 1 ≤ result }
         ensures mode { HasOneMode self.now }
     {
         self.parts.next
@@ -135,7 +139,8 @@ impl Client {
     }
 
     pub fn secret(&self) -> &Lane<Event>
-        ensures { result.now.state ≡ self.now.secret }
+        ensures value { result.now.state ≡ self.now.secret }
+        ensures messages { HasMessages self.now.secret }
     {
         &self.parts.secret
     }
@@ -152,10 +157,25 @@ impl Client {
         &self.parts.channels
     }
 
-    /// What the client saves: all but what it holds, its modes and its flags.
+    /// What the client saves: all but what it holds, its modes and its flags. Loaded it is the client after a restart, as long as the
+    /// next number isn't too high for that.
     pub fn save(&self, alloc: Global) -> Result<Saved, Memory>
-        ensures { IfOk result (λ saved. saved ≡ saved_of self.now) }
+        ensures value { IfOk result (λ saved. saved ≡ saved_of self.now) }
+        ensures range { IfOk result IsSavedInRange }
+        ensures loads { self.now.next ≤ MAX_NEXT → IfOk result (IsRestartOf self.now) }
     {
         saving::save(&self.parts, alloc)
+    }
+
+    /// A client of what was saved, or the first cause why there is none: the next number, a lane, the order of settings, the channels.
+    /// What a client saved is that client after a restart. Where there would be 2^31 settings, there is no memory.
+    pub fn load(alloc: Global, saved: Saved) -> Result<Client, LoadFault>
+        requires range { IsSavedInRange saved }
+        ensures ok { IfOk result (IsLoadedAs saved) }
+        ensures err { IfErr result (IsCauseOf saved) }
+        ensures restarts { (c : ClientState) → saved ≡ saved_of c → IfOk result (λ loaded. loaded ≡ restarted c) }
+    {
+        let parts = loading::load(alloc, saved)?;
+        Ok(Client { parts })
     }
 }

@@ -1,4 +1,5 @@
-//! What comes of an answer.
+//! What comes of an answer, and why nothing is loaded.
+use box_events::LaneName;
 use difference::WeaveFault;
 use std::alloc::AllocError;
 use thiserror::Error;
@@ -27,6 +28,25 @@ pub enum ClientFault {
     /// The seq of a final answer is below the client's.
     #[error("seq {seq} is below {at}")]
     SeqBack { at: u32, seq: u32 },
+    #[error("out of memory")]
+    Memory,
+}
+
+/// Why a saved client isn't loaded.
+#[derive(Clone, Copy, Debug, PartialEq, Eq, Error)]
+pub enum LoadFault {
+    /// The number of the next request is 0 or above 2,000,000,000.
+    #[error("request {next} is no next one")]
+    BadNext { next: u32 },
+    /// The lane doesn't end where its events do, or the secret lane has an event that is no message.
+    #[error("the events of {lane:?} don't fit")]
+    BadLane { lane: LaneName },
+    /// The key at this index, from 0, is not above the one before.
+    #[error("setting {place} isn't in order")]
+    BadSettings { place: u32 },
+    /// The channel at this index, from 0, has the id of one before, or is one more than 64.
+    #[error("channel {place} is one too many")]
+    BadChannels { place: u32 },
     #[error("out of memory")]
     Memory,
 }

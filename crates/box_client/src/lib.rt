@@ -6,11 +6,12 @@ mod brought;
 mod client;
 mod fault;
 mod laws;
+mod loading;
 mod parts;
 mod pushing;
 mod replying;
 mod saving;
 
 pub use client::Client;
-pub use fault::{ClientFault, Told};
+pub use fault::{ClientFault, LoadFault, Told};
 pub use laws::{numbers_alone, numbers_are_given_once};

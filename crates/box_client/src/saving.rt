@@ -1,8 +1,13 @@
 //! What a client saves.
-ghost use Rattle.std.specs.Prelude.{◌≡◌, ◌≤◌, IfOk, map, true};
+ghost use Rattle.std.specs.Prelude.{◌≡◌, ◌≤◌, IfOk, map, true, None, []};
 ghost use Rattle.channel_box.specs.States.{states, first, has_id};
 ghost use Rattle.channel_box.specs.Steps.{is_watched};
-ghost use Rattle.box_client.specs.Saving.{lane_saved, channel_saved, IsSavedOf, saved_of};
+ghost use Rattle.box_client.specs.Messages.{HasMessages};
+ghost use Rattle.box_client.specs.Saving.{lane_saved, channel_saved, IsSavedOf, saved_of, is_even, uneven_channel, surplus_after};
+ghost use Rattle.box_client.specs.Loads.{IsRestartOf};
+ghost use Rattle.box_client.specs.Ranges.{AreChannelsInRange, IsSavedInRange};
+ghost use Rattle.box_events.specs.declared.limits.TheConstants.{MAX_END};
+ghost use Rattle.box_client.specs.declared.loading.TheConstants.{MAX_NEXT};
 ghost use Rattle.box_client.specs.Views.{client_of};
 
 use crate::parts::Parts;
@@ -14,7 +19,11 @@ use tl_base::{Bytes, Memory};
 
 /// What a client saves; all is copied.
 pub fn save(parts: &Parts, alloc: Global) -> Result<Saved, Memory>
-    ensures { IfOk result (λ saved. saved ≡ saved_of (client_of parts.now)) }
+    requires next { 1 ≤ parts.now.next }
+    requires messages { HasMessages parts.now.secret.state }
+    ensures value { IfOk result (λ saved. saved ≡ saved_of (client_of parts.now)) }
+    ensures range { IfOk result IsSavedInRange }
+    ensures loads { parts.now.next ≤ MAX_NEXT → IfOk result (IsRestartOf (client_of parts.now)) }
 {
     Ok(Saved {
         next: parts.next,
@@ -28,7 +37,9 @@ pub fn save(parts: &Parts, alloc: Global) -> Result<Saved, Memory>
 }
 
 fn save_lane(alloc: Global, lane: &Lane<Event>) -> Result<SavedLane, Memory>
-    ensures { IfOk result (λ saved. saved ≡ lane_saved lane.now.state) }
+    ensures value { IfOk result (λ saved. saved ≡ lane_saved lane.now.state) }
+    ensures even { IfOk result (λ saved. is_even saved ≡ true) }
+    ensures limit { IfOk result (λ saved. saved.at ≤ MAX_END) }
 {
     Ok(SavedLane {
         restart: lane.restart(),
@@ -38,7 +49,10 @@ fn save_lane(alloc: Global, lane: &Lane<Event>) -> Result<SavedLane, Memory>
 }
 
 fn save_channels(alloc: Global, channels: &Channels) -> Result<ListOf<SavedChannel>, Memory>
-    ensures { IfOk result (λ saved. saved ≡ map channel_saved (states channels.now)) }
+    ensures value { IfOk result (λ saved. saved ≡ map channel_saved (states channels.now)) }
+    ensures even { IfOk result (λ saved. uneven_channel saved ≡ None) }
+    ensures limit { IfOk result AreChannelsInRange }
+    ensures ids { IfOk result (λ saved. surplus_after [] saved ≡ None) }
 {
     let mut saved = Vec::with_capacity(alloc, channels.ids().len())?;
     for id in channels.ids() {
@@ -49,7 +63,9 @@ fn save_channels(alloc: Global, channels: &Channels) -> Result<ListOf<SavedChann
 
 fn save_channel(alloc: Global, channels: &Channels, id: i64) -> Result<SavedChannel, Memory>
     requires watched { is_watched (states channels.now) id ≡ true }
-    ensures { IfOk result (λ saved. IsSavedOf (first (has_id id) (states channels.now)) saved) }
+    ensures value { IfOk result (λ saved. IsSavedOf (first (has_id id) (states channels.now)) saved) }
+    ensures even { IfOk result (λ saved. is_even saved.lane ≡ true) }
+    ensures limit { IfOk result (λ saved. saved.lane.at ≤ MAX_END) }
 {
     let lane = match channels.lane(id) {
         Some(lane) => save_lane(alloc, lane)?,

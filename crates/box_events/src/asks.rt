@@ -23,7 +23,7 @@ enum Ask {
 }
 
 /// Up to 65 requests for differences, in the order in which they were put. They take no memory.
-#[derive(Debug)]
+#[derive(Debug, Drop)]
 pub struct Asks {
     places: [Ask; MAX_ASKS],
     len: u32,

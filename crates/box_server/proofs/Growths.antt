@@ -19,7 +19,7 @@ use Rattle.box_events.proofs.Stretches.{between_grows, appended_lies}
 use Rattle.box_server.specs.declared.fault.PostFault.{PostFault}
 use Rattle.box_server.specs.Servers.{ChannelBox, ServerState, channel_in, channel_end, dated_at}
 use Rattle.box_server.specs.Entries.{Entry, to_common, to_secret, to_channel, to_settings, entries_of}
-use Rattle.box_server.specs.Posting.{with_event, applied, applied_all, cut, excess, posted, updates_of, settings_of, first_number, last_number}
+use Rattle.box_server.specs.Posting.{with_event, applied, applied_all, cut, excess, posted, updates_of, settings_of, first_number, last_number, dated_with}
 use Rattle.box_server.specs.Refusing.{post_cause}
 use Rattle.box_server.specs.Receiving.{state_by, after_post}
 use Rattle.box_server.specs.Growing.{IsWhole, HasMore, GrowsTo, channel_events, LiesAt, AllLie, pushed_settings}
@@ -273,10 +273,7 @@ updates_lie s random_id posts whole are =
 
 -- ---- settings of posts
 
-abbrev pub dated_with : ℕ → Setting → Dated
-dated_with date x = record { setting = x; date = date }
-
-settings_after : (s : ServerState) (xs : List Entry) → (applied_all s xs).settings ≡ s.settings ++ each (dated_with s.date) (settings_of xs)
+pub settings_after : (s : ServerState) (xs : List Entry) → (applied_all s xs).settings ≡ s.settings ++ each (dated_with s.date) (settings_of xs)
 settings_after s [] = sym (append-nil s.settings)
 settings_after s (to_common e ∷ xs) = settings_after (applied s (to_common e)) xs
 settings_after s (to_secret body ∷ xs) = settings_after (applied s (to_secret body)) xs

@@ -80,7 +80,7 @@ sorted_present : {A : Type 0} (L : List Dated) (es : Indexes A) → Rises es →
 sorted_present L [] r = tt
 sorted_present L (x ∷ xs) r = sorted_present_at (entry_at L x.1) x.0.items (present L xs) (below_present L x.0.items xs r.0) (sorted_present L xs r.1)
 
-eq_of : (o : Ordering) → is_eq o ≡ true → o ≡ Equal
+pub eq_of : (o : Ordering) → is_eq o ≡ true → o ≡ Equal
 eq_of Less e = absurd cc
 eq_of Equal e = refl
 eq_of Greater e = absurd cc

@@ -4,6 +4,8 @@ use Rattle.std.proofs.lemmas.List.Elements.{All-nil}
 use Rattle.std.specs.Ordering.{int_cmp, nat_cmp}
 use Rattle.std.specs.Cmp.Lexicographic.{slice_cmp}
 use Rattle.std.specs.FinMap as map
+use Rattle.std.specs.List.Sorted.{IsStrictlySortedBy}
+use Rattle.std.specs.Map.{keys_of}
 use Rattle.box_events.specs.declared.positions.Receipt.{Receipt}
 use Rattle.box_events.specs.Events.{EventView, is_new}
 use Rattle.box_events.specs.BoxViews.{BoxView}
@@ -41,5 +43,5 @@ view_new s none date common secret empty channels settings receipts =
     let second = ap (λ (b : BoxView). b.events) secret ∙ empty in
     λ i. record { date = date i; common = first i; secret = second i; channels = each channel_view (channels i); settings = settings i; receipts = shared i }
 
-pub server_new : (s : Inside) → server_view s ≡ new_server → s.common.first ≡ 0 → s.secret.first ≡ 0 → IsServer s
-server_new s view common secret = record { sound = subst IsSound (sym view) sound_new; common = common; secret = secret }
+pub server_new : (s : Inside) → server_view s ≡ new_server → s.common.first ≡ 0 → s.secret.first ≡ 0 → IsStrictlySortedBy int_cmp (keys_of s.receipts.entries) → IsServer s
+server_new s view common secret order = record { sound = subst IsSound (sym view) sound_new; common = common; secret = secret; order = order }

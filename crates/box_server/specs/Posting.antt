@@ -14,6 +14,7 @@ use Rattle.box_events.specs.declared.updates.Push.TheVariants.{Container}
 use Rattle.box_events.specs.declared.settings.Setting.{Setting}
 use Rattle.box_events.specs.Events.{EventView, added}
 use Rattle.box_events.specs.Boxes.{ending}
+use Rattle.box_events.specs.SettingLists.{Dated}
 use Rattle.box_server.specs.Servers.{ChannelBox, ServerState, lane_end}
 use Rattle.box_server.specs.Entries.{Entry, to_common, to_secret, to_channel, to_settings, entries_of, lane_of, raise_of}
 
@@ -75,6 +76,10 @@ settings_of (to_common e ∷ xs) = settings_of xs
 settings_of (to_secret body ∷ xs) = settings_of xs
 settings_of (to_channel id e ∷ xs) = settings_of xs
 settings_of (to_settings x ∷ xs) = x ∷ settings_of xs
+
+-- a setting with a date
+abbrev pub dated_with : ℕ → Setting → Dated
+dated_with date x = record { setting = x; date = date }
 
 -- the numbers of the first and the last of settings that follow a seq; both are 0 where there is none
 abbrev pub first_number : ℕ → List Setting → ℕ

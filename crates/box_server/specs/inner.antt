@@ -3,3 +3,9 @@ pub mod ServerCodes
 pub mod LastIndexes
 pub mod Insides
 pub mod Carrying
+pub mod Drafts
+pub mod Drafted
+pub mod Checks
+pub mod Opening
+pub mod Rooms
+pub mod Taking

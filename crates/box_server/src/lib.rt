@@ -3,13 +3,19 @@
 
 mod answers;
 mod channel;
+mod checking;
 mod dated;
+mod draft;
 mod fault;
 mod laws;
+mod opening;
+mod places;
 mod posted;
+mod room;
 mod runs;
 mod server;
 mod setting_list;
+mod tail;
 
 pub use fault::PostFault;
 pub use laws::{

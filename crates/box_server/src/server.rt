@@ -1,15 +1,31 @@
 //! Servers.
-ghost use Rattle.std.specs.Prelude.{◌≡◌, ◌<◌, ◌^◌, IfOk, MatchOption};
+ghost use Rattle.std.specs.Prelude.{◌≡◌, ◌<◌, ◌≤◌, ◌^◌, IfOk, MatchOption, Option, eqb, ltb, false};
+ghost use Rattle.std.specs.FinMap as map;
+ghost use Rattle.std.specs.List.{list_any};
+ghost use Rattle.box_events.specs.Events.{count_of};
+ghost use Rattle.box_events.specs.declared.limits.TheConstants.{MAX_IDS, MAX_KEYS};
+ghost use Rattle.box_server.specs.Entries.{entries_of, is_event};
+ghost use Rattle.box_server.specs.LastEntries.{keys_in};
+ghost use Rattle.box_server.specs.Receiving.{Receives};
+ghost use Rattle.box_server.specs.inner.Drafted.{Fits, joined, Drafts, IsBlank};
+ghost use Rattle.box_server.specs.inner.Taking.{CountsKeys, Takes, with_draft};
 ghost use Rattle.box_server.specs.Answers.{IsAnswered, answer, difference_of, channel_difference};
 ghost use Rattle.box_server.specs.Servers.{new_server, dated_at, state_of, channel_in, empty_channel};
 ghost use Rattle.box_server.specs.Sound.{IsSound};
 ghost use Rattle.box_server.specs.inner.Carrying.{boxed};
 
 use crate::answers::{are_whole, channel_reply, difference, is_at, number_of, refusal};
-use crate::channel::Channel;
+use crate::channel::{Channel, append_all};
+use crate::checking::check;
+use crate::draft::Draft;
+use crate::fault::PostFault;
+use crate::opening::opens_too_many;
+use crate::posted::Posted;
+use crate::room::{blank_tails, grow, make_room, numbers};
 use crate::runs::run_from;
 use crate::setting_list::SettingList;
-use box_events::{EventBox, ListOf, Receipt, Reply, Request, State};
+use crate::tail::Tail;
+use box_events::{EventBox, ListOf, MAX_KEYS, Post, Push, Receipt, Reply, Request, State};
 use std::alloc::Global;
 use std::collections::BTreeMap;
 use std::marker::Model;
@@ -129,6 +145,114 @@ impl Server {
             Some(events) => channel_reply(alloc, events, pts),
             None => channel_reply(alloc, &EventBox::new(alloc), pts),
         }
+    }
+
+    /// Takes posts under a random id, all or none of them. Under an id that was received before nothing is posted: the answer is the receipt that it
+    /// had, and there is no push. After a post each channel keeps its last 500 events. Where memory runs out nothing changes.
+    pub fn post(&mut self, random_id: i64, posts: &[Post]) -> Result<Posted, PostFault>
+        ensures { Receives self.old random_id posts.now result self.new }
+    {
+        if let Some(receipt) = self.receipts.get(&random_id) {
+            return Ok(Posted {
+                receipt: *receipt,
+                push: None,
+            });
+        }
+        check(posts)?;
+        let keys = self.keys_with(posts)?;
+        let draft = self.draft(posts)?;
+        self.take(random_id, keys, draft)
+    }
+
+    // How many keys have a setting with these posts. It refuses them where too much would be kept.
+    fn keys_with(&self, posts: &[Post]) -> Result<usize, PostFault>
+        ensures { CountsKeys self.now posts.now result }
+    {
+        let alloc = *self.channels.allocator();
+        if opens_too_many(alloc, &self.channels, posts)? {
+            return Err(PostFault::TooManyChannels);
+        }
+        let keys = self.settings.keys_with(posts)?;
+        if keys > MAX_KEYS {
+            return Err(PostFault::TooManySettings);
+        }
+        Ok(keys)
+    }
+
+    // A draft of what posts bring.
+    fn draft(&self, posts: &[Post]) -> Result<Draft, PostFault>
+        requires some { list_any (is_event (λ e. eqb (count_of e) 0)) (entries_of posts.now) ≡ false }
+        requires few { list_any (is_event (λ e. ltb MAX_IDS (count_of e))) (entries_of posts.now) ≡ false }
+        ensures { Drafts self.now posts.now result }
+    {
+        let mut draft = self.blank_draft()?;
+        draft.add_all(posts)?;
+        Ok(draft)
+    }
+
+    fn blank_draft(&self) -> Result<Draft, Memory>
+        ensures { IfOk result (IsBlank self.now) }
+    {
+        let alloc = *self.channels.allocator();
+        Ok(Draft {
+            date: self.date,
+            common: Tail::new(alloc, 0, self.common.end()),
+            secret: Tail::new(alloc, 0, self.secret.end()),
+            channels: blank_tails(alloc, &self.channels)?,
+            seq: self.settings.len() as u32,
+            settings: Vec::new(alloc),
+            updates: ListOf::new(alloc),
+        })
+    }
+
+    // Takes what a draft brings, and keeps the receipt of it. All memory is taken before anything changes.
+    fn take(&mut self, random_id: i64, keys: usize, draft: Draft) -> Result<Posted, PostFault>
+        requires fits { Fits self.old draft }
+        requires keys { keys ≡ keys_in (joined self.old draft).settings }
+        requires few { keys ≤ MAX_KEYS }
+        requires fresh { map.get self.old.receipts random_id ≡ Option.None }
+        requires sound { IsSound (with_draft self.old random_id draft) }
+        ensures { Takes self.old random_id draft result self.new }
+    {
+        let Draft {
+            date,
+            common,
+            secret,
+            channels,
+            seq,
+            settings,
+            updates,
+        } = draft;
+        self.common.reserve(common.len() as u32)?;
+        self.secret.reserve(secret.len() as u32)?;
+        let opened = make_room(&mut self.channels, &channels)?;
+        let receipt = Receipt {
+            pts: common.end(),
+            qts: secret.end(),
+            date,
+            seq,
+        };
+        let (first, last) = numbers(self.settings.len() as u32, seq);
+        self.receipts.insert(random_id, receipt)?;
+        match self.settings.append_all(settings, keys) {
+            Ok(()) => {}
+            Err(_) => {
+                self.receipts.remove(&random_id);
+                return Err(PostFault::Memory);
+            }
+        }
+        append_all(&mut self.common, common.into_events());
+        append_all(&mut self.secret, secret.into_events());
+        grow(&mut self.channels, opened, channels);
+        Ok(Posted {
+            receipt,
+            push: Some(Push::Container {
+                updates,
+                date,
+                seq_start: first,
+                seq: last,
+            }),
+        })
     }
 
     // The box of a channel, where it has one.

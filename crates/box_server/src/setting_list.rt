@@ -1,21 +1,27 @@
 //! Lists of settings, and the last of each key.
-ghost use Rattle.std.specs.Prelude.{◌≡◌, [], IfOk, length, Option, MatchOption};
-ghost use Rattle.box_server.specs.LastEntries.{changed_since};
-ghost use Rattle.box_server.specs.inner.LastIndexes.{entry_at, since_at};
+ghost use Rattle.std.specs.Prelude.{◌≡◌, ◌+◌, ◌≤◌, ◌++◌, ℕ, [], IfOk, OnOk, OnErr, length, map, Option, MatchOption, is_some};
+ghost use Rattle.box_events.specs.declared.limits.TheConstants.{MAX_END, MAX_KEYS};
+ghost use Rattle.box_events.specs.SettingLists.{last_of};
+ghost use Rattle.box_server.specs.Entries.{entries_of};
+ghost use Rattle.box_server.specs.LastEntries.{changed_since, keys_in};
+ghost use Rattle.box_server.specs.Posting.{dated_with, settings_of};
+ghost use Rattle.box_server.specs.inner.LastIndexes.{entry_at, since_at, NotesFresh, NotesPost};
 
 use crate::dated::DatedSetting;
-use box_events::{ListOf, Setting};
+use crate::places::{note_all, release_places, take_places};
+use box_events::{ListOf, Post, Setting};
 use std::alloc::Global;
 use std::collections::BTreeMap;
 use std::marker::Model;
-use tl_base::Memory;
+use tl_base::{Bytes, Memory};
 
 /// Settings in the order in which they were set. For each key the index of its last setting stands in an ordered map; a key that is yet to
-/// have its first has none.
+/// have its first has none. At most 256 keys have one.
 #[derive(Drop)]
 pub struct SettingList {
     settings: Vec<DatedSetting>,
     last: BTreeMap<Vec<u8>, Option<u32>>,
+    keys: usize,
 }
 
 impl Model for SettingList {
@@ -23,7 +29,7 @@ impl Model for SettingList {
     ghost use Rattle.std.specs.Coded.{coded_list};
     ghost use Rattle.box_events.specs.SettingLists.{Dated};
     ghost use Rattle.box_server.specs.inner.ServerCodes.{dated_code};
-    ghost use Rattle.box_server.specs.inner.LastIndexes.{ShowsLast};
+    ghost use Rattle.box_server.specs.inner.LastIndexes.{IsIndexed};
 
     ghost Value = { List Dated };
 
@@ -31,7 +37,7 @@ impl Model for SettingList {
 
     ghost view = { λ l. l.settings.items };
 
-    ghost invariant = { λ l. ShowsLast l.settings.items l.last.entries };
+    ghost invariant = { λ l. IsIndexed l.settings.items l.last.entries l.keys };
 }
 
 impl SettingList {
@@ -41,6 +47,7 @@ impl SettingList {
         SettingList {
             settings: Vec::new(alloc),
             last: BTreeMap::new(alloc),
+            keys: 0,
         }
     }
 
@@ -62,6 +69,77 @@ impl SettingList {
             }
         }
         Ok(changed)
+    }
+
+    /// How many keys there are with the settings of posts.
+    pub fn keys_with(&self, posts: &[Post]) -> Result<usize, Memory>
+        ensures { IfOk result (λ n. (date : ℕ) → n ≡ keys_in (self.now ++ map (dated_with date) (settings_of (entries_of posts.now)))) }
+    {
+        let mut fresh: BTreeMap<Vec<u8>, Option<u32>> = BTreeMap::new(*self.settings.allocator());
+        for post in posts {
+            self.note_post(&mut fresh, post)?;
+        }
+        Ok(self.keys + fresh.len())
+    }
+
+    // Notes the key that a post sets, where it has no setting.
+    fn note_post(
+        &self,
+        fresh: &mut BTreeMap<Vec<u8>, Option<u32>>,
+        post: &Post,
+    ) -> Result<(), Memory>
+        ensures { OnOk result (NotesPost self.now fresh.old.entries fresh.new.entries post.now) }
+    {
+        let Post::Setting { key, .. } = post else {
+            return Ok(());
+        };
+        self.note_fresh(fresh, key)
+    }
+
+    // Notes a key that has no setting.
+    fn note_fresh(
+        &self,
+        fresh: &mut BTreeMap<Vec<u8>, Option<u32>>,
+        key: &Bytes,
+    ) -> Result<(), Memory>
+        ensures { OnOk result (NotesFresh self.now fresh.old.entries fresh.new.entries key.now) }
+    {
+        if self.has(key.as_slice()) {
+            return Ok(());
+        }
+        if fresh.contains_key(key.as_slice()) {
+            return Ok(());
+        }
+        fresh.insert(key.copy()?.into_vec(), None)?;
+        Ok(())
+    }
+
+    // Whether a key has a setting.
+    fn has(&self, key: &[u8]) -> bool
+        ensures { result ≡ is_some (last_of self.now key.now) }
+    {
+        match self.last.get(key) {
+            Some(Some(at)) => self.settings.get(*at as usize).is_some(),
+            Some(None) | None => false,
+        }
+    }
+
+    /// Appends settings, all or none of them. So many keys have a setting then.
+    pub fn append_all(&mut self, more: Vec<DatedSetting>, keys: usize) -> Result<(), Memory>
+        requires limit { length self.old + length more.items ≤ MAX_END }
+        requires keys { keys ≡ keys_in (self.old ++ more.items) }
+        requires few { keys ≤ MAX_KEYS }
+        ensures ok { OnOk result (self.new ≡ self.old ++ more.items) }
+        ensures err { OnErr result (self.new ≡ self.old) }
+    {
+        self.settings.reserve(more.len())?;
+        if let Err(fault) = take_places(&mut self.last, &more) {
+            release_places(&mut self.last, &more);
+            return Err(fault);
+        }
+        note_all(&mut self.settings, &mut self.last, more);
+        self.keys = keys;
+        Ok(())
     }
 
     // The setting of an index, where there is one that is dated not before a date.

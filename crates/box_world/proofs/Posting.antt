@@ -15,8 +15,7 @@ use Rattle.box_events.proofs.Boundaries.{ending-append}
 use Rattle.box_server.specs.declared.fault.PostFault.{PostFault}
 use Rattle.box_server.specs.Servers.{ChannelBox, ServerState, channel_in}
 use Rattle.box_server.specs.Entries.{Entry, to_common, to_secret, to_channel, to_settings, entries_of, is_event}
-use Rattle.box_server.specs.Posting.{applied, applied_all, cut, excess, posted, push_of, updates_of, settings_of, first_number, last_number}
-use Rattle.box_server.proofs.Growths.{dated_with}
+use Rattle.box_server.specs.Posting.{applied, applied_all, cut, excess, posted, push_of, updates_of, settings_of, first_number, last_number, dated_with}
 use Rattle.box_server.specs.Refusing.{first_cause, bad_entries, too_many, box_full, post_cause}
 use Rattle.box_server.specs.Growing.{IsWhole, channel_events}
 use Rattle.box_server.proofs.Growths.{with_more, channel_posted, posted_grows, updates_lie, settings_posted}

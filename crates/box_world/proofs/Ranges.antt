@@ -24,12 +24,12 @@ use Rattle.box_server.specs.declared.fault.PostFault.{PostFault}
 use Rattle.box_server.specs.declared.fault.PostFault.TheVariants.{BoxFull}
 use Rattle.box_server.specs.Servers.{ChannelBox, ServerState, channel_end, channel_in, lane_end}
 use Rattle.box_server.specs.Entries.{Entry, to_common, to_secret, to_channel, to_settings, entries_of, lane_of, raise_of, bytes_of}
-use Rattle.box_server.specs.Posting.{applied, applied_all, cut, excess, posted, push_of, updates_of, settings_of, first_number, last_number}
+use Rattle.box_server.specs.Posting.{applied, applied_all, cut, excess, posted, push_of, updates_of, settings_of, first_number, last_number, dated_with}
 use Rattle.box_server.specs.Refusing.{box_full, post_cause}
 use Rattle.box_server.specs.Runs.{limited, run_of}
 use Rattle.box_server.specs.Answers.{is_whole, is_far, carried, last_by, difference_by, difference_of, channel_part, channel_by, channel_difference, answer}
 use Rattle.box_server.specs.LastEntries.{changed_since}
-use Rattle.box_server.proofs.Growths.{same_id, with_more, channel_with, channel_cut, settings_posted, dated_with}
+use Rattle.box_server.proofs.Growths.{same_id, with_more, channel_with, channel_cut, settings_posted}
 use Rattle.box_client.specs.States.{ClientState}
 use Rattle.box_client.specs.Pushes.{settings_in}
 use Rattle.box_client.specs.Ranges.{AreUpdatesInRange, IsSeqInRange, IsPushInRange, IsReplyInRange}

@@ -1,6 +1,6 @@
 pub mod FormedWords
 pub mod OneSpelling
-pub mod WholeInput
+pub mod FedWhole
 pub mod Loading
 pub mod JsonInputs
 pub mod OneTyped

@@ -1,15 +1,18 @@
 //! Values that are whole inputs.
-ghost use Rattle.std.specs.Prelude.{◌<◌, IsErrOf, IfSome};
+ghost use Rattle.std.specs.Prelude.{◌<◌, [], IfOk, IfSome, IsErrOf};
 ghost use Rattle.tl_base.specs.Using.{Used};
 ghost use Rattle.tl_schema.specs.Types.{Shape};
 ghost use Rattle.tl_schema.specs.Formed.{IsFormed};
+ghost use Rattle.tl_plan.specs.Plans.{IsPlan};
 ghost use Rattle.tl_plan.specs.PlanLaws.{IsInstance};
-ghost use Rattle.codec_commands.specs.Decoding.{DecodesWhole};
+ghost use Rattle.tl_types.specs.Values.{ValueView};
+ghost use Rattle.tl_decode.specs.Decoders.{HasTaken, HasValue};
+ghost use Rattle.codec_commands.specs.Decoding.{DecodesWhole, EndsAfter, FeedsWhole};
 
 use std::alloc::Global;
 use thiserror::Error;
 use tl_base::{Failed, Source, take_end};
-use tl_decode::{DecodeFault, decode};
+use tl_decode::{DecodeFault, Decoder, Fed};
 use tl_plan::Plan;
 use tl_types::{Cause, Value};
 
@@ -54,6 +57,9 @@ impl From<Failed> for InputFault {
     }
 }
 
+// How many bytes are read at once.
+const PIECE_BYTES: usize = 8192;
+
 /// Reads the one value that is the whole input, by the plan of its type.
 pub fn decode_whole<S: Source>(
     alloc: Global,
@@ -67,10 +73,55 @@ pub fn decode_whole<S: Source>(
 {
     // Read for the proof alone: that the plan is sound.
     let _count = plan.count();
-    let mut at = 0;
-    let value = decode(alloc, plan, 0, &mut at, from)?;
-    if !take_end(from)? {
-        return Err(InputFault::Trailing { place: at });
+    let mut decoder = Decoder::new(alloc, plan, 0);
+    feed_all(&mut decoder, from)?;
+    Ok(decoder.into_value())
+}
+
+// Feeds a decoder that has taken nothing with all that is left, piece by piece.
+fn feed_all<'p, 's, S: Source>(
+    decoder: &mut Decoder<'p, 's>,
+    from: &mut S,
+) -> Result<(), InputFault>
+    requires sound { IsPlan decoder.old.plan }
+    requires first { HasTaken decoder.old [] }
+    requires formed { (T : Shape) → IsInstance decoder.old.plan decoder.old.root T → IsFormed decoder.old.plan.schema T }
+    ensures value { IfOk result (λ _. (v : ValueView) × HasValue decoder.new v) }
+    ensures whole { (T : Shape) → IsInstance decoder.old.plan decoder.old.root T → IfSome (S.state from.old).left (λ bytes. FeedsWhole decoder.old.plan.schema T bytes decoder.new result) }
+    ensures used { Used (S.state from.old) (S.state from.new) (IsErrOf result InputFault.ReadFault) }
+{
+    let mut piece = [0u8; PIECE_BYTES];
+    if let Fed::Done { .. } = decoder.feed(&[])? {
+        return after_value(0, false, from);
     }
-    Ok(value)
+    let mut at = 0u64;
+    'pieces: loop {
+        let size = from.read(&mut piece)?;
+        if size == 0 {
+            return Err(InputFault::Refused {
+                place: decoder.ended(),
+                cause: Cause::Truncated,
+            });
+        }
+        match decoder.feed(&piece[..size])? {
+            Fed::More => at = at.saturating_add(size as u64),
+            Fed::Done { used } => {
+                return after_value(at.saturating_add(used as u64), used < size, from);
+            }
+        }
+    }
+}
+
+// The end of the input after a value, unless bytes follow it in its piece or after that.
+fn after_value<S: Source>(place: u64, more: bool, from: &mut S) -> Result<(), InputFault>
+    ensures end { IfSome (S.state from.old).left (λ bytes. EndsAfter place more bytes result) }
+    ensures used { Used (S.state from.old) (S.state from.new) (IsErrOf result InputFault.ReadFault) }
+{
+    if more {
+        return Err(InputFault::Trailing { place });
+    }
+    if !take_end(from)? {
+        return Err(InputFault::Trailing { place });
+    }
+    Ok(())
 }

@@ -300,3 +300,15 @@ pub less_left : (d : DecoderView) (f : Found) → d.found ≡ f → (fs : List F
 unfolding pieces_left
 less_left d f is fs held piece g fed.More at stopped t some e = subst (λ (z : Found). piece_work d.plan fs g held < piece_work d.plan d.frames z d.held) (sym is) (t some)
 less_left d f is fs held piece g (fed.Done u) at stopped t some e = never_more (sym e)
+
+-- ---- no read fault
+
+pub same_fault : {e f : DecodeFault} → ◌≡◌ {A = Result Fed DecodeFault} (Err e) (Err f) → e ≡ f
+same_fault e = cc
+
+pub stopped_unread : (d : DecoderView) (bytes : List ℕ) → HasTaken d bytes → (e : DecodeFault) → d.stopped ≡ Some e → e ≡ fault.ReadFault → ⊥
+unfolding HasTaken
+stopped_unread d bytes h e stopped is = subst (λ (f : DecodeFault). HasStopped d bytes (Some f)) is (subst (HasStopped d bytes) stopped h)
+
+pub piece_unread : (p : PlanView) (old : List ℕ → Read ValueView) (piece : List ℕ) (fs : List Frame) (at : ℕ) (held : List ℕ) (e : DecodeFault) → TakesPiece p old piece fs at held (Err e) → e ≡ fault.ReadFault → ⊥
+piece_unread p old piece fs at held e t is = subst (λ (f : DecodeFault). TakesPiece p old piece fs at held (Err f)) is t

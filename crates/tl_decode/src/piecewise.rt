@@ -106,6 +106,7 @@ impl<'p, 's> Decoder<'p, 's> {
         ensures cut_off { (bytes : List ℕ) → HasTaken self.old bytes → (T : Shape) → IsInstance self.old.plan self.old.root T → (offset : ℕ) → Refused self.old.plan.schema MAX_LEVELS T (bytes ++ piece.now) offset Cause.Truncated → GivesMore self.new result (moved 0 offset) }
         // After Done the value is there.
         ensures done { (used : ℕ) → result ≡ Ok (Fed.Done used) → (v : ValueView) × HasValue self.new v }
+        ensures unread { result ≢ Err DecodeFault.ReadFault }
         // It doesn't ask for more without end.
         ensures less { 0 < length piece.now → result ≡ Ok Fed.More → pieces_left self.new < pieces_left self.old }
         // A fault stays.

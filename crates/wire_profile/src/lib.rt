@@ -10,7 +10,9 @@ mod planning;
 mod profile;
 mod renaming;
 mod tables;
+mod text;
 
 pub use fault::ProfileFault;
 pub use laws::forms_are_spelled;
 pub use profile::Profile;
+pub use text::PROFILE_TEXT;

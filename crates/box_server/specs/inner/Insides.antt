@@ -1,6 +1,9 @@
 -- A server's fields as a server. This project's own.
 use Rattle.std.specs.Prelude.{◌≡◌, map as each}
 use Rattle.std.specs.FinMap as map
+use Rattle.std.specs.List.Sorted.{IsStrictlySortedBy}
+use Rattle.std.specs.Map.{keys_of}
+use Rattle.std.specs.Ordering.{int_cmp}
 use Rattle.box_server.specs.declared.channel.Channel.{Channel}
 use Rattle.box_server.specs.declared.server.Server.TheInside.{Inside}
 use Rattle.box_server.specs.Servers.{ChannelBox, ServerState}
@@ -20,8 +23,9 @@ server_view s = record {
   receipts = map.from_sorted s.receipts.entries;
 }
 
--- what holds of the fields: the common and the secret box keep all their events
+-- what holds of the fields: the common and the secret box keep all their events; receipts stand in the order of their ids
 pub record IsServer (s : Inside) : Type 0 where
   pub sound : IsSound (server_view s)
   pub common : s.common.first ≡ 0
   pub secret : s.secret.first ≡ 0
+  pub order : IsStrictlySortedBy int_cmp (keys_of s.receipts.entries)

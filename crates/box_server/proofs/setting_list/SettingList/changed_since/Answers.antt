@@ -17,4 +17,4 @@ loop-at-preserved c =
 pub returns : goal.returns
 returns c =
     picked_all c.args.date c.args.self.now c.self.inside.settings.items c.self.inside.last.entries c.into_iter-at-iterator.result c.loop-at.at-iterator c.loop-at.changed c.in-None.ensures.steps.0 (c.into_iter-at-iterator.ensures.into_iter_gives ∙ c.iter-at-items.ensures.rest) c.self.view_is
-    c.iter-at-items.ensures.ordered c.self.invariant c.loop-at.invariant
+    c.iter-at-items.ensures.ordered c.self.invariant.shows c.loop-at.invariant

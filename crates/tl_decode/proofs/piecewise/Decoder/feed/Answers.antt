@@ -6,7 +6,7 @@ use Rattle.tl_decode.specs.declared.stack.Fed.TheVariants as fed
 use Rattle.tl_types.specs.Seen.{view}
 use Rattle.tl_decode.specs.inner.Needs.{reads_on}
 use Rattle.tl_decode.specs.Decoders.{DecoderView, HasTaken, pieces_left}
-use Rattle.tl_decode.proofs.FedBytes.{fits_stopped, fits_done, fits_on, fits_err, in_order, says_taken, says_spelled, says_refused, says_more, done_value, less_left, same_fed}
+use Rattle.tl_decode.proofs.FedBytes.{fits_stopped, fits_done, fits_on, fits_err, in_order, says_taken, says_spelled, says_refused, says_more, done_value, less_left, piece_unread, same_fault, same_fed, stopped_unread}
 use Rattle.tl_decode.proofs.piecewise.Decoder.feed.Goals as goal
 
 pub returns-in-Some-clause-taken : goal.returns-in-Some-clause-taken
@@ -199,3 +199,15 @@ returns-in-Done-clause-done c = λ used e.
     let none = ap (λ (d : DecoderView). d.stopped) (sym c.self.view_is) ∙ c.in_default.is in
     let is = ap (λ (d : DecoderView). d.found) (sym c.self.view_is) ∙ c.in-Done.is in
     (view c.in-Done.value, (c.in-Done.value, is, none, refl))
+
+pub returns-in-Some-clause-unread : goal.returns-in-Some-clause-unread
+returns-in-Some-clause-unread c = λ e.
+    let i = c.self.inside in
+    let d : DecoderView = record { plan = i.plan.now; root = i.root; frames = i.frames.items; found = i.found; at = i.at; held = i.held.items; stopped = i.stopped } in
+    let taken = c.self.invariant.taken in
+    stopped_unread d taken.0 taken.1 c.in-Some.fault c.in-Some.is (same_fault e)
+
+pub returns-in-Err-clause-unread : goal.returns-in-Err-clause-unread
+returns-in-Err-clause-unread c = λ e.
+    let i = c.self.inside in
+    piece_unread i.plan.now (reads_on i.plan.now i.frames.items c.replace-first.result i.at i.held.items) c.args.piece.now c.take_piece.new.frames.items c.take_piece.new.at c.take_piece.new.held.items c.in-Err.fault c.in-Err.ensures.takes (same_fault e)

@@ -1,0 +1,19 @@
+use Rattle.std.proofs.Common.{ℤ, refl, arith, ap, ap₂, sym, subst, ◌∙◌, ◌≡◌, ◌++◌, ◌∷◌, [], List, Some, None, Ok, Err, rules, w64}
+use Rattle.std.proofs.lemmas.Int.{to_z-of_z}
+use Rattle.std.proofs.lemmas.Result.{err_from_is_err_and}
+use Rattle.box_events.specs.declared.positions.LaneName.TheVariants.{Common, Secret, Channel, Seq}
+use Rattle.box_events.specs.declared.updates.Update.{Update}
+use Rattle.box_events.specs.declared.updates.Update.TheVariants.{Common as CommonUpdate, Secret as SecretUpdate, Channel as ChannelUpdate, Setting as SettingUpdate}
+use Rattle.box_events.specs.Events.{EventView, added}
+use Rattle.box_server.specs.inner.Drafts.{AddsTo, AddsToChannel}
+use Rattle.box_server.proofs.Drafting.{refuses_common, refuses_secret, refuses_channel, refuses_setting, adds_common, adds_secret, adds_channel, adds_setting}
+use Rattle.box_server.proofs.draft.Draft.add_common.Goals as goal
+
+pub returns : goal.returns
+returns c = λ s fits.
+    adds_common s c.args.self.now _ c.args.event c.in_ok-pts.pts refl c.in_ok-pts.ensures (c.in_ok-push.ensures.ok ∙ ap (λ (e : EventView). c.args.self.now.updates ++ CommonUpdate e c.in_ok-pts.pts ∷ []) c.in_ok-copy.ensures) fits
+
+pub returns-in_err-pts : goal.returns-in_err-pts
+returns-in_err-pts c = λ s fits.
+    let p = err_from_is_err_and c.from_residual-in_err-pts.result c.from_residual-in_err-pts.ensures.1 in
+    rw (p.1, p.2) (refuses_common s c.args.self.now c.args.self.now c.add.new.self c.args.event c.in_err-pts.field-0.0 c.in_err-pts.ensures fits)

@@ -1,0 +1,1 @@
+use Rattle.box_server.proofs.server.Server.draft.Goals as goal
