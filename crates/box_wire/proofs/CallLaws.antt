@@ -107,7 +107,7 @@ query_served v e = tt
 invoke_served : (vs : ValueViews) → is_served (entry_of (at 1 vs)) ≡ true → AreServed (Whole ∷ Query ∷ []) vs
 invoke_served no_values e = tt
 invoke_served (value a no_values) e = (tt, tt)
-invoke_served (value a (value b vs)) e = (tt, query_served b e, tt)
+invoke_served (value a (value b vs)) e = (tt, (query_served b e, tt))
 
 call_served : (t : ValueView) → call_cause t ≡ None → IsServed Query t
 call_served (call k vs) e =

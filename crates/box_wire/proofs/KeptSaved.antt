@@ -104,6 +104,11 @@ field_kept flags (Bare j) v law is = law is
 field_kept flags (ManyBare j) v law is = law is
 field_kept flags Query v law is = law is
 
+node_kept : (vs : ValueViews) (k : ℕ) → saved_in (slice_get forms k) ≡ true → IsClear Saved (node k vs) → EachKept vs → AllKept (node k vs)
+node_kept vs k saved clear kept =
+    (record_kept k vs (clear_here Saved k vs clear Count refl) (λ is. absurd (other_form k DIFFERENCE difference_is saved is)) (λ is. absurd (other_form k DIFFERENCE_SLICE slice_is saved is)) (λ is. absurd (other_form k CHANNEL_DIFFERENCE channel_is saved is)),
+    kept)
+
 mutual
   pub saved_kept : (t : ValueView) (c : Cell) → is_saved c ≡ true → IsOf c t → IsClear Saved t → AllKept t
   saved_kept (int z) c saved is clear = tt
@@ -117,16 +122,14 @@ mutual
   saved_kept (list vs) Bodies saved is clear = each_saved vs Body refl is.1 clear
   saved_kept (list vs) (Many h) saved is clear = each_saved vs (One h) saved is.1 clear
   saved_kept (list vs) (ManyBare j) saved is clear = each_saved vs (Bare j) saved is.1 clear
-  saved_kept (node k vs) (One h) saved is clear = node_saved vs k (one_saved h k saved is.0) is.1 clear
+  saved_kept (node k vs) (One h) saved is clear =
+      let here = one_saved h k saved is.0 in
+      node_kept vs k here clear (fields_saved vs (first vs) (cells_of k) (cells_by k (slice_get forms k) refl here) is.1 (clear_fields Saved k vs clear))
   saved_kept (node k vs) (Bare j) saved is clear =
-      node_saved vs k (subst (λ (n : ℕ). saved_in (slice_get forms n) ≡ true) (sym is.0) saved) (subst (λ (n : ℕ). AreOf (first vs) (cells_of n) vs) (sym is.0) is.1) clear
+      let here = subst (λ (n : ℕ). saved_in (slice_get forms n) ≡ true) (sym is.0) saved in
+      node_kept vs k here clear (fields_saved vs (first vs) (cells_of k) (cells_by k (slice_get forms k) refl here) (subst (λ (n : ℕ). AreOf (first vs) (cells_of n) vs) (sym is.0) is.1) (clear_fields Saved k vs clear))
   saved_kept (call k vs) Query saved is clear = absurd (clash saved)
   saved_kept t c saved is clear = absurd is
-
-  node_saved : (vs : ValueViews) (k : ℕ) → saved_in (slice_get forms k) ≡ true → AreOf (first vs) (cells_of k) vs → IsClear Saved (node k vs) → AllKept (node k vs)
-  node_saved vs k saved are clear =
-      (record_kept k vs (clear_here Saved k vs clear Count refl) (λ is. absurd (other_form k DIFFERENCE difference_is saved is)) (λ is. absurd (other_form k DIFFERENCE_SLICE slice_is saved is)) (λ is. absurd (other_form k CHANNEL_DIFFERENCE channel_is saved is)),
-      fields_saved vs (first vs) (cells_of k) (cells_by k (slice_get forms k) refl saved) are (clear_fields Saved k vs clear))
 
   each_saved : (vs : ValueViews) (c : Cell) → is_saved c ≡ true → EachOf c vs → AreClear Saved vs → EachKept vs
   each_saved no_values c saved is clear = tt

@@ -8,6 +8,7 @@ pub mod FrameLaws
 pub mod Levels
 pub mod ReadBack
 pub mod FrameLevels
+pub mod Called
 pub mod CallLaws
 pub mod StepLaws
 pub mod KeptSaved

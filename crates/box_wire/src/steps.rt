@@ -52,7 +52,7 @@ pub fn read_step<S: Source>(alloc: Global, profile: &Profile, from: &mut S) -> R
 
 // The step of a value with the schema's numbers, or its first cause.
 fn step_from(alloc: Global, profile: &Profile, value: Value) -> Result<Option<Step>, StepReadFault>
-    ensures answers { AnswersStep (cause_of root.Step (owned profile.now (view value.entry))) (step_by (owned profile.now (view value.entry))) result }
+    ensures answers { AnswersStep (cause_of root.Step (owned profile.now (view value))) (step_by (owned profile.now (view value))) result }
     ensures read { IsErrOf result StepReadFault.ReadFault → ⊥ }
 {
     let mut owned = value;

@@ -1,6 +1,18 @@
-use Rattle.tl_schema.specs.Types.{call}
-use Rattle.box_wire.proofs.Spellings.{spelling_is}
+use Rattle.std.proofs.Common.{subst}
+use Rattle.tl_schema.specs.Types.{Shape}
+use Rattle.tl_schema.specs.Seen.{shape}
+use Rattle.tl_schema.specs.declared.schema.TypeRef.TheVariants as ref
+use Rattle.tl_types.specs.Seen.{view}
+use Rattle.box_wire.specs.inner.Wholes.{IsSpelling}
+use Rattle.box_wire.proofs.Called.{called, called_formed}
+use Rattle.box_wire.proofs.Spellings.{put_first, spelling_is}
 use Rattle.box_wire.proofs.wholes.bytes_of_call.Goals as goal
+use Rattle.box_wire.proofs.wholes.bytes_of_call.Goals.{in-Ok+in_ok-spell-in-Ok, in-Err}
 
-pub returns-in-Ok : goal.returns-in-Ok
-returns-in-Ok c = spelling_is c.args.schema.now c.count-count.ensures.sound call tt _ _ c.in-Ok.ensures (λ b s. c.spell.ensures b s)
+pub returns : goal.returns
+returns c = elim c.match-fits.branch [
+  | in-Ok+in_ok-spell-in-Ok w ↦ rw w.result-is (subst (λ (T : Shape). IsSpelling c.args.schema.now T (view c.args.value.now) w.spell.new.out.items) called
+    (spelling_is c.args.schema.now c.count-count.ensures.sound (shape ref.Call) (called_formed c.args.schema.now) (view c.args.value.now) w.spell.new.out.items w.in-Ok.ensures.fits
+    (λ b s. put_first w.new-bytes.result.items w.spell.new.out.items b w.new-bytes.ensures.items (w.in_ok-spell-in-Ok.ensures b s))))
+  | in-Err w ↦ rw w.result-is tt
+]
