@@ -1,8 +1,8 @@
 -- Calls that carry a request, and their values.
-use Rattle.std.specs.Prelude.{⊤, IsTrue, ◌==◌, ◌||◌, ◌⊎◌}
-use Rattle.std.proofs.Common.{◌≡◌, ℕ, suc, ◌≤◌, max, List, [], ◌∷◌, None, Bool, true, false, ◌&&◌, not, refl, sym, ap, ◌∙◌, subst, arith, inl, inr, eqb-true, Result}
+use Rattle.std.specs.Prelude.{⊤, ◌==◌, ◌||◌, ◌⊎◌}
+use Rattle.std.proofs.Common.{◌≡◌, ℕ, ◌≤◌, List, [], ◌∷◌, None, Bool, true, false, refl, sym, subst, arith, inl, inr, eqb-true, Result}
 use Rattle.std.proofs.Math.Nat.{max-le}
-use Rattle.tl_types.specs.Values.{ValueView, int, long, nat, opaque, text, truth, absent, list, node, call, ValueViews, no_values, value, depth, depth_of}
+use Rattle.tl_types.specs.Values.{ValueView, call, ValueViews, no_values, value, depth, depth_of}
 use Rattle.tl_types.specs.declared.value.Value.{Value}
 use Rattle.tl_types.specs.declared.value.TheConstants.{MAX_LEVELS}
 use Rattle.tl_schema.specs.Types as type

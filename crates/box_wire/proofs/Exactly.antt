@@ -1,10 +1,9 @@
 -- Bytes are one message of a kind, or are none for one cause; and what is answered of them.
-use Rattle.std.proofs.Common.{◌≡◌, ℕ, ◌+◌, ◌<◌, ◌≤◌, List, [], ◌++◌, length, append-nil, length-append, Option, Some, None, Result, Ok, Err, sym, ap, ◌∙◌, subst, refl, inl, inr, arith}
+use Rattle.std.proofs.Common.{◌≡◌, ℕ, ◌<◌, List, [], ◌++◌, length, append-nil, length-append, Option, Some, None, Result, Ok, Err, sym, ap, ◌∙◌, subst, refl, inl, inr, arith}
 use Rattle.std.specs.Prelude.{◌⊎◌, IfOk, IfErr}
 use Rattle.tl_base.specs.Contents.{AreBytes}
 use Rattle.tl_schema.specs.Formed.{IsFormed}
-use Rattle.tl_types.specs.Values.{ValueView, depth}
-use Rattle.tl_types.specs.Spelling.{Spells}
+use Rattle.tl_types.specs.Values.{ValueView}
 use Rattle.tl_types.specs.Refusal as refusal
 use Rattle.tl_types.specs.Exactly.{BeginsWith, ExactlyOne}
 use Rattle.tl_types.specs.Offsets.{moved}

@@ -1,5 +1,5 @@
 -- The types of the forms are formed in a profile's schema.
-use Rattle.std.proofs.Common.{◌≡◌, ℕ, ap, ◌∙◌, refl}
+use Rattle.std.proofs.Common.{ℕ, ap, ◌∙◌, refl}
 use Rattle.std.specs.Prelude.{IsTrue}
 use Rattle.tl_schema.specs.Formed.{IsFormed}
 use Rattle.wire_forms.specs.declared.form.Cell.TheVariants.{One}

@@ -105,9 +105,10 @@ field_kept flags (ManyBare j) v law is = law is
 field_kept flags Query v law is = law is
 
 node_kept : (vs : ValueViews) (k : ℕ) → saved_in (slice_get forms k) ≡ true → IsClear Saved (node k vs) → EachKept vs → AllKept (node k vs)
-node_kept vs k saved clear kept =
-    (record_kept k vs (clear_here Saved k vs clear Count refl) (λ is. absurd (other_form k DIFFERENCE difference_is saved is)) (λ is. absurd (other_form k DIFFERENCE_SLICE slice_is saved is)) (λ is. absurd (other_form k CHANNEL_DIFFERENCE channel_is saved is)),
-    kept)
+node_kept vs k saved clear kept = (
+  record_kept k vs (clear_here Saved k vs clear Count refl) (λ is. absurd (other_form k DIFFERENCE difference_is saved is)) (λ is. absurd (other_form k DIFFERENCE_SLICE slice_is saved is)) (λ is. absurd (other_form k CHANNEL_DIFFERENCE channel_is saved is)),
+  kept,
+)
 
 mutual
   pub saved_kept : (t : ValueView) (c : Cell) → is_saved c ≡ true → IsOf c t → IsClear Saved t → AllKept t
@@ -138,6 +139,7 @@ mutual
   fields_saved : (vs : ValueViews) (flags : ValueView) (cs : List Cell) → are_saved cs ≡ true → AreOf flags cs vs → AreClear Saved vs → EachKept vs
   fields_saved no_values flags cs saved is clear = tt
   fields_saved (value v vs) flags [] saved is clear = absurd is
-  fields_saved (value v vs) flags (c ∷ cs) saved is clear =
-      (field_kept flags c v (λ of. saved_kept v c (left_true (is_saved c) (are_saved cs) saved) of (clear_first Saved (value v vs) clear)) is.0,
-      fields_saved vs flags cs (right_true (is_saved c) (are_saved cs) saved) is.1 (clear_rest Saved (value v vs) clear))
+  fields_saved (value v vs) flags (c ∷ cs) saved is clear = (
+    field_kept flags c v (λ of. saved_kept v c (left_true (is_saved c) (are_saved cs) saved) of (clear_first Saved (value v vs) clear)) is.0,
+    fields_saved vs flags cs (right_true (is_saved c) (are_saved cs) saved) is.1 (clear_rest Saved (value v vs) clear),
+  )

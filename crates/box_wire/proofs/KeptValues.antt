@@ -4,11 +4,10 @@ use Rattle.std.proofs.Common.{◌≡◌, ℕ, None, Bool, true, false, refl, sub
 use Rattle.tl_types.specs.Values.{ValueView, int, long, nat, opaque, text, truth, absent, list, node, call, ValueViews, no_values, value, count}
 use Rattle.wire_forms.specs.Parts.{at, parts_of, entry_of, word_of}
 use Rattle.wire_forms.specs.declared.numbers.TheConstants.{UPDATE_EDIT_MESSAGE, UPDATE_DELETE_MESSAGES, UPDATE_SETTING, UPDATE_READ_HISTORY, DIFFERENCE, DIFFERENCE_SLICE, CHANNEL_DIFFERENCE}
-use Rattle.wire_values.specs.Updates.{has_ids}
 use Rattle.wire_values.specs.Others as values
 use Rattle.wire_values.specs.Kept.{CountsIds, IsKept, AllKept, EachKept}
-use Rattle.wire_checks.specs.Ranges.{not_of_ids, bad_ids, are_few}
-use Rattle.wire_checks.specs.Updates.{is_other, wrong_update}
+use Rattle.wire_checks.specs.Ranges.{not_of_ids, are_few}
+use Rattle.wire_checks.specs.Updates.{wrong_update}
 use Rattle.wire_checks.specs.Rules.{count_fault, update_fault}
 use Rattle.wire_checks.specs.Clear.{IsClear, AreClear}
 use Rattle.wire_checks.specs.declared.rule.Rule.TheVariants.{Count, Update}

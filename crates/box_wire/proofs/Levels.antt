@@ -1,6 +1,6 @@
 -- Values of the forms have few levels.
 use Rattle.std.specs.Prelude.{IsTrue, slice_get, nat_lt, nat_le, not}
-use Rattle.std.proofs.Common.{◌≡◌, ℕ, zero, suc, ◌+◌, ◌<◌, ◌≤◌, max, List, [], ◌∷◌, map, get_or, Option, Some, None, Bool, true, false, ◌&&◌, ◌||◌, refl, sym, ap, ap₂, ◌∙◌, subst, arith}
+use Rattle.std.proofs.Common.{◌≡◌, ℕ, zero, suc, ◌≤◌, max, List, [], ◌∷◌, map, get_or, Option, Some, None, Bool, true, false, ◌&&◌, ◌||◌, refl, sym, ap, ap₂, subst, arith}
 use Rattle.std.proofs.Math.Nat.{max-le}
 use Rattle.std.proofs.lemmas.Bool.{leb-true}
 use Rattle.std.proofs.lemmas.Bool.Decides.{nat_tests}
@@ -11,7 +11,7 @@ use Rattle.wire_forms.specs.Forms.{FormView, forms, cells_of, constructs}
 use Rattle.wire_forms.specs.Parts.{first, flag, is_final}
 use Rattle.wire_forms.specs.IsOf.{IsField, IsOf, EachOf, AreOf}
 use Rattle.wire_profile.specs.Renaming.{renamed, renamed_each}
-use Rattle.wire_profile.proofs.FormTable.{IsFormAt, member_form, cells_are, some_is, clash}
+use Rattle.wire_profile.proofs.FormTable.{member_form, cells_are, some_is, clash}
 
 -- ---- how many levels
 

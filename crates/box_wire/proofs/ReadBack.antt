@@ -1,17 +1,15 @@
 -- What is spelled of a message in range means it.
-use Rattle.std.proofs.Common.{◌≡◌, ℕ, ◌≤◌, List, None, sym, ap, ◌∙◌, subst}
+use Rattle.std.proofs.Common.{◌≡◌, ℕ, ◌≤◌, None, sym, ap, ◌∙◌, subst}
 use Rattle.tl_types.specs.Values.{ValueView, depth}
 use Rattle.tl_types.specs.declared.value.TheConstants.{MAX_LEVELS}
 use Rattle.wire_forms.specs.IsOf.{IsOf}
-use Rattle.wire_profile.specs.Places.{ProfileView, form_at, number_at}
-use Rattle.wire_profile.specs.Profiles.{IsProfile}
+use Rattle.wire_profile.specs.Places.{form_at, number_at}
 use Rattle.wire_profile.specs.SpelledForms.{owned, placed}
 use Rattle.wire_profile.proofs.ProfileFacts.{own_again}
 use Rattle.wire_profile.proofs.Renamings.{has_forms, renamed_back}
 use Rattle.wire_profile.proofs.PlacedValues.{placed_of}
 use Rattle.box_wire.specs.Kinds.{Kind}
-use Rattle.box_wire.specs.Framing.{Framed, Means}
-use Rattle.box_wire.specs.Laws.{IsInRange, AreSpelled, AreReadBack}
+use Rattle.box_wire.specs.Laws.{AreSpelled, AreReadBack}
 use Rattle.box_wire.proofs.Exactly.{KindLaws}
 use Rattle.box_wire.proofs.Levels.{depth_same}
 

@@ -1,5 +1,5 @@
 -- What a profile's plan reads and spells is of its schema.
-use Rattle.std.proofs.Common.{◌≡◌, ℕ, List, Some, Result, refl, sym, subst}
+use Rattle.std.proofs.Common.{◌≡◌, ℕ, Some, sym, subst}
 use Rattle.std.specs.Prelude.{slice_get}
 use Rattle.tl_schema.specs.Types.{Shape}
 use Rattle.tl_schema.specs.Schemas.{Declared}

@@ -1,9 +1,8 @@
 -- Which step bytes begin with, or why they begin with none; and what is answered of them.
-use Rattle.std.proofs.Common.{◌≡◌, ℕ, zero, suc, ◌+◌, ◌<◌, ◌≤◌, List, [], ◌∷◌, ◌++◌, length, length-append, Option, Some, None, Result, Ok, Err, sym, ap, ◌∙◌, subst, refl, inl, inr, arith}
-use Rattle.std.specs.Prelude.{◌⊎◌, IfSome, slice_get}
+use Rattle.std.proofs.Common.{◌≡◌, ℕ, ◌<◌, ◌≤◌, List, [], ◌++◌, length, length-append, Option, Some, None, Result, Ok, Err, sym, ap, ◌∙◌, subst, refl, inl, inr, arith}
+use Rattle.std.specs.Prelude.{IfSome}
 use Rattle.tl_base.specs.Contents.{AreBytes}
 use Rattle.tl_schema.specs.Types.{Shape}
-use Rattle.tl_schema.specs.Schemas.{Declared}
 use Rattle.tl_plan.specs.Plans.{PlanView, InstanceView}
 use Rattle.tl_plan.specs.PlanLaws.{IsInstance, IsPlanOf}
 use Rattle.tl_types.specs.Values.{ValueView, depth}
@@ -31,7 +30,7 @@ use Rattle.wire_checks.specs.declared.fault.WireFault.{WireFault}
 use Rattle.wire_checks.specs.declared.fault.WireFault.TheVariants as wire
 use Rattle.box_wire.specs.Kinds.{steps}
 use Rattle.box_wire.specs.Framing.{SpellsWhole, Means}
-use Rattle.box_wire.specs.StepReading.{StepRefused, no_value, no_message, IsOutside, StepGiven, ReadsStep}
+use Rattle.box_wire.specs.StepReading.{StepRefused, no_value, no_message, StepGiven, ReadsStep}
 use Rattle.box_wire.specs.inner.Steps.{AnswersStep, as_step_fault}
 use Rattle.box_wire.specs.declared.fault.StepReadFault.{StepReadFault}
 use Rattle.box_wire.specs.declared.fault.StepReadFault.TheVariants.{Wire, ReadFault, Memory}
@@ -134,9 +133,9 @@ module _ (p : ProfileView) (good : IsProfile p) (bytes : List ℕ) (are : AreByt
   decoded after q (Ok None) r none gives refuses link = subst (StepGiven p bytes after) (sym link) (none.0, none.1)
   decoded after q (Ok (Some value)) r none gives refuses link = elim one.either [
     | inl (v, x, (rest, is, spells, deep)) ↦
-      let got = gives v x rest is spells deep in
-      let here : AnswersStep (steps.cause (owned p v)) (step_in (owned p v)) r = subst (λ (u : ValueView). AnswersStep (steps.cause (owned p u)) (step_in (owned p u)) r) got.0 link in
-      value_given v x rest after none (spells, deep) is got.1 (steps.cause (owned p v)) refl r here
+        let got = gives v x rest is spells deep in
+        let here : AnswersStep (steps.cause (owned p v)) (step_in (owned p v)) r = subst (λ (u : ValueView). AnswersStep (steps.cause (owned p u)) (step_in (owned p u)) r) got.0 link in
+        value_given v x rest after none (spells, deep) is got.1 (steps.cause (owned p v)) refl r here
     | inr (at, cause, f) ↦ absurd (refuses none at cause f)
   ]
   decoded after q (Err (decode.Refused place why)) r none gives refuses link = elim one.either [

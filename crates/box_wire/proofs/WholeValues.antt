@@ -1,5 +1,5 @@
 -- The one value that bytes spell, from what decoding gives of them.
-use Rattle.std.proofs.Common.{◌≡◌, ℕ, ◌<◌, ◌≤◌, List, [], ◌++◌, length, drop, append-nil, Option, Some, None, Result, Ok, Err, sym, ap, ap₂, ◌∙◌, subst, refl, inl, inr}
+use Rattle.std.proofs.Common.{◌≡◌, ℕ, ◌<◌, ◌≤◌, List, ◌++◌, length, drop, append-nil, Some, Result, Ok, Err, sym, ap, ◌∙◌, subst, refl, inl, inr}
 use Rattle.tl_base.specs.Contents.{AreBytes}
 use Rattle.tl_schema.specs.Types.{Shape}
 use Rattle.tl_schema.specs.Schemas.{Declared}

@@ -1,5 +1,5 @@
 -- What bytes mean by a profile's schema: which message, or why none. This project's own.
-use Rattle.std.specs.Prelude.{◌≡◌, ℕ, ◌<◌, ◌≤◌, List, ◌++◌, length, Option, Some, None}
+use Rattle.std.specs.Prelude.{◌≡◌, ℕ, ◌<◌, ◌≤◌, List, ◌++◌, length, Some, None}
 use Rattle.tl_types.specs.Values.{ValueView, depth}
 use Rattle.tl_types.specs.Spelling.{Spells}
 use Rattle.tl_types.specs.Refusal as refusal

@@ -38,7 +38,11 @@ pub fn spell_step(alloc: Global, profile: &Profile, step: &Step) -> Result<Bytes
 
 /// Reads the next step, and takes exactly its bytes; None where the source has ended. Offsets count from the step's first byte. After a refusal the
 /// source isn't read again.
-pub fn read_step<S: Source>(alloc: Global, profile: &Profile, from: &mut S) -> Result<Option<Step>, StepReadFault>
+pub fn read_step<S: Source>(
+    alloc: Global,
+    profile: &Profile,
+    from: &mut S,
+) -> Result<Option<Step>, StepReadFault>
     ensures read { IfSome (S.state from.old).left (λ bytes. ReadsStep profile.now bytes (S.state from.new).left result) }
     ensures used { Used (S.state from.old) (S.state from.new) (IsErrOf result StepReadFault.ReadFault) }
 {

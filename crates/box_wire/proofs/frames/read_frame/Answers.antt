@@ -1,4 +1,4 @@
-use Rattle.std.proofs.Common.{rules, refl, Ok, Err}
+use Rattle.std.proofs.Common.{refl, Ok, Err}
 use Rattle.std.proofs.lemmas.Result.{err_from_is_err_and}
 use Rattle.tl_types.specs.Seen.{view}
 use Rattle.wire_profile.specs.Places.{cell_shape}

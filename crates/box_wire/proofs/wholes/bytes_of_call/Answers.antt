@@ -12,7 +12,7 @@ use Rattle.box_wire.proofs.wholes.bytes_of_call.Goals.{in-Ok+in_ok-spell-in-Ok, 
 pub returns : goal.returns
 returns c = elim c.match-fits.branch [
   | in-Ok+in_ok-spell-in-Ok w ↦ rw w.result-is (subst (λ (T : Shape). IsSpelling c.args.schema.now T (view c.args.value.now) w.spell.new.out.items) called
-    (spelling_is c.args.schema.now c.count-count.ensures.sound (shape ref.Call) (called_formed c.args.schema.now) (view c.args.value.now) w.spell.new.out.items w.in-Ok.ensures.fits
-    (λ b s. put_first w.new-bytes.result.items w.spell.new.out.items b w.new-bytes.ensures.items (w.in_ok-spell-in-Ok.ensures b s))))
+      (spelling_is c.args.schema.now c.count-count.ensures.sound (shape ref.Call) (called_formed c.args.schema.now) (view c.args.value.now) w.spell.new.out.items w.in-Ok.ensures.fits
+      (λ b s. put_first w.new-bytes.result.items w.spell.new.out.items b w.new-bytes.ensures.items (w.in_ok-spell-in-Ok.ensures b s))))
   | in-Err w ↦ rw w.result-is tt
 ]

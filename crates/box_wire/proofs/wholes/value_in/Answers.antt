@@ -1,4 +1,4 @@
-use Rattle.std.proofs.Common.{sym, ap, ◌∙◌, subst, drop, List, ℕ}
+use Rattle.std.proofs.Common.{sym, subst, drop, List, ℕ}
 use Rattle.tl_base.specs.MemoryLaws.{rest_bytes}
 use Rattle.box_wire.specs.inner.Wholes.{NoWhole, ReadsWhole, as_wire_fault}
 use Rattle.box_wire.proofs.WholeValues.{all_left, whole_ends, whole_fails}
