@@ -1,5 +1,5 @@
 #!/usr/bin/env python3
-"""Counts the instructions of calls of which no command makes many: searches in a box, and items held in a gap.
+"""Counts the instructions of calls of which no command makes many: searches in a box, items held in a gap, posts and differences of a server.
 
 Each figure is the difference of two runs of crates/call_bench under callgrind, with the calls and without them, by the number of calls.
 """
@@ -27,6 +27,12 @@ def main():
         print(f"{name:<44} {each(program, words, count, 0, count):>12}")
     for name, word in (("hold, 1,024 items in order of start", "forward"), ("hold, 1,024 items, the last first", "backward")):
         print(f"{name:<44} {each(program, [word], ITEMS, 0, ITEMS):>12}")
+    for posts in (10_000, 100_000):
+        name = f"post of one message, of {posts:,}"
+        made = [runs.instructions([program, "last", str(number), "0"]) for number in (posts, 0)]
+        print(f"{name:<44} {'-' if None in made else '%.0f' % ((made[0] - made[1]) / posts):>12}")
+        name = f"difference, the last 100 of {posts:,}"
+        print(f"{name:<44} {each(program, ['last', str(posts)], CALLS, 0, CALLS):>12}")
 
 
 main()

@@ -3,14 +3,16 @@
 
 ghost use Rattle.std.specs.Prelude.{◌≤◌, ◌<◌, ◌+◌};
 
-use box_events::{BoxFault, Event, EventBox};
+use box_events::{BoxFault, Event, EventBox, Post, Reply, Request};
+use box_server::{PostFault, Server};
 use gap_buffer::{Gap, Held};
 use std::alloc::{AllocError, Global};
 use std::process::ExitCode;
 use std::{env, io};
+use tl_base::Bytes;
 
 const USAGE: &str =
-    "usage: call_bench boundary|between EVENTS CALLS, call_bench forward|backward ITEMS";
+    "usage: call_bench boundary|between EVENTS CALLS, call_bench last POSTS CALLS, call_bench forward|backward ITEMS";
 
 // A box of so many read marks.
 fn box_of(alloc: Global, events: u32) -> Result<EventBox, BoxFault> {
@@ -75,6 +77,47 @@ fn hold_all(alloc: Global, items: u16, is_backward: bool) -> Result<u32, AllocEr
     Ok(gap.len())
 }
 
+// A message without a body.
+fn message(alloc: Global) -> Post {
+    Post::Message {
+        body: Bytes::new(alloc),
+    }
+}
+
+// A server to which so many messages were posted, each under an id of its own.
+fn server_of(alloc: Global, posts: u32) -> Result<Server, PostFault> {
+    let mut server = Server::new(alloc);
+    for random_id in 0..posts {
+        let posts = [message(alloc)];
+        let _posted = server.post(random_id as i64, &posts)?;
+    }
+    Ok(server)
+}
+
+// How many messages the server answers from the hundredth before its end.
+fn last_hundred(alloc: Global, server: &Server) -> Result<usize, PostFault> {
+    let from = server.state().pts.saturating_sub(100).min(1_000_000);
+    let request = Request::Difference {
+        pts: from as i32,
+        qts: 0,
+        date: 0,
+    };
+    match server.answer(alloc, &request)? {
+        Reply::Difference { news, .. } => Ok(news.len()),
+        _ => Ok(0),
+    }
+}
+
+// How many messages come with so many differences of the last hundred of so many posts.
+fn differences(alloc: Global, posts: u32, calls: u32) -> Result<u64, PostFault> {
+    let server = server_of(alloc, posts)?;
+    let mut messages: u64 = 0;
+    for _ in 0..calls {
+        messages = messages.saturating_add(last_hundred(alloc, &server)? as u64);
+    }
+    Ok(messages)
+}
+
 // What the calls that the words name come to; None where the words name none.
 fn outcome(alloc: Global, words: &[String]) -> Result<Option<u64>, BoxFault> {
     match words {
@@ -85,6 +128,10 @@ fn outcome(alloc: Global, words: &[String]) -> Result<Option<u64>, BoxFault> {
             match name.as_str() {
                 "boundary" => Ok(Some(boundaries(&box_of(alloc, events)?, calls) as u64)),
                 "between" => Ok(Some(copies(&box_of(alloc, events)?, calls)? as u64)),
+                "last" => match differences(alloc, events, calls) {
+                    Ok(messages) => Ok(Some(messages)),
+                    Err(_) => Err(BoxFault::Memory),
+                },
                 _ => Ok(None),
             }
         }

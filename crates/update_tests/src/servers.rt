@@ -1,4 +1,6 @@
 //! Answers of a server, to which nothing was posted and to which something was.
+ghost use Rattle.box_server.specs.Answers.{IsAnswered};
+
 use box_events::{ChannelReply, Ids, LaneName, Post, Push, Receipt, Reply, Request, State, Update};
 use box_server::{PostFault, Posted, Server};
 use std::alloc::Global;
@@ -418,5 +420,155 @@ fn a_difference_carries_what_was_posted(rt: HostRuntime) -> Result<(), Fail> {
         difference(alloc, &server)?.as_str(),
         "true true State { pts: 1, qts: 0, date: 5, seq: 0 } true"
     );
+    Ok(())
+}
+
+// ---- Positions
+
+// A position that is asked for: of the common box, or of a channel.
+#[derive(Clone, Copy, Debug)]
+enum Asked {
+    Common(i32),
+    Channel(i64, i32),
+}
+
+fn request_of(from: Asked) -> Request
+    ensures { IsAnswered result }
+{
+    match from {
+        Asked::Common(pts) => Request::Difference {
+            pts,
+            qts: 0,
+            date: 0,
+        },
+        Asked::Channel(id, pts) => Request::Channel { id, pts },
+    }
+}
+
+fn channel_text(alloc: Global, reply: &ChannelReply) -> Result<String, Fail> {
+    match reply {
+        ChannelReply::Empty { pts, last } => Ok(format!(in alloc; "nothing at {pts}, {last}")?),
+        ChannelReply::Part {
+            pts,
+            news,
+            others,
+            last,
+        } => Ok(format!(in alloc;
+            "{} news and {} others to {pts}, {last}",
+            news.len(),
+            others.len()
+        )?),
+        ChannelReply::TooLong { pts, recent, last } => Ok(format!(in alloc;
+            "too long, {} recent at {pts}, {last}",
+            recent.len()
+        )?),
+    }
+}
+
+// What a server answers from a position, by numbers.
+fn answered(alloc: Global, server: &Server, from: Asked) -> Result<String, Fail> {
+    let request = request_of(from);
+    match server.answer(alloc, &request)? {
+        Reply::Empty { .. } => Ok(format!(in alloc; "nothing")?),
+        Reply::Error { code, .. } => Ok(format!(in alloc; "error {code}")?),
+        Reply::Difference {
+            news,
+            others,
+            state,
+            last,
+            ..
+        } => Ok(format!(in alloc;
+            "{} news and {} others to {}, {last}",
+            news.len(),
+            others.len(),
+            state.pts
+        )?),
+        Reply::Channel(reply) => channel_text(alloc, &reply),
+        _ => Ok(format!(in alloc; "another")?),
+    }
+}
+
+// A delete of three ids and a message; in channel 5 a delete of 1,000 ids.
+fn first_posts(alloc: Global) -> Result<Vec<Post>, Fail> {
+    let three = vec![in alloc; 1; 3usize]?;
+    let thousand = vec![in alloc; 1; 1_000usize]?;
+    let mut posts = Vec::new(alloc);
+    posts.push(Post::Delete {
+        ids: Ids::from_slice(alloc, &three)?,
+    })?;
+    posts.push(Post::Message {
+        body: text(alloc, b'a')?,
+    })?;
+    posts.push(Post::ChannelDelete {
+        id: 5,
+        ids: Ids::from_slice(alloc, &thousand)?,
+    })?;
+    Ok(posts)
+}
+
+fn messages_in(alloc: Global, id: i64, count: u32) -> Result<Vec<Post>, Fail> {
+    let mut posts = Vec::new(alloc);
+    for _ in 0..count {
+        let body = text(alloc, b'b')?;
+        posts.push(Post::ChannelMessage { id, body })?;
+    }
+    Ok(posts)
+}
+
+// The common box ends at 4, channel 5 at 1,000. Of channel 6 the last 500 of 501 messages are kept.
+fn edged(alloc: Global) -> Result<Server, Fail> {
+    let mut server = Server::new(alloc);
+    server.post(1, &first_posts(alloc)?)?;
+    server.post(2, &messages_in(alloc, 6, 501)?)?;
+    Ok(server)
+}
+
+#[test]
+fn a_position_is_answered_at_each_edge(rt: HostRuntime) -> Result<(), Fail> {
+    let alloc = rt.alloc();
+    let server = edged(alloc)?;
+    for (from, wanted) in [
+        (Asked::Common(-1), "error 400"),
+        (Asked::Common(0), "1 news and 1 others to 4, true"),
+        (Asked::Common(1), "error 400"),
+        (Asked::Common(3), "1 news and 0 others to 4, true"),
+        (Asked::Common(4), "nothing"),
+        (Asked::Common(5), "error 400"),
+        (Asked::Channel(5, 0), "0 news and 1 others to 1000, true"),
+        (Asked::Channel(6, 0), "too long, 20 recent at 501, true"),
+        (Asked::Channel(6, 1), "100 news and 0 others to 101, false"),
+        (Asked::Channel(6, 501), "nothing at 501, true"),
+        (Asked::Channel(6, 502), "error 400"),
+    ] {
+        assert_eq!(rt;
+            answered(alloc, &server, from)?.as_str(),
+            wanted,
+            "{from:?}"
+        );
+    }
+    Ok(())
+}
+
+// With one message more channel 5 ends at 1,001.
+#[test]
+fn a_channel_is_too_far_behind_past_a_thousand(rt: HostRuntime) -> Result<(), Fail> {
+    let alloc = rt.alloc();
+    let mut server = edged(alloc)?;
+    server.post(3, &messages_in(alloc, 5, 1)?)?;
+    for (from, wanted) in [
+        (Asked::Channel(5, 0), "too long, 1 recent at 1001, true"),
+        (Asked::Channel(5, 1), "error 400"),
+        (
+            Asked::Channel(5, 1_000),
+            "1 news and 0 others to 1001, true",
+        ),
+        (Asked::Channel(5, 1_001), "nothing at 1001, true"),
+    ] {
+        assert_eq!(rt;
+            answered(alloc, &server, from)?.as_str(),
+            wanted,
+            "{from:?}"
+        );
+    }
     Ok(())
 }
