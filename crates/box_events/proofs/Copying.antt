@@ -15,7 +15,7 @@ use Rattle.box_events.proofs.PageRuns.{boundary_from}
 -- ---- the event at a number
 
 counted_one : (b : BoxView) (p q : ℕ) (e : EventView) → AreCounted b.events → Between b.events p q (e ∷ []) → 1 ≤ count_of e
-counted_one b p q e c s = (counted_right s.front (e ∷ s.rest) (subst AreCounted s.whole c)).0
+counted_one b p q e c s = (counted_right s.prefix (e ∷ s.rest) (subst AreCounted s.whole c)).0
 
 event_end : (b : BoxView) (at : ℕ) → at ≡ end_of b → AreCounted b.events → EventAt b at None
 event_end b at is c e s =
@@ -29,11 +29,11 @@ event_some b at e es r =
       from,
       omega arith,
       record {
-        front = s.front;
+        prefix = s.prefix;
         rest = es ++ s.rest;
         whole = s.whole;
         start = s.start;
-        stop = omega (arith, s.start, from, ending-append s.front (e ∷ []));
+        stop = omega (arith, s.start, from, ending-append s.prefix (e ∷ []));
       },
     )
 
@@ -50,18 +50,18 @@ event_by b at (e ∷ es) (Some y) is run = subst (λ (x : EventView). EventAt b 
 -- ---- a stretch, copied event by event
 
 -- the first events of a stretch
-front_of : (b : BoxView) (at i : ℕ) (xs : List EventView) → BetweenOf b at (at + ending xs) xs → BetweenOf b at (at + ending (take i xs)) (take i xs)
-front_of b at i xs r =
+prefix_of : (b : BoxView) (at i : ℕ) (xs : List EventView) → BetweenOf b at (at + ending xs) xs → BetweenOf b at (at + ending (take i xs)) (take i xs)
+prefix_of b at i xs r =
     let s = r.2 in
     let from = r.0 in (
       from,
       omega arith,
       record {
-        front = s.front;
+        prefix = s.prefix;
         rest = drop i xs ++ s.rest;
-        whole = s.whole ∙ ap (λ (l : List EventView). s.front ++ (l ++ s.rest)) (sym (take-append-drop i xs)) ∙ ap (λ (l : List EventView). s.front ++ l) (append_assoc (take i xs) (drop i xs) s.rest);
+        whole = s.whole ∙ ap (λ (l : List EventView). s.prefix ++ (l ++ s.rest)) (sym (take-append-drop i xs)) ∙ ap (λ (l : List EventView). s.prefix ++ l) (append_assoc (take i xs) (drop i xs) s.rest);
         start = s.start;
-        stop = omega (arith, s.start, from, ending-append s.front (take i xs));
+        stop = omega (arith, s.start, from, ending-append s.prefix (take i xs));
       },
     )
 
@@ -73,15 +73,15 @@ step_within b at to i e xs run boundary lt is less =
     let cut : xs ≡ take i xs ++ e ∷ drop (i + 1) xs =
     sym (take-append-drop i xs) ∙ ap (λ (l : List EventView). take i xs ++ l) (drop_more xs i e lt ∙ ap (λ (y : EventView). y ∷ drop (i + 1) xs) (sym is)) in
     let behind = e ∷ (drop (i + 1) xs ++ s.rest) in
-    let whole : b.events ≡ (s.front ++ take i xs) ++ behind =
+    let whole : b.events ≡ (s.prefix ++ take i xs) ++ behind =
     s.whole
-    ∙ ap (λ (l : List EventView). s.front ++ (l ++ s.rest)) cut
-    ∙ ap (λ (l : List EventView). s.front ++ l) (append_assoc (take i xs) (e ∷ drop (i + 1) xs) s.rest)
-    ∙ sym (append_assoc s.front (take i xs) behind) in
-    let sum = ending-append s.front (take i xs) in
-    let counted : AreCounted (s.front ++ take i xs) = counted_left (s.front ++ take i xs) behind (subst AreCounted whole run.2) in
-    let there = boundary_from (s.front ++ take i xs) behind (to - b.first) counted (omega (arith, sum, s.start, from, less)) (subst (λ (l : List EventView). IsBoundary l (to - b.first)) whole boundary.1) in
-    let past = (boundary_past e (drop (i + 1) xs ++ s.rest) (to - b.first - ending (s.front ++ take i xs)) (omega (arith, sum, s.start, from, less)) there).0 in
+    ∙ ap (λ (l : List EventView). s.prefix ++ (l ++ s.rest)) cut
+    ∙ ap (λ (l : List EventView). s.prefix ++ l) (append_assoc (take i xs) (e ∷ drop (i + 1) xs) s.rest)
+    ∙ sym (append_assoc s.prefix (take i xs) behind) in
+    let sum = ending-append s.prefix (take i xs) in
+    let counted : AreCounted (s.prefix ++ take i xs) = counted_left (s.prefix ++ take i xs) behind (subst AreCounted whole run.2) in
+    let there = boundary_from (s.prefix ++ take i xs) behind (to - b.first) counted (omega (arith, sum, s.start, from, less)) (subst (λ (l : List EventView). IsBoundary l (to - b.first)) whole boundary.1) in
+    let past = (boundary_past e (drop (i + 1) xs ++ s.rest) (to - b.first - ending (s.prefix ++ take i xs)) (omega (arith, sum, s.start, from, less)) there).0 in
     omega (arith, past, sum, s.start, from, less)
 
 pub taken_more : (old new now xs : List EventView) (i : ℕ) (e : EventView) → i < length xs → e ≡ get_or xs i e → now ≡ old ++ take i xs → new ≡ now ++ e ∷ [] → new ≡ old ++ take (i + 1) xs
@@ -99,13 +99,13 @@ ending_more xs i e lt is =
 inside_box : (b : BoxView) (p : ℕ) → IsBoundaryOf b p → p ≤ end_of b
 inside_box b p boundary =
     let s = boundary.1 in
-    omega (arith, s.stop, ap ending s.whole, ending-append s.front s.rest)
+    omega (arith, s.stop, ap ending s.whole, ending-append s.prefix s.rest)
 
-pub copies_front : (b : BoxView) (at to i end : ℕ) (xs old new : List EventView) → RunAt b at (Some xs) → new ≡ old ++ take i xs → end ≡ at + ending (take i xs) → at < end → end ≤ to → Copies b at to old new end
-copies_front b at to i end xs old new run so_far is past within = record {
+pub copies_prefix : (b : BoxView) (at to i end : ℕ) (xs old new : List EventView) → RunAt b at (Some xs) → new ≡ old ++ take i xs → end ≡ at + ending (take i xs) → at < end → end ≤ to → Copies b at to old new end
+copies_prefix b at to i end xs old new run so_far is past within = record {
   copied = take i xs;
   whole = so_far;
-  stretch = subst (λ (q : ℕ). BetweenOf b at q (take i xs)) (sym is) (front_of b at i xs run.0);
+  stretch = subst (λ (q : ℕ). BetweenOf b at q (take i xs)) (sym is) (prefix_of b at i xs run.0);
   past = past;
   within = within;
   counted = run.2;
@@ -115,13 +115,13 @@ run_past : (b : BoxView) (at to : ℕ) (xs : List EventView) → RunAt b at (Som
 run_past b at to [] run boundary less = let is = run.1 refl in absurd (omega (arith, is, inside_box b to boundary, less))
 run_past b at to (e ∷ es) run boundary less =
     let s = run.0.2 in
-    let one = (counted_right s.front ((e ∷ es) ++ s.rest) (subst AreCounted s.whole run.2)).0 in
+    let one = (counted_right s.prefix ((e ∷ es) ++ s.rest) (subst AreCounted s.whole run.2)).0 in
     omega (arith, one)
 
 pub copies_all : (b : BoxView) (at to i end : ℕ) (xs old new : List EventView) → RunAt b at (Some xs) → IsBoundaryOf b to → at < to → length xs ≤ i → new ≡ old ++ take i xs → end ≡ at + ending (take i xs)
     → end ≤ to → Copies b at to old new end
 copies_all b at to i end xs old new run boundary less le so_far is within =
-    copies_front b at to i end xs old new run so_far is (omega (arith, is, ap ending (take_all i xs le), run_past b at to xs run boundary less)) within
+    copies_prefix b at to i end xs old new run so_far is (omega (arith, is, ap ending (take_all i xs le), run_past b at to xs run boundary less)) within
 
 -- ---- stretches that meet
 

@@ -12,28 +12,28 @@ use Rattle.box_events.proofs.PageRuns.{boundary_from}
 
 after_gone : (gone es xs : List EventView) (p q s t : ℕ) → s ≡ ending gone + p → t ≡ ending gone + q → Between es p q xs → Between (gone ++ es) s t xs
 after_gone gone es xs p q s t start stop b = record {
-  front = gone ++ b.front;
+  prefix = gone ++ b.prefix;
   rest = b.rest;
-  whole = ap (λ (l : List EventView). gone ++ l) b.whole ∙ sym (append_assoc gone b.front (xs ++ b.rest));
-  start = omega (arith, start, b.start, ending-append gone b.front);
-  stop = ap ending (append_assoc gone b.front xs) ∙ ending-append gone (b.front ++ xs) ∙ omega (arith, stop, b.stop);
+  whole = ap (λ (l : List EventView). gone ++ l) b.whole ∙ sym (append_assoc gone b.prefix (xs ++ b.rest));
+  start = omega (arith, start, b.start, ending-append gone b.prefix);
+  stop = ap ending (append_assoc gone b.prefix xs) ∙ ending-append gone (b.prefix ++ xs) ∙ omega (arith, stop, b.stop);
 }
 
 -- a stretch that begins after them
 without_gone : (gone es xs : List EventView) (p q s t : ℕ) → p ≡ ending gone + s → q ≡ ending gone + t → AreCounted (gone ++ es) → Between (gone ++ es) p q xs → Between es s t xs
 without_gone gone es xs p q s t start stop c b =
     let there : IsBoundary es (p - ending gone) = boundary_from gone es p (counted_left gone es c) (omega (arith, start)) (starts_at (gone ++ es) p q xs b) in
-    let parts : gone ++ es ≡ (gone ++ there.front) ++ there.rest = ap (λ (l : List EventView). gone ++ l) there.whole ∙ sym (append_assoc gone there.front there.rest) in
-    let sum = ending-append gone there.front in
-    let cut = same_cut (gone ++ there.front) there.rest b.front (xs ++ b.rest) (counted_left (gone ++ there.front) there.rest (subst AreCounted parts c)) (counted_left b.front (xs ++ b.rest) (subst AreCounted b.whole c))
+    let parts : gone ++ es ≡ (gone ++ there.prefix) ++ there.rest = ap (λ (l : List EventView). gone ++ l) there.whole ∙ sym (append_assoc gone there.prefix there.rest) in
+    let sum = ending-append gone there.prefix in
+    let cut = same_cut (gone ++ there.prefix) there.rest b.prefix (xs ++ b.rest) (counted_left (gone ++ there.prefix) there.rest (subst AreCounted parts c)) (counted_left b.prefix (xs ++ b.rest) (subst AreCounted b.whole c))
     (sym parts ∙ b.whole) (omega (arith, sum, there.stop, b.start, start)) in
-    let end : ending (gone ++ (there.front ++ xs)) ≡ q = ap ending (sym (append_assoc gone there.front xs) ∙ ap (λ (l : List EventView). l ++ xs) cut.0) ∙ b.stop in
+    let end : ending (gone ++ (there.prefix ++ xs)) ≡ q = ap ending (sym (append_assoc gone there.prefix xs) ∙ ap (λ (l : List EventView). l ++ xs) cut.0) ∙ b.stop in
     record {
-      front = there.front;
+      prefix = there.prefix;
       rest = b.rest;
-      whole = there.whole ∙ ap (λ (l : List EventView). there.front ++ l) cut.1;
+      whole = there.whole ∙ ap (λ (l : List EventView). there.prefix ++ l) cut.1;
       start = omega (arith, there.stop, start);
-      stop = omega (arith, end, ending-append gone (there.front ++ xs), stop);
+      stop = omega (arith, end, ending-append gone (there.prefix ++ xs), stop);
     }
 
 -- ---- of boxes

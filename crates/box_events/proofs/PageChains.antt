@@ -142,7 +142,7 @@ counted_length (e ∷ es) c = let rest = counted_length es c.1 in omega (arith, 
 pub last_between : (old new : BoxView) (e : EventView) → new.first ≡ old.first → new.events ≡ old.events ++ e ∷ [] → BetweenOf new (end_of old) (end_of new) (e ∷ [])
 last_between old new e first events =
     let sum = ap ending events ∙ ending-append old.events (e ∷ []) in
-    (omega (arith, first), omega (arith, first, sum), record { front = old.events; rest = []; whole = events; start = omega (arith, first); stop = ap ending (sym events) ∙ omega arith })
+    (omega (arith, first), omega (arith, first, sum), record { prefix = old.events; rest = []; whole = events; start = omega (arith, first); stop = ap ending (sym events) ∙ omega arith })
 
 -- ---- the first events less, by the pages that are dropped whole
 

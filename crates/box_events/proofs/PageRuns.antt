@@ -9,7 +9,7 @@ use Rattle.box_events.specs.Boxes.{ending, IsBoundary, AreCounted}
 use Rattle.box_events.specs.BoxViews.{BoxView, end_of}
 use Rattle.box_events.specs.inner.Chains.{joined, AreChained}
 use Rattle.box_events.specs.inner.Runs.{SuffixAt, RunAt}
-use Rattle.box_events.proofs.Boundaries.{ending-append, boundary_past, boundary_behind, boundary_zero}
+use Rattle.box_events.proofs.Boundaries.{ending-append, boundary_past, boundary_after, boundary_zero}
 use Rattle.box_events.proofs.Stretches.{counted_left}
 use Rattle.box_events.proofs.PageChains.{joined-append, first_at, chain_stop, chained_right, split_nth}
 
@@ -28,7 +28,7 @@ boundary_within (a ∷ ps) bs p le b =
       | inl none ↦ subst (IsBoundary (a ∷ ps)) (omega arith) (boundary_zero (a ∷ ps))
       | inr some ↦
           let past = boundary_past a (ps ++ bs) p some b in
-          boundary_behind a ps p (p - count_of a) (let le = past.0 in omega arith) (boundary_within ps bs (p - count_of a) (omega arith) past.1)
+          boundary_after a ps p (p - count_of a) (let le = past.0 in omega arith) (boundary_within ps bs (p - count_of a) (omega arith) past.1)
     ]
 
 -- ---- the page x, which begins at the number or before it, and the pages around it
@@ -47,22 +47,22 @@ run_some : (b : BoxView) (ps bs : List BoxView) (x : BoxView) (at : ℕ) (xs : L
 run_some b ps bs x at xs all c counted next s =
     let part = s.2 in
     let first = first_at b.first ps bs x c in
-    let whole : b.events ≡ (joined ps ++ part.front) ++ (xs ++ (part.rest ++ joined bs)) =
-    all ∙ joined-append ps (x ∷ bs) ∙ ap (λ (l : List EventView). joined ps ++ (l ++ joined bs)) part.whole ∙ same_parts (joined ps) part.front xs part.rest (joined bs) in
+    let whole : b.events ≡ (joined ps ++ part.prefix) ++ (xs ++ (part.rest ++ joined bs)) =
+    all ∙ joined-append ps (x ∷ bs) ∙ ap (λ (l : List EventView). joined ps ++ (l ++ joined bs)) part.whole ∙ same_parts (joined ps) part.prefix xs part.rest (joined bs) in
     let from : x.first ≤ at = s.0 in
-    let front = ending-append (joined ps) part.front in (
+    let prefix = ending-append (joined ps) part.prefix in (
       (
         omega (arith, first, from),
         omega arith,
         record {
-          front = joined ps ++ part.front;
+          prefix = joined ps ++ part.prefix;
           rest = part.rest ++ joined bs;
           whole = whole;
-          start = omega (arith, first, from, part.start, front);
-          stop = omega (arith, first, from, part.start, front, ending-append (joined ps ++ part.front) xs);
+          start = omega (arith, first, from, part.start, prefix);
+          stop = omega (arith, first, from, part.start, prefix, ending-append (joined ps ++ part.prefix) xs);
         },
       ),
-      λ none. ends_here b ps bs x at all c next (omega (arith, from, part.start, part.stop, ending-append part.front xs, ap ending none)),
+      λ none. ends_here b ps bs x at all c next (omega (arith, from, part.start, part.stop, ending-append part.prefix xs, ap ending none)),
       counted,
     )
 

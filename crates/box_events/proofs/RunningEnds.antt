@@ -93,7 +93,7 @@ ends_rise p es i j le lt =
     let more = ending_take (i + 1) (j + 1) es (omega arith) in
     omega (arith, low, high, more)
 
--- the suffix behind the first n events
+-- the suffix after the first n events
 pub suffix_from : (b : BoxView) (at n : ℕ) → at ≡ b.first + ending (take n b.events) → SuffixAt b at (Some (drop n b.events))
 suffix_from b at n is =
     let whole = take-append-drop n b.events in
@@ -101,7 +101,7 @@ suffix_from b at n is =
       omega (arith, is),
       omega (arith, is, ending-append (take n b.events) (drop n b.events), sum),
       record {
-        front = take n b.events;
+        prefix = take n b.events;
         rest = [];
         whole = sym whole ∙ ap (λ (l : List EventView). take n b.events ++ l) (sym (append-nil (drop n b.events)));
         start = omega (arith, is);
@@ -118,14 +118,14 @@ suffix_found b ends at i same found =
     let lt : i < length b.events = omega (arith, here.0, length-ends b.first b.events) in
     (lt, suffix_from b at (i + 1) (sym here.1 ∙ end_at b.first i 0 b.events lt))
 
-no_end : (b : BoxView) (at i : ℕ) (front rest : List EventView) → b.events ≡ front ++ rest → b.first + ending front ≡ at → at ≢ b.first
+no_end : (b : BoxView) (at i : ℕ) (prefix rest : List EventView) → b.events ≡ prefix ++ rest → b.first + ending prefix ≡ at → at ≢ b.first
     → ((k : ℕ) → k < i → get_or (ends_from b.first b.events) k 0 < at) → ((k : ℕ) → i ≤ k → k < length (ends_from b.first b.events) → at < get_or (ends_from b.first b.events) k 0) → ⊥
 no_end b at i [] rest whole stop other below above = other (omega (arith, stop))
 no_end b at i (f ∷ fs) rest whole stop other below above =
     let few : length b.events ≡ length (f ∷ fs) + length rest = ap length whole ∙ length-append (f ∷ fs) rest in
     let lt : length fs < length b.events = omega (arith, few) in
-    let front : take (length fs + 1) b.events ≡ f ∷ fs = ap (take (length fs + 1)) whole ∙ take_at (f ∷ fs) rest (length fs + 1) (omega arith) in
-    let here : get_or (ends_from b.first b.events) (length fs) 0 ≡ at = end_at b.first (length fs) 0 b.events lt ∙ ap (λ (l : List EventView). b.first + ending l) front ∙ stop in
+    let prefix : take (length fs + 1) b.events ≡ f ∷ fs = ap (take (length fs + 1)) whole ∙ take_at (f ∷ fs) rest (length fs + 1) (omega arith) in
+    let here : get_or (ends_from b.first b.events) (length fs) 0 ≡ at = end_at b.first (length fs) 0 b.events lt ∙ ap (λ (l : List EventView). b.first + ending l) prefix ∙ stop in
     elim (cases_lt (length fs) i) [
       | inl low ↦ let less = below (length fs) low in absurd (omega (arith, here, less))
       | inr high ↦ let more = above (length fs) high (omega (arith, lt, length-ends b.first b.events)) in absurd (omega (arith, here, more))
@@ -142,4 +142,4 @@ suffix_found_within b ends at i n same few found = let lt = (suffix_found b ends
 pub suffix_missed : (b : BoxView) (ends : List ℕ) (at i : ℕ) → ends ≡ ends_from b.first b.events → at ≢ b.first → IsBinarySearchResult (λ y. nat_cmp y at) ends (Err i) → SuffixAt b at None
 suffix_missed b ends at i same other missed boundary =
     let there = searched (ends_from b.first b.events) at (Err i) (subst (λ (l : List ℕ). IsBinarySearchResult (λ y. nat_cmp y at) l (Err i)) same missed) (ends_rise b.first b.events) in
-    no_end b at i boundary.1.front boundary.1.rest boundary.1.whole (let le = boundary.0 in omega (arith, boundary.1.stop)) other there.1 there.2
+    no_end b at i boundary.1.prefix boundary.1.rest boundary.1.whole (let le = boundary.0 in omega (arith, boundary.1.stop)) other there.1 there.2

@@ -15,7 +15,7 @@ pub record BoxView : Type 0 where
 abbrev pub end_of : BoxView → ℕ
 end_of b = b.first + ending b.events
 
--- some front of the kept events ends at p
+-- some prefix of the kept events ends at p
 abbrev pub IsBoundaryOf : BoxView → ℕ → Type 0
 IsBoundaryOf b p = (b.first ≤ p) × IsBoundary b.events (p - b.first)
 

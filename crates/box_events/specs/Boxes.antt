@@ -9,20 +9,20 @@ abbrev pub ending : List EventView → ℕ
 ending [] = 0
 ending (e ∷ es) = count_of e + ending es
 
--- some front of the box ends at p
+-- some prefix of the box ends at p
 pub record IsBoundary (box : List EventView) (p : ℕ) : Type 0 where
-  pub front : List EventView
+  pub prefix : List EventView
   pub rest : List EventView
-  pub whole : box ≡ front ++ rest
-  pub stop : ending front ≡ p
+  pub whole : box ≡ prefix ++ rest
+  pub stop : ending prefix ≡ p
 
--- the box cut in three: a front that ends at p, then the middle, with which it ends at q, then the rest
+-- the box cut in three: a prefix that ends at p, then the middle, with which it ends at q, then the rest
 pub record Between (box : List EventView) (p q : ℕ) (middle : List EventView) : Type 0 where
-  pub front : List EventView
+  pub prefix : List EventView
   pub rest : List EventView
-  pub whole : box ≡ front ++ (middle ++ rest)
-  pub start : ending front ≡ p
-  pub stop : ending (front ++ middle) ≡ q
+  pub whole : box ≡ prefix ++ (middle ++ rest)
+  pub start : ending prefix ≡ p
+  pub stop : ending (prefix ++ middle) ≡ q
 
 -- each event counts for 1 number at least
 abbrev pub AreCounted : List EventView → Type 0

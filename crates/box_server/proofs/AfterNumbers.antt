@@ -16,7 +16,7 @@ pub le_is : (a b : ℕ) → leb a b ≡ true → a ≤ b
 le_is a b e = grind (arith, nat_tests)
 
 -- after a prefix come the others
-pub after_prefix : (front rest : List EventView) → AreCounted front → events_after (front ++ rest) (ending front) ≡ Some rest
+pub after_prefix : (prefix rest : List EventView) → AreCounted prefix → events_after (prefix ++ rest) (ending prefix) ≡ Some rest
 after_prefix [] rest c = refl
 after_prefix (f ∷ fs) rest c =
     let some : 1 ≤ count_of f = c.0 in
@@ -35,9 +35,9 @@ none_some x e = cc
 
 -- a prefix that ends at a number, and what comes after it
 pub record IsAfter (es : List EventView) (p : ℕ) (xs : List EventView) : Type 0 where
-  pub front : List EventView
-  pub whole : es ≡ front ++ xs
-  pub stop : ending front ≡ p
+  pub prefix : List EventView
+  pub whole : es ≡ prefix ++ xs
+  pub stop : ending prefix ≡ p
 
 step_back : (e : EventView) (es : List EventView) (p : ℕ) (xs : List EventView) (b : Bool) → leb (count_of e) (suc p) ≡ b → (if b then events_after es (suc p - count_of e) else None) ≡ Some xs
     → (events_after es (suc p - count_of e) ≡ Some xs → IsAfter es (suc p - count_of e) xs) → IsAfter (e ∷ es) (suc p) xs
@@ -45,11 +45,11 @@ step_back e es p xs false t is more = absurd (none_some xs is)
 step_back e es p xs true t is more =
     let r = more is in
     let le = le_is (count_of e) (suc p) t in
-    record { front = e ∷ r.front; whole = ap (λ (l : List EventView). e ∷ l) r.whole; stop = omega (arith, r.stop, le) }
+    record { prefix = e ∷ r.prefix; whole = ap (λ (l : List EventView). e ∷ l) r.whole; stop = omega (arith, r.stop, le) }
 
 pub prefix_before : (es : List EventView) (p : ℕ) (xs : List EventView) → events_after es p ≡ Some xs → IsAfter es p xs
-prefix_before [] zero xs is = record { front = []; whole = some_same [] xs is; stop = refl }
-prefix_before (e ∷ es) zero xs is = record { front = []; whole = some_same (e ∷ es) xs is; stop = refl }
+prefix_before [] zero xs is = record { prefix = []; whole = some_same [] xs is; stop = refl }
+prefix_before (e ∷ es) zero xs is = record { prefix = []; whole = some_same (e ∷ es) xs is; stop = refl }
 prefix_before [] (suc p) xs is = absurd (none_some xs is)
 prefix_before (e ∷ es) (suc p) xs is = step_back e es p xs (leb (count_of e) (suc p)) refl is (prefix_before es (suc p - count_of e) xs)
 
@@ -57,5 +57,5 @@ prefix_before (e ∷ es) (suc p) xs is = step_back e es p xs (leb (count_of e) (
 pub none_after : (es : List EventView) (p : ℕ) → (IsBoundary es p → ⊥) → events_after es p ≡ None
 none_after es p none = elim (events_after es p) as (λ (o : Option (List EventView)). events_after es p ≡ o → events_after es p ≡ None) [
   | None ↦ λ is. is
-  | Some xs ↦ λ is. let r = prefix_before es p xs is in absurd (none (record { front = r.front; rest = xs; whole = r.whole; stop = r.stop }))
+  | Some xs ↦ λ is. let r = prefix_before es p xs is in absurd (none (record { prefix = r.prefix; rest = xs; whole = r.whole; stop = r.stop }))
 ] refl

@@ -47,30 +47,30 @@ run_lies box p es is =
     let a = prefix_before box p es is in
     let r = run_prefix es in
     record {
-      front = a.front;
+      prefix = a.prefix;
       rest = r.0;
-      whole = a.whole ∙ ap (λ (l : List EventView). a.front ++ l) r.1;
+      whole = a.whole ∙ ap (λ (l : List EventView). a.prefix ++ l) r.1;
       start = a.stop;
-      stop = ending-append a.front (run_of es) ∙ ap (λ (n : ℕ). n + ending (run_of es)) a.stop;
+      stop = ending-append a.prefix (run_of es) ∙ ap (λ (n : ℕ). n + ending (run_of es)) a.stop;
     }
 
 pub rest_lies : (box : List EventView) (p : ℕ) (es : List EventView) → events_after box p ≡ Some es → Between box p (ending box) es
 rest_lies box p es is =
     let a = prefix_before box p es is in
-    record { front = a.front; rest = []; whole = a.whole ∙ ap (λ (l : List EventView). a.front ++ l) (sym (append-nil es)); start = a.stop; stop = ap ending (sym a.whole) }
+    record { prefix = a.prefix; rest = []; whole = a.whole ∙ ap (λ (l : List EventView). a.prefix ++ l) (sym (append-nil es)); start = a.stop; stop = ap ending (sym a.whole) }
 
 pub channel_run_lies : (whole : List EventView) (c : ChannelBox) (p : ℕ) (es : List EventView) → IsWhole whole c → c.first ≤ p → events_after c.events (p - c.first) ≡ Some es → Between whole p (p + ending (run_of es)) (run_of es)
 channel_run_lies whole c p es w le is =
     let a = prefix_before c.events (p - c.first) es is in
     let r = run_prefix es in
-    let front : List EventView = w.gone ++ a.front in
-    let start : ending front ≡ p = omega (arith, ending-append w.gone a.front, w.first, a.stop, le) in
+    let prefix : List EventView = w.gone ++ a.prefix in
+    let start : ending prefix ≡ p = omega (arith, ending-append w.gone a.prefix, w.first, a.stop, le) in
     record {
-      front = front;
+      prefix = prefix;
       rest = r.0;
-      whole = w.events ∙ ap (λ (l : List EventView). w.gone ++ l) (a.whole ∙ ap (λ (l : List EventView). a.front ++ l) r.1) ∙ sym (append_assoc w.gone a.front (run_of es ++ r.0));
+      whole = w.events ∙ ap (λ (l : List EventView). w.gone ++ l) (a.whole ∙ ap (λ (l : List EventView). a.prefix ++ l) r.1) ∙ sym (append_assoc w.gone a.prefix (run_of es ++ r.0));
       start = start;
-      stop = ending-append front (run_of es) ∙ ap (λ (n : ℕ). n + ending (run_of es)) start;
+      stop = ending-append prefix (run_of es) ∙ ap (λ (n : ℕ). n + ending (run_of es)) start;
     }
 
 same_sum : (a b : ℕ) → eqb a b ≡ true → a ≡ b

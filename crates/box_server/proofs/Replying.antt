@@ -32,7 +32,7 @@ nothing_counts (e ∷ es) c none = let some : 1 ≤ count_of e = c.0 in absurd (
 
 counted_by : (b : BoxView) (p : ℕ) (es : List EventView) (t : Bool) → AreCounted b.events → (if t then events_after b.events (p - b.first) else None) ≡ Some es → AreCounted es
 counted_by b p es false c is = absurd (none_some es is)
-counted_by b p es true c is = let r = prefix_before b.events (p - b.first) es is in counted_right r.front es (subst AreCounted r.whole c)
+counted_by b p es true c is = let r = prefix_before b.events (p - b.first) es is in counted_right r.prefix es (subst AreCounted r.whole c)
 
 pub after_counted : (b : BoxView) (p : ℕ) (es : List EventView) → AreCounted b.events → after_of b p ≡ Some es → AreCounted es
 after_counted b p es c is = counted_by b p es (leb b.first p) c is

@@ -20,9 +20,9 @@ use Rattle.box_server.proofs.AfterNumbers.{after_prefix, prefix_before, none_aft
 
 -- a number of a box: these events end there, and the others follow
 pub record Stands (b : BoxView) (at : ℕ) (rest : List EventView) : Type 0 where
-  pub front : List EventView
-  pub whole : b.events ≡ front ++ rest
-  pub place : at ≡ b.first + ending front
+  pub prefix : List EventView
+  pub whole : b.events ≡ prefix ++ rest
+  pub place : at ≡ b.first + ending prefix
 
 first_of : (x y : EventView) (xs ys : List EventView) → x ∷ xs ≡ y ∷ ys → x ≡ y
 first_of x y xs ys e = cc
@@ -32,14 +32,14 @@ pub next_is : (b : BoxView) (at : ℕ) (rest : List EventView) (e : EventView) �
 next_is b at rest e c s found =
     let from = found.0 in
     let t = found.2 in
-    let cut = same_cut t.front (e ∷ t.rest) s.front rest (counted_left t.front (e ∷ t.rest) (subst AreCounted t.whole c)) (counted_left s.front rest (subst AreCounted s.whole c)) (sym t.whole ∙ s.whole) (omega (arith, t.start, s.place, from)) in
+    let cut = same_cut t.prefix (e ∷ t.rest) s.prefix rest (counted_left t.prefix (e ∷ t.rest) (subst AreCounted t.whole c)) (counted_left s.prefix rest (subst AreCounted s.whole c)) (sym t.whole ∙ s.whole) (omega (arith, t.start, s.place, from)) in
     (t.rest, sym cut.1)
 
 pub stands_next : (b : BoxView) (at : ℕ) (e : EventView) (more : List EventView) → Stands b at (e ∷ more) → Stands b (at + count_of e) more
 stands_next b at e more s = record {
-  front = s.front ++ e ∷ [];
-  whole = s.whole ∙ sym (append_assoc s.front (e ∷ []) more);
-  place = omega (arith, s.place, ending-append s.front (e ∷ []));
+  prefix = s.prefix ++ e ∷ [];
+  whole = s.whole ∙ sym (append_assoc s.prefix (e ∷ []) more);
+  place = omega (arith, s.place, ending-append s.prefix (e ∷ []));
 }
 
 -- where none is found, none follows
@@ -49,30 +49,30 @@ none_next b at (e ∷ more) s none = absurd (none e (
   omega (arith, s.place),
   omega arith,
   record {
-    front = s.front;
+    prefix = s.prefix;
     rest = more;
     whole = s.whole;
     start = omega (arith, s.place);
-    stop = omega (arith, s.place, ending-append s.front (e ∷ []));
+    stop = omega (arith, s.place, ending-append s.prefix (e ∷ []));
   },
 ))
 
 -- it ends within the box
 pub next_ends : (b : BoxView) (at : ℕ) (e : EventView) (more : List EventView) → Stands b at (e ∷ more) → at + count_of e ≤ end_of b
 next_ends b at e more s =
-    let all : ending b.events ≡ ending s.front + (count_of e + ending more) = ap ending s.whole ∙ ending-append s.front (e ∷ more) in
+    let all : ending b.events ≡ ending s.prefix + (count_of e + ending more) = ap ending s.whole ∙ ending-append s.prefix (e ∷ more) in
     omega (arith, all, s.place)
 
 pub stands_boundary : (b : BoxView) (at : ℕ) (x : IsBoundaryOf b at) → Stands b at x.1.rest
-stands_boundary b at x = let from = x.0 in record { front = x.1.front; whole = x.1.whole; place = omega (arith, from, x.1.stop) }
+stands_boundary b at x = let from = x.0 in record { prefix = x.1.prefix; whole = x.1.whole; place = omega (arith, from, x.1.stop) }
 
 pub after_stands : (b : BoxView) (at : ℕ) (rest : List EventView) → AreCounted b.events → Stands b at rest → after_of b at ≡ Some rest
 after_stands b at rest c s =
-    let past : at - b.first ≡ ending s.front = omega (arith, s.place) in
+    let past : at - b.first ≡ ending s.prefix = omega (arith, s.place) in
     ap (λ (t : Bool). if t then events_after b.events (at - b.first) else None) (is_le b.first at (omega (arith, s.place)))
     ∙ ap (events_after b.events) past
-    ∙ ap (λ (l : List EventView). events_after l (ending s.front)) s.whole
-    ∙ after_prefix s.front rest (counted_left s.front rest (subst AreCounted s.whole c))
+    ∙ ap (λ (l : List EventView). events_after l (ending s.prefix)) s.whole
+    ∙ after_prefix s.prefix rest (counted_left s.prefix rest (subst AreCounted s.whole c))
 
 pub after_none : (b : BoxView) (at : ℕ) → (IsBoundaryOf b at → ⊥) → after_of b at ≡ None
 after_none b at none = elim (leb b.first at) as (λ (t : Bool). leb b.first at ≡ t → (if t then events_after b.events (at - b.first) else None) ≡ None) [
@@ -152,7 +152,7 @@ counted_by : (b : BoxView) (from : ℕ) (xs rest : List EventView) (t : Bool) �
 counted_by b from xs rest false c is = absurd (none_some (xs ++ rest) is)
 counted_by b from xs rest true c is =
     let r = prefix_before b.events (from - b.first) (xs ++ rest) is in
-    counted_left xs rest (counted_right r.front (xs ++ rest) (subst AreCounted r.whole c))
+    counted_left xs rest (counted_right r.prefix (xs ++ rest) (subst AreCounted r.whole c))
 
 filled : (b : BoxView) (from : ℕ) (parts : PartsView) (at n left : ℕ) → AreCounted b.events → (f : Filling b from parts at n left) → limited bytes_of n left f.rest ≡ [] → Fills b from parts at
 filled b from parts at n left c f none =
@@ -179,7 +179,7 @@ pub record Listing (b : BoxView) (at : ℕ) (news : List (List ℕ)) : Type 0 wh
   pub all : news ++ bodies rest ≡ bodies b.events
 
 pub listing_none : (b : BoxView) (at : ℕ) (news : List (List ℕ)) → at ≡ b.first → news ≡ [] → Listing b at news
-listing_none b at news begin none = record { rest = b.events; stands = record { front = []; whole = refl; place = omega (arith, begin) }; all = ap (λ (l : List (List ℕ)). l ++ bodies b.events) none }
+listing_none b at news begin none = record { rest = b.events; stands = record { prefix = []; whole = refl; place = omega (arith, begin) }; all = ap (λ (l : List (List ℕ)). l ++ bodies b.events) none }
 
 new_bodies : (e : EventView) (more : List EventView) → is_new e ≡ true → bodies (e ∷ more) ≡ body_of e ∷ bodies more
 new_bodies e more new = ap (λ (t : Bool). if t then body_of e ∷ bodies more else bodies more) new
@@ -217,7 +217,7 @@ ends_by : (b : BoxView) (from : ℕ) (es : List EventView) (t : Bool) → leb b.
 ends_by b from es false t is = absurd (none_some es is)
 ends_by b from es true t is =
     let r = prefix_before b.events (from - b.first) es is in
-    omega (arith, le_is b.first from t, r.stop, ap ending r.whole, ending-append r.front es)
+    omega (arith, le_is b.first from t, r.stop, ap ending r.whole, ending-append r.prefix es)
 
 pub after_ends : (b : BoxView) (from : ℕ) (es : List EventView) → after_of b from ≡ Some es → from + ending es ≡ end_of b
 after_ends b from es is = ends_by b from es (leb b.first from) refl is

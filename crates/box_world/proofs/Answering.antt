@@ -22,7 +22,7 @@ append_append {A} (x ∷ xs) ys zs = ap (λ (l : List A). x ∷ l) (append_appen
 -- ---- runs
 
 abbrev HasPrefix : (A : Type 0) → List A → List A → Type 0
-HasPrefix A front xs = (more : List A) × (xs ≡ front ++ more)
+HasPrefix A prefix xs = (more : List A) × (xs ≡ prefix ++ more)
 
 limited_by : {A : Type 0} (size : A → ℕ) (n b : ℕ) (x : A) (xs : List A) (t : Bool) → HasPrefix A (limited size n (b - size x) xs) xs
     → HasPrefix A (if t then x ∷ limited size n (b - size x) xs else []) (x ∷ xs)
@@ -37,9 +37,9 @@ prefix_of size (suc n) b (x ∷ xs) = limited_by size n b x xs (leb (size x) b) 
 
 -- the events after a number, and a run of them
 pub record RunAt (box : List EventView) (p : ℕ) (es : List EventView) : Type 0 where
-  pub front : List EventView
-  pub whole : box ≡ front ++ es
-  pub stop : ending front ≡ p
+  pub prefix : List EventView
+  pub whole : box ≡ prefix ++ es
+  pub stop : ending prefix ≡ p
   pub rest : List EventView
   pub run : es ≡ run_of es ++ rest
 
@@ -50,20 +50,20 @@ counted_left (x ∷ xs) ys c = (c.0, counted_left xs ys c.1)
 pub run_at : (box : List EventView) (p : ℕ) → (b : IsBoundary box p) → RunAt box p b.rest
 run_at box p b =
     let k = prefix_of bytes_of 100 262144 b.rest in
-    record { front = b.front; whole = b.whole; stop = b.stop; rest = k.0; run = k.1 }
+    record { prefix = b.prefix; whole = b.whole; stop = b.stop; rest = k.0; run = k.1 }
 
 pub run_after : (box : List EventView) (p : ℕ) → AreCounted box → (b : IsBoundary box p) → events_after box p ≡ Some b.rest
-run_after box p c b = ap₂ events_after b.whole (sym b.stop) ∙ after_prefix b.front b.rest (counted_left b.front b.rest (subst AreCounted b.whole c))
+run_after box p c b = ap₂ events_after b.whole (sym b.stop) ∙ after_prefix b.prefix b.rest (counted_left b.prefix b.rest (subst AreCounted b.whole c))
 
 -- the run lies in the box, and in each that has more
-pub run_lies : (front box : List EventView) (p : ℕ) (es : List EventView) → HasMore front box → RunAt front p es → Between box p (p + ending (run_of es)) (run_of es)
-run_lies front box p es m r = record {
-  front = r.front;
+pub run_lies : (prefix box : List EventView) (p : ℕ) (es : List EventView) → HasMore prefix box → RunAt prefix p es → Between box p (p + ending (run_of es)) (run_of es)
+run_lies prefix box p es m r = record {
+  prefix = r.prefix;
   rest = r.rest ++ m.0;
-  whole = m.1 ∙ ap (λ (l : List EventView). l ++ m.0) (r.whole ∙ ap (λ (l : List EventView). r.front ++ l) r.run)
-      ∙ append_append r.front (run_of es ++ r.rest) m.0 ∙ ap (λ (l : List EventView). r.front ++ l) (append_append (run_of es) r.rest m.0);
+  whole = m.1 ∙ ap (λ (l : List EventView). l ++ m.0) (r.whole ∙ ap (λ (l : List EventView). r.prefix ++ l) r.run)
+      ∙ append_append r.prefix (run_of es ++ r.rest) m.0 ∙ ap (λ (l : List EventView). r.prefix ++ l) (append_append (run_of es) r.rest m.0);
   start = r.stop;
-  stop = ending-append r.front (run_of es) ∙ ap (λ (n : ℕ). n + ending (run_of es)) r.stop;
+  stop = ending-append r.prefix (run_of es) ∙ ap (λ (n : ℕ). n + ending (run_of es)) r.stop;
 }
 
 pub run_woven : (p : ℕ) (es : List EventView) → woven_of p (p + ending es) (bodies es) (others_from p es) ≡ Ok es
@@ -105,7 +105,7 @@ no_items (x ∷ xs) e = absurd (omega (arith, e))
 pub whole_run : (box : List EventView) (p : ℕ) (es : List EventView) → RunAt box p es → is_whole es ≡ true → p + ending (run_of es) ≡ ending box
 whole_run box p es r e =
     let n : ending (run_of es) ≡ ending es = same_length (ending (run_of es)) (ending es) e in
-    let sum : ending box ≡ ending r.front + ending es = ap ending r.whole ∙ ending-append r.front es in
+    let sum : ending box ≡ ending r.prefix + ending es = ap ending r.whole ∙ ending-append r.prefix es in
     omega (arith, sum, r.stop, n)
 
 pub empty_run : (es : List EventView) → eqb (length es) 0 ≡ true → es ≡ []

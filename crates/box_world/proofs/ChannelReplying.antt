@@ -65,30 +65,30 @@ extend_free t xs false = inr (extend_again t xs)
 -- ---- the channel takes the answer
 
 -- the channel that an answer makes agrees with its box, and asks no more
-pub record Taken (front box : List EventView) (d : ChannelState) (r : ChannelReply) : Type 0 where
+pub record Taken (prefix box : List EventView) (d : ChannelState) (r : ChannelReply) : Type 0 where
   pub channel : ChannelState
   pub is : channels.replied d r ≡ Ok channel
   pub id : channel.id ≡ d.id
   pub agrees : ChannelAgrees box channel
   pub free : (channel.lane.mode ≡ Live) ⊎ (channel.lane.mode ≡ Again)
-  pub reaches : is_last_part r ≡ true → ending front ≤ channel.lane.at
+  pub reaches : is_last_part r ≡ true → ending prefix ≤ channel.lane.at
   pub flag : channel.flag ≡ d.flag
   pub stops : is_last_part r ≡ true → channel.lane.mode ≡ Live
   -- a part that isn't the last brings an event where none is larger than a part may be, and the channel wasn't far behind
-  pub goes_on : is_last_part r ≡ false → (channel.lane.mode ≡ Again) × (ending front - d.lane.at ≤ MAX_BEHIND) × (Each (λ e. bytes_of e ≤ RUN_BYTES) front → d.lane.at + 1 ≤ channel.lane.at)
+  pub goes_on : is_last_part r ≡ false → (channel.lane.mode ≡ Again) × (ending prefix - d.lane.at ≤ MAX_BEHIND) × (Each (λ e. bytes_of e ≤ RUN_BYTES) prefix → d.lane.at + 1 ≤ channel.lane.at)
   pub ahead : IsSound count_of d.lane → ending box ≤ MAX_END → channel.lane.mode ≡ Live → StartAfter channel.lane.at channel.lane.held
 
 -- what a part that isn't the last says
 abbrev Parts : List EventView → ChannelState → ℕ → Bool → Type 0
-Parts front d to last = last ≡ false → (ending front - d.lane.at ≤ MAX_BEHIND) × (Each (λ e. bytes_of e ≤ RUN_BYTES) front → d.lane.at + 1 ≤ to)
+Parts prefix d to last = last ≡ false → (ending prefix - d.lane.at ≤ MAX_BEHIND) × (Each (λ e. bytes_of e ≤ RUN_BYTES) prefix → d.lane.at + 1 ≤ to)
 
 pub sum_is : (xs : List EventView) → sum_by count_of xs ≡ ending xs
 sum_is [] = refl
 sum_is (x ∷ xs) = omega (arith, sum_is xs, sum_by-cons count_of x xs)
 
-grows : (front box : List EventView) (d : ChannelState) (to : ℕ) (news : List (List ℕ)) (others : List _) (xs : List EventView) (last : Bool) (r : ChannelReply)
-    → AreCounted box → ChannelAgrees box d → Between box d.lane.at to xs → channels.replied d r ≡ grown d last (woven_of d.lane.at to news others) → woven_of d.lane.at to news others ≡ Ok xs → (is_last_part r ≡ true → ending front ≤ to) → is_last_part r ≡ last → Parts front d to last → Taken front box d r
-grows front box d to news others xs last r k h b e w up same more = record {
+grows : (prefix box : List EventView) (d : ChannelState) (to : ℕ) (news : List (List ℕ)) (others : List _) (xs : List EventView) (last : Bool) (r : ChannelReply)
+    → AreCounted box → ChannelAgrees box d → Between box d.lane.at to xs → channels.replied d r ≡ grown d last (woven_of d.lane.at to news others) → woven_of d.lane.at to news others ≡ Ok xs → (is_last_part r ≡ true → ending prefix ≤ to) → is_last_part r ≡ last → Parts prefix d to last → Taken prefix box d r
+grows prefix box d to news others xs last r k h b e w up same more = record {
   channel = record d { lane = extend count_of d.lane xs last };
   is = e ∙ ap (grown d last) w;
   id = refl;
@@ -107,22 +107,22 @@ grows front box d to news others xs last r k h b e w up same more = record {
   ahead = λ sound le. (sound_extend count_of d.lane xs last sound (omega (arith, le, stretch_counts box d.lane.at to xs b, sum_is xs, stretch_inside box d.lane.at to xs b))).ahead;
 }
 
-begins_anew : (front box : List EventView) (d : ChannelState) (end : ℕ) (recent : List (List ℕ)) → AreCounted box → HasMore front box → end ≡ ending front → recent ≡ recent_of (kept_of front)
-    → ChannelAgrees box d → Taken front box d (TooLong end recent true)
-begins_anew front box d end recent k m e c h = record {
+begins_anew : (prefix box : List EventView) (d : ChannelState) (end : ℕ) (recent : List (List ℕ)) → AreCounted box → HasMore prefix box → end ≡ ending prefix → recent ≡ recent_of (kept_of prefix)
+    → ChannelAgrees box d → Taken prefix box d (TooLong end recent true)
+begins_anew prefix box d end recent k m e c h = record {
   channel = record d { lane = restart_at count_of d.lane end; recent = recent };
   is = refl;
   id = refl;
   agrees = record {
-    lane = fits_restart box d.lane end k h.lane (record { front = front; rest = m.0; whole = m.1; stop = sym e });
-    recent = record { front = front; rest = m.0; whole = m.1; stop = sym e ∙ sym (restart_restart d.lane end); content = c };
+    lane = fits_restart box d.lane end k h.lane (record { prefix = prefix; rest = m.0; whole = m.1; stop = sym e });
+    recent = record { prefix = prefix; rest = m.0; whole = m.1; stop = sym e ∙ sym (restart_restart d.lane end); content = c };
   };
   free = inl (restart_live d.lane end);
   reaches = λ final. omega (arith, e, restart_up count_of d.lane end (fits_after box d.lane k h.lane));
   flag = refl;
   stops = λ final. restart_live d.lane end;
   goes_on = λ part. absurd cc;
-  ahead = λ sound le. (sound_restart count_of d.lane end sound (omega (arith, le, e, ap ending m.1, ending-append front m.0))).ahead;
+  ahead = λ sound le. (sound_restart count_of d.lane end sound (omega (arith, le, e, ap ending m.1, ending-append prefix m.0))).ahead;
 }
 
 -- ---- the answer of an earlier server
@@ -155,27 +155,27 @@ pub end_is : (whole : List EventView) (b : ChannelBox) → IsKept whole b → ch
 end_is whole b k = ap (λ (n : ℕ). n + ending b.events) k.first ∙ sym (ending-append k.gone b.events) ∙ sym (ap ending k.parts)
 
 -- a boundary of the whole box that isn't before the kept events is one of these
-cut_prefix : (gone kept front rest : List EventView) → gone ++ kept ≡ front ++ rest → AreCounted (gone ++ kept) → ending gone ≤ ending front → (mid : List EventView) × (kept ≡ mid ++ rest) × (ending gone + ending mid ≡ ending front)
-cut_prefix [] kept front rest e c le = (front, e, omega arith)
+cut_prefix : (gone kept prefix rest : List EventView) → gone ++ kept ≡ prefix ++ rest → AreCounted (gone ++ kept) → ending gone ≤ ending prefix → (mid : List EventView) × (kept ≡ mid ++ rest) × (ending gone + ending mid ≡ ending prefix)
+cut_prefix [] kept prefix rest e c le = (prefix, e, omega arith)
 cut_prefix (g ∷ gone) kept [] rest e c le = absurd (omega (arith, le, c.0))
-cut_prefix (g ∷ gone) kept (f ∷ front) rest e c le =
+cut_prefix (g ∷ gone) kept (f ∷ prefix) rest e c le =
     let head : g ≡ f = cc in
-    let tail : gone ++ kept ≡ front ++ rest = cc in
-    let m = cut_prefix gone kept front rest tail c.1 (omega (arith, le, ap count_of head)) in
+    let tail : gone ++ kept ≡ prefix ++ rest = cc in
+    let m = cut_prefix gone kept prefix rest tail c.1 (omega (arith, le, ap count_of head)) in
     (m.0, m.1, omega (arith, m.2, ap count_of head))
 
 pub kept_boundary : (whole : List EventView) (b : ChannelBox) (p : ℕ) → AreCounted whole → IsKept whole b → IsBoundary whole p → b.first ≤ p → IsBoundary b.events (p - b.first)
 kept_boundary whole b p c k h le =
-    let m = cut_prefix k.gone b.events h.front h.rest (sym k.parts ∙ h.whole) (subst AreCounted k.parts c) (omega (arith, le, k.first, h.stop)) in
-    record { front = m.0; rest = h.rest; whole = m.1; stop = omega (arith, m.2, k.first, h.stop) }
+    let m = cut_prefix k.gone b.events h.prefix h.rest (sym k.parts ∙ h.whole) (subst AreCounted k.parts c) (omega (arith, le, k.first, h.stop)) in
+    record { prefix = m.0; rest = h.rest; whole = m.1; stop = omega (arith, m.2, k.first, h.stop) }
 
 -- the run from p lies in the whole box, after the events that are gone
 kept_lies : (whole box : List EventView) (b : ChannelBox) (p : ℕ) (es : List EventView) → HasMore whole box → IsKept whole b → b.first ≤ p → RunAt b.events (p - b.first) es → Between box p (p + ending (run_of es)) (run_of es)
 kept_lies whole box b p es m k le r =
     run_lies whole box p es m (record {
-      front = k.gone ++ r.front;
-      whole = k.parts ∙ ap (λ (l : List EventView). k.gone ++ l) r.whole ∙ sym (append_append k.gone r.front es);
-      stop = omega (arith, ending-append k.gone r.front, r.stop, k.first, le);
+      prefix = k.gone ++ r.prefix;
+      whole = k.parts ∙ ap (λ (l : List EventView). k.gone ++ l) r.whole ∙ sym (append_append k.gone r.prefix es);
+      stop = omega (arith, ending-append k.gone r.prefix, r.stop, k.first, le);
       rest = r.rest;
       run = r.run;
     })
@@ -190,7 +190,7 @@ unfolding limited
 nothing_lies whole box b d m kept le run = kept_lies whole box b d.lane.at [] m kept le run
 
 nothing_left : (whole : List EventView) (b : ChannelBox) (p : ℕ) → IsKept whole b → b.first ≤ p → RunAt b.events (p - b.first) [] → ending whole ≤ p
-nothing_left whole b p k le r = omega (arith, end_is whole b k, ap ending r.whole, ending-append r.front [], r.stop, le)
+nothing_left whole b p k le r = omega (arith, end_is whole b k, ap ending r.whole, ending-append r.prefix [], r.stop, le)
 
 kept_ends : (whole : List EventView) (b : ChannelBox) (p : ℕ) (es : List EventView) → IsKept whole b → b.first ≤ p → RunAt b.events (p - b.first) es → is_whole es ≡ true → ending whole ≤ p + ending (run_of es)
 kept_ends whole b p es k le r final = omega (arith, end_is whole b k, whole_run b.events (p - b.first) es r final, le)
@@ -201,8 +201,8 @@ first_small e es some small = let run = carries_first e es small in omega (arith
 
 run_goes_on : (whole : List EventView) (b : ChannelBox) (p : ℕ) (e : EventView) (es : List EventView) → IsKept whole b → RunAt b.events (p - b.first) (e ∷ es) → Each (λ x. bytes_of x ≤ RUN_BYTES) whole → AreCounted (e ∷ es) → p + 1 ≤ p + ending (run_of (e ∷ es))
 run_goes_on whole b p e es k r small c =
-    let all : whole ≡ (k.gone ++ r.front) ++ e ∷ es = k.parts ∙ ap (λ (l : List EventView). k.gone ++ l) r.whole ∙ sym (append_append k.gone r.front (e ∷ es)) in
-    let here = each_right (λ x. bytes_of x ≤ RUN_BYTES) (k.gone ++ r.front) (e ∷ es) (subst (Each (λ x. bytes_of x ≤ RUN_BYTES)) all small) in
+    let all : whole ≡ (k.gone ++ r.prefix) ++ e ∷ es = k.parts ∙ ap (λ (l : List EventView). k.gone ++ l) r.whole ∙ sym (append_append k.gone r.prefix (e ∷ es)) in
+    let here = each_right (λ x. bytes_of x ≤ RUN_BYTES) (k.gone ++ r.prefix) (e ∷ es) (subst (Each (λ x. bytes_of x ≤ RUN_BYTES)) all small) in
     omega (arith, first_small e es c.0 here.0)
 
 part_taken : (whole box : List EventView) (b : ChannelBox) (d : ChannelState) (es : List EventView) → AreCounted box → HasMore whole box → IsKept whole b → b.first ≤ d.lane.at → ending whole - d.lane.at ≤ MAX_BEHIND → AreCounted es
@@ -220,17 +220,17 @@ part_taken whole box b d (e ∷ es) k m kept le near c run h =
     (r, refl, grows whole box d (p + ending xs) (bodies xs) (others_from p xs) xs (is_whole (e ∷ es)) r k h (kept_lies whole box b p (e ∷ es) m kept le run) refl (run_woven p xs) (kept_ends whole b p (e ∷ es) kept le run) refl (λ part. (near, λ small. run_goes_on whole b p e es kept run small c)))
 
 -- the answer to a request from a boundary of the whole box
-pub record TakenFrom (front box : List EventView) (d : ChannelState) (v : Reply) : Type 0 where
+pub record TakenFrom (prefix box : List EventView) (d : ChannelState) (v : Reply) : Type 0 where
   pub reply : ChannelReply
   pub is : v ≡ Channel reply
-  pub taken : Taken front box d reply
+  pub taken : Taken prefix box d reply
 
 near_taken : (whole box : List EventView) (b : ChannelBox) (d : ChannelState) → AreCounted whole → AreCounted box → HasMore whole box → IsKept whole b → IsBoundary whole d.lane.at → b.first ≤ d.lane.at → ending whole - d.lane.at ≤ MAX_BEHIND → ChannelAgrees box d
     → TakenFrom whole box d (channel_part d.lane.at (events_after b.events (d.lane.at - b.first)))
 near_taken whole box b d cw cb m kept h le near a =
     let here = kept_boundary whole b d.lane.at cw kept h le in
     let counted = counted_right kept.gone b.events (subst AreCounted kept.parts cw) in
-    let t = part_taken whole box b d here.rest cb m kept le near (counted_right here.front here.rest (subst AreCounted here.whole counted)) (run_at b.events (d.lane.at - b.first) here) a in
+    let t = part_taken whole box b d here.rest cb m kept le near (counted_right here.prefix here.rest (subst AreCounted here.whole counted)) (run_at b.events (d.lane.at - b.first) here) a in
     let after = run_after b.events (d.lane.at - b.first) counted here in
     record { reply = t.0; is = ap (channel_part d.lane.at) after ∙ t.1; taken = t.2 }
 
@@ -244,7 +244,7 @@ far_by whole box b d true e cw cb m kept h a = record {
 far_by whole box b d false e cw cb m kept h a = near_taken whole box b d cw cb m kept h (from_first d.lane.at b.first (ltb MAX_BEHIND (channel_end b - d.lane.at)) e) (omega (arith, end_is whole b kept, near_end d.lane.at b.first (channel_end b - d.lane.at) e)) a
 
 pub inside_of : (box : List EventView) (p : ℕ) → IsBoundary box p → p ≤ ending box
-inside_of box p b = omega (arith, b.stop, ap ending b.whole, ending-append b.front b.rest)
+inside_of box p b = omega (arith, b.stop, ap ending b.whole, ending-append b.prefix b.rest)
 
 pub channel_taken : (whole box : List EventView) (b : ChannelBox) (d : ChannelState) → AreCounted whole → AreCounted box → HasMore whole box → IsKept whole b → IsBoundary whole d.lane.at → ChannelAgrees box d
     → TakenFrom whole box d (channel_difference b (pos d.lane.at))
@@ -271,9 +271,9 @@ is_asked n Again e = absurd cc
 free_asks : (n : ℕ) (o : Option Asked) (d : ChannelState) → (d.lane.mode ≡ Live) ⊎ (d.lane.mode ≡ Again) → ChannelAsksBy n o d
 free_asks n o d f e = absurd (asks_never d.lane.mode n f e)
 
-pub goes_taken : (s : ServerState) (boxes : Boxes) (c : ClientState) (n : ℕ) (d : ChannelState) (v : ChannelReply) (front : List EventView) (t : Taken front (boxes d.id) d v) → Agrees s boxes c
+pub goes_taken : (s : ServerState) (boxes : Boxes) (c : ClientState) (n : ℕ) (d : ChannelState) (v : ChannelReply) (prefix : List EventView) (t : Taken prefix (boxes d.id) d v) → Agrees s boxes c
     → Goes s boxes c (record c { channels = at_first (asks_number n) (λ _. t.channel) c.channels })
-goes_taken s boxes c n d v front t a = record {
+goes_taken s boxes c n d v prefix t a = record {
   agrees = record {
     common = a.common;
     secret = a.secret;

@@ -88,7 +88,7 @@ push_more s t x y (Container us date seq_start seq) g h = (
 -- ---- requests
 
 boundary_more : (a b : List EventView) (p : ℕ) → HasMore a b → IsBoundary a p → IsBoundary b p
-boundary_more a b p m h = record { front = h.front; rest = h.rest ++ m.0; whole = m.1 ∙ ap (λ (l : List EventView). l ++ m.0) h.whole ∙ append_append h.front h.rest m.0; stop = h.stop }
+boundary_more a b p m h = record { prefix = h.prefix; rest = h.rest ++ m.0; whole = m.1 ∙ ap (λ (l : List EventView). l ++ m.0) h.whole ∙ append_append h.prefix h.rest m.0; stop = h.stop }
 
 pub request_more : (s t : ServerState) (x y : Boxes) (r : Request) (seq : ℕ) → Continues s t x y → RequestFits s x r seq → RequestFits t y r seq
 request_more s t x y State seq g h = absurd h

@@ -38,13 +38,13 @@ each_last P (y ∷ ys) x h g = (h.0, each_last P ys x h.1 g)
 agreeing_asks : (boxes : Boxes) (d : ChannelState) (n : ℕ) → Agreeing boxes d → Agreeing boxes (channel_asks d n)
 agreeing_asks boxes d n h = record {
   lane = fits_asked (boxes d.id) d.lane n h.lane;
-  recent = record { front = h.recent.front; rest = h.recent.rest; whole = h.recent.whole; stop = h.recent.stop; content = h.recent.content };
+  recent = record { prefix = h.recent.prefix; rest = h.recent.rest; whole = h.recent.whole; stop = h.recent.stop; content = h.recent.content };
 }
 
 agreeing_flagged : (boxes : Boxes) (d : ChannelState) → Agreeing boxes d → Agreeing boxes (flagged d)
 agreeing_flagged boxes d h = record {
   lane = h.lane;
-  recent = record { front = h.recent.front; rest = h.recent.rest; whole = h.recent.whole; stop = h.recent.stop; content = h.recent.content };
+  recent = record { prefix = h.recent.prefix; rest = h.recent.rest; whole = h.recent.whole; stop = h.recent.stop; content = h.recent.content };
 }
 
 forget_restart : (t : LaneState EventView) → (forget t).restart ≡ t.restart
@@ -54,7 +54,7 @@ forget_restart t = refl
 agreeing_forgot : (boxes : Boxes) (d : ChannelState) → Agreeing boxes d → Agreeing boxes (forgot d)
 agreeing_forgot boxes d h = record {
   lane = fits_forget (boxes d.id) d.lane h.lane;
-  recent = record { front = h.recent.front; rest = h.recent.rest; whole = h.recent.whole; stop = h.recent.stop ∙ sym (forget_restart d.lane); content = h.recent.content };
+  recent = record { prefix = h.recent.prefix; rest = h.recent.rest; whole = h.recent.whole; stop = h.recent.stop ∙ sym (forget_restart d.lane); content = h.recent.content };
 }
 
 ticked_by : (boxes : Boxes) (n : ℕ) (d : ChannelState) (ds : List ChannelState) (b : Bool) → channel_is_due d ≡ b → Agreeing boxes d
@@ -70,7 +70,7 @@ agreeing_new : (boxes : Boxes) (id : ℤ) → Agreeing boxes (channel_of id new_
 unfolding limited
 agreeing_new boxes id = record {
   lane = fits_new (boxes id);
-  recent = record { front = []; rest = boxes id; whole = refl; stop = refl; content = refl };
+  recent = record { prefix = []; rest = boxes id; whole = refl; stop = refl; content = refl };
 }
 
 agreeing_watched : (boxes : Boxes) (ds : List ChannelState) (id : ℤ) (b : Bool) → Each (Agreeing boxes) ds → Each (Agreeing boxes) (watched_if b ds (channel_of id new_lane []))

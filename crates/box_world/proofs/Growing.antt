@@ -20,20 +20,20 @@ append_append : {A : Type 0} (xs ys zs : List A) → (xs ++ ys) ++ zs ≡ xs ++ 
 append_append [] ys zs = refl
 append_append (x ∷ xs) ys zs = ap (λ (l : List _). x ∷ l) (append_append xs ys zs)
 
-pub fits_more : (front box : List EventView) (t : LaneState EventView) → HasMore front box → Fits front t → Fits box t
-fits_more front box t m f = subst (λ (b : List EventView). Fits b t) (sym m.1) (fits_grows front m.0 t f)
+pub fits_more : (prefix box : List EventView) (t : LaneState EventView) → HasMore prefix box → Fits prefix t → Fits box t
+fits_more prefix box t m f = subst (λ (b : List EventView). Fits b t) (sym m.1) (fits_grows prefix m.0 t f)
 
-recent_more : (front box : List EventView) (c : ChannelState) → HasMore front box → IsRecent front c → IsRecent box c
-recent_more front box c m h = record {
-  front = h.front;
+recent_more : (prefix box : List EventView) (c : ChannelState) → HasMore prefix box → IsRecent prefix c → IsRecent box c
+recent_more prefix box c m h = record {
+  prefix = h.prefix;
   rest = h.rest ++ m.0;
-  whole = m.1 ∙ ap (λ (l : List EventView). l ++ m.0) h.whole ∙ append_append h.front h.rest m.0;
+  whole = m.1 ∙ ap (λ (l : List EventView). l ++ m.0) h.whole ∙ append_append h.prefix h.rest m.0;
   stop = h.stop;
   content = h.content;
 }
 
-channel_more : (front box : List EventView) (c : ChannelState) → HasMore front box → ChannelAgrees front c → ChannelAgrees box c
-channel_more front box c m h = record { lane = fits_more front box c.lane m h.lane; recent = recent_more front box c m h.recent }
+channel_more : (prefix box : List EventView) (c : ChannelState) → HasMore prefix box → ChannelAgrees prefix c → ChannelAgrees box c
+channel_more prefix box c m h = record { lane = fits_more prefix box c.lane m h.lane; recent = recent_more prefix box c m h.recent }
 
 pub agree_as_servers_grow : AgreeAsServersGrow
 agree_as_servers_grow s t before after c g a = record {

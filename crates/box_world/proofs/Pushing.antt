@@ -66,7 +66,7 @@ pub few_at_first : (p : ChannelState → Bool) (f : ChannelState → ChannelStat
 few_at_first p f ds h = omega (arith, h, length_at_first p f ds)
 
 pub recent_same : (box : List EventView) (c d : ChannelState) → d.lane.restart ≡ c.lane.restart → d.recent ≡ c.recent → IsRecent box c → IsRecent box d
-recent_same box c d e f h = record { front = h.front; rest = h.rest; whole = h.whole; stop = h.stop ∙ sym e; content = f ∙ h.content }
+recent_same box c d e f h = record { prefix = h.prefix; rest = h.rest; whole = h.whole; stop = h.stop ∙ sym e; content = f ∙ h.content }
 
 pub not_live : (m : Mode) (n : ℕ) → m ≡ Asking n → is_live m ≡ false
 not_live m n e = ap is_live e

@@ -169,10 +169,10 @@ are_counted p (e ∷ es) c = counted_by (is_new e) e (p + count_of e) (others_fr
 
 -- the run of a box counts, and ends within it
 run_counts : (box : List EventView) (p : ℕ) (es : List EventView) → AreCounted box → RunAt box p es → AreCounted (run_of es)
-run_counts box p es c r = counted_left (run_of es) r.rest (subst AreCounted r.run (counted_right r.front es (subst AreCounted r.whole c)))
+run_counts box p es c r = counted_left (run_of es) r.rest (subst AreCounted r.run (counted_right r.prefix es (subst AreCounted r.whole c)))
 
 run_ends : (box : List EventView) (p : ℕ) (es : List EventView) → RunAt box p es → p + ending (run_of es) ≤ ending box
-run_ends box p es r = omega (arith, r.stop, ap ending r.whole, ending-append r.front es, ap ending r.run, ending-append (run_of es) r.rest)
+run_ends box p es r = omega (arith, r.stop, ap ending r.whole, ending-append r.prefix es, ap ending r.run, ending-append (run_of es) r.rest)
 
 last_in_range : (m : ServerState) (p : ℕ) (es fs : List EventView) (ss : List Setting) (b : Bool) → IsWithin m → AreCounted (run_of es) → IsReplyInRange (last_by b m p (run_of es) (run_of fs) ss)
 last_in_range m p es fs ss true h c = tt

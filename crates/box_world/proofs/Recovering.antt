@@ -347,10 +347,10 @@ pub record AreSmall (s : ServerState) (boxes : Boxes) : Type 0 where
   pub channels : (id : ℤ) → Each (λ e. bytes_of e ≤ RUN_BYTES) (boxes id)
 
 rest_small : (box : List EventView) (p : ℕ) (es : List EventView) → RunAt box p es → Each (λ e. bytes_of e ≤ RUN_BYTES) box → Each (λ e. bytes_of e ≤ RUN_BYTES) es
-rest_small box p es r h = each_right (λ e. bytes_of e ≤ RUN_BYTES) r.front es (subst (Each (λ e. bytes_of e ≤ RUN_BYTES)) r.whole h)
+rest_small box p es r h = each_right (λ e. bytes_of e ≤ RUN_BYTES) r.prefix es (subst (Each (λ e. bytes_of e ≤ RUN_BYTES)) r.whole h)
 
 rest_counts : (box : List EventView) (p : ℕ) (es : List EventView) → RunAt box p es → AreCounted box → AreCounted es
-rest_counts box p es r c = counted_right r.front es (subst AreCounted r.whole c)
+rest_counts box p es r c = counted_right r.prefix es (subst AreCounted r.whole c)
 
 next_carried : (carries : Carries) (s : ServerState) (boxes : Boxes) (c : ClientState) (n : ℕ) (es fs : List EventView) (t : Bool) → (is_whole es && is_whole fs) ≡ t → Known s boxes → AreSmall s boxes → Agrees s boxes c → c.common.mode ≡ Asking n → c.flag ≡ false
     → Runs s s c es fs → Next s boxes c (carried t s c.common.at c.secret.at c.settings.date (run_of es) (run_of fs))

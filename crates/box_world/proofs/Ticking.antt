@@ -31,9 +31,9 @@ append_append {A} (x ∷ xs) ys zs = ap (λ (l : List A). x ∷ l) (append_appen
 -- a lane's position is a boundary of its box
 pub stands_at : (box : List EventView) (t : LaneState EventView) → Fits box t → IsBoundary box t.at
 stands_at box t f = record {
-  front = f.events.front ++ t.events;
+  prefix = f.events.prefix ++ t.events;
   rest = f.events.rest;
-  whole = f.events.whole ∙ sym (append_append f.events.front t.events f.events.rest);
+  whole = f.events.whole ∙ sym (append_append f.events.prefix t.events f.events.rest);
   stop = f.events.stop;
 }
 

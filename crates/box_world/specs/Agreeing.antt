@@ -26,11 +26,11 @@ Boxes = ℤ → List EventView
 
 -- a prefix of the box ends at the channel's restart, and its recent messages are the last of those that were kept of that prefix
 pub record IsRecent (box : List EventView) (c : ChannelState) : Type 0 where
-  pub front : List EventView
+  pub prefix : List EventView
   pub rest : List EventView
-  pub whole : box ≡ front ++ rest
-  pub stop : ending front ≡ c.lane.restart
-  pub content : c.recent ≡ recent_of (kept_of front)
+  pub whole : box ≡ prefix ++ rest
+  pub stop : ending prefix ≡ c.lane.restart
+  pub content : c.recent ≡ recent_of (kept_of prefix)
 
 pub record ChannelAgrees (box : List EventView) (c : ChannelState) : Type 0 where
   pub lane : Fits box c.lane

@@ -10,11 +10,11 @@ use Rattle.box_world.specs.Agreeing.{Boxes, Each}
 
 -- the box has more events after those that it had
 abbrev pub HasMore : List EventView → List EventView → Type 0
-HasMore front box = (more : List EventView) × (box ≡ front ++ more)
+HasMore prefix box = (more : List EventView) × (box ≡ prefix ++ more)
 
 -- settings were appended, none of them dated before a date
 abbrev pub HasLater : ℕ → List Dated → List Dated → Type 0
-HasLater date front L = (more : List Dated) × (L ≡ front ++ more) × All (λ e. date ≤ e.date) more
+HasLater date prefix L = (more : List Dated) × (L ≡ prefix ++ more) × All (λ e. date ≤ e.date) more
 
 -- from a server and whole boxes to others
 pub record Continues (s t : ServerState) (before after : Boxes) : Type 0 where

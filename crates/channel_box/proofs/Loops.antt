@@ -16,8 +16,8 @@ pub record Cut (now : List ChannelView) (i : ℕ) (x y : ChannelView) : Type 0 w
   pub rest : List ChannelView
   pub here : drop i now ≡ x ∷ rest
   pub next : drop (suc i) now ≡ rest
-  pub front : take (suc i) (set now i y) ≡ take i now ++ y ∷ []
-  pub front_same : take (suc i) now ≡ take i now ++ x ∷ []
+  pub prefix : take (suc i) (set now i y) ≡ take i now ++ y ∷ []
+  pub prefix_same : take (suc i) now ≡ take i now ++ x ∷ []
   pub back : drop (suc i) (set now i y) ≡ rest
 
 pub cut : (now : List ChannelView) (i : ℕ) (x y : ChannelView) → i < length now → x ≡ get_or now i x → Cut now i x y
@@ -26,8 +26,8 @@ cut (v ∷ vs) zero x y lt is = record {
   rest = vs;
   here = ap (λ (z : ChannelView). z ∷ vs) (sym is);
   next = refl;
-  front = refl;
-  front_same = ap (λ (z : ChannelView). z ∷ []) (sym is);
+  prefix = refl;
+  prefix_same = ap (λ (z : ChannelView). z ∷ []) (sym is);
   back = refl;
 }
 cut (v ∷ vs) (suc i) x y lt is =
@@ -36,8 +36,8 @@ cut (v ∷ vs) (suc i) x y lt is =
       rest = c.rest;
       here = c.here;
       next = c.next;
-      front = ap (λ (l : List ChannelView). v ∷ l) c.front;
-      front_same = ap (λ (l : List ChannelView). v ∷ l) c.front_same;
+      prefix = ap (λ (l : List ChannelView). v ∷ l) c.prefix;
+      prefix_same = ap (λ (l : List ChannelView). v ∷ l) c.prefix_same;
       back = c.back;
     }
 
@@ -70,7 +70,7 @@ mapping_more f old now i x y keeps m lt is step le =
     subst (λ (k : ℕ). Mapping f old k (set now i y)) (sym (add-one i))
     (record {
       all =
-          ap₂ (λ (a b : List ChannelView). states a ++ map f (states b)) c.front c.back
+          ap₂ (λ (a b : List ChannelView). states a ++ map f (states b)) c.prefix c.back
           ∙ ap (λ (l : List ChannelState). l ++ map f (states c.rest)) (map_states (take i now) (y ∷ []))
           ∙ append_assoc (states (take i now)) (y.state ∷ []) (map f (states c.rest))
           ∙ ap (λ (z : ChannelState). states (take i now) ++ z ∷ map f (states c.rest)) step
@@ -118,7 +118,7 @@ reserving_more us old now i x y r lt is same le enough =
     (record {
       states = states_kept now i x y is same ∙ r.states;
       room = room_then old now (set now i y) r.room (room_kept now i x y is (ap (λ (z : ChannelState). z.id) same) le);
-      done = subst (EachHasRoom us) (sym c.front) (each_last us (take i now) y r.done (subst (λ (k : ℤ). updates_for k us ≤ y.spare) (ap (λ (z : ChannelState). z.id) (sym same)) enough));
+      done = subst (EachHasRoom us) (sym c.prefix) (each_last us (take i now) y r.done (subst (λ (k : ℤ). updates_for k us ≤ y.spare) (ap (λ (z : ChannelState). z.id) (sym same)) enough));
     })
 
 pub reserving_done : (us : List Update) (old now : List ChannelView) (n : ℕ) → n ≡ length now → Reserving us old n now → HasRoomFor now us
@@ -156,7 +156,7 @@ ticking_asks n old before i m now asked x y ask t lt is due step put le =
     (record {
       numbers = ap (λ (u : Ticked). u.next) back ∙ ap (λ (u : Ticked). u.next) (sym one) ∙ t.numbers;
       channels =
-          ap₂ (λ (a : List ChannelView) (u : Ticked). states a ++ u.channels) c.front back
+          ap₂ (λ (a : List ChannelView) (u : Ticked). states a ++ u.channels) c.prefix back
           ∙ ap (λ (l : List ChannelState). l ++ (ticked (m + 1) (states c.rest)).channels) (map_states (take i now) (y ∷ []))
           ∙ append_assoc (states (take i now)) (y.state ∷ []) (ticked (m + 1) (states c.rest)).channels
           ∙ ap (λ (z : ChannelState). states (take i now) ++ z ∷ (ticked (m + 1) (states c.rest)).channels) step
@@ -183,7 +183,7 @@ ticking_waits n old before i m now asked x t lt is due =
     (record {
       numbers = ap (λ (u : Ticked). u.next) back ∙ ap (λ (u : Ticked). u.next) (sym one) ∙ t.numbers;
       channels =
-          ap₂ (λ (a : List ChannelView) (u : Ticked). states a ++ u.channels) c.front_same back
+          ap₂ (λ (a : List ChannelView) (u : Ticked). states a ++ u.channels) c.prefix_same back
           ∙ ap (λ (l : List ChannelState). l ++ (ticked m (states c.rest)).channels) (map_states (take i now) (x ∷ []))
           ∙ append_assoc (states (take i now)) (x.state ∷ []) (ticked m (states c.rest)).channels
           ∙ ap (λ (u : Ticked). states (take i now) ++ u.channels) (sym one)

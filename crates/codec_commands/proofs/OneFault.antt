@@ -1,4 +1,4 @@
--- Want of memory is no fault of a text.
+-- Out of memory is no fault of a text.
 use Rattle.std.proofs.Common.{ℕ, List}
 use Rattle.tl_lexer.specs.declared.fault.LexFault.TheVariants as lex
 use Rattle.tl_lexer.specs.Tokens.{LexRefused}

@@ -133,7 +133,7 @@ fits_loaded box p to events b = record {
 -- ---- what lies in a box ends after its start, and within the box
 
 counted_at : (box : List EventView) (p q : ℕ) (event : EventView) → AreCounted box → Between box p q (event ∷ []) → 1 ≤ count_of event
-counted_at box p q event c b = (counted_right b.front ((event ∷ []) ++ b.rest) (subst AreCounted b.whole c)).0
+counted_at box p q event c b = (counted_right b.prefix ((event ∷ []) ++ b.rest) (subst AreCounted b.whole c)).0
 
 pub fits_after : (box : List EventView) (t : LaneState EventView) → AreCounted box → Fits box t → EndsAfter t.held
 fits_after box t c f s x is =

@@ -9,7 +9,7 @@ use Rattle.std.specs.Prelude.{IsSome}
 use Rattle.tl_base.specs.Using.{Aside, SourceState, Used}
 use Rattle.tl_base.specs.Outside.{View}
 use Rattle.tl_base.specs.declared.counts.Counts.{Counts}
-use Rattle.tl_base.specs.Limits.{behind, past_end, limited_state}
+use Rattle.tl_base.specs.Limits.{after_limit, past_end, limited_state}
 
 take_none : (n : ℕ) → take {A = ℕ} n [] ≡ []
 take_none n = take_all n [] (omega arith)
@@ -34,10 +34,10 @@ pub limit_end : (b : Option (List ℕ)) (rest : ℕ) → rest ≡ 0 → IsAtEnd 
 limit_end None rest e = tt
 limit_end (Some y) rest e = ap (λ (k : ℕ). take k y) e
 
-pub behind_kept : (a b : Option (List ℕ)) (rest n : ℕ) (piece : List ℕ) → length piece ≡ n → n ≤ rest → (a ≡ None → b ≡ None) → Consumes a b piece → behind (rest - n) b ≡ behind rest a
-behind_kept None b rest n piece len le none h = ap (behind (rest - n)) (none refl)
-behind_kept (Some x) None rest n piece len le none h = absurd h
-behind_kept (Some x) (Some y) rest n piece len le none h = sym (ap (drop rest) h ∙ drop_past piece y rest (omega (arith, len, le)) ∙ ap (λ (k : ℕ). drop (rest - k) y) len)
+pub after_limit_kept : (a b : Option (List ℕ)) (rest n : ℕ) (piece : List ℕ) → length piece ≡ n → n ≤ rest → (a ≡ None → b ≡ None) → Consumes a b piece → after_limit (rest - n) b ≡ after_limit rest a
+after_limit_kept None b rest n piece len le none h = ap (after_limit (rest - n)) (none refl)
+after_limit_kept (Some x) None rest n piece len le none h = absurd h
+after_limit_kept (Some x) (Some y) rest n piece len le none h = sym (ap (drop rest) h ∙ drop_past piece y rest (omega (arith, len, le)) ∙ ap (λ (k : ℕ). drop (rest - k) y) len)
 
 pub past_kept : (a b : Option (List ℕ)) (rest n : ℕ) (piece : List ℕ) → length piece ≡ n → n ≤ rest → (a ≡ None → b ≡ None) → Consumes a b piece → past_end (rest - n) b ≡ past_end rest a
 past_kept None b rest n piece len le none h = ap (past_end (rest - n)) (none refl)
@@ -87,7 +87,7 @@ limited_used limit rest reference n s t piece F le small u h =
     record {
       later = u.later;
       cause = u.cause;
-      kept = same_aside reference limit _ _ _ _ t.aside s.aside (past_kept s.left t.left rest n (take n piece) len fits u.untold h) (behind_kept s.left t.left rest n (take n piece) len fits u.untold h) u.kept;
+      kept = same_aside reference limit _ _ _ _ t.aside s.aside (past_kept s.left t.left rest n (take n piece) len fits u.untold h) (after_limit_kept s.left t.left rest n (take n piece) len fits u.untold h) u.kept;
       told = λ some. told_on (take (rest - n)) t.left (u.told (told_by (take rest) s.left some));
       untold = λ none. untold_on (take (rest - n)) t.left (u.untold (untold_by (take rest) s.left none));
       stays = λ some sound. u.stays (told_by (take rest) s.left some) sound;
@@ -102,7 +102,7 @@ over_limit x y r s piece front back past =
     sym (take-append-drop r x) ∙ (ap₂ (λ (a b : List ℕ). a ++ b) front (sym back) ∙ (append_assoc piece (take s y) (drop s y) ∙ ap (λ (l : List ℕ). piece ++ l) (take-append-drop s y))) in
     (whole, omega (arith, ap length whole, length-append piece y, ap length back, length-drop s y, length-drop r x, past))
 
-took_at : (a b : Option (List ℕ)) (r s : ℕ) (piece : List ℕ) → behind s b ≡ behind r a → past_end s b ≡ past_end r a → Consumes (option_map (take r) a) (option_map (take s) b) piece → Consumes a b piece × (IsSome a → r ≡ length piece + s)
+took_at : (a b : Option (List ℕ)) (r s : ℕ) (piece : List ℕ) → after_limit s b ≡ after_limit r a → past_end s b ≡ past_end r a → Consumes (option_map (take r) a) (option_map (take s) b) piece → Consumes a b piece × (IsSome a → r ≡ length piece + s)
 took_at None b r s piece back past h = (tt, λ some. absurd cc)
 took_at (Some x) None r s piece back past h = absurd h
 took_at (Some x) (Some y) r s piece back past h = let both = over_limit x y r s piece h back past in (both.0, λ some. both.1)

@@ -2,10 +2,10 @@
 use Rattle.std.specs.Prelude.{ℕ, ◌-◌, List, [], ◌∷◌, length, take, drop, Option, Some, None, option_map}
 use Rattle.tl_base.specs.Using.{SourceState}
 
--- what stands behind the limit, where the other source tells it
-abbrev pub behind : ℕ → Option (List ℕ) → List ℕ
-behind rest None = []
-behind rest (Some bytes) = drop rest bytes
+-- what stands after the limit, where the other source tells it
+abbrev pub after_limit : ℕ → Option (List ℕ) → List ℕ
+after_limit rest None = []
+after_limit rest (Some bytes) = drop rest bytes
 
 -- by how many bytes the limit lies past the end, where the other source tells it
 abbrev pub past_end : ℕ → Option (List ℕ) → ℕ
@@ -18,6 +18,6 @@ abbrev pub limited_state : ℕ → ℕ → SourceState → ℕ → SourceState
 limited_state limit rest s reference = record {
   left = option_map (take rest) s.left;
   faults = s.faults;
-  aside = record s.aside { held = (reference ∷ limit ∷ past_end rest s.left ∷ []) ∷ behind rest s.left ∷ s.aside.held };
+  aside = record s.aside { held = (reference ∷ limit ∷ past_end rest s.left ∷ []) ∷ after_limit rest s.left ∷ s.aside.held };
   sound = s.sound;
 }

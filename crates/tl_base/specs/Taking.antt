@@ -31,14 +31,14 @@ TakesPiece most old new bytes after (Ok n) = (piece : List ℕ) × (new ≡ old 
 TakesPiece most old new bytes after (Err text.ReadFault) = (new ≡ old) × (after ≡ Some bytes)
 TakesPiece most old new bytes after (Err text.Memory) = (piece : List ℕ) × Consumes (Some bytes) after piece × (length piece ≤ most)
 
--- The text is the next `most` bytes, or all of them where there are no more. At a fault fewer were taken, for want of memory no more.
+-- The text is the next `most` bytes, or all of them where there are no more. At a fault fewer were taken, when out of memory no more.
 abbrev pub TakesUpTo : ℕ → List ℕ → List ℕ → Option (List ℕ) → Result (Unit {0}) TextFault → Type 0
 TakesUpTo most taken bytes after (Ok u) = Consumes (Some bytes) after taken × (length taken < most → after ≡ Some [])
 TakesUpTo most taken bytes after (Err text.ReadFault) = Consumes (Some bytes) after taken × (length taken < most)
 TakesUpTo most taken bytes after (Err text.Memory) = (prefix : List ℕ) × Consumes (Some bytes) after prefix × (length prefix ≤ most)
 
 -- All the bytes, where they are no more than the limit; one more than the limit, where there are more. At a fault fewer were taken than that,
--- for want of memory no more.
+-- when out of memory no more.
 abbrev pub TakesText : ℕ → List ℕ → Option (List ℕ) → Result (Vec ℕ Global) TextFault → Type 0
 TakesText limit bytes after (Ok taken) = (rest : List ℕ) × (after ≡ Some rest) × (bytes ≡ taken.items ++ rest) × (length taken.items ≤ limit + 1) × (length taken.items ≤ limit → rest ≡ [])
 TakesText limit bytes after (Err text.ReadFault) = (prefix : List ℕ) × Consumes (Some bytes) after prefix × (length prefix ≤ limit)

@@ -1,8 +1,8 @@
-//! Failures of the outside, and want of memory.
+//! Failures of the outside, and out of memory.
 use std::alloc::AllocError;
 use thiserror::Error;
 
-/// Want of memory: an allocation was refused.
+/// Out of memory: an allocation was refused.
 pub type Memory = AllocError;
 
 /// A call to the outside failed. What it stands for is as before, and its count of faults has risen.

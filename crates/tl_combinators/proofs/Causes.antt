@@ -1,4 +1,4 @@
--- Want of memory is no fault of a text.
+-- Out of memory is no fault of a text.
 use Rattle.std.proofs.Common.{ℕ, zero, suc, Bool, true, false, List, Option, Some, None, inl, inr, subst, sym}
 use Rattle.tl_lexer.specs.Rule.{Rule, gives, fails, one, chain, choice, loop}
 use Rattle.tl_lexer.specs.declared.token.Token.{Token}
@@ -11,7 +11,7 @@ use Rattle.tl_combinators.specs.Taken.{taken}
 use Rattle.tl_combinators.specs.Tokens.{token, letter_word, this_word}
 use Rattle.tl_combinators.specs.Names.{NameText, name_from, name, declared_name, type_name, hex, vector_hex, number_by, number, vector_line_number}
 use Rattle.tl_combinators.specs.Trees.{Tree}
-use Rattle.tl_combinators.specs.Types.{level_limit, one_opens, opens, closes, in_parens, one_term, terms, one_listed, listed, applied, application, no_level, behind_percent, bare, core, term, expression, at_end, whole_type}
+use Rattle.tl_combinators.specs.Types.{level_limit, one_opens, opens, closes, in_parens, one_term, terms, one_listed, listed, applied, application, no_level, after_percent, bare, core, term, expression, at_end, whole_type}
 use Rattle.tl_combinators.specs.Description.{Piece, description}
 use Rattle.tl_combinators.specs.Fields.{bit, condition, called, in_condition, held, where_field, field, field_too_many, one_field, fields}
 use Rattle.tl_combinators.specs.BuiltIns.{this_type, sort, boxed, opaque, bracketed, repeated, element, vector_result, vector, line_form, line_number, built_in_line}
@@ -164,13 +164,13 @@ module _ (text : List ℕ) where
   at_no_level = at_choice _ _ _ (at_fails _ (λ ts. tt)) (at_choice _ _ _ (at_fails _ (λ ts. tt)) (at_fails _ (λ ts. tt)))
 
   module _ (deeper below : Bool → Rule Token SyntaxFault Tree) (k : (head : Bool) → Placed (deeper head)) (l : (head : Bool) → Placed (below head)) where
-    at_behind_percent : (head : Bool) → Placed (behind_percent text deeper below head)
-    unfolding behind_percent
-    at_behind_percent head = at_choice _ _ _ (k head) (at_application below l head)
+    at_after_percent : (head : Bool) → Placed (after_percent text deeper below head)
+    unfolding after_percent
+    at_after_percent head = at_choice _ _ _ (k head) (at_application below l head)
 
     at_bare : Placed (bare text deeper below)
     unfolding bare
-    at_bare = at_chain _ _ (at_token _) (λ _. at_chain _ _ (at_in_parens _ at_behind_percent false) (λ _. at_gives _))
+    at_bare = at_chain _ _ (at_token _) (λ _. at_chain _ _ (at_in_parens _ at_after_percent false) (λ _. at_gives _))
 
   at_core : (n : ℕ) (head : Bool) → Placed (core text n head)
   at_core zero head = at_no_level

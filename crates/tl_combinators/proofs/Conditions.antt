@@ -25,7 +25,7 @@ bit_err text ts i d rest h n p = no_bit text (drop i ts) rest (λ b. n (of_next 
 pub bit_past : (text : List ℕ) (ts : List Token) (i : ℕ) (rest : List Token) {e : SyntaxFault} → length ts ≤ i → e ≡ unexpected text (drop i ts) → Parses {X = ℕ} fault_of (λ (n : ℕ). n) (bit text) (drop i ts) rest (Err e)
 bit_past text ts i rest h p = no_bit text (drop i ts) rest (λ b. subst (Next (HasBit text)) (drop_all i ts h) b) p
 
--- ---- conditions; vs and ws are the tokens behind the first and the second
+-- ---- conditions; vs and ws are the tokens after the first and the second
 
 module _ (text : List ℕ) where
   pub condition_is : (us vs ws : List Token) → vs ≡ drop 1 us → ws ≡ drop 2 us → Next (IsWord text is_letter) us → Begins Dot vs → Next (IsWord text is_digit) ws → BeginsCondition text us

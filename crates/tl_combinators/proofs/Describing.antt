@@ -77,8 +77,8 @@ module _ (b : Token) (others : List ℕ) (rest : List Piece) where
   abbrev up_to_next : List Piece → List Piece
   up_to_next between = between ++ (kept b others ∷ rest)
 
-  abbrev text_behind : List ℕ
-  text_behind = others ++ after b.end false rest
+  abbrev text_after : List ℕ
+  text_after = others ++ after b.end false rest
 
   further : (a t : Token) (gap : Bool) (ps : List Piece) → (gap ≡ true) ⊎ AreApart a (omitted t ∷ ps) b → ((gap || nat_lt a.end t.start) ≡ true) ⊎ AreApart t ps b
   further a t gap ps (inl e) = inl (due gap a.end t.start (inl e))
@@ -86,22 +86,22 @@ module _ (b : Token) (others : List ℕ) (rest : List Piece) where
   further a t gap ps (inr (inr (inl s))) = absurd s
   further a t gap ps (inr (inr (inr more))) = inr more
 
-  apart_after : (a : Token) (gap : Bool) (between : List Piece) → All IsLeftOut between → (gap ≡ true) ⊎ AreApart a between b → after a.end gap (up_to_next between) ≡ 32 ∷ text_behind
-  apart_after a gap [] h w = ap (λ (g : Bool). space g ++ text_behind) (due gap a.end b.start w)
+  apart_after : (a : Token) (gap : Bool) (between : List Piece) → All IsLeftOut between → (gap ≡ true) ⊎ AreApart a between b → after a.end gap (up_to_next between) ≡ 32 ∷ text_after
+  apart_after a gap [] h w = ap (λ (g : Bool). space g ++ text_after) (due gap a.end b.start w)
   apart_after a gap (kept t c ∷ ps) h w = absurd (All-head IsLeftOut (kept t c) ps h)
   apart_after a gap (omitted t ∷ ps) h w = apart_after t (gap || nat_lt a.end t.start) ps (All-tail IsLeftOut (omitted t) ps h) (further a t gap ps w)
   apart_after a gap (spaced t ∷ ps) h w = apart_after t true ps (All-tail IsLeftOut (spaced t) ps h) (inl refl)
 
-  joined_after : (a : Token) (gap : Bool) (between : List Piece) → All IsLeftOut between → gap ≡ false → (AreApart a between b → ⊥) → after a.end gap (up_to_next between) ≡ text_behind
-  joined_after a gap [] h e n = ap (λ (g : Bool). space g ++ text_behind) (not_due gap a.end b.start e n)
+  joined_after : (a : Token) (gap : Bool) (between : List Piece) → All IsLeftOut between → gap ≡ false → (AreApart a between b → ⊥) → after a.end gap (up_to_next between) ≡ text_after
+  joined_after a gap [] h e n = ap (λ (g : Bool). space g ++ text_after) (not_due gap a.end b.start e n)
   joined_after a gap (kept t c ∷ ps) h e n = absurd (All-head IsLeftOut (kept t c) ps h)
   joined_after a gap (omitted t ∷ ps) h e n =
       joined_after t (gap || nat_lt a.end t.start) ps (All-tail IsLeftOut (omitted t) ps h) (not_due gap a.end t.start e (λ less. n (inl less))) (λ more. n (inr (inr more)))
   joined_after a gap (spaced t ∷ ps) h e n = absurd (n (inr (inl tt)))
 
-  space_after : (a : Token) (between : List Piece) (s : List ℕ) → All IsLeftOut between → IsSpaceWhere (AreApart a between b) s → after a.end false (up_to_next between) ≡ s ++ text_behind
-  space_after a between s h (inl (p, e)) = apart_after a false between h (inr p) ∙ ap (λ (x : List ℕ). x ++ text_behind) (sym e)
-  space_after a between s h (inr (n, e)) = joined_after a false between h refl n ∙ ap (λ (x : List ℕ). x ++ text_behind) (sym e)
+  space_after : (a : Token) (between : List Piece) (s : List ℕ) → All IsLeftOut between → IsSpaceWhere (AreApart a between b) s → after a.end false (up_to_next between) ≡ s ++ text_after
+  space_after a between s h (inl (p, e)) = apart_after a false between h (inr p) ∙ ap (λ (x : List ℕ). x ++ text_after) (sym e)
+  space_after a between s h (inr (n, e)) = joined_after a false between h refl n ∙ ap (λ (x : List ℕ). x ++ text_after) (sym e)
 
 -- ---- at most one description
 

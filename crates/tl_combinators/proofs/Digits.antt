@@ -1,4 +1,4 @@
--- The digits behind a `#`, read or refused.
+-- The digits after a `#`, read or refused.
 use Rattle.std.proofs.Common.{◌≡◌, ℕ, ◌+◌, ◌<◌, List, length, drop, get_or, Ok, Err}
 use Rattle.tl_numbers.specs.HexText.{hex_value}
 use Rattle.tl_lexer.specs.Rule.{Next, Parses}

@@ -4,7 +4,7 @@ use Rattle.tl_lexer.specs.Rule.{Rule, gives, fails, one, chain, choice, loop}
 use Rattle.tl_lexer.proofs.Sure.{Sure, sure_gives, sure_fails, sure_one, sure_chain, sure_choice, sure_loop}
 use Rattle.tl_lexer.proofs.Whole.{Whole, Decided, whole_gives, whole_fails, whole_one, whole_chain, whole_choice, whole_loop}
 use Rattle.tl_combinators.specs.Taken.{taken}
-use Rattle.tl_combinators.proofs.Rows.{Rows, Shorter, rows_gives, rows_fails, rows_one, rows_chain, rows_choice, rows_loop, rows_taken, shorter_before, shorter_behind}
+use Rattle.tl_combinators.proofs.Rows.{Rows, Shorter, rows_gives, rows_fails, rows_one, rows_chain, rows_choice, rows_loop, rows_taken, shorter_before, shorter_after}
 use Rattle.tl_combinators.proofs.TakenRows.{sure_taken, whole_taken}
 
 pub record Lawful {T F A : Type 0} (r : Rule T F A) : Type 0 where
@@ -52,4 +52,4 @@ pub shorter_first : {T F A B : Type 0} (r : Rule T F A) (s : A → Rule T F B) �
 shorter_first r s p q = shorter_before r s p (λ x. (q x).rows)
 
 pub shorter_then : {T F A B : Type 0} (r : Rule T F A) (s : A → Rule T F B) → Lawful r → ((x : A) → Shorter (s x)) → Shorter (chain r s)
-shorter_then r s p q = shorter_behind r s p.rows q
+shorter_then r s p q = shorter_after r s p.rows q

@@ -14,7 +14,7 @@ use Rattle.tl_combinators.specs.declared.built_in.BuiltIn.TheVariants.{Int, Long
 use Rattle.tl_combinators.specs.Tokens.{bytes_of, unexpected, is_letter, is_lower, is_upper, token, letter_word, this_word}
 use Rattle.tl_combinators.specs.Names.{NameText, IsObject, name_from, name, declared_name, type_name, hex, vector_hex, number_by, number, vector_line_number}
 use Rattle.tl_combinators.specs.Trees.{Tree}
-use Rattle.tl_combinators.specs.Types.{level_limit, one_opens, opens, closes, in_parens, one_term, terms, one_listed, listed, applied, application, no_level, behind_percent, bare, core, type_in, term, expression, at_end, whole_type}
+use Rattle.tl_combinators.specs.Types.{level_limit, one_opens, opens, closes, in_parens, one_term, terms, one_listed, listed, applied, application, no_level, after_percent, bare, core, type_in, term, expression, at_end, whole_type}
 use Rattle.tl_combinators.specs.Description.{Piece}
 use Rattle.tl_combinators.specs.Program.{declaration_limit, part_limit}
 use Rattle.tl_combinators.specs.Fields.{bit_value, IsBit, HasBit, bit, condition, called, in_condition, held, where_field, field, field_too_many, FieldsText, fields_text, one_field, fields}
@@ -156,17 +156,17 @@ module _ (text : List ℕ) (below : Bool → Rule Token SyntaxFault Tree) (deep 
   shorter_application head = shorter_first _ _ (shorter_type_name _) (λ n. lawful_applied head _)
 
   module _ (deeper : Bool → Rule Token SyntaxFault Tree) (in_it : (h : Bool) → Lawful (deeper h)) where
-    lawful_behind_percent : (head : Bool) → Lawful (behind_percent text deeper below head)
-    unfolding behind_percent
-    lawful_behind_percent head = lawful_choice _ _ _ (begins_decided Percent) (in_it head) (lawful_application head)
+    lawful_after_percent : (head : Bool) → Lawful (after_percent text deeper below head)
+    unfolding after_percent
+    lawful_after_percent head = lawful_choice _ _ _ (begins_decided Percent) (in_it head) (lawful_application head)
 
     lawful_bare : Lawful (bare text deeper below)
     unfolding bare
-    lawful_bare = lawful_chain _ _ (lawful_token _ _) (λ p. lawful_chain _ _ (lawful_in_parens text _ _ lawful_behind_percent) (λ t. lawful_gives _))
+    lawful_bare = lawful_chain _ _ (lawful_token _ _) (λ p. lawful_chain _ _ (lawful_in_parens text _ _ lawful_after_percent) (λ t. lawful_gives _))
 
     shorter_bare : Shorter (bare text deeper below)
     unfolding bare
-    shorter_bare = shorter_first _ _ (shorter_token _ _) (λ p. lawful_chain _ _ (lawful_in_parens text _ _ lawful_behind_percent) (λ t. lawful_gives _))
+    shorter_bare = shorter_first _ _ (shorter_token _ _) (λ p. lawful_chain _ _ (lawful_in_parens text _ _ lawful_after_percent) (λ t. lawful_gives _))
 
 lawful_no_level : (text : List ℕ) → Lawful (no_level text)
 unfolding no_level

@@ -7,7 +7,7 @@ use Rattle.tl_lexer.proofs.Steps.{yes, no}
 use Rattle.tl_combinators.specs.declared.fault.SyntaxFault.{SyntaxFault}
 use Rattle.tl_combinators.specs.Tokens.{fault_of, Begins}
 use Rattle.tl_combinators.specs.Trees.{Tree}
-use Rattle.tl_combinators.specs.Types.{core, no_level, bare, behind_percent, application, in_parens}
+use Rattle.tl_combinators.specs.Types.{core, no_level, bare, after_percent, application, in_parens}
 
 pub not_true : (x : Bool) → x ≡ false → IsTrue x → ⊥
 not_true x e h = absurd cc
@@ -20,9 +20,9 @@ head_as {see = see} r {ts = ts} {rest = rest} {res = res} e h = subst (λ z. Par
 pub core_as : {X : Type 0} {see : X → Tree} (text : List ℕ) (n : ℕ) {a b : Bool} {ts rest : List Token} {res : Result X SyntaxFault} → a ≡ b → Parses fault_of see (core text n a) ts rest res → Parses fault_of see (core text n b) ts rest res
 core_as text n e h = head_as (core text n) e h
 
-pub behind_as : {X : Type 0} {see : X → Tree} (text : List ℕ) (n : ℕ) {a b : Bool} {ts rest : List Token} {res : Result X SyntaxFault}
-    → a ≡ b → Parses fault_of see (behind_percent text (core text n) (in_parens text (core text n)) a) ts rest res → Parses fault_of see (behind_percent text (core text n) (in_parens text (core text n)) b) ts rest res
-behind_as text n e h = head_as (behind_percent text (core text n) (in_parens text (core text n))) e h
+pub after_as : {X : Type 0} {see : X → Tree} (text : List ℕ) (n : ℕ) {a b : Bool} {ts rest : List Token} {res : Result X SyntaxFault}
+    → a ≡ b → Parses fault_of see (after_percent text (core text n) (in_parens text (core text n)) a) ts rest res → Parses fault_of see (after_percent text (core text n) (in_parens text (core text n)) b) ts rest res
+after_as text n e h = head_as (after_percent text (core text n) (in_parens text (core text n))) e h
 
 -- ---- whether a level is left
 

@@ -5,7 +5,7 @@ use Rattle.tl_lexer.specs.Rule.{Rule}
 use Rattle.tl_lexer.proofs.Sure.{Sure}
 use Rattle.tl_lexer.proofs.Whole.{Whole, Outcome}
 use Rattle.tl_combinators.specs.Taken.{taken}
-use Rattle.tl_combinators.proofs.Rows.{Rows, IsBehind}
+use Rattle.tl_combinators.proofs.Rows.{Rows, IsSuffix}
 
 module _ {T F A : Type 0} (r : Rule T F A) where
   pairs : (a b : A) (c d : List T) → a ≡ b → c ≡ d → ◌≡◌ {A = A × List T} (a, c) (b, d)
@@ -29,7 +29,7 @@ module _ {T F A : Type 0} (r : Rule T F A) where
   unfolding taken
   taken_given ts rows (inl (x, rest, h)) = with_row (rows.given ts rest x h)
     where
-      with_row : IsBehind ts rest → Outcome (taken r) ts
+      with_row : IsSuffix ts rest → Outcome (taken r) ts
       with_row (row, e) = inl ((x, row), rest, (h, e))
   taken_given ts rows (inr (f, h)) = inr (f, h)
 

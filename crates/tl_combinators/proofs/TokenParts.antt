@@ -7,7 +7,7 @@ use Rattle.tl_lexer.specs.Rule.{Rule, Parses, Refusal}
 use Rattle.tl_combinators.specs.Taken.{taken}
 
 module _ {T : Type 0} (ts : List T) where
-  -- the part, and what stands behind it
+  -- the part, and what stands after it
   part_rest : (a b : ℕ) → a ≤ b → drop a ts ≡ take (b - a) (drop a ts) ++ drop b ts
   part_rest a b h =
       let e : a + (b - a) ≡ b = omega arith in

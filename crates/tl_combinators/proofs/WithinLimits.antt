@@ -18,9 +18,9 @@ use Rattle.tl_combinators.proofs.Values.{Only, only_gives, only_fails, only_chai
 one_more : {A : Type 0} (limit : ℕ) (xs : List A) (x : A) → length xs ≤ limit → length xs ≢ limit → length (xs ++ (x ∷ [])) ≤ limit
 one_more limit xs x few other = omega (arith, few, other, length-append xs (x ∷ []))
 
--- likewise, behind others
-one_more_behind : {A : Type 0} (before limit : ℕ) (xs : List A) (x : A) → before + length xs ≤ limit → before + length xs ≢ limit → before + length (xs ++ (x ∷ [])) ≤ limit
-one_more_behind before limit xs x few other = omega (arith, few, other, length-append xs (x ∷ []))
+-- likewise, after others
+one_more_after : {A : Type 0} (before limit : ℕ) (xs : List A) (x : A) → before + length xs ≤ limit → before + length xs ≢ limit → before + length (xs ++ (x ∷ [])) ≤ limit
+one_more_after before limit xs x few other = omega (arith, few, other, length-append xs (x ∷ []))
 
 -- ---- a declaration
 
@@ -51,7 +51,7 @@ module _ (text : List ℕ) where
   one_field_few : (function : Bool) (vars : ℕ) (s : FieldsText) → FewFields vars s → Only (one_field text function vars s) (FewFields vars)
   unfolding one_field
   one_field_few function vars s few =
-      only_choice _ _ _ _ (λ _ _. no_field_more (FewFields vars)) (λ ts other. only_chain _ _ _ (λ f _ _ _. only_gives (FewFields vars) _ (one_more_behind vars part_limit s.fields f.0 few other)))
+      only_choice _ _ _ _ (λ _ _. no_field_more (FewFields vars)) (λ ts other. only_chain _ _ _ (λ f _ _ _. only_gives (FewFields vars) _ (one_more_after vars part_limit s.fields f.0 few other)))
 
   fields_few : (function : Bool) (vars : ℕ) (d : List Piece) → vars ≤ part_limit → Only (fields text function vars d) (FewFields vars)
   unfolding fields

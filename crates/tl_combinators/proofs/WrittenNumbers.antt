@@ -30,7 +30,7 @@ more_below k n d below small = omega (arith, below, small)
 same_power : (n j k : ℕ) → n < 16 ^ j → j ≡ k → n < 16 ^ k
 same_power n j k below e = subst (λ (i : ℕ). n < 16 ^ i) e below
 
--- digits behind a number below 16 ^ k
+-- digits after a number below 16 ^ k
 digits_below : (text : List ℕ) (k n : ℕ) → AllPass is_digit text → n < 16 ^ k → fold with_digit n text < 16 ^ (length text + k)
 digits_below [] k n all below = same_power n k (0 + k) below (omega arith)
 digits_below (b ∷ bs) k n all below =

@@ -136,9 +136,9 @@ before_type (Some c) = 6
 
 -- the pieces of a field, of whose tokens so many stand before its type
 abbrev pub field_pieces_by : FieldShowing → List ℕ → ℕ → List Token → List Piece
-field_pieces_by Hidden text front ts = left_out ts
-field_pieces_by WithString text front ts = pieces text (take front ts) ++ string_pieces text (drop front ts)
-field_pieces_by Written text front ts = pieces text ts
+field_pieces_by Hidden text first ts = left_out ts
+field_pieces_by WithString text first ts = pieces text (take first ts) ++ string_pieces text (drop first ts)
+field_pieces_by Written text first ts = pieces text ts
 
 -- the pieces of a field
 abbrev pub field_pieces : List ℕ → FieldText → List Token → List Piece

@@ -56,9 +56,9 @@ abbrev pub all_left_out : List Token → Described → Described
 all_left_out ts d = fold one_left_out d ts
 
 abbrev pub field_shown_by : FieldShowing → List ℕ → ℕ → List Token → Described → Described
-field_shown_by Hidden text front ts d = all_left_out ts d
-field_shown_by WithString text front ts d = all_as_string text (drop front ts) (all_shown text (take front ts) d)
-field_shown_by Written text front ts d = all_shown text ts d
+field_shown_by Hidden text first ts d = all_left_out ts d
+field_shown_by WithString text first ts d = all_as_string text (drop first ts) (all_shown text (take first ts) d)
+field_shown_by Written text first ts d = all_shown text ts d
 
 abbrev pub field_shown : List ℕ → FieldText → List Token → Described → Described
 field_shown text f ts d = field_shown_by (field_showing f.kind) text (before_type f.cond) ts d

@@ -39,7 +39,7 @@ not_profile text form ts = NotProfile (place text ts) form
 abbrev pub too_many : List ℕ → List Token → SyntaxFault
 too_many text ts = TooMany (place text ts)
 
--- the fault that an error stands for; none for want of memory
+-- the fault that an error stands for; none when out of memory
 abbrev pub fault_of : SyntaxFault → Option SyntaxFault
 fault_of (Unexpected at) = Some (Unexpected at)
 fault_of (NotProfile at form) = Some (NotProfile at form)

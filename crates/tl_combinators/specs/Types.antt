@@ -29,7 +29,7 @@ abbrev pub closes : List ℕ → ℕ → Rule Token SyntaxFault (Unit {0})
 closes text zero = gives tt
 closes text (suc n) = chain (token text RParen) (λ _. closes text n)
 
--- what stands in as many parentheses as there are; in them a name may be a head with terms behind it
+-- what stands in as many parentheses as there are; in them a name may be a head with terms after it
 unfoldable pub in_parens : List ℕ → (Bool → Rule Token SyntaxFault Tree) → Bool → Rule Token SyntaxFault Tree
 in_parens text inner head =
     chain (opens text) (λ n. chain (inner (head || nat_lt 0 n)) (λ t. chain (closes text n) (λ _. gives t)))
@@ -56,7 +56,7 @@ one_listed text r ts = chain (token text Comma) (λ _. one_term r ts)
 unfoldable pub listed : List ℕ → Rule Token SyntaxFault Tree → Rule Token SyntaxFault (List Tree)
 listed text r = chain r (λ t. loop (Begins Comma) (one_listed text r) (t ∷ []))
 
--- what may stand behind a name: `<..>`, or further terms where the name may be a head.
+-- what may stand after a name: `<..>`, or further terms where the name may be a head.
 -- below reads what stands a level deeper, where true says that a name in it may be a head.
 unfoldable pub applied : List ℕ → (Bool → Rule Token SyntaxFault Tree) → Bool → List ℕ → Rule Token SyntaxFault Tree
 applied text below head name =
@@ -81,13 +81,13 @@ no_level text =
     choice (Next (IsObject text)) (fails (not_profile text ObjectType))
     (choice (BeginsType text) (fails (too_many text)) (fails (unexpected text)))
 
--- behind `%` another `%` is a level deeper, and a name is on the same level, applied to what is below
-unfoldable pub behind_percent : List ℕ → (Bool → Rule Token SyntaxFault Tree) → (Bool → Rule Token SyntaxFault Tree) → Bool → Rule Token SyntaxFault Tree
-behind_percent text deeper below head = choice (Begins Percent) (deeper head) (application text below head)
+-- after `%` another `%` is a level deeper, and a name is on the same level, applied to what is below
+unfoldable pub after_percent : List ℕ → (Bool → Rule Token SyntaxFault Tree) → (Bool → Rule Token SyntaxFault Tree) → Bool → Rule Token SyntaxFault Tree
+after_percent text deeper below head = choice (Begins Percent) (deeper head) (application text below head)
 
 -- `%` and a term
 unfoldable pub bare : List ℕ → (Bool → Rule Token SyntaxFault Tree) → (Bool → Rule Token SyntaxFault Tree) → Rule Token SyntaxFault Tree
-bare text deeper below = chain (token text Percent) (λ _. chain (in_parens text (behind_percent text deeper below) false) (λ t. gives (percent t)))
+bare text deeper below = chain (token text Percent) (λ _. chain (in_parens text (after_percent text deeper below) false) (λ t. gives (percent t)))
 
 -- a type with n levels left, outside of parentheses
 abbrev pub core : List ℕ → ℕ → Bool → Rule Token SyntaxFault Tree
@@ -96,7 +96,7 @@ core text (suc n) head =
     choice (Begins Percent) (bare text (core text n) (in_parens text (core text n)))
     (application text (in_parens text (core text n)) head)
 
--- a type with n levels left; whether its name may be a head with terms behind it
+-- a type with n levels left; whether its name may be a head with terms after it
 abbrev pub type_in : List ℕ → ℕ → Bool → Rule Token SyntaxFault Tree
 type_in text n head = in_parens text (core text n) head
 

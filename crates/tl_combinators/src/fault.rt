@@ -5,7 +5,7 @@ use thiserror::Error;
 /// A form of the language that this profile leaves out.
 #[derive(Clone, Copy, Debug, PartialEq, Eq)]
 pub enum Form {
-    /// `#` behind the colon in braces.
+    /// `#` after the colon in braces.
     DependentNumber,
     /// `[`, `*` or a Word that begins with a digit, where a field is expected.
     Multiplicity,
@@ -19,7 +19,7 @@ pub enum Form {
     ObjectType,
     /// A field without a name.
     UnnamedField,
-    /// `!` behind the colon of a constructor's field.
+    /// `!` after the colon of a constructor's field.
     CallInConstructor,
     /// Another number of the vector line than 1cb5c415.
     VectorNumber,

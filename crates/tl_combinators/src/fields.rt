@@ -252,7 +252,7 @@ fn field_at(
 ) -> Result<Field, SyntaxFault>
     requires { Fits text.now tokens.now }
     ensures read { Parses fault_of field_text (field text.now function) (drop at.old tokens.now) (drop at.new tokens.now) result }
-    ensures front { IfOk result (λ f. at.old + before_type (cond_texts f.cond) ≤ at.new) }
+    ensures prefix { IfOk result (λ f. at.old + before_type (cond_texts f.cond) ≤ at.new) }
     ensures on { OnOk result (at.old < at.new) }
     ensures inside { OnOk result (at.new ≤ length tokens.now) }
 {

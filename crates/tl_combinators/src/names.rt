@@ -14,7 +14,7 @@ use std::alloc::Global;
 use tl_base::Bytes;
 use tl_lexer::{Token, TokenKind};
 
-/// A name, and the byte behind it.
+/// A name, and the byte after it.
 #[derive(Drop)]
 pub struct Name {
     pub bytes: Bytes,
@@ -41,7 +41,7 @@ fn begins_last(text: &[u8], tokens: &[Token], at: usize, first: First, edge: u32
     at < tokens.len() && is_word(text, tokens[at], first) && tokens[at].start == edge
 }
 
-// The Word behind the `.` of a name.
+// The Word after the `.` of a name.
 fn last_at(
     text: &[u8],
     tokens: &[Token],

@@ -17,7 +17,7 @@ pub struct Cond {
 pub enum FieldKind {
     /// `#`.
     Nat,
-    /// `?true`, behind a condition: a flag of no bytes.
+    /// `?true`, after a condition: a flag of no bytes.
     Flag,
     /// `!X`: a call whose result is X.
     Call { var: Bytes },

@@ -3,7 +3,7 @@ ghost use Rattle.std.specs.Prelude.{◌≡◌, ◌≤◌, ◌<◌, ◌+◌, ℕ,
 ghost use Rattle.tl_lexer.specs.Rule.{Parses};
 ghost use Rattle.tl_combinators.specs.Tokens.{fault_of, Fits, bytes_of};
 ghost use Rattle.tl_combinators.specs.Trees.{view, views};
-ghost use Rattle.tl_combinators.specs.Types.{opens, closes, BeginsTerm, BeginsType, terms, listed, applied, application, no_level, behind_percent, bare, core, in_parens, type_in, term, expression, at_end, whole_type};
+ghost use Rattle.tl_combinators.specs.Types.{opens, closes, BeginsTerm, BeginsType, terms, listed, applied, application, no_level, after_percent, bare, core, in_parens, type_in, term, expression, at_end, whole_type};
 
 use crate::fault::{Form, SyntaxFault};
 use crate::names::{begins_object, type_name_at};
@@ -84,7 +84,7 @@ fn may_head(head: bool, count: usize) -> bool
     head || count > 0
 }
 
-// A type with so many levels left; whether its name may be a head with terms behind it.
+// A type with so many levels left; whether its name may be a head with terms after it.
 #[cycle(types)]
 fn type_at(
     alloc: Global,
@@ -145,16 +145,16 @@ fn bare_at(
 {
     take_token(text, tokens, at, TokenKind::Percent)?;
     let count = opens_at(text, tokens, at)?;
-    let tree = behind_percent_at(alloc, text, tokens, at, levels, may_head(false, count))?;
+    let tree = after_percent_at(alloc, text, tokens, at, levels, may_head(false, count))?;
     closes_at(text, tokens, at, count)?;
     Ok(TypeTree::Percent {
         tree: Box::new(alloc, tree)?,
     })
 }
 
-// What stands behind `%`, in its parentheses.
+// What stands after `%`, in its parentheses.
 #[cycle(types)]
-fn behind_percent_at(
+fn after_percent_at(
     alloc: Global,
     text: &[u8],
     tokens: &[Token],
@@ -163,7 +163,7 @@ fn behind_percent_at(
     head: bool,
 ) -> Result<TypeTree, SyntaxFault>
     requires { Fits text.now tokens.now }
-    ensures read { Parses fault_of view (behind_percent text.now (core text.now levels) (in_parens text.now (core text.now levels)) head) (drop at.old tokens.now) (drop at.new tokens.now) result }
+    ensures read { Parses fault_of view (after_percent text.now (core text.now levels) (in_parens text.now (core text.now levels)) head) (drop at.old tokens.now) (drop at.new tokens.now) result }
     ensures on { OnOk result (at.old < at.new) }
     ensures inside { OnOk result (at.new ≤ length tokens.now) }
 {
@@ -192,7 +192,7 @@ fn application_at(
     applied_at(alloc, text, tokens, at, levels, head, name.bytes)
 }
 
-// What may stand behind a name.
+// What may stand after a name.
 #[cycle(types)]
 fn applied_at(
     alloc: Global,

@@ -91,7 +91,7 @@ impl<'p, 's> Decoder<'p, 's> {
     }
 
     /// Takes the next piece. It answers Done with the piece in which the value ends, or a refusal as soon as no bytes that follow can mend it; never
-    /// a read fault, nor that the input ends inside an item. After a refusal it answers that refusal, and after want of memory this, whatever it is
+    /// a read fault, nor that the input ends inside an item. After a refusal it answers that refusal, and after out of memory this, whatever it is
     /// fed. Memory is taken for bytes that came, never for a length or a count that was only announced.
     pub fn feed(&mut self, piece: &[u8]) -> Result<Fed, DecodeFault>
         ensures plan { self.new.plan ≡ self.old.plan }

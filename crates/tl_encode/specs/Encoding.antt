@@ -23,7 +23,7 @@ AnswersMisfit m (Err (Misfit told)) = (told.path.items, told.cause) ≡ m
 AnswersMisfit m (Err WriteFault) = ⊥
 AnswersMisfit m (Err Memory) = Unit {0}
 
--- At a misfit, and for want of memory, the sink stays as it was.
+-- At a misfit, and when out of memory, the sink stays as it was.
 abbrev pub KeepsSink : {K : Type 0} → K → K → Result ℕ EncodeFault → Type 0
 KeepsSink old new (Ok count) = Unit {0}
 KeepsSink old new (Err (Misfit told)) = new ≡ old

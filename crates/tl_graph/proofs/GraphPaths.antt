@@ -15,7 +15,7 @@ begins_within edges k _ (step j e) = slice_get_within edges k e.0 e.1
 begins_within edges k _ (further i j p e) = begins_within edges k i p
 
 module _ (edges : List (List ℕ)) (ranks : List ℕ) (falls : Falls edges ranks) where
-  -- the path's first step, behind which the rank never rises
+  -- the path's first step, after which the rank never rises
   first_step : (k j : ℕ) → Path (Edge edges) k j → (i : ℕ) × Edge edges k i × (rank ranks j ≤ rank ranks i)
   first_step k _ (step j e) = (j, e, omega arith)
   first_step k _ (further i j p e) =

@@ -11,7 +11,7 @@ unmarked marks = count_by not marks
 
 -- ---- the search
 
--- nodes that were not marked are marked, and stand behind those that are pending
+-- nodes that were not marked are marked, and stand after those that are pending
 pub record Reached (old : List Bool) (pending : List ℕ) (nodes : List ℕ) (new : List Bool) (after : List ℕ) : Type 0 where
   pub count : length new ≡ length old
   pub marked : (j : ℕ) → IsMarked new j ↔ (IsMarked old j ⊎ IsIn j nodes)

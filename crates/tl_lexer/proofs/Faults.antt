@@ -8,7 +8,7 @@ use Rattle.tl_lexer.specs.declared.token.TokenKind.{TokenKind}
 use Rattle.tl_lexer.specs.declared.fault.LexFault.{LexFault}
 use Rattle.tl_lexer.specs.declared.fault.LexFault.TheVariants.{TextTooLong, BadByte, OpenComment, Memory}
 use Rattle.tl_lexer.specs.Tokens.{Is, HasKind, Starts, StartsDashes, InLine, InBlock, is_white, is_word, place, fault_of, any_byte, one_byte, two_bytes, bytes_while, white_byte, word, line, closes, block, dashes, single_byte, with_piece, piece, more, pieces, LexRefused}
-use Rattle.tl_lexer.specs.Spelled.{At, PairAt, SpellsFront, BeginsNothing, IsOpenAt, HasFault}
+use Rattle.tl_lexer.specs.Spelled.{At, PairAt, SpellsPrefix, BeginsNothing, IsOpenAt, HasFault}
 use Rattle.tl_lexer.proofs.Steps.{then_ok, yes, no, fails_here, here_ok, next_of}
 use Rattle.tl_lexer.proofs.Runs.{two_ok, some_left, none_left}
 use Rattle.tl_lexer.proofs.Places.{Through, inside, starts_pair, pair_starts, pair_inside, starts_dashes, dashes_starts, dashes_inside}
@@ -135,7 +135,7 @@ module _ (text : List ℕ) (f : LexFault) where
   close_fault start q (inl (n, h)) = absurd (two_then q _ (pair_inside 42 47 text q (starts_pair 42 47 text q n)) (λ u g. gives_never _ (drop (q + 2) text) f g) h)
   close_fault start q (inr h) = h
 
-  -- no `*/` where the comment goes on, and none behind the text
+  -- no `*/` where the comment goes on, and none after the text
   none_closes : (p q : ℕ) → Longest text InBlock p q → (Starts 42 47 (drop q text) → ⊥) → (i : ℕ) → p ≤ i → PairAt 42 47 text i → ⊥
   none_closes p q l n i a h =
       elim (cases_lt i q) [ inl b ↦ (l.0.1 i a b).1 (pair_starts 42 47 text i h) | inr b ↦ l.1 (some_left text q (omega (arith, b, pair_inside 42 47 text i h)), n) ]
@@ -150,10 +150,10 @@ module _ (text : List ℕ) (f : LexFault) where
 
   -- ---- a text that is refused has the fault
 
-  bad_fault : (p : ℕ) → length text ≤ 4194304 → SpellsFront text p → p < length text → BeginsNothing text p → f ≡ BadByte (place (length text) (drop p text)) → HasFault text f
+  bad_fault : (p : ℕ) → length text ≤ 4194304 → SpellsPrefix text p → p < length text → BeginsNothing text p → f ≡ BadByte (place (length text) (drop p text)) → HasFault text f
   bad_fault p small front w n e = subst (HasFault text) (sym (e ∙ ap BadByte (sym (place_is text p (omega (arith, w)))))) (small, front, w, n)
 
-  piece_fault : (p : ℕ) → length text ≤ 4194304 → SpellsFront text p → p < length text → (piece (length text)).refused (drop p text) f → HasFault text f
+  piece_fault : (p : ℕ) → length text ≤ 4194304 → SpellsPrefix text p → p < length text → (piece (length text)).refused (drop p text) f → HasFault text f
   unfolding piece choice fails
   piece_fault p small front w (inl h) = absurd (white_never p h.0 h.1)
   piece_fault p small front w (inr (a, inl h)) = absurd (word_never p h.0 h.1)

@@ -20,13 +20,13 @@ at_end text p w e = elim (cases_lt p (length text)) [ inl h ↦ absurd (cell_lef
 heads : {b c : ℕ} {bs cs : List ℕ} → b ∷ bs ≡ c ∷ cs → (b ≡ c) × (bs ≡ cs)
 heads e = (cc, cc)
 
--- what stands behind a byte is what stands at the next place
+-- what stands after a byte is what stands at the next place
 pub next_place : (text : List ℕ) (p b : ℕ) (rest : List ℕ) → drop p text ≡ b ∷ rest → (p < length text) × (rest ≡ drop (p + 1) text)
 next_place text p b rest e = elim (cases_lt p (length text)) [ inl h ↦ (h, (heads (sym e ∙ front text p 0 h)).1) | inr h ↦ absurd (cell_left (sym e ∙ none_left text p h)) ]
 
 -- ---- two bytes, and three
 
--- us stands behind the first byte of ts, if there is one
+-- us stands after the first byte of ts, if there is one
 abbrev pub Follows : List ℕ → List ℕ → Type 0
 Follows [] us = us ≡ []
 Follows (b ∷ bs) us = us ≡ bs

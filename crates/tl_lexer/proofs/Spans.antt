@@ -5,7 +5,7 @@ use Rattle.tl_lexer.specs.declared.token.Token.{Token}
 use Rattle.tl_lexer.specs.declared.token.TokenKind.{TokenKind}
 use Rattle.tl_lexer.specs.declared.fault.LexFault.{LexFault}
 use Rattle.tl_lexer.specs.Tokens.{Spans, Tokens, any_byte, one_byte, two_bytes, bytes_while, white_byte, word, line, closes, block, dashes, single_byte, with_piece, more, piece, pieces}
-use Rattle.tl_lexer.proofs.Behind.{Shrinks, Shortens, leads_choice, leads_fails, shortens_one, shortens_first, shortens_then, shrinks_shortens, shrinks_gives, shrinks_here, shrinks_chain, shrinks_loop}
+use Rattle.tl_lexer.proofs.Suffixes.{Shrinks, Shortens, leads_choice, leads_fails, shortens_one, shortens_first, shortens_then, shrinks_shortens, shrinks_gives, shrinks_here, shrinks_chain, shrinks_loop}
 
 pub span_at : (n : ℕ) (ts : List Token) (i : ℕ) (d : Token) → i < length ts → Spans n ts → ((get_or ts i d).start ≤ (get_or ts i d).end) × ((get_or ts i d).end ≤ n)
 span_at n [] i d h s = absurd (omega (arith, h))

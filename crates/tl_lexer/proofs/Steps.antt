@@ -68,6 +68,6 @@ pub as_err : {T F A E X : Type 0} {k : E → Option F} {view : X → A} {r : Rul
 as_err {res = Ok x} h g = absurd h
 as_err {X = X} {k = k} {view = view} {r = r} {ts = ts} {rest = rest} {res = Err f} h g = subst (λ z. Parses {X = X} k view r ts rest (Err z)) (sym h) g
 
--- where a call stands behind a refusal, and what it would have read, is free
+-- where a call stands after a refusal, and what it would have read, is free
 pub err_any : {T F A E X Y : Type 0} {k : E → Option F} {look : Y → A} {view : X → A} {r : Rule T F A} {ts rest other : List T} {e : E} → Parses k look r ts other (Err e) → Parses {X = X} k view r ts rest (Err e)
 err_any h = record { given = h.given }

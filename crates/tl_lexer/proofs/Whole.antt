@@ -2,7 +2,7 @@
 use Rattle.std.proofs.Common.{ℕ, zero, suc, ◌≤◌, List, [], ◌∷◌, length, refl, inl, inr, arith}
 use Rattle.std.specs.Prelude.{◌⊎◌}
 use Rattle.tl_lexer.specs.Rule.{Rule, gives, fails, here, one, Next, chain, choice, loop}
-use Rattle.tl_lexer.proofs.Behind.{Shortens}
+use Rattle.tl_lexer.proofs.Suffixes.{Shortens}
 
 -- a row is read, or refused
 abbrev pub Outcome : {T F A : Type 0} → Rule T F A → List T → Type 0
@@ -85,10 +85,10 @@ module _ {T F A : Type 0} (P : List T → Type 0) (r s : Rule T F A) (test : (ts
 -- ---- loops whose turns each leave less
 
 module _ {T F S : Type 0} (P : List T → Type 0) (r : S → Rule T F S) (test : (ts : List T) → Decided (P ts)) (one : (s : S) → Whole (r s)) (less : (s : S) → Shortens (r s)) where
-  turn_behind : (s x : S) (ts next : List T) → P ts → (r s).reads ts x next → Outcome (loop P r x) next → Outcome (loop P r s) ts
+  turn_after : (s x : S) (ts next : List T) → P ts → (r s).reads ts x next → Outcome (loop P r x) next → Outcome (loop P r s) ts
   unfolding loop
-  turn_behind s x ts next p h (inl (a, rest, (xs, d, e))) = inl (a, rest, (x ∷ xs, (p, next, h, d), e))
-  turn_behind s x ts next p h (inr (f, (xs, a, mid, d, q, g))) = inr (f, (x ∷ xs, a, mid, (p, next, h, d), q, g))
+  turn_after s x ts next p h (inl (a, rest, (xs, d, e))) = inl (a, rest, (x ∷ xs, (p, next, h, d), e))
+  turn_after s x ts next p h (inr (f, (xs, a, mid, d, q, g))) = inr (f, (x ∷ xs, a, mid, (p, next, h, d), q, g))
 
   stops : (s : S) (ts : List T) → (P ts → ⊥) → Outcome (loop P r s) ts
   unfolding loop
@@ -102,7 +102,7 @@ module _ {T F S : Type 0} (P : List T → Type 0) (r : S → Rule T F S) (test :
   loop_given n s ts w (inr no_turn) o = stops s ts no_turn
   loop_given n s ts w (inl p) (inr (f, h)) = turn_fails s ts f p h
   loop_given zero s ts w (inl p) (inl (x, next, h)) = absurd (omega (arith, less s ts next x h))
-  loop_given (suc n) s ts w (inl p) (inl (x, next, h)) = turn_behind s x ts next p h (loop_given n x next (omega (arith, less s ts next x h)) (test next) ((one x).given next))
+  loop_given (suc n) s ts w (inl p) (inl (x, next, h)) = turn_after s x ts next p h (loop_given n x next (omega (arith, less s ts next x h)) (test next) ((one x).given next))
 
   pub whole_loop : (s : S) → Whole (loop P r s)
   whole_loop s = record { given = λ ts. loop_given (length ts) s ts (omega arith) (test ts) ((one s).given ts) }

@@ -1,4 +1,4 @@
--- What `lex` answers for a text. Want of memory is free. This project's own.
+-- What `lex` answers for a text. Out of memory is free. This project's own.
 use Rattle.std.specs.Prelude.{◌≡◌, ◌⊎◌, ℕ, List, Some, None, Result, Ok, Err}
 use Rattle.tl_lexer.specs.declared.token.Token.{Token}
 use Rattle.tl_lexer.specs.declared.fault.LexFault.{LexFault}

@@ -1,8 +1,8 @@
 -- Rules of a grammar: which rows of tokens a rule reads as what, and which it refuses, and why. This project's own.
 use Rattle.std.specs.Prelude.{◌≡◌, ◌⊎◌, ℕ, List, [], ◌∷◌, Option, Some, None, Result, Ok, Err}
 
--- reads ts x rest: at the front of ts stands a row that reads as x, and rest stands behind it
--- refused ts fault: the front of ts is no such row, and this is the first fault
+-- reads ts x rest: ts begins with a row that reads as x, and rest is its suffix after the row
+-- refused ts fault: ts begins with no such row, and this is the first fault
 pub record Rule (T F A : Type 0) : Type 1 where
   pub reads : List T → A → List T → Type 0
   pub refused : List T → F → Type 0
@@ -30,7 +30,7 @@ one {T = T} fault_at P = record {
   refused = λ ts fault. (Next P ts → ⊥) × (fault ≡ fault_at ts);
 }
 
--- a row of r, and behind it one of what follows
+-- a row of r, and after it one of what follows
 unfoldable pub chain : {T F A B : Type 0} → Rule T F A → (A → Rule T F B) → Rule T F B
 chain {T = T} {A = A} r s = record {
   reads = λ ts y rest. (x : A) × (mid : List T) × r.reads ts x mid × (s x).reads mid y rest;
@@ -44,7 +44,7 @@ choice P r s = record {
   refused = λ ts fault. (P ts × r.refused ts fault) ⊎ ((P ts → ⊥) × s.refused ts fault);
 }
 
--- from the state s at ts, turn by turn, to the state end at mid; xs are the states behind each turn
+-- from the state s at ts, turn by turn, to the state end at mid; xs are the states after each turn
 abbrev pub Turns : {T F S : Type 0} → (List T → Type 0) → (S → Rule T F S) → S → List T → List S → S → List T → Type 0
 Turns P r s ts [] end mid = (end ≡ s) × (mid ≡ ts)
 Turns {T = T} P r s ts (x ∷ xs) end mid = P ts × (next : List T) × (r s).reads ts x next × Turns P r x next xs end mid
@@ -61,11 +61,11 @@ abbrev pub Refusal : {T F A : Type 0} → Rule T F A → List T → Option F →
 Refusal r ts None = Unit {0}
 Refusal r ts (Some fault) = r.refused ts fault
 
--- fault_of e: the fault that e stands for; None for want of memory
+-- fault_of e: the fault that e stands for; None when out of memory
 abbrev pub Given : {T F A E X : Type 0} → (E → Option F) → (X → A) → Rule T F A → List T → List T → Result X E → Type 0
 Given fault_of view r ts rest (Ok x) = r.reads ts (view x) rest
 Given fault_of view r ts rest (Err e) = Refusal r ts (fault_of e)
 
--- what a call gave for the tokens ts, where rest stands behind what it took
+-- what a call gave for the tokens ts, where rest stands after what it took
 pub record Parses {T F A E X : Type 0} (fault_of : E → Option F) (view : X → A) (r : Rule T F A) (ts rest : List T) (result : Result X E) : Type 0 where
   pub given : Given fault_of view r ts rest result

@@ -17,7 +17,7 @@ At P text place = Next P (drop place text)
 abbrev pub ByteAt : ℕ → List ℕ → ℕ → Type 0
 ByteAt byte text place = At (λ b. b ≡ byte) text place
 
--- this byte stands at this place, and that one behind it
+-- this byte stands at this place, and that one after it
 abbrev pub PairAt : ℕ → ℕ → List ℕ → ℕ → Type 0
 PairAt first second text place = ByteAt first text place × ByteAt second text (place + 1)
 
@@ -31,7 +31,7 @@ Between P text start end = (start ≤ end) × ((i : ℕ) → start ≤ i → i <
 
 -- ---- tokens
 
--- a Word: bytes of a Word, at least one, and no more of them behind
+-- a Word: bytes of a Word, at least one, and no more of them after it
 abbrev pub SpellsWord : List ℕ → ℕ → ℕ → Type 0
 SpellsWord text start end = (start < end) × Between (Is is_word) text start end × (At (Is is_word) text end → ⊥)
 
@@ -77,7 +77,7 @@ SpellsWhite text start end = (end ≡ start + 1) × At (Is is_white) text start
 abbrev pub SpellsLine : List ℕ → ℕ → ℕ → Type 0
 SpellsLine text start end = PairAt 47 47 text start × Between (λ b. b ≡ 10 → ⊥) text (start + 2) end × ((end ≡ length text) ⊎ ByteAt 10 text end)
 
--- `/*` and what follows, up to the first `*/` that begins behind it
+-- `/*` and what follows, up to the first `*/` that begins after it
 abbrev pub SpellsBlock : List ℕ → ℕ → ℕ → Type 0
 SpellsBlock text start end =
     PairAt 47 42 text start × (close : ℕ) × (start + 2 ≤ close) × (end ≡ close + 2) × PairAt 42 47 text close
@@ -87,7 +87,7 @@ SpellsBlock text start end =
 abbrev pub SpellsFiller : List ℕ → ℕ → ℕ → Type 0
 SpellsFiller text start end = SpellsWhite text start end ⊎ SpellsLine text start end ⊎ SpellsBlock text start end
 
--- from start to end stand white space and comments, one behind the other, which end at these places
+-- from start to end stand white space and comments, one after the other, which end at these places
 abbrev pub Fillers : List ℕ → ℕ → List ℕ → ℕ → Type 0
 Fillers text start [] end = end ≡ start
 Fillers text start (p ∷ ps) end = SpellsFiller text start p × Fillers text p ps end
@@ -98,7 +98,7 @@ Gap text start end = (ends : List ℕ) × Fillers text start ends end
 
 -- ---- texts
 
--- from start to end stand these tokens, with gaps before, between and behind them
+-- from start to end stand these tokens, with gaps before, between and after them
 abbrev pub SpellsRow : List ℕ → ℕ → List Token → ℕ → Type 0
 SpellsRow text start [] end = Gap text start end
 SpellsRow text start (t ∷ ts) end = Gap text start t.start × SpellsKind t.kind text t.start t.end × SpellsRow text t.end ts end
@@ -119,16 +119,16 @@ pub record BeginsNothing (text : List ℕ) (place : ℕ) : Type 0 where
   pub single : At HasKind text place → ⊥
 
 -- all before this place is tokens and gaps
-abbrev pub SpellsFront : List ℕ → ℕ → Type 0
-SpellsFront text place = (ts : List Token) × SpellsRow text 0 ts place
+abbrev pub SpellsPrefix : List ℕ → ℕ → Type 0
+SpellsPrefix text place = (ts : List Token) × SpellsRow text 0 ts place
 
--- `/*` stands at this place, and no `*/` behind it
+-- `/*` stands at this place, and no `*/` after it
 abbrev pub IsOpenAt : List ℕ → ℕ → Type 0
 IsOpenAt text place = PairAt 47 42 text place × ((i : ℕ) → place + 2 ≤ i → PairAt 42 47 text i → ⊥)
 
 -- the text has this fault
 abbrev pub HasFault : List ℕ → LexFault → Type 0
 HasFault text TextTooLong = 4194304 < length text
-HasFault text (BadByte at) = (length text ≤ 4194304) × SpellsFront text at × (at < length text) × BeginsNothing text at
-HasFault text (OpenComment at) = (length text ≤ 4194304) × SpellsFront text at × IsOpenAt text at
+HasFault text (BadByte at) = (length text ≤ 4194304) × SpellsPrefix text at × (at < length text) × BeginsNothing text at
+HasFault text (OpenComment at) = (length text ≤ 4194304) × SpellsPrefix text at × IsOpenAt text at
 HasFault text Memory = ⊥

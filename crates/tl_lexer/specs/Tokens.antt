@@ -115,12 +115,12 @@ piece size =
 
 -- ---- texts
 
--- the tokens, and one more behind them if the piece is one
+-- the tokens, and one more after them if the piece is one
 abbrev pub with_piece : List Token → ℕ → ℕ → Option TokenKind → List Token
 with_piece ts start end None = ts
 with_piece ts start end (Some k) = ts ++ (record { kind = k; start = start; end = end } ∷ [])
 
--- one more piece, behind these tokens
+-- one more piece, after these tokens
 unfoldable pub more : ℕ → List Token → Rule ℕ LexFault (List Token)
 more size ts = chain (here (place size)) (λ start. chain (piece size) (λ o. chain (here (place size)) (λ end. gives (with_piece ts start end o))))
 
@@ -128,7 +128,7 @@ more size ts = chain (here (place size)) (λ start. chain (piece size) (λ o. ch
 unfoldable pub pieces : ℕ → Rule ℕ LexFault (List Token)
 pieces size = loop (λ bs. bs ≡ [] → ⊥) (more size) []
 
--- the fault that an error stands for; none for want of memory
+-- the fault that an error stands for; none when out of memory
 abbrev pub fault_of : LexFault → Option LexFault
 fault_of TextTooLong = Some TextTooLong
 fault_of (BadByte at) = Some (BadByte at)

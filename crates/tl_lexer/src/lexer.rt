@@ -126,7 +126,7 @@ fn word_end(text: &[u8], from: usize) -> usize
     at
 }
 
-// Where a line ends: at its line feed, or behind the text.
+// Where a line ends: at its line feed, or after the text.
 fn line_end(text: &[u8], from: usize) -> usize
     requires { from ≤ length text.now }
     ensures read { Parses fault_of (λ (n : ℕ). tt) (bytes_while (length text.now) InLine) (drop from text.now) (drop result text.now) (Ok from) }

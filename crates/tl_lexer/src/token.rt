@@ -47,7 +47,7 @@ pub enum TokenKind {
     Plus,
 }
 
-/// A token, and where it stands in its text: the byte at which it starts, and the one behind it.
+/// A token, and where it stands in its text: the byte at which it starts, and the one after it.
 #[derive(Clone, Copy, Debug, PartialEq, Eq)]
 pub struct Token {
     pub kind: TokenKind,

@@ -32,7 +32,7 @@ module _ (ds : List DeclText) (d : DeclText) where
         adds_then ds d (λ u. u ≡ t) (λ u. IsPartOfOne u args) (λ u. IsPart u t) old mid new
         (λ u part. elim (subst (IsPart u) is part) [ inl e ↦ inl (e ∙ sym is) | inr inside ↦ inr inside ]) (λ u e. subst (IsPart u) (sym is) (inl (e ∙ is))) (λ u inside. subst (IsPart u) (sym is) (inr inside))
 
-    -- then the parts of what stands behind `%`
+    -- then the parts of what stands after `%`
     pub adds_percent : (s : Tree) → t ≡ percent s → Adds ds d (λ u. u ≡ t) old mid → Adds ds d (λ u. IsPart u s) mid new → Adds ds d (λ u. IsPart u t) old new
     adds_percent s is =
         adds_then ds d (λ u. u ≡ t) (λ u. IsPart u s) (λ u. IsPart u t) old mid new

@@ -10,7 +10,7 @@ use Rattle.tl_names.specs.BareReferences.{IsBareOf, by_name, by_type}
 use Rattle.tl_names.specs.inner.BareSteps.{BareIs, OnlyOf}
 use Rattle.tl_names.proofs.Firsts.{one_first}
 
--- what stands behind `%`
+-- what stands after `%`
 abbrev behind : Tree → Tree
 behind (named name args) = named name args
 behind (percent t) = t
@@ -30,7 +30,7 @@ module _ (ds : List DeclText) (d : DeclText) where
         from : o ≡ Some j → IsBareOf ds d (named name args) j
         from e = by_name name args refl free own lower (subst (FirstNamed ds name) e first)
 
-    -- behind `%` it means the only constructor of the type
+    -- after `%` it means the only constructor of the type
     pub bare_type : (o : Option ℕ) → is_variable d name ≡ false → is_built_in name ≡ false → is_type_name name ≡ true → OnlyOf ds name o → BareIs ds d (percent (named name args)) o
     bare_type o free own upper only j = (to, from)
       where

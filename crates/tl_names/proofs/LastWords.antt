@@ -45,22 +45,22 @@ last_later : (x : ℕ) (xs : List ℕ) → has_dot xs ≡ true → last_word (x 
 last_later x xs later = ap (λ c. if c then last_word xs else if x == 46 then xs else x ∷ xs) later
 
 -- what stands before a `.` and the `.` may go
-last_behind_dot : (xs : List ℕ) (i : ℕ) → i < length xs → (get_or xs i 0 == 46) ≡ true → last_word (drop (suc i) xs) ≡ last_word xs
-last_behind_dot [] i within is = absurd (omega (arith, within))
-last_behind_dot (x ∷ xs) zero within is = by (has_dot xs) refl
+last_after_dot : (xs : List ℕ) (i : ℕ) → i < length xs → (get_or xs i 0 == 46) ≡ true → last_word (drop (suc i) xs) ≡ last_word xs
+last_after_dot [] i within is = absurd (omega (arith, within))
+last_after_dot (x ∷ xs) zero within is = by (has_dot xs) refl
   where
     by : (b : Bool) → has_dot xs ≡ b → last_word xs ≡ last_word (x ∷ xs)
     by true f = sym (last_later x xs f)
     by false f =
         last_of_one xs f ∙ sym (ap (λ c. if c then last_word xs else if x == 46 then xs else x ∷ xs) f ∙ ap (λ c. if c then xs else x ∷ xs) is)
-last_behind_dot (x ∷ xs) (suc i) within is =
+last_after_dot (x ∷ xs) (suc i) within is =
     let later : i < length xs = omega (arith, within) in
-    last_behind_dot xs i later is ∙ sym (last_later x xs (dot_there xs i later is))
+    last_after_dot xs i later is ∙ sym (last_later x xs (dot_there xs i later is))
 
-pub last_behind : (xs : List ℕ) (i : ℕ) → position (λ b. b == 46) xs ≡ Some i → last_word (drop (i + 1) xs) ≡ last_word xs
-last_behind xs i at =
+pub last_after : (xs : List ℕ) (i : ℕ) → position (λ b. b == 46) xs ≡ Some i → last_word (drop (i + 1) xs) ≡ last_word xs
+last_after xs i at =
     let found = position-Some (λ b. b == 46) xs i 0 at in
-    ap (λ n. last_word (drop n xs)) (add-one i) ∙ last_behind_dot xs i found.0 found.1
+    ap (λ n. last_word (drop n xs)) (add-one i) ∙ last_after_dot xs i found.0 found.1
 
 no_place : (b : Bool) (i : ℕ) → cond b (Some i) None ≡ None → b ≡ false
 no_place true i h = absurd (none-some i (sym h))

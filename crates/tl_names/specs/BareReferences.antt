@@ -13,7 +13,7 @@ pub data IsBareOf (ds : List DeclText) (d : DeclText) (t : Tree) (j : ℕ) : Typ
   -- by its name; where several have the name, the first
   by_name : (name : List ℕ) (args : Trees) → t ≡ named name args → is_variable d name ≡ false → is_built_in name ≡ false → is_type_name name ≡ false
       → First (λ i. (c : DeclText) × IsConstructorNamed ds name i c) (Some j) → IsBareOf ds d t j
-  -- as the only constructor of a type behind `%`
+  -- as the only constructor of a type after `%`
   by_type : (type : List ℕ) (args : Trees) (c : DeclText) → t ≡ percent (named type args) → is_variable d type ≡ false → is_built_in type ≡ false → is_type_name type ≡ true
       → IsOnlyConstructor ds type j c → IsBareOf ds d t j
 

@@ -17,7 +17,7 @@ seven_digits (suc (suc (suc (suc (suc (suc zero)))))) w = omega arith
 seven_digits (suc (suc (suc (suc (suc (suc (suc zero))))))) w = omega arith
 seven_digits (suc (suc (suc (suc (suc (suc (suc (suc k)))))))) w = absurd (omega (arith, w))
 
--- one more digit fits behind fewer than eight
+-- one more digit fits after fewer than eight
 pub has_room : (text : List ℕ) (k n : ℕ) → k < length text → length text ≤ 8 → n < 16 ^ k → n < 268435456
 has_room text k n a b w = omega (arith, w, seven_digits k (omega (arith, a, b)))
 

@@ -86,7 +86,7 @@ moved true false true = refl
 moved true false false = refl
 moved false b c = refl
 
--- bits added to the front of the register go like bits of the text, and those behind them move up
+-- bits added at the start of the register go like bits of the text, and those after them move up
 pub split : (a h c m : List Bool) → length a ≡ length m → length h + length m ≡ 32 → length c ≡ 32
     → run (xor_bits (a ++ h) c) m ≡ xor_bits (h ++ zeros (length m)) (run c (xor_bits a m))
 unfolding run step xor_bits

@@ -15,7 +15,7 @@ pub all_push : {T : Type 0} (Is : T → Type 0) (ts : List T) (t : T) → EachIs
 all_push Is [] t h i = (i, tt)
 all_push Is (u ∷ ts) t h i = (h.0, all_push Is ts t h.1 i)
 
--- this stands behind a row
+-- this stands after a row
 pub record Behind {T : Type 0} (ts rest : List T) : Type 0 where
   pub front : List T
   pub whole : ts ≡ front ++ rest

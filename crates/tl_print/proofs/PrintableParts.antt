@@ -17,7 +17,7 @@ use Rattle.tl_combinators.specs.declared.fault.SyntaxFault.{SyntaxFault}
 use Rattle.tl_combinators.specs.Tokens.{bytes_of, token, letter_word, this_word, IsWord, first_is, is_lower, is_letter}
 use Rattle.tl_combinators.specs.Names.{NameText, joined, IsObject, name_from, name, declared_name, type_name, hex, vector_number, IsOtherNumber, vector_hex, number_by, number, vector_line_number}
 use Rattle.tl_combinators.specs.Trees.{Tree, named, percent, any_call, trees_of}
-use Rattle.tl_combinators.specs.Types.{one_opens, opens, closes, in_parens, one_term, terms, one_listed, listed, applied, application, no_level, behind_percent, bare, core, type_in, term, expression}
+use Rattle.tl_combinators.specs.Types.{one_opens, opens, closes, in_parens, one_term, terms, one_listed, listed, applied, application, no_level, after_percent, bare, core, type_in, term, expression}
 use Rattle.tl_print.proofs.Givens.{EachIs, all_push, Gives, gives_gives, gives_fails, gives_one, gives_chain, gives_choice, gives_so, gives_loop}
 use Rattle.tl_print.proofs.PrintedPieces.{is_run, run_spelled}
 use Rattle.tl_print.proofs.PrintableForm.{IsWordOf, IsName, one_word, two_words, IsTypeName, IsSmall, IsShape, AreShapes, levels, bare_levels, most, IsTree}
@@ -193,7 +193,7 @@ shapes_of : (n : ℕ) (ts : List Tree) → EachIs (IsTree n) ts → AreShapes (t
 shapes_of n [] h = (tt, omega arith)
 shapes_of n (t ∷ ts) (i, h) = let r = shapes_of n ts h in ((i.shape, r.0), omega (arith, i.few, r.1))
 
--- a type of n levels that may stand behind `%` on its level
+-- a type of n levels that may stand after `%` on its level
 record IsBare (n : ℕ) (t : Tree) : Type 0 where
   shape : IsShape t
   few : levels t ≤ n
@@ -224,7 +224,7 @@ module _ (text : List ℕ) where
   none_given P = gives_choice _ _ (gives_fails _ _ _) (gives_choice _ _ (gives_fails _ _ _) (gives_fails _ _ _))
 
   bare_given : (n : ℕ) (deeper below : Bool → Rule Token SyntaxFault Tree) → ((b : Bool) → Gives (IsSpelt text) (deeper b) (IsTree n)) → ((b : Bool) → Gives (IsSpelt text) (below b) (IsTree n)) → Gives (IsSpelt text) (bare text deeper below) (IsTree (suc n))
-  unfolding bare behind_percent
+  unfolding bare after_percent
   bare_given n deeper below d g =
       gives_chain _ _ (any_token text _) (λ p u.
       gives_chain _ _

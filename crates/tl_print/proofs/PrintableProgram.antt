@@ -45,7 +45,7 @@ bit_small (a ∷ []) n e = omega (arith, digit_is a n e)
 bit_small (a ∷ b ∷ []) n e = two_small (digit a) (digit b) n (digit_is a) (digit_is b) e
 bit_small (a ∷ b ∷ c ∷ more) n e = let i : ◌≡◌ {A = Option ℕ} None (Some n) = e in absurd cc
 
--- behind a condition a type is a flag, or itself
+-- after a condition a type is a flag, or itself
 held_of : (function : Bool) (c : CondText) (t : Tree) → IsCond c → IsTree 16 t → IsHeld function (Some c) (conditional t)
 held_of function c (named bytes no_trees) i h = elim (cases_Bool (bytes_eq bytes (codes "true"))) [
   | inl y ↦
@@ -103,7 +103,7 @@ module _ (text : List ℕ) where
   unfolding field_too_many
   none_more P = where_given _ (gives_choice _ _ (gives_fails _ _ _) (gives_fails _ _ _))
 
-  -- so many fields, behind so many variables
+  -- so many fields, after so many variables
   FewFields : Bool → ℕ → FieldsText → Type 0
   FewFields function vars s = EachIs (IsField function) s.fields × (vars + length s.fields ≤ 256)
 

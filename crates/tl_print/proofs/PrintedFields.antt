@@ -45,7 +45,7 @@ digits_run (b ∷ bs) h = let p = and_parts (is_hex_digit b) (list_all is_hex_di
 hex_run : (xs : List ℕ) → IsHexText xs → is_run xs ≡ true
 hex_run xs h = run_from xs h.some (digits_run xs (list_all-from_AllPass is_hex_digit xs h.digits))
 
--- a number that stands directly behind what ends at p
+-- a number that stands directly after what ends at p
 pub record PrintedNumber (r : List ℕ → ℕ → Rule Token SyntaxFault (Option ℕ)) (i : Option ℕ) (k : List Piece) : Type 0 where
   pub pieces : List Piece
   pub bytes_are : bytes_in pieces ≡ written_number i ++ bytes_in k

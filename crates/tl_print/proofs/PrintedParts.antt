@@ -14,14 +14,14 @@ use Rattle.tl_combinators.specs.Fields.{BeginsBit, BeginsCondition}
 use Rattle.tl_print.proofs.PrintedPieces.{Piece, word, sign, dashes, white, bytes_in, Stops, Good, first_kind, Front, Stands}
 use Rattle.tl_print.proofs.PrintableForm.{IsWordOf, IsName, one_word, two_words, IsTypeName}
 
--- what the rule reads, and which pieces the tokens behind stand for
+-- what the rule reads, and which pieces the tokens after stand for
 pub record Left {A : Type 0} (text : List ℕ) (r : Rule Token SyntaxFault A) (ts : List Token) (x : A) (k : List Piece) : Type 0 where
   pub at : ℕ
   pub rest : List Token
   pub reads : r.reads ts x rest
   pub stands : Stands text at k rest
 
--- pieces of these bytes, with k behind them, that a rule reads as x
+-- pieces of these bytes, with k after them, that a rule reads as x
 pub record Printed {A : Type 0} (r : List ℕ → Rule Token SyntaxFault A) (x : A) (bytes : List ℕ) (k : List Piece) : Type 0 where
   pub pieces : List Piece
   pub bytes_are : bytes_in pieces ≡ bytes ++ bytes_in k

@@ -89,7 +89,7 @@ bytes_in (white b ∷ ps) = b ∷ bytes_in ps
 abbrev pub Stops : List Piece → Type 0
 Stops ps = Next (Is is_word) (bytes_in ps) → ⊥
 
--- each piece is one of the language, and no Word stands directly behind another
+-- each piece is one of the language, and no Word stands directly after another
 abbrev pub Good : List Piece → Type 0
 Good [] = Unit {0}
 Good (word w ∷ ps) = (is_run w ≡ true) × Stops ps × Good ps
@@ -119,14 +119,14 @@ first_kind (white b ∷ ps) = first_kind ps
 
 -- ---- the text of pieces
 
--- a byte, and what stands behind it
+-- a byte, and what stands after it
 byte_step : (text : List ℕ) (p b : ℕ) (rest : List ℕ) → drop p text ≡ b ∷ rest → (p + 1 ≤ length text) × (drop (p + 1) text ≡ rest)
 byte_step text p b rest e = let n = next_place text p b rest e in (omega (arith, n.0), sym n.1)
 
 byte_here : (text : List ℕ) (p b : ℕ) (rest : List ℕ) → drop p text ≡ b ∷ rest → ByteAt b text p
 byte_here text p b rest e = subst (Next (λ x. x ≡ b)) (sym e) refl
 
--- a Word, and what stands behind it
+-- a Word, and what stands after it
 word_step : (text : List ℕ) (p : ℕ) (w rest : List ℕ) → p ≤ length text → drop p text ≡ w ++ rest → (p + length w ≤ length text) × (drop (p + length w) text ≡ rest)
 word_step text p w rest b e = (
   omega (arith, b, length-drop p text, ap length e, length-append w rest),

@@ -25,7 +25,7 @@ use Rattle.tl_combinators.specs.Sentences.{ProgramText, program_so_far, section,
 use Rattle.tl_combinators.proofs.Describing.{has_description}
 use Rattle.tl_combinators.proofs.DescribedRule.{describes_here}
 use Rattle.tl_print.specs.Printed.{CanBeRead, ReadsBack, without_description}
-use Rattle.tl_print.specs.Written.{written_tree, written_fields, written_number, written_variable, written_variables, written_line, written_rest, written_declaration, section_behind, written_mark, written_program}
+use Rattle.tl_print.specs.Written.{written_tree, written_fields, written_number, written_variable, written_variables, written_line, written_rest, written_declaration, section_after, written_mark, written_program}
 use Rattle.tl_print.proofs.Givens.{EachIs, Behind, rest_of}
 use Rattle.tl_print.proofs.PrintedPieces.{Piece, word, sign, dashes, white, bytes_in, is_run, Good, first_kind, Front, Stands, tokens_at, pieces_spell, pieces_stand}
 use Rattle.tl_print.proofs.PrintableForm.{IsWordOf, IsName, one_word, IsLineNumber, IsCombinator, IsDeclaration, line, combined}
@@ -365,7 +365,7 @@ module _ (text : List ℕ) (p : ℕ) (first : List ℕ) (ts : List Token) (low :
     );
   }
 
--- behind its name
+-- after its name
 declaration_reads : (text : List ℕ) (function : Bool) (d : DeclText) (k more : List Piece) (ts : List Token) → EachIs (IsSpelt text) ts → NameLeft text (declared_name text) ts d.name more
     → ((q : ℕ) (us : List Token) (x : List DescribedPiece) → EachIs (IsSpelt text) us → Stands text q more us → DeclarationLeft text (named_declaration text function (record { bytes = d.name; end = q }) x (built_in d.name)) us d k)
     → DeclarationLeft text (declaration text function) ts d k
@@ -540,10 +540,10 @@ module _ (d : DeclText) (h : IsCombinator d) (k : List Piece) where
       let n = number_printed d.number (white 32 ∷ v.pieces) h.number (parts_other v.pieces f.pieces v.kind f.kind Hash (λ e. absurd cc) (λ e. absurd cc) (λ e. absurd cc)) in
       combinator_whole t f v n (declared_printed d.name n.pieces (n.dot (parts_other v.pieces f.pieces v.kind f.kind Dot (λ e. absurd cc) (λ e. absurd cc) (λ e. absurd cc))) h.name)
 
-pub declaration_printed : (d : DeclText) → IsDeclaration d → (function : Bool) (k : List Piece) → PrintedDeclaration (section_behind function d) d k
-declaration_printed d (line b i e h) function k = subst (λ (c : DeclText). PrintedDeclaration (section_behind function c) c k) (sym e) (line_printed b i k function h)
+pub declaration_printed : (d : DeclText) → IsDeclaration d → (function : Bool) (k : List Piece) → PrintedDeclaration (section_after function d) d k
+declaration_printed d (line b i e h) function k = subst (λ (c : DeclText). PrintedDeclaration (section_after function c) c k) (sym e) (line_printed b i k function h)
 declaration_printed d (combined h) function k =
-    let same : section_behind function d ≡ d.function = ap (λ (b : Bool). if b then function else d.function) h.written in
+    let same : section_after function d ≡ d.function = ap (λ (b : Bool). if b then function else d.function) h.written in
     subst (λ (b : Bool). PrintedDeclaration b d k) (sym same) (combinator_printed d h k)
 
 -- ---- programs
@@ -685,9 +685,9 @@ marked false false bytes ds r = r
 items_printed : (ds : List DeclText) (function : Bool) → EachIs IsDeclaration ds → PrintedItems function (written_program function ds) ds
 items_printed [] function h = record { pieces = []; bytes_are = refl; good = tt; reads = λ s e w text p ts a st. end_reads s text ts st }
 items_printed (d ∷ ds) function h =
-    let r = items_printed ds (section_behind function d) h.1 in
-    marked function (section_behind function d) (written_declaration d ++ written_program (section_behind function d) ds) (d ∷ ds)
-    (declaration_first d ds (section_behind function d) (written_program (section_behind function d) ds) r (declaration_printed d h.0 function r.pieces))
+    let r = items_printed ds (section_after function d) h.1 in
+    marked function (section_after function d) (written_declaration d ++ written_program (section_after function d) ds) (d ∷ ds)
+    (declaration_first d ds (section_after function d) (written_program (section_after function d) ds) r (declaration_printed d h.0 function r.pieces))
 
 -- what is printed of declarations that some text reads as, reads as them
 pub reads_back : (ds : List DeclText) → CanBeRead ds → ReadsBack (written_program false ds) ds

@@ -10,7 +10,7 @@ use Rattle.tl_lexer.specs.declared.token.TokenKind.TheVariants.{Word, Dot, Less,
 use Rattle.tl_combinators.specs.declared.fault.SyntaxFault.{SyntaxFault}
 use Rattle.tl_combinators.specs.Tokens.{Begins, OfKind, token}
 use Rattle.tl_combinators.specs.Trees.{Tree, Trees, named, percent, any_call, no_trees, tree, trees_of}
-use Rattle.tl_combinators.specs.Types.{opens, in_parens, one_term, terms, one_listed, listed, applied, application, behind_percent, bare, core, type_in, term, expression}
+use Rattle.tl_combinators.specs.Types.{opens, in_parens, one_term, terms, one_listed, listed, applied, application, after_percent, bare, core, type_in, term, expression}
 use Rattle.tl_combinators.specs.Fields.{BeginsCondition}
 use Rattle.tl_print.specs.Written.{written_tree, written_args}
 use Rattle.tl_print.proofs.PrintedPieces.{Piece, sign, bytes_in, Stops, Good, first_kind, Stands}
@@ -18,7 +18,7 @@ use Rattle.tl_print.proofs.PrintableForm.{IsTypeName, IsShape, AreShapes, levels
 use Rattle.tl_combinators.specs.Names.{type_name}
 use Rattle.tl_print.proofs.PrintedParts.{Left, Printed, loop_turn, left_yes, left_no, next_at, other_kind, one_kind, kind_first, token_reads, not_condition, NameLeft, type_name_printed}
 
--- what may stand behind a type: no `<` and no `.`, and where its name may be a head no further term
+-- what may stand after a type: no `<` and no `.`, and where its name may be a head no further term
 pub record Follows (head : Bool) (k : List Piece) : Type 0 where
   pub less : first_kind k ≡ Some Less → ⊥
   pub dot : first_kind k ≡ Some Dot → ⊥
@@ -86,7 +86,7 @@ trees_are : (ts : Trees) → trees_of (list_of ts) ≡ ts
 trees_are no_trees = refl
 trees_are (tree t ts) = ap (tree t) (trees_are ts)
 
--- the types behind these in `<..>`
+-- the types after these in `<..>`
 record PrintedMore (n : ℕ) (so : List Tree) (ts : Trees) (k : List Piece) : Type 0 where
   pieces : List Piece
   bytes_are : bytes_in pieces ≡ written_args false ts ++ bytes_in k
@@ -143,7 +143,7 @@ module _ (n : ℕ) (so : List Tree) where
     reads = more_turn_reads t ts k m r;
   }
 
--- what stands behind a name
+-- what stands after a name
 record PrintedArgs (n : ℕ) (head : Bool) (bytes : List ℕ) (args : Trees) (k : List Piece) : Type 0 where
   row : Printed (λ text. applied text (below_type text n) head bytes) (named bytes args) (written_args true args) k
   dot : first_kind row.pieces ≡ Some Dot → ⊥
@@ -257,9 +257,9 @@ application_printed n head bytes args k i a =
       no_condition = λ text p ts s. (w.starts text p ts s).no_condition;
     }
 
--- the type behind `%`
+-- the type after `%`
 abbrev behind_type : List ℕ → ℕ → Bool → Rule Token SyntaxFault Tree
-behind_type text n = behind_percent text (core text n) (below_type text n)
+behind_type text n = after_percent text (core text n) (below_type text n)
 
 no_percent : (ts : List Token) → Begins Word ts → Begins Percent ts → ⊥
 no_percent ts h g = let e : Word ≡ Percent = one_kind Word Percent ts h g in absurd cc
@@ -277,7 +277,7 @@ core_named n head bytes args k r = record {
 }
 
 behind_named : (n : ℕ) (bytes : List ℕ) (args : Trees) (k : List Piece) → PrintedTree (λ text. application text (below_type text n) false) (named bytes args) k → PrintedTree (λ text. behind_type text n false) (named bytes args) k
-unfolding behind_percent
+unfolding after_percent
 behind_named n bytes args k r = record {
   row = record {
     pieces = r.row.pieces;
@@ -290,7 +290,7 @@ behind_named n bytes args k r = record {
 }
 
 behind_deeper : (n : ℕ) (t : Tree) (k : List Piece) → PrintedTree (λ text. core text n false) (percent t) k → PrintedTree (λ text. behind_type text n false) (percent t) k
-unfolding behind_percent
+unfolding after_percent
 behind_deeper n t k r = record {
   row = record {
     pieces = r.row.pieces;

@@ -102,8 +102,8 @@ written_declaration d = d.name ++ (written_number d.number ++ (32 ∷ written_re
 -- ---- programs
 
 -- the section of a declaration: a built-in line may stand in any
-abbrev pub section_behind : Bool → DeclText → Bool
-section_behind function d = if d.builtin then function else d.function
+abbrev pub section_after : Bool → DeclText → Bool
+section_after function d = if d.builtin then function else d.function
 
 -- the mark of a section, where it isn't the one before
 abbrev pub written_mark : Bool → Bool → List ℕ
@@ -116,4 +116,4 @@ written_mark false false = []
 abbrev pub written_program : Bool → List DeclText → List ℕ
 written_program function [] = []
 written_program function (d ∷ ds) =
-    written_mark function (section_behind function d) ++ (written_declaration d ++ written_program (section_behind function d) ds)
+    written_mark function (section_after function d) ++ (written_declaration d ++ written_program (section_after function d) ds)

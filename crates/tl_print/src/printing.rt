@@ -3,7 +3,7 @@ ghost use Rattle.std.specs.Prelude.{◌≡◌, ◌++◌, ◌∷◌, [], map, IfO
 ghost use Rattle.tl_print.specs.Printed.{CanBeRead, ReadsBack};
 ghost use Rattle.tl_combinators.specs.Program.{kind_text, cond_texts, field_text, decl_text, program_text};
 ghost use Rattle.tl_combinators.specs.Trees.{view, views, trees_of};
-ghost use Rattle.tl_print.specs.Written.{opening, closing, written_tree, written_args, written_bit, written_condition, written_kind, written_field, written_fields, written_number, written_variable, written_variables, written_line, written_parts, written_declaration, section_behind, written_mark, written_program};
+ghost use Rattle.tl_print.specs.Written.{opening, closing, written_tree, written_args, written_bit, written_condition, written_kind, written_field, written_fields, written_number, written_variable, written_variables, written_line, written_parts, written_declaration, section_after, written_mark, written_program};
 
 use std::alloc::{AllocError, Global};
 use tl_base::Bytes;
@@ -206,8 +206,8 @@ fn put_declaration(out: &mut Vec<u8>, decl: &Decl) -> Result<(), AllocError>
 }
 
 // The section of a declaration that follows one of a section: a built-in line may stand in any.
-fn section_behind(function: bool, decl: &Decl) -> bool
-    ensures { result ≡ section_behind function (decl_text decl.now) }
+fn section_after(function: bool, decl: &Decl) -> bool
+    ensures { result ≡ section_after function (decl_text decl.now) }
 {
     if decl.builtin {
         function
@@ -233,7 +233,7 @@ fn put_program(out: &mut Vec<u8>, decls: &Vec<Decl>) -> Result<(), AllocError>
 {
     let mut function = false;
     for decl in decls {
-        let section = section_behind(function, decl);
+        let section = section_after(function, decl);
         put(out, section_mark(function, section))?;
         put_declaration(out, decl)?;
         function = section;

@@ -23,7 +23,7 @@ use Rattle.tl_schema.specs.Formed.{IsFormedOver, IsCondition, IsFormedField}
 use Rattle.tl_schema.specs.FormedLaws.{FieldsAreFormed}
 use Rattle.tl_names.proofs.HeadNames.{type_name}
 use Rattle.tl_schema.proofs.BadFlagFirst.{flags_before_decided}
-use Rattle.tl_schema.proofs.ListParts.{slice_get_behind}
+use Rattle.tl_schema.proofs.ListParts.{slice_get_after}
 use Rattle.tl_names.proofs.Maps.{slice_get_made}
 use Rattle.tl_names.proofs.TestedPlaces.{first_passes}
 use Rattle.tl_schema.proofs.TypePlaces.{first_that_passes}
@@ -54,7 +54,7 @@ module _ (schema : Declared) (good : IsSchema schema) (i : ℕ) (d : DeclText) (
   name_at k g at =
       let fields = map (λ (h : FieldText). h.name) d.fields in
       let same : (length d.vars + k) - length d.vars ≡ k = omega arith in
-      slice_get_behind d.vars fields (length d.vars + k) (omega arith) ∙ ap (slice_get fields) same ∙ slice_get_made (λ (h : FieldText). h.name) d.fields k g at
+      slice_get_after d.vars fields (length d.vars + k) (omega arith) ∙ ap (slice_get fields) same ∙ slice_get_made (λ (h : FieldText). h.name) d.fields k g at
 
   -- no two fields have one name
   apart : (j k : ℕ) (g h : FieldText) → j < k → FieldAt d j g → FieldAt d k h → g.name ≡ h.name → ⊥

@@ -118,7 +118,7 @@ module _ (schema : Declared) (good : IsSchema schema) (d : DeclText) (n : ℕ) w
           (λ k _. record { formed = λ _. tt; bare = λ e. absurd e }) (λ _. record { formed = λ _. tt; bare = λ e. absurd e })
           (λ _. record { formed = λ _. tt; bare = λ e. absurd e }) (λ e. declared_stands (shapeless_not_built_in name upper lower e)) refl
 
-      -- ---- behind `%`
+      -- ---- after `%`
 
       module _ (j : ℕ) (c : DeclText) (upper : is_type_name name ≡ true) (one : IsOnlyConstructor schema.program name j c) where
         first_only : First (λ i. (b : DeclText) × IsConstructorOf schema.program name i b) (Some j)

@@ -1,4 +1,4 @@
--- Elements of the front of a list, behind it, and of those that pass a test.
+-- Elements of a prefix of a list, after it, and of those that pass a test.
 use Rattle.std.proofs.Common.{◌≡◌, ℕ, zero, suc, ◌-◌, ◌<◌, ◌≤◌, List, [], ◌∷◌, ◌++◌, length, map, take, get_or, slice_get, Some, Bool, true, false, ap, sym, ◌∙◌, true≢false, arith}
 use Rattle.std.specs.List.{list_any}
 use Rattle.std.proofs.lemmas.Bool.{false_from_ne_true}
@@ -7,11 +7,11 @@ use Rattle.std.proofs.lemmas.Option.{slice_get-get_or, slice_get_within, get_or_
 use Rattle.std.proofs.lemmas.List.{get_or-take, length-take}
 use Rattle.tl_names.proofs.Maps.{slice_get_item}
 
-pub slice_get_behind : {X : Type 0} (xs ys : List X) (i : ℕ) → length xs ≤ i → slice_get (xs ++ ys) i ≡ slice_get ys (i - length xs)
-slice_get_behind [] ys i past = let same : i ≡ i - 0 = omega arith in ap (slice_get ys) same
-slice_get_behind (x ∷ xs) ys zero past = absurd (omega arith)
-slice_get_behind (x ∷ xs) ys (suc i) past =
-    let same : i - length xs ≡ suc i - suc (length xs) = omega arith in slice_get_behind xs ys i (omega arith) ∙ ap (slice_get ys) same
+pub slice_get_after : {X : Type 0} (xs ys : List X) (i : ℕ) → length xs ≤ i → slice_get (xs ++ ys) i ≡ slice_get ys (i - length xs)
+slice_get_after [] ys i past = let same : i ≡ i - 0 = omega arith in ap (slice_get ys) same
+slice_get_after (x ∷ xs) ys zero past = absurd (omega arith)
+slice_get_after (x ∷ xs) ys (suc i) past =
+    let same : i - length xs ≡ suc i - suc (length xs) = omega arith in slice_get_after xs ys i (omega arith) ∙ ap (slice_get ys) same
 
 -- an element of the first n
 pub front_item : {X Y : Type 0} (f : X → Y) (xs : List X) (n i : ℕ) (x : X) → i < length (take n xs) → x ≡ get_or (take n xs) i x → (i < n) × (slice_get (map f xs) i ≡ Some (f x))

@@ -15,7 +15,7 @@ use Rattle.tl_schema.specs.inner.SameNameSteps.{is_noted, names_among, AddsName,
 use Rattle.tl_schema.specs.declared.same_name.Known.{Known}
 use Rattle.std.proofs.lemmas.List.{length-map}
 use Rattle.tl_names.proofs.Maps.{slice_get_made, slice_get_item}
-use Rattle.tl_schema.proofs.ListParts.{slice_get_behind}
+use Rattle.tl_schema.proofs.ListParts.{slice_get_after}
 
 -- ---- names that are known
 
@@ -131,7 +131,7 @@ pub variable_or_field : (vars : List (List ℕ)) (fields : List Field) (n i : �
 variable_or_field vars fields n i f count past within is =
     let all = map (λ (g : FieldText). g.name) (map field_text fields) in
     let below : i - n < length fields = omega (arith, within, length-append vars all, length-map fields field_text, length-map (map field_text fields) (λ (g : FieldText). g.name)) in
-    slice_get_behind vars all i (omega arith) ∙ ap (λ k. slice_get all (i - k)) (sym count) ∙ slice_get_made (λ (g : FieldText). g.name) (map field_text fields) (i - n) (field_text f) (slice_get_item field_text fields (i - n) f below is)
+    slice_get_after vars all i (omega arith) ∙ ap (λ k. slice_get all (i - k)) (sym count) ∙ slice_get_made (λ (g : FieldText). g.name) (map field_text fields) (i - n) (field_text f) (slice_get_item field_text fields (i - n) f below is)
 
 -- ---- constructors of `Vector`
 

@@ -66,7 +66,7 @@ abbrev mutual
   meaning ds d (percent t) = bare_meaning ds d t
   meaning ds d any_call = shape.call
 
-  -- the same behind `%`
+  -- the same after `%`
   pub bare_meaning : List DeclText → DeclText → Tree → Shape
   bare_meaning ds d (named name ts) = bare_shape ds name (meanings ds d ts)
   bare_meaning ds d (percent t) = shape.call

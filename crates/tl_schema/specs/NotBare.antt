@@ -1,4 +1,4 @@
--- The sixth check: what stands behind `%`.
+-- The sixth check: what stands after `%`.
 -- From "TL language" and "Formal description of TL" (core.telegram.org/mtproto/TL, /mtproto/TL-formal), their bare types.
 use Rattle.std.specs.Prelude.{◌≡◌, ℕ, List, true, false, codes}
 use Rattle.tl_combinators.specs.Trees.{Tree, Trees, named, percent, any_call}

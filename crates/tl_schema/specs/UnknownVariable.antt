@@ -14,7 +14,7 @@ called_by flag = []
 called_by (call var) = var ∷ []
 called_by (of t) = []
 
--- the names behind `!`, in the order of the fields
+-- the names after `!`, in the order of the fields
 abbrev pub calls : DeclText → List (List ℕ)
 calls d = flat_map (λ f. called_by f.kind) d.fields
 

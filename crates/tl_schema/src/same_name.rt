@@ -58,7 +58,7 @@ fn add_name(alloc: Global, known: &mut Known, decl: &Decl) -> Result<bool, Alloc
     }
 }
 
-// The name of a variable or, behind them, of a field.
+// The name of a variable or, after them, of a field.
 fn part_name(decl: &Decl, i: usize) -> &[u8]
     requires { i < length (part_names (decl_text decl.now)) }
     ensures { slice_get (part_names (decl_text decl.now)) i ≡ Some result.now }

@@ -26,7 +26,7 @@ pub fn type_term(alloc: Global, scope: &Scope, tree: &TypeTree) -> Result<TypeRe
     }
 }
 
-// A type behind `%`.
+// A type after `%`.
 #[cycle(terms)]
 fn bare_term(alloc: Global, scope: &Scope, tree: &TypeTree) -> Result<TypeRef, AllocError>
     ensures { IfOk result (λ t. shape t ≡ bare_meaning scope.now.0 scope.now.1 (view tree.now)) }

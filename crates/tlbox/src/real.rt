@@ -8,7 +8,7 @@ use std::time::{SystemTime, UNIX_EPOCH};
 use std::{fs, io};
 use tl_base::{Counts, Failed, Host, Kind, Out, Slot};
 
-/// Files behind buffers, the standard streams, one listener and one link.
+/// Files read and written through buffers, the standard streams, one listener and one link.
 #[derive(Drop)]
 pub struct RealHost {
     rt: HostRuntime,
@@ -39,7 +39,7 @@ impl RealHost {
         }
     }
 
-    // A file behind a buffer, so that reading it word by word costs no system call each.
+    // A file with a buffer, so that reading it word by word costs no system call each.
     fn open(&self, name: &str) -> io::Result<BufReader<File>> {
         BufReader::new(self.rt.alloc(), fs::open(&self.rt, name)?)
     }

@@ -108,7 +108,7 @@ replay_faults journal read s t a b a' b' m n r result same is ea used some_never
 
 -- ---- the whole journal
 
--- bytes in front of others
+-- bytes before others
 front_byte : (xs ys : List ℕ) → AreBytes (xs ++ ys) → (k : ℕ) → get_or xs k 0 < 256
 front_byte [] ys all k = omega arith
 front_byte (x ∷ xs) ys all zero = all 0

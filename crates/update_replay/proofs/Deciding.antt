@@ -42,7 +42,7 @@ has_front (f ∷ front) (b ∷ bytes) = elim (cases_eq f b) [
   | inr differ ↦ has_not (λ rest e. differ (sym (ap (λ (z : List ℕ). get_or z 0 0) e)))
 ]
 
--- a part behind given bytes
+-- a part after given bytes
 behind_whole : {A : Type 0} (Says : A → List ℕ → Type 0) (front bytes x after : List ℕ) (a : A) → bytes ≡ x ++ after → (s : Behind front Says a x) → bytes ≡ front ++ (s.rest ++ after)
 behind_whole Says front bytes x after a whole s = whole ∙ (ap (λ (z : List ℕ). z ++ after) s.whole ∙ append_assoc front s.rest after)
 
@@ -67,7 +67,7 @@ text_whole n more t x after whole said =
     let head : length t ≡ n = sym (ap (λ (z : List ℕ). get_or z 0 0) same) in
     (head, ap (drop 1) same ∙ (append_assoc t (zeros (length t)) after ∙ ap (λ (m : ℕ). t ++ (zeros m ++ after)) head))
 
--- the zeros behind a text of n bytes
+-- the zeros after a text of n bytes
 text_end : (n : ℕ) (more : List ℕ) → n ≤ 253 → n ≤ length more → HasFront (replicate (missing (1 + n)) 0) (drop n more) → Begins IsText (n ∷ more)
 text_end n more few enough (has rest e) =
     let long : length (take n more) ≡ n = length-take-le n more enough in
@@ -120,7 +120,7 @@ begins_hear = begins_behind IsPacketNumber (word 0) begins_packet_number
 post_whole : (bytes x after : List ℕ) (said : ℤ × List ℕ) → bytes ≡ x ++ after → (s : IsPost said x) → bytes ≡ double_word s.0 ++ ((s.3).rest ++ after)
 post_whole bytes x after said whole s = behind_whole IsMessage (double_word s.0) bytes x after said.1 whole s.3
 
--- the message behind the random id that the bytes begin with
+-- the message after the random id that the bytes begin with
 post_more : (n : ℕ) (bytes : List ℕ) → n < 2 ^ 64 → double_word n ≡ take 8 bytes → Begins (Behind (double_word n) IsMessage) bytes → Begins IsPost bytes
 post_more n bytes fits is (is_there body x after whole said) = is_there (cast_signed w64 n, body) x after whole (n, fits, refl, said)
 post_more n bytes fits is (is_missing never) = is_missing (λ said x after whole says.

@@ -1,4 +1,4 @@
--- What a replay wrote before it stopped is a front of what a settled replay of the journal writes.
+-- What a replay wrote before it stopped is a prefix of what a settled replay of the journal writes.
 use Rattle.std.proofs.Common.{◌≡◌, ℕ, List, [], ◌++◌, append_assoc, append-nil, length, sym, ap, ◌∙◌, Result}
 use Rattle.update_replay.specs.Worlds.{World, Step, run}
 use Rattle.update_replay.specs.Report.{closing_lines}
@@ -25,7 +25,7 @@ closes steps at left lines output r none (too_long step x rest many b is told) =
 -- ---- another run of the journal
 
 module _ (journal : List ℕ) (w : World) (output : List ℕ) (r : Result ℕ ReplayFault) (settled : Settled r) (replayed : Replayed journal w output r) where
-  -- its lines are a front
+  -- its lines are a prefix
   pub began_first : (steps : List Step) (at : ℕ) (left lines : List ℕ) → Began journal steps at left lines → (rest : List ℕ) × (lines ++ rest ≡ output)
   began_first steps at left lines began =
       let s = stop_of journal w output r settled replayed in
@@ -49,11 +49,11 @@ module _ (journal : List ℕ) (w : World) (output : List ℕ) (r : Result ℕ Re
   next_first steps at left lines next began (a_step step x rest few begins may) = began_first _ _ rest _ (one_more steps at left lines step x rest began few begins may)
   next_first steps at left lines next began (the_end none) = ([], append-nil _ ∙ ended_first steps at left lines began none)
 
--- a front of what comes next goes on with the rest of it
+-- a prefix of what comes next goes on with the rest of it
 joined : (lines front rest next more output : List ℕ) → front ++ rest ≡ next → (lines ++ next) ++ more ≡ output → (lines ++ front) ++ (rest ++ more) ≡ output
 joined lines front rest next more output split whole = sym (append_assoc (lines ++ front) rest more) ∙ (ap (λ (z : List ℕ). z ++ more) (append_assoc lines front rest ∙ ap (λ (z : List ℕ). lines ++ z) split) ∙ whole)
 
--- what was written when a replay stopped is a front
+-- what was written when a replay stopped is a prefix
 pub stopped_first : (journal part output : List ℕ) (w : World) (r : Result ℕ ReplayFault) → Stopped journal part → Settled r → Replayed journal w output r → (rest : List ℕ) × (part ++ rest ≡ output)
 stopped_first journal part output w r (steps, at, left, lines, next, front, rest, began, comes, split, is) settled replayed =
     let f = next_first journal w output r settled replayed steps at left lines next began comes in

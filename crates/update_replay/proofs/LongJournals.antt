@@ -1,4 +1,4 @@
--- What stands behind the front of a long journal is never looked at.
+-- What stands after the prefix of a long journal is never looked at.
 use Rattle.std.proofs.Common.{◌≡◌, ℕ, ◌+◌, ◌*◌, ◌<◌, ◌≤◌, List, [], ◌∷◌, ◌++◌, append_assoc, length, length-append, take, drop, take-append-drop, Result, Ok, Err, refl, ap, sym, ◌∙◌, arith}
 use Rattle.std.proofs.lemmas.List.{take_at, take-append-le}
 use Rattle.update_replay.specs.Worlds.{World, Step}
@@ -26,7 +26,7 @@ reaches journal steps at left lines (one_more before p more shown step x rest b 
       whole = omega (arith, r.whole, ap length begins.whole, length-append x rest);
     }
 
--- ---- more bytes behind
+-- ---- more bytes after
 
 begins_longer : (bytes more : List ℕ) (step : Step) (x rest : List ℕ) → BeginsStep bytes step x rest → BeginsStep (bytes ++ more) step x (rest ++ more)
 begins_longer bytes more step x rest b = record { whole = ap (λ (y : List ℕ). y ++ more) b.whole ∙ append_assoc x rest more; spelled = b.spelled }

@@ -94,7 +94,7 @@ runs_once journal steps others at p left rest lines more (one_more ss a l ls s x
 
 -- ---- a run that can't go on is the longest
 
--- one more step can be made behind these steps
+-- one more step can be made after these steps
 pub record Goes (steps : List Step) (left : List ℕ) : Type 0 where
   pub step : Step
   pub x : List ℕ
@@ -103,7 +103,7 @@ pub record Goes (steps : List Step) (left : List ℕ) : Type 0 where
   pub begins : BeginsStep left step x rest
   pub possible : Possible (run steps) step
 
--- the first n steps of a run of `whole` steps, with a front of its lines
+-- the first n steps of a run of `whole` steps, with a prefix of its lines
 pub record Front (journal : List ℕ) (n whole : ℕ) (all : List ℕ) : Type 0 where
   pub steps : List Step
   pub at : ℕ

@@ -1,4 +1,4 @@
--- Parts of a step, read one behind the other.
+-- Parts of a step, read one after the other.
 use Rattle.std.proofs.Common.{◌≡◌, ℕ, ℤ, ◌+◌, ◌-◌, ◌^◌, ◌<◌, ◌≤◌, List, [], ◌∷◌, ◌++◌, append_assoc, length, take, drop, get_or, replicate, Option, Some, None, Result, Ok, Err, refl, ap, sym, subst, ◌∙◌, arith, take-append-drop, zero, suc, inl, inr}
 use Rattle.std.specs.Prelude.{IfSome}
 use Rattle.std.specs.Int.{w32, w64, from_le_bytes, cast_signed}
@@ -28,7 +28,7 @@ bytes_before b x y e bytes k =
       | inr past ↦ omega (arith, get_or_past x k 0 past)
     ]
 
--- ---- a part behind given bytes
+-- ---- a part after given bytes
 
 pub behind_part : {A : Type 0} (Says : A → List ℕ → Type 0) (front bytes rest : List ℕ) (c : Option (List ℕ)) (p q r : ℕ) (res : Result A JournalFault)
     → bytes ≡ front ++ rest → q ≡ moved p (length front) → PartRead Says rest c q r res → PartRead (Behind front Says) bytes c p r res
@@ -73,7 +73,7 @@ first_read None b p q n xs u good len is at h = tt
 first_read (Some bytes) None p q n xs u good len is at h = absurd h
 first_read (Some bytes) (Some rest) p q n xs u good len is at h = word_part bytes xs rest (Some rest) p q n good len is h refl (omega (arith, at, len))
 
--- ---- eight bytes, and what stands behind them in a post
+-- ---- eight bytes, and what stands after them in a post
 
 pub double_fits : (bs : List ℕ) → AreBytes bs → from_le_bytes w64 bs < 2 ^ 64
 double_fits bs bytes = omega (arith, bytes 0, bytes 1, bytes 2, bytes 3, bytes 4, bytes 5, bytes 6, bytes 7)
@@ -140,7 +140,7 @@ text_read (Some bytes) b c p q r n res few f second =
     let next = subst (λ (o : Option (List ℕ)). Reads (IsPadded n) o c q r res) f.4 second in
     text_part bytes f.1 c p q r n res few whole at next
 
--- ---- bytes with the zeros behind them
+-- ---- bytes with the zeros after them
 
 pub zeros_front : (n : ℕ) → n ≤ 3 → take {A = ℕ} n (0 ∷ 0 ∷ 0 ∷ []) ≡ replicate n 0
 zeros_front zero le = refl

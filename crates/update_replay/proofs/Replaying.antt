@@ -212,7 +212,7 @@ module _ (journal : List ℕ) (w : World) (at count : ℕ) (left a b : Option (L
   not_closed q after c e (Err z) read wrote same =
       subst (λ (y : ReplayFault). ReplayedOn journal w a c (Err y)) (sym same) (as_line w c e (stopped_at c (closing_lines w) (end_comes q after read) wrote))
 
-  -- a front of the step's lines, or nothing
+  -- a prefix of the step's lines, or nothing
   step_front : (step : Step) (x rest : List ℕ) → BeginsStep g.rest step x rest → count < 100000 → (output : List ℕ) (c : Option (List ℕ)) → Appends b c output → FrontOfLines count w step output → (shown : List ℕ) × Appends a c shown × Stopped journal shown
   step_front step x rest begins few output c wrote (inl is) = stopped_at c [] nothing (output, [], append-nil output ∙ is, wrote)
   step_front step x rest begins few output c wrote (inr (may, more, split)) = stopped_at c (step_lines count w step) (step_comes step x rest begins few may) (output, more, split, wrote)

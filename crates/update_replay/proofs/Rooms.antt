@@ -23,7 +23,7 @@ next_shorter journal steps at left lines next began comes w output r settled rep
     let f = next_first journal w output r settled replayed steps at left lines next began comes in
     omega (arith, ap length f.1, length-append (lines ++ next) f.0, length-append lines next)
 
--- so behind these lines there is room for it
+-- so after these lines there is room for it
 room_left : (journal lines next : List ℕ) (P F : Type 0) → (F → (w : World) (output : List ℕ) (r : Result ℕ ReplayFault) → Settled r → Replayed journal w output r → length lines + length next ≤ length output) → (F → P)
     → (a b : Option (List ℕ)) (s t : Bool) (room now : ℕ) → Appends a b lines → (IsSome a → IsTrue s → IsTrue t) → now ≡ room → IfSome b (λ before. IsTrue t → length before + length next ≤ now → P → ⊥) → NeverFull journal a s room F
 room_left journal lines next P F less told None b s t room now wrote stays same never = tt

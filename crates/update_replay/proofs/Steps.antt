@@ -1,4 +1,4 @@
--- A step behind its number.
+-- A step after its number.
 use Rattle.std.proofs.Common.{◌≡◌, ◌≢◌, ℕ, suc, ℤ, List, [], ◌++◌, length, drop, get_or, Option, Some, None, Result, Ok, Err, refl, ap, sym, subst, ◌∙◌, arith}
 use Rattle.std.specs.Prelude.{IfSome}
 use Rattle.update_replay.specs.Words.{word, double_word, short_text}
@@ -10,7 +10,7 @@ use Rattle.update_replay.specs.declared.journal.JournalFault.{JournalFault}
 use Rattle.update_replay.specs.declared.journal.JournalFault.TheVariants.{NotYetBuilt, ReadFault, Memory}
 use Rattle.update_replay.proofs.Parts.{behind_part}
 
--- ---- a step is its number and what stands behind it
+-- ---- a step is its number and what stands after it
 
 pub post_spelled : (id : ℤ) (body y : List ℕ) → IsPost (id, body) y → SpellsStep (post id body) (word post_number ++ y)
 post_spelled id body y s =

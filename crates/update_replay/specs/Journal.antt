@@ -26,7 +26,7 @@ SpellsStep (post id body) b =
     × (b ≡ word post_number ++ double_word n ++ word vector_number ++ word 1 ++ word message_number ++ short_text body)
 SpellsStep (hears k) b = (k < 2 ^ 31) × (b ≡ word hear_number ++ word 0 ++ word k)
 
--- the bytes begin with the spelling x of the step, and rest stands behind it
+-- the bytes begin with the spelling x of the step, and rest stands after it
 pub record BeginsStep (bytes : List ℕ) (step : Step) (x rest : List ℕ) : Type 0 where
   pub whole : bytes ≡ x ++ rest
   pub spelled : SpellsStep step x

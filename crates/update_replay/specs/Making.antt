@@ -17,7 +17,7 @@ of_line line.WriteFault = WriteFault
 of_line line.Memory = Memory
 
 -- The journal is at its end; or the next step is read and its bytes alone are taken; or what follows at this place begins with no step.
--- Want of memory and a failed read are free here.
+-- Out of memory and a failed read are free here.
 abbrev pub NextRead : List ℕ → Option (List ℕ) → ℕ → ℕ → Result (Option DeclaredStep) ReplayFault → Type 0
 NextRead bytes after p q (Ok None) = (bytes ≡ []) × (after ≡ Some []) × (q ≡ p)
 NextRead bytes after p q (Ok (Some step)) = (x rest : List ℕ) × BeginsStep bytes (step_of step) x rest × (after ≡ Some rest) × (q ≡ moved p (length x))
@@ -28,11 +28,11 @@ NextRead bytes after p q (Err ReadFault) = Unit {0}
 NextRead bytes after p q (Err WriteFault) = ⊥
 NextRead bytes after p q (Err Memory) = Unit {0}
 
--- a front of the lines was written, or nothing
+-- a prefix of the lines was written, or nothing
 abbrev pub FrontOfLines : ℕ → World → Step → List ℕ → Type 0
 FrontOfLines count w step output = (output ≡ []) ⊎ (Possible w step × (rest : List ℕ) × (output ++ rest ≡ step_lines count w step))
 
--- Step number `count` was made in the world w at this place, with this world behind it, when this was written; or why not.
+-- Step number `count` was made in the world w at this place, with this world after it, when this was written; or why not.
 abbrev pub StepMade : ℕ → ℕ → World → Step → World → List ℕ → Result (Unit {0}) ReplayFault → Type 0
 StepMade at count w step after output (Ok u) = (count < 100000) × Possible w step × (after ≡ happens w step) × (output ≡ step_lines count w step)
 StepMade at count w step after output (Err (NotYetBuilt p)) = ⊥

@@ -20,7 +20,7 @@ step_of (Post id body) = post id body
 step_of (Hear k) = hears k
 
 -- The journal is at its end; or the next step is read and its bytes alone are taken; or what follows begins with no step.
--- Want of memory and a failed read are free here.
+-- Out of memory and a failed read are free here.
 abbrev pub StepRead : List ℕ → Option (List ℕ) → ℕ → ℕ → Result (Option DeclaredStep) JournalFault → Type 0
 StepRead bytes after p q (Ok None) = (bytes ≡ []) × (after ≡ Some []) × (q ≡ p)
 StepRead bytes after p q (Ok (Some step)) = (x rest : List ℕ) × BeginsStep bytes (step_of step) x rest × (after ≡ Some rest) × (q ≡ moved p (length x))
@@ -44,7 +44,7 @@ IsWord n x = (n < 2 ^ 32) × (x ≡ word n)
 abbrev pub IsDouble : ℕ → List ℕ → Type 0
 IsDouble n x = (n < 2 ^ 64) × (x ≡ double_word n)
 
--- so many bytes of a text, with the zeros behind them
+-- so many bytes of a text, with the zeros after them
 abbrev pub IsPadded : ℕ → List ℕ → List ℕ → Type 0
 IsPadded n s x = (length s ≡ n) × (x ≡ s ++ replicate (missing (1 + n)) 0)
 
@@ -52,7 +52,7 @@ IsPadded n s x = (length s ≡ n) × (x ≡ s ++ replicate (missing (1 + n)) 0)
 abbrev pub IsText : List ℕ → List ℕ → Type 0
 IsText s x = (length s ≤ 253) × (x ≡ short_text s)
 
--- the part stands behind these bytes
+-- the part stands after these bytes
 pub record Behind {A : Type 0} (front : List ℕ) (Says : A → List ℕ → Type 0) (a : A) (x : List ℕ) : Type 0 where
   pub rest : List ℕ
   pub whole : x ≡ front ++ rest
@@ -62,7 +62,7 @@ pub record Behind {A : Type 0} (front : List ℕ) (Says : A → List ℕ → Typ
 abbrev pub IsMessage : List ℕ → List ℕ → Type 0
 IsMessage = Behind (word vector_number) (Behind (word 1) (Behind (word message_number) IsText))
 
--- a post behind its number
+-- a post after its number
 abbrev pub IsPost : ℤ × List ℕ → List ℕ → Type 0
 IsPost said x = (n : ℕ) × (n < 2 ^ 64) × (said.0 ≡ cast_signed w64 n) × Behind (double_word n) IsMessage said.1 x
 
@@ -70,13 +70,13 @@ IsPost said x = (n : ℕ) × (n < 2 ^ 64) × (said.0 ≡ cast_signed w64 n) × B
 abbrev pub IsPacketNumber : ℕ → List ℕ → Type 0
 IsPacketNumber k x = (k < 2 ^ 31) × (x ≡ word k)
 
--- a hear behind its number
+-- a hear after its number
 abbrev pub IsHear : ℕ → List ℕ → Type 0
 IsHear = Behind (word 0) IsPacketNumber
 
 -- ---- how parts are read
 
--- A part is read and its bytes alone are taken; or what follows begins with no such part. Want of memory and a failed read are free here.
+-- A part is read and its bytes alone are taken; or what follows begins with no such part. Out of memory and a failed read are free here.
 abbrev pub PartRead : {A : Type 0} → (A → List ℕ → Type 0) → List ℕ → Option (List ℕ) → ℕ → ℕ → Result A JournalFault → Type 0
 PartRead Says bytes after p q (Ok a) = (x rest : List ℕ) × (bytes ≡ x ++ rest) × Says a x × (after ≡ Some rest) × (q ≡ moved p (length x))
 PartRead {A = A} Says bytes after p q (Err NotYetBuilt) = (a : A) (x rest : List ℕ) → bytes ≡ x ++ rest → Says a x → ⊥

@@ -19,7 +19,7 @@ again_line step = codes "step " ++ decimal step ++ codes " post again\n"
 abbrev pub posted_line : ℕ → ℕ → ℕ → List ℕ
 posted_line step pts number = codes "step " ++ decimal step ++ codes " post pts " ++ decimal pts ++ codes " qts 0 seq 0 packet " ++ decimal number ++ codes "\n"
 
--- the line of a hear, behind which the lane is at pts
+-- the line of a hear, after which the lane is at pts
 abbrev pub heard_line : ℕ → ℕ → List ℕ
 heard_line step pts = codes "step " ++ decimal step ++ codes " hear 0 push pts " ++ decimal pts ++ codes " qts 0 seq 0\n"
 
@@ -49,7 +49,7 @@ event_line end (edited body) = change_line (codes "edit") end body
 event_line end (deleted ids) = change_line (codes "delete") end (id_bytes ids)
 event_line end (read id) = change_line (codes "read") end (to_le_bytes w32 (cast_unsigned w32 id))
 
--- events in order, behind the number `from`
+-- events in order, after the number `from`
 abbrev pub event_lines : ℕ → List EventView → List ℕ
 event_lines from [] = []
 event_lines from (e ∷ es) = event_line (from + count_of e) e ++ event_lines (from + count_of e) es
@@ -62,7 +62,7 @@ server_line end = codes "server pts " ++ decimal end ++ codes " qts 0 seq 0 date
 abbrev pub client_line : ℕ → ℕ → List ℕ
 client_line restart at = codes "client 0 common from " ++ decimal restart ++ codes " to " ++ decimal at ++ codes "\n"
 
--- the lines behind the last step: the server's positions, and the client's box with its events
+-- the lines after the last step: the server's positions, and the client's box with its events
 abbrev pub closing_of : ℕ → ℕ → ℕ → List EventView → List ℕ
 closing_of server_end restart at events =
     server_line server_end

@@ -31,7 +31,7 @@ pub record World : Type 0 where
 abbrev pub start : World
 start = record { box = []; ids = []; pool = []; lane = new_lane }
 
--- the push of an event that is put behind a box
+-- the push of an event that is put after a box
 abbrev pub push_of : List EventView → EventView → Push
 push_of box event = record { start = ending box; end = ending box + count_of event; event = event }
 

@@ -97,7 +97,7 @@ fn first_of<S: Source>(at: &mut u64, from: &mut S) -> Result<Option<u32>, Journa
     }
 }
 
-// A post behind its number: the random id and the body.
+// A post after its number: the random id and the body.
 fn post_of<S: Source>(
     alloc: Global,
     at: &mut u64,
@@ -124,7 +124,7 @@ fn message_of<S: Source>(alloc: Global, at: &mut u64, from: &mut S) -> Result<By
     text_of(alloc, at, from)
 }
 
-// A hear behind its number: the packet's number, where the client is 0.
+// A hear after its number: the packet's number, where the client is 0.
 fn hear_of<S: Source>(at: &mut u64, from: &mut S) -> Result<u32, JournalFault>
     ensures read { Reads IsHear (S.state from.old).left (S.state from.new).left at.old at.new result }
     ensures used { Used (S.state from.old) (S.state from.new) (IsErrOf result JournalFault.ReadFault) }
@@ -170,7 +170,7 @@ fn text_of<S: Source>(alloc: Global, at: &mut u64, from: &mut S) -> Result<Bytes
     padded_of(alloc, count, at, from)
 }
 
-// So many bytes of a text, with the zeros behind them.
+// So many bytes of a text, with the zeros after them.
 fn padded_of<S: Source>(
     alloc: Global,
     count: u8,

@@ -16,13 +16,13 @@ pub fn journals_are_read_in_one_way()
     ensures never_both { (journal : List ℕ) (w v : World) (output more : List ℕ) (r q : Result ℕ ReplayFault) → Settled r → Settled q → Replayed journal w output r → Replayed journal v more q → (r ≡ q) × (w ≡ v) × (output ≡ more) }
 {}
 
-/// Each journal is replayed to its end or to what it refuses, and a replay that stopped before has written a front of that.
+/// Each journal is replayed to its end or to what it refuses, and a replay that stopped before has written a prefix of that.
 pub fn each_journal_is_replayed()
     ensures some { (journal : List ℕ) → AreBytes journal → (w : World) × (output : List ℕ) × (r : Result ℕ ReplayFault) × Settled r × Replayed journal w output r }
     ensures front { (journal part output : List ℕ) (w : World) (r : Result ℕ ReplayFault) → Stopped journal part → Settled r → Replayed journal w output r → (rest : List ℕ) × (part ++ rest ≡ output) }
 {}
 
-/// A replay takes no more than 100,000 steps of at most 280 bytes, and looks at one more: whatever stands behind these bytes, the
+/// A replay takes no more than 100,000 steps of at most 280 bytes, and looks at one more: whatever stands after these bytes, the
 /// replay is the same.
 pub fn long_journals_are_replayed_by_their_fronts()
     ensures { (front rest output : List ℕ) (w : World) (r : Result ℕ ReplayFault) → 28000280 < length front → Replayed front w output r → Replayed (front ++ rest) w output r }

@@ -43,7 +43,7 @@ impl From<WriteFault> for LineFault {
     }
 }
 
-/// Writes the lines of step `number` by what came of it, of a world in which it was the last step. After a fault a front of them was written.
+/// Writes the lines of step `number` by what came of it, of a world in which it was the last step. After a fault a prefix of them was written.
 pub fn write_step<K: Sink>(
     alloc: Global,
     world: &World,
@@ -73,7 +73,7 @@ fn body_of(world: &World, outcome: Outcome) -> &[u8]
     }
 }
 
-/// Writes the closing lines. After a fault a front of them was written.
+/// Writes the closing lines. After a fault a prefix of them was written.
 pub fn write_end<K: Sink>(alloc: Global, world: &World, to: &mut K) -> Result<(), LineFault>
     ensures bytes { WritesPiece (K.state to.old).written (K.state to.new).written (closing_lines world.now) result }
     ensures used { Wrote (K.state to.old) (K.state to.new) (length (closing_lines world.now)) (IsErrOf result LineFault.WriteFault) }

@@ -38,7 +38,7 @@ pub fn packet_of(alloc: Global, body: &[u8], pts: u32) -> Result<Vec<u8>, Memory
     Ok(bytes)
 }
 
-// Puts a number of four bytes behind the others.
+// Puts a number of four bytes after the others.
 fn put_word(number: u32, bytes: &mut Vec<u8>) -> Result<(), Memory>
     ensures { OnOk result (bytes.new.items ≡ bytes.old.items ++ word number) }
 {
@@ -46,7 +46,7 @@ fn put_word(number: u32, bytes: &mut Vec<u8>) -> Result<(), Memory>
     Ok(())
 }
 
-// Puts a short text behind the others.
+// Puts a short text after the others.
 fn put_text(text: &[u8], bytes: &mut Vec<u8>) -> Result<(), Memory>
     requires { length text.now ≤ 253 }
     ensures { OnOk result (bytes.new.items ≡ bytes.old.items ++ short_text text.now) }

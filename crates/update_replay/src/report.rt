@@ -11,7 +11,7 @@ use box_events::{Event, Kind};
 use std::alloc::Global;
 use tl_base::Memory;
 
-/// Puts the lines of step `number` behind the others: what came of it, and its new packet, whose message has this body.
+/// Puts the lines of step `number` after the others: what came of it, and its new packet, whose message has this body.
 pub fn put_outcome(
     alloc: Global,
     lines: &mut Vec<u8>,
@@ -79,7 +79,7 @@ fn put_heard(alloc: Global, lines: &mut Vec<u8>, number: u32, pts: u32) -> Resul
     put_text(lines, line.as_str())
 }
 
-/// Puts the closing lines behind the others: the server's positions, and the client's box from `restart` to `at` with its events.
+/// Puts the closing lines after the others: the server's positions, and the client's box from `restart` to `at` with its events.
 pub fn put_closing(
     alloc: Global,
     lines: &mut Vec<u8>,
@@ -116,7 +116,7 @@ fn put_client(alloc: Global, lines: &mut Vec<u8>, restart: u32, at: u32) -> Resu
     put_text(lines, line.as_str())
 }
 
-// Puts the lines of the events that stand behind the number `restart`.
+// Puts the lines of the events that stand after the number `restart`.
 fn put_events(
     alloc: Global,
     lines: &mut Vec<u8>,
@@ -175,7 +175,7 @@ fn bytes_of(alloc: Global, ids: &[i32]) -> Result<Vec<u8>, Memory>
     Ok(bytes)
 }
 
-// Puts a text behind the lines.
+// Puts a text after the lines.
 fn put_text(lines: &mut Vec<u8>, text: &str) -> Result<(), Memory>
     ensures { OnOk result (lines.new.items ≡ lines.old.items ++ text.now) }
 {

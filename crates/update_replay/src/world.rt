@@ -38,7 +38,7 @@ impl From<AllocError> for StepFault {
     }
 }
 
-// A push that was sent. It ends by its event's count behind its start.
+// A push that was sent. It ends by its event's count after its start.
 #[derive(Drop)]
 struct Sent {
     start: u32,
@@ -67,7 +67,7 @@ impl Model for World {
     ghost invariant = { IsWhole };
 }
 
-// Puts a new message behind the box, knows its id, and sends its push. It answers where the push starts.
+// Puts a new message after the box, knows its id, and sends its push. It answers where the push starts.
 fn send(
     random_id: i64,
     body: Bytes,

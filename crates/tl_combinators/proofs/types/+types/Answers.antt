@@ -1,7 +1,7 @@
 use Rattle.std.proofs.Common.{List, refl, ap, ◌∙◌, rules, arith, ◌-◌, ◌++◌, [], ◌∷◌}
 use Rattle.tl_lexer.proofs.Steps.{then_ok, then_err, gives_ok, yes, no, as_err}
-use Rattle.tl_combinators.specs.Types.{in_parens, behind_percent, application, applied, bare, terms, one_listed, listed}
-use Rattle.tl_combinators.proofs.Levels.{core_as, behind_as, core_none, core_bare, core_application, not_true}
+use Rattle.tl_combinators.specs.Types.{in_parens, after_percent, application, applied, bare, terms, one_listed, listed}
+use Rattle.tl_combinators.proofs.Levels.{core_as, after_as, core_none, core_bare, core_application, not_true}
 use Rattle.tl_combinators.proofs.TreeViews.{view-Named, view-plain, view-Percent, views_push}
 use Rattle.tl_combinators.proofs.Arguments.{term_ok, term_err, listed_one, listed_more, listed_ok, listed_err}
 use Rattle.tl_lexer.proofs.Turns.{came_none, came_more, loop_ok, loop_err}
@@ -44,23 +44,23 @@ bare_at-returns-in_err-count-clause-read t c = as_err c.from_residual-in_err-cou
 
 pub bare_at-returns-in_err-tree-clause-read : goal.bare_at-returns-in_err-tree-clause-read
 unfolding bare in_parens
-bare_at-returns-in_err-tree-clause-read t c = as_err c.from_residual-in_err-tree.ensures.1 (then_ok _ c.in_ok-take_token.ensures.read (then_err {Y = TypeTree} {look = view} _ (then_ok _ c.in_ok-count.ensures.read (then_err _ (behind_as _ _ c.may_head.ensures c.in_err-tree.ensures.read)))))
+bare_at-returns-in_err-tree-clause-read t c = as_err c.from_residual-in_err-tree.ensures.1 (then_ok _ c.in_ok-take_token.ensures.read (then_err {Y = TypeTree} {look = view} _ (then_ok _ c.in_ok-count.ensures.read (then_err _ (after_as _ _ c.may_head.ensures c.in_err-tree.ensures.read)))))
 
 pub bare_at-returns-in_err-closes_at-clause-read : goal.bare_at-returns-in_err-closes_at-clause-read
 unfolding bare in_parens
-bare_at-returns-in_err-closes_at-clause-read t c = as_err c.from_residual-in_err-closes_at.ensures.1 (then_ok _ c.in_ok-take_token.ensures.read (then_err {Y = TypeTree} {look = view} _ (then_ok _ c.in_ok-count.ensures.read (then_ok _ (behind_as _ _ c.may_head.ensures c.in_ok-tree.ensures.read) (then_err _ c.in_err-closes_at.ensures.read)))))
+bare_at-returns-in_err-closes_at-clause-read t c = as_err c.from_residual-in_err-closes_at.ensures.1 (then_ok _ c.in_ok-take_token.ensures.read (then_err {Y = TypeTree} {look = view} _ (then_ok _ c.in_ok-count.ensures.read (then_ok _ (after_as _ _ c.may_head.ensures c.in_ok-tree.ensures.read) (then_err _ c.in_err-closes_at.ensures.read)))))
 
 pub bare_at-returns-clause-read : goal.bare_at-returns-clause-read
 unfolding bare in_parens
-bare_at-returns-clause-read t c = then_ok _ c.in_ok-take_token.ensures.read (then_ok {Y = TypeTree} {look = view} _ {y = c.in_ok-tree.tree} (then_ok _ c.in_ok-count.ensures.read (then_ok _ (behind_as _ _ c.may_head.ensures c.in_ok-tree.ensures.read) (then_ok _ c.in_ok-closes_at.ensures.read (gives_ok refl)))) (gives_ok (view-Percent c.in_ok-tree.tree _ (search rules))))
+bare_at-returns-clause-read t c = then_ok _ c.in_ok-take_token.ensures.read (then_ok {Y = TypeTree} {look = view} _ {y = c.in_ok-tree.tree} (then_ok _ c.in_ok-count.ensures.read (then_ok _ (after_as _ _ c.may_head.ensures c.in_ok-tree.ensures.read) (then_ok _ c.in_ok-closes_at.ensures.read (gives_ok refl)))) (gives_ok (view-Percent c.in_ok-tree.tree _ (search rules))))
 
-pub behind_percent_at-returns-then-begins-clause-read : goal.behind_percent_at-returns-then-begins-clause-read
-unfolding behind_percent
-behind_percent_at-returns-then-begins-clause-read t c = yes _ _ (c.begins.ensures.yes c.if-begins.true) c.core_at.ensures.read
+pub after_percent_at-returns-then-begins-clause-read : goal.after_percent_at-returns-then-begins-clause-read
+unfolding after_percent
+after_percent_at-returns-then-begins-clause-read t c = yes _ _ (c.begins.ensures.yes c.if-begins.true) c.core_at.ensures.read
 
-pub behind_percent_at-returns-clause-read : goal.behind_percent_at-returns-clause-read
-unfolding behind_percent
-behind_percent_at-returns-clause-read t c = no _ _ (c.begins.ensures.no c.if-begins.false) c.application_at.ensures.read
+pub after_percent_at-returns-clause-read : goal.after_percent_at-returns-clause-read
+unfolding after_percent
+after_percent_at-returns-clause-read t c = no _ _ (c.begins.ensures.no c.if-begins.false) c.application_at.ensures.read
 
 pub application_at-returns-in_err-name-clause-read : goal.application_at-returns-in_err-name-clause-read
 unfolding application

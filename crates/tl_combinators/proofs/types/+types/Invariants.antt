@@ -14,8 +14,8 @@ decreases-core_at l = 7 * l.levels
 abbrev pub decreases-bare_at : goal.decreases-bare_at
 decreases-bare_at l = 7 * l.levels + 6
 
-abbrev pub decreases-behind_percent_at : goal.decreases-behind_percent_at
-decreases-behind_percent_at l = 7 * l.levels + 5
+abbrev pub decreases-after_percent_at : goal.decreases-after_percent_at
+decreases-after_percent_at l = 7 * l.levels + 5
 
 abbrev pub decreases-application_at : goal.decreases-application_at
 decreases-application_at l = 7 * l.levels + 4

@@ -2,7 +2,7 @@ use Rattle.std.proofs.Common.{◌≡◌, ◌++◌, ℕ, List, append_assoc}
 use Rattle.std.proofs.lemmas.Result.{on_ok_weaker}
 use Rattle.update_replay.proofs.report.put_closing.Goals as goal
 
--- four texts, put one behind the other
+-- four texts, put one after the other
 four_put : (a b c d e s t u v : List ℕ) → b ≡ a ++ s → c ≡ b ++ t → d ≡ c ++ u → e ≡ d ++ v → e ≡ a ++ (s ++ t ++ u ++ v)
 four_put a b c d e s t u v p q r w = rw (w, r, q, p) (simp append_assoc)
 

@@ -1,7 +1,7 @@
 use Rattle.std.proofs.Common.{◌∙◌, ◌∷◌, [], ◌++◌, ap, sym, arith}
 use Rattle.std.proofs.lemmas.List.{append-nil}
 use Rattle.box_events.specs.Events.{EventView}
-use Rattle.box_events.proofs.Copying.{step_within, taken_more, ending_more, copies_front, copies_all}
+use Rattle.box_events.proofs.Copying.{step_within, taken_more, ending_more, copies_prefix, copies_all}
 use Rattle.box_events.proofs.event_box.EventBox.copy_run.Goals as goal
 
 pub loop-event-init : goal.loop-event-init
@@ -10,7 +10,7 @@ loop-event-init c = record { so_far = sym (append-nil c.args.copies.now.items); 
 pub returns-then-end-to : goal.returns-then-end-to
 returns-then-end-to c =
     let i = c.loop-event.invariant in
-    copies_front c.args.self.now c.args.at c.args.to c.loop-event.event-index c.loop-event.end c.in-Some.run'.now c.args.copies.now.items c.loop-event.copies.items c.in-Some.ensures i.so_far i.stop
+    copies_prefix c.args.self.now c.args.at c.args.to c.loop-event.event-index c.loop-event.end c.in-Some.run'.now c.args.copies.now.items c.loop-event.copies.items c.in-Some.ensures i.so_far i.stop
     (omega (arith, c.requires.order, c.if-end-to.true)) i.within
 
 pub overflow_add-end : goal.overflow_add-end

@@ -1,8 +1,8 @@
--- What stands behind a row that was read.
+-- What stands after a row that was read.
 use Rattle.std.proofs.Common.{ℕ, ◌<◌, ◌≤◌, List, [], ◌∷◌, length, sym, subst, inl, inr, arith}
 use Rattle.tl_lexer.specs.Rule.{Rule, gives, fails, here, one, chain, choice, loop, Turns}
 
--- R ts rest, wherever the rule reads a row at the front of ts and rest stands behind it
+-- R ts rest, wherever the rule reads a row at the start of ts, after which rest stands
 abbrev pub Leads : {T F A : Type 0} → (List T → List T → Type 0) → Rule T F A → Type 0
 Leads {T = T} {A = A} R r = (ts rest : List T) (x : A) → r.reads ts x rest → R ts rest
 
