@@ -42,11 +42,11 @@ def cycle(count):
 
 
 def between_cycles(count):
-    """A chain that one cycle leads to, and that leads to another; the cycles stand behind it."""
+    """A chain that one cycle leads to, and that leads to another; the cycles stand after it."""
     links = "".join(holds(number, number + 1) for number in range(count))
     back = "c%d x:c%d = C;\n" % (count, count)
-    front = "d x:d y:c0 = D;\n"
-    return links + back + front
+    first = "d x:d y:c0 = D;\n"
+    return links + back + first
 
 
 def empty(count):

@@ -32,7 +32,7 @@ def record_value(count):
 
 
 def wide(count):
-    """Records of 256 fields, a long behind an int."""
+    """Records of 256 fields, a long after an int."""
     fields = " ".join("n%03d:int t%03d:long" % (place, place) for place in range(128))
     text = "".join("w%d#%08x %s = W;\n" % (number, number + 1, fields) for number in range(count))
     return text, "W"

@@ -6,7 +6,6 @@ Each input is about as long as inputs of its kind may be. A run has to end with 
 import os
 import subprocess
 import tempfile
-import time
 
 import runs
 
@@ -65,10 +64,10 @@ def jsons():
 
 
 def timed(words, status, name):
-    """The time of a run, and its line on Errors."""
-    begin = time.perf_counter()
+    """The processor time of a run, and its line on Errors."""
+    begin = runs.spent()
     run = subprocess.run(words, stdin=subprocess.DEVNULL, stdout=subprocess.DEVNULL, stderr=subprocess.PIPE, check=False, timeout=600)
-    took = time.perf_counter() - begin
+    took = runs.spent() - begin
     line = run.stderr.decode(errors="replace").strip()
     if run.returncode != status:
         raise SystemExit(f"{name}: status {run.returncode}, {line[:200]}")

@@ -1,7 +1,7 @@
 #!/usr/bin/env python3
 """Times tlbox beside other tools of Debian where they do the same job, and prints one table of ratios.
 
-`check` of 1,500 and 15,000 declarations beside `tl-parser -e`, which reads the same text behind lines of built-in types in its own form;
+`check` of 1,500 and 15,000 declarations beside `tl-parser -e`, which reads the same text after lines of built-in types in its own form;
 `decode` of records beside `protoc --decode`; `encode` of records beside `flatc -b`, `protoc --encode`, and `jq -c .`, which reads the same
 JSON and prints it; then one record alone, which is mostly the start of the program. A tool that isn't installed has no row.
 """

@@ -1,11 +1,11 @@
 """Runs of the program, for the scripts beside this one."""
 import os
 import re
+import resource
 import shutil
 import subprocess
 import sys
 import tempfile
-import time
 
 RUNS = 3
 
@@ -32,19 +32,25 @@ def run_once(words, out, status=0, input_path=None):
         sys.exit("%s ended with status %d" % (" ".join(words), run.returncode))
 
 
+def spent():
+    """The processor time of all runs so far, in seconds: their own and the system's for them."""
+    used = resource.getrusage(resource.RUSAGE_CHILDREN)
+    return used.ru_utime + used.ru_stime
+
+
 def least_time(words, answer, status=0, input_path=None):
-    """The least time of some runs in seconds. They write to a file, and have to end with this status."""
+    """The least processor time of some runs in seconds. They write to a file, and have to end with this status."""
     times = []
     for _ in range(RUNS):
         with open(answer, "wb") as file:
-            begin = time.perf_counter()
+            begin = spent()
             run_once(words, file, status, input_path)
-            times.append(time.perf_counter() - begin)
+            times.append(spent() - begin)
     return min(times)
 
 
 def told(words, report, pattern, input_path):
-    """The number that a report has behind a pattern, after one run that writes it."""
+    """The number that a report has after a pattern, after one run that writes it."""
     with open(os.devnull, "wb") as nowhere:
         run_once(words, nowhere, 0, input_path)
     with open(report, encoding="utf-8", errors="replace") as file:
