@@ -7,3 +7,4 @@ pub mod Appending
 pub mod Asking
 pub mod SettingLists
 pub mod inner
+pub mod Laws

@@ -3,6 +3,7 @@ ghost use Rattle.std.specs.Prelude.{◌≡◌, ◌+◌, ◌≤◌, ◌++◌, ℕ
 ghost use Rattle.box_events.specs.Events.{EventView};
 ghost use Rattle.box_events.specs.Boxes.{ending, IsBoundary, Between, AreCounted};
 ghost use Rattle.box_events.specs.BoxViews.{BoxView, end_of, IsBoundaryOf, BetweenOf, KeepsLast};
+ghost use Rattle.box_events.specs.Laws.{StretchesStay, KeptStretchesStay};
 
 /// What lies between two numbers of a box.
 pub fn stretches_of_boxes()
@@ -18,11 +19,11 @@ pub fn stretches_of_boxes()
 
 /// What lies between two numbers of a box that may have dropped its first events.
 pub fn stretches_of_kept_boxes()
-    ensures grows { (old new : BoxView) (more : List EventView) (p q : ℕ) (xs : List EventView) → new.first ≡ old.first → new.events ≡ old.events ++ more → BetweenOf old p q xs → BetweenOf new p q xs }
+    ensures grows { StretchesStay }
     ensures cut { (old new : BoxView) (n p q : ℕ) (xs : List EventView) → AreCounted old.events → KeepsLast old new n → new.first ≤ p → BetweenOf old p q xs → BetweenOf new p q xs }
     ensures was { (old new : BoxView) (n p q : ℕ) (xs : List EventView) → KeepsLast old new n → BetweenOf new p q xs → BetweenOf old p q xs }
     ensures whole { (gone : List EventView) (b : BoxView) (p q : ℕ) (xs : List EventView) → b.first ≡ ending gone → BetweenOf b p q xs → Between (gone ++ b.events) p q xs }
-    ensures kept { (gone : List EventView) (b : BoxView) (p q : ℕ) (xs : List EventView) → AreCounted (gone ++ b.events) → b.first ≡ ending gone → b.first ≤ p → Between (gone ++ b.events) p q xs → BetweenOf b p q xs }
+    ensures kept { KeptStretchesStay }
     ensures joins { (b : BoxView) (p q r : ℕ) (xs ys : List EventView) → AreCounted b.events → BetweenOf b p q xs → BetweenOf b q r ys → BetweenOf b p r (xs ++ ys) }
     ensures starts { (b : BoxView) (p q : ℕ) (xs : List EventView) → BetweenOf b p q xs → IsBoundaryOf b p }
     ensures stops { (b : BoxView) (p q : ℕ) (xs : List EventView) → BetweenOf b p q xs → IsBoundaryOf b q }

@@ -9,3 +9,4 @@ pub mod Answers
 pub mod Sound
 pub mod Growing
 pub mod inner
+pub mod Laws

@@ -1,21 +1,20 @@
 //! Laws of servers, carried by functions that do nothing.
-ghost use Rattle.std.specs.Prelude.{◌≡◌, ◌<◌, ◌≤◌, ◌+◌, ◌-◌, ◌^◌, ℤ, ℕ, List, ◌∷◌, ◌++◌, length, map, Some, true};
+ghost use Rattle.std.specs.Prelude.{◌≡◌, ◌<◌, ◌≤◌, ◌+◌, ◌^◌, ℤ, ℕ, List, ◌∷◌, ◌++◌, length, Some, true};
 ghost use Rattle.box_events.specs.declared.limits.TheConstants.{RUN_BYTES};
 ghost use Rattle.box_events.specs.declared.requests.Post.{Post};
-ghost use Rattle.box_events.specs.declared.settings.Setting.{Setting};
-ghost use Rattle.box_events.specs.declared.updates.Update.{Update};
 ghost use Rattle.box_events.specs.Boxes.{ending, Between, AreCounted};
 ghost use Rattle.box_events.specs.Events.{EventView};
 ghost use Rattle.box_events.specs.SettingLists.{Dated, IsOverlay};
 ghost use Rattle.box_server.specs.Answers.{is_whole};
-ghost use Rattle.box_server.specs.Entries.{Entry, bytes_of, entries_of};
-ghost use Rattle.box_server.specs.Growing.{IsWhole, HasMore, GrowsTo, channel_events, AllLie, pushed_settings};
+ghost use Rattle.box_server.specs.Entries.{Entry, bytes_of};
+ghost use Rattle.box_server.specs.Growing.{IsWhole, HasMore, GrowsTo, pushed_settings};
 ghost use Rattle.box_server.specs.LastEntries.{changed_since};
-ghost use Rattle.box_server.specs.Posting.{posted, updates_of, settings_of, first_number, last_number};
+ghost use Rattle.box_server.specs.Posting.{updates_of, settings_of};
 ghost use Rattle.box_server.specs.Receiving.{after_post};
 ghost use Rattle.box_server.specs.Runs.{events_after, run_of};
-ghost use Rattle.box_server.specs.Servers.{ChannelBox, ServerState, channel_in, dated_at, new_server};
+ghost use Rattle.box_server.specs.Servers.{ChannelBox, ServerState, dated_at, new_server};
 ghost use Rattle.box_server.specs.Sound.{IsSound};
+ghost use Rattle.box_server.specs.Laws.{ChannelsGetTheirEvents, UpdatesLieInBoxes, SettingsAreDated, SettingsAreNumbered, UpdatesStayInBoxes, ChannelRunsLie};
 
 /// Each box of a server only has more events after it, a channel's as a whole; its settings only get more that aren't dated before it, and its date never falls.
 pub fn servers_only_grow()
@@ -23,17 +22,17 @@ pub fn servers_only_grow()
     ensures joins { (s t u : ServerState) → GrowsTo s t → GrowsTo t u → GrowsTo s u }
     ensures post { (s : ServerState) (random_id : ℤ) (posts : List Post) → GrowsTo s (after_post s random_id posts) }
     ensures date { (s : ServerState) (date : ℕ) → GrowsTo s (dated_at s date) }
-    ensures channel { (s : ServerState) (random_id : ℤ) (posts : List Post) (id : ℤ) → HasMore (channel_in s.channels id) (channel_in (posted s random_id posts).channels id) (channel_events id (entries_of posts)) }
+    ensures channel { ChannelsGetTheirEvents }
     ensures whole { (whole more : List EventView) (old new : ChannelBox) → IsWhole whole old → HasMore old new more → IsWhole (whole ++ more) new }
 {}
 
 /// Each update of a push lies at its place in the box after the post, a channel's in its whole box, and stays there as the server grows. The settings of a push are the last of the server's, dated as it is.
 pub fn pushes_lie_in_boxes()
-    ensures updates { (s : ServerState) (random_id : ℤ) (posts : List Post) (whole : ℤ → List EventView) → ((id : ℤ) → IsWhole (whole id) (channel_in s.channels id)) → AllLie (posted s random_id posts) (λ id. whole id ++ channel_events id (entries_of posts)) (updates_of s (entries_of posts)) }
-    ensures settings { (s : ServerState) (random_id : ℤ) (posts : List Post) → (posted s random_id posts).settings ≡ s.settings ++ map (λ x. record { setting = x; date = s.date }) (settings_of (entries_of posts)) }
+    ensures updates { UpdatesLieInBoxes }
+    ensures settings { SettingsAreDated }
     ensures pushed { (s : ServerState) (xs : List Entry) → pushed_settings (updates_of s xs) ≡ settings_of xs }
-    ensures numbers { (s : ServerState) (random_id : ℤ) (posts : List Post) (x : Setting) (xs : List Setting) → settings_of (entries_of posts) ≡ x ∷ xs → (first_number (length s.settings) (settings_of (entries_of posts)) ≡ length s.settings + 1) × (last_number (length s.settings) (settings_of (entries_of posts)) ≡ length (posted s random_id posts).settings) }
-    ensures grows { (s t : ServerState) (whole later : ℤ → List EventView) (us : List Update) → (more : List EventView) × (t.common ≡ s.common ++ more) → (more : List EventView) × (t.secret ≡ s.secret ++ more) → ((id : ℤ) → (more : List EventView) × (later id ≡ whole id ++ more)) → AllLie s whole us → AllLie t later us }
+    ensures numbers { SettingsAreNumbered }
+    ensures grows { UpdatesStayInBoxes }
 {}
 
 /// What a difference carries of a box lies where it says, and reaches the end where it says that it is all; it has the first event where that
@@ -41,7 +40,7 @@ pub fn pushes_lie_in_boxes()
 pub fn differences_lie_in_boxes()
     ensures run { (box : List EventView) (p : ℕ) (es : List EventView) → events_after box p ≡ Some es → Between box p (p + ending (run_of es)) (run_of es) }
     ensures rest { (box : List EventView) (p : ℕ) (es : List EventView) → events_after box p ≡ Some es → Between box p (ending box) es }
-    ensures channel { (whole : List EventView) (c : ChannelBox) (p : ℕ) (es : List EventView) → IsWhole whole c → c.first ≤ p → events_after c.events (p - c.first) ≡ Some es → Between whole p (p + ending (run_of es)) (run_of es) }
+    ensures channel { ChannelRunsLie }
     ensures whole { (es : List EventView) → AreCounted es → is_whole es ≡ true → run_of es ≡ es }
     ensures first { (e : EventView) (es : List EventView) → bytes_of e ≤ RUN_BYTES → (more : List EventView) × (run_of (e ∷ es) ≡ e ∷ more) }
     ensures settings { (L : List Dated) (date : ℕ) → IsOverlay L (length L) date (changed_since L date) }

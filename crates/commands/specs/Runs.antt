@@ -1,6 +1,8 @@
 -- How a run ends. This project's own.
 use Rattle.std.specs.Prelude.{◌≡◌, ℕ, List, ◌++◌, ◌⊎◌, length}
-use Rattle.tl_base.specs.Outside.{View, HasRoom}
+use Rattle.tl_base.specs.Outside.{View, HasRoom, HostState}
+use Rattle.tl_base.specs.Calls.{Told}
+use Rattle.tl_base.specs.Causes.{Rose}
 use Rattle.tl_base.specs.declared.host.Out.TheVariants.{Output}
 use Rattle.command_base.specs.declared.status.Status.{Status}
 use Rattle.command_base.specs.declared.status.Status.TheVariants.{ReadFault, WriteFault, Memory}
@@ -25,6 +27,10 @@ pub data Ends (words : List (List ℕ)) (read_rose write_rose : Type 0) (status 
   read_failed : read_rose → status ≡ ReadFault → w.written.output ≡ v.written.output → Tells write_rose read_fault_line v w → Ends words read_rose write_rose status v w
   write_failed : write_rose → status ≡ WriteFault → WritesPrefix words v w → Tells write_rose write_fault_line v w → Ends words read_rose write_rose status v w
   out_of_memory : status ≡ Memory → WritesNoneOrPrefix words v w → Tells write_rose memory_line v w → Ends words read_rose write_rose status v w
+
+-- the same over a host that tells its files, before and after
+abbrev pub EndsOver : List (List ℕ) → HostState → HostState → Status → Type 0
+EndsOver words old new status = Told old.view new.view (Ends words (Rose old.counts.reads new.counts.reads) (Rose old.counts.writes new.counts.writes) status)
 
 -- Where the words ask for nothing, all is as before but what is left of Schema and Input and what was written to Output and Errors. Where they ask
 -- for a request, what its job keeps is kept.

@@ -5,7 +5,7 @@ ghost use Rattle.tl_base.specs.Causes.{Rose};
 ghost use Rattle.command_base.specs.Jobs.{Works};
 ghost use Rattle.command_base.specs.Sound.{Fits, MeetsBothFaults};
 ghost use Rattle.commands.specs.Requests.{job_of, request_text};
-ghost use Rattle.commands.specs.Runs.{AnswerFits, Ends, Keeps};
+ghost use Rattle.commands.specs.Runs.{AnswerFits, EndsOver, Keeps};
 
 use crate::request::{Request, request_of};
 use codec_commands::{check_schema, decode_input, encode_input};
@@ -21,7 +21,7 @@ const USAGE: &[u8] =
 /// Runs the program over an outside: the words without the program's name, and the status that it ends with.
 pub fn run<H: Host>(alloc: Global, words: &[String], host: &mut H) -> Status
     // Status, Output, Errors and what is left are those of the answer; or the status is a fault's whose count rose, or memory's.
-    ensures ends { Told (H.state host.old).view (H.state host.new).view (Ends (map string_bytes words.now) (Rose (H.state host.old).counts.reads (H.state host.new).counts.reads) (Rose (H.state host.old).counts.writes (H.state host.new).counts.writes) result) }
+    ensures ends { EndsOver (map string_bytes words.now) (H.state host.old) (H.state host.new) result }
     // What the request's job keeps is kept: files, State, links, addresses and moments. So is the links' count of faults.
     ensures kept { Told (H.state host.old).view (H.state host.new).view (Keeps (map string_bytes words.now)) }
     ensures links { (H.state host.new).counts.links ≡ (H.state host.old).counts.links }

@@ -5,3 +5,4 @@ pub mod Views
 pub mod Outcomes
 pub mod Fitting
 pub mod Takings
+pub mod Laws

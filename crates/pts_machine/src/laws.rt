@@ -1,5 +1,5 @@
 //! Laws of lanes, and of lanes and boxes.
-ghost use Rattle.std.specs.Prelude.{◌≡◌, ◌<◌, ◌≤◌, ◌+◌, ◌∷◌, ◌++◌, ℕ, Bool, List, [], false};
+ghost use Rattle.std.specs.Prelude.{◌≡◌, ◌<◌, ◌≤◌, ◌+◌, ◌++◌, ℕ, Bool, List, false};
 ghost use Rattle.std.specs.List.{sum_by};
 ghost use Rattle.box_events.specs.Events.{EventView, count_of};
 ghost use Rattle.box_events.specs.Boxes.{ending, Between, IsBoundary, AreCounted};
@@ -9,6 +9,7 @@ ghost use Rattle.pts_machine.specs.States.{LaneState, IsSound, StartAfter, is_li
 ghost use Rattle.pts_machine.specs.Chains.{EndsAfter};
 ghost use Rattle.pts_machine.specs.Steps.{hear, Hears, extend, restart_at, forget, asked, loaded, new_lane};
 ghost use Rattle.pts_machine.specs.Fitting.{Fits};
+ghost use Rattle.pts_machine.specs.Laws.{StaysSound, FitsAsItHears, FitsAsItExtends, ReachesTheEnd};
 
 /// What is said of a step by cases on its answer is the step, and each step is said so.
 pub fn hearing_is_told<E>()
@@ -32,7 +33,7 @@ pub fn lanes_move_on<E>()
 pub fn lanes_stay_sound<E>()
     ensures new { (count : E → ℕ) → IsSound count new_lane }
     ensures load { (count : E → ℕ) (p : ℕ) (events : List E) → p + sum_by count events ≤ 1000000 → IsSound count (loaded count p events) }
-    ensures hear { (count : E → ℕ) (t : LaneState E) (start end : ℕ) (item : E) → IsSound count t → start < end → end ≡ start + count item → end ≤ 1000000 → IsSound count (hear t start end item).state }
+    ensures hear { StaysSound E }
     ensures ask { (count : E → ℕ) (t : LaneState E) (number : ℕ) → IsSound count t → IsSound count (asked t number) }
     ensures extend { (count : E → ℕ) (t : LaneState E) (events : List E) (last : Bool) → IsSound count t → t.at + sum_by count events ≤ 1000000 → IsSound count (extend count t events last) }
     ensures restart { (count : E → ℕ) (t : LaneState E) (p : ℕ) → IsSound count t → p ≤ 1000000 → IsSound count (restart_at count t p) }
@@ -43,9 +44,9 @@ pub fn lanes_stay_sound<E>()
 /// A lane holds what lies in its box.
 pub fn lanes_fit_boxes()
     ensures new { (box : List EventView) → Fits box new_lane }
-    ensures hear { (box : List EventView) (t : LaneState EventView) (start end : ℕ) (event : EventView) → AreCounted box → Fits box t → Between box start end (event ∷ []) → Fits box (hear t start end event).state }
+    ensures hear { FitsAsItHears }
     ensures ask { (box : List EventView) (t : LaneState EventView) (number : ℕ) → Fits box t → Fits box (asked t number) }
-    ensures extend { (box : List EventView) (t : LaneState EventView) (to : ℕ) (events : List EventView) (last : Bool) → AreCounted box → Fits box t → Between box t.at to events → Fits box (extend count_of t events last) }
+    ensures extend { FitsAsItExtends }
     ensures restart { (box : List EventView) (t : LaneState EventView) (p : ℕ) → AreCounted box → Fits box t → IsBoundary box p → Fits box (restart_at count_of t p) }
     ensures forget { (box : List EventView) (t : LaneState EventView) → Fits box t → Fits box (forget t) }
     ensures load { (box : List EventView) (p to : ℕ) (events : List EventView) → Between box p to events → Fits box (loaded count_of p events) }
@@ -56,6 +57,6 @@ pub fn lanes_fit_boxes()
 pub fn lanes_lie_within_boxes()
     ensures inside { (box : List EventView) (t : LaneState EventView) → Fits box t → t.at ≤ ending box }
     ensures after { (box : List EventView) (t : LaneState EventView) → AreCounted box → Fits box t → EndsAfter t.held }
-    ensures reaches { (box : List EventView) (t : LaneState EventView) (to : ℕ) (events : List EventView) (last : Bool) → AreCounted box → Fits box t → Between box t.at to events → to ≤ (extend count_of t events last).at }
+    ensures reaches { ReachesTheEnd }
     ensures sound { (box : List EventView) (t : LaneState EventView) → AreCounted box → ending box ≤ 1000000 → Fits box t → (t.mode ≡ Live → StartAfter t.at t.held) → IsSound count_of t }
 {}

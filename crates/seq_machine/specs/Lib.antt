@@ -9,3 +9,4 @@ pub mod Views
 pub mod Latest
 pub mod Agreeing
 pub mod Stores
+pub mod Laws

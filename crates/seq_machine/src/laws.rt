@@ -9,6 +9,7 @@ ghost use Rattle.seq_machine.specs.Packs.{Pack, size};
 ghost use Rattle.seq_machine.specs.States.{SettingsState, IsSoundState, new_settings, hear_pack, overlaid, asked, asks_again, forgotten, loaded};
 ghost use Rattle.seq_machine.specs.Latest.{latest, IsStretch, AreStretches, IsSince, IsLatestState};
 ghost use Rattle.seq_machine.specs.Agreeing.{LieWithin, SettingsAgree};
+ghost use Rattle.seq_machine.specs.Laws.{OverlayStaysLatest, PackStaysSince, OverlayStaysSince, IsAppendedStretch, PackStaysAgreed, OverlayStaysAgreed};
 
 /// The latest settings of a list are one table, and settings stay the latest as they hear packs and as the list grows.
 pub fn settings_stay_latest()
@@ -16,7 +17,7 @@ pub fn settings_stay_latest()
     ensures one { (L : List Dated) (s : ℕ) (table : Values) → IsLatest L s table → table ≡ latest L s }
     ensures new { (L : List Dated) → IsLatestState L new_settings }
     ensures hear { (L : List Dated) (b : SettingsState) (start end : ℕ) (pack : Pack) → IsLatestState L b → IsStretch L start end pack → IsLatestState L (hear_pack b start end pack).state }
-    ensures overlay { (L : List Dated) (b : SettingsState) (settings : List Setting) (seq date : ℕ) → b.at ≤ seq → IsLatestState L b → IsSince L b → IsOverlay L seq b.date settings → IsLatestState L (overlaid b settings seq date) }
+    ensures overlay { OverlayStaysLatest }
     ensures grows { (L more : List Dated) (b : SettingsState) → IsSoundState b → b.at ≤ length L → IsLatestState L b → IsLatestState (L ++ more) b }
 {}
 
@@ -24,8 +25,8 @@ pub fn settings_stay_latest()
 /// that, each overlay does whose date is not past that of a setting past its seq, and so does a list that grows.
 pub fn settings_stay_since()
     ensures within { (L : List Dated) (b : SettingsState) → IsSoundState b → AreStretches L b.held → LieWithin L b.held }
-    ensures hear { (L : List Dated) (b : SettingsState) (start end : ℕ) (pack : Pack) → NeverFallFrom b.at L → AreStretches L b.held → LieWithin L b.held → start < end → end ≤ length L → IsStretch L start end pack → IsSince L b → IsSince L (hear_pack b start end pack).state }
-    ensures overlay { (L : List Dated) (b : SettingsState) (settings : List Setting) (seq date : ℕ) → NeverFallFrom seq L → AreStretches L b.held → LieWithin L b.held → AreSince L seq date → IsSince L (overlaid b settings seq date) }
+    ensures hear { PackStaysSince }
+    ensures overlay { OverlayStaysSince }
     ensures grows { (L more : List Dated) (b : SettingsState) → All (λ e. b.date ≤ e.date) more → IsSince L b → IsSince (L ++ more) b }
 {}
 
@@ -35,7 +36,7 @@ pub fn lists_of_settings_grow()
     ensures stretch { (L more : List Dated) (start end : ℕ) (pack : Pack) → end ≤ length L → IsStretch L start end pack → IsStretch (L ++ more) start end pack }
     ensures overlay { (L more : List Dated) (seq date : ℕ) (settings : List Setting) → seq ≤ length L → IsOverlay L seq date settings → IsOverlay (L ++ more) seq date settings }
     ensures since { (L more : List Dated) (seq date : ℕ) → AreSince L seq date → All (λ e. date ≤ e.date) more → AreSince (L ++ more) seq date }
-    ensures appended { (L more : List Dated) (pack : Pack) → pack.settings ≡ each (λ e. e.setting) more → All (λ e. e.date ≡ pack.date) more → IsStretch (L ++ more) (length L) (length L + length more) pack }
+    ensures appended { IsAppendedStretch }
     ensures rises { (L : List Dated) (e : Dated) (seq : ℕ) → NeverFallFrom seq L → All (λ x. x.date ≤ e.date) L → NeverFallFrom seq (L ++ e ∷ []) }
 {}
 
@@ -43,10 +44,10 @@ pub fn lists_of_settings_grow()
 pub fn settings_agree()
     ensures new { (L : List Dated) (now : ℕ) → SettingsAgree L now new_settings }
     ensures load { (L : List Dated) (now seq date : ℕ) (table : Values) → IsLatest L seq table → seq ≤ length L → AreSince L seq date → date ≤ now → SettingsAgree L now (loaded seq date table) }
-    ensures hear { (L : List Dated) (now : ℕ) (b : SettingsState) (start end : ℕ) (pack : Pack) → NeverFallFrom b.at L → All (λ e. e.date ≤ now) L → SettingsAgree L now b → start < end → end ≤ length L → IsStretch L start end pack → SettingsAgree L now (hear_pack b start end pack).state }
+    ensures hear { PackStaysAgreed }
     ensures ask { (L : List Dated) (now : ℕ) (b : SettingsState) (number : ℕ) → SettingsAgree L now b → SettingsAgree L now (asked b number) }
     ensures again { (L : List Dated) (now : ℕ) (b : SettingsState) → SettingsAgree L now b → SettingsAgree L now (asks_again b) }
-    ensures overlay { (L : List Dated) (now : ℕ) (b : SettingsState) (settings : List Setting) (seq date : ℕ) → NeverFallFrom seq L → All (λ e. e.date ≤ now) L → SettingsAgree L now b → b.at ≤ seq → seq ≤ length L → AreSince L seq date → date ≤ now → IsOverlay L seq b.date settings → SettingsAgree L now (overlaid b settings seq date) }
+    ensures overlay { OverlayStaysAgreed }
     ensures forget { (L : List Dated) (now : ℕ) (b : SettingsState) → SettingsAgree L now b → SettingsAgree L now (forgotten b) }
     ensures grows { (L more : List Dated) (now later : ℕ) (b : SettingsState) → All (λ e. b.date ≤ e.date) more → now ≤ later → SettingsAgree L now b → SettingsAgree (L ++ more) later b }
 {}

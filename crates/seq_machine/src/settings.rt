@@ -8,6 +8,7 @@ ghost use Rattle.seq_machine.specs.Packs.{pack_of};
 ghost use Rattle.seq_machine.specs.States.{IsSoundState, IsBounded, new_settings, hear_pack, overlaid, asked, asks_again, forgotten, loaded};
 ghost use Rattle.box_events.specs.SettingLists.{Dated, AreSince, IsOverlay, NeverFallFrom};
 ghost use Rattle.seq_machine.specs.Latest.{IsLatestState, IsStretch, IsSince};
+ghost use Rattle.seq_machine.specs.Laws.{StaysSince};
 
 use crate::chains::settle;
 use crate::held_pack::HeldPack;
@@ -97,7 +98,7 @@ impl Settings {
         ensures step { hear_pack self.old.state (seq_start - 1) seq (pack_of date pack.items) ≡ record { state = self.new.state; seen = result } }
         ensures spare { self.old.spare ≤ self.new.spare + vec_len pack }
         ensures latest { (L : List Dated) → IsLatestState L self.old.state → IsStretch L (seq_start - 1) seq (pack_of date pack.items) → IsLatestState L self.new.state }
-        ensures since { (L : List Dated) → NeverFallFrom self.old.state.at L → IsLatestState L self.old.state → IsStretch L (seq_start - 1) seq (pack_of date pack.items) → IsSince L self.old.state → IsSince L self.new.state }
+        ensures since { StaysSince self.old.state self.new.state (seq_start - 1) seq (pack_of date pack.items) }
     {
         let start = seq_start - 1;
         if start < self.at {
