@@ -12,6 +12,7 @@ pub mod PlanTypes
 pub mod FrameLists
 pub mod Opened
 pub mod PartSteps
+pub mod InPlace
 pub mod ItemSteps
 pub mod Searches
 pub mod Onward

@@ -5,8 +5,6 @@ use Rattle.std.proofs.lemmas.List.{length-append}
 use Rattle.tl_base.specs.Contents.{AreBytes}
 use Rattle.tl_schema.specs.Types.{Shape}
 use Rattle.tl_schema.specs.Types as type
-use Rattle.tl_schema.specs.Schemas.{Declared}
-use Rattle.tl_schema.specs.CheckedPrograms.{IsSchema}
 use Rattle.tl_plan.specs.Plans.{InstanceView, IsPlan, PlanView}
 use Rattle.tl_plan.specs.PlanLaws.{IsInstance}
 use Rattle.tl_types.specs.Offsets.{moved}
@@ -29,12 +27,13 @@ use Rattle.tl_decode.specs.declared.stack.Item.{Item}
 use Rattle.tl_decode.specs.declared.stack.Next.TheVariants as next
 use Rattle.tl_decode.specs.declared.stack.Found.{Found}
 use Rattle.tl_decode.specs.declared.stack.Found.TheVariants as found
-use Rattle.tl_decode.specs.Endings.{GivesNone, GivesSome, RefusesFirst, TakesFour}
+use Rattle.tl_decode.specs.Endings.{GivesFewOrNone, GivesNone, GivesSome, RefusesFirst, TakesFour}
 use Rattle.tl_decode.specs.inner.Steps.{OrEnds, ReadsAs}
 use Rattle.tl_decode.specs.inner.Frames.{FrameView, views, type_in, resume, resumes, item_at, item_view, found_at, goes_after, next_at, IsInPlan, RefusesAt, SettlesAt}
 use Rattle.tl_decode.proofs.FrameLists.{resume_err}
 use Rattle.tl_decode.proofs.Onward.{item_fails, item_then}
-use Rattle.tl_decode.proofs.Outcomes.{fails, gives_root, gives_root_fault, never_err, reads, root_read}
+use Rattle.tl_decode.proofs.Outcomes.{fails, gives_root, gives_root_fault, never_err, root_read}
+use Rattle.tl_decode.proofs.SizesGiven.{gives_few}
 use Rattle.tl_decode.proofs.PlanTypes.{type_there}
 
 -- a reading is the same as another
@@ -194,3 +193,10 @@ module _ (p : PlanView) (good : IsPlan p) (j : ℕ) where
   says_refused (Some bytes) b m q (Err (fault.Refused place cause)) lt h = λ some. gives_root_fault p good j MAX_LEVELS (Some bytes) b m q (Err (fault.Refused place cause)) lt h.1
   says_refused (Some bytes) b m q (Err fault.ReadFault) lt h = λ some T is offset cause s. tt
   says_refused (Some bytes) b m q (Err fault.Memory) lt h = λ some T is offset cause s. tt
+
+  pub says_few : (a b : Option (List ℕ)) (m q : ℕ) (r : Result (Option Value) DecodeFault) → m < 2 ^ 64 → IfSome a AreBytes → OrEnds view a b m q r (value_at p.schema.decls MAX_LEVELS (type_in p j))
+      → IfSome a (λ bytes. (T : Shape) → IsInstance p j T → GivesFewOrNone p.schema T bytes b r)
+  says_few None b m q r lt are h = tt
+  says_few (Some bytes) b m q (Ok None) lt are h = λ T is. tt
+  says_few (Some bytes) b m q (Ok (Some v)) lt are h = gives_few p good j (Some bytes) b m q (Ok v) lt are h.1
+  says_few (Some bytes) b m q (Err e) lt are h = λ T is. tt

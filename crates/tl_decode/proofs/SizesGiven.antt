@@ -1,8 +1,8 @@
 -- What a decoder gives has few nodes.
-use Rattle.std.proofs.Common.{◌≡◌, ℕ, ◌+◌, ◌*◌, ◌/◌, ◌^◌, ◌<◌, ◌≤◌, List, [], ◌++◌, length, Option, Some, None, Result, Ok, Err, refl, ap, sym, ◌∙◌, subst, arith, inl, inr, append-nil}
+use Rattle.std.proofs.Common.{◌≡◌, ℕ, ◌+◌, ◌*◌, ◌/◌, ◌^◌, ◌<◌, ◌≤◌, List, [], ◌++◌, length, Option, Some, None, Result, Ok, Err, refl, ap, sym, ◌∙◌, subst, arith, inl, inr}
 use Rattle.std.specs.Prelude.{IfSome}
 use Rattle.std.proofs.Math.Nat.{mul-le-mul_left}
-use Rattle.std.proofs.lemmas.List.{append_cancel_right, length-append}
+use Rattle.std.proofs.lemmas.List.{length-append}
 use Rattle.tl_base.specs.Contents.{AreBytes}
 use Rattle.tl_schema.specs.Types.{Shape}
 use Rattle.tl_schema.specs.Types as type
@@ -14,7 +14,7 @@ use Rattle.tl_plan.specs.PlanLaws.{IsInstance}
 use Rattle.tl_types.specs.Values.{ValueView}
 use Rattle.tl_types.specs.Values as value
 use Rattle.tl_types.specs.Seen.{view}
-use Rattle.tl_types.specs.inner.Reading.{Spot, spot, Read, plain_at, value_at}
+use Rattle.tl_types.specs.inner.Reading.{Spot, spot, plain_at, value_at}
 use Rattle.tl_types.specs.declared.value.Value.{Value}
 use Rattle.tl_types.specs.declared.value.TheConstants.{MAX_LEVELS}
 use Rattle.tl_types.proofs.Exactly.{exactly_one}
@@ -24,7 +24,7 @@ use Rattle.tl_decode.specs.declared.stack.Found.{Found}
 use Rattle.tl_decode.specs.declared.stack.Found.TheVariants as found
 use Rattle.tl_decode.specs.Decoders.{DecoderView, HasFound, HasStopped, HasTaken, HasValue}
 use Rattle.tl_decode.specs.Decoding.{GivesFew}
-use Rattle.tl_decode.specs.Sizes.{AllowsBound, HasFewNodes, nodes}
+use Rattle.tl_decode.specs.Sizes.{HasFewNodes}
 use Rattle.tl_decode.specs.inner.Steps.{ReadsAs}
 use Rattle.tl_decode.specs.inner.Frames.{type_in}
 use Rattle.tl_decode.proofs.FedBytes.{done_at}

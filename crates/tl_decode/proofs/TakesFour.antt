@@ -1,10 +1,9 @@
 -- Which types take four bytes at least.
-use Rattle.std.proofs.Common.{◌≡◌, ◌⊎◌, inl, inr, ℕ, ◌+◌, ◌/◌, ◌≤◌, List, [], ◌++◌, length, replicate, Bool, true, false, refl, ap, sym, ◌∙◌, subst, arith}
+use Rattle.std.proofs.Common.{◌≡◌, ℕ, ◌+◌, ◌≤◌, List, [], ◌++◌, length, replicate, Bool, true, false, refl, ap, sym, subst, arith}
 use Rattle.std.specs.Prelude.{nat_le, if◌then◌else◌, ◌∷◌}
 use Rattle.std.proofs.lemmas.List.{length-append, length-replicate}
 use Rattle.tl_base.specs.Numbers.{word}
 use Rattle.tl_schema.specs.Types.{Shape, Shapes}
-use Rattle.tl_schema.specs.Types as type
 use Rattle.tl_schema.specs.Schemas.{Declaration, Declared}
 use Rattle.tl_types.specs.Values.{ValueView, ValueViews, count}
 use Rattle.tl_types.specs.Values as view

@@ -9,7 +9,7 @@ use Rattle.tl_types.specs.declared.value.Value.{Value}
 use Rattle.tl_types.specs.declared.cause.Cause.{Cause}
 use Rattle.tl_decode.specs.declared.fault.DecodeFault.{DecodeFault}
 use Rattle.tl_decode.specs.declared.fault.DecodeFault.TheVariants.{Refused, ReadFault, Memory}
-use Rattle.tl_decode.specs.Decoding.{GivesFault, GivesValue}
+use Rattle.tl_decode.specs.Decoding.{GivesFault, GivesFew, GivesValue}
 
 -- ---- types
 
@@ -47,3 +47,9 @@ GivesSome (Err e) after p q v x rest = GivesValue (Err e) after p q v x rest
 abbrev pub RefusesFirst : Result (Option Value) DecodeFault → ℕ → Cause → Type 0
 RefusesFirst (Ok first) offset cause = ⊥
 RefusesFirst (Err e) offset cause = GivesFault (Err e) offset cause
+
+-- The value, where one is given, has few nodes for the bytes that were taken.
+abbrev pub GivesFewOrNone : Declared → Shape → List ℕ → Option (List ℕ) → Result (Option Value) DecodeFault → Type 0
+GivesFewOrNone schema T bytes after (Ok None) = Unit {0}
+GivesFewOrNone schema T bytes after (Ok (Some value)) = GivesFew schema T bytes after (Ok value)
+GivesFewOrNone schema T bytes after (Err e) = Unit {0}

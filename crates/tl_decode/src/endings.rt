@@ -11,7 +11,7 @@ ghost use Rattle.tl_types.specs.Spelling.{Spells};
 ghost use Rattle.tl_types.specs.Values.{ValueView, depth};
 ghost use Rattle.tl_types.specs.declared.cause.Cause.{Cause};
 ghost use Rattle.tl_types.specs.inner.Reading.{value_at};
-ghost use Rattle.tl_decode.specs.Endings.{BeginsWithItem, GivesNone, GivesSome, RefusesFirst, TakesFour};
+ghost use Rattle.tl_decode.specs.Endings.{BeginsWithItem, GivesFewOrNone, GivesNone, GivesSome, RefusesFirst, TakesFour};
 ghost use Rattle.tl_decode.specs.inner.Frames.{AreWell, IsInPlan, IsWellWanted, RefusesAt, found_at, type_in, views};
 ghost use Rattle.tl_decode.specs.inner.Steps.{OrEnds};
 
@@ -41,6 +41,8 @@ pub fn decode_or_end<S: Source>(
     ensures spelled { IfSome (S.state from.old).left (λ bytes. (T : Shape) → IsInstance plan.now root T → (v : ValueView) (x rest : List ℕ) → bytes ≡ x ++ rest → Spells plan.now.schema T v x → depth v ≤ MAX_LEVELS → GivesSome result (S.state from.new).left at.old at.new v x rest) }
     // What is refused is refused at its offset, for its cause, unless no byte is left.
     ensures refused { IfSome (S.state from.old).left (λ bytes. 0 < length bytes → (T : Shape) → IsInstance plan.now root T → (offset : ℕ) (cause : Cause) → Refused plan.now.schema MAX_LEVELS T bytes offset cause → RefusesFirst result (moved at.old offset) cause) }
+    // What is given has few nodes for the bytes that were taken.
+    ensures bounded { IfSome (S.state from.old).left (λ bytes. (T : Shape) → IsInstance plan.now root T → GivesFewOrNone plan.now.schema T bytes (S.state from.new).left result) }
     ensures used { Used (S.state from.old) (S.state from.new) (IsErrOf result DecodeFault.ReadFault) }
 {
     // Read for the proof alone: that the offset fits, and that the plan is sound.

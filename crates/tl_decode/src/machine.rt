@@ -1,9 +1,9 @@
 //! The steps that need no bytes: values are opened, their parts come in order, and values close.
-ghost use Rattle.std.specs.Prelude.{◌≡◌, ◌<◌, length};
+ghost use Rattle.std.specs.Prelude.{◌≡◌, ◌<◌, ◌∷◌, ◌++◌, [], length};
 ghost use Rattle.tl_decode.specs.inner.Frames.{AreWell, IsWellNext, SettlesFrom, StepsFrom};
 
 use crate::opening::open;
-use crate::parts::part;
+use crate::parts::{add, part};
 use crate::stack::{Found, Frame, Next, Step, Stop, Wanted};
 use std::alloc::Global;
 use tl_plan::Plan;
@@ -46,42 +46,35 @@ fn step(alloc: Global, plan: &Plan, frames: &mut Vec<Frame>, next: Next) -> Resu
     }
 }
 
-// A value becomes a part of the innermost list or record; without one it is the whole.
+// A value becomes a part of the innermost list or record, whose next part is opened in place; without one it is the whole.
 fn close(plan: &Plan, frames: &mut Vec<Frame>, value: Value) -> Result<Step, Stop>
     requires frames { AreWell plan.now frames.old.items }
     ensures { StepsFrom plan.now frames.old.items (Next.Close value) frames.new.items result }
 {
-    match frames.pop() {
+    match frames.last_mut() {
         None => Ok(Step::Stops {
             found: Found::Done { value },
         }),
-        Some(
-            Frame::List {
-                item,
-                left,
-                mut items,
-            },
-        ) => {
-            items.push(value)?;
-            Ok(Step::Goes {
+        Some(top) => match add(plan, top, value)? {
+            Some(of) => Ok(Step::Goes {
+                next: Next::Open { of },
+            }),
+            None => Ok(Step::Goes {
                 next: Next::Part {
-                    top: Frame::List { item, left, items },
+                    top: innermost(frames),
                 },
-            })
-        }
-        Some(
-            Frame::Record {
-                of,
-                member,
-                mut fields,
-            },
-        ) => {
-            fields.push(value)?;
-            Ok(Step::Goes {
-                next: Next::Part {
-                    top: Frame::Record { of, member, fields },
-                },
-            })
-        }
+            }),
+        },
+    }
+}
+
+// The innermost list or record, taken off.
+fn innermost(frames: &mut Vec<Frame>) -> Frame
+    requires { 0 < length frames.old.items }
+    ensures { frames.old.items ≡ frames.new.items ++ result ∷ [] }
+{
+    match frames.pop() {
+        Some(top) => top,
+        None => unreachable!(),
     }
 }

@@ -1,9 +1,10 @@
 //! The parts of a list or a record, in order.
-ghost use Rattle.std.specs.Prelude.{◌≡◌, ◌<◌, length};
+ghost use Rattle.std.specs.Prelude.{◌≡◌, ◌<◌, IfOk, length};
 ghost use Rattle.tl_types.specs.Seen.{view, views as values};
-ghost use Rattle.tl_decode.specs.inner.Frames.{AreWell, IsWellFrame, StepsFrom, made, type_in};
+ghost use Rattle.tl_decode.specs.inner.Frames.{Adds, AreWell, Comes, IsWellFrame, StepsFrom, made, type_in};
 
-use crate::stack::{Frame, Next, Step, Stop};
+use crate::stack::{Coming, Frame, Next, Step, Stop};
+use std::alloc::AllocError;
 use tl_plan::{Form, Plan};
 use tl_types::{Value, stands};
 
@@ -59,30 +60,70 @@ fn field(
     requires top { IsWellFrame plan.now (Frame.Record of member fields) }
     ensures { StepsFrom plan.now frames.old.items (Next.Part (Frame.Record of member fields)) frames.new.items result }
 {
+    match coming(plan, of, member, &fields) {
+        Coming::End { entry } => Ok(Step::Goes {
+            next: Next::Close {
+                value: record_of(plan, of, entry, fields),
+            },
+        }),
+        Coming::Absent => {
+            fields.push(Value::Absent)?;
+            Ok(Step::Goes {
+                next: Next::Part {
+                    top: Frame::Record { of, member, fields },
+                },
+            })
+        }
+        Coming::Field { of: next } => {
+            frames.push(Frame::Record { of, member, fields })?;
+            Ok(Step::Goes {
+                next: Next::Open { of: next },
+            })
+        }
+    }
+}
+
+/// A value becomes the next part of a list or a record. The instance of the part after it is answered; None where no part is left, or a field isn't
+/// there.
+pub fn add(plan: &Plan, top: &mut Frame, value: Value) -> Result<Option<u32>, AllocError>
+    requires { IsWellFrame plan.now top.old }
+    ensures { IfOk result (Adds plan.now top.old value top.new) }
+{
+    match top {
+        Frame::List { item, left, items } => {
+            items.push(value)?;
+            if *left == 0 {
+                return Ok(None);
+            }
+            *left -= 1;
+            Ok(Some(*item))
+        }
+        Frame::Record { of, member, fields } => {
+            fields.push(value)?;
+            match coming(plan, *of, *member, fields) {
+                Coming::Field { of: next } => Ok(Some(next)),
+                _ => Ok(None),
+            }
+        }
+    }
+}
+
+// What comes after the fields that are there.
+fn coming(plan: &Plan, of: u32, member: usize, fields: &Vec<Value>) -> Coming
+    requires { IsWellFrame plan.now (Frame.Record of member fields.now) }
+    ensures { Comes plan.now of member fields.now result }
+{
     let instance = plan.instance(of);
     let here = &instance.members[member];
     let k = fields.len();
     if k >= here.fields.len() {
-        return Ok(Step::Goes {
-            next: Next::Close {
-                value: record_of(plan, of, here.entry, fields),
-            },
-        });
+        return Coming::End { entry: here.entry };
     }
     let slot = &plan.schema().entry(here.entry).fields[k];
-    if !stands(slot.cond, &fields) {
-        fields.push(Value::Absent)?;
-        return Ok(Step::Goes {
-            next: Next::Part {
-                top: Frame::Record { of, member, fields },
-            },
-        });
+    if !stands(slot.cond, fields) {
+        return Coming::Absent;
     }
-    let next = here.fields[k];
-    frames.push(Frame::Record { of, member, fields })?;
-    Ok(Step::Goes {
-        next: Next::Open { of: next },
-    })
+    Coming::Field { of: here.fields[k] }
 }
 
 // A call of a function, or a record of a constructor.

@@ -57,6 +57,17 @@ pub enum Next {
     Begin { item: u32 },
 }
 
+/// What comes after the fields of a record that are there.
+#[derive(Clone, Copy)]
+pub enum Coming {
+    /// Nothing: all fields of this declaration are there.
+    End { entry: u32 },
+    /// A field that isn't there, since its bit is clear.
+    Absent,
+    /// A field of this instance.
+    Field { of: u32 },
+}
+
 /// Where nothing goes on without bytes.
 #[derive(Drop)]
 pub enum Found {

@@ -22,6 +22,8 @@ use Rattle.tl_types.specs.declared.value.Value.{Value}
 use Rattle.tl_types.specs.declared.value.TheConstants.{MAX_LEVELS}
 use Rattle.tl_decode.specs.declared.stack.Frame.{Frame}
 use Rattle.tl_decode.specs.declared.stack.Frame.TheVariants as frame
+use Rattle.tl_decode.specs.declared.stack.Coming.{Coming}
+use Rattle.tl_decode.specs.declared.stack.Coming.TheVariants as coming
 use Rattle.tl_decode.specs.declared.stack.Wanted.{Wanted}
 use Rattle.tl_decode.specs.declared.stack.Wanted.TheVariants as wanted
 use Rattle.tl_decode.specs.declared.stack.Item.{Item}
@@ -265,6 +267,30 @@ StepsFrom p fs n new result = Steps p (next_at p (views p fs) n) (next_work p (v
 
 abbrev pub SettlesFrom : PlanView → List Frame → Next → List Frame → Result Found Stop → Type 0
 SettlesFrom p fs n new result = Settles p (next_at p (views p fs) n) (next_work p (views p fs) n) new result
+
+-- ---- steps inside any frames
+
+-- the next part of f is opened, of instance j, and leaves g
+abbrev pub Opens : PlanView → Frame → Frame → ℕ → Type 0
+Opens p f g j = (fs : List Frame) → AreWell p fs → StepsFrom p fs (next.Part f) (fs ++ g ∷ []) (Ok (step.Goes (next.Open j)))
+
+-- of the record with these fields, what comes next
+abbrev pub Comes : PlanView → ℕ → ℕ → Vec Value Global → Coming → Type 0
+Comes p j m fields (coming.End i) =
+    (fs : List Frame) → AreWell p fs → (v : Value) → view v ≡ made (type_in p j) i (values_of (map view fields.items)) → StepsFrom p fs (next.Part (frame.Record j m fields)) fs (Ok (step.Goes (next.Close v)))
+Comes p j m fields coming.Absent =
+    (fs : List Frame) → AreWell p fs → (v : Value) → view v ≡ value.absent → (all : Vec Value Global) → all.items ≡ fields.items ++ v ∷ []
+    → StepsFrom p fs (next.Part (frame.Record j m fields)) fs (Ok (step.Goes (next.Part (frame.Record j m all))))
+Comes p j m fields (coming.Field h) = Opens p (frame.Record j m fields) (frame.Record j m fields) h
+
+-- g is f with one value more
+abbrev pub IsWith : PlanView → Frame → Value → Frame → Type 0
+IsWith p f v g = (frame_view p g ≡ with_value (frame_view p f) (view v)) × IsWellFrame p g
+
+-- f becomes g by one value more, and then, where its next part is opened, by that
+abbrev pub Adds : PlanView → Frame → Value → Frame → Option ℕ → Type 0
+Adds p f v g None = IsWith p f v g
+Adds p f v g (Some j) = (h : Frame) × IsWith p f v h × Opens p h g j
 
 -- ---- types whose values have parts
 

@@ -1,5 +1,4 @@
-use Rattle.std.proofs.Common.{◌≡◌, ap, subst, sym, true≢false, rules}
-use Rattle.tl_plan.specs.Seen.{ShowsAt}
+use Rattle.std.proofs.Common.{true≢false}
 use Rattle.tl_decode.proofs.TakesFour.{kind_wide}
 use Rattle.tl_decode.proofs.endings.takes_four.Goals as goal
 

@@ -1,5 +1,4 @@
-use Rattle.std.proofs.Common.{arith, rules}
-use Rattle.std.proofs.lemmas.Bool.{eqb-true}
+use Rattle.std.proofs.Common.{arith}
 use Rattle.tl_decode.proofs.FirstItems.{or_short}
 use Rattle.tl_decode.proofs.first_items.item_or_end.Goals as goal
 

@@ -1,90 +1,11 @@
-use Rattle.std.proofs.Common.{◌≡◌, ℕ, ◌<◌, List, length, map, slice_get, Some, refl, ap, sym, ◌∙◌, subst, arith, true, false}
-use Rattle.std.specs.Option.{option_map}
-use Rattle.std.proofs.lemmas.List.{length-map}
-use Rattle.std.proofs.lemmas.Option.{slice_get-map, slice_get_within, slice_get_read, same_Some}
-use Rattle.tl_schema.specs.Schemas.{Declaration, Declared}
-use Rattle.tl_schema.specs.Closing.{closed}
-use Rattle.tl_schema.specs.Seen.{declaration, slot}
-use Rattle.tl_plan.specs.Types.{arguments_of}
-use Rattle.tl_plan.specs.PlanLaws.{IsInstance}
-use Rattle.tl_types.specs.Conditions.{stands_by}
-use Rattle.tl_types.specs.Seen.{view}
-use Rattle.tl_types.specs.declared.value.Value.{Value}
 use Rattle.tl_types.proofs.Views.{view-Absent}
-use Rattle.tl_decode.specs.inner.Frames.{type_in}
-use Rattle.tl_decode.proofs.PartSteps.{record_closes, field_absent, field_opens}
-use Rattle.tl_decode.proofs.PlanTypes.{shown_count, is_here}
 use Rattle.tl_decode.proofs.parts.field.Goals as goal
 
-pub index-here-requires : goal.index-here-requires
-index-here-requires c =
-    let i = c.instance-instance in
-    let count = shown_count c.args.plan.now c.args.of i.result.now i.ensures.shows in
-    omega (arith, count, c.requires.top.1, i.result.now.members.ok.0)
+pub returns-in-End : goal.returns-in-End
+returns-in-End c = (rw c.in-End.is at c.coming.ensures) c.args.frames.now.items c.requires.frames _ c.record_of.ensures
 
-pub returns-then-k-len : goal.returns-then-k-len
-returns-then-k-len c =
-    let p = c.args.plan.now in
-    let i = c.instance-instance in
-    let here = c.index-here.result.now in
-    let count = shown_count p c.args.of i.result.now i.ensures.shows in
-    let own = is_here p i.ensures.sound c.args.of i.result.now c.args.member here i.ensures.shows (omega (arith, count, c.requires.top.1)) c.index-here.ensures in
-    record_closes p c.args.frames.now.items c.requires.frames c.args.of c.args.member here own c.args.fields _ (omega (arith, c.len.ensures, c.len-k.ensures, c.if-k-len.true, here.fields.ok.0, c.args.fields.ok.0)) c.record_of.ensures
+pub returns-in_ok-push-in-Absent : goal.returns-in_ok-push-in-Absent
+returns-in_ok-push-in-Absent c = (rw c.in-Absent.is at c.coming.ensures) c.args.frames.now.items c.requires.frames _ view-Absent c.push.new.self c.in_ok-push-in-Absent.ensures.items
 
-pub entry-requires : goal.entry-requires
-entry-requires c =
-    let p = c.args.plan.now in
-    let i = c.instance-instance in
-    let here = c.index-here.result.now in
-    let count = shown_count p c.args.of i.result.now i.ensures.shows in
-    let own = is_here p i.ensures.sound c.args.of i.result.now c.args.member here i.ensures.shows (omega (arith, count, c.requires.top.1)) c.index-here.ensures in
-    rw c.schema.ensures (slice_get_within p.schema.decls here.entry own.d own.there)
-
-pub index-slot-requires : goal.index-slot-requires
-index-slot-requires c =
-    let p = c.args.plan.now in
-    let i = c.instance-instance in
-    let here = c.index-here.result.now in
-    let count = shown_count p c.args.of i.result.now i.ensures.shows in
-    let own = is_here p i.ensures.sound c.args.of i.result.now c.args.member here i.ensures.shows (omega (arith, count, c.requires.top.1)) c.index-here.ensures in
-    let d : own.d ≡ declaration c.entry.result.now = same_Some own.d (declaration c.entry.result.now) (sym own.there ∙ ap (λ (S : Declared). slice_get S.decls here.entry) (sym c.schema.ensures) ∙ c.entry.ensures) in
-    let long : length here.fields.items ≡ length c.entry.result.now.fields.items = own.count ∙ ap (λ (x : Declaration). length x.fields) d ∙ length-map c.entry.result.now.fields.items slot in
-    omega (arith, long, c.len.ensures, c.if-k-len.false, here.fields.ok.0, c.entry.result.now.fields.ok.0)
-
-pub returns-then-not-stands : goal.returns-then-not-stands
-returns-then-not-stands c =
-    let p = c.args.plan.now in
-    let i = c.instance-instance in
-    let here = c.index-here.result.now in
-    let count = shown_count p c.args.of i.result.now i.ensures.shows in
-    let own = is_here p i.ensures.sound c.args.of i.result.now c.args.member here i.ensures.shows (omega (arith, count, c.requires.top.1)) c.index-here.ensures in
-    let d : own.d ≡ declaration c.entry.result.now = same_Some own.d (declaration c.entry.result.now) (sym own.there ∙ ap (λ (S : Declared). slice_get S.decls here.entry) (sym c.schema.ensures) ∙ c.entry.ensures) in
-    let long : length here.fields.items ≡ length c.entry.result.now.fields.items = own.count ∙ ap (λ (x : Declaration). length x.fields) d ∙ length-map c.entry.result.now.fields.items slot in
-    let k : c.len-k.result ≡ length c.args.fields.items = omega (arith, c.len-k.ensures, c.args.fields.ok.0) in
-    let lt : c.len-k.result < length here.fields.items = omega (arith, c.len.ensures, c.if-k-len.false, here.fields.ok.0) in
-    let at : slice_get own.d.fields (length c.args.fields.items) ≡ Some (slot c.index-slot.result.now) =
-    ap (λ (x : Declaration). slice_get x.fields (length c.args.fields.items)) d ∙ ap (slice_get (map slot c.entry.result.now.fields.items)) (sym k) ∙ slice_get-map slot c.entry.result.now.fields.items c.len-k.result
-    ∙ ap (option_map slot) (slice_get_read c.entry.result.now.fields.items (length c.entry.result.now.fields.items) c.len-k.result c.index-slot.result.now refl (omega (arith, lt, long)) c.index-slot.ensures) in
-    let off : stands_by (slot c.index-slot.result.now).cond (map view c.args.fields.items) ≡ false = ap (λ (xs : List Value). stands_by (slot c.index-slot.result.now).cond (map view xs)) (sym c.deref.ensures.value) ∙ sym c.stands.ensures ∙ c.if-not-stands.true in
-    field_absent p c.args.frames.now.items c.requires.frames c.args.of c.args.member here own c.args.fields (slot c.index-slot.result.now) at _ c.push.new.self off view-Absent c.in_ok-push.ensures.items c.requires.top
-
-pub returns : goal.returns
-returns c =
-    let p = c.args.plan.now in
-    let i = c.instance-instance in
-    let here = c.index-here.result.now in
-    let count = shown_count p c.args.of i.result.now i.ensures.shows in
-    let own = is_here p i.ensures.sound c.args.of i.result.now c.args.member here i.ensures.shows (omega (arith, count, c.requires.top.1)) c.index-here.ensures in
-    let d : own.d ≡ declaration c.entry.result.now = same_Some own.d (declaration c.entry.result.now) (sym own.there ∙ ap (λ (S : Declared). slice_get S.decls here.entry) (sym c.schema.ensures) ∙ c.entry.ensures) in
-    let long : length here.fields.items ≡ length c.entry.result.now.fields.items = own.count ∙ ap (λ (x : Declaration). length x.fields) d ∙ length-map c.entry.result.now.fields.items slot in
-    let k : c.len-k.result ≡ length c.args.fields.items = omega (arith, c.len-k.ensures, c.args.fields.ok.0) in
-    let lt : c.len-k.result < length here.fields.items = omega (arith, c.len.ensures, c.if-k-len.false, here.fields.ok.0) in
-    let at : slice_get own.d.fields (length c.args.fields.items) ≡ Some (slot c.index-slot.result.now) =
-    ap (λ (x : Declaration). slice_get x.fields (length c.args.fields.items)) d ∙ ap (slice_get (map slot c.entry.result.now.fields.items)) (sym k) ∙ slice_get-map slot c.entry.result.now.fields.items c.len-k.result
-    ∙ ap (option_map slot) (slice_get_read c.entry.result.now.fields.items (length c.entry.result.now.fields.items) c.len-k.result c.index-slot.result.now refl (omega (arith, lt, long)) c.index-slot.ensures) in
-    let on : stands_by (slot c.index-slot.result.now).cond (map view c.args.fields.items) ≡ true = ap (λ (xs : List Value). stands_by (slot c.index-slot.result.now).cond (map view xs)) (sym c.deref.ensures.value) ∙ sym c.stands.ensures ∙ c.if-not-stands.false in
-    let h = own.fields (length c.args.fields.items) (slot c.index-slot.result.now) at in
-    let same : h.0 ≡ c.index-next.result.now =
-    same_Some h.0 c.index-next.result.now (sym h.1 ∙ ap (slice_get here.fields.items) (sym k) ∙ slice_get_read here.fields.items (length here.fields.items) c.len-k.result c.index-next.result.now refl lt c.index-next.ensures) in
-    let is = subst (λ (n : ℕ). IsInstance p n (closed (arguments_of (type_in p c.args.of)) (slot c.index-slot.result.now).of)) same h.2 in
-    field_opens p c.args.frames.now.items c.requires.frames c.args.of c.args.member here own c.args.fields (slot c.index-slot.result.now) at c.index-next.result.now _ on is c.in_ok-push-2.ensures.items c.requires.top
+pub returns-in_ok-push-in-Field : goal.returns-in_ok-push-in-Field
+returns-in_ok-push-in-Field c = rw c.in_ok-push-in-Field.ensures.items ((rw c.in-Field.is at c.coming.ensures) c.args.frames.now.items c.requires.frames)
