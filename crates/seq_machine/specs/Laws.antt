@@ -1,5 +1,5 @@
 -- What the longer laws of settings say. This project's own.
-use Rattle.std.specs.Prelude.{◌≡◌, ◌<◌, ◌≤◌, ◌+◌, ◌++◌, ℕ, List, length}
+use Rattle.std.specs.Prelude.{◌≡◌, ◌<◌, ◌≤◌, ◌+◌, ◌++◌, ℕ, List, length, map}
 use Rattle.std.specs.List.{All}
 use Rattle.box_events.specs.declared.settings.Setting.{Setting}
 use Rattle.box_events.specs.SettingLists.{Dated, AreSince, IsOverlay, NeverFallFrom}
