@@ -1,5 +1,5 @@
 //! The declarations of a program by name.
-ghost use Rattle.std.specs.Prelude.{◌≡◌, ◌∷◌, [], ◌++◌, ◌<◌, ◌≤◌, ◌^◌, ℕ, List, length, slice_get, IfOk, OnOk, Some};
+ghost use Rattle.std.specs.Prelude.{◌≡◌, ◌∷◌, [], ◌++◌, ◌<◌, ◌≤◌, ◌^◌, ℕ, List, length, slice_get, IfOk, OnOk, None, Some};
 ghost use Rattle.tl_combinators.specs.Program.{DeclText, decl_text, program_text};
 ghost use Rattle.tl_names.specs.Constructors.{AreConstructors, IsFamily, var_counts};
 ghost use Rattle.tl_names.specs.inner.Indexed.{AreNumbered, Changes, IndexesNames, IndexesTypes, one_more};
@@ -161,7 +161,8 @@ impl Index {
 
     /// The constructors of the type with this number; none where no type has it.
     pub fn family(&self, number: u32) -> Option<Constructors>
-        ensures { (type : List ℕ) → type_named self.now type ≡ Some number → IsFamily self.now type result }
+        ensures family { (type : List ℕ) → type_named self.now type ≡ Some number → IsFamily self.now type result }
+        ensures none { length (types_of self.now) ≤ number → result ≡ None }
     {
         self.families.get(number as usize).copied()
     }
