@@ -1,6 +1,8 @@
 -- What is left of a walk, before and after its next part.
 use Rattle.std.proofs.Common.{◌≡◌, ℕ, ◌+◌, ◌-◌, ◌<◌, ◌≤◌, List, [], ◌∷◌, ◌++◌, append_assoc, length, map, reverse, Option, Some, None, nat_lt, refl, sym, ap, ◌∙◌, subst, arith, ltb-true, ltb-false}
 use Rattle.std.proofs.lemmas.List.{reverse-append, map_push}
+use Rattle.std.specs.Option.{option_map}
+use Rattle.std.proofs.lemmas.Option.{same_Some}
 use Rattle.tl_plan.specs.Plans.{PlanView}
 use Rattle.tl_types.specs.Fitting.{MisfitView, inside, or_else}
 use Rattle.tl_types.specs.Fitting.{misfit as misfit_of}
@@ -8,7 +10,7 @@ use Rattle.tl_types.specs.Seen.{view}
 use Rattle.tl_types.proofs.Members.{by_test}
 use Rattle.tl_encode.specs.declared.frames.Frame.{Frame}
 use Rattle.tl_encode.specs.declared.frames.Part.{Part}
-use Rattle.tl_encode.specs.inner.Frames.{EachIsCounted, IsCounted, after, first_of, path_of, rested, stepped}
+use Rattle.tl_encode.specs.inner.Frames.{EachIsCounted, IsCounted, after, first_of, path_of, rested, standing_at, stepped}
 use Rattle.tl_encode.specs.inner.Walks.{AreOfPlan, GoesOn, HasInstances, IsNextPart, bytes_left, frame_bytes, frame_misfit, levels_in, misfit_left, part_type, under, weight_left}
 use Rattle.tl_encode.proofs.NextParts.{no_bytes_left, none_left}
 
@@ -53,6 +55,18 @@ first_has fs f is counted = has (rested fs) is (rested_is fs) (rested_counted fs
     has : (gs : List Frame) → first_of gs ≡ Some f → IsRested gs → EachIsCounted gs → (f.at < length f.values.now) × IsCounted f
     has [] is here all = absurd cc
     has (g ∷ gs) is here all = let same : g ≡ f = cc in (subst (λ (x : Frame). x.at < length x.values.now) same here, subst IsCounted same all.0)
+
+pub was_none : (gs : List Frame) → None ≡ option_map (λ (f : Frame). f.at) (first_of gs) → first_of gs ≡ None
+was_none [] is = refl
+was_none (f ∷ gs) is = absurd cc
+
+-- what the first of these frames, one part after which was told, was before it
+pub was_first : (gs new : List Frame) (g : Frame) (i : ℕ) → Some i ≡ option_map (λ (f : Frame). f.at) (first_of gs) → new ≡ stepped gs → first_of new ≡ Some g → first_of gs ≡ Some (standing_at g i)
+was_first [] new g i at is first = absurd cc
+was_first (f ∷ gs) new g i at is first =
+    let top : after f ≡ g = same_Some (after f) g (sym (ap first_of is) ∙ first) in
+    let own : i ≡ f.at = same_Some i f.at at in
+    rw (own, sym top) refl
 
 module _ (p : PlanView) where
   rested_plan : (fs : List Frame) → AreOfPlan p fs → AreOfPlan p (rested fs)

@@ -1,15 +1,20 @@
 -- The innermost frame.
-use Rattle.std.proofs.Common.{◌≡◌, ◌<◌, ◌≤◌, ◌-◌, ◌+◌, ◌^◌, ℕ, List, [], ◌∷◌, length, take, get_or, reverse, ap, ◌∙◌, sym, arith, subst}
+use Rattle.std.proofs.Common.{◌≡◌, ◌<◌, ◌≤◌, ◌-◌, ◌+◌, ◌^◌, ℕ, List, [], ◌∷◌, Some, length, take, get_or, reverse, ap, ◌∙◌, sym, arith, subst}
 use Rattle.std.proofs.lemmas.List.{take_more, reverse-append}
-use Rattle.tl_encode.specs.inner.Frames.{EachIsCounted}
+use Rattle.tl_encode.specs.inner.Frames.{EachIsCounted, first_of}
 use Rattle.tl_encode.specs.declared.frames.Frame.{Frame}
 
 -- it stands first
 pub top_first : (frames : List Frame) (h : ℕ) (d : Frame) → h < length frames → reverse (take (h + 1) frames) ≡ get_or frames h d ∷ reverse (take h frames)
 top_first frames h d lt = ap reverse (take_more frames h d lt) ∙ reverse-append (take h frames) (get_or frames h d ∷ [])
 
-pub top_short : (frames : List Frame) (h : ℕ) (f : Frame) → 0 < h → h ≤ length frames → f ≡ get_or frames (h - 1) f → EachIsCounted (reverse (take h frames)) → length f.values.now < 2 ^ 32
-top_short frames h f some le is counted =
+top_of : (frames : List Frame) (h : ℕ) (f : Frame) → 0 < h → h ≤ length frames → f ≡ get_or frames (h - 1) f → reverse (take h frames) ≡ f ∷ reverse (take (h - 1) frames)
+top_of frames h f some le is =
     let e : h ≡ h - 1 + 1 = omega arith in
-    let all : reverse (take h frames) ≡ f ∷ reverse (take (h - 1) frames) = ap (λ (k : ℕ). reverse (take k frames)) e ∙ top_first frames (h - 1) f (omega arith) ∙ ap (λ (x : Frame). x ∷ reverse (take (h - 1) frames)) (sym is) in
-    (subst EachIsCounted all counted).0.0
+    ap (λ (k : ℕ). reverse (take k frames)) e ∙ top_first frames (h - 1) f (omega arith) ∙ ap (λ (x : Frame). x ∷ reverse (take (h - 1) frames)) (sym is)
+
+pub top_is : (frames : List Frame) (h : ℕ) (f : Frame) → 0 < h → h ≤ length frames → f ≡ get_or frames (h - 1) f → first_of (reverse (take h frames)) ≡ Some f
+top_is frames h f some le is = ap first_of (top_of frames h f some le is)
+
+pub top_short : (frames : List Frame) (h : ℕ) (f : Frame) → 0 < h → h ≤ length frames → f ≡ get_or frames (h - 1) f → EachIsCounted (reverse (take h frames)) → length f.values.now < 2 ^ 32
+top_short frames h f some le is counted = (subst EachIsCounted (top_of frames h f some le is) counted).0.0

@@ -1,9 +1,10 @@
 //! The lists, records and calls that a walk over a value stands in.
-ghost use Rattle.std.specs.Prelude.{◌≡◌, ◌<◌, ◌-◌, [], ◌∷◌, length, true, IfOk};
+ghost use Rattle.std.specs.Prelude.{◌≡◌, ◌<◌, ◌-◌, [], ◌∷◌, Some, length, true, IfOk, IfSome};
+ghost use Rattle.std.specs.Option.{option_map};
 ghost use Rattle.std.specs.Prelude.{nat_lt};
 ghost use Rattle.tl_plan.specs.Plans.{PlanView};
 ghost use Rattle.tl_types.specs.declared.value.TheConstants.{MAX_LEVELS};
-ghost use Rattle.tl_encode.specs.inner.Frames.{AreCounted, EachIsCounted, HasPlaces, IsCounted, first_of, frames_of, path_of, rested, stepped};
+ghost use Rattle.tl_encode.specs.inner.Frames.{AreCounted, EachIsCounted, HasPlaces, IsCounted, first_of, frames_of, path_of, rested, standing_at, stepped};
 ghost use Rattle.tl_encode.specs.inner.Walks.{AreOfPlan, GoesOn, HasInstances, IsNextPart};
 
 use std::alloc::{AllocError, Global};
@@ -42,13 +43,13 @@ pub struct Frame<'a> {
     pub at: u32,
 }
 
-// The part at the frame's index.
-fn part_of<'a>(frame: Frame<'a>) -> Part<'a>
-    requires left { frame.at < length frame.values.now }
-    requires counted { AreCounted frame.parts frame.values.now }
-    ensures { (p : PlanView) → HasInstances p frame.entry.parts → IsNextPart p frame.entry result }
+// The part of a frame at an index.
+fn part_of<'a>(frame: &Frame<'a>, at: u32) -> Part<'a>
+    requires left { at < length frame.now.values.now }
+    requires counted { AreCounted frame.now.parts frame.now.values.now }
+    ensures { (p : PlanView) → HasInstances p frame.now.parts → IsNextPart p (standing_at frame.now at) result }
 {
-    let at = frame.at as usize;
+    let at = at as usize;
     let value = &frame.values[at];
     match frame.parts {
         Parts::Elements { of } => Part {
@@ -124,26 +125,36 @@ impl<'a> Stack<'a> {
         self.height = height + 1;
     }
 
-    // The innermost frame with a part left, which counts as walked from now on; those that have none are taken off.
-    fn next_frame(&mut self) -> Option<Frame<'a>>
+    // The index of the next part of the innermost frame with a part left, which counts as walked from now on; frames that have none are taken off.
+    fn next_at(&mut self) -> Option<u32>
         requires places { HasPlaces self.old }
         requires counted { EachIsCounted (frames_of self.old) }
-        ensures frame { result ≡ first_of (rested (frames_of self.old)) }
+        ensures at { result ≡ option_map (λ f. f.at) (first_of (rested (frames_of self.old))) }
+        ensures some { IfSome result (λ _. 0 < self.new.height) }
         ensures frames { frames_of self.new ≡ stepped (rested (frames_of self.old)) }
         ensures places { HasPlaces self.new }
     {
         while self.height > 0 {
             let top = self.height - 1;
             let frames = &mut self.frames[..];
-            let frame = frames[top];
             let at = frames[top].at;
-            if (at as usize) < frame.values.len() {
+            if (at as usize) < frames[top].values.len() {
                 frames[top].at = at + 1;
-                return Some(frame);
+                return Some(at);
             }
             self.height = top;
         }
         None
+    }
+
+    // The innermost frame.
+    fn innermost(&self) -> &Frame<'a>
+        requires places { HasPlaces self.now }
+        requires some { 0 < self.now.height }
+        ensures { first_of (frames_of self.now) ≡ Some result.now }
+    {
+        let frames = &self.frames[..];
+        &frames[self.height - 1]
     }
 
     /// The next part of the frames, the innermost first.
@@ -154,7 +165,7 @@ impl<'a> Stack<'a> {
         ensures places { HasPlaces self.new }
         ensures counted { EachIsCounted (frames_of self.new) }
     {
-        let frame = self.next_frame()?;
-        Some(part_of(frame))
+        let at = self.next_at()?;
+        Some(part_of(self.innermost(), at))
     }
 }

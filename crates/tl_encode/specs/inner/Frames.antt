@@ -31,6 +31,10 @@ EachIsCounted (f ∷ fs) = IsCounted f × EachIsCounted fs
 abbrev pub after : Frame → Frame
 after f = record f { at = f.at + 1 }
 
+-- the part at an index is the next
+abbrev pub standing_at : Frame → ℕ → Frame
+standing_at f i = record f { at = i }
+
 -- those from the first that has a part left
 abbrev pub rested : List Frame → List Frame
 rested [] = []

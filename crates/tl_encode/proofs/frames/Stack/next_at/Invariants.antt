@@ -1,6 +1,6 @@
 use Rattle.std.proofs.Common.{◌≡◌}
 use Rattle.tl_encode.specs.inner.Frames.{EachIsCounted, HasPlaces, frames_of, rested}
-use Rattle.tl_encode.proofs.frames.Stack.next_frame.Given as goal
+use Rattle.tl_encode.proofs.frames.Stack.next_at.Given as goal
 
 abbrev pub invariant-loop-self : goal.invariant-loop-self
 invariant-loop-self l = HasPlaces l.self × EachIsCounted (frames_of l.self) × (rested (frames_of l.initial.self) ≡ rested (frames_of l.self))
