@@ -1,5 +1,6 @@
 #!/usr/bin/env python3
-"""Counts the instructions of calls of which no command makes many: searches in a box, items held in a gap, posts and differences of a server.
+"""Counts the instructions of calls of which no command makes many: searches in a box, items held in a gap, posts and differences of a server, plans
+of all calls of a schema, and bytes that are fed to a decoder in small and large pieces.
 
 Each figure is the difference of two runs of crates/call_bench under callgrind, with the calls and without them, by the number of calls.
 """
@@ -8,7 +9,7 @@ import sys
 
 import runs
 
-EVENTS, CALLS, ITEMS = 1_000_000, 1_000, 1_024
+EVENTS, CALLS, ITEMS, DECLARATIONS = 1_000_000, 1_000, 1_024, 1_500
 
 
 def each(program, words, more, fewer, count):
@@ -33,6 +34,13 @@ def main():
         print(f"{name:<44} {'-' if None in made else '%.0f' % ((made[0] - made[1]) / posts):>12}")
         name = f"difference, the last 100 of {posts:,}"
         print(f"{name:<44} {each(program, ['last', str(posts)], CALLS, 0, CALLS):>12}")
+    name = f"plan of all calls, of {DECLARATIONS:,} declarations"
+    print(f"{name:<44} {each(program, ['plan', str(DECLARATIONS)], 1, 0, 1):>12}")
+    for records, size, name in ((100_000, 1, "a byte fed alone"), (200_000, 1, "a byte fed alone"), (200_000, 8_192, "a byte fed in pieces of 8,192")):
+        # A record takes 36 bytes, and one in four has four more; the vector begins with eight.
+        length = 37 * records + 8
+        name = f"{name}, of {length:,}"
+        print(f"{name:<44} {each(program, ['bytes', str(records)], size, 0, length):>12}")
 
 
 main()

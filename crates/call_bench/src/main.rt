@@ -3,6 +3,9 @@
 
 ghost use Rattle.std.specs.Prelude.{◌≤◌, ◌<◌, ◌+◌};
 
+mod codec;
+
+use crate::codec::{fed, plans};
 use box_events::{BoxFault, Event, EventBox, Post, Reply, Request};
 use box_server::{PostFault, Server};
 use gap_buffer::{Gap, Held};
@@ -12,7 +15,7 @@ use std::{env, io};
 use tl_base::Bytes;
 
 const USAGE: &str =
-    "usage: call_bench boundary|between EVENTS CALLS, call_bench last POSTS CALLS, call_bench forward|backward ITEMS";
+    "usage: call_bench boundary|between EVENTS CALLS, call_bench last POSTS CALLS, call_bench plan DECLARATIONS CALLS, call_bench bytes RECORDS SIZE, call_bench forward|backward ITEMS";
 
 // A box of so many read marks.
 fn box_of(alloc: Global, events: u32) -> Result<EventBox, BoxFault> {
@@ -118,22 +121,34 @@ fn differences(alloc: Global, posts: u32, calls: u32) -> Result<u64, PostFault> 
     Ok(messages)
 }
 
+// A number, or no memory for the calls.
+fn made<E: Drop>(number: Result<u64, E>) -> Result<Option<u64>, BoxFault> {
+    match number {
+        Ok(number) => Ok(Some(number)),
+        Err(_) => Err(BoxFault::Memory),
+    }
+}
+
+// What the calls of this name come to, of so many things; None where nothing has the name.
+fn of_many(alloc: Global, name: &str, many: u32, calls: u32) -> Result<Option<u64>, BoxFault> {
+    match name {
+        "boundary" => Ok(Some(boundaries(&box_of(alloc, many)?, calls) as u64)),
+        "between" => Ok(Some(copies(&box_of(alloc, many)?, calls)? as u64)),
+        "last" => made(differences(alloc, many, calls)),
+        "plan" => made(plans(alloc, many, calls).ok_or(AllocError)),
+        "bytes" => made(fed(alloc, many, calls).ok_or(AllocError)),
+        _ => Ok(None),
+    }
+}
+
 // What the calls that the words name come to; None where the words name none.
 fn outcome(alloc: Global, words: &[String]) -> Result<Option<u64>, BoxFault> {
     match words {
-        [name, events, calls] => {
-            let (Ok(events), Ok(calls)) = (events.parse::<u32>(), calls.parse::<u32>()) else {
+        [name, many, calls] => {
+            let (Ok(many), Ok(calls)) = (many.parse::<u32>(), calls.parse::<u32>()) else {
                 return Ok(None);
             };
-            match name.as_str() {
-                "boundary" => Ok(Some(boundaries(&box_of(alloc, events)?, calls) as u64)),
-                "between" => Ok(Some(copies(&box_of(alloc, events)?, calls)? as u64)),
-                "last" => match differences(alloc, events, calls) {
-                    Ok(messages) => Ok(Some(messages)),
-                    Err(_) => Err(BoxFault::Memory),
-                },
-                _ => Ok(None),
-            }
+            of_many(alloc, name.as_str(), many, calls)
         }
         [name, items] => {
             let Ok(items) = items.parse::<u16>() else {

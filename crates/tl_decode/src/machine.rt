@@ -37,7 +37,7 @@ fn step(alloc: Global, plan: &Plan, frames: &mut Vec<Frame>, next: Next) -> Resu
     match next {
         Next::Open { of } => open(alloc, plan, frames, of),
         Next::Part { top } => part(plan, frames, top),
-        Next::Close { value } => close(alloc, plan, frames, value),
+        Next::Close { value } => close(plan, frames, value),
         Next::Begin { item } => Ok(Step::Stops {
             found: Found::Wants {
                 wanted: Wanted::Count { item },
@@ -47,7 +47,7 @@ fn step(alloc: Global, plan: &Plan, frames: &mut Vec<Frame>, next: Next) -> Resu
 }
 
 // A value becomes a part of the innermost list or record, whose next part is opened in place; without one it is the whole.
-fn close(alloc: Global, plan: &Plan, frames: &mut Vec<Frame>, value: Value) -> Result<Step, Stop>
+fn close(plan: &Plan, frames: &mut Vec<Frame>, value: Value) -> Result<Step, Stop>
     requires frames { AreWell plan.now frames.old.items }
     ensures { StepsFrom plan.now frames.old.items (Next.Close value) frames.new.items result }
 {
@@ -56,7 +56,9 @@ fn close(alloc: Global, plan: &Plan, frames: &mut Vec<Frame>, value: Value) -> R
             found: Found::Done { value },
         }),
         Some(top) => match add(plan, top, value)? {
-            Some(of) => open(alloc, plan, frames, of),
+            Some(of) => Ok(Step::Goes {
+                next: Next::Open { of },
+            }),
             None => Ok(Step::Goes {
                 next: Next::Part {
                     top: innermost(frames),
