@@ -40,8 +40,8 @@ module _ (schema : Declared) (T : Shape) where
   pub not_read : (bytes : List ℕ) (f : TextReadFault) (r : Result Value JsonTextFault) → length bytes ≤ JSON_BYTES → TellsText schema.decls T bytes (Err f) → IsErrAnd r (λ z. z ≡ of_text_read f)
       → ReadsJson schema T bytes r
   not_read bytes NoJson r few none e = stops bytes (reads.Refused why.NoJson) r (few, none) e
-  not_read bytes (Unread (reading.Form path cause)) r few (d, json, tells) e = stops bytes (reads.Refused (why.Form path cause)) r (d, (few, json), tells) e
-  not_read bytes (Unread (reading.Misfit told)) r few (d, json, tells) e = stops bytes (reads.Refused (why.Misfit told)) r (d, tells.0, (few, json), tells.1, tells.2) e
+  not_read bytes (Unread (reading.Form path cause)) r few (d, json, tells) e = stops bytes (reads.Refused (why.Form path cause)) r (d, (few, json.0, json.1), tells) e
+  not_read bytes (Unread (reading.Misfit told)) r few (d, json, tells) e = stops bytes (reads.Refused (why.Misfit told)) r (d, tells.0, (few, json.0, json.1), tells.1, tells.2) e
   not_read bytes (Unread reading.Memory) r few tells e = stops bytes reads.Memory r tt e
 
   -- ---- a file

@@ -9,4 +9,4 @@ returns-in_err-value c =
 pub returns : goal.returns
 returns c =
     let tells = c.in_ok-value.ensures.reads in
-    (tells.0, (c.if-text.false, tells.1), tells.2.0, tells.2.1)
+    (tells.0, (c.if-text.false, tells.1.0, tells.1.1), tells.2.0, tells.2.1)
