@@ -1,12 +1,8 @@
 -- The value that an input's JSON is, from its text and its file.
 use Rattle.std.proofs.Common.{◌≡◌, ℕ, ◌<◌, ◌≤◌, List, [], ◌++◌, length, append-nil, Option, None, Result, Ok, Err, sym, ap, ◌∙◌, subst, arith, inl, inr, Vec, Global}
-use Rattle.std.specs.Prelude.{IsErrAnd, IsUtf8}
+use Rattle.std.specs.Prelude.{IsErrAnd}
 use Rattle.std.proofs.lemmas.List.{length-append}
 use Rattle.std.proofs.lemmas.Bool.{cases_lt}
-use Rattle.serde_json.specs.Data.{Data}
-use Rattle.serde_json.specs.Errors.{IsMemory}
-use Rattle.serde_json.specs.Read.{read as read_text}
-use Rattle.serde_json.specs.declared.error.Error.{Error}
 use Rattle.tl_base.specs.Outside.{View, left_of}
 use Rattle.tl_base.specs.Hosted.{ReadsFile}
 use Rattle.tl_base.specs.Calls.{Told}
@@ -16,9 +12,10 @@ use Rattle.tl_base.specs.declared.source.TextFault.TheVariants as text
 use Rattle.tl_schema.specs.Types.{Shape}
 use Rattle.tl_schema.specs.Schemas.{Declared}
 use Rattle.tl_types.specs.declared.value.Value.{Value}
-use Rattle.tl_show.specs.Reading.{TellsRead}
-use Rattle.tl_show.specs.declared.fault.ReadFault.{ReadFault}
+use Rattle.tl_show.specs.Texts.{TellsText}
 use Rattle.tl_show.specs.declared.fault.ReadFault.TheVariants as reading
+use Rattle.tl_show.specs.declared.fault.TextReadFault.{TextReadFault}
+use Rattle.tl_show.specs.declared.fault.TextReadFault.TheVariants.{NoJson, Unread}
 use Rattle.command_base.specs.Kept.{OnlyReads}
 use Rattle.command_base.proofs.Rests.{only_input}
 use Rattle.command_base.proofs.Views.{told_as}
@@ -28,8 +25,8 @@ use Rattle.codec_commands.specs.declared.json_input.JsonTextFault.{JsonTextFault
 use Rattle.codec_commands.specs.declared.json_input.JsonTextFault.TheVariants as reads
 use Rattle.codec_commands.specs.declared.json_input.JsonFault.{JsonFault}
 use Rattle.codec_commands.specs.declared.json_input.JsonFault.TheVariants as json
-use Rattle.codec_commands.specs.Faults.{OfJsonError, of_reading, of_json_file, of_json_text}
-use Rattle.codec_commands.specs.JsonInput.{IsJson, ReadsJson}
+use Rattle.codec_commands.specs.Faults.{of_json_file, of_json_text, of_text_read}
+use Rattle.codec_commands.specs.JsonInput.{ReadsJson}
 use Rattle.codec_commands.specs.Parts.{LoadsJson}
 
 module _ (schema : Declared) (T : Shape) where
@@ -40,17 +37,12 @@ module _ (schema : Declared) (T : Shape) where
   stops bytes s (Ok x) h e = absurd e
   stops bytes s (Err z) h e = subst (λ (y : JsonTextFault). ReadsJson schema T bytes (Err y)) (sym e) h
 
-  pub not_json : (bytes : List ℕ) (e : Error) (r : Result Value JsonTextFault) → length bytes ≤ JSON_BYTES → ((IsMemory e → ⊥) → IsUtf8 bytes → read_text bytes ≡ None)
-      → IsErrAnd r (OfJsonError e) → ReadsJson schema T bytes r
-  not_json bytes e (Ok x) few none is = absurd is
-  not_json bytes e (Err z) few none (inl (memory, is)) = stops bytes reads.Memory (Err z) tt is
-  not_json bytes e (Err z) few none (inr (other, is)) = stops bytes (reads.Refused why.NoJson) (Err z) (few, none other) is
-
-  pub not_read : (bytes : List ℕ) (d : Data) (e : ReadFault) (r : Result Value JsonTextFault) → IsJson bytes d → TellsRead schema.decls T d (Err e) → IsErrAnd r (λ z. z ≡ of_reading e)
+  pub not_read : (bytes : List ℕ) (f : TextReadFault) (r : Result Value JsonTextFault) → length bytes ≤ JSON_BYTES → TellsText schema.decls T bytes (Err f) → IsErrAnd r (λ z. z ≡ of_text_read f)
       → ReadsJson schema T bytes r
-  not_read bytes d (reading.Form path cause) r is tells e = stops bytes (reads.Refused (why.Form path cause)) r (d, is, tells) e
-  not_read bytes d (reading.Misfit told) r is tells e = stops bytes (reads.Refused (why.Misfit told)) r (d, tells.0, is, tells.1, tells.2) e
-  not_read bytes d reading.Memory r is tells e = stops bytes reads.Memory r tt e
+  not_read bytes NoJson r few none e = stops bytes (reads.Refused why.NoJson) r (few, none) e
+  not_read bytes (Unread (reading.Form path cause)) r few (d, json, tells) e = stops bytes (reads.Refused (why.Form path cause)) r (d, (few, json.0, json.1), tells) e
+  not_read bytes (Unread (reading.Misfit told)) r few (d, json, tells) e = stops bytes (reads.Refused (why.Misfit told)) r (d, tells.0, (few, json.0, json.1), tells.1, tells.2) e
+  not_read bytes (Unread reading.Memory) r few tells e = stops bytes reads.Memory r tt e
 
   -- ---- a file
 

@@ -11,10 +11,9 @@ use Rattle.tl_schema.specs.declared.fault.CheckFault.{CheckFault}
 use Rattle.tl_schema.specs.declared.fault.CheckFault.TheVariants as check
 use Rattle.tl_schema.specs.declared.fault.TypeFault.{TypeFault}
 use Rattle.tl_schema.specs.declared.fault.TypeFault.TheVariants as type
-use Rattle.serde_json.specs.declared.error.Error.{Error}
-use Rattle.serde_json.specs.Errors.{IsMemory}
-use Rattle.tl_show.specs.declared.fault.ReadFault.{ReadFault as ReadingFault}
 use Rattle.tl_show.specs.declared.fault.ReadFault.TheVariants as reading
+use Rattle.tl_show.specs.declared.fault.TextReadFault.{TextReadFault}
+use Rattle.tl_show.specs.declared.fault.TextReadFault.TheVariants.{NoJson, Unread}
 use Rattle.command_base.specs.Jobs.{Making, made, refused_by, unread, no_memory}
 use Rattle.codec_commands.specs.declared.causes.TextCause.{TextCause}
 use Rattle.codec_commands.specs.declared.causes.TextCause.TheVariants.{TextTooLong, BadByte, OpenComment, Unexpected, NotProfile, TooMany}
@@ -111,14 +110,11 @@ of_plan planning.Memory = plan.Memory
 
 -- ---- inputs of JSON
 
--- a text that is refused is no JSON, unless memory was out
-abbrev pub OfJsonError : Error → JsonTextFault → Type 0
-OfJsonError e fault = (IsMemory e × (fault ≡ json_text.Memory)) ⊎ ((IsMemory e → ⊥) × (fault ≡ json_text.Refused why.NoJson))
-
-abbrev pub of_reading : ReadingFault → JsonTextFault
-of_reading (reading.Form path c) = json_text.Refused (why.Form path c)
-of_reading (reading.Misfit told) = json_text.Refused (why.Misfit told)
-of_reading reading.Memory = json_text.Memory
+abbrev pub of_text_read : TextReadFault → JsonTextFault
+of_text_read NoJson = json_text.Refused why.NoJson
+of_text_read (Unread (reading.Form path c)) = json_text.Refused (why.Form path c)
+of_text_read (Unread (reading.Misfit told)) = json_text.Refused (why.Misfit told)
+of_text_read (Unread reading.Memory) = json_text.Memory
 
 abbrev pub of_json_file : TextFault → JsonFault
 of_json_file text.ReadFault = json.ReadFault

@@ -11,12 +11,11 @@ ghost use Rattle.tl_types.specs.declared.value.TheConstants.{MAX_LEVELS};
 ghost use Rattle.codec_commands.specs.JsonInput.{ReadsJson};
 ghost use Rattle.codec_commands.specs.Parts.{LoadsJson};
 
-use serde_json::Value as Json;
 use std::alloc::Global;
 use thiserror::Error;
 use tl_base::{Host, Slot, TextFault, read_file};
 use tl_schema::{Schema, TypeRef};
-use tl_show::{FormCause, ReadFault, read};
+use tl_show::{FormCause, ReadFault, TextReadFault, read_text};
 use tl_types::{Misfit, Value};
 
 /// The most bytes that an input of JSON may have.
@@ -59,32 +58,22 @@ pub enum JsonFault {
     Memory,
 }
 
-impl From<serde_json::Error> for JsonTextFault {
-    ghost use Rattle.codec_commands.specs.Faults.{OfJsonError};
-
-    ghost from_gives = { OfJsonError };
-
-    fn from(error: serde_json::Error) -> JsonTextFault {
-        if error.is_memory() {
-            return JsonTextFault::Memory;
-        }
-        JsonTextFault::Refused(JsonCause::NoJson)
-    }
-}
-
-impl From<ReadFault> for JsonTextFault {
+impl From<TextReadFault> for JsonTextFault {
     ghost use Rattle.std.specs.Prelude.{◌≡◌};
-    ghost use Rattle.codec_commands.specs.Faults.{of_reading};
+    ghost use Rattle.codec_commands.specs.Faults.{of_text_read};
 
-    ghost from_gives = { λ e fault. fault ≡ of_reading e };
+    ghost from_gives = { λ e fault. fault ≡ of_text_read e };
 
-    fn from(fault: ReadFault) -> JsonTextFault {
+    fn from(fault: TextReadFault) -> JsonTextFault {
         match fault {
-            ReadFault::Form { path, cause } => {
+            TextReadFault::NoJson => JsonTextFault::Refused(JsonCause::NoJson),
+            TextReadFault::Unread(ReadFault::Form { path, cause }) => {
                 JsonTextFault::Refused(JsonCause::Form { path, cause })
             }
-            ReadFault::Misfit(misfit) => JsonTextFault::Refused(JsonCause::Misfit(misfit)),
-            ReadFault::Memory => JsonTextFault::Memory,
+            TextReadFault::Unread(ReadFault::Misfit(misfit)) => {
+                JsonTextFault::Refused(JsonCause::Misfit(misfit))
+            }
+            TextReadFault::Unread(ReadFault::Memory) => JsonTextFault::Memory,
         }
     }
 }
@@ -129,8 +118,7 @@ fn value_of(
     if text.len() > JSON_BYTES as usize {
         return Err(JsonTextFault::Refused(JsonCause::TooLong));
     }
-    let json = Json::from_slice(alloc, text)?;
-    let value = read(alloc, schema, of, &json)?;
+    let value = read_text(alloc, schema, of, text)?;
     Ok(value)
 }
 

@@ -1,5 +1,5 @@
 -- One step of reading after another.
-use Rattle.std.proofs.Common.{◌≡◌, Result, Ok, Err, refl, sym, ap, subst}
+use Rattle.std.proofs.Common.{◌≡◌, Result, refl, sym, subst}
 use Rattle.tl_show.specs.Reading.{Read, refuses, ◌>>=◌}
 use Rattle.tl_show.specs.inner.FormTells.{IsHere, Tells, TellsFault}
 use Rattle.tl_show.specs.declared.fault.FormCause.{FormCause}

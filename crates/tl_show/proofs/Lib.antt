@@ -22,3 +22,5 @@ pub mod Sizes
 pub mod Strings
 mod TextNames
 mod NamesTelling
+pub mod ElementTurns
+pub mod JsonTurns

@@ -1,5 +1,5 @@
 -- The members of a record that is shown: what stands at each key, and which keys there are.
-use Rattle.std.proofs.Common.{◌≡◌, ℕ, suc, List, [], ◌∷◌, ◌++◌, map, Bool, true, false, ◌||◌, not, Option, Some, None, Ordering, Less, Equal, Greater, nat_cmp, bytes_eq, codes, refl, sym, ap, ap₂, subst, ◌∙◌, append_assoc, true≢false}
+use Rattle.std.proofs.Common.{◌≡◌, ℕ, List, [], ◌∷◌, ◌++◌, map, Bool, true, false, ◌||◌, not, Some, None, Ordering, Less, Equal, Greater, nat_cmp, bytes_eq, codes, refl, sym, ap, ap₂, subst, ◌∙◌, append_assoc, true≢false}
 use Rattle.std.specs.Prelude.{⊤, option_and_then}
 use Rattle.std.specs.Cmp.Lexicographic.{slice_cmp}
 use Rattle.std.specs.List.{list_any}

@@ -1,5 +1,5 @@
 -- What is shown of a value is read back to it.
-use Rattle.std.proofs.Common.{◌≡◌, ◌⊎◌, inl, inr, ℕ, zero, suc, ◌+◌, ◌<◌, ◌^◌, ◌==◌, nat_lt, ℤ, pos, negsuc, List, [], ◌∷◌, ◌++◌, length, get_or, Bool, true, false, Option, Some, None, Result, Ok, Err, option_map, bytes_eq, codes, refl, sym, ap, subst, ◌∙◌, append_assoc, append-nil, arith, lit<, lt-ltb, if◌then◌else◌}
+use Rattle.std.proofs.Common.{◌≡◌, ◌⊎◌, inl, inr, ℕ, zero, suc, ◌<◌, ◌^◌, ℤ, pos, negsuc, List, [], ◌∷◌, ◌++◌, length, Bool, true, false, Option, Some, None, Ok, option_map, bytes_eq, refl, sym, ap, subst, ◌∙◌, append_assoc, append-nil, arith, lit<, lt-ltb}
 use Rattle.std.specs.Prelude.{option_and_then, slice_get}
 use Rattle.std.specs.List.{position_from}
 use Rattle.std.specs.Map.{lookup}
@@ -9,7 +9,7 @@ use Rattle.std.proofs.lemmas.Slice.Eq.{bytes_eq-Decides}
 use Rattle.std.proofs.lemmas.Str.{encodes_same}
 use Rattle.hex.specs.Hex.{encode_lower}
 use Rattle.hex.proofs.HexLemmas.{decode_of-encode_lower}
-use Rattle.serde_json.specs.Data.{Data, number, unsigned, string, array, object, Members}
+use Rattle.serde_json.specs.Data.{Data, number, unsigned, object, Members}
 use Rattle.serde_json.specs.Find.{as_integer, get_member, of_integer}
 use Rattle.tl_base.specs.Contents.{AreBytes}
 use Rattle.tl_base.specs.Numbers.{word}
@@ -18,19 +18,19 @@ use Rattle.tl_schema.specs.Types as type
 use Rattle.tl_schema.specs.Closing.{closed, list_of_shapes}
 use Rattle.tl_schema.specs.Schemas.{Slot, Declaration, Declared}
 use Rattle.tl_schema.specs.CheckedPrograms.{IsSchema}
-use Rattle.tl_schema.specs.Formed.{IsFunction, IsMember}
+use Rattle.tl_schema.specs.Formed.{IsFunction}
 use Rattle.tl_types.specs.Values.{ValueView, int, long, nat, opaque, text, truth, absent, list, node, call, ValueViews, no_values, value, list_of, values_of, count}
 use Rattle.tl_types.specs.Conditions.{stands_by}
 use Rattle.tl_types.specs.Fitting.{constructs, is_signed}
-use Rattle.tl_types.specs.Parts.{arguments_of, fields_in, is_absent, item_of, name_in}
+use Rattle.tl_types.specs.Parts.{arguments_of, fields_in, is_absent, name_in}
 use Rattle.tl_types.specs.Spelling.{Begins, SpellEach, SpellFields, SpellsField, Spells, vector_prefix}
 use Rattle.tl_types.specs.Spelling as spell
-use Rattle.tl_types.specs.Texts.{missing, text_bytes, text_head}
+use Rattle.tl_types.specs.Texts.{text_bytes, text_head}
 use Rattle.tl_types.proofs.Numbers.{bytes_after}
 use Rattle.tl_types.proofs.SchemaNumbers.{numbers_tell}
 use Rattle.tl_types.proofs.SignedRanges.{double_word_long, word_int}
 use Rattle.tl_show.specs.Shown.{hex_data, name_text, named, shown, shown_each, string_data, text_data, with_fields}
-use Rattle.tl_show.specs.Reading.{AreApart, Read, Reader, ◌>>=◌, bytes_of, declaration_named, declaration_of, each_element, each_field, has_other, in_range, inside, is_named, is_record, not_there, of_declaration, of_object, of_type, one_field, parts, plain, reader, readers, record_keys, record_value, text_at}
+use Rattle.tl_show.specs.Reading.{AreApart, Reader, bytes_of, declaration_named, declaration_of, each_element, each_field, has_other, is_named, is_record, not_there, of_object, of_type, one_field, parts, plain, reader, readers, record_keys, record_value}
 use Rattle.tl_show.specs.ReadsBack.{EachValueReadsBack, NamesTell}
 use Rattle.tl_show.specs.inner.Forms.{unless_missing}
 use Rattle.tl_show.specs.inner.Keyed.{is_named_at}

@@ -44,6 +44,17 @@ pub enum ReadFault {
     Memory,
 }
 
+/// Why no value is read from a text.
+#[derive(Debug, Drop, PartialEq, Eq, Error)]
+pub enum TextReadFault {
+    /// The text is no UTF-8, no JSON, or JSON of more than 127 levels.
+    #[error("no JSON")]
+    NoJson,
+    /// It is JSON, of which no value is read.
+    #[error("{0}")]
+    Unread(ReadFault),
+}
+
 // Why JSON isn't of a form, and where.
 #[derive(Debug, Drop)]
 pub enum FormFault {
@@ -98,6 +109,42 @@ impl From<FitFault> for ReadFault {
             FitFault::Misfit(misfit) => ReadFault::Misfit(misfit),
             FitFault::Memory => ReadFault::Memory,
         }
+    }
+}
+
+impl From<serde_json::Error> for TextReadFault {
+    ghost use Rattle.tl_show.specs.inner.ReadFaults.{OfJsonError};
+
+    ghost from_gives = { OfJsonError };
+
+    fn from(error: serde_json::Error) -> TextReadFault {
+        if error.is_memory() {
+            return TextReadFault::Unread(ReadFault::Memory);
+        }
+        TextReadFault::NoJson
+    }
+}
+
+impl From<ReadFault> for TextReadFault {
+    ghost use Rattle.std.specs.Prelude.{◌≡◌};
+    ghost use Rattle.tl_show.specs.declared.fault.TextReadFault.TheVariants.{Unread};
+
+    ghost from_gives = { λ f e. e ≡ Unread f };
+
+    fn from(fault: ReadFault) -> TextReadFault {
+        TextReadFault::Unread(fault)
+    }
+}
+
+impl From<FitFault> for TextReadFault {
+    ghost use Rattle.std.specs.Prelude.{◌≡◌};
+    ghost use Rattle.tl_show.specs.inner.ReadFaults.{of_fit};
+    ghost use Rattle.tl_show.specs.declared.fault.TextReadFault.TheVariants.{Unread};
+
+    ghost from_gives = { λ f e. e ≡ Unread (of_fit f) };
+
+    fn from(fault: FitFault) -> TextReadFault {
+        TextReadFault::Unread(ReadFault::from(fault))
     }
 }
 

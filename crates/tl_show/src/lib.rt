@@ -3,6 +3,7 @@
 
 mod fault;
 mod forms;
+mod from_text;
 mod keyed;
 mod keying;
 mod laws;
@@ -12,10 +13,12 @@ mod plain;
 mod reading;
 mod records;
 mod texts;
+mod tokens;
 mod tree;
 mod writing;
 
-pub use fault::{FormCause, ReadFault};
+pub use fault::{FormCause, ReadFault, TextReadFault};
+pub use from_text::read_text;
 pub use laws::{each_text_tells, each_value_reads_back};
 pub use line::show_text;
 pub use reading::read;

@@ -49,9 +49,9 @@ fn read_form(
     value_of(alloc, json, &keyed, of)
 }
 
-// A value of a type.
+/// A value of a type.
 #[cycle(read)]
-fn value_of(
+pub fn value_of(
     alloc: Global,
     json: &serde_json::Value,
     schema: &KeyedSchema<'_>,

@@ -1,10 +1,15 @@
 -- Faults of reading, made of those of its two halves. This project's own.
+use Rattle.std.specs.Prelude.{◌≡◌, ◌⊎◌}
+use Rattle.serde_json.specs.Errors.{IsMemory}
+use Rattle.serde_json.specs.declared.error.Error.{Error}
 use Rattle.tl_types.specs.declared.misfit.FitFault.{FitFault}
 use Rattle.tl_types.specs.declared.misfit.FitFault.TheVariants as fit
 use Rattle.tl_show.specs.declared.fault.FormFault.{FormFault}
 use Rattle.tl_show.specs.declared.fault.FormFault.TheVariants as form
 use Rattle.tl_show.specs.declared.fault.ReadFault.{ReadFault}
 use Rattle.tl_show.specs.declared.fault.ReadFault.TheVariants as fault
+use Rattle.tl_show.specs.declared.fault.TextReadFault.{TextReadFault}
+use Rattle.tl_show.specs.declared.fault.TextReadFault.TheVariants.{NoJson, Unread}
 
 abbrev pub of_form : FormFault → ReadFault
 of_form (form.Form path cause) = fault.Form path cause
@@ -13,3 +18,7 @@ of_form form.Memory = fault.Memory
 abbrev pub of_fit : FitFault → ReadFault
 of_fit (fit.Misfit m) = fault.Misfit m
 of_fit fit.Memory = fault.Memory
+
+-- a text that is refused is no JSON, unless memory was out
+abbrev pub OfJsonError : Error → TextReadFault → Type 0
+OfJsonError e f = (IsMemory e × (f ≡ Unread fault.Memory)) ⊎ ((IsMemory e → ⊥) × (f ≡ NoJson))
