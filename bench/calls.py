@@ -1,5 +1,5 @@
 #!/usr/bin/env python3
-"""Counts the instructions of calls of which no command makes many: searches in a box, items held in a gap, posts and differences of a server.
+"""Counts the instructions of calls of which no command makes many: searches in a box, items held in a gap, posts and differences of a server, messages as bytes.
 
 Each figure is the difference of two runs of crates/call_bench under callgrind, with the calls and without them, by the number of calls.
 """
@@ -8,7 +8,7 @@ import sys
 
 import runs
 
-EVENTS, CALLS, ITEMS = 1_000_000, 1_000, 1_024
+EVENTS, CALLS, ITEMS, PUSHES = 1_000_000, 1_000, 1_024, 100_000
 
 
 def each(program, words, more, fewer, count):
@@ -33,6 +33,10 @@ def main():
         print(f"{name:<44} {'-' if None in made else '%.0f' % ((made[0] - made[1]) / posts):>12}")
         name = f"difference, the last 100 of {posts:,}"
         print(f"{name:<44} {each(program, ['last', str(posts)], CALLS, 0, CALLS):>12}")
+    for length in (1, 1_000):
+        for word, name in (("spell", "spell_frame"), ("encode", "the codec alone, written"), ("read", "read_frame"), ("decode", "the codec alone, read")):
+            name = f"{name}, a body of {length:,}"
+            print(f"{name:<44} {each(program, [word, str(length)], PUSHES, 0, PUSHES):>12}")
 
 
 main()

@@ -3,6 +3,9 @@
 
 ghost use Rattle.std.specs.Prelude.{◌≤◌, ◌<◌, ◌+◌};
 
+mod pushes;
+
+use crate::pushes::pushes;
 use box_events::{BoxFault, Event, EventBox, Post, Reply, Request};
 use box_server::{PostFault, Server};
 use gap_buffer::{Gap, Held};
@@ -12,7 +15,7 @@ use std::{env, io};
 use tl_base::Bytes;
 
 const USAGE: &str =
-    "usage: call_bench boundary|between EVENTS CALLS, call_bench last POSTS CALLS, call_bench forward|backward ITEMS";
+    "usage: call_bench boundary|between EVENTS CALLS, call_bench last POSTS CALLS, call_bench spell|read|encode|decode BYTES CALLS, call_bench forward|backward ITEMS";
 
 // A box of so many read marks.
 fn box_of(alloc: Global, events: u32) -> Result<EventBox, BoxFault> {
@@ -132,7 +135,7 @@ fn outcome(alloc: Global, words: &[String]) -> Result<Option<u64>, BoxFault> {
                     Ok(messages) => Ok(Some(messages)),
                     Err(_) => Err(BoxFault::Memory),
                 },
-                _ => Ok(None),
+                other => Ok(pushes(alloc, other, events, calls)?),
             }
         }
         [name, items] => {
