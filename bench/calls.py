@@ -1,6 +1,6 @@
 #!/usr/bin/env python3
 """Counts the instructions of calls of which no command makes many: searches in a box, items held in a gap, posts and differences of a server, plans
-of all calls of a schema, and bytes that are fed to a decoder in small and large pieces.
+of all calls of a schema, bytes that are fed to a decoder in small and large pieces, and messages as bytes.
 
 Each figure is the difference of two runs of crates/call_bench under callgrind, with the calls and without them, by the number of calls.
 """
@@ -9,7 +9,7 @@ import sys
 
 import runs
 
-EVENTS, CALLS, ITEMS, DECLARATIONS = 1_000_000, 1_000, 1_024, 1_500
+EVENTS, CALLS, ITEMS, DECLARATIONS, PUSHES = 1_000_000, 1_000, 1_024, 1_500, 100_000
 
 
 def each(program, words, more, fewer, count):
@@ -41,6 +41,10 @@ def main():
         length = 37 * records + 8
         name = f"{name}, of {length:,}"
         print(f"{name:<44} {each(program, ['bytes', str(records)], size, 0, length):>12}")
+    for length in (1, 1_000):
+        for word, name in (("spell", "spell_frame"), ("encode", "the codec alone, written"), ("read", "read_frame"), ("decode", "the codec alone, read")):
+            name = f"{name}, a body of {length:,}"
+            print(f"{name:<44} {each(program, [word, str(length)], PUSHES, 0, PUSHES):>12}")
 
 
 main()

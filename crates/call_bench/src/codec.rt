@@ -16,8 +16,8 @@ const RECORD: &str =
 // The string `record no. 000000` as TL spells it.
 const NAME: [u8; 20] = *b"\x11record no. 000000\0\0";
 
-// The schema that a text is.
-fn schema_of(alloc: Global, text: &[u8]) -> Option<Schema> {
+/// The schema that a text is.
+pub fn schema_of(alloc: Global, text: &[u8]) -> Option<Schema> {
     let tokens = lex(alloc, text).ok()?;
     let program = parse(alloc, text, &tokens).ok()?;
     check(alloc, &program).ok()

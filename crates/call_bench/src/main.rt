@@ -4,8 +4,10 @@
 ghost use Rattle.std.specs.Prelude.{◌≤◌, ◌<◌, ◌+◌};
 
 mod codec;
+mod pushes;
 
 use crate::codec::{fed, plans};
+use crate::pushes::pushes;
 use box_events::{BoxFault, Event, EventBox, Post, Reply, Request};
 use box_server::{PostFault, Server};
 use gap_buffer::{Gap, Held};
@@ -15,7 +17,7 @@ use std::{env, io};
 use tl_base::Bytes;
 
 const USAGE: &str =
-    "usage: call_bench boundary|between EVENTS CALLS, call_bench last POSTS CALLS, call_bench plan DECLARATIONS CALLS, call_bench bytes RECORDS SIZE, call_bench forward|backward ITEMS";
+    "usage: call_bench boundary|between EVENTS CALLS, call_bench last POSTS CALLS, call_bench plan DECLARATIONS CALLS, call_bench bytes RECORDS SIZE, call_bench spell|read|encode|decode BYTES CALLS, call_bench forward|backward ITEMS";
 
 // A box of so many read marks.
 fn box_of(alloc: Global, events: u32) -> Result<EventBox, BoxFault> {
@@ -137,7 +139,7 @@ fn of_many(alloc: Global, name: &str, many: u32, calls: u32) -> Result<Option<u6
         "last" => made(differences(alloc, many, calls)),
         "plan" => made(plans(alloc, many, calls).ok_or(AllocError)),
         "bytes" => made(fed(alloc, many, calls).ok_or(AllocError)),
-        _ => Ok(None),
+        other => Ok(pushes(alloc, other, many, calls)?),
     }
 }
 
