@@ -8,11 +8,17 @@ use std::alloc::{AllocError, Global};
 use tl_base::{Bytes, MemSource};
 use tl_decode::decode;
 use tl_encode::spelling_of;
+use tl_schema::Schema;
 use tl_types::Value;
 use wire_profile::{PROFILE_TEXT, Profile};
 
 // The root of frames in a profile's plan.
 const FRAME_ROOT: u32 = 0;
+
+// The schema that the profile's text is, in a function of its own: what is proved of a caller needn't go through the text.
+fn profile_schema(alloc: Global) -> Result<Schema, AllocError> {
+    schema_of(alloc, PROFILE_TEXT.as_bytes()).ok_or(AllocError)
+}
 
 // A push of a message with a body of so many bytes.
 fn push_of(alloc: Global, length: usize) -> Result<Frame, AllocError> {
@@ -103,9 +109,7 @@ pub fn pushes(
     length: u32,
     calls: u32,
 ) -> Result<Option<u64>, AllocError> {
-    let Some(schema) = schema_of(alloc, PROFILE_TEXT.as_bytes()) else {
-        return Err(AllocError);
-    };
+    let schema = profile_schema(alloc)?;
     let Ok(profile) = Profile::of(alloc, &schema) else {
         return Err(AllocError);
     };
