@@ -102,6 +102,51 @@ fn decoded(alloc: Global, profile: &Profile, bytes: &Bytes, calls: u32) -> Resul
     Ok(number)
 }
 
+// What so many calls of this name come to over the push, which has these bytes; None where the name is of none of them.
+fn called(
+    alloc: Global,
+    profile: &Profile,
+    push: &Frame,
+    bytes: &Bytes,
+    name: &str,
+    calls: u32,
+) -> Result<Option<u64>, AllocError> {
+    match name {
+        "spell" => Ok(Some(spelled(alloc, profile, push, calls)?)),
+        "read" => Ok(Some(read(alloc, profile, bytes, calls)?)),
+        "encode" => Ok(Some(encoded(alloc, profile, bytes, calls)?)),
+        "decode" => Ok(Some(decoded(alloc, profile, bytes, calls)?)),
+        _ => Ok(None),
+    }
+}
+
+// The same of a push of a message of so many bytes.
+fn called_of(
+    alloc: Global,
+    profile: &Profile,
+    name: &str,
+    length: u32,
+    calls: u32,
+) -> Result<Option<u64>, AllocError> {
+    let push = push_of(alloc, length as usize)?;
+    let bytes = bytes_of(alloc, profile, &push)?;
+    called(alloc, profile, &push, &bytes, name, calls)
+}
+
+// The same by the profile that a schema is.
+fn called_by(
+    alloc: Global,
+    schema: &Schema,
+    name: &str,
+    length: u32,
+    calls: u32,
+) -> Result<Option<u64>, AllocError> {
+    match Profile::of(alloc, schema) {
+        Ok(profile) => called_of(alloc, &profile, name, length, calls),
+        Err(_) => Err(AllocError),
+    }
+}
+
 /// What so many calls come to over a push of a message of so many bytes; None where the name is of none of them.
 pub fn pushes(
     alloc: Global,
@@ -109,17 +154,5 @@ pub fn pushes(
     length: u32,
     calls: u32,
 ) -> Result<Option<u64>, AllocError> {
-    let schema = profile_schema(alloc)?;
-    let Ok(profile) = Profile::of(alloc, &schema) else {
-        return Err(AllocError);
-    };
-    let push = push_of(alloc, length as usize)?;
-    let bytes = bytes_of(alloc, &profile, &push)?;
-    match name {
-        "spell" => Ok(Some(spelled(alloc, &profile, &push, calls)?)),
-        "read" => Ok(Some(read(alloc, &profile, &bytes, calls)?)),
-        "encode" => Ok(Some(encoded(alloc, &profile, &bytes, calls)?)),
-        "decode" => Ok(Some(decoded(alloc, &profile, &bytes, calls)?)),
-        _ => Ok(None),
-    }
+    called_by(alloc, &profile_schema(alloc)?, name, length, calls)
 }
