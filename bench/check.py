@@ -83,6 +83,13 @@ def among_variables(variables):
     return pair + "".join("d%d %sx:%s = D%d%s;\n" % (k, before, field, k, after) for k in range(90))
 
 
+def asking(count):
+    """Declarations in which 127 conditions ask for the field after 127 others."""
+    before = "".join(" a%03d:int" % k for k in range(127))
+    after = "".join(" b%03d:f.0?int" % k for k in range(127))
+    return "".join("d%d%s f:#%s = D;\n" % (k, before, after) for k in range(count))
+
+
 def listed(count):
     return "constructors %d functions 0" % count
 
@@ -105,6 +112,7 @@ def texts(counts):
     names = colliding()
     yield "plain", mentioned(plain(len(names))), listed(len(names))
     yield "colliding", mentioned(names), listed(len(names))
+    yield "asking", asking(1_200), listed(1_200)
     yield "none", among_variables(0), listed(91)
     yield "255", among_variables(255), listed(91)
 

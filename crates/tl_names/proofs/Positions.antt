@@ -1,10 +1,10 @@
 -- The first index at which a test passes, as a list grows.
-use Rattle.std.proofs.Common.{◌≡◌, inl, inr, ℕ, zero, suc, ◌+◌, ◌<◌, ◌≤◌, Bool, true, false, cond, not, ◌||◌, List, [], ◌∷◌, ◌++◌, length, position, get_or, slice_get, Option, Some, None, refl, ap, sym, subst, ◌∙◌, if◌then◌else◌, eqb, arith, true≢false}
+use Rattle.std.proofs.Common.{◌≡◌, inl, inr, ℕ, zero, suc, ◌+◌, ◌<◌, ◌≤◌, Bool, true, false, cond, not, ◌||◌, List, [], ◌∷◌, ◌++◌, length, map, position, get_or, slice_get, Option, Some, None, refl, ap, sym, subst, ◌∙◌, if◌then◌else◌, eqb, arith, true≢false}
 use Rattle.std.specs.Bool.{Decides}
 use Rattle.std.specs.List.{position_or_len, list_any}
 use Rattle.std.specs.Option.{unwrap_or}
 use Rattle.std.proofs.lemmas.Bool.{cases_order, lt-ltb, le-ltb, eq-eqb, ne_eqb}
-use Rattle.std.proofs.lemmas.List.{length_push}
+use Rattle.std.proofs.lemmas.List.{length_push, length-map}
 use Rattle.std.proofs.lemmas.List.Folds.{position_or_len_push}
 use Rattle.std.proofs.lemmas.List.Quantifiers.{position-Some}
 use Rattle.std.proofs.lemmas.List.Sums.{prefix_len-le-length}
@@ -77,6 +77,15 @@ module _ {X : Type 0} (test : X → Bool) where
 
   pub position_not_there : (xs : List X) → list_any test xs ≡ false → position test xs ≡ None
   position_not_there xs none = position_missed xs ((position_any xs).1 none)
+
+-- in a list that a function makes
+module _ {X Y : Type 0} (test : Y → Bool) (f : X → Y) where
+  len_made : (xs : List X) → position_or_len test (map f xs) ≡ position_or_len (λ x. test (f x)) xs
+  len_made [] = refl
+  len_made (x ∷ xs) = ap (λ n. cond (not (test (f x))) (1 + n) 0) (len_made xs)
+
+  pub position_made : (xs : List X) → position test (map f xs) ≡ position (λ x. test (f x)) xs
+  position_made xs = rw (len_made xs, length-map xs f) refl
 
 -- ---- where the test decides a property
 

@@ -1,7 +1,7 @@
 -- The resolved types and declarations that the code's own stand for, and the names that its maps resolve. This project's own.
-use Rattle.std.specs.Prelude.{◌≡◌, ℕ, List, map, Some, bytes_eq, position, slice_get}
+use Rattle.std.specs.Prelude.{◌≡◌, ℕ, List, map, Option, bytes_eq, position}
 use Rattle.std.specs.Box.{box_value}
-use Rattle.tl_combinators.specs.Program.{CondText, FieldText, DeclText}
+use Rattle.tl_combinators.specs.Program.{FieldText, DeclText}
 use Rattle.tl_names.specs.What.{known_what, unless_variable}
 use Rattle.tl_names.specs.NamePlaces.{place_in}
 use Rattle.tl_names.specs.NameLists.{place}
@@ -53,11 +53,6 @@ what_in ds vars name = unless_variable (place_in vars name) (known_what ds name)
 abbrev pub NumbersNames : List (List ℕ) → List (List ℕ × ℕ) → Type 0
 NumbersNames names numbers = (name : List ℕ) → place_in numbers name ≡ place name names
 
--- each field has the first index at which its name stands
-abbrev pub NumbersFields : List FieldText → List (List ℕ × ℕ) → Type 0
-NumbersFields fields numbers = (name : List ℕ) → place_in numbers name ≡ position (λ f. bytes_eq name f.name) fields
-
--- so has each name that a condition of one of the fields asks for
-abbrev pub NumbersAsked : List FieldText → List (List ℕ × ℕ) → Type 0
-NumbersAsked fields numbers =
-    (i : ℕ) (f : FieldText) (c : CondText) → slice_get fields i ≡ Some f → f.cond ≡ Some c → place_in numbers c.flags ≡ position (λ g. bytes_eq c.flags g.name) fields
+-- the first field with the name
+abbrev pub field_in : List FieldText → List ℕ → Option ℕ
+field_in fields name = position (λ f. bytes_eq name f.name) fields

@@ -6,7 +6,7 @@ ghost use Rattle.tl_names.specs.Meants.{meant};
 ghost use Rattle.tl_names.specs.MeantViews.{NumbersNames, decl_view, meant_view};
 ghost use Rattle.tl_names.specs.Writing.{own_type};
 
-use crate::fields::{asked_names, meant_fields};
+use crate::fields::meant_fields;
 use crate::index::Index;
 use crate::meant::{Meant, MeantDecl};
 use crate::names::Names;
@@ -37,11 +37,10 @@ fn meant_decl(alloc: Global, index: &Index, decl: &Decl) -> Result<MeantDecl, Al
     ensures { IfOk result (λ m. decl_view m ≡ meant_decl index.now (decl_text decl.now)) }
 {
     let vars = numbered(alloc, &decl.vars)?;
-    let names = asked_names(alloc, &decl.fields)?;
     let result = meant_type(alloc, index, &vars, &decl.result)?;
     Ok(MeantDecl {
         vars: decl.vars.len() as u32,
-        fields: meant_fields(alloc, index, &vars, &names, &decl.fields)?,
+        fields: meant_fields(alloc, index, &vars, &decl.fields)?,
         function: decl.function,
         builtin: decl.builtin,
         head: head_of(index, decl, &result),

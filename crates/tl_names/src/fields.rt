@@ -1,11 +1,10 @@
 //! Fields resolved.
-ghost use Rattle.std.specs.Prelude.{◌≡◌, ◌≤◌, IfOk, is_some, length, map};
-ghost use Rattle.std.specs.List.{list_any};
+ghost use Rattle.std.specs.Prelude.{◌≡◌, ◌≤◌, IfOk, bytes_eq, length, map, position};
 ghost use Rattle.std.specs.Option.{option_map};
 ghost use Rattle.tl_combinators.specs.Program.{FieldText, cond_texts, field_text, kind_text, part_limit};
 ghost use Rattle.tl_names.specs.NamePlaces.{place_in};
 ghost use Rattle.tl_names.specs.MeantDecls.{cond_by, field_by, kind_by};
-ghost use Rattle.tl_names.specs.MeantViews.{NumbersAsked, NumbersFields, field_view, kind_view, what_in};
+ghost use Rattle.tl_names.specs.MeantViews.{field_in, field_view, kind_view, what_in};
 
 use crate::index::Index;
 use crate::meant::{MeantCond, MeantField, MeantKind};
@@ -14,48 +13,71 @@ use crate::types::meant_type;
 use std::alloc::{AllocError, Global};
 use tl_combinators::{Cond, Field, FieldKind};
 
-/// The fields of a declaration with these variables, where conditions find the fields that they ask for in `names`.
+/// The fields of a declaration with these variables. A condition mostly asks for one of the first fields, and a declaration has 256 at most: a search from
+/// the first on takes less than a map of their names would.
 pub fn meant_fields(
     alloc: Global,
     index: &Index,
     vars: &Names,
-    names: &Names,
     fields: &[Field],
 ) -> Result<Vec<MeantField>, AllocError>
-    ensures { IfOk result (λ fs. map field_view fs.items ≡ map (field_by (what_in index.now vars.now) (place_in vars.now) (place_in names.now)) (map field_text fields.now)) }
+    requires { length fields.now ≤ part_limit }
+    ensures { IfOk result (λ fs. map field_view fs.items ≡ map (field_by (what_in index.now vars.now) (place_in vars.now) (field_in (map field_text fields.now))) (map field_text fields.now)) }
 {
     let mut meant = Vec::new(alloc);
     for field in fields {
-        meant.push(meant_field(alloc, index, vars, names, field)?)?;
+        meant.push(meant_field(alloc, index, vars, fields, field)?)?;
     }
     Ok(meant)
 }
 
+// A field, where its condition asks for one of these fields.
 fn meant_field(
     alloc: Global,
     index: &Index,
     vars: &Names,
-    names: &Names,
+    fields: &[Field],
     field: &Field,
 ) -> Result<MeantField, AllocError>
-    ensures { IfOk result (λ f. field_view f ≡ field_by (what_in index.now vars.now) (place_in vars.now) (place_in names.now) (field_text field.now)) }
+    requires { length fields.now ≤ part_limit }
+    ensures { IfOk result (λ f. field_view f ≡ field_by (what_in index.now vars.now) (place_in vars.now) (field_in (map field_text fields.now)) (field_text field.now)) }
 {
     Ok(MeantField {
-        cond: meant_cond(names, &field.cond),
+        cond: meant_cond(fields, &field.cond),
         kind: meant_kind(alloc, index, vars, &field.kind)?,
     })
 }
 
-fn meant_cond(names: &Names, cond: &Option<Cond>) -> Option<MeantCond>
-    ensures { result ≡ option_map (cond_by (place_in names.now)) (cond_texts cond.now) }
+fn meant_cond(fields: &[Field], cond: &Option<Cond>) -> Option<MeantCond>
+    requires { length fields.now ≤ part_limit }
+    ensures { result ≡ option_map (cond_by (field_in (map field_text fields.now))) (cond_texts cond.now) }
 {
     match cond {
         Some(cond) => Some(MeantCond {
-            flags: names.get(cond.flags.as_slice()),
+            flags: field_named(fields, cond.flags.as_slice()),
             bit: cond.bit,
         }),
         None => None,
     }
+}
+
+// The index of the first field with this name.
+fn field_named(fields: &[Field], name: &[u8]) -> Option<u32>
+    requires { length fields.now ≤ part_limit }
+    ensures { result ≡ field_in (map field_text fields.now) name.now }
+{
+    match position_of(fields, name) {
+        Some(at) => Some(at as u32),
+        None => None,
+    }
+}
+
+fn position_of(fields: &[Field], name: &[u8]) -> Option<usize>
+    ensures { result ≡ position (λ f. bytes_eq name.now f.name) fields.now }
+{
+    fields
+        .iter()
+        .position(|field| name == field.name.as_slice())
 }
 
 fn meant_kind(
@@ -76,34 +98,4 @@ fn meant_kind(
             meant: meant_type(alloc, index, vars, tree)?,
         }),
     }
-}
-
-/// The indices of fields by name, where a condition asks for one.
-pub fn asked_names(alloc: Global, fields: &[Field]) -> Result<Names, AllocError>
-    requires { length fields.now ≤ part_limit }
-    ensures { IfOk result (NumbersAsked (map field_text fields.now)) }
-{
-    if has_condition(fields) {
-        field_names(alloc, fields)
-    } else {
-        Ok(Names::new(alloc))
-    }
-}
-
-fn has_condition(fields: &[Field]) -> bool
-    ensures { result ≡ list_any (λ f. is_some f.cond) fields.now }
-{
-    fields.iter().any(|field| field.cond.is_some())
-}
-
-// The index of each field by its name.
-fn field_names(alloc: Global, fields: &[Field]) -> Result<Names, AllocError>
-    requires { length fields.now ≤ part_limit }
-    ensures { IfOk result (NumbersFields (map field_text fields.now)) }
-{
-    let mut names = Names::new(alloc);
-    for (at, field) in fields.iter().enumerate() {
-        names.note(alloc, field.name.as_slice(), at as u32)?;
-    }
-    Ok(names)
 }

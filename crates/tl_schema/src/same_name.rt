@@ -71,8 +71,46 @@ fn part_name(decl: &Decl, i: usize) -> &[u8]
     }
 }
 
+// The most variables and fields whose names are compared pair by pair; more are noted in an ordered map.
+const FEW_PARTS: usize = 32;
+
 // Whether two variables or fields have one name.
 fn repeats_part(alloc: Global, decl: &Decl) -> Result<bool, AllocError>
+    ensures { IfOk result (λ b. IsTrue b ↔ ((i : ℕ) × IsRepeat (part_names (decl_text decl.now)) i)) }
+{
+    if decl.vars.len() + decl.fields.len() <= FEW_PARTS {
+        Ok(repeats_one_of_few(decl))
+    } else {
+        repeats_one_of_many(alloc, decl)
+    }
+}
+
+// Whether an earlier variable or field has the name of this one.
+fn is_repeat(decl: &Decl, i: usize) -> bool
+    requires { i < length (part_names (decl_text decl.now)) }
+    ensures { IsTrue result ↔ IsRepeat (part_names (decl_text decl.now)) i }
+{
+    let name = part_name(decl, i);
+    for j in 0..i {
+        if part_name(decl, j) == name {
+            return true;
+        }
+    }
+    false
+}
+
+fn repeats_one_of_few(decl: &Decl) -> bool
+    ensures { IsTrue result ↔ ((i : ℕ) × IsRepeat (part_names (decl_text decl.now)) i) }
+{
+    for i in 0..decl.vars.len() + decl.fields.len() {
+        if is_repeat(decl, i) {
+            return true;
+        }
+    }
+    false
+}
+
+fn repeats_one_of_many(alloc: Global, decl: &Decl) -> Result<bool, AllocError>
     ensures { IfOk result (λ b. IsTrue b ↔ ((i : ℕ) × IsRepeat (part_names (decl_text decl.now)) i)) }
 {
     let mut names = Names::new(alloc);

@@ -14,7 +14,6 @@ pub returns : goal.returns
 returns c =
     let d = decl_text c.args.decl.now in
     let numbers = rw c.deref.ensures.value at c.in_ok-vars.ensures in
-    let asked = rw c.deref-2.ensures.value at c.in_ok-names.ensures in
     let vars : c.len.result ≡ length d.vars = omega (arith, c.len.ensures, c.args.decl.now.vars.ok.0) in
-    let fields : map field_view c.in_ok-meant_fields.field-0.items ≡ map (meant_field c.args.index.now d) d.fields = (rw c.deref-3.ensures.value at c.in_ok-meant_fields.ensures) ∙ fields_same c.args.index.now d c.in_ok-vars.vars numbers c.in_ok-names.names asked in
+    let fields : map field_view c.in_ok-meant_fields.field-0.items ≡ map (meant_field c.args.index.now d) d.fields = (rw c.deref-2.ensures.value at c.in_ok-meant_fields.ensures) ∙ fields_same c.args.index.now d c.in_ok-vars.vars numbers in
     decl_same c.args.index.now d vars fields (c.in_ok-result.ensures ∙ type_same c.args.index.now d c.in_ok-vars.vars numbers (view c.args.decl.now.result)) c.head_of.ensures

@@ -10,7 +10,7 @@ use Rattle.tl_schema.specs.inner.SameNameSteps.{is_noted}
 use Rattle.tl_names.proofs.Maps.{take_push}
 use Rattle.tl_schema.proofs.SameNames.{or_last}
 use Rattle.tl_schema.proofs.Repeats.{repeat_found, repeat_not_found}
-use Rattle.tl_schema.proofs.same_name.repeats_part.Goals as goal
+use Rattle.tl_schema.proofs.same_name.repeats_one_of_many.Goals as goal
 
 pub loop-i-init : goal.loop-i-init
 loop-i-init c = (λ name. ap (λ ns. is_noted ns name) c.new-names.ensures, λ k below. absurd (omega (arith, below)))

@@ -4,7 +4,7 @@ use Rattle.tl_combinators.specs.Program.{decl_text}
 use Rattle.tl_names.specs.NameLists.{IsRepeat}
 use Rattle.tl_schema.specs.SameName.{part_names}
 use Rattle.tl_schema.specs.inner.SameNameSteps.{is_noted}
-use Rattle.tl_schema.proofs.same_name.repeats_part.Given as goal
+use Rattle.tl_schema.proofs.same_name.repeats_one_of_many.Given as goal
 
 abbrev pub invariant-loop-i : goal.invariant-loop-i
 invariant-loop-i l =
