@@ -16,8 +16,6 @@ mod numbers;
 #[cfg(test)]
 mod packets;
 #[cfg(test)]
-mod profiles;
-#[cfg(test)]
 mod schemas;
 #[cfg(test)]
 mod shows;

@@ -5,7 +5,8 @@ use tl_lexer::lex;
 use tl_schema::{Schema, check};
 use wire_profile::PROFILE_TEXT;
 
-fn schema_of(alloc: Global, text: &str) -> Result<Schema, AllocError> {
+/// The schema that a text is; a text that is none is answered as out of memory.
+pub fn schema_of(alloc: Global, text: &str) -> Result<Schema, AllocError> {
     let bytes = text.as_bytes();
     let Ok(tokens) = lex(alloc, bytes) else {
         return Err(AllocError);
