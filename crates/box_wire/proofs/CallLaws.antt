@@ -11,7 +11,7 @@ use Rattle.wire_checks.specs.declared.fault.WireFault.{WireFault}
 use Rattle.box_wire.specs.inner.Wholes.{ReadsWhole}
 use Rattle.wire_forms.specs.declared.form.Cell.{Cell}
 use Rattle.wire_forms.specs.declared.form.Cell.TheVariants.{Whole, Query}
-use Rattle.wire_forms.specs.Forms.{forms, cells_of, is_function}
+use Rattle.wire_forms.specs.Forms.{forms, cells_of, is_function, is_request}
 use Rattle.wire_forms.specs.Parts.{first, at, parts_of, entry_of}
 use Rattle.wire_forms.specs.IsOf.{IsOf, AreOf}
 use Rattle.wire_forms.specs.declared.numbers.TheConstants.{GET_STATE, GET_DIFFERENCE, GET_CHANNEL_DIFFERENCE, INVOKE, POST}
@@ -20,7 +20,6 @@ use Rattle.wire_values.specs.Calls.{call_tree, call_in}
 use Rattle.wire_values.specs.Calls as values
 use Rattle.wire_values.proofs.CallsAndValues.{call_same, call_back}
 use Rattle.wire_checks.specs.Causes.{call_cause}
-use Rattle.wire_checks.specs.Rules.{is_served}
 use Rattle.wire_checks.proofs.RuleFacts.{served_is, both_true, either_true, same, clear_of_call}
 use Rattle.box_wire.specs.Kinds.{calls}
 use Rattle.box_wire.proofs.Exactly.{KindLaws}
@@ -32,7 +31,7 @@ use Rattle.box_wire.proofs.Levels.{are_under, fields_levels, few_levels}
 abbrev IsAsked : ℕ → Type 0
 IsAsked k = (k ≡ GET_STATE) ⊎ ((k ≡ GET_DIFFERENCE) ⊎ ((k ≡ GET_CHANNEL_DIFFERENCE) ⊎ (k ≡ POST)))
 
-asked : (k : ℕ) → is_served k ≡ true → IsAsked k
+asked : (k : ℕ) → is_request k ≡ true → IsAsked k
 asked k e = elim (either_true (k == GET_STATE) ((k == GET_DIFFERENCE) || ((k == GET_CHANNEL_DIFFERENCE) || (k == POST))) e) [
   | inl a ↦ inl (eqb-true _ _ a)
   | inr b ↦ elim (either_true (k == GET_DIFFERENCE) ((k == GET_CHANNEL_DIFFERENCE) || (k == POST)) b) [
@@ -77,7 +76,7 @@ post_plain : IsPlainFunction POST
 unfolding forms
 post_plain = record { function = refl; plain = refl; under = refl }
 
-plain_function : (k : ℕ) → is_served k ≡ true → IsPlainFunction k
+plain_function : (k : ℕ) → is_request k ≡ true → IsPlainFunction k
 plain_function k e = by_asked IsPlainFunction state_plain difference_plain channel_plain post_plain k (asked k e)
 
 invoke_is : is_function INVOKE ≡ true
@@ -100,11 +99,11 @@ plain_served [] e vs = tt
 plain_served (c ∷ cs) e no_values = tt
 plain_served (c ∷ cs) e (value v vs) = let s = cell_served c cs e v in (s.0, plain_served cs s.1 vs)
 
-query_served : (v : ValueView) → is_served (entry_of v) ≡ true → IsServed Query v
+query_served : (v : ValueView) → is_request (entry_of v) ≡ true → IsServed Query v
 query_served (call k vs) e = let f = plain_function k e in (f.function, plain_served (cells_of k) f.plain vs)
 query_served v e = tt
 
-invoke_served : (vs : ValueViews) → is_served (entry_of (at 1 vs)) ≡ true → AreServed (Whole ∷ Query ∷ []) vs
+invoke_served : (vs : ValueViews) → is_request (entry_of (at 1 vs)) ≡ true → AreServed (Whole ∷ Query ∷ []) vs
 invoke_served no_values e = tt
 invoke_served (value a no_values) e = (tt, tt)
 invoke_served (value a (value b vs)) e = (tt, (query_served b e, tt))
@@ -118,7 +117,7 @@ call_served t e = tt
 request_in : (t : ValueView) → call_cause t ≡ None → values.is_served t ≡ true
 request_in t e =
     let s = served_is t (clear_of_call t e).0 in
-    both_true (entry_of t == INVOKE) (is_served (entry_of (at 1 (parts_of t)))) (same _ _ s.0) s.1
+    both_true (entry_of t == INVOKE) (is_request (entry_of (at 1 (parts_of t)))) (same _ _ s.0) s.1
 
 pub call_laws : KindLaws calls call_tree call_in (λ _. ⊤)
 call_laws = record {
@@ -131,11 +130,11 @@ call_laws = record {
 
 -- ---- levels
 
-query_levels : (v : ValueView) → is_served (entry_of v) ≡ true → IsOf Query v → depth v ≤ 4
+query_levels : (v : ValueView) → is_request (entry_of v) ≡ true → IsOf Query v → depth v ≤ 4
 query_levels (call k vs) e is = fields_levels vs (first vs) (cells_of k) 4 (plain_function k e).under is.1
 query_levels v e is = absurd is
 
-invoke_levels : (vs : ValueViews) → is_served (entry_of (at 1 vs)) ≡ true → AreOf (first vs) (Whole ∷ Query ∷ []) vs → depth_of vs ≤ 4
+invoke_levels : (vs : ValueViews) → is_request (entry_of (at 1 vs)) ≡ true → AreOf (first vs) (Whole ∷ Query ∷ []) vs → depth_of vs ≤ 4
 invoke_levels no_values e is = absurd is
 invoke_levels (value a no_values) e is = absurd is.1
 invoke_levels (value a (value b no_values)) e is =

@@ -1,5 +1,5 @@
 //! Calls of clients as bytes, and back.
-ghost use Rattle.std.specs.Prelude.{◌≡◌, ⊤};
+ghost use Rattle.std.specs.Prelude.{⊤};
 ghost use Rattle.tl_types.specs.Seen.{view};
 ghost use Rattle.wire_checks.specs.Causes.{call_cause};
 ghost use Rattle.wire_values.specs.Calls.{call_in as call_by, call_tree};
@@ -33,14 +33,14 @@ pub fn read_call(alloc: Global, profile: &Profile, bytes: &[u8]) -> Result<Numbe
 {
     let mut value = value_of_call(alloc, profile.schema(), bytes)?;
     profile.own(&mut value);
-    call_in(alloc, &value)
+    call_in(alloc, value)
 }
 
 // The call of a value, or its first cause.
-fn call_in(alloc: Global, value: &Value) -> Result<Numbered, WireFault>
-    ensures { AnswersMessage (call_cause (view value.now)) (call_by (view value.now)) result }
+fn call_in(alloc: Global, value: Value) -> Result<Numbered, WireFault>
+    ensures { AnswersMessage (call_cause (view value)) (call_by (view value)) result }
 {
-    match call_cause(value) {
+    match call_cause(&value) {
         Some(fault) => Err(fault),
         None => Ok(call_of(alloc, value)?),
     }

@@ -1,5 +1,4 @@
 //! Frames of a server as bytes, and back.
-ghost use Rattle.std.specs.Prelude.{◌≡◌, ℕ, List};
 ghost use Rattle.tl_types.specs.Seen.{view};
 ghost use Rattle.wire_checks.specs.Causes.{cause_of};
 ghost use Rattle.wire_checks.specs.declared.rule.Root.TheVariants as root;
@@ -38,14 +37,14 @@ pub fn read_frame(alloc: Global, profile: &Profile, bytes: &[u8]) -> Result<Fram
 {
     let mut value = value_in(alloc, profile.plan(), FRAME_ROOT, bytes)?;
     profile.own(&mut value);
-    frame_in(alloc, &value)
+    frame_in(alloc, value)
 }
 
 // The frame of a value, or its first cause.
-fn frame_in(alloc: Global, value: &Value) -> Result<Frame, WireFault>
-    ensures { AnswersMessage (cause_of root.Frame (view value.now)) (frame_in (view value.now)) result }
+fn frame_in(alloc: Global, value: Value) -> Result<Frame, WireFault>
+    ensures { AnswersMessage (cause_of root.Frame (view value)) (frame_in (view value)) result }
 {
-    match frame_cause(value) {
+    match frame_cause(&value) {
         Some(fault) => Err(fault),
         None => Ok(frame_of(alloc, value)?),
     }

@@ -1,5 +1,5 @@
 //! Saved clients as bytes, and back.
-ghost use Rattle.std.specs.Prelude.{◌≡◌, IfOk};
+ghost use Rattle.std.specs.Prelude.{IfOk};
 ghost use Rattle.tl_types.specs.Seen.{view};
 ghost use Rattle.wire_checks.specs.Causes.{cause_of};
 ghost use Rattle.wire_checks.specs.declared.rule.Root.TheVariants as root;
@@ -38,14 +38,14 @@ pub fn read_saved(alloc: Global, profile: &Profile, bytes: &[u8]) -> Result<Save
 {
     let mut value = value_in(alloc, profile.plan(), SAVED_ROOT, bytes)?;
     profile.own(&mut value);
-    saved_in(alloc, &value)
+    saved_in(alloc, value)
 }
 
 // The saved client of a value, or its first cause.
-fn saved_in(alloc: Global, value: &Value) -> Result<Saved, WireFault>
-    ensures { AnswersMessage (cause_of root.Saved (view value.now)) (saved_by (view value.now)) result }
+fn saved_in(alloc: Global, value: Value) -> Result<Saved, WireFault>
+    ensures { AnswersMessage (cause_of root.Saved (view value)) (saved_by (view value)) result }
 {
-    match saved_cause(value) {
+    match saved_cause(&value) {
         Some(fault) => Err(fault),
         None => Ok(saved_of(alloc, value)?),
     }

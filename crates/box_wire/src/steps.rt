@@ -63,7 +63,7 @@ fn step_from(alloc: Global, profile: &Profile, value: Value) -> Result<Option<St
     profile.own(&mut owned);
     match step_cause(&owned) {
         Some(fault) => Err(StepReadFault::Wire(fault)),
-        None => Ok(Some(step_of(alloc, &owned)?)),
+        None => Ok(Some(step_of(alloc, owned)?)),
     }
 }
 

@@ -5,11 +5,12 @@ use Rattle.std.proofs.lemmas.Bool.{leb-true, le-leb, eqb-true, not-true}
 use Rattle.std.proofs.lemmas.Bool.Decides.{nat_tests}
 use Rattle.tl_types.specs.Values.{ValueView, ValueViews, no_values, value, count}
 use Rattle.box_events.specs.declared.limits.TheConstants.{MAX_END, MAX_IDS}
+use Rattle.wire_forms.specs.Forms.{is_request}
 use Rattle.wire_forms.specs.Parts.{at, parts_of, entry_of, word_of}
 use Rattle.wire_forms.specs.declared.numbers.TheConstants.{EVENT_READ, CLIENT, INVOKE}
 use Rattle.wire_checks.specs.Ranges.{unless, is_between, bad_number, bad_end, bad_date, bad_seq, not_one, are_few, not_of_ids, bad_ids}
 use Rattle.wire_checks.specs.Updates.{settings, unordered, is_pack, bad_pack, is_other, wrong_among, wrong_update}
-use Rattle.wire_checks.specs.Rules.{stands_among, is_known, version_fault, is_served, not_served}
+use Rattle.wire_checks.specs.Rules.{stands_among, is_known, version_fault, not_served}
 use Rattle.wire_checks.specs.Causes.{call_cause, cause_of}
 use Rattle.wire_checks.specs.Clear.{IsClear}
 use Rattle.wire_checks.specs.declared.rule.Root.TheVariants.{Call}
@@ -200,10 +201,10 @@ version_of vs a = none_of _ _ (known_of _ vs a)
 
 -- ---- calls
 
-pub served_is : (v : ValueView) → not_served v ≡ None → (entry_of v ≡ INVOKE) × (is_served (entry_of (at 1 (parts_of v))) ≡ true)
-served_is v e = (eqb-true _ _ (holds _ _ (first_none _ (unless (is_served (entry_of (at 1 (parts_of v)))) (NotServed 8)) e)), holds _ _ (second_none (unless (entry_of v == INVOKE) (NotServed 0)) _ e))
+pub served_is : (v : ValueView) → not_served v ≡ None → (entry_of v ≡ INVOKE) × (is_request (entry_of (at 1 (parts_of v))) ≡ true)
+served_is v e = (eqb-true _ _ (holds _ _ (first_none _ (unless (is_request (entry_of (at 1 (parts_of v)))) (NotServed 8)) e)), holds _ _ (second_none (unless (entry_of v == INVOKE) (NotServed 0)) _ e))
 
-pub served_of : (v : ValueView) → entry_of v ≡ INVOKE → is_served (entry_of (at 1 (parts_of v))) ≡ true → not_served v ≡ None
+pub served_of : (v : ValueView) → entry_of v ≡ INVOKE → is_request (entry_of (at 1 (parts_of v))) ≡ true → not_served v ≡ None
 served_of v a b = both_none _ _ (none_of _ _ (same _ _ a)) (none_of _ _ b)
 
 pub clear_of_call : (v : ValueView) → call_cause v ≡ None → (not_served v ≡ None) × IsClear Call v

@@ -1,8 +1,9 @@
 -- What one record of form k with these fields breaks of a rule: one definition for each cause. This project's own.
 use Rattle.std.specs.Prelude.{ℕ, Option, None, Bool, true, false, not, ◌&&◌, ◌||◌, ◌==◌, if◌then◌else◌}
 use Rattle.tl_types.specs.Values.{ValueView, list, node, call, ValueViews, no_values, value}
+use Rattle.wire_forms.specs.Forms.{is_request}
 use Rattle.wire_forms.specs.Parts.{at, parts_of, entry_of, int_of, word_of}
-use Rattle.wire_forms.specs.declared.numbers.TheConstants.{UPDATE_NEW_MESSAGE, UPDATE_EDIT_MESSAGE, UPDATE_DELETE_MESSAGES, UPDATE_NEW_ENCRYPTED_MESSAGE, UPDATE_NEW_CHANNEL_MESSAGE, UPDATE_EDIT_CHANNEL_MESSAGE, UPDATE_DELETE_CHANNEL_MESSAGES, UPDATE_READ_HISTORY, UPDATE_READ_CHANNEL_HISTORY, UPDATES, UPDATES_COMBINED, STATE, DIFFERENCE_EMPTY, DIFFERENCE, DIFFERENCE_SLICE, CHANNEL_DIFFERENCE_EMPTY, CHANNEL_DIFFERENCE, CHANNEL_DIFFERENCE_TOO_LONG, STATE_REPLY, DIFFERENCE_REPLY, CHANNEL_REPLY, RECEIPT_REPLY, ERROR_REPLY, RECEIPT, STEP_DATE, STEP_SERVE, STEP_HEAR, STEP_TICK, STEP_WAKE, STEP_WATCH, STEP_RESTART, EVENT_DELETE, EVENT_READ, LANE, CLIENT, GET_STATE, GET_DIFFERENCE, GET_CHANNEL_DIFFERENCE, INVOKE, POST}
+use Rattle.wire_forms.specs.declared.numbers.TheConstants.{UPDATE_NEW_MESSAGE, UPDATE_EDIT_MESSAGE, UPDATE_DELETE_MESSAGES, UPDATE_NEW_ENCRYPTED_MESSAGE, UPDATE_NEW_CHANNEL_MESSAGE, UPDATE_EDIT_CHANNEL_MESSAGE, UPDATE_DELETE_CHANNEL_MESSAGES, UPDATE_READ_HISTORY, UPDATE_READ_CHANNEL_HISTORY, UPDATES, UPDATES_COMBINED, STATE, DIFFERENCE_EMPTY, DIFFERENCE, DIFFERENCE_SLICE, CHANNEL_DIFFERENCE_EMPTY, CHANNEL_DIFFERENCE, CHANNEL_DIFFERENCE_TOO_LONG, STATE_REPLY, DIFFERENCE_REPLY, CHANNEL_REPLY, RECEIPT_REPLY, ERROR_REPLY, RECEIPT, STEP_DATE, STEP_SERVE, STEP_HEAR, STEP_TICK, STEP_WAKE, STEP_WATCH, STEP_RESTART, EVENT_DELETE, EVENT_READ, LANE, CLIENT, GET_DIFFERENCE, INVOKE}
 use Rattle.wire_checks.specs.Ranges.{unless, before, bad_number, bad_end, bad_date, bad_seq, not_one, not_of_ids, bad_ids}
 use Rattle.wire_checks.specs.Updates.{unordered, bad_pack, wrong_update}
 use Rattle.wire_checks.specs.declared.fault.WireFault.{WireFault}
@@ -116,12 +117,8 @@ seq_fault k vs =
     else if k == CLIENT then bad_seq (at 5 vs)
     else None
 
--- a server answers these
-abbrev pub is_served : ℕ → Bool
-is_served k = (k == GET_STATE) || ((k == GET_DIFFERENCE) || ((k == GET_CHANNEL_DIFFERENCE) || (k == POST)))
-
 -- of a whole call: a server is asked by `peer.invoke`, whose query stands 8 bytes after its first
 abbrev pub not_served : ValueView → Option WireFault
 not_served v =
     before (unless (entry_of v == INVOKE) (NotServed 0))
-    (unless (is_served (entry_of (at 1 (parts_of v)))) (NotServed 8))
+    (unless (is_request (entry_of (at 1 (parts_of v)))) (NotServed 8))

@@ -3,6 +3,7 @@ ghost use Rattle.std.specs.Prelude.{◌≡◌};
 ghost use Rattle.tl_types.specs.Seen.{view, views};
 ghost use Rattle.wire_checks.specs.Causes as causes;
 ghost use Rattle.wire_checks.specs.Rules as rules;
+ghost use Rattle.wire_forms.specs.Forms as forms;
 
 use crate::fault::WireFault;
 use crate::ranges::{bad_date, bad_end, bad_ids, bad_number, bad_seq, not_of_ids, not_one, unless};
@@ -159,8 +160,8 @@ pub fn broken(rule: Rule, form: u32, fields: &[Value]) -> Option<WireFault>
 }
 
 // Whether a server answers calls of this form.
-fn is_served(form: u32) -> bool
-    ensures { result ≡ rules.is_served form }
+fn is_request(form: u32) -> bool
+    ensures { result ≡ forms.is_request form }
 {
     matches!(
         form,
@@ -173,7 +174,7 @@ pub fn not_served(call: &Value) -> Option<WireFault>
     ensures { result ≡ rules.not_served (view call.now) }
 {
     unless(entry_of(call) == INVOKE, WireFault::NotServed { place: 0 }).or(unless(
-        is_served(entry_in(parts_of(call), 1)),
+        is_request(entry_in(parts_of(call), 1)),
         WireFault::NotServed { place: 8 },
     ))
 }

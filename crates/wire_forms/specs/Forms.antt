@@ -1,11 +1,11 @@
 -- The forms of the protocol: its constructors and functions, with their fields.
 -- From "Working with Updates" (core.telegram.org/api/updates); layouts and numbers are this project's own.
-use Rattle.std.specs.Prelude.{ℕ, List, [], ◌∷◌, map, codes, Bool, true, false, not, ◌&&◌, ◌==◌, Option, Some, None, slice_get}
+use Rattle.std.specs.Prelude.{ℕ, List, [], ◌∷◌, map, codes, Bool, true, false, not, ◌&&◌, ◌||◌, ◌==◌, Option, Some, None, slice_get}
 use Rattle.wire_forms.specs.declared.form.Cell.{Cell}
 use Rattle.wire_forms.specs.declared.form.Cell.TheVariants.{Whole, Signed, Long, Body, Key, Ids, Bodies, Flags, Final, Many, One, Bare, ManyBare, Query}
 use Rattle.wire_forms.specs.declared.form.Part.{Part}
 use Rattle.wire_forms.specs.declared.form.Form.{Form}
-use Rattle.wire_forms.specs.declared.numbers.TheConstants.{CHANNEL, CHANNEL_DIFFERENCE_TYPE, CHANNEL_TYPE, CLIENT_TYPE, DIFFERENCE_TYPE, EVENT_TYPE, FRAME_TYPE, LANE, LANE_TYPE, POST_TYPE, RECEIPT, RECEIPT_TYPE, SETTING, SETTING_TYPE, STATE, STATE_TYPE, STEP_TYPE, UPDATES_TYPE, UPDATE_TYPE}
+use Rattle.wire_forms.specs.declared.numbers.TheConstants.{CHANNEL, CHANNEL_DIFFERENCE_TYPE, CHANNEL_TYPE, CLIENT_TYPE, DIFFERENCE_TYPE, EVENT_TYPE, FRAME_TYPE, GET_CHANNEL_DIFFERENCE, GET_DIFFERENCE, GET_STATE, LANE, LANE_TYPE, POST, POST_TYPE, RECEIPT, RECEIPT_TYPE, SETTING, SETTING_TYPE, STATE, STATE_TYPE, STEP_TYPE, UPDATES_TYPE, UPDATE_TYPE}
 
 -- a field's name, and what stands in it
 pub record PartView : Type 0 where
@@ -140,3 +140,7 @@ answers (Some f) = f.function
 
 abbrev pub is_function : ℕ → Bool
 is_function k = answers (slice_get forms k)
+
+-- form k is one of the functions that a server answers
+abbrev pub is_request : ℕ → Bool
+is_request k = (k == GET_STATE) || ((k == GET_DIFFERENCE) || ((k == GET_CHANNEL_DIFFERENCE) || (k == POST)))

@@ -9,8 +9,5 @@ mod table;
 
 pub use form::{Cell, Form, Part};
 pub use making::{bodies_value, call, counted, ids_value, node, number, text_value};
-pub use parts::{
-    bits_in, count_in, entry_in, entry_of, int_in, int_of, long_in, parts_in, parts_of, text_in,
-    text_of, word_in,
-};
+pub use parts::{count_in, entry_in, entry_of, int_in, int_of, parts_in, parts_of, word_in};
 pub use table::{forms, type_names};

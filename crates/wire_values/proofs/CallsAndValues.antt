@@ -9,13 +9,13 @@ use Rattle.box_events.specs.declared.requests.Numbered.{Numbered}
 use Rattle.wire_forms.specs.declared.form.Cell.{Cell}
 use Rattle.wire_forms.specs.declared.form.Cell.TheVariants.{Whole, Signed, Long, Many, Query}
 use Rattle.wire_forms.specs.declared.numbers.TheConstants.{POST_TYPE, GET_STATE, GET_DIFFERENCE, GET_CHANNEL_DIFFERENCE, INVOKE, POST}
-use Rattle.wire_forms.specs.Forms.{forms, is_function, cells_of}
+use Rattle.wire_forms.specs.Forms.{forms, is_function, cells_of, is_request}
 use Rattle.wire_forms.specs.Parts.{first, at, parts_of, entry_of, long_of, word_of, number}
 use Rattle.wire_forms.specs.IsOf.{IsOf, AreOf}
 use Rattle.wire_forms.proofs.Words.{clash, again, number_is}
 use Rattle.wire_forms.proofs.Cells.{fields_are, field_at}
 use Rattle.wire_forms.proofs.Records.{opened_call, by_function}
-use Rattle.wire_values.specs.Calls.{request_tree, call_tree, request_at, call_at, call_in, is_request, is_served}
+use Rattle.wire_values.specs.Calls.{request_tree, call_tree, request_at, call_at, call_in, is_served}
 use Rattle.wire_values.specs.Carried.{FitsRequest, FitsCall}
 use Rattle.wire_values.proofs.PostsAndSteps.{posts_same, posts_back, posts_fit}
 

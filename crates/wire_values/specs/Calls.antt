@@ -1,9 +1,10 @@
 -- The value of a call, and the call of a value: a request, with the number under which it is asked. This project's own.
-use Rattle.std.specs.Prelude.{ℕ, [], ◌∷◌, Bool, ◌&&◌, ◌||◌, ◌==◌, if◌then◌else◌}
+use Rattle.std.specs.Prelude.{ℕ, [], ◌∷◌, Bool, ◌&&◌, ◌==◌, if◌then◌else◌}
 use Rattle.tl_types.specs.Values.{ValueView, int, long, list, call, ValueViews, no_values, values_of}
 use Rattle.box_events.specs.declared.requests.Request.{Request}
 use Rattle.box_events.specs.declared.requests.Request.TheVariants as request
 use Rattle.box_events.specs.declared.requests.Numbered.{Numbered}
+use Rattle.wire_forms.specs.Forms.{is_request}
 use Rattle.wire_forms.specs.Parts.{at, parts_of, entry_of, int_of, long_of, word_of, number, each, row}
 use Rattle.wire_forms.specs.declared.numbers.TheConstants.{GET_STATE, GET_DIFFERENCE, GET_CHANNEL_DIFFERENCE, INVOKE, POST}
 use Rattle.wire_values.specs.Posts.{post_tree, post_in}
@@ -36,12 +37,6 @@ call_at ts = record { number = word_of (at 0 ts); request = request_at (entry_of
 -- the call of a value
 abbrev pub call_in : ValueView → Numbered
 call_in t = call_at (parts_of t)
-
--- ---- served calls
-
--- form k is one of the four requests
-abbrev pub is_request : ℕ → Bool
-is_request k = (k == GET_STATE) || ((k == GET_DIFFERENCE) || ((k == GET_CHANNEL_DIFFERENCE) || (k == POST)))
 
 -- a call that carries a request
 abbrev pub is_served : ValueView → Bool

@@ -1,3 +1,4 @@
+pub mod Coming
 pub mod Updates
 pub mod Others
 pub mod Frames

@@ -1,11 +1,15 @@
 //! The frames of values.
 ghost use Rattle.std.specs.Prelude.{◌≡◌, IfOk};
 ghost use Rattle.tl_types.specs.Conditions.{is_bit};
-ghost use Rattle.tl_types.specs.Seen.{view, views};
+ghost use Rattle.tl_types.specs.Seen.{view};
+ghost use Rattle.wire_values.specs.Coming.{coming};
 ghost use Rattle.wire_values.specs.Frames.{push_at, state_at, receipt_at, difference_at, channel_reply_at, frame_at, frame_in, start_of as start_by};
 
-use crate::lists::bodies_in;
-use crate::update_reader::{others_of, placed_all, settings_of, updates_of};
+use crate::fields::{
+    Fields, next_bits, next_int, next_opened, next_parts, next_text, next_word, opened, skip,
+};
+use crate::lists::bodies_of;
+use crate::update_reader::{others_and_settings, placed_all, updates_of};
 use box_events::{ChannelReply, Frame, ListOf, Push, Receipt, Reply, State};
 use std::alloc::Global;
 use tl_base::Memory;
@@ -14,7 +18,6 @@ use wire_forms::numbers::{
     CHANNEL_DIFFERENCE, CHANNEL_DIFFERENCE_EMPTY, CHANNEL_REPLY, DIFFERENCE, DIFFERENCE_EMPTY,
     DIFFERENCE_REPLY, ERROR_REPLY, RECEIPT_REPLY, STATE_REPLY, UPDATES, UPDATES_TOO_LONG,
 };
-use wire_forms::{bits_in, entry_in, entry_of, int_in, parts_in, parts_of, text_in, word_in};
 
 // The start of a container, 0 where its seq is.
 fn start_of(seq_start: u32, seq: u32) -> u32
@@ -23,73 +26,84 @@ fn start_of(seq_start: u32, seq: u32) -> u32
     if seq == 0 { 0 } else { seq_start }
 }
 
-fn push_of(alloc: Global, form: u32, fields: &[Value]) -> Result<Push, Memory>
-    ensures { IfOk result (λ p. p ≡ push_at form (views fields.now)) }
+fn push_of(alloc: Global, form: u32, mut fields: Fields) -> Result<Push, Memory>
+    ensures { IfOk result (λ p. p ≡ push_at form (coming fields)) }
 {
-    match form {
-        UPDATES_TOO_LONG => Ok(Push::TooLong),
-        UPDATES => Ok(Push::Container {
-            updates: updates_of(alloc, parts_in(fields, 0))?,
-            date: word_in(fields, 1),
-            seq_start: word_in(fields, 2),
-            seq: word_in(fields, 2),
-        }),
-        _ => Ok(Push::Container {
-            updates: updates_of(alloc, parts_in(fields, 0))?,
-            date: word_in(fields, 1),
-            seq_start: start_of(word_in(fields, 2), word_in(fields, 3)),
-            seq: word_in(fields, 3),
-        }),
+    if form == UPDATES_TOO_LONG {
+        return Ok(Push::TooLong);
     }
+    let updates = updates_of(alloc, next_parts(alloc, &mut fields))?;
+    let date = next_word(&mut fields);
+    let first = next_word(&mut fields);
+    if form == UPDATES {
+        return Ok(Push::Container {
+            updates,
+            date,
+            seq_start: first,
+            seq: first,
+        });
+    }
+    let seq = next_word(&mut fields);
+    Ok(Push::Container {
+        updates,
+        date,
+        seq_start: start_of(first, seq),
+        seq,
+    })
 }
 
-fn state_of(fields: &[Value]) -> State
-    ensures { result ≡ state_at (views fields.now) }
+fn state_from(mut fields: Fields) -> State
+    ensures { result ≡ state_at (coming fields) }
 {
     State {
-        pts: word_in(fields, 0),
-        qts: word_in(fields, 1),
-        date: word_in(fields, 2),
-        seq: word_in(fields, 3),
+        pts: next_word(&mut fields),
+        qts: next_word(&mut fields),
+        date: next_word(&mut fields),
+        seq: next_word(&mut fields),
     }
 }
 
-fn receipt_of(fields: &[Value]) -> Receipt
-    ensures { result ≡ receipt_at (views fields.now) }
+fn receipt_from(mut fields: Fields) -> Receipt
+    ensures { result ≡ receipt_at (coming fields) }
 {
     Receipt {
-        pts: word_in(fields, 0),
-        qts: word_in(fields, 1),
-        date: word_in(fields, 2),
-        seq: word_in(fields, 3),
+        pts: next_word(&mut fields),
+        qts: next_word(&mut fields),
+        date: next_word(&mut fields),
+        seq: next_word(&mut fields),
     }
 }
 
-fn difference_of(alloc: Global, form: u32, fields: &[Value]) -> Result<Reply, Memory>
-    ensures { IfOk result (λ r. r ≡ difference_at form (views fields.now)) }
+fn difference_of(alloc: Global, form: u32, mut fields: Fields) -> Result<Reply, Memory>
+    ensures { IfOk result (λ r. r ≡ difference_at form (coming fields)) }
 {
-    match form {
-        DIFFERENCE_EMPTY => Ok(Reply::Empty {
-            date: word_in(fields, 0),
-            seq: word_in(fields, 1),
-        }),
-        DIFFERENCE => Ok(Reply::Difference {
-            news: bodies_in(alloc, fields, 0)?,
-            secrets: bodies_in(alloc, fields, 1)?,
-            others: others_of(alloc, parts_in(fields, 2))?,
-            settings: settings_of(alloc, parts_in(fields, 2))?,
-            state: state_of(parts_in(fields, 3)),
-            last: true,
-        }),
-        _ => Ok(Reply::Difference {
-            news: bodies_in(alloc, fields, 0)?,
-            secrets: bodies_in(alloc, fields, 1)?,
-            others: placed_all(alloc, parts_in(fields, 2))?,
-            settings: ListOf::new(alloc),
-            state: state_of(parts_in(fields, 3)),
-            last: false,
-        }),
+    if form == DIFFERENCE_EMPTY {
+        return Ok(Reply::Empty {
+            date: next_word(&mut fields),
+            seq: next_word(&mut fields),
+        });
     }
+    let news = bodies_of(alloc, next_parts(alloc, &mut fields))?;
+    let secrets = bodies_of(alloc, next_parts(alloc, &mut fields))?;
+    if form == DIFFERENCE {
+        let (others, settings) = others_and_settings(alloc, next_parts(alloc, &mut fields))?;
+        return Ok(Reply::Difference {
+            news,
+            secrets,
+            others,
+            settings,
+            state: state_from(next_parts(alloc, &mut fields)),
+            last: true,
+        });
+    }
+    Ok(Reply::Difference {
+        news,
+        secrets,
+        others: placed_all(alloc, next_parts(alloc, &mut fields))?,
+        settings: ListOf::new(alloc),
+        state: state_from(next_parts(alloc, &mut fields)),
+        last: false,
+    })
 }
 
 // Bit 0 of the flags.
@@ -99,67 +113,72 @@ fn is_last(bits: u32) -> bool
     bits % 2 == 1
 }
 
-fn channel_reply_of(alloc: Global, form: u32, fields: &[Value]) -> Result<ChannelReply, Memory>
-    ensures { IfOk result (λ c. c ≡ channel_reply_at form (views fields.now)) }
+fn channel_reply_of(alloc: Global, form: u32, mut fields: Fields) -> Result<ChannelReply, Memory>
+    ensures { IfOk result (λ c. c ≡ channel_reply_at form (coming fields)) }
 {
+    let last = is_last(next_bits(&mut fields));
+    // The flag says what its bit says.
+    skip(&mut fields);
+    let pts = next_word(&mut fields);
     match form {
-        CHANNEL_DIFFERENCE_EMPTY => Ok(ChannelReply::Empty {
-            pts: word_in(fields, 2),
-            last: is_last(bits_in(fields, 0)),
-        }),
+        CHANNEL_DIFFERENCE_EMPTY => Ok(ChannelReply::Empty { pts, last }),
         CHANNEL_DIFFERENCE => Ok(ChannelReply::Part {
-            pts: word_in(fields, 2),
-            news: bodies_in(alloc, fields, 3)?,
-            others: placed_all(alloc, parts_in(fields, 4))?,
-            last: is_last(bits_in(fields, 0)),
+            pts,
+            news: bodies_of(alloc, next_parts(alloc, &mut fields))?,
+            others: placed_all(alloc, next_parts(alloc, &mut fields))?,
+            last,
         }),
         _ => Ok(ChannelReply::TooLong {
-            pts: word_in(fields, 2),
-            recent: bodies_in(alloc, fields, 3)?,
-            last: is_last(bits_in(fields, 0)),
+            pts,
+            recent: bodies_of(alloc, next_parts(alloc, &mut fields))?,
+            last,
         }),
     }
 }
 
 // The frame of a record of this form.
-fn frame_from(alloc: Global, form: u32, fields: &[Value]) -> Result<Frame, Memory>
-    ensures { IfOk result (λ f. f ≡ frame_at form (views fields.now)) }
+fn frame_from(alloc: Global, form: u32, mut fields: Fields) -> Result<Frame, Memory>
+    ensures { IfOk result (λ f. f ≡ frame_at form (coming fields)) }
 {
     match form {
         STATE_REPLY => Ok(Frame::Reply {
-            number: word_in(fields, 0),
-            reply: Reply::State(state_of(parts_in(fields, 1))),
+            number: next_word(&mut fields),
+            reply: Reply::State(state_from(next_parts(alloc, &mut fields))),
         }),
-        DIFFERENCE_REPLY => Ok(Frame::Reply {
-            number: word_in(fields, 0),
-            reply: difference_of(alloc, entry_in(fields, 1), parts_in(fields, 1))?,
-        }),
-        CHANNEL_REPLY => Ok(Frame::Reply {
-            number: word_in(fields, 0),
-            reply: Reply::Channel(channel_reply_of(
-                alloc,
-                entry_in(fields, 1),
-                parts_in(fields, 1),
-            )?),
-        }),
+        DIFFERENCE_REPLY => {
+            let number = next_word(&mut fields);
+            let (answer, parts) = next_opened(alloc, &mut fields);
+            let reply = difference_of(alloc, answer, parts)?;
+            Ok(Frame::Reply { number, reply })
+        }
+        CHANNEL_REPLY => {
+            let number = next_word(&mut fields);
+            let (answer, parts) = next_opened(alloc, &mut fields);
+            let reply = Reply::Channel(channel_reply_of(alloc, answer, parts)?);
+            Ok(Frame::Reply { number, reply })
+        }
         RECEIPT_REPLY => Ok(Frame::Reply {
-            number: word_in(fields, 0),
-            reply: Reply::Receipt(receipt_of(parts_in(fields, 1))),
+            number: next_word(&mut fields),
+            reply: Reply::Receipt(receipt_from(next_parts(alloc, &mut fields))),
         }),
         ERROR_REPLY => Ok(Frame::Reply {
-            number: word_in(fields, 0),
+            number: next_word(&mut fields),
             reply: Reply::Error {
-                code: int_in(fields, 1),
-                text: text_in(alloc, fields, 2)?,
+                code: next_int(&mut fields),
+                text: next_text(alloc, &mut fields),
             },
         }),
-        _ => Ok(Frame::Push(push_of(alloc, entry_in(fields, 0), parts_in(fields, 0))?)),
+        _ => {
+            let (kind, parts) = next_opened(alloc, &mut fields);
+            Ok(Frame::Push(push_of(alloc, kind, parts)?))
+        }
     }
 }
 
 /// The frame of a value.
-pub fn frame_of(alloc: Global, value: &Value) -> Result<Frame, Memory>
-    ensures { IfOk result (λ f. f ≡ frame_in (view value.now)) }
+pub fn frame_of(alloc: Global, value: Value) -> Result<Frame, Memory>
+    ensures { IfOk result (λ f. f ≡ frame_in (view value)) }
 {
-    frame_from(alloc, entry_of(value), parts_of(value))
+    let (form, fields) = opened(alloc, value);
+    frame_from(alloc, form, fields)
 }

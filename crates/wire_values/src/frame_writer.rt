@@ -1,7 +1,7 @@
 //! The values of frames.
 ghost use Rattle.std.specs.Prelude.{◌≡◌, IfOk};
 ghost use Rattle.tl_types.specs.Seen.{view};
-ghost use Rattle.wire_values.specs.Frames.{bits, bodies_tree, push_tree, state_tree, receipt_tree, difference_tree, channel_reply_tree, reply_tree, frame_tree};
+ghost use Rattle.wire_values.specs.Frames.{bits, push_tree, state_tree, receipt_tree, difference_tree, channel_reply_tree, reply_tree, frame_tree};
 ghost use Rattle.wire_forms.specs.Parts.{flag};
 
 use crate::update_writer::{placed_values, updates_value, with_settings};

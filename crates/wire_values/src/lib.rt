@@ -3,6 +3,7 @@
 
 mod call_reader;
 mod call_writer;
+mod fields;
 mod frame_reader;
 mod frame_writer;
 mod laws;

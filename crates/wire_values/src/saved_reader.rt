@@ -1,104 +1,91 @@
 //! The saved clients of values.
 ghost use Rattle.std.specs.Prelude.{◌≡◌, IfOk};
-ghost use Rattle.tl_types.specs.Seen.{view, views};
-ghost use Rattle.wire_forms.specs.Parts.{at, each, parts_of as parts_by};
-ghost use Rattle.wire_values.specs.SavedClients.{event_at, event_in, lane_at, saved_channel_at, saved_channel_in, saved_in};
-ghost use Rattle.wire_values.specs.Updates.{setting_in};
+ghost use Rattle.tl_types.specs.Seen.{view};
+ghost use Rattle.wire_forms.specs.Parts.{each};
+ghost use Rattle.wire_values.specs.Coming.{coming};
+ghost use Rattle.wire_values.specs.SavedClients.{event_at, event_in, lane_at, saved_at, saved_channel_at, saved_channel_in, saved_in};
 
-use crate::lists::{bodies_in, ids_in};
-use crate::update_reader::{deletion, setting_at};
-use box_events::{Event, ListOf, Saved, SavedChannel, SavedLane, Setting};
+use crate::fields::{Fields, next_int, next_long, next_parts, next_text, next_word, opened, skip};
+use crate::lists::{bodies_of, ids_of};
+use crate::update_reader::{deletion, settings_from};
+use box_events::{Event, ListOf, Saved, SavedChannel, SavedLane};
 use std::alloc::Global;
 use tl_base::Memory;
 use tl_types::Value;
 use wire_forms::numbers::{EVENT_DELETE, EVENT_EDIT, EVENT_NEW};
-use wire_forms::{entry_of, int_in, long_in, parts_in, parts_of, text_in, word_in};
 
 // The event of a record of this form.
-fn event_of(alloc: Global, form: u32, fields: &[Value]) -> Result<Event, Memory>
-    ensures { IfOk result (λ e. e ≡ event_at form (views fields.now)) }
+fn event_of(alloc: Global, form: u32, mut fields: Fields) -> Result<Event, Memory>
+    ensures { IfOk result (λ e. e ≡ event_at form (coming fields)) }
 {
     match form {
-        EVENT_NEW => Ok(Event::new_message(text_in(alloc, fields, 0)?)),
-        EVENT_EDIT => Ok(Event::edit(text_in(alloc, fields, 0)?)),
-        EVENT_DELETE => Ok(deletion(ids_in(alloc, fields, 0)?)),
-        _ => Ok(Event::read(int_in(fields, 0))),
+        EVENT_NEW => Ok(Event::new_message(next_text(alloc, &mut fields))),
+        EVENT_EDIT => Ok(Event::edit(next_text(alloc, &mut fields))),
+        EVENT_DELETE => Ok(deletion(ids_of(alloc, next_parts(alloc, &mut fields))?)),
+        _ => Ok(Event::read(next_int(&mut fields))),
     }
 }
 
-fn events_in(alloc: Global, fields: &[Value], index: usize) -> Result<ListOf<Event>, Memory>
-    ensures { IfOk result (λ es. es ≡ each event_in (parts_by (at index (views fields.now)))) }
+fn events_of(alloc: Global, items: Fields) -> Result<ListOf<Event>, Memory>
+    ensures { IfOk result (λ es. es ≡ each event_in (coming items)) }
 {
     let mut events = Vec::new(alloc);
-    let items = parts_in(fields, index);
     for item in items {
-        events.push(event_of(alloc, entry_of(item), parts_of(item))?)?;
+        let (form, fields) = opened(alloc, item);
+        events.push(event_of(alloc, form, fields)?)?;
     }
     Ok(ListOf::from_vec(events))
 }
 
-fn lane_of(alloc: Global, fields: &[Value]) -> Result<SavedLane, Memory>
-    ensures { IfOk result (λ l. l ≡ lane_at (views fields.now)) }
+fn lane_from(alloc: Global, mut fields: Fields) -> Result<SavedLane, Memory>
+    ensures { IfOk result (λ l. l ≡ lane_at (coming fields)) }
 {
     Ok(SavedLane {
-        restart: word_in(fields, 0),
-        at: word_in(fields, 1),
-        events: events_in(alloc, fields, 2)?,
+        restart: next_word(&mut fields),
+        at: next_word(&mut fields),
+        events: events_of(alloc, next_parts(alloc, &mut fields))?,
     })
 }
 
-fn saved_settings_in(
-    alloc: Global,
-    fields: &[Value],
-    index: usize,
-) -> Result<ListOf<Setting>, Memory>
-    ensures { IfOk result (λ ss. ss ≡ each setting_in (parts_by (at index (views fields.now)))) }
-{
-    let mut settings = Vec::new(alloc);
-    let items = parts_in(fields, index);
-    for item in items {
-        settings.push(setting_at(alloc, parts_of(item))?)?;
-    }
-    Ok(ListOf::from_vec(settings))
-}
-
-fn saved_channel_of(alloc: Global, fields: &[Value]) -> Result<SavedChannel, Memory>
-    ensures { IfOk result (λ c. c ≡ saved_channel_at (views fields.now)) }
+fn channel_from(alloc: Global, mut fields: Fields) -> Result<SavedChannel, Memory>
+    ensures { IfOk result (λ c. c ≡ saved_channel_at (coming fields)) }
 {
     Ok(SavedChannel {
-        id: long_in(fields, 0),
-        lane: lane_of(alloc, parts_in(fields, 1))?,
-        recent: bodies_in(alloc, fields, 2)?,
+        id: next_long(&mut fields),
+        lane: lane_from(alloc, next_parts(alloc, &mut fields))?,
+        recent: bodies_of(alloc, next_parts(alloc, &mut fields))?,
     })
 }
 
-fn saved_channels_in(
-    alloc: Global,
-    fields: &[Value],
-    index: usize,
-) -> Result<ListOf<SavedChannel>, Memory>
-    ensures { IfOk result (λ cs. cs ≡ each saved_channel_in (parts_by (at index (views fields.now)))) }
+fn channels_of(alloc: Global, items: Fields) -> Result<ListOf<SavedChannel>, Memory>
+    ensures { IfOk result (λ cs. cs ≡ each saved_channel_in (coming items)) }
 {
     let mut channels = Vec::new(alloc);
-    let items = parts_in(fields, index);
     for item in items {
-        channels.push(saved_channel_of(alloc, parts_of(item))?)?;
+        channels.push(channel_from(alloc, opened(alloc, item).1)?)?;
     }
     Ok(ListOf::from_vec(channels))
 }
 
-/// The saved client of a value. Its version is not looked at.
-pub fn saved_of(alloc: Global, value: &Value) -> Result<Saved, Memory>
-    ensures { IfOk result (λ s. s ≡ saved_in (view value.now)) }
+fn saved_from(alloc: Global, mut fields: Fields) -> Result<Saved, Memory>
+    ensures { IfOk result (λ s. s ≡ saved_at (coming fields)) }
 {
-    let fields = parts_of(value);
+    // The version isn't looked at.
+    skip(&mut fields);
     Ok(Saved {
-        next: word_in(fields, 1),
-        common: lane_of(alloc, parts_in(fields, 2))?,
-        secret: lane_of(alloc, parts_in(fields, 3))?,
-        date: word_in(fields, 4),
-        seq: word_in(fields, 5),
-        settings: saved_settings_in(alloc, fields, 6)?,
-        channels: saved_channels_in(alloc, fields, 7)?,
+        next: next_word(&mut fields),
+        common: lane_from(alloc, next_parts(alloc, &mut fields))?,
+        secret: lane_from(alloc, next_parts(alloc, &mut fields))?,
+        date: next_word(&mut fields),
+        seq: next_word(&mut fields),
+        settings: settings_from(alloc, next_parts(alloc, &mut fields))?,
+        channels: channels_of(alloc, next_parts(alloc, &mut fields))?,
     })
+}
+
+/// The saved client of a value. Its version is not looked at.
+pub fn saved_of(alloc: Global, value: Value) -> Result<Saved, Memory>
+    ensures { IfOk result (λ s. s ≡ saved_in (view value)) }
+{
+    saved_from(alloc, opened(alloc, value).1)
 }

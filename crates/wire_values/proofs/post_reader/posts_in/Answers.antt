@@ -1,8 +1,0 @@
-use Rattle.std.proofs.Common.{rules, arith, ap, ◌∙◌}
-use Rattle.wire_forms.specs.Parts.{each}
-use Rattle.wire_values.specs.Posts.{post_in}
-use Rattle.wire_forms.proofs.Lists.{each_seen}
-use Rattle.wire_values.proofs.post_reader.posts_in.Goals as goal
-
-pub returns : goal.returns
-returns c = search rules ∙ each_seen post_in _ _ _ c.loop-item.invariant (omega arith) ∙ ap (each post_in) c.parts_in-items.ensures
