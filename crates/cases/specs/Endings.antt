@@ -1,6 +1,6 @@
 -- How runs end, compared. This project's own.
 use Rattle.std.specs.Prelude.{◌≡◌}
-use Rattle.case_files.specs.declared.ending.Ending.{Ending}
+use Rattle.cases.specs.declared.ending.Ending.{Ending}
 
 -- the same status, and the same bytes on each out
 abbrev pub EndsAs : Ending → Ending → Type 0

@@ -1,11 +1,13 @@
 //! Lines that are read for each number of a range.
 use crate::fault::CaseFault;
 use crate::words::number_of;
-use std::alloc::{AllocError, Global};
+use std::alloc::Global;
 
 /// The lines of a block, and its numbers.
 #[derive(Drop)]
 pub struct Block {
+    /// The line that begins it.
+    pub line: u64,
     /// The first number, and the one after the last.
     pub first: u32,
     pub end: u32,
@@ -14,18 +16,19 @@ pub struct Block {
 
 impl Block {
     /// A block without lines, over a range: `0..16`.
-    pub fn new(alloc: Global, range: &str) -> Result<Block, CaseFault> {
+    pub fn new(alloc: Global, line: u64, range: &str) -> Result<Block, CaseFault> {
         let Some((first, end)) = range.split_once("..") else {
             return Err(CaseFault::NoRange);
         };
         Ok(Block {
+            line,
             first: number_of(first)?,
             end: number_of(end)?,
             lines: Vec::new(alloc),
         })
     }
 
-    pub fn put(&mut self, alloc: Global, line: &str) -> Result<(), AllocError> {
+    pub fn put(&mut self, alloc: Global, line: &str) -> Result<(), CaseFault> {
         self.lines.push(String::from_str(alloc, line)?)?;
         Ok(())
     }
@@ -36,15 +39,15 @@ fn moved(number: u32, by: &str) -> Result<u32, CaseFault> {
     if by.is_empty() {
         return Ok(number);
     }
-    let other = match by.strip_prefix('+') {
-        Some(more) => number.checked_add(number_of(more)?),
-        None => match by.strip_prefix('-') {
-            Some(less) => number.checked_sub(number_of(less)?),
-            None => None,
-        },
-    };
-    match other {
-        Some(number) => Ok(number),
+    if let Some(more) = by.strip_prefix('+') {
+        return number
+            .checked_add(number_of(more)?)
+            .ok_or(CaseFault::NoForm);
+    }
+    match by.strip_prefix('-') {
+        Some(less) => number
+            .checked_sub(number_of(less)?)
+            .ok_or(CaseFault::NoForm),
         None => Err(CaseFault::NoForm),
     }
 }

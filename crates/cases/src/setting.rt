@@ -68,6 +68,16 @@ fn chop(bytes: &mut Vec<u8>, rest: &str) -> Result<(), CaseFault> {
     Ok(())
 }
 
+// The index of the file with a name.
+fn index_of(files: &[CaseFile], name: &str) -> Option<usize> {
+    for (index, file) in files.iter().enumerate() {
+        if file.name.as_str() == name {
+            return Some(index);
+        }
+    }
+    None
+}
+
 impl Setting {
     /// No file; no call fails or is cut.
     pub fn new(alloc: Global) -> Setting {
@@ -112,12 +122,9 @@ impl Setting {
 
     /// The bytes of the file with this name.
     pub fn file(&self, name: &str) -> Option<&[u8]> {
-        for file in self.files.iter() {
-            if file.name.as_str() == name {
-                return Some(file.bytes.as_slice());
-            }
-        }
-        None
+        let index = index_of(&self.files, name)?;
+        let file = self.files.get(index)?;
+        Some(file.bytes.as_slice())
     }
 
     /// Takes a line that says how the file that was begun last goes on.
