@@ -156,7 +156,7 @@ any_none false b e = (refl, e)
 some_count : (n : ℕ) → eqb n 0 ≡ false → 1 ≤ n
 some_count n e = grind (arith, nat_tests)
 
-within : (a b : ℕ) → ltb a b ≡ false → b ≤ a
+pub within : (a b : ℕ) → ltb a b ≡ false → b ≤ a
 within a b e = grind (arith, nat_tests)
 
 -- what is refused of an entry by itself
@@ -186,7 +186,7 @@ pub record AreFit (xs : List Entry) : Type 0 where
   pub key : list_any has_long_key xs ≡ false
   pub value : list_any has_long_value xs ≡ false
 
-fit_first : (x : Entry) (xs : List Entry) → AreFit (x ∷ xs) → IsFit x × AreFit xs
+pub fit_first : (x : Entry) (xs : List Entry) → AreFit (x ∷ xs) → IsFit x × AreFit xs
 fit_first x xs f =
     let some = any_none (is_none x) (list_any is_none xs) f.some in
     let few = any_none (is_more x) (list_any is_more xs) f.few in
@@ -194,7 +194,7 @@ fit_first x xs f =
     let val = any_none (has_long_value x) (list_any has_long_value xs) f.value in
     (record { some = some.0; few = few.0; key = key.0; value = val.0 }, record { some = some.1; few = few.1; key = key.1; value = val.1 })
 
-has_count : (e : EventView) → eqb (count_of e) 0 ≡ false → ltb MAX_IDS (count_of e) ≡ false → HasCount e
+pub has_count : (e : EventView) → eqb (count_of e) 0 ≡ false → ltb MAX_IDS (count_of e) ≡ false → HasCount e
 has_count e some few = (some_count (count_of e) some, within MAX_IDS (count_of e) few)
 
 open_applied : (s : ServerState) (x : Entry) → IsOpen s → IsFit x → lane_end s (lane_of x) + raise_of x ≤ MAX_END → IsOpen (applied s x)
@@ -257,7 +257,7 @@ open_applied s (to_settings x) h fit le =
       sizes = All-push IsSmall s.settings new h.sizes (within MAX_KEY_BYTES (length x.key) fit.key, within MAX_VALUE_BYTES (length x.value) fit.value);
     }
 
-none_if : {A : Type 0} (b : Bool) (x : A) (o : Option A) → (if b then Some x else o) ≡ None → (b ≡ false) × (o ≡ None)
+pub none_if : {A : Type 0} (b : Bool) (x : A) (o : Option A) → (if b then Some x else o) ≡ None → (b ≡ false) × (o ≡ None)
 none_if true x o e = absurd cc
 none_if false x o e = (refl, e)
 

@@ -1,0 +1,37 @@
+-- Laws of the frames of a sound server and of the calls of a client. This project's own.
+use Rattle.std.specs.Prelude.{◌≡◌, ℕ, ℤ, ◌+◌, ◌<◌, ◌≤◌, ◌^◌, List, [], ◌∷◌, length, None}
+use Rattle.std.specs.List.{All}
+use Rattle.box_events.specs.declared.limits.TheConstants.{MAX_ASKS, MAX_CHANNELS}
+use Rattle.box_events.specs.declared.requests.Post.{Post}
+use Rattle.box_events.specs.declared.requests.Request.{Request}
+use Rattle.box_events.specs.declared.replies.Frame.TheVariants.{Push, Reply}
+use Rattle.box_events.specs.declared.updates.Push.TheVariants.{TooLong, Container}
+use Rattle.box_events.specs.declared.updates.Update.TheVariants.{ChannelTooLong}
+use Rattle.box_server.specs.Servers.{ServerState}
+use Rattle.box_server.specs.Sound.{IsSound}
+use Rattle.box_server.specs.Answers.{answer, IsAnswered}
+use Rattle.box_server.specs.Posting.{push_of}
+use Rattle.box_server.specs.Refusing.{post_cause}
+use Rattle.box_client.specs.States.{ClientState}
+use Rattle.box_client.specs.Asking.{ticks}
+use Rattle.server_frames.specs.Fitting.{CallFits, FrameFits, IsNumber}
+
+-- ---- what is sent is read as it was spelled
+
+-- the push of posts that are taken
+abbrev pub PushesFit : Type 0
+PushesFit = (s : ServerState) (posts : List Post) → IsSound s → post_cause s posts ≡ None → FrameFits (Push (push_of s posts))
+
+-- each answer to a number
+abbrev pub AnswersFit : Type 0
+AnswersFit = (s : ServerState) (n : ℕ) (r : Request) → IsSound s → IsNumber n → IsAnswered r → FrameFits (Reply n (answer s r))
+
+-- that more is new than a push would carry, of all boxes or of a channel's
+abbrev pub WarningsFit : Type 0
+WarningsFit = (id : ℤ) (date : ℕ) → date < 2 ^ 31 → FrameFits (Push TooLong) × FrameFits (Push (Container (ChannelTooLong id ∷ []) date 0 0))
+
+-- what a client asks in a tick
+abbrev pub AsksFit : Type 0
+AsksFit =
+    (c : ClientState) → 1 ≤ c.next → c.next + MAX_ASKS < 2 ^ 31 → c.settings.date < 2 ^ 31 → length c.channels ≤ MAX_CHANNELS
+    → All CallFits (ticks c).asks

@@ -1,0 +1,10 @@
+//! Laws of what servers and clients send, each carried by a function that does nothing.
+ghost use Rattle.server_frames.specs.Laws.{AnswersFit, AsksFit, PushesFit, WarningsFit};
+
+/// What a sound server sends, and what a client asks, is its value's again and has no cause: it is read as it was spelled.
+pub fn what_is_sent_is_read()
+    ensures pushes { PushesFit }
+    ensures answers { AnswersFit }
+    ensures warnings { WarningsFit }
+    ensures asks { AsksFit }
+{}
