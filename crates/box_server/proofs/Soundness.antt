@@ -1,13 +1,13 @@
 -- Servers stay sound.
 use Rattle.std.proofs.Common.{◌≡◌, ℕ, ℤ, ◌+◌, ◌-◌, ◌^◌, ◌<◌, ◌≤◌, List, [], ◌∷◌, ◌++◌, Bool, true, false, ◌||◌, Option, Some, None, eqb, ltb, if◌then◌else◌, length, take, drop, map as each, max, refl, sym, ap, ◌∙◌, subst, arith}
-use Rattle.std.specs.List.{All, list_any}
+use Rattle.std.specs.List.{All, list_any, sum_by}
 use Rattle.std.specs.Ordering.{int_eq}
 use Rattle.std.specs.FinMap as map
 use Rattle.std.proofs.lemmas.Bool.Decides.{nat_tests}
 use Rattle.std.proofs.lemmas.Cmp.{int_eq_equiv}
 use Rattle.std.proofs.lemmas.List.{length-append, length-map, length-drop, take-append-drop}
 use Rattle.std.proofs.lemmas.List.Elements.{All-nil, All-cons, All-head, All-tail, All-push, All-drop, All-weaker}
-use Rattle.box_events.specs.declared.limits.TheConstants.{MAX_END, MAX_IDS, MAX_CHANNELS, MAX_KEYS, MAX_KEY_BYTES, MAX_VALUE_BYTES}
+use Rattle.box_events.specs.declared.limits.TheConstants.{MAX_END, MAX_IDS, MAX_CHANNELS, MAX_KEYS, MAX_KEY_BYTES, MAX_VALUE_BYTES, MAX_POSTS, MAX_POST_BYTES}
 use Rattle.box_events.specs.declared.requests.Post.{Post}
 use Rattle.box_events.specs.declared.positions.Receipt.{Receipt}
 use Rattle.box_events.specs.Events.{EventView, added, is_new, count_of}
@@ -20,7 +20,7 @@ use Rattle.box_events.proofs.SettingDates.{rise_pushed}
 use Rattle.box_server.specs.declared.fault.PostFault.{PostFault}
 use Rattle.box_server.specs.declared.fault.PostFault.TheVariants.{BoxFull}
 use Rattle.box_server.specs.Servers.{ChannelBox, ServerState, Receipts, channel_in, channel_end, lane_end, dated_at}
-use Rattle.box_server.specs.Entries.{Entry, to_common, to_secret, to_channel, to_settings, entries_of, lane_of, raise_of, is_event, is_setting}
+use Rattle.box_server.specs.Entries.{Entry, to_common, to_secret, to_channel, to_settings, entries_of, lane_of, raise_of, size_of, is_event, is_setting}
 use Rattle.box_server.specs.LastEntries.{keys_in}
 use Rattle.box_server.specs.Posting.{with_event, applied, applied_all, cut, excess, posted}
 use Rattle.box_server.specs.Refusing.{first_cause, bad_entries, too_many, box_full, post_cause}
@@ -274,6 +274,8 @@ open_all s (x ∷ xs) h fit full =
 
 -- what no cause says of entries
 pub record IsTaken (s : ServerState) (xs : List Entry) : Type 0 where
+  pub few : length xs ≤ MAX_POSTS
+  pub bytes : sum_by size_of xs ≤ MAX_POST_BYTES
   pub fit : AreFit xs
   pub channels : length (applied_all s xs).channels ≤ MAX_CHANNELS
   pub keys : keys_in (applied_all s xs).settings ≤ MAX_KEYS
@@ -297,7 +299,7 @@ taken s posts none =
     let inner = none_else (first_cause (too_many t)) (box_full s xs) outer.1 in
     let bad = no_cause (bad_entries xs) outer.0 in
     let many = no_cause (too_many t) inner.0 in
-    record { fit = record { some = bad.1.1.0; few = bad.1.1.1.0; key = bad.1.1.1.1.1.0; value = bad.1.1.1.1.1.1.0 }; channels = within MAX_CHANNELS (length t.channels) many.0; keys = within MAX_KEYS (keys_in t.settings) many.1.0; full = inner.1 }
+    record { few = within MAX_POSTS (length xs) bad.1.0; bytes = within MAX_POST_BYTES (sum_by size_of xs) bad.1.1.1.1.1.1.1.0; fit = record { some = bad.1.1.0; few = bad.1.1.1.0; key = bad.1.1.1.1.1.0; value = bad.1.1.1.1.1.1.0 }; channels = within MAX_CHANNELS (length t.channels) many.0; keys = within MAX_KEYS (keys_in t.settings) many.1.0; full = inner.1 }
 
 close_server : (s : ServerState) (receipts : Receipts) → IsOpen s → length s.channels ≤ MAX_CHANNELS → keys_in s.settings ≤ MAX_KEYS → IsSound (record s { channels = each cut s.channels; receipts = receipts })
 close_server s receipts h few keys = record {
