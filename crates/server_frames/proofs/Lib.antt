@@ -4,3 +4,7 @@ pub mod ClearReplies
 pub mod AnswersFit
 pub mod PushesFit
 pub mod AsksFit
+pub mod PartSizes
+pub mod ChangedSettings
+pub mod AnswersBelow
+pub mod PushesBelow

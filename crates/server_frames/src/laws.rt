@@ -1,5 +1,5 @@
 //! Laws of what servers and clients send, each carried by a function that does nothing.
-ghost use Rattle.server_frames.specs.Laws.{AnswersFit, AsksFit, PushesFit, WarningsFit};
+ghost use Rattle.server_frames.specs.Laws.{AnswersAreBelow, AnswersFit, AsksAreBelow, AsksFit, PushesAreBelow, PushesFit, ReceiptsAreBelow, RefusalsAreBelow, WarningsAreBelow, WarningsFit};
 
 /// What a sound server sends, and what a client asks, is its value's again and has no cause: it is read as it was spelled.
 pub fn what_is_sent_is_read()
@@ -7,4 +7,14 @@ pub fn what_is_sent_is_read()
     ensures answers { AnswersFit }
     ensures warnings { WarningsFit }
     ensures asks { AsksFit }
+{}
+
+/// What a sound server sends, and what a client asks, has no more bytes than a frame may have.
+pub fn what_is_sent_is_short()
+    ensures pushes { PushesAreBelow }
+    ensures answers { AnswersAreBelow }
+    ensures warnings { WarningsAreBelow }
+    ensures receipts { ReceiptsAreBelow }
+    ensures refusals { RefusalsAreBelow }
+    ensures asks { AsksAreBelow }
 {}

@@ -3,4 +3,4 @@
 
 mod laws;
 
-pub use laws::what_is_sent_is_read;
+pub use laws::{what_is_sent_is_read, what_is_sent_is_short};
