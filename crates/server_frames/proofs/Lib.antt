@@ -8,3 +8,6 @@ pub mod PartSizes
 pub mod ChangedSettings
 pub mod AnswersBelow
 pub mod PushesBelow
+pub mod ReadUpdates
+pub mod ReadFrames
+pub mod ReadClients

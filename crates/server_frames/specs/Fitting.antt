@@ -1,7 +1,9 @@
--- Frames and calls that are read as they were spelled. This project's own.
+-- Frames and calls that are read as they were spelled, and frames that a client can take. This project's own.
 use Rattle.std.specs.Prelude.{◌≡◌, ℕ, ◌<◌, ◌≤◌, ◌^◌, None}
 use Rattle.box_events.specs.declared.replies.Frame.{Frame}
+use Rattle.box_events.specs.declared.replies.Frame.TheVariants.{Push, Reply}
 use Rattle.box_events.specs.declared.requests.Numbered.{Numbered}
+use Rattle.box_client.specs.Ranges.{IsPushInRange, IsReplyInRange}
 use Rattle.wire_values.specs.Calls.{call_tree}
 use Rattle.wire_values.specs.CarriedFrames.{IsFrame}
 use Rattle.wire_values.specs.Frames.{frame_tree}
@@ -19,3 +21,8 @@ CallFits n = calls.cause (call_tree n) ≡ None
 -- the number of a request: from 1, below 2 ^ 31
 abbrev pub IsNumber : ℕ → Type 0
 IsNumber n = (1 ≤ n) × (n < 2 ^ 31)
+
+-- a client can take the frame
+abbrev pub IsHearable : Frame → Type 0
+IsHearable (Push p) = IsPushInRange p
+IsHearable (Reply n r) = IsReplyInRange r

@@ -5,8 +5,10 @@ use Rattle.box_events.specs.declared.limits.TheConstants.{MAX_ASKS, MAX_CHANNELS
 use Rattle.box_events.specs.declared.requests.Post.{Post}
 use Rattle.box_events.specs.declared.requests.Request.{Request}
 use Rattle.box_events.specs.declared.positions.Receipt.{Receipt}
+use Rattle.box_events.specs.declared.replies.Frame.{Frame}
 use Rattle.box_events.specs.declared.replies.Frame.TheVariants.{Push, Reply}
 use Rattle.box_events.specs.declared.replies.Reply.TheVariants.{Error, Receipt as ReceiptReply}
+use Rattle.box_events.specs.declared.saved.Saved.{Saved}
 use Rattle.box_events.specs.declared.updates.Push.TheVariants.{TooLong, Container}
 use Rattle.box_events.specs.declared.updates.Update.TheVariants.{ChannelTooLong}
 use Rattle.box_server.specs.declared.fault.PostFault.{PostFault}
@@ -18,8 +20,17 @@ use Rattle.box_server.specs.Posting.{push_of}
 use Rattle.box_server.specs.Refusing.{post_cause}
 use Rattle.box_client.specs.States.{ClientState}
 use Rattle.box_client.specs.Asking.{ticks}
+use Rattle.box_client.specs.Ranges.{IsSavedInRange}
+use Rattle.wire_values.specs.Carried.{IsSaved}
+use Rattle.wire_values.specs.CarriedFrames.{IsFrame}
+use Rattle.wire_values.specs.Frames.{frame_tree}
+use Rattle.wire_values.specs.SavedClients.{saved_tree}
+use Rattle.wire_profile.specs.Places.{ProfileView}
+use Rattle.wire_profile.specs.Profiles.{IsProfile}
+use Rattle.box_wire.specs.Framing.{Means}
+use Rattle.box_wire.specs.Kinds.{frames, saved_clients}
 use Rattle.frame_sizes.specs.Sizes.{call_size, frame_size}
-use Rattle.server_frames.specs.Fitting.{CallFits, FrameFits, IsNumber}
+use Rattle.server_frames.specs.Fitting.{CallFits, FrameFits, IsHearable, IsNumber}
 use Rattle.server_frames.specs.Sums.{IsBelow, most_of_answer, most_of_push}
 
 -- ---- what is sent is read as it was spelled
@@ -63,3 +74,13 @@ RefusalsAreBelow = (n : ℕ) (fault : PostFault) → frame_size (Reply n (Error 
 -- what a client asks
 abbrev pub AsksAreBelow : Type 0
 AsksAreBelow = (c : ClientState) → All (λ n. call_size n ≡ 24) (ticks c).asks
+
+-- ---- what is read is taken
+
+-- each frame that bytes mean is in the range of a client's calls
+abbrev pub ReadFramesAreTaken : Type 0
+ReadFramesAreTaken = (p : ProfileView) → IsProfile p → (f : Frame) (b : List ℕ) → IsFrame f → Means p frames (frame_tree f) b → IsHearable f
+
+-- and so is each saved client
+abbrev pub ReadClientsAreTaken : Type 0
+ReadClientsAreTaken = (p : ProfileView) → IsProfile p → (s : Saved) (b : List ℕ) → IsSaved s → Means p saved_clients (saved_tree s) b → IsSavedInRange s
