@@ -1,0 +1,13 @@
+pub mod ClearUpdates
+pub mod Carried
+pub mod ClearReplies
+pub mod AnswersFit
+pub mod PushesFit
+pub mod AsksFit
+pub mod PartSizes
+pub mod ChangedSettings
+pub mod AnswersBelow
+pub mod PushesBelow
+pub mod ReadUpdates
+pub mod ReadFrames
+pub mod ReadClients

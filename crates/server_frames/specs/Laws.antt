@@ -1,0 +1,86 @@
+-- Laws of the frames of a sound server and of the calls of a client. This project's own.
+use Rattle.std.specs.Prelude.{◌≡◌, ℕ, ℤ, pos, ◌+◌, ◌<◌, ◌≤◌, ◌^◌, List, [], ◌∷◌, length, None}
+use Rattle.std.specs.List.{All}
+use Rattle.box_events.specs.declared.limits.TheConstants.{MAX_ASKS, MAX_CHANNELS}
+use Rattle.box_events.specs.declared.requests.Post.{Post}
+use Rattle.box_events.specs.declared.requests.Request.{Request}
+use Rattle.box_events.specs.declared.positions.Receipt.{Receipt}
+use Rattle.box_events.specs.declared.replies.Frame.{Frame}
+use Rattle.box_events.specs.declared.replies.Frame.TheVariants.{Push, Reply}
+use Rattle.box_events.specs.declared.replies.Reply.TheVariants.{Error, Receipt as ReceiptReply}
+use Rattle.box_events.specs.declared.saved.Saved.{Saved}
+use Rattle.box_events.specs.declared.updates.Push.TheVariants.{TooLong, Container}
+use Rattle.box_events.specs.declared.updates.Update.TheVariants.{ChannelTooLong}
+use Rattle.box_server.specs.declared.fault.PostFault.{PostFault}
+use Rattle.box_server.specs.FaultNames.{name_of}
+use Rattle.box_server.specs.Servers.{ServerState}
+use Rattle.box_server.specs.Sound.{IsSound}
+use Rattle.box_server.specs.Answers.{answer, IsAnswered}
+use Rattle.box_server.specs.Posting.{push_of}
+use Rattle.box_server.specs.Refusing.{post_cause}
+use Rattle.box_client.specs.States.{ClientState}
+use Rattle.box_client.specs.Asking.{ticks}
+use Rattle.box_client.specs.Ranges.{IsSavedInRange}
+use Rattle.wire_values.specs.Carried.{IsSaved}
+use Rattle.wire_values.specs.CarriedFrames.{IsFrame}
+use Rattle.wire_values.specs.Frames.{frame_tree}
+use Rattle.wire_values.specs.SavedClients.{saved_tree}
+use Rattle.wire_profile.specs.Places.{ProfileView}
+use Rattle.wire_profile.specs.Profiles.{IsProfile}
+use Rattle.box_wire.specs.Framing.{Means}
+use Rattle.box_wire.specs.Kinds.{frames, saved_clients}
+use Rattle.frame_sizes.specs.Sizes.{call_size, frame_size}
+use Rattle.server_frames.specs.Fitting.{CallFits, FrameFits, IsHearable, IsNumber}
+use Rattle.server_frames.specs.Sums.{IsBelow, most_of_answer, most_of_push}
+
+-- ---- what is sent is read as it was spelled
+
+-- the push of posts that are taken
+abbrev pub PushesFit : Type 0
+PushesFit = (s : ServerState) (posts : List Post) → IsSound s → post_cause s posts ≡ None → FrameFits (Push (push_of s posts))
+
+-- each answer to a number
+abbrev pub AnswersFit : Type 0
+AnswersFit = (s : ServerState) (n : ℕ) (r : Request) → IsSound s → IsNumber n → IsAnswered r → FrameFits (Reply n (answer s r))
+
+-- that more is new than a push would carry, of all boxes or of a channel's
+abbrev pub WarningsFit : Type 0
+WarningsFit = (id : ℤ) (date : ℕ) → date < 2 ^ 31 → FrameFits (Push TooLong) × FrameFits (Push (Container (ChannelTooLong id ∷ []) date 0 0))
+
+-- what a client asks in a tick
+abbrev pub AsksFit : Type 0
+AsksFit =
+    (c : ClientState) → 1 ≤ c.next → c.next + MAX_ASKS < 2 ^ 31 → c.settings.date < 2 ^ 31 → length c.channels ≤ MAX_CHANNELS
+    → All CallFits (ticks c).asks
+
+-- ---- what is sent has no more bytes than a frame may have
+
+abbrev pub PushesAreBelow : Type 0
+PushesAreBelow = (s : ServerState) (posts : List Post) → IsSound s → post_cause s posts ≡ None → IsBelow most_of_push (frame_size (Push (push_of s posts)))
+
+abbrev pub AnswersAreBelow : Type 0
+AnswersAreBelow = (s : ServerState) (n : ℕ) (r : Request) → IsSound s → IsBelow most_of_answer (frame_size (Reply n (answer s r)))
+
+-- both warnings, a post's receipt, and its refusal by name
+abbrev pub WarningsAreBelow : Type 0
+WarningsAreBelow = (id : ℤ) (date : ℕ) → (frame_size (Push TooLong) ≡ 8) × (frame_size (Push (Container (ChannelTooLong id ∷ []) date 0 0)) ≡ 36)
+
+abbrev pub ReceiptsAreBelow : Type 0
+ReceiptsAreBelow = (n : ℕ) (receipt : Receipt) → frame_size (Reply n (ReceiptReply receipt)) ≡ 24
+
+abbrev pub RefusalsAreBelow : Type 0
+RefusalsAreBelow = (n : ℕ) (fault : PostFault) → frame_size (Reply n (Error (pos 400) (name_of fault))) ≤ 80
+
+-- what a client asks
+abbrev pub AsksAreBelow : Type 0
+AsksAreBelow = (c : ClientState) → All (λ n. call_size n ≡ 24) (ticks c).asks
+
+-- ---- what is read is taken
+
+-- each frame that bytes mean is in the range of a client's calls
+abbrev pub ReadFramesAreTaken : Type 0
+ReadFramesAreTaken = (p : ProfileView) → IsProfile p → (f : Frame) (b : List ℕ) → IsFrame f → Means p frames (frame_tree f) b → IsHearable f
+
+-- and so is each saved client
+abbrev pub ReadClientsAreTaken : Type 0
+ReadClientsAreTaken = (p : ProfileView) → IsProfile p → (s : Saved) (b : List ℕ) → IsSaved s → Means p saved_clients (saved_tree s) b → IsSavedInRange s
