@@ -31,8 +31,8 @@ use Rattle.wire_values.specs.Others.{joined}
 use Rattle.frame_sizes.specs.Sizes.{frame_size, sizes_of}
 use Rattle.server_frames.specs.Sums.{IsBelow, most_of_answer, most_of_run}
 use Rattle.server_frames.specs.Laws.{AnswersAreBelow}
-use Rattle.server_frames.proofs.PartSizes.{joined_size, limited_length, limited_sum, run_size, settings_size, text_size, texts_size}
-use Rattle.server_frames.proofs.ChangedSettings.{few_changed, small_changed}
+use Rattle.server_frames.proofs.PartSizes.{IsSmallSetting, joined_size, limited_length, limited_sum, run_size, settings_size, text_size, texts_size}
+use Rattle.server_frames.proofs.ChangedSettings.{few_changed, all_changed}
 
 -- ---- parts
 
@@ -46,7 +46,7 @@ carried_size p es =
 
 changed_size : (s : ServerState) (date : ℕ) → IsSound s → sizes_of (One UPDATE_TYPE) (row setting_tree (changed_since s.settings date)) ≤ (18 + MAX_KEY_BYTES + MAX_VALUE_BYTES) * MAX_KEYS
 changed_size s date h =
-    let all = settings_size (changed_since s.settings date) (small_changed s.settings date h.sizes) in
+    let all = settings_size (changed_since s.settings date) (all_changed IsSmallSetting s.settings date h.sizes) in
     let few = few_changed s.settings date in
     let keys = h.keys in
     omega (arith, all, few, keys)

@@ -1,4 +1,4 @@
--- The settings that a difference carries: one for each key at most, each small.
+-- The settings that a difference carries: one for each key at most, each of the server's.
 use Rattle.std.specs.Prelude.{leb, if◌then◌else◌}
 use Rattle.std.proofs.Common.{◌≡◌, ℕ, suc, ◌≤◌, List, [], ◌∷◌, length, map, Bool, true, false, sym, ◌∙◌, subst, arith}
 use Rattle.std.specs.List.{All}
@@ -12,9 +12,7 @@ use Rattle.std.proofs.lemmas.List.Elements.{All-nil, All-cons, All-head, All-tai
 use Rattle.box_events.specs.declared.settings.Setting.{Setting}
 use Rattle.box_events.specs.SettingLists.{Dated}
 use Rattle.box_server.specs.LastEntries.{ByKey, keys_in, with_entries, last_entries, settings_since, changed_since}
-use Rattle.box_server.specs.Sound.{IsSmall}
 use Rattle.box_server.proofs.LastLists.{order}
-use Rattle.server_frames.proofs.PartSizes.{IsSmallSetting}
 
 -- ---- one for each key
 
@@ -33,39 +31,46 @@ few_changed L date =
     let many = len-entries (last_entries L) in
     omega (arith, few, all, many)
 
--- ---- each is small
+-- ---- what holds of each setting of the server
 
-abbrev EachSmall : List (List ℕ × Dated) → Type 0
-EachSmall [] = Unit {0}
-EachSmall (x ∷ xs) = IsSmall x.1 × EachSmall xs
+module _ (P : Setting → Type 0) where
+  Each : List (List ℕ × Dated) → Type 0
+  Each [] = Unit {0}
+  Each (x ∷ xs) = P x.1.setting × Each xs
 
-small_by : (o : Ordering) (k : List ℕ) (e : Dated) (x : List ℕ × Dated) (xs rest : List (List ℕ × Dated)) → IsSmall e → EachSmall (x ∷ xs) → EachSmall rest → EachSmall (by_order o ((k, e) ∷ x ∷ xs) ((x.0, e) ∷ xs) (x ∷ rest))
-small_by Less k e x xs rest is h r = (is, h)
-small_by Equal k e x xs rest is h r = (is, h.1)
-small_by Greater k e x xs rest is h r = (h.0, r)
+  each_by : (o : Ordering) (k : List ℕ) (e : Dated) (x : List ℕ × Dated) (xs rest : List (List ℕ × Dated)) → P e.setting → Each (x ∷ xs) → Each rest → Each (by_order o ((k, e) ∷ x ∷ xs) ((x.0, e) ∷ xs) (x ∷ rest))
+  unfolding Each
+  each_by Less k e x xs rest is h r = (is, h)
+  each_by Equal k e x xs rest is h r = (is, h.1)
+  each_by Greater k e x xs rest is h r = (h.0, r)
 
-small_put : (k : List ℕ) (e : Dated) (es : List (List ℕ × Dated)) → IsSmall e → EachSmall es → EachSmall (put order k e es)
-small_put k e [] is h = (is, tt)
-small_put k e (x ∷ xs) is h = small_by (order k x.0) k e x xs (put order k e xs) is h (small_put k e xs is h.1)
+  each_put : (k : List ℕ) (e : Dated) (es : List (List ℕ × Dated)) → P e.setting → Each es → Each (put order k e es)
+  unfolding Each
+  each_put k e [] is h = (is, tt)
+  each_put k e (x ∷ xs) is h = each_by (order k x.0) k e x xs (put order k e xs) is h (each_put k e xs is h.1)
 
-small_with : (es : List Dated) (m : ByKey) → All IsSmall es → EachSmall (entries m) → EachSmall (entries (with_entries m es))
-small_with [] m all h = h
-small_with (e ∷ es) m all h =
-    small_with es (insert m e.setting.key e) (All-tail IsSmall e es all) (subst EachSmall (sym (entries-insert nat_list_cmp_total m e.setting.key e)) (small_put e.setting.key e (entries m) (All-head IsSmall e es all) h))
+  each_with : (es : List Dated) (m : ByKey) → All (λ e. P e.setting) es → Each (entries m) → Each (entries (with_entries m es))
+  each_with [] m all h = h
+  each_with (e ∷ es) m all h =
+      each_with es (insert m e.setting.key e) (All-tail (λ (d : Dated). P d.setting) e es all)
+      (subst Each (sym (entries-insert nat_list_cmp_total m e.setting.key e)) (each_put e.setting.key e (entries m) (All-head (λ (d : Dated). P d.setting) e es all) h))
 
-abbrev no_entries : ByKey
-no_entries = empty
+  none : ByKey
+  none = empty
 
-small_none : EachSmall (entries no_entries)
-small_none = subst EachSmall (sym (nil_from_length (entries no_entries) (sym (len-entries no_entries) ∙ len-empty order Dated))) tt
+  each_none : Each (entries none)
+  unfolding Each none
+  each_none = subst Each (sym (nil_from_length (entries none) (sym (len-entries none) ∙ len-empty order Dated))) tt
 
-since_by : (b : Bool) (x : Setting) (xs : List Setting) → IsSmallSetting x → All IsSmallSetting xs → All IsSmallSetting (if b then x ∷ xs else xs)
-since_by true x xs is all = All-cons IsSmallSetting x xs is all
-since_by false x xs is all = all
+  since_by : (b : Bool) (x : Setting) (xs : List Setting) → P x → All P xs → All P (if b then x ∷ xs else xs)
+  since_by true x xs is all = All-cons P x xs is all
+  since_by false x xs is all = all
 
-small_since : (date : ℕ) (es : List (List ℕ × Dated)) → EachSmall es → All IsSmallSetting (settings_since date (map (λ p. p.1) es))
-small_since date [] h = All-nil IsSmallSetting
-small_since date (x ∷ xs) h = since_by (leb date x.1.date) x.1.setting (settings_since date (map (λ p. p.1) xs)) h.0 (small_since date xs h.1)
+  all_since : (date : ℕ) (es : List (List ℕ × Dated)) → Each es → All P (settings_since date (map (λ p. p.1) es))
+  unfolding Each
+  all_since date [] h = All-nil P
+  all_since date (x ∷ xs) h = since_by (leb date x.1.date) x.1.setting (settings_since date (map (λ p. p.1) xs)) h.0 (all_since date xs h.1)
 
-pub small_changed : (L : List Dated) (date : ℕ) → All IsSmall L → All IsSmallSetting (changed_since L date)
-small_changed L date all = small_since date (entries (last_entries L)) (small_with L no_entries all small_none)
+  pub all_changed : (L : List Dated) (date : ℕ) → All (λ e. P e.setting) L → All P (changed_since L date)
+  unfolding none
+  all_changed L date all = all_since date (entries (last_entries L)) (each_with L none all each_none)

@@ -11,3 +11,5 @@ pub mod PushesBelow
 pub mod ReadUpdates
 pub mod ReadFrames
 pub mod ReadClients
+pub mod FittingServers
+pub mod FittingFrames

@@ -71,7 +71,7 @@ warnings_below id date = (refl, refl)
 pub receipts_below : ReceiptsAreBelow
 receipts_below n r = receipt_size n r
 
-short_name : (fault : PostFault) → length (name_of fault) ≤ 60
+pub short_name : (fault : PostFault) → length (name_of fault) ≤ 60
 short_name NoPosts = omega arith
 short_name TooManyPosts = omega arith
 short_name NoIds = omega arith

@@ -99,7 +99,7 @@ numbers_by s posts (x ∷ xs) is h none =
     let limit = (posted_sound s (pos 0) posts h none).seq in
     record { none = λ e. absurd (omega (arith, e)); pack = inr (record { starts = omega arith; ends = omega arith; low = omega (arith, last, limit); same = omega arith }) }
 
-numbers_are : (s : ServerState) (posts : List Post) → IsSound s → post_cause s posts ≡ None → AreNumbers (length (settings_of (entries_of posts))) (first_number (length s.settings) (settings_of (entries_of posts))) (last_number (length s.settings) (settings_of (entries_of posts)))
+pub numbers_are : (s : ServerState) (posts : List Post) → IsSound s → post_cause s posts ≡ None → AreNumbers (length (settings_of (entries_of posts))) (first_number (length s.settings) (settings_of (entries_of posts))) (last_number (length s.settings) (settings_of (entries_of posts)))
 numbers_are s posts h none = numbers_by s posts (settings_of (entries_of posts)) refl h none
 
 -- ---- containers

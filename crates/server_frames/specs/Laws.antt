@@ -1,5 +1,5 @@
 -- Laws of the frames of a sound server and of the calls of a client. This project's own.
-use Rattle.std.specs.Prelude.{◌≡◌, ℕ, ℤ, pos, ◌+◌, ◌<◌, ◌≤◌, ◌^◌, List, [], ◌∷◌, length, None}
+use Rattle.std.specs.Prelude.{◌≡◌, ℕ, ℤ, pos, ◌+◌, ◌<◌, ◌≤◌, ◌^◌, List, [], ◌∷◌, length, None, Ok}
 use Rattle.std.specs.List.{All}
 use Rattle.box_events.specs.declared.limits.TheConstants.{MAX_ASKS, MAX_CHANNELS}
 use Rattle.box_events.specs.declared.requests.Post.{Post}
@@ -13,7 +13,9 @@ use Rattle.box_events.specs.declared.updates.Push.TheVariants.{TooLong, Containe
 use Rattle.box_events.specs.declared.updates.Update.TheVariants.{ChannelTooLong}
 use Rattle.box_server.specs.declared.fault.PostFault.{PostFault}
 use Rattle.box_server.specs.FaultNames.{name_of}
-use Rattle.box_server.specs.Servers.{ServerState}
+use Rattle.box_server.specs.Servers.{ServerState, dated_at, new_server}
+use Rattle.box_server.specs.Receiving.{after_post, post_answer}
+use Rattle.box_server.specs.declared.posted.Posted.{Posted}
 use Rattle.box_server.specs.Sound.{IsSound}
 use Rattle.box_server.specs.Answers.{answer, IsAnswered}
 use Rattle.box_server.specs.Posting.{push_of}
@@ -21,8 +23,9 @@ use Rattle.box_server.specs.Refusing.{post_cause}
 use Rattle.box_client.specs.States.{ClientState}
 use Rattle.box_client.specs.Asking.{ticks}
 use Rattle.box_client.specs.Ranges.{IsSavedInRange}
-use Rattle.wire_values.specs.Carried.{IsSaved}
-use Rattle.wire_values.specs.CarriedFrames.{IsFrame}
+use Rattle.wire_forms.specs.IsOf.{IsLong}
+use Rattle.wire_values.specs.Carried.{FitsPost, IsSaved}
+use Rattle.wire_values.specs.CarriedFrames.{FitsFrame, FitsReceipt, IsFrame, IsWord}
 use Rattle.wire_values.specs.Frames.{frame_tree}
 use Rattle.wire_values.specs.SavedClients.{saved_tree}
 use Rattle.wire_profile.specs.Places.{ProfileView}
@@ -31,6 +34,7 @@ use Rattle.box_wire.specs.Framing.{Means}
 use Rattle.box_wire.specs.Kinds.{frames, saved_clients}
 use Rattle.frame_sizes.specs.Sizes.{call_size, frame_size}
 use Rattle.server_frames.specs.Fitting.{CallFits, FrameFits, IsHearable, IsNumber}
+use Rattle.server_frames.specs.Spelled.{FitsServer}
 use Rattle.server_frames.specs.Sums.{IsBelow, most_of_answer, most_of_push}
 
 -- ---- what is sent is read as it was spelled
@@ -84,3 +88,30 @@ ReadFramesAreTaken = (p : ProfileView) → IsProfile p → (f : Frame) (b : List
 -- and so is each saved client
 abbrev pub ReadClientsAreTaken : Type 0
 ReadClientsAreTaken = (p : ProfileView) → IsProfile p → (s : Saved) (b : List ℕ) → IsSaved s → Means p saved_clients (saved_tree s) b → IsSavedInRange s
+
+-- ---- what has a spelling
+
+-- a server keeps a spelling for each of its parts
+pub record ServersKeepSpellings : Type 0 where
+  pub new : FitsServer new_server
+  pub date : (s : ServerState) (date : ℕ) → FitsServer s → FitsServer (dated_at s date)
+  pub post : (s : ServerState) (random_id : ℤ) (posts : List Post) → FitsServer s → IsSound s → All FitsPost posts → FitsServer (after_post s random_id posts)
+
+-- and then each frame that it sends has one: a push,
+abbrev pub PushesHaveSpellings : Type 0
+PushesHaveSpellings = (s : ServerState) (posts : List Post) → IsSound s → All FitsPost posts → post_cause s posts ≡ None → FitsFrame (Push (push_of s posts))
+
+-- an answer to a number,
+abbrev pub AnswersHaveSpellings : Type 0
+AnswersHaveSpellings = (s : ServerState) (n : ℕ) (r : Request) → FitsServer s → IsSound s → IsWord n → FitsFrame (Reply n (answer s r))
+
+-- the receipt of a post, the refusal of one by name,
+abbrev pub ReceiptsHaveSpellings : Type 0
+ReceiptsHaveSpellings = (s : ServerState) (random_id : ℤ) (posts : List Post) (a : Posted) → FitsServer s → IsSound s → post_answer s random_id posts ≡ Ok a → FitsReceipt a.receipt
+
+abbrev pub RefusalsHaveSpellings : Type 0
+RefusalsHaveSpellings = (n : ℕ) (fault : PostFault) → IsWord n → FitsFrame (Reply n (Error (pos 400) (name_of fault)))
+
+-- and both warnings
+abbrev pub WarningsHaveSpellings : Type 0
+WarningsHaveSpellings = (id : ℤ) (date : ℕ) → IsLong id → IsWord date → FitsFrame (Push TooLong) × FitsFrame (Push (Container (ChannelTooLong id ∷ []) date 0 0))

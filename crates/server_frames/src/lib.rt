@@ -3,4 +3,6 @@
 
 mod laws;
 
-pub use laws::{what_is_read_is_taken, what_is_sent_is_read, what_is_sent_is_short};
+pub use laws::{
+    what_is_read_is_taken, what_is_sent_has_a_spelling, what_is_sent_is_read, what_is_sent_is_short,
+};

@@ -1,0 +1,21 @@
+use Rattle.server_frames.proofs.FittingFrames.{answers_have, pushes_have, receipts_have, refusals_have, warnings_have}
+use Rattle.server_frames.proofs.FittingServers.{servers_keep}
+use Rattle.server_frames.proofs.laws.what_is_sent_has_a_spelling.Goals as goal
+
+pub returns-clause-servers : goal.returns-clause-servers
+returns-clause-servers c = servers_keep
+
+pub returns-clause-pushes : goal.returns-clause-pushes
+returns-clause-pushes c = pushes_have
+
+pub returns-clause-answers : goal.returns-clause-answers
+returns-clause-answers c = answers_have
+
+pub returns-clause-receipts : goal.returns-clause-receipts
+returns-clause-receipts c = receipts_have
+
+pub returns-clause-refusals : goal.returns-clause-refusals
+returns-clause-refusals c = refusals_have
+
+pub returns-clause-warnings : goal.returns-clause-warnings
+returns-clause-warnings c = warnings_have
