@@ -13,3 +13,5 @@ pub mod ReadFrames
 pub mod ReadClients
 pub mod FittingServers
 pub mod FittingFrames
+pub mod MapEntries
+pub mod FittingClients

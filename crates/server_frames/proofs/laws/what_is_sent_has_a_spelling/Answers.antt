@@ -1,3 +1,4 @@
+use Rattle.server_frames.proofs.FittingClients.{clients_keep}
 use Rattle.server_frames.proofs.FittingFrames.{answers_have, pushes_have, receipts_have, refusals_have, warnings_have}
 use Rattle.server_frames.proofs.FittingServers.{servers_keep}
 use Rattle.server_frames.proofs.laws.what_is_sent_has_a_spelling.Goals as goal
@@ -19,3 +20,6 @@ returns-clause-refusals c = refusals_have
 
 pub returns-clause-warnings : goal.returns-clause-warnings
 returns-clause-warnings c = warnings_have
+
+pub returns-clause-clients : goal.returns-clause-clients
+returns-clause-clients c = clients_keep
