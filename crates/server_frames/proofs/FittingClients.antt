@@ -65,7 +65,7 @@ module _ {E : Type 0} (P : E → Type 0) where
     | inr s ↦ h start x s
   ]
 
-  held_empty : (start : ℕ) (x : ℕ × E) → get (empty {X = ℕ × E} {R = nat_cmp}) start ≡ Some x → P x.1
+  pub held_empty : (start : ℕ) (x : ℕ × E) → get (empty {X = ℕ × E} {R = nat_cmp}) start ≡ Some x → P x.1
   held_empty start x e = absurd (none-some x (sym (get-empty nat_cmp start) ∙ e))
 
   settle_all : (t : LaneState E) → HoldsAll P t → HoldsAll P (settle t)
@@ -138,7 +138,7 @@ woven_all from to news others events e all rest = woven_by (overlap from to othe
 
 -- ---- settings
 
-abbrev FitsEntry : List ℕ × List ℕ → Type 0
+abbrev pub FitsEntry : List ℕ × List ℕ → Type 0
 FitsEntry e = IsText e.0 × IsText e.1
 
 puts_fit : (m : Values) (xs : List Setting) → All FitsSetting xs → All FitsEntry (entries m) → All FitsEntry (entries (puts m xs))
@@ -348,7 +348,7 @@ tick_goes c h = group_ticks (group_is_due c) c h
 pub wake_goes : (c : ClientState) → FitsClient c → FitsClient (wakes c)
 wake_goes c h = record { common = h.common; secret = h.secret; settings = h.settings; channels = each_fits boxes.flagged c.channels flagged_fits h.channels }
 
-none_held : (start : ℕ) (x : ℕ × Pack) → get (empty {X = ℕ × Pack} {R = nat_cmp}) start ≡ Some x → All FitsSetting x.1.settings
+pub none_held : (start : ℕ) (x : ℕ × Pack) → get (empty {X = ℕ × Pack} {R = nat_cmp}) start ≡ Some x → All FitsSetting x.1.settings
 none_held start x e = absurd (none-some x (sym (get-empty nat_cmp start) ∙ e))
 
 pub restart_goes : (c : ClientState) → FitsClient c → FitsClient (restarted c)

@@ -15,3 +15,4 @@ pub mod FittingServers
 pub mod FittingFrames
 pub mod MapEntries
 pub mod FittingClients
+pub mod FittingSaved

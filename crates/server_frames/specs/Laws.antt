@@ -24,12 +24,13 @@ use Rattle.box_server.specs.Posting.{push_of}
 use Rattle.box_server.specs.Refusing.{post_cause}
 use Rattle.box_client.specs.States.{ClientState, new_client}
 use Rattle.box_client.specs.Pushes.{pushed}
+use Rattle.box_client.specs.Saving.{client_loaded, load_cause, saved_of}
 use Rattle.box_client.specs.Replies.{becomes, replied}
 use Rattle.box_client.specs.Asking.{restarted, ticks, wakes}
 use Rattle.channel_box.specs.Steps.{watched}
 use Rattle.box_client.specs.Ranges.{IsSavedInRange}
 use Rattle.wire_forms.specs.IsOf.{IsLong}
-use Rattle.wire_values.specs.Carried.{FitsPost, IsSaved}
+use Rattle.wire_values.specs.Carried.{FitsPost, FitsSaved, IsSaved}
 use Rattle.wire_values.specs.CarriedFrames.{FitsFrame, FitsPush, FitsReceipt, FitsReply, IsFrame, IsWord}
 use Rattle.wire_values.specs.Frames.{frame_tree}
 use Rattle.wire_values.specs.SavedClients.{saved_tree}
@@ -39,7 +40,7 @@ use Rattle.box_wire.specs.Framing.{Means}
 use Rattle.box_wire.specs.Kinds.{frames, saved_clients}
 use Rattle.frame_sizes.specs.Sizes.{call_size, frame_size}
 use Rattle.server_frames.specs.Fitting.{CallFits, FrameFits, IsHearable, IsNumber}
-use Rattle.server_frames.specs.Spelled.{FitsClient, FitsServer}
+use Rattle.server_frames.specs.Spelled.{FitsClient, FitsServer, IsNarrow}
 use Rattle.server_frames.specs.Sums.{IsBelow, most_of_answer, most_of_push}
 
 -- ---- what is sent is read as it was spelled
@@ -112,7 +113,14 @@ pub record ClientsKeepSpellings : Type 0 where
   pub restart : (c : ClientState) → FitsClient c → FitsClient (restarted c)
   pub watch : (c : ClientState) (id : ℤ) → FitsClient c → IsLong id → FitsClient (record c { channels = watched c.channels id })
 
--- and then each frame that it sends has one: a push,
+-- what is saved of such a client has one, where its numbers and lists fit the format; and such a client is loaded of what has one
+abbrev pub ClientsAreSaved : Type 0
+ClientsAreSaved = (c : ClientState) → FitsClient c → IsNarrow c → FitsSaved (saved_of c)
+
+abbrev pub LoadedHaveSpellings : Type 0
+LoadedHaveSpellings = (s : Saved) → FitsSaved s → load_cause s ≡ None → FitsClient (client_loaded s)
+
+-- each frame that such a server sends has one: a push,
 abbrev pub PushesHaveSpellings : Type 0
 PushesHaveSpellings = (s : ServerState) (posts : List Post) → IsSound s → All FitsPost posts → post_cause s posts ≡ None → FitsFrame (Push (push_of s posts))
 

@@ -1,8 +1,9 @@
 -- Servers and clients of which each part has a spelling. This project's own.
-use Rattle.std.specs.Prelude.{◌≡◌, ℕ, ℤ, Some}
+use Rattle.std.specs.Prelude.{◌≡◌, ℕ, ℤ, ◌<◌, ◌^◌, length, Some}
 use Rattle.std.specs.FinMap as map
 use Rattle.std.specs.List.{All}
 use Rattle.box_events.specs.declared.positions.Receipt.{Receipt}
+use Rattle.box_events.specs.Events.{EventView}
 use Rattle.box_server.specs.Servers.{ChannelBox, ServerState}
 use Rattle.pts_machine.specs.States.{LaneState}
 use Rattle.seq_machine.specs.Packs.{Pack}
@@ -10,7 +11,7 @@ use Rattle.seq_machine.specs.States.{SettingsState}
 use Rattle.channel_box.specs.States.{ChannelState}
 use Rattle.box_client.specs.States.{ClientState}
 use Rattle.wire_forms.specs.IsOf.{IsLong, IsText}
-use Rattle.wire_values.specs.CarriedFrames.{FitsEvent, FitsReceipt, FitsSetting, IsList}
+use Rattle.wire_values.specs.CarriedFrames.{FitsEvent, FitsReceipt, FitsSetting, IsList, IsWord}
 
 -- the id and the events of a channel's box
 pub record FitsBox (c : ChannelBox) : Type 0 where
@@ -47,3 +48,20 @@ pub record FitsClient (c : ClientState) : Type 0 where
   pub secret : HoldsAll FitsEvent c.secret
   pub settings : FitsSettings c.settings
   pub channels : All FitsChannel c.channels
+
+-- a lane's numbers have 32 bits, and its events are fewer than 2^31
+pub record IsNarrowLane (t : LaneState EventView) : Type 0 where
+  pub restart : IsWord t.restart
+  pub at : IsWord t.at
+  pub events : length t.events < 2 ^ 31
+
+-- a client's numbers have 32 bits, and its lists have fewer than 2^31 elements
+pub record IsNarrow (c : ClientState) : Type 0 where
+  pub next : IsWord c.next
+  pub common : IsNarrowLane c.common
+  pub secret : IsNarrowLane c.secret
+  pub date : IsWord c.settings.date
+  pub seq : IsWord c.settings.at
+  pub settings : map.len c.settings.table < 2 ^ 31
+  pub lanes : All (λ d. IsNarrowLane d.lane) c.channels
+  pub channels : length c.channels < 2 ^ 31

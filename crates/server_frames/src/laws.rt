@@ -1,5 +1,5 @@
 //! Laws of what servers and clients send, each carried by a function that does nothing.
-ghost use Rattle.server_frames.specs.Laws.{AnswersAreBelow, AnswersFit, AnswersHaveSpellings, AsksAreBelow, AsksFit, ClientsKeepSpellings, PushesAreBelow, PushesFit, PushesHaveSpellings, ReadClientsAreTaken, ReadFramesAreTaken, ReceiptsAreBelow, ReceiptsHaveSpellings, RefusalsAreBelow, RefusalsHaveSpellings, ServersKeepSpellings, WarningsAreBelow, WarningsFit, WarningsHaveSpellings};
+ghost use Rattle.server_frames.specs.Laws.{AnswersAreBelow, AnswersFit, AnswersHaveSpellings, AsksAreBelow, AsksFit, ClientsAreSaved, ClientsKeepSpellings, LoadedHaveSpellings, PushesAreBelow, PushesFit, PushesHaveSpellings, ReadClientsAreTaken, ReadFramesAreTaken, ReceiptsAreBelow, ReceiptsHaveSpellings, RefusalsAreBelow, RefusalsHaveSpellings, ServersKeepSpellings, WarningsAreBelow, WarningsFit, WarningsHaveSpellings};
 
 /// What a sound server sends, and what a client asks, is its value's again and has no cause: it is read as it was spelled.
 pub fn what_is_sent_is_read()
@@ -29,6 +29,8 @@ pub fn what_is_read_is_taken()
 pub fn what_is_sent_has_a_spelling()
     ensures servers { ServersKeepSpellings }
     ensures clients { ClientsKeepSpellings }
+    ensures saved { ClientsAreSaved }
+    ensures loaded { LoadedHaveSpellings }
     ensures pushes { PushesHaveSpellings }
     ensures answers { AnswersHaveSpellings }
     ensures receipts { ReceiptsHaveSpellings }
