@@ -13,3 +13,6 @@ pub mod ReadFrames
 pub mod ReadClients
 pub mod FittingServers
 pub mod FittingFrames
+pub mod MapEntries
+pub mod FittingClients
+pub mod FittingSaved

@@ -7,8 +7,10 @@ use Rattle.box_events.specs.declared.requests.Request.{Request}
 use Rattle.box_events.specs.declared.positions.Receipt.{Receipt}
 use Rattle.box_events.specs.declared.replies.Frame.{Frame}
 use Rattle.box_events.specs.declared.replies.Frame.TheVariants.{Push, Reply}
+use Rattle.box_events.specs.declared.replies.Reply.{Reply as SomeReply}
 use Rattle.box_events.specs.declared.replies.Reply.TheVariants.{Error, Receipt as ReceiptReply}
 use Rattle.box_events.specs.declared.saved.Saved.{Saved}
+use Rattle.box_events.specs.declared.updates.Push.{Push as SomePush}
 use Rattle.box_events.specs.declared.updates.Push.TheVariants.{TooLong, Container}
 use Rattle.box_events.specs.declared.updates.Update.TheVariants.{ChannelTooLong}
 use Rattle.box_server.specs.declared.fault.PostFault.{PostFault}
@@ -20,12 +22,16 @@ use Rattle.box_server.specs.Sound.{IsSound}
 use Rattle.box_server.specs.Answers.{answer, IsAnswered}
 use Rattle.box_server.specs.Posting.{push_of}
 use Rattle.box_server.specs.Refusing.{post_cause}
-use Rattle.box_client.specs.States.{ClientState}
-use Rattle.box_client.specs.Asking.{ticks}
+use Rattle.box_client.specs.States.{ClientState, new_client}
+use Rattle.box_client.specs.Pushes.{pushed}
+use Rattle.box_client.specs.Saving.{client_loaded, load_cause, saved_of}
+use Rattle.box_client.specs.Replies.{becomes, replied}
+use Rattle.box_client.specs.Asking.{restarted, ticks, wakes}
+use Rattle.channel_box.specs.Steps.{watched}
 use Rattle.box_client.specs.Ranges.{IsSavedInRange}
 use Rattle.wire_forms.specs.IsOf.{IsLong}
-use Rattle.wire_values.specs.Carried.{FitsPost, IsSaved}
-use Rattle.wire_values.specs.CarriedFrames.{FitsFrame, FitsReceipt, IsFrame, IsWord}
+use Rattle.wire_values.specs.Carried.{FitsPost, FitsSaved, IsSaved}
+use Rattle.wire_values.specs.CarriedFrames.{FitsFrame, FitsPush, FitsReceipt, FitsReply, IsFrame, IsWord}
 use Rattle.wire_values.specs.Frames.{frame_tree}
 use Rattle.wire_values.specs.SavedClients.{saved_tree}
 use Rattle.wire_profile.specs.Places.{ProfileView}
@@ -34,7 +40,7 @@ use Rattle.box_wire.specs.Framing.{Means}
 use Rattle.box_wire.specs.Kinds.{frames, saved_clients}
 use Rattle.frame_sizes.specs.Sizes.{call_size, frame_size}
 use Rattle.server_frames.specs.Fitting.{CallFits, FrameFits, IsHearable, IsNumber}
-use Rattle.server_frames.specs.Spelled.{FitsServer}
+use Rattle.server_frames.specs.Spelled.{FitsClient, FitsServer, IsNarrow}
 use Rattle.server_frames.specs.Sums.{IsBelow, most_of_answer, most_of_push}
 
 -- ---- what is sent is read as it was spelled
@@ -97,7 +103,24 @@ pub record ServersKeepSpellings : Type 0 where
   pub date : (s : ServerState) (date : ℕ) → FitsServer s → FitsServer (dated_at s date)
   pub post : (s : ServerState) (random_id : ℤ) (posts : List Post) → FitsServer s → IsSound s → All FitsPost posts → FitsServer (after_post s random_id posts)
 
--- and then each frame that it sends has one: a push,
+-- and so does a client through what it hears and does by itself
+pub record ClientsKeepSpellings : Type 0 where
+  pub new : FitsClient new_client
+  pub push : (c : ClientState) (p : SomePush) → FitsClient c → FitsPush p → FitsClient (pushed c p)
+  pub reply : (c : ClientState) (n : ℕ) (r : SomeReply) (d : ClientState) → FitsClient c → FitsReply r → replied c n r ≡ becomes d → FitsClient d
+  pub tick : (c : ClientState) → FitsClient c → FitsClient (ticks c).client
+  pub wake : (c : ClientState) → FitsClient c → FitsClient (wakes c)
+  pub restart : (c : ClientState) → FitsClient c → FitsClient (restarted c)
+  pub watch : (c : ClientState) (id : ℤ) → FitsClient c → IsLong id → FitsClient (record c { channels = watched c.channels id })
+
+-- what is saved of such a client has one, where its numbers and lists fit the format; and such a client is loaded of what has one
+abbrev pub ClientsAreSaved : Type 0
+ClientsAreSaved = (c : ClientState) → FitsClient c → IsNarrow c → FitsSaved (saved_of c)
+
+abbrev pub LoadedHaveSpellings : Type 0
+LoadedHaveSpellings = (s : Saved) → FitsSaved s → load_cause s ≡ None → FitsClient (client_loaded s)
+
+-- each frame that such a server sends has one: a push,
 abbrev pub PushesHaveSpellings : Type 0
 PushesHaveSpellings = (s : ServerState) (posts : List Post) → IsSound s → All FitsPost posts → post_cause s posts ≡ None → FitsFrame (Push (push_of s posts))
 

@@ -1,5 +1,5 @@
 //! Laws of what servers and clients send, each carried by a function that does nothing.
-ghost use Rattle.server_frames.specs.Laws.{AnswersAreBelow, AnswersFit, AnswersHaveSpellings, AsksAreBelow, AsksFit, PushesAreBelow, PushesFit, PushesHaveSpellings, ReadClientsAreTaken, ReadFramesAreTaken, ReceiptsAreBelow, ReceiptsHaveSpellings, RefusalsAreBelow, RefusalsHaveSpellings, ServersKeepSpellings, WarningsAreBelow, WarningsFit, WarningsHaveSpellings};
+ghost use Rattle.server_frames.specs.Laws.{AnswersAreBelow, AnswersFit, AnswersHaveSpellings, AsksAreBelow, AsksFit, ClientsAreSaved, ClientsKeepSpellings, LoadedHaveSpellings, PushesAreBelow, PushesFit, PushesHaveSpellings, ReadClientsAreTaken, ReadFramesAreTaken, ReceiptsAreBelow, ReceiptsHaveSpellings, RefusalsAreBelow, RefusalsHaveSpellings, ServersKeepSpellings, WarningsAreBelow, WarningsFit, WarningsHaveSpellings};
 
 /// What a sound server sends, and what a client asks, is its value's again and has no cause: it is read as it was spelled.
 pub fn what_is_sent_is_read()
@@ -28,6 +28,9 @@ pub fn what_is_read_is_taken()
 /// What is sent has a spelling where each part of what was posted has one.
 pub fn what_is_sent_has_a_spelling()
     ensures servers { ServersKeepSpellings }
+    ensures clients { ClientsKeepSpellings }
+    ensures saved { ClientsAreSaved }
+    ensures loaded { LoadedHaveSpellings }
     ensures pushes { PushesHaveSpellings }
     ensures answers { AnswersHaveSpellings }
     ensures receipts { ReceiptsHaveSpellings }
