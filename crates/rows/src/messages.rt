@@ -1,5 +1,6 @@
-//! Rows `KIND WORDS = TOLD`.
+//! Rows `KIND WORDS => TOLD` of messages as bytes.
 use crate::answers::{Read, call_read, frame_read, saved_read};
+use crate::row::{otherwise, parted, unread};
 use crate::steps::{step_read, steps_told};
 use crate::words::{WordFault, bytes_of, digits};
 use std::alloc::{AllocError, Global};
@@ -55,24 +56,19 @@ fn told(
 }
 
 /// How a row is told, where that is otherwise than it says.
-pub fn difference(
+pub fn message_difference(
     alloc: Global,
     profile: &Profile,
     row: &str,
 ) -> Result<Option<String>, AllocError> {
-    let Some((asked, wanted)) = row.split_once("= ") else {
-        return Ok(Some(String::from_str(alloc, "a row without an answer")?));
+    let Some((asked, wanted)) = parted(row) else {
+        return unread(alloc, row, "a row without an answer");
     };
-    let Some((kind, words)) = asked.split_once(' ') else {
-        return Ok(Some(String::from_str(alloc, "a row without a kind")?));
-    };
+    let (kind, words) = asked.split_once(' ').unwrap_or((asked, ""));
     let told = match bytes_of(alloc, profile.schema(), words) {
         Ok(bytes) => told(alloc, profile, kind, &bytes, wanted)?,
         Err(WordFault::Unknown) => String::from_str(alloc, "an unknown word")?,
         Err(WordFault::Memory) => return Err(AllocError),
     };
-    if told.as_str() == wanted {
-        return Ok(None);
-    }
-    Ok(Some(format!(in alloc; "{asked}= {told}")?))
+    otherwise(alloc, asked, told.as_str(), wanted)
 }

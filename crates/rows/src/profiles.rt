@@ -1,4 +1,5 @@
 //! Rows `LEFT OUT | PUT BEFORE => TOLD` of texts near the profile's.
+use crate::row::{otherwise, parted, unread};
 use crate::schemas::schema_of;
 use std::alloc::{AllocError, Global};
 use tl_schema::Schema;
@@ -51,16 +52,13 @@ fn edited(alloc: Global, left_out: &str, before: &str) -> Result<String, AllocEr
 
 /// How a row is told, where that is otherwise than it says.
 pub fn profile_difference(alloc: Global, row: &str) -> Result<Option<String>, AllocError> {
-    let Some((asked, wanted)) = row.split_once(" => ") else {
-        return Ok(Some(String::from_str(alloc, "a row without an answer")?));
+    let Some((asked, wanted)) = parted(row) else {
+        return unread(alloc, row, "a row without an answer");
     };
     let Some((left_out, before)) = asked.split_once(" | ") else {
-        return Ok(Some(String::from_str(alloc, "a row without a text")?));
+        return unread(alloc, row, "a row without a text");
     };
     let schema = schema_of(alloc, edited(alloc, left_out, before)?.as_str())?;
     let told = told(alloc, &schema)?;
-    if told.as_str() == wanted {
-        return Ok(None);
-    }
-    Ok(Some(format!(in alloc; "{asked} => {told}")?))
+    otherwise(alloc, asked, told.as_str(), wanted)
 }
