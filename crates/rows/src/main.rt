@@ -2,17 +2,24 @@
 #![tactic(auto)]
 
 mod answers;
+mod asked;
+mod base;
+mod codec;
 mod ends;
 mod messages;
 mod profiles;
+mod repeat;
 mod row;
 mod schemas;
 mod steps;
 mod words;
 
+use crate::base::{Base, base_difference};
+use crate::codec::{Codec, codec_difference};
 use crate::ends::{Ends, ends_difference};
 use crate::messages::message_difference;
 use crate::profiles::profile_difference;
+use crate::repeat::{repeat_difference, repeated};
 use crate::schemas::schema;
 use std::alloc::{AllocError, Global};
 use std::process::ExitCode;
@@ -20,7 +27,11 @@ use std::{env, fs, io};
 use tl_schema::Schema;
 use wire_profile::Profile;
 
-const USAGE: &str = "usage: rows MODE FILE.., where MODE is own, other, texts or ends";
+const USAGE: &str =
+    "usage: rows MODE FILE.., where MODE is own, other, texts, base, codec, ends or repeats; or rows repeat NAME MANY CALLS";
+
+const REPEAT_USAGE: &str =
+    "usage: rows repeat boundary|between EVENTS CALLS, last POSTS CALLS, plan DECLARATIONS CALLS, bytes RECORDS SIZE, spell|read|encode|decode BYTES CALLS, or forward|backward ITEMS";
 
 /// How many rows there were, and how many of them are told otherwise than wanted.
 #[derive(Clone, Copy)]
@@ -49,8 +60,14 @@ enum Mode {
     Other,
     // Texts near the profile's.
     Texts,
+    // Calls of bytes, numbers, sources, sinks and hosts.
+    Base,
+    // Calls of tokens, programs, schemas, types and values.
+    Codec,
     // Calls of boxes, lanes, both ends and replays.
     Ends,
+    // What many calls come to.
+    Repeats,
 }
 
 // The mode that a word is; None where it is a file.
@@ -59,7 +76,10 @@ fn mode_of(word: &str) -> Option<Mode> {
         "own" => Some(Mode::Own),
         "other" => Some(Mode::Other),
         "texts" => Some(Mode::Texts),
+        "base" => Some(Mode::Base),
+        "codec" => Some(Mode::Codec),
         "ends" => Some(Mode::Ends),
+        "repeats" => Some(Mode::Repeats),
         _ => None,
     }
 }
@@ -69,7 +89,10 @@ fn mode_of(word: &str) -> Option<Mode> {
 enum State<'s> {
     Messages(Profile<'s>),
     Texts,
+    Base(Base),
+    Codec(Codec),
     Ends(Ends),
+    Repeats,
 }
 
 // How a row is told, where that is otherwise than it says.
@@ -77,7 +100,10 @@ fn difference(alloc: Global, state: &mut State, row: &str) -> Result<Option<Stri
     match state {
         State::Messages(profile) => message_difference(alloc, profile, row),
         State::Texts => profile_difference(alloc, row),
+        State::Base(base) => base_difference(alloc, base, row),
+        State::Codec(codec) => codec_difference(alloc, codec, row),
         State::Ends(ends) => ends_difference(alloc, ends, row),
+        State::Repeats => repeat_difference(alloc, row),
     }
 }
 
@@ -136,7 +162,10 @@ fn run_text(rt: &HostRuntime, mode: Mode, file: &str, text: &str) -> io::Result<
         Mode::Own => run_messages(rt, &schema(rt.alloc(), false)?, file, text),
         Mode::Other => run_messages(rt, &schema(rt.alloc(), true)?, file, text),
         Mode::Texts => run_rows(rt, State::Texts, file, text),
+        Mode::Base => run_rows(rt, State::Base(Base::new(rt.alloc())), file, text),
+        Mode::Codec => run_rows(rt, State::Codec(Codec::new(rt.alloc())), file, text),
         Mode::Ends => run_rows(rt, State::Ends(Ends::new(rt.alloc())), file, text),
+        Mode::Repeats => run_rows(rt, State::Repeats, file, text),
     }
 }
 
@@ -183,9 +212,33 @@ fn names_a_file(words: &[String]) -> bool {
     false
 }
 
+// Prints what many calls come to.
+fn run_repeat(rt: &HostRuntime, words: &[String]) -> io::Result<u8> {
+    let mut call = Vec::new(rt.alloc());
+    for word in words {
+        call.push(word.as_str())?;
+    }
+    match repeated(rt.alloc(), call.as_slice()) {
+        Ok(Some(number)) => {
+            println!(rt; "{number}")?;
+            Ok(0)
+        }
+        Ok(None) => {
+            println!(rt; "{REPEAT_USAGE}")?;
+            Ok(2)
+        }
+        Err(_) => Ok(1),
+    }
+}
+
 // What the words ask for, and the exit status.
 fn run_words(rt: &HostRuntime) -> io::Result<u8> {
     let words = env::args(rt)?.skip(1).collect::<Vec<String>>(rt.alloc())?;
+    if let [first, words @ ..] = words.as_slice()
+        && first.as_str() == "repeat"
+    {
+        return run_repeat(rt, words);
+    }
     if names_a_file(words.as_slice()) {
         return run_files(rt, words.as_slice());
     }

@@ -58,7 +58,7 @@ pub fn profile_difference(alloc: Global, row: &str) -> Result<Option<String>, Al
     let Some((left_out, before)) = asked.split_once(" | ") else {
         return unread(alloc, row, "a row without a text");
     };
-    let schema = schema_of(alloc, edited(alloc, left_out, before)?.as_str())?;
+    let schema = schema_of(alloc, edited(alloc, left_out, before)?.as_bytes())?;
     let told = told(alloc, &schema)?;
     otherwise(alloc, asked, told.as_str(), wanted)
 }

@@ -1,7 +1,7 @@
 //! Pushes of one message as bytes and back: by the calls of messages, and by the codec alone.
 ghost use Rattle.std.specs.Prelude.{◌≡◌, ◌<◌};
 
-use crate::codec::schema_of;
+use crate::schemas::schema;
 use box_events::{Event, Frame, ListOf, Push, Update};
 use box_wire::{read_frame, spell_frame};
 use std::alloc::{AllocError, Global};
@@ -10,15 +10,10 @@ use tl_decode::decode;
 use tl_encode::spelling_of;
 use tl_schema::Schema;
 use tl_types::Value;
-use wire_profile::{PROFILE_TEXT, Profile};
+use wire_profile::Profile;
 
 // The root of frames in a profile's plan.
 const FRAME_ROOT: u32 = 0;
-
-// The schema that the profile's text is, in a function of its own: what is proved of a caller needn't go through the text.
-fn profile_schema(alloc: Global) -> Result<Schema, AllocError> {
-    schema_of(alloc, PROFILE_TEXT.as_bytes()).ok_or(AllocError)
-}
 
 // A push of a message with a body of so many bytes.
 fn push_of(alloc: Global, length: usize) -> Result<Frame, AllocError> {
@@ -154,5 +149,5 @@ pub fn pushes(
     length: u32,
     calls: u32,
 ) -> Result<Option<u64>, AllocError> {
-    called_by(alloc, &profile_schema(alloc)?, name, length, calls)
+    called_by(alloc, &schema(alloc, false)?, name, length, calls)
 }

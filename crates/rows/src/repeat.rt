@@ -1,23 +1,17 @@
-//! call_bench: makes calls of which no command makes many, so that bench/calls.py can count what one costs.
-#![tactic(auto)]
-
+//! Calls of which no command makes many, so that bench/calls.py can count what one costs.
 ghost use Rattle.std.specs.Prelude.{◌≤◌, ◌<◌, ◌+◌};
 
-mod codec;
+mod pieces;
 mod pushes;
 
-use crate::codec::{fed, plans};
-use crate::pushes::pushes;
+use crate::repeat::pieces::{fed, plans};
+use crate::repeat::pushes::pushes;
+use crate::row::{otherwise, parted, unread};
 use box_events::{BoxFault, Event, EventBox, Post, Reply, Request};
 use box_server::{PostFault, Server};
 use gap_buffer::{Gap, Held};
 use std::alloc::{AllocError, Global};
-use std::process::ExitCode;
-use std::{env, io};
 use tl_base::Bytes;
-
-const USAGE: &str =
-    "usage: call_bench boundary|between EVENTS CALLS, call_bench last POSTS CALLS, call_bench plan DECLARATIONS CALLS, call_bench bytes RECORDS SIZE, call_bench spell|read|encode|decode BYTES CALLS, call_bench forward|backward ITEMS";
 
 // A box of so many read marks.
 fn box_of(alloc: Global, events: u32) -> Result<EventBox, BoxFault> {
@@ -143,20 +137,20 @@ fn of_many(alloc: Global, name: &str, many: u32, calls: u32) -> Result<Option<u6
     }
 }
 
-// What the calls that the words name come to; None where the words name none.
-fn outcome(alloc: Global, words: &[String]) -> Result<Option<u64>, BoxFault> {
+/// What the calls that the words name come to; None where they name none, or there was no memory for them.
+pub fn repeated(alloc: Global, words: &[&str]) -> Result<Option<u64>, BoxFault> {
     match words {
         [name, many, calls] => {
             let (Ok(many), Ok(calls)) = (many.parse::<u32>(), calls.parse::<u32>()) else {
                 return Ok(None);
             };
-            of_many(alloc, name.as_str(), many, calls)
+            of_many(alloc, name, many, calls)
         }
         [name, items] => {
             let Ok(items) = items.parse::<u16>() else {
                 return Ok(None);
             };
-            match name.as_str() {
+            match *name {
                 "forward" => Ok(Some(hold_all(alloc, items, false)? as u64)),
                 "backward" => Ok(Some(hold_all(alloc, items, true)? as u64)),
                 _ => Ok(None),
@@ -166,26 +160,15 @@ fn outcome(alloc: Global, words: &[String]) -> Result<Option<u64>, BoxFault> {
     }
 }
 
-// Prints what the calls come to, and answers the exit status.
-fn tell(rt: &HostRuntime) -> io::Result<u8> {
-    let alloc = rt.alloc();
-    let words = env::args(rt)?.skip(1).collect::<Vec<String>>(alloc)?;
-    match outcome(alloc, words.as_slice()) {
-        Ok(Some(number)) => {
-            println!(rt; "{number}")?;
-            Ok(0)
-        }
-        Ok(None) => {
-            println!(rt; "{USAGE}")?;
-            Ok(2)
-        }
-        Err(_) => Ok(1),
-    }
-}
-
-fn main(rt: HostRuntime) -> ExitCode {
-    match tell(&rt) {
-        Ok(status) => ExitCode::from(status),
-        Err(_) => ExitCode::from(1),
-    }
+/// How a row is told, where that is otherwise than it says.
+pub fn repeat_difference(alloc: Global, row: &str) -> Result<Option<String>, AllocError> {
+    let Some((asked, wanted)) = parted(row) else {
+        return unread(alloc, row, "a row without an answer");
+    };
+    let words: Vec<&str> = asked.split_whitespace().collect(alloc)?;
+    let told = match repeated(alloc, words.as_slice()) {
+        Ok(Some(number)) => format!(in alloc; "{number}")?,
+        _ => String::from_str(alloc, "no number")?,
+    };
+    otherwise(alloc, asked, told.as_str(), wanted)
 }

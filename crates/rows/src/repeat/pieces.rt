@@ -1,33 +1,16 @@
 //! Plans of large schemas, and values that are fed to a decoder in pieces.
 ghost use Rattle.std.specs.Prelude.{◌<◌};
 
+use crate::schemas::{plan_of, schema_of};
 use std::alloc::{AllocError, Global};
-use std::slice::from_ref;
 use tl_base::BOXED_VECTOR;
-use tl_combinators::parse;
 use tl_decode::{Decoder, Fed};
-use tl_lexer::lex;
-use tl_plan::{Plan, plan};
-use tl_schema::{Schema, check, type_of};
 
 const RECORD: &str =
     "record#00000001 flags:# number:int scattered:int name:string quarter:flags.0?int = Record;";
 
 // The string `record no. 000000` as TL spells it.
 const NAME: [u8; 20] = *b"\x11record no. 000000\0\0";
-
-/// The schema that a text is.
-pub fn schema_of(alloc: Global, text: &[u8]) -> Option<Schema> {
-    let tokens = lex(alloc, text).ok()?;
-    let program = parse(alloc, text, &tokens).ok()?;
-    check(alloc, &program).ok()
-}
-
-// The plan of the type that a text is.
-fn plan_of<'s>(alloc: Global, schema: &'s Schema, text: &[u8]) -> Option<Plan<'s>> {
-    let of = type_of(alloc, schema, text).ok()?;
-    plan(alloc, schema, from_ref(&of)).ok()
-}
 
 // ---- plans
 
@@ -49,7 +32,7 @@ fn text_of(alloc: Global, pairs: u32) -> Result<String, AllocError> {
 /// How many instances so many plans of all calls of a schema have, which has so many declarations.
 pub fn plans(alloc: Global, declarations: u32, calls: u32) -> Option<u64> {
     let text = text_of(alloc, declarations / 2).ok()?;
-    let schema = schema_of(alloc, text.as_bytes())?;
+    let schema = schema_of(alloc, text.as_bytes()).ok()?;
     let mut instances: u64 = 0;
     for _ in 0..calls {
         instances = instances.saturating_add(plan_of(alloc, &schema, b"!")?.count() as u64);
@@ -109,7 +92,7 @@ pub fn fed(alloc: Global, count: u32, size: u32) -> Option<u64> {
     if size == 0 {
         return Some(0);
     }
-    let schema = schema_of(alloc, RECORD.as_bytes())?;
+    let schema = schema_of(alloc, RECORD.as_bytes()).ok()?;
     let plan = plan_of(alloc, &schema, b"Vector<Record>")?;
     if plan.roots() == 0 {
         return None;
