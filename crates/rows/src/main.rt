@@ -114,6 +114,12 @@ fn is_row(line: &str) -> bool {
     !line.is_empty() && !line.starts_with("//")
 }
 
+// Prints a row that is told otherwise.
+fn refuse(rt: &HostRuntime, file: &str, number: usize, told: &str) -> io::Result<Counts> {
+    println!(rt; "{file}:{number}: {told}")?;
+    Ok(Counts { rows: 1, differ: 1 })
+}
+
 // One line of a file; a row that is told otherwise is printed.
 fn run_line(
     rt: &HostRuntime,
@@ -126,10 +132,7 @@ fn run_line(
         return Ok(Counts { rows: 0, differ: 0 });
     }
     match difference(rt.alloc(), state, line)? {
-        Some(told) => {
-            println!(rt; "{file}:{number}: {told}")?;
-            Ok(Counts { rows: 1, differ: 1 })
-        }
+        Some(told) => refuse(rt, file, number, told.as_str()),
         None => Ok(Counts { rows: 1, differ: 0 }),
     }
 }

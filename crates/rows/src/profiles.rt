@@ -50,6 +50,12 @@ fn edited(alloc: Global, left_out: &str, before: &str) -> Result<String, AllocEr
     Ok(text)
 }
 
+// What the edited text is.
+fn edited_told(alloc: Global, left_out: &str, before: &str) -> Result<String, AllocError> {
+    let text = edited(alloc, left_out, before)?;
+    told(alloc, &schema_of(alloc, text.as_bytes())?)
+}
+
 /// How a row is told, where that is otherwise than it says.
 pub fn profile_difference(alloc: Global, row: &str) -> Result<Option<String>, AllocError> {
     let Some((asked, wanted)) = parted(row) else {
@@ -58,7 +64,6 @@ pub fn profile_difference(alloc: Global, row: &str) -> Result<Option<String>, Al
     let Some((left_out, before)) = asked.split_once(" | ") else {
         return unread(alloc, row, "a row without a text");
     };
-    let schema = schema_of(alloc, edited(alloc, left_out, before)?.as_bytes())?;
-    let told = told(alloc, &schema)?;
+    let told = edited_told(alloc, left_out, before)?;
     otherwise(alloc, asked, told.as_str(), wanted)
 }

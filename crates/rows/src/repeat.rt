@@ -64,6 +64,17 @@ fn copies(marks: &EventBox, calls: u32) -> Result<usize, AllocError> {
     Ok(events)
 }
 
+// The same of a box of so many read marks.
+fn boundaries_of(alloc: Global, events: u32, calls: u32) -> Result<u64, BoxFault> {
+    let marks = box_of(alloc, events)?;
+    Ok(boundaries(&marks, calls) as u64)
+}
+
+fn copies_of(alloc: Global, events: u32, calls: u32) -> Result<u64, BoxFault> {
+    let marks = box_of(alloc, events)?;
+    Ok(copies(&marks, calls)? as u64)
+}
+
 // Holds so many items in order of start, or the last first, and tells how many are kept.
 fn hold_all(alloc: Global, items: u16, is_backward: bool) -> Result<u32, AllocError> {
     let mut gap: Gap<u32> = Gap::new(alloc);
@@ -128,8 +139,8 @@ fn made<E: Drop>(number: Result<u64, E>) -> Result<Option<u64>, BoxFault> {
 // What the calls of this name come to, of so many things; None where nothing has the name.
 fn of_many(alloc: Global, name: &str, many: u32, calls: u32) -> Result<Option<u64>, BoxFault> {
     match name {
-        "boundary" => Ok(Some(boundaries(&box_of(alloc, many)?, calls) as u64)),
-        "between" => Ok(Some(copies(&box_of(alloc, many)?, calls)? as u64)),
+        "boundary" => Ok(Some(boundaries_of(alloc, many, calls)?)),
+        "between" => Ok(Some(copies_of(alloc, many, calls)?)),
         "last" => made(differences(alloc, many, calls)),
         "plan" => made(plans(alloc, many, calls).ok_or(AllocError)),
         "bytes" => made(fed(alloc, many, calls).ok_or(AllocError)),

@@ -71,6 +71,50 @@ fn prepared(alloc: Global) -> Result<MemHost, AllocError> {
     Ok(host)
 }
 
+// Cuts a read at so many bytes.
+fn tell_cut(host: &mut MemHost, most: &str) -> Result<bool, AllocError> {
+    let Ok(most) = most.parse::<u32>() else {
+        return Ok(false);
+    };
+    host.cut(most)?;
+    Ok(true)
+}
+
+// Has a moment come.
+fn tell_moment(host: &mut MemHost, now: &str) -> Result<bool, AllocError> {
+    match now.parse::<u32>() {
+        Ok(now) if now < 0x8000_0000 => {
+            host.moment(now)?;
+            Ok(true)
+        }
+        _ => Ok(false),
+    }
+}
+
+// Has a call of a kind fail, by its number from 0.
+fn tell_fail(host: &mut MemHost, number: &str, kind: &[&str]) -> Result<bool, AllocError> {
+    let (Ok(number), Some(kind)) = (number.parse::<u64>(), kind_of(kind)) else {
+        return Ok(false);
+    };
+    host.fail(kind, number)?;
+    Ok(true)
+}
+
+// Adds a file, or a link to come where it has no name.
+fn tell_bytes(
+    alloc: Global,
+    host: &mut MemHost,
+    name: Option<&str>,
+    text: &[u8],
+) -> Result<bool, AllocError> {
+    let bytes = Bytes::from_slice(alloc, text)?;
+    match name {
+        Some(name) => host.file(alloc, name, bytes)?,
+        None => host.link(alloc, bytes)?,
+    }
+    Ok(true)
+}
+
 // Tells a host what it is to find or do; whether the words say that.
 fn tells(
     alloc: Global,
@@ -79,23 +123,13 @@ fn tells(
     text: &[u8],
 ) -> Result<bool, AllocError> {
     match call {
-        ["file", name] => host.file(alloc, name, Bytes::from_slice(alloc, text)?)?,
-        ["to-come"] => host.link(alloc, Bytes::from_slice(alloc, text)?)?,
-        ["cut", most] => match most.parse::<u32>() {
-            Ok(most) => host.cut(most)?,
-            Err(_) => return Ok(false),
-        },
-        ["moment", now] => match now.parse::<u32>() {
-            Ok(now) if now < 0x8000_0000 => host.moment(now)?,
-            _ => return Ok(false),
-        },
-        ["fail", number, kind @ ..] => match (number.parse::<u64>(), kind_of(kind)) {
-            (Ok(number), Some(kind)) => host.fail(kind, number)?,
-            _ => return Ok(false),
-        },
-        _ => return Ok(false),
+        ["to-come"] => tell_bytes(alloc, host, None, text),
+        ["file", name] => tell_bytes(alloc, host, Some(name), text),
+        ["cut", most] => tell_cut(host, most),
+        ["moment", now] => tell_moment(host, now),
+        ["fail", number, kind @ ..] => tell_fail(host, number, kind),
+        _ => Ok(false),
     }
-    Ok(true)
 }
 
 // ---- calls
@@ -249,6 +283,29 @@ fn made(alloc: Global, call: &[&str]) -> Result<Option<MemHost>, AllocError> {
     }
 }
 
+fn put(
+    alloc: Global,
+    hosts: &mut BTreeMap<String, MemHost>,
+    name: &str,
+    host: MemHost,
+) -> Result<String, AllocError> {
+    hosts.insert(String::from_str(alloc, name)?, host)?;
+    String::from_str(alloc, "made")
+}
+
+// The answer of a call of a host, or that it was told something.
+fn told_or_answered(
+    alloc: Global,
+    host: &mut MemHost,
+    call: &[&str],
+    text: &[u8],
+) -> Result<String, AllocError> {
+    if tells(alloc, host, call, text)? {
+        return String::from_str(alloc, "told");
+    }
+    answered(alloc, host, call, text)
+}
+
 /// The answer of a call of the host with this name.
 pub fn host_told(
     alloc: Global,
@@ -258,16 +315,10 @@ pub fn host_told(
     text: &[u8],
 ) -> Result<String, AllocError> {
     if let Some(host) = made(alloc, call)? {
-        hosts.insert(String::from_str(alloc, name)?, host)?;
-        return String::from_str(alloc, "made");
+        return put(alloc, hosts, name, host);
     }
     match hosts.get_mut(name) {
-        Some(host) => {
-            if tells(alloc, host, call, text)? {
-                return String::from_str(alloc, "told");
-            }
-            answered(alloc, host, call, text)
-        }
+        Some(host) => told_or_answered(alloc, host, call, text),
         None => String::from_str(alloc, "no such host"),
     }
 }

@@ -115,6 +115,22 @@ pub fn fails_of(alloc: Global, words: &str) -> Result<Vec<u64>, AllocError> {
     Ok(numbers)
 }
 
+fn put(
+    alloc: Global,
+    sources: &mut BTreeMap<String, MemSource>,
+    name: &str,
+    source: MemSource,
+) -> Result<String, AllocError> {
+    sources.insert(String::from_str(alloc, name)?, source)?;
+    String::from_str(alloc, "made")
+}
+
+// A source of the bytes, with its cuts and its failing reads.
+fn made(alloc: Global, text: &[u8], cuts: &str, fails: &str) -> Result<MemSource, AllocError> {
+    let bytes = Bytes::from_slice(alloc, text)?;
+    Ok(MemSource::new(bytes, cuts_of(alloc, cuts)?, fails_of(alloc, fails)?))
+}
+
 /// The answer of a call of the source with this name.
 pub fn source_told(
     alloc: Global,
@@ -124,10 +140,7 @@ pub fn source_told(
     text: &[u8],
 ) -> Result<String, AllocError> {
     if let ["cuts", cuts, "fails", fails] = call {
-        let bytes = Bytes::from_slice(alloc, text)?;
-        let source = MemSource::new(bytes, cuts_of(alloc, cuts)?, fails_of(alloc, fails)?);
-        sources.insert(String::from_str(alloc, name)?, source)?;
-        return String::from_str(alloc, "made");
+        return put(alloc, sources, name, made(alloc, text, cuts, fails)?);
     }
     match sources.get_mut(name) {
         Some(source) => answered(alloc, source, call),

@@ -120,6 +120,17 @@ fn pieces_told(
     Ok(told)
 }
 
+// The same, where the first of the words says how many.
+fn fed_told(alloc: Global, plan: &Plan, words: &[&str], text: &[u8]) -> Result<String, AllocError> {
+    let [size] = words else {
+        return String::from_str(alloc, "no size");
+    };
+    match size.parse::<usize>() {
+        Ok(size) => pieces_told(alloc, plan, size, text),
+        Err(_) => String::from_str(alloc, "no size"),
+    }
+}
+
 // ---- bytes from values
 
 // What is answered of a value, and what the sink has then.
@@ -168,16 +179,18 @@ fn value_told(
     }
 }
 
-fn plan_told(alloc: Global, plan: &Plan, call: &[&str], text: &[u8]) -> Result<String, AllocError> {
+fn plan_told(
+    alloc: Global,
+    plan: &Plan,
+    call: &str,
+    words: &[&str],
+    text: &[u8],
+) -> Result<String, AllocError> {
     match call {
-        ["decode"] => decoded_told(alloc, plan, text),
-        ["all"] => all_told(alloc, plan, text),
-        ["feed", size] => match size.parse::<usize>() {
-            Ok(size) => pieces_told(alloc, plan, size, text),
-            Err(_) => String::from_str(alloc, "no size"),
-        },
-        [call, words @ ..] => value_told(alloc, plan, call, words),
-        [] => String::from_str(alloc, "an unknown call"),
+        "decode" => decoded_told(alloc, plan, text),
+        "all" => all_told(alloc, plan, text),
+        "feed" => fed_told(alloc, plan, words, text),
+        _ => value_told(alloc, plan, call, words),
     }
 }
 
@@ -189,8 +202,11 @@ pub fn planned_told(
     call: &[&str],
     text: &[u8],
 ) -> Result<String, AllocError> {
+    let [call, words @ ..] = call else {
+        return String::from_str(alloc, "an unknown call");
+    };
     match plan_of(alloc, schema, of.as_bytes()) {
-        Some(plan) => plan_told(alloc, &plan, call, text),
+        Some(plan) => plan_told(alloc, &plan, call, words, text),
         None => String::from_str(alloc, "no plan"),
     }
 }

@@ -5,6 +5,7 @@ use crate::schemas::{plan_of, schema_of};
 use std::alloc::{AllocError, Global};
 use tl_base::BOXED_VECTOR;
 use tl_decode::{Decoder, Fed};
+use tl_schema::Schema;
 
 const RECORD: &str =
     "record#00000001 flags:# number:int scattered:int name:string quarter:flags.0?int = Record;";
@@ -86,6 +87,18 @@ fn taken(decoder: &mut Decoder, bytes: &[u8], size: usize) -> Option<u64>
     None
 }
 
+// The same by the plan of vectors of records.
+fn taken_by(alloc: Global, schema: &Schema, bytes: &[u8], size: usize) -> Option<u64>
+    requires { 0 < size }
+{
+    let plan = plan_of(alloc, schema, b"Vector<Record>")?;
+    if plan.roots() == 0 {
+        return None;
+    }
+    let mut decoder = Decoder::new(alloc, &plan, 0);
+    taken(&mut decoder, bytes, size)
+}
+
 /// How many bytes a vector of so many records has, which is fed to a decoder in pieces of so many bytes; 0 where these have none, and nothing is fed.
 pub fn fed(alloc: Global, count: u32, size: u32) -> Option<u64> {
     let bytes = records(alloc, count).ok()?;
@@ -93,10 +106,5 @@ pub fn fed(alloc: Global, count: u32, size: u32) -> Option<u64> {
         return Some(0);
     }
     let schema = schema_of(alloc, RECORD.as_bytes()).ok()?;
-    let plan = plan_of(alloc, &schema, b"Vector<Record>")?;
-    if plan.roots() == 0 {
-        return None;
-    }
-    let mut decoder = Decoder::new(alloc, &plan, 0);
-    taken(&mut decoder, &bytes, size as usize)
+    taken_by(alloc, &schema, &bytes, size as usize)
 }
