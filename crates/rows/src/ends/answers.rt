@@ -6,12 +6,7 @@ use box_server::Posted;
 use std::alloc::Global;
 use tl_base::Bytes;
 
-fn put_numbered(
-    alloc: Global,
-    text: &mut String,
-    kind: &str,
-    number: u32,
-) -> Result<(), RowFault> {
+fn put_numbered(alloc: Global, text: &mut String, kind: &str, number: u32) -> Result<(), RowFault> {
     text.push_str(format!(in alloc; " {kind} {number} ")?.as_str())?;
     Ok(())
 }

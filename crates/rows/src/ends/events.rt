@@ -1,7 +1,8 @@
 //! Events as words: `message 'a'`, `edit 'a'`, `delete 7,-8`, `read 5`.
-ghost use Rattle.std.specs.Prelude.{◌≤◌, IfOk, vec_len};
+ghost use Rattle.std.specs.Prelude.{◌≤◌, ◌+◌, IfOk, OnOk, vec_len};
 ghost use Rattle.std.specs.List.{sum_by};
 ghost use Rattle.box_events.specs.Events.{count_of};
+ghost use Rattle.box_events.specs.Boxes.{ending};
 
 use crate::ends::words::{RowFault, Words, put_quoted};
 use box_events::{Event, Ids, Kind, Placed};
@@ -32,17 +33,29 @@ pub fn next_event(alloc: Global, words: &mut Words) -> Result<Event, RowFault> {
     event_of(alloc, kind, words)
 }
 
+#[tactic(auto, using(crate::proofs::EventLists::ending_pushed, std::proofs::lemmas::List::Sums::sum_by_push))]
+fn push(events: &mut Vec<Event>, event: Event) -> Result<(), RowFault>
+    ensures len { OnOk result (vec_len events.new ≤ vec_len events.old + 1) }
+    ensures sum { OnOk result (sum_by count_of events.new.items ≤ sum_by count_of events.old.items + 4096) }
+    ensures ending { OnOk result (ending events.new.items ≤ ending events.old.items + 4096) }
+{
+    let _count = event.count();
+    events.push(event)?;
+    Ok(())
+}
+
 /// The events that the other words say: at most 100.
 pub fn events_of(alloc: Global, words: &mut Words) -> Result<Vec<Event>, RowFault>
     ensures few { IfOk result (λ events. vec_len events ≤ 100) }
-    ensures counts { IfOk result (λ events. sum_by count_of events.items ≤ 409600) }
+    ensures sum { IfOk result (λ events. sum_by count_of events.items ≤ 409600) }
+    ensures ending { IfOk result (λ events. ending events.items ≤ 409600) }
 {
     let mut events = Vec::new(alloc);
-    for _ in 0..100 {
+    for number in 0..100u32 {
         if words.is_empty() {
             break;
         }
-        events.push(next_event(alloc, words)?)?;
+        push(&mut events, next_event(alloc, words)?)?;
     }
     Ok(events)
 }

@@ -61,11 +61,7 @@ fn called(
 }
 
 /// What comes of a call of a gap, and how many items it holds then.
-pub fn gap_told(
-    alloc: Global,
-    gap: &mut Gap<u32>,
-    words: &mut Words,
-) -> Result<String, RowFault> {
+pub fn gap_told(alloc: Global, gap: &mut Gap<u32>, words: &mut Words) -> Result<String, RowFault> {
     let verb = words.word()?;
     let told = called(alloc, gap, verb, words)?;
     let number = gap.len();

@@ -9,6 +9,12 @@ use crate::ends::words::{RowFault, Words};
 use box_events::{Event, Kind, ListOf, Placed};
 use std::alloc::Global;
 
+fn is_message(event: &Event) -> bool
+    ensures { result ≡ is_new event.now }
+{
+    matches!(event.kind(), Kind::New)
+}
+
 fn push(others: &mut ListOf<Placed>, event: Event, pts: u32) -> Result<(), RowFault>
     requires others { AreOthers others.old }
     requires counted { AreCountedOthers others.old }
@@ -16,7 +22,8 @@ fn push(others: &mut ListOf<Placed>, event: Event, pts: u32) -> Result<(), RowFa
     ensures counted { OnOk result (AreCountedOthers others.new) }
 {
     let count = event.count();
-    if count == 0 || event.kind() == Kind::New {
+    let new = is_message(&event);
+    if new {
         return Err(RowFault::Unknown);
     }
     others.push(Placed { event, pts })?;

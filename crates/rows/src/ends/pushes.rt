@@ -27,12 +27,7 @@ fn hear_one(alloc: Global, client: &mut Client, update: Update) -> Result<(), Ro
     Ok(())
 }
 
-fn hear_common(
-    alloc: Global,
-    client: &mut Client,
-    pts: u32,
-    event: Event,
-) -> Result<(), RowFault> {
+fn hear_common(alloc: Global, client: &mut Client, pts: u32, event: Event) -> Result<(), RowFault> {
     if pts < event.count() || pts > 1_000_000 {
         return Err(RowFault::Unknown);
     }
@@ -93,12 +88,7 @@ fn setting(alloc: Global, words: &mut Words) -> Result<Setting, RowFault> {
     })
 }
 
-fn hear(
-    alloc: Global,
-    client: &mut Client,
-    kind: &str,
-    words: &mut Words,
-) -> Result<(), RowFault> {
+fn hear(alloc: Global, client: &mut Client, kind: &str, words: &mut Words) -> Result<(), RowFault> {
     match kind {
         "common" => {
             let pts = words.number()?;

@@ -48,7 +48,10 @@ fn difference(alloc: Global, words: &mut Words, last: bool) -> Result<Reply, Row
     let secrets = bodies_of(alloc, words)?;
     let settings = settings_of(alloc, words)?;
     let others = others_of(alloc, words)?;
-    if state.pts > 1_000_000 || state.qts > 1_000_000 || news.len() > 1_000 || secrets.len() > 1_000
+    if state.pts > 1_000_000
+        || state.qts > 1_000_000
+        || news.len() > 1_000
+        || secrets.len() > 1_000
     {
         return Err(RowFault::Unknown);
     }

@@ -68,11 +68,7 @@ fn event_text(alloc: Global, world: &World, index: u32) -> Result<String, RowFau
 }
 
 /// What comes of a call of a world.
-pub fn world_told(
-    alloc: Global,
-    world: &mut World,
-    words: &mut Words,
-) -> Result<String, RowFault> {
+pub fn world_told(alloc: Global, world: &mut World, words: &mut Words) -> Result<String, RowFault> {
     match words.word()? {
         "post" => {
             let random_id = words.long()?;
