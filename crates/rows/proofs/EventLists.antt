@@ -1,5 +1,5 @@
 -- Lists that grow by one.
-use Rattle.std.proofs.Common.{◌≡◌, ℕ, ◌+◌, ◌≤◌, List, [], ◌∷◌, ◌++◌, false, arith}
+use Rattle.std.proofs.Common.{◌≡◌, ◌+◌, ◌≤◌, List, [], ◌∷◌, ◌++◌, false, arith}
 use Rattle.box_events.specs.Events.{EventView, count_of, is_new}
 use Rattle.box_events.specs.Boxes.{ending}
 use Rattle.box_events.specs.declared.updates.Placed.{Placed}
