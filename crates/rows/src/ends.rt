@@ -46,13 +46,33 @@ use update_replay::World;
 /// What the rows of a file name.
 #[derive(Drop)]
 pub struct Ends {
+    lists: Lists,
+    held: Held,
+    peers: Peers,
+    replays: Replays,
+}
+
+#[derive(Drop)]
+struct Lists {
     asks: Named<Asks>,
     boxes: Named<EventBox>,
+}
+
+#[derive(Drop)]
+struct Held {
     gaps: Named<Gap<u32>>,
     lanes: Named<Lane<Event>>,
     settings: Named<Settings>,
+}
+
+#[derive(Drop)]
+struct Peers {
     servers: Named<Server>,
     clients: Named<Client>,
+}
+
+#[derive(Drop)]
+struct Replays {
     journals: Named<Bytes>,
     worlds: Named<World>,
 }
@@ -61,15 +81,23 @@ impl Ends {
     /// Nothing is named.
     pub fn new(alloc: Global) -> Ends {
         Ends {
-            asks: Named::new(alloc),
-            boxes: Named::new(alloc),
-            gaps: Named::new(alloc),
-            lanes: Named::new(alloc),
-            settings: Named::new(alloc),
-            servers: Named::new(alloc),
-            clients: Named::new(alloc),
-            journals: Named::new(alloc),
-            worlds: Named::new(alloc),
+            lists: Lists {
+                asks: Named::new(alloc),
+                boxes: Named::new(alloc),
+            },
+            held: Held {
+                gaps: Named::new(alloc),
+                lanes: Named::new(alloc),
+                settings: Named::new(alloc),
+            },
+            peers: Peers {
+                servers: Named::new(alloc),
+                clients: Named::new(alloc),
+            },
+            replays: Replays {
+                journals: Named::new(alloc),
+                worlds: Named::new(alloc),
+            },
         }
     }
 }
@@ -82,9 +110,9 @@ fn of_asks(alloc: Global, all: &mut Named<Asks>, words: &mut Words) -> Result<St
         Some(asks) => asks,
         None => Asks::new(),
     };
-    let told = asks_told(alloc, &mut asks, words)?;
+    let told = asks_told(alloc, &mut asks, words);
     all.put(alloc, name, asks)?;
-    Ok(told)
+    told
 }
 
 fn of_box(alloc: Global, all: &mut Named<EventBox>, words: &mut Words) -> Result<String, RowFault> {
@@ -93,9 +121,9 @@ fn of_box(alloc: Global, all: &mut Named<EventBox>, words: &mut Words) -> Result
         Some(events) => events,
         None => EventBox::new(alloc),
     };
-    let told = box_told(alloc, &mut events, words)?;
+    let told = box_told(alloc, &mut events, words);
     all.put(alloc, name, events)?;
-    Ok(told)
+    told
 }
 
 fn of_gap(alloc: Global, all: &mut Named<Gap<u32>>, words: &mut Words) -> Result<String, RowFault> {
@@ -104,9 +132,9 @@ fn of_gap(alloc: Global, all: &mut Named<Gap<u32>>, words: &mut Words) -> Result
         Some(gap) => gap,
         None => Gap::new(alloc),
     };
-    let told = gap_told(alloc, &mut gap, words)?;
+    let told = gap_told(alloc, &mut gap, words);
     all.put(alloc, name, gap)?;
-    Ok(told)
+    told
 }
 
 fn of_lane(
@@ -119,9 +147,9 @@ fn of_lane(
         Some(lane) => lane,
         None => Lane::new(alloc),
     };
-    let told = lane_told(alloc, &mut lane, words)?;
+    let told = lane_told(alloc, &mut lane, words);
     all.put(alloc, name, lane)?;
-    Ok(told)
+    told
 }
 
 fn of_settings(
@@ -134,9 +162,9 @@ fn of_settings(
         Some(settings) => settings,
         None => Settings::new(alloc),
     };
-    let told = settings_told(alloc, &mut settings, words)?;
+    let told = settings_told(alloc, &mut settings, words);
     all.put(alloc, name, settings)?;
-    Ok(told)
+    told
 }
 
 fn of_server(
@@ -149,9 +177,9 @@ fn of_server(
         Some(server) => server,
         None => Server::new(alloc),
     };
-    let told = server_told(alloc, &mut server, words)?;
+    let told = server_told(alloc, &mut server, words);
     all.put(alloc, name, server)?;
-    Ok(told)
+    told
 }
 
 fn of_client(
@@ -164,9 +192,9 @@ fn of_client(
         Some(client) => client,
         None => Client::new(alloc),
     };
-    let told = client_told(alloc, &mut client, words)?;
+    let told = client_told(alloc, &mut client, words);
     all.put(alloc, name, client)?;
-    Ok(told)
+    told
 }
 
 fn of_journal(
@@ -179,9 +207,9 @@ fn of_journal(
         Some(journal) => journal,
         None => Bytes::new(alloc),
     };
-    let told = journal_told(alloc, &mut journal, words)?;
+    let told = journal_told(alloc, &mut journal, words);
     all.put(alloc, name, journal)?;
-    Ok(told)
+    told
 }
 
 fn of_world(alloc: Global, all: &mut Named<World>, words: &mut Words) -> Result<String, RowFault> {
@@ -190,27 +218,72 @@ fn of_world(alloc: Global, all: &mut Named<World>, words: &mut Words) -> Result<
         Some(world) => world,
         None => World::new(alloc),
     };
-    let told = world_told(alloc, &mut world, words)?;
+    let told = world_told(alloc, &mut world, words);
     all.put(alloc, name, world)?;
-    Ok(told)
+    told
 }
 
 // ---- rows
 
+fn of_lists(
+    alloc: Global,
+    lists: &mut Lists,
+    kind: &str,
+    words: &mut Words,
+) -> Result<String, RowFault> {
+    match kind {
+        "asks" => of_asks(alloc, &mut lists.asks, words),
+        _ => of_box(alloc, &mut lists.boxes, words),
+    }
+}
+
+fn of_held(
+    alloc: Global,
+    held: &mut Held,
+    kind: &str,
+    words: &mut Words,
+) -> Result<String, RowFault> {
+    match kind {
+        "gap" => of_gap(alloc, &mut held.gaps, words),
+        "lane" => of_lane(alloc, &mut held.lanes, words),
+        _ => of_settings(alloc, &mut held.settings, words),
+    }
+}
+
+fn of_peers(
+    alloc: Global,
+    peers: &mut Peers,
+    kind: &str,
+    words: &mut Words,
+) -> Result<String, RowFault> {
+    match kind {
+        "server" => of_server(alloc, &mut peers.servers, words),
+        _ => of_client(alloc, &mut peers.clients, words),
+    }
+}
+
+fn of_replays(
+    alloc: Global,
+    replays: &mut Replays,
+    kind: &str,
+    words: &mut Words,
+) -> Result<String, RowFault> {
+    match kind {
+        "journal" => of_journal(alloc, &mut replays.journals, words),
+        _ => of_world(alloc, &mut replays.worlds, words),
+    }
+}
+
 // What a row asks, by its kind.
 fn told(alloc: Global, ends: &mut Ends, asked: &str) -> Result<String, RowFault> {
     let mut words = Words::of(asked);
-    match words.word()? {
-        "asks" => of_asks(alloc, &mut ends.asks, &mut words),
-        "box" => of_box(alloc, &mut ends.boxes, &mut words),
-        "gap" => of_gap(alloc, &mut ends.gaps, &mut words),
-        "lane" => of_lane(alloc, &mut ends.lanes, &mut words),
-        "settings" => of_settings(alloc, &mut ends.settings, &mut words),
-        "server" => of_server(alloc, &mut ends.servers, &mut words),
-        "client" => of_client(alloc, &mut ends.clients, &mut words),
-        "journal" => of_journal(alloc, &mut ends.journals, &mut words),
-        "world" => of_world(alloc, &mut ends.worlds, &mut words),
-        kind => of_none(alloc, kind, &mut words),
+    let kind = words.word()?;
+    match kind {
+        "asks" | "box" => of_lists(alloc, &mut ends.lists, kind, &mut words),
+        "gap" | "lane" | "settings" => of_held(alloc, &mut ends.held, kind, &mut words),
+        "server" | "client" => of_peers(alloc, &mut ends.peers, kind, &mut words),
+        "journal" | "world" => of_replays(alloc, &mut ends.replays, kind, &mut words),
+        _ => of_none(alloc, kind, &mut words),
     }
 }
 
