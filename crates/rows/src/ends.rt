@@ -1,6 +1,7 @@
 //! Rows of the calls of boxes, lanes, both ends and replays.
 //!
-//! A row is `KIND NAME CALL WORDS => TOLD`, where the object of a name begins with the first row that names it, or `KIND WORDS => TOLD` of what has no name.
+//! A row is `KIND NAME CALL WORDS => TOLD`, where the object of a name begins with the first row that names it, or `KIND WORDS => TOLD` of what
+//! has no name.
 mod answers;
 mod asks;
 mod boxes;

@@ -3,6 +3,7 @@ use crate::ends::events::{event_of, events_text, next_event};
 use crate::ends::words::{RowFault, Words};
 use box_events::{BoxFault, Event, EventBox};
 use std::alloc::Global;
+use std::slice::from_ref;
 
 // Where the box ends after an event, or why it isn't appended.
 fn appended(alloc: Global, events: &mut EventBox, event: Event) -> Result<String, RowFault> {
@@ -55,7 +56,7 @@ fn boundaries(alloc: Global, events: &EventBox, words: &mut Words) -> Result<Str
 
 fn event_at(alloc: Global, events: &EventBox, words: &mut Words) -> Result<String, RowFault> {
     match events.event_at(words.number()?) {
-        Some(event) => events_text(alloc, std::slice::from_ref(event)),
+        Some(event) => events_text(alloc, from_ref(event)),
         None => Ok(String::from_str(alloc, "none")?),
     }
 }

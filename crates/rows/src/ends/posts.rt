@@ -1,4 +1,5 @@
-//! Posts as words: `message 'a'`, `edit 'a'`, `delete 7`, `read 5`, `secret 'a'`, `setting 'k' 'v'`, `in 5 message 'a'` of channel 5; `keys 9` are nine settings of a key each, `channels 9` a message in each of nine channels.
+//! Posts as words: `message 'a'`, `edit 'a'`, `delete 7`, `read 5`, `secret 'a'`, `setting 'k' 'v'`, `in 5 message 'a'` of channel 5;
+//! `keys 9` are nine settings of a key each, `channels 9` a message in each of nine channels.
 use crate::ends::words::{RowFault, Words};
 use box_events::Post;
 use std::alloc::{AllocError, Global};

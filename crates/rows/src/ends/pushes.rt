@@ -1,4 +1,5 @@
-//! Pushes that a client hears: `common 3 message 'a'`, `secret 3 'a'`, `channel 5 3 edit 'a'`, `setting 3 'k' 'v'`, each of one update that ends at the first number, or at that after the channel's id; `tooLong`.
+//! Pushes that a client hears: `common 3 message 'a'`, `secret 3 'a'`, `channel 5 3 edit 'a'`, `setting 3 'k' 'v'`, each of one update that
+//! ends at the first number, or at that after the channel's id; `tooLong`.
 ghost use Rattle.std.specs.Prelude.{◌≡◌, ◌∷◌, []};
 ghost use Rattle.box_client.specs.Pushes.{settings_in};
 ghost use Rattle.box_client.specs.Ranges.{IsUpdateInRange};

@@ -1,4 +1,5 @@
-//! Replies that a client hears, after the number that they answer: `empty DATE SEQ`, `last PTS QTS DATE SEQ NEWS SECRETS SETTINGS OTHERS`, the same as a `slice`, `channel PTS NEWS OTHERS`. News, secrets and settings begin with their number.
+//! Replies that a client hears, after the number that they answer: `empty DATE SEQ`, `last PTS QTS DATE SEQ NEWS SECRETS SETTINGS OTHERS`,
+//! the same as a `slice`, `channel PTS NEWS OTHERS`. News, secrets and settings begin with their number.
 ghost use Rattle.std.specs.Prelude.{◌≤◌, IfOk};
 ghost use Rattle.box_client.specs.Ranges.{IsReplyInRange};
 

@@ -1,4 +1,5 @@
-//! Rows `world NAME ..` of worlds of a replay, `packet PTS TEXT`, `length PTS TEXT` of packets, and `closing END RESTART AT EVENTS` of closing lines.
+//! Rows `world NAME ..` of worlds of a replay, `packet PTS TEXT`, `length PTS TEXT` of packets, and `closing END RESTART AT EVENTS` of
+//! closing lines.
 ghost use Rattle.update_replay.specs.Reached.{IsShort};
 ghost use Rattle.update_replay.specs.Reading.{step_of};
 
