@@ -14,7 +14,7 @@ trap 'rm -f "$log"' EXIT
     exit 1
 }
 
-(cd "$top/crates/call_bench" && rt run -- boundary 1000 100) >"$log" 2>&1 || {
+(cd "$top/crates/rows" && rt run -- repeat boundary 1000 100) >"$log" 2>&1 || {
     cat "$log" >&2
     exit 1
 }

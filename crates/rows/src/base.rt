@@ -1,0 +1,63 @@
+//! Rows of bytes, numbers, sources, sinks and hosts.
+mod hosts;
+mod lists;
+mod numbers;
+mod sinks;
+mod sources;
+
+use crate::asked::{Asked, asked_of};
+use crate::base::hosts::host_told;
+use crate::base::lists::list_told;
+use crate::base::numbers::number_told;
+use crate::base::sinks::sink_told;
+use crate::base::sources::source_told;
+use crate::row::{otherwise, parted, unread};
+use std::alloc::{AllocError, Global};
+use std::collections::BTreeMap;
+use tl_base::{Bytes, MemHost, MemSink, MemSource};
+
+/// What the rows of a file name.
+#[derive(Drop)]
+pub struct Base {
+    lists: BTreeMap<String, Bytes>,
+    sources: BTreeMap<String, MemSource>,
+    sinks: BTreeMap<String, MemSink>,
+    hosts: BTreeMap<String, MemHost>,
+}
+
+impl Base {
+    /// Nothing is named.
+    pub fn new(alloc: Global) -> Base {
+        Base {
+            lists: BTreeMap::new(alloc),
+            sources: BTreeMap::new(alloc),
+            sinks: BTreeMap::new(alloc),
+            hosts: BTreeMap::new(alloc),
+        }
+    }
+}
+
+// The answer of the call that a row says.
+fn told(alloc: Global, base: &mut Base, asked: &Asked) -> Result<String, AllocError> {
+    let text = asked.text();
+    match asked.words.as_slice() {
+        ["list", name, call @ ..] => list_told(alloc, &mut base.lists, name, call, text),
+        ["source", name, call @ ..] => source_told(alloc, &mut base.sources, name, call, text),
+        ["sink", name, call @ ..] => sink_told(alloc, &mut base.sinks, name, call, text),
+        ["host", name, call @ ..] => host_told(alloc, &mut base.hosts, name, call, text),
+        call => number_told(alloc, call, text),
+    }
+}
+
+/// How a row is told, where that is otherwise than it says.
+pub fn base_difference(
+    alloc: Global,
+    base: &mut Base,
+    row: &str,
+) -> Result<Option<String>, AllocError> {
+    let Some((asked, wanted)) = parted(row) else {
+        return unread(alloc, row, "a row without an answer");
+    };
+    let told = told(alloc, base, &asked_of(alloc, asked)?)?;
+    otherwise(alloc, asked, told.as_str(), wanted)
+}

@@ -1,0 +1,83 @@
+//! Rows of tokens, programs, schemas, types and values.
+mod entries;
+mod grammar;
+mod plans;
+mod trees;
+mod values;
+mod walks;
+
+use crate::asked::{Asked, asked_of};
+use crate::codec::entries::{entries_told, found_told, type_told};
+use crate::codec::grammar::text_told;
+use crate::codec::plans::planned_told;
+use crate::codec::walks::walked_told;
+use crate::row::{otherwise, parted, unread};
+use crate::schemas::schema_of;
+use std::alloc::{AllocError, Global};
+use std::collections::BTreeMap;
+use tl_schema::Schema;
+
+/// The schemas that the rows of a file name.
+#[derive(Drop)]
+pub struct Codec {
+    schemas: BTreeMap<String, Schema>,
+}
+
+impl Codec {
+    /// Nothing is named.
+    pub fn new(alloc: Global) -> Codec {
+        Codec {
+            schemas: BTreeMap::new(alloc),
+        }
+    }
+}
+
+// The answer of a call by a schema.
+fn schema_told(
+    alloc: Global,
+    schema: &Schema,
+    call: &[&str],
+    text: &[u8],
+) -> Result<String, AllocError> {
+    match call {
+        ["find", name] => found_told(alloc, schema, name, false),
+        ["find", name, "function"] => found_told(alloc, schema, name, true),
+        ["type_of"] => type_told(alloc, schema, text),
+        ["walk", of, call @ ..] => walked_told(alloc, schema, of, call),
+        ["plan", of, call @ ..] => planned_told(alloc, schema, of, call, text),
+        _ => String::from_str(alloc, "an unknown call"),
+    }
+}
+
+// The answer of the call that a row says.
+fn told(alloc: Global, codec: &mut Codec, asked: &Asked) -> Result<String, AllocError> {
+    let text = asked.text();
+    match asked.words.as_slice() {
+        ["schema", name] => {
+            let schema = schema_of(alloc, text)?;
+            codec
+                .schemas
+                .insert(String::from_str(alloc, name)?, schema)?;
+            String::from_str(alloc, "made")
+        }
+        ["entries"] => entries_told(alloc, &schema_of(alloc, text)?),
+        ["by", name, call @ ..] => match codec.schemas.get(*name) {
+            Some(schema) => schema_told(alloc, schema, call, text),
+            None => String::from_str(alloc, "no such schema"),
+        },
+        call => text_told(alloc, call, text),
+    }
+}
+
+/// How a row is told, where that is otherwise than it says.
+pub fn codec_difference(
+    alloc: Global,
+    codec: &mut Codec,
+    row: &str,
+) -> Result<Option<String>, AllocError> {
+    let Some((asked, wanted)) = parted(row) else {
+        return unread(alloc, row, "a row without an answer");
+    };
+    let told = told(alloc, codec, &asked_of(alloc, asked)?)?;
+    otherwise(alloc, asked, told.as_str(), wanted)
+}
