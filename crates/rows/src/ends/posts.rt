@@ -1,15 +1,13 @@
 //! Posts as words: `message 'a'`, `edit 'a'`, `delete 7`, `read 5`, `secret 'a'`, `setting 'k' 'v'`, `in 5 message 'a'` of channel 5;
 //! `keys 9` are nine settings of a key each, `channels 9` a message in each of nine channels.
 use crate::ends::words::{RowFault, Words};
-use box_events::Post;
+use box_events::{Post, Setting};
 use std::alloc::{AllocError, Global};
 use tl_base::Bytes;
 
 fn setting(alloc: Global, words: &mut Words) -> Result<Post, RowFault> {
-    Ok(Post::Setting {
-        key: words.text(alloc)?,
-        value: words.text(alloc)?,
-    })
+    let Setting { key, value } = words.setting(alloc)?;
+    Ok(Post::Setting { key, value })
 }
 
 fn in_channel(alloc: Global, words: &mut Words) -> Result<Post, RowFault> {

@@ -82,13 +82,6 @@ fn hear_too_long(alloc: Global, client: &mut Client) -> Result<(), RowFault> {
     Ok(())
 }
 
-fn setting(alloc: Global, words: &mut Words) -> Result<Setting, RowFault> {
-    Ok(Setting {
-        key: words.text(alloc)?,
-        value: words.text(alloc)?,
-    })
-}
-
 fn hear(alloc: Global, client: &mut Client, kind: &str, words: &mut Words) -> Result<(), RowFault> {
     match kind {
         "common" => {
@@ -105,7 +98,7 @@ fn hear(alloc: Global, client: &mut Client, kind: &str, words: &mut Words) -> Re
         }
         "setting" => {
             let seq = words.number()?;
-            hear_setting(alloc, client, seq, setting(alloc, words)?)
+            hear_setting(alloc, client, seq, words.setting(alloc)?)
         }
         "tooLong" => hear_too_long(alloc, client),
         _ => Err(RowFault::Unknown),

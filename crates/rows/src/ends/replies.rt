@@ -8,24 +8,12 @@ use crate::ends::words::{RowFault, Words};
 use box_client::{Client, ClientFault};
 use box_events::{ChannelReply, ListOf, Reply, Setting, State};
 use std::alloc::Global;
-use tl_base::Bytes;
-
-// So many texts as the first word says.
-fn bodies_of(alloc: Global, words: &mut Words) -> Result<ListOf<Bytes>, RowFault> {
-    let mut bodies = ListOf::new(alloc);
-    for _ in 0..words.number()? {
-        bodies.push(words.text(alloc)?)?;
-    }
-    Ok(bodies)
-}
 
 // So many settings as the first word says.
 fn settings_of(alloc: Global, words: &mut Words) -> Result<ListOf<Setting>, RowFault> {
     let mut settings = ListOf::new(alloc);
     for _ in 0..words.number()? {
-        let key = words.text(alloc)?;
-        let value = words.text(alloc)?;
-        settings.push(Setting { key, value })?;
+        settings.push(words.setting(alloc)?)?;
     }
     Ok(settings)
 }
@@ -45,8 +33,8 @@ fn difference(alloc: Global, words: &mut Words, last: bool) -> Result<Reply, Row
     ensures { IfOk result IsReplyInRange }
 {
     let state = state(words)?;
-    let news = bodies_of(alloc, words)?;
-    let secrets = bodies_of(alloc, words)?;
+    let news = words.texts(alloc)?;
+    let secrets = words.texts(alloc)?;
     let settings = settings_of(alloc, words)?;
     let others = others_of(alloc, words)?;
     if state.pts > 1_000_000
@@ -71,7 +59,7 @@ fn channel(alloc: Global, words: &mut Words) -> Result<Reply, RowFault>
     ensures { IfOk result IsReplyInRange }
 {
     let pts = words.number()?;
-    let news = bodies_of(alloc, words)?;
+    let news = words.texts(alloc)?;
     let others = others_of(alloc, words)?;
     if pts > 1_000_000 || news.len() > 1_000 {
         return Err(RowFault::Unknown);

@@ -5,13 +5,6 @@ use pts_machine::Seen;
 use seq_machine::Settings;
 use std::alloc::Global;
 
-fn setting(alloc: Global, words: &mut Words) -> Result<Setting, RowFault> {
-    Ok(Setting {
-        key: words.text(alloc)?,
-        value: words.text(alloc)?,
-    })
-}
-
 // The settings that the other words say.
 fn pack_of(alloc: Global, words: &mut Words) -> Result<Vec<Setting>, RowFault> {
     let mut pack = Vec::new(alloc);
@@ -19,7 +12,7 @@ fn pack_of(alloc: Global, words: &mut Words) -> Result<Vec<Setting>, RowFault> {
         if words.is_empty() {
             break;
         }
-        pack.push(setting(alloc, words)?)?;
+        pack.push(words.setting(alloc)?)?;
     }
     Ok(pack)
 }
@@ -49,7 +42,7 @@ fn pushed(alloc: Global, settings: &mut Settings, words: &mut Words) -> Result<S
 // A pack of one setting comes from each seq from one number to another, dated by it, and is held.
 fn fill(alloc: Global, settings: &mut Settings, words: &mut Words) -> Result<String, RowFault> {
     let (from, to) = (words.number()?, words.number()?);
-    let one = setting(alloc, words)?;
+    let one = words.setting(alloc)?;
     for seq in from..to {
         let seen = push(settings, seq, seq, vec![in alloc; one.copy()?]?)?;
         if seen != Seen::Held {
@@ -77,7 +70,7 @@ fn overlay(alloc: Global, settings: &mut Settings, words: &mut Words) -> Result<
 // Settings of one key.
 fn load(alloc: Global, settings: &mut Settings, words: &mut Words) -> Result<(), RowFault> {
     let (seq, date) = (words.number()?, words.number()?);
-    let all = vec![in alloc; setting(alloc, words)?]?;
+    let all = vec![in alloc; words.setting(alloc)?]?;
     *settings = Settings::load(alloc, seq, date, all);
     Ok(())
 }

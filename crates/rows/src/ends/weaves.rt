@@ -7,22 +7,13 @@ use difference::{WeaveFault, split, weave};
 use std::alloc::Global;
 use tl_base::Bytes;
 
-/// The texts of messages: so many as the first word says.
-pub fn news_of(alloc: Global, words: &mut Words) -> Result<ListOf<Bytes>, RowFault> {
-    let mut news = ListOf::new(alloc);
-    for _ in 0..words.number()? {
-        news.push(words.text(alloc)?)?;
-    }
-    Ok(news)
-}
-
 fn woven(
     alloc: Global,
     from: u32,
     to: u32,
     words: &mut Words,
 ) -> Result<Result<Vec<Event>, WeaveFault>, RowFault> {
-    let news = news_of(alloc, words)?;
+    let news = words.texts(alloc)?;
     let others = others_of(alloc, words)?;
     if from > 1_000_000 || to > 1_000_000 || news.len() > 1_000 {
         return Err(RowFault::Unknown);

@@ -1,5 +1,5 @@
 //! The words of a row, and what they say.
-use box_events::Ids;
+use box_events::{Ids, ListOf, Setting};
 use std::alloc::{AllocError, AllocFailed, Global};
 use tl_base::Bytes;
 
@@ -99,6 +99,22 @@ impl<'a> Words<'a> {
         };
         let content = text.repeat(alloc, times(count)? as usize)?;
         Ok(Bytes::from_slice(alloc, content.as_bytes())?)
+    }
+
+    /// So many texts as the next word says.
+    pub fn texts(&mut self, alloc: Global) -> Result<ListOf<Bytes>, RowFault> {
+        let mut texts = ListOf::new(alloc);
+        for _ in 0..self.number()? {
+            texts.push(self.text(alloc)?)?;
+        }
+        Ok(texts)
+    }
+
+    /// A key and a value.
+    pub fn setting(&mut self, alloc: Global) -> Result<Setting, RowFault> {
+        let key = self.text(alloc)?;
+        let value = self.text(alloc)?;
+        Ok(Setting { key, value })
     }
 
     /// Ids with commas between: `3*7` is the id 7 three times, and `none` no id.
