@@ -125,7 +125,7 @@ either_next : (b : Bool) (c d : ClientState) → d.next ≡ c.next → (cond b d
 either_next true c d e = e
 either_next false c d e = refl
 
-received_next : (k : ℕ) (c : ClientState) (p : Packet) → (received k c p).next ≡ c.next
+pub received_next : (k : ℕ) (c : ClientState) (p : Packet) → (received k c p).next ≡ c.next
 received_next k c (push p) = pushed_next c p
 received_next k c (request j n) = refl
 received_next k c (reply j n r s) = either_next (eqb j k) c (after_reply c (replied c n r)) (after_next c (replied c n r) ∙ replied_next c n r)

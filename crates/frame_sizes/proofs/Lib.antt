@@ -1,3 +1,4 @@
+pub mod Fields
 pub mod MessageForms
 pub mod Lengths
 pub mod Multiples

@@ -7,8 +7,9 @@ use Rattle.tl_types.specs.Texts.{text_bytes, text_head, missing}
 use Rattle.wire_forms.specs.declared.form.Cell.{Cell}
 use Rattle.wire_forms.specs.declared.form.Cell.TheVariants.{Whole, Signed, Long, Body, Key, Ids, Bodies, Flags, Final, Many, One, Bare, ManyBare, Query}
 use Rattle.wire_forms.specs.Forms.{cells_of}
-use Rattle.wire_forms.specs.Parts.{first, flag, is_final}
-use Rattle.wire_forms.specs.IsOf.{IsField, IsOf, EachOf, AreOf}
+use Rattle.wire_forms.specs.Parts.{first, flag}
+use Rattle.wire_forms.specs.IsOf.{IsOf, EachOf, AreOf}
+use Rattle.frame_sizes.proofs.Fields.{field_has}
 use Rattle.frame_sizes.specs.Sizes.{size_in, sizes_of, fields_size}
 
 abbrev pub IsMultiple : ℕ → Type 0
@@ -52,25 +53,9 @@ no_opaque (Bare j) x is = is
 no_opaque (ManyBare j) x is = is
 no_opaque Query x is = is
 
-flag_whole : (b : Bool) (v : ValueView) → v ≡ flag b → IsMultiple (size_in Final v)
-flag_whole true v is = subst (λ (u : ValueView). IsMultiple (size_in Final u)) (sym is) (0, refl)
-flag_whole false v is = subst (λ (u : ValueView). IsMultiple (size_in Final u)) (sym is) (0, refl)
-
-field_whole : (flags : ValueView) (c : Cell) (v : ValueView) → (IsOf c v → IsMultiple (size_in c v)) → IsField flags c v (IsOf c v) → IsMultiple (size_in c v)
-field_whole flags Final v law is = flag_whole (is_final flags) v is
-field_whole flags Whole v law is = law is
-field_whole flags Signed v law is = law is
-field_whole flags Long v law is = law is
-field_whole flags Body v law is = law is
-field_whole flags Key v law is = law is
-field_whole flags Ids v law is = law is
-field_whole flags Bodies v law is = law is
-field_whole flags Flags v law is = law is
-field_whole flags (Many h) v law is = law is
-field_whole flags (One h) v law is = law is
-field_whole flags (Bare j) v law is = law is
-field_whole flags (ManyBare j) v law is = law is
-field_whole flags Query v law is = law is
+flag_whole : (b : Bool) → IsMultiple (size_in Final (flag b))
+flag_whole true = (0, refl)
+flag_whole false = (0, refl)
 
 mutual
   pub is_whole : (t : ValueView) (c : Cell) → IsOf c t → IsMultiple (size_in c t)
@@ -98,4 +83,4 @@ mutual
   fields_whole no_values flags [] is = (0, refl)
   fields_whole no_values flags (c ∷ cs) is = absurd is
   fields_whole (value v vs) flags [] is = absurd is
-  fields_whole (value v vs) flags (c ∷ cs) is = both (size_in c v) (fields_size cs vs) (field_whole flags c v (λ of. is_whole v c of) is.0) (fields_whole vs flags cs is.1)
+  fields_whole (value v vs) flags (c ∷ cs) is = both (size_in c v) (fields_size cs vs) (field_has (λ k w. IsMultiple (size_in k w)) flag_whole flags c v (λ of. is_whole v c of) is.0) (fields_whole vs flags cs is.1)

@@ -9,11 +9,12 @@ use Rattle.std.proofs.lemmas.List.{length-map}
 use Rattle.std.proofs.lemmas.List.Elements.{All-nil, All-cons}
 use Rattle.tl_types.specs.Values.{ValueView, int, long, nat, opaque, text, truth, absent, list, node, call, ValueViews, no_values, value, count}
 use Rattle.wire_forms.specs.declared.form.Cell.{Cell}
-use Rattle.wire_forms.specs.declared.form.Cell.TheVariants.{Whole, Signed, Long, Body, Key, Ids, Bodies, Flags, Final, Many, One, Bare, ManyBare, Query}
+use Rattle.wire_forms.specs.declared.form.Cell.TheVariants.{Whole, Signed, Long, Body, Key, Ids, Bodies, Many, One, Bare, ManyBare, Query}
 use Rattle.wire_forms.specs.Forms.{FormView, forms, cells_of, cells_in}
-use Rattle.wire_forms.specs.Parts.{first, rest, at, parts_of, text_of, int_of, long_of, word_of, each, flag, is_final}
-use Rattle.wire_forms.specs.IsOf.{IsInt, IsLong, IsText, IsShort, IsField, IsOf, EachOf, AreOf}
+use Rattle.wire_forms.specs.Parts.{first, rest, at, parts_of, text_of, int_of, long_of, word_of, each, flag}
+use Rattle.wire_forms.specs.IsOf.{IsInt, IsLong, IsText, IsShort, IsOf, EachOf, AreOf}
 use Rattle.wire_forms.proofs.Records.{length_each}
+use Rattle.frame_sizes.proofs.Fields.{field_has}
 use Rattle.wire_values.specs.CarriedFrames.{IsWord, IsList}
 
 abbrev mutual
@@ -63,25 +64,9 @@ counted flags (c ∷ cs) (value v vs) is = ap suc (counted flags cs vs is.1)
 short_fields : (flags : ValueView) (k : ℕ) (vs : ValueViews) → AreOf flags (cells_of k) vs → IsShort vs
 short_fields flags k vs is = let n = counted flags (cells_of k) vs is in let few = few_cells k in omega (arith, n, few)
 
-flag_fits : (b : Bool) (v : ValueView) → v ≡ flag b → Fits v
-flag_fits true v is = subst Fits (sym is) tt
-flag_fits false v is = subst Fits (sym is) tt
-
-field_fits : (flags : ValueView) (c : Cell) (v : ValueView) → (IsOf c v → Fits v) → IsField flags c v (IsOf c v) → Fits v
-field_fits flags Final v law is = flag_fits (is_final flags) v is
-field_fits flags Whole v law is = law is
-field_fits flags Signed v law is = law is
-field_fits flags Long v law is = law is
-field_fits flags Body v law is = law is
-field_fits flags Key v law is = law is
-field_fits flags Ids v law is = law is
-field_fits flags Bodies v law is = law is
-field_fits flags Flags v law is = law is
-field_fits flags (Many h) v law is = law is
-field_fits flags (One h) v law is = law is
-field_fits flags (Bare j) v law is = law is
-field_fits flags (ManyBare j) v law is = law is
-field_fits flags Query v law is = law is
+flag_fits : (b : Bool) → Fits (flag b)
+flag_fits true = tt
+flag_fits false = tt
 
 mutual
   pub fits_of : (t : ValueView) (c : Cell) → IsOf c t → Fits t
@@ -110,7 +95,7 @@ mutual
   fields_fit : (vs : ValueViews) (flags : ValueView) (cs : List Cell) → AreOf flags cs vs → AllFit vs
   fields_fit no_values flags cs is = tt
   fields_fit (value v vs) flags [] is = absurd is
-  fields_fit (value v vs) flags (c ∷ cs) is = (field_fits flags c v (λ of. fits_of v c of) is.0, fields_fit vs flags cs is.1)
+  fields_fit (value v vs) flags (c ∷ cs) is = (field_has (λ k w. Fits w) flag_fits flags c v (λ of. fits_of v c of) is.0, fields_fit vs flags cs is.1)
 
 -- ---- what stands in them
 

@@ -46,7 +46,7 @@ use Rattle.wire_checks.proofs.RuleFacts.{Pack}
 low_word : (n : ℕ) → n ≤ MAX_END → IsWord n
 low_word n le = omega (arith, le)
 
-date_word : (n : ℕ) → n < 2 ^ 31 → IsWord n
+pub date_word : (n : ℕ) → n < 2 ^ 31 → IsWord n
 date_word n lt = omega (arith, lt)
 
 -- ---- pushes

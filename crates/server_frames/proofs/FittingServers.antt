@@ -105,7 +105,7 @@ receipt_fits s h =
     let seq = h.seq in
     (omega (arith, common), omega (arith, secret), omega (arith, date), omega (arith, seq))
 
-posted_fits : (s : ServerState) (random_id : ℤ) (ps : List Post) → FitsServer s → IsSound s → All FitsPost ps → post_cause s ps ≡ None → FitsServer (posted s random_id ps)
+pub posted_fits : (s : ServerState) (random_id : ℤ) (ps : List Post) → FitsServer s → IsSound s → All FitsPost ps → post_cause s ps ≡ None → FitsServer (posted s random_id ps)
 unfolding posted
 posted_fits s random_id ps h sound all none =
     let t : ServerState = applied_all s (entries_of ps) in

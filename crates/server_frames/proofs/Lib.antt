@@ -16,3 +16,4 @@ pub mod FittingFrames
 pub mod MapEntries
 pub mod FittingClients
 pub mod FittingSaved
+pub mod FittingWorlds

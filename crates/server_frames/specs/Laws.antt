@@ -38,9 +38,12 @@ use Rattle.wire_profile.specs.Places.{ProfileView}
 use Rattle.wire_profile.specs.Profiles.{IsProfile}
 use Rattle.box_wire.specs.Framing.{Means}
 use Rattle.box_wire.specs.Kinds.{frames, saved_clients}
+use Rattle.box_events.specs.declared.steps.Step.{Step}
+use Rattle.box_world.specs.Worlds.{run}
 use Rattle.frame_sizes.specs.Sizes.{call_size, frame_size}
 use Rattle.server_frames.specs.Fitting.{CallFits, FrameFits, IsHearable, IsNumber}
 use Rattle.server_frames.specs.Spelled.{FitsClient, FitsServer, IsNarrow}
+use Rattle.server_frames.specs.SpelledWorlds.{FitsWorld, IsStep}
 use Rattle.server_frames.specs.Sums.{IsBelow, most_of_answer, most_of_push}
 
 -- ---- what is sent is read as it was spelled
@@ -138,3 +141,7 @@ RefusalsHaveSpellings = (n : ℕ) (fault : PostFault) → IsWord n → FitsFrame
 -- and both warnings
 abbrev pub WarningsHaveSpellings : Type 0
 WarningsHaveSpellings = (id : ℤ) (date : ℕ) → IsLong id → IsWord date → FitsFrame (Push TooLong) × FitsFrame (Push (Container (ChannelTooLong id ∷ []) date 0 0))
+
+-- a world after steps that were read has parts and packets with a spelling, while its packets are fewer than 2^32
+abbrev pub RunsFit : Type 0
+RunsFit = (n : ℕ) (steps : List Step) → All IsStep steps → length (run n steps).pool < 2 ^ 32 → FitsWorld (run n steps)

@@ -1,5 +1,5 @@
 //! Laws of what servers and clients send, each carried by a function that does nothing.
-ghost use Rattle.server_frames.specs.Laws.{AnswersAreBelow, AnswersFit, AnswersHaveSpellings, AsksAreBelow, AsksFit, ClientsAreSaved, ClientsKeepSpellings, LoadedHaveSpellings, PushesAreBelow, PushesFit, PushesHaveSpellings, ReadClientsAreTaken, ReadFramesAreTaken, ReceiptsAreBelow, ReceiptsHaveSpellings, RefusalsAreBelow, RefusalsHaveSpellings, ServersKeepSpellings, WarningsAreBelow, WarningsFit, WarningsHaveSpellings};
+ghost use Rattle.server_frames.specs.Laws.{AnswersAreBelow, AnswersFit, AnswersHaveSpellings, AsksAreBelow, AsksFit, ClientsAreSaved, ClientsKeepSpellings, LoadedHaveSpellings, PushesAreBelow, PushesFit, PushesHaveSpellings, ReadClientsAreTaken, ReadFramesAreTaken, ReceiptsAreBelow, ReceiptsHaveSpellings, RefusalsAreBelow, RefusalsHaveSpellings, RunsFit, ServersKeepSpellings, WarningsAreBelow, WarningsFit, WarningsHaveSpellings};
 
 /// What a sound server sends, and what a client asks, is its value's again and has no cause: it is read as it was spelled.
 pub fn what_is_sent_is_read()
@@ -36,4 +36,5 @@ pub fn what_is_sent_has_a_spelling()
     ensures receipts { ReceiptsHaveSpellings }
     ensures refusals { RefusalsHaveSpellings }
     ensures warnings { WarningsHaveSpellings }
+    ensures runs { RunsFit }
 {}

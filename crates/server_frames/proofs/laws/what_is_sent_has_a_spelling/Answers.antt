@@ -2,6 +2,7 @@ use Rattle.server_frames.proofs.FittingClients.{clients_keep}
 use Rattle.server_frames.proofs.FittingFrames.{answers_have, pushes_have, receipts_have, refusals_have, warnings_have}
 use Rattle.server_frames.proofs.FittingSaved.{clients_are_saved, loaded_have}
 use Rattle.server_frames.proofs.FittingServers.{servers_keep}
+use Rattle.server_frames.proofs.FittingWorlds.{runs_fit}
 use Rattle.server_frames.proofs.laws.what_is_sent_has_a_spelling.Goals as goal
 
 pub returns-clause-servers : goal.returns-clause-servers
@@ -30,3 +31,6 @@ returns-clause-saved c = clients_are_saved
 
 pub returns-clause-loaded : goal.returns-clause-loaded
 returns-clause-loaded c = loaded_have
+
+pub returns-clause-runs : goal.returns-clause-runs
+returns-clause-runs c = runs_fit
