@@ -31,7 +31,7 @@ pub fn spell_step(alloc: Global, profile: &Profile, step: &Step) -> Result<Bytes
     ensures { IfOk result (IsOnly (Framed profile.now steps (step_tree step.now))) }
 {
     let mut value = step_value(alloc, step)?;
-    profile.renamed(&mut value);
+    profile.put_places(&mut value);
     let bytes = bytes_of(alloc, profile.plan(), STEP_ROOT, &value)?;
     Ok(Bytes::from_vec(bytes))
 }
@@ -62,7 +62,7 @@ fn step_from(alloc: Global, profile: &Profile, value: Value) -> Result<Option<St
     ensures dated { IfOk result (λ step. IfSome step IsDated) }
 {
     let mut owned = value;
-    profile.own(&mut owned);
+    profile.put_forms(&mut owned);
     match step_cause(&owned) {
         Some(fault) => Err(StepReadFault::Wire(fault)),
         None => Ok(Some(step_of(alloc, owned)?)),

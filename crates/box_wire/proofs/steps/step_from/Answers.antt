@@ -5,4 +5,4 @@ use Rattle.box_wire.proofs.DatedSteps.{step_dated}
 use Rattle.box_wire.proofs.steps.step_from.Goals as goal
 
 pub returns-in_ok-step_of-in-None-clause-dated : goal.returns-in_ok-step_of-in-None-clause-dated
-returns-in_ok-step_of-in-None-clause-dated c = subst IsDated (sym c.in_ok-step_of-in-None.ensures) (step_dated (view c.own.new.value) (sym c.step_cause.ensures ∙ c.in-None.is))
+returns-in_ok-step_of-in-None-clause-dated c = subst IsDated (sym c.in_ok-step_of-in-None.ensures) (step_dated (view c.put_forms.new.value) (sym c.step_cause.ensures ∙ c.in-None.is))
