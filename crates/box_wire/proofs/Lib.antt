@@ -14,3 +14,4 @@ pub mod StepLaws
 pub mod KeptSaved
 pub mod SavedLaws
 pub mod StepReads
+pub mod DatedSteps

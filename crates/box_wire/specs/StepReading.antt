@@ -1,11 +1,12 @@
 -- What reading a step from a source answers. This project's own.
-use Rattle.std.specs.Prelude.{◌≡◌, ◌⊎◌, ℕ, ◌<◌, List, [], ◌++◌, length, Option, Some, None, Result, Ok, Err}
+use Rattle.std.specs.Prelude.{◌≡◌, ◌⊎◌, ℕ, ◌<◌, ◌^◌, List, [], ◌++◌, length, Option, Some, None, Result, Ok, Err}
 use Rattle.tl_types.specs.Values.{ValueView}
 use Rattle.tl_types.specs.Refusal as refusal
 use Rattle.tl_types.specs.Offsets.{moved}
 use Rattle.tl_types.specs.declared.cause.Cause.{Cause}
 use Rattle.tl_types.specs.declared.value.TheConstants.{MAX_LEVELS}
 use Rattle.box_events.specs.declared.steps.Step.{Step}
+use Rattle.box_events.specs.declared.steps.Step.TheVariants.{Date}
 use Rattle.wire_profile.specs.Places.{ProfileView, cell_shape}
 use Rattle.wire_profile.specs.SpelledForms.{owned}
 use Rattle.wire_values.specs.Steps.{step_tree}
@@ -22,6 +23,11 @@ pub data StepRefused (p : ProfileView) (bytes : List ℕ) (fault : WireFault) : 
   no_value : (offset : ℕ) (cause : Cause) → refusal.Refused p.schema MAX_LEVELS (cell_shape p steps.cell) bytes offset cause → fault ≡ wire.Refused (moved 0 offset) cause → StepRefused p bytes fault
   -- their first value has a cause
   no_message : (v : ValueView) (x rest : List ℕ) → SpellsWhole p steps v x → bytes ≡ x ++ rest → steps.cause (owned p v) ≡ Some fault → StepRefused p bytes fault
+
+-- a date is below 2^31, as a server's clock takes it
+abbrev pub IsDated : Step → Type 0
+IsDated (Date date) = date < 2 ^ 31
+IsDated s = Unit {0}
 
 -- a failed read, or out of memory
 abbrev pub IsOutside : Result (Option Step) StepReadFault → Type 0

@@ -23,7 +23,7 @@ pub fn spell_call(alloc: Global, profile: &Profile, call: &Numbered) -> Result<B
     ensures { Spelled (Framed profile.now calls (call_tree call.now)) result }
 {
     let mut value = call_value(alloc, call)?;
-    profile.renamed(&mut value);
+    profile.put_places(&mut value);
     within(bytes_of_call(alloc, profile.schema(), &value)?)
 }
 
@@ -32,7 +32,7 @@ pub fn read_call(alloc: Global, profile: &Profile, bytes: &[u8]) -> Result<Numbe
     ensures { Reads (λ _. ⊤) (λ m. Means profile.now calls (call_tree m) bytes.now) (WireRefused profile.now calls bytes.now) result }
 {
     let mut value = value_of_call(alloc, profile.schema(), bytes)?;
-    profile.own(&mut value);
+    profile.put_forms(&mut value);
     call_in(alloc, value)
 }
 

@@ -27,7 +27,7 @@ pub fn spell_frame(alloc: Global, profile: &Profile, frame: &Frame) -> Result<By
     ensures { Spelled (Framed profile.now frames (frame_tree frame.now)) result }
 {
     let mut value = frame_value(alloc, frame)?;
-    profile.renamed(&mut value);
+    profile.put_places(&mut value);
     within(bytes_of(alloc, profile.plan(), FRAME_ROOT, &value)?)
 }
 
@@ -36,7 +36,7 @@ pub fn read_frame(alloc: Global, profile: &Profile, bytes: &[u8]) -> Result<Fram
     ensures { Reads IsFrame (λ m. Means profile.now frames (frame_tree m) bytes.now) (WireRefused profile.now frames bytes.now) result }
 {
     let mut value = value_in(alloc, profile.plan(), FRAME_ROOT, bytes)?;
-    profile.own(&mut value);
+    profile.put_forms(&mut value);
     frame_in(alloc, value)
 }
 

@@ -27,7 +27,7 @@ pub fn spell_saved(alloc: Global, profile: &Profile, saved: &Saved) -> Result<By
     ensures { IfOk result (IsOnly (Framed profile.now saved_clients (saved_tree saved.now))) }
 {
     let mut value = saved_value(alloc, saved)?;
-    profile.renamed(&mut value);
+    profile.put_places(&mut value);
     let bytes = bytes_of(alloc, profile.plan(), SAVED_ROOT, &value)?;
     Ok(Bytes::from_vec(bytes))
 }
@@ -37,7 +37,7 @@ pub fn read_saved(alloc: Global, profile: &Profile, bytes: &[u8]) -> Result<Save
     ensures { Reads IsSaved (λ m. Means profile.now saved_clients (saved_tree m) bytes.now) (WireRefused profile.now saved_clients bytes.now) result }
 {
     let mut value = value_in(alloc, profile.plan(), SAVED_ROOT, bytes)?;
-    profile.own(&mut value);
+    profile.put_forms(&mut value);
     saved_in(alloc, value)
 }
 

@@ -9,7 +9,7 @@ ghost use Rattle.wire_values.specs.Steps.{step_in as step_by, step_tree};
 ghost use Rattle.box_wire.specs.Answers.{IsOnly};
 ghost use Rattle.box_wire.specs.Framing.{Framed};
 ghost use Rattle.box_wire.specs.Kinds.{steps};
-ghost use Rattle.box_wire.specs.StepReading.{ReadsStep};
+ghost use Rattle.box_wire.specs.StepReading.{IsDated, ReadsStep};
 ghost use Rattle.box_wire.specs.inner.Steps.{AnswersStep, as_step_fault};
 
 use crate::fault::StepReadFault;
@@ -31,7 +31,7 @@ pub fn spell_step(alloc: Global, profile: &Profile, step: &Step) -> Result<Bytes
     ensures { IfOk result (IsOnly (Framed profile.now steps (step_tree step.now))) }
 {
     let mut value = step_value(alloc, step)?;
-    profile.renamed(&mut value);
+    profile.put_places(&mut value);
     let bytes = bytes_of(alloc, profile.plan(), STEP_ROOT, &value)?;
     Ok(Bytes::from_vec(bytes))
 }
@@ -45,6 +45,7 @@ pub fn read_step<S: Source>(
 ) -> Result<Option<Step>, StepReadFault>
     ensures read { IfSome (S.state from.old).left (λ bytes. ReadsStep profile.now bytes (S.state from.new).left result) }
     ensures used { Used (S.state from.old) (S.state from.new) (IsErrOf result StepReadFault.ReadFault) }
+    ensures dated { IfOk result (λ step. IfSome step IsDated) }
 {
     let mut at = 0;
     match decode_or_end(alloc, profile.plan(), STEP_ROOT, &mut at, from) {
@@ -58,9 +59,10 @@ pub fn read_step<S: Source>(
 fn step_from(alloc: Global, profile: &Profile, value: Value) -> Result<Option<Step>, StepReadFault>
     ensures answers { AnswersStep (cause_of root.Step (owned profile.now (view value))) (step_by (owned profile.now (view value))) result }
     ensures read { IsErrOf result StepReadFault.ReadFault → ⊥ }
+    ensures dated { IfOk result (λ step. IfSome step IsDated) }
 {
     let mut owned = value;
-    profile.own(&mut owned);
+    profile.put_forms(&mut owned);
     match step_cause(&owned) {
         Some(fault) => Err(StepReadFault::Wire(fault)),
         None => Ok(Some(step_of(alloc, owned)?)),

@@ -5,3 +5,4 @@ pub mod Multiples
 pub mod PartsFit
 pub mod MessagesFit
 pub mod SpelledMessages
+pub mod Least

@@ -7,7 +7,7 @@ ghost use Rattle.wire_values.specs.Frames.{frame_tree};
 ghost use Rattle.wire_values.specs.SavedClients.{saved_tree};
 ghost use Rattle.wire_values.specs.Steps.{step_tree};
 ghost use Rattle.box_wire.specs.Kinds.{calls, frames, saved_clients, steps};
-ghost use Rattle.frame_sizes.specs.Laws.{MeantFit, SpelledAreMeant, SpelledAreOfTheKind, SpelledAreWhole, SpelledHaveTheirSize};
+ghost use Rattle.frame_sizes.specs.Laws.{CallsAreLong, FramesAreLong, MeantFit, SpelledAreMeant, SpelledAreOfTheKind, SpelledAreWhole, SpelledHaveTheirSize};
 
 /// A frame that is spelled has a value of its kind, and its spelling has the frame's size, which is a multiple of 4; it means the frame where this has no cause. A frame that is meant has parts with a spelling.
 pub fn frames_have_sizes()
@@ -16,6 +16,7 @@ pub fn frames_have_sizes()
     ensures whole { SpelledAreWhole frames frame_tree }
     ensures meant { SpelledAreMeant frames frame_tree IsFrame }
     ensures fit { MeantFit frames frame_tree IsFrame FitsFrame }
+    ensures least { FramesAreLong }
 {}
 
 /// Likewise a call.
@@ -25,6 +26,7 @@ pub fn calls_have_sizes()
     ensures whole { SpelledAreWhole calls call_tree }
     ensures meant { SpelledAreMeant calls call_tree (λ _. ⊤) }
     ensures fit { MeantFit calls call_tree (λ _. ⊤) FitsCall }
+    ensures least { CallsAreLong }
 {}
 
 /// Likewise a step.

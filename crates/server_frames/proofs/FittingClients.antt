@@ -68,7 +68,7 @@ module _ {E : Type 0} (P : E → Type 0) where
   pub held_empty : (start : ℕ) (x : ℕ × E) → get (empty {X = ℕ × E} {R = nat_cmp}) start ≡ Some x → P x.1
   held_empty start x e = absurd (none-some x (sym (get-empty nat_cmp start) ∙ e))
 
-  settle_all : (t : LaneState E) → HoldsAll P t → HoldsAll P (settle t)
+  pub settle_all : (t : LaneState E) → HoldsAll P t → HoldsAll P (settle t)
   unfolding settle
   settle_all t h = record {
     events = All-append P t.events (chain (len t.held) t.at t.held) h.events (chain_all (len t.held) t.at t.held h.held);

@@ -17,3 +17,5 @@ pub mod MapEntries
 pub mod FittingClients
 pub mod FittingSaved
 pub mod FittingWorlds
+pub mod ReadDates
+pub mod DatedClients

@@ -41,6 +41,7 @@ use Rattle.box_wire.specs.Kinds.{frames, saved_clients}
 use Rattle.box_events.specs.declared.steps.Step.{Step}
 use Rattle.box_world.specs.Worlds.{run}
 use Rattle.frame_sizes.specs.Sizes.{call_size, frame_size}
+use Rattle.server_frames.specs.Dated.{IsDatedClient, IsDatedFrame, IsDatedPush, IsDatedReply}
 use Rattle.server_frames.specs.Fitting.{CallFits, FrameFits, IsHearable, IsNumber}
 use Rattle.server_frames.specs.Spelled.{FitsClient, FitsServer, IsNarrow}
 use Rattle.server_frames.specs.SpelledWorlds.{FitsWorld, IsStep}
@@ -97,6 +98,24 @@ ReadFramesAreTaken = (p : ProfileView) → IsProfile p → (f : Frame) (b : List
 -- and so is each saved client
 abbrev pub ReadClientsAreTaken : Type 0
 ReadClientsAreTaken = (p : ProfileView) → IsProfile p → (s : Saved) (b : List ℕ) → IsSaved s → Means p saved_clients (saved_tree s) b → IsSavedInRange s
+
+-- their dates are below 2^31
+abbrev pub ReadFramesAreDated : Type 0
+ReadFramesAreDated = (p : ProfileView) → IsProfile p → (f : Frame) (b : List ℕ) → IsFrame f → Means p frames (frame_tree f) b → IsDatedFrame f
+
+abbrev pub ReadClientsAreDated : Type 0
+ReadClientsAreDated = (p : ProfileView) → IsProfile p → (s : Saved) (b : List ℕ) → IsSaved s → Means p saved_clients (saved_tree s) b → s.date < 2 ^ 31
+
+-- and with them a client's stay so, which is what its requests want
+pub record ClientsStayDated : Type 0 where
+  pub new : IsDatedClient new_client
+  pub push : (c : ClientState) (p : SomePush) → IsDatedClient c → IsDatedPush p → IsDatedClient (pushed c p)
+  pub reply : (c : ClientState) (n : ℕ) (r : SomeReply) (d : ClientState) → IsDatedClient c → IsDatedReply r → replied c n r ≡ becomes d → IsDatedClient d
+  pub tick : (c : ClientState) → IsDatedClient c → IsDatedClient (ticks c).client
+  pub wake : (c : ClientState) → IsDatedClient c → IsDatedClient (wakes c)
+  pub restart : (c : ClientState) → IsDatedClient c → IsDatedClient (restarted c)
+  pub watch : (c : ClientState) (id : ℤ) → IsDatedClient c → IsDatedClient (record c { channels = watched c.channels id })
+  pub loaded : (s : Saved) → s.date < 2 ^ 31 → IsDatedClient (client_loaded s)
 
 -- ---- what has a spelling
 

@@ -1,5 +1,5 @@
 //! Laws of what servers and clients send, each carried by a function that does nothing.
-ghost use Rattle.server_frames.specs.Laws.{AnswersAreBelow, AnswersFit, AnswersHaveSpellings, AsksAreBelow, AsksFit, ClientsAreSaved, ClientsKeepSpellings, LoadedHaveSpellings, PushesAreBelow, PushesFit, PushesHaveSpellings, ReadClientsAreTaken, ReadFramesAreTaken, ReceiptsAreBelow, ReceiptsHaveSpellings, RefusalsAreBelow, RefusalsHaveSpellings, RunsFit, ServersKeepSpellings, WarningsAreBelow, WarningsFit, WarningsHaveSpellings};
+ghost use Rattle.server_frames.specs.Laws.{AnswersAreBelow, AnswersFit, AnswersHaveSpellings, AsksAreBelow, AsksFit, ClientsAreSaved, ClientsKeepSpellings, ClientsStayDated, LoadedHaveSpellings, PushesAreBelow, PushesFit, PushesHaveSpellings, ReadClientsAreDated, ReadClientsAreTaken, ReadFramesAreDated, ReadFramesAreTaken, ReceiptsAreBelow, ReceiptsHaveSpellings, RefusalsAreBelow, RefusalsHaveSpellings, RunsFit, ServersKeepSpellings, WarningsAreBelow, WarningsFit, WarningsHaveSpellings};
 
 /// What a sound server sends, and what a client asks, is its value's again and has no cause: it is read as it was spelled.
 pub fn what_is_sent_is_read()
@@ -19,10 +19,13 @@ pub fn what_is_sent_is_short()
     ensures asks { AsksAreBelow }
 {}
 
-/// What is read is in the range of a client's calls.
+/// What is read is in the range of a client's calls, and keeps its dates in the range of its requests.
 pub fn what_is_read_is_taken()
     ensures frames { ReadFramesAreTaken }
     ensures clients { ReadClientsAreTaken }
+    ensures dated { ReadFramesAreDated }
+    ensures clients_dated { ReadClientsAreDated }
+    ensures stay_dated { ClientsStayDated }
 {}
 
 /// What is sent has a spelling where each part of what was posted has one.

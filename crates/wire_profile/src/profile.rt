@@ -82,14 +82,14 @@ impl<'s> Profile<'s> {
     }
 
     /// Puts the number of its form in place of each declaration's index; where that is of no form, `NO_FORM`.
-    pub fn own(&self, value: &mut Value)
+    pub fn put_forms(&self, value: &mut Value)
         ensures { view value.new ≡ owned self.now (view value.old) }
     {
         rename(value, &self.table, NO_FORM);
     }
 
     /// Puts the index of its declaration in place of each form's number.
-    pub fn renamed(&self, value: &mut Value)
+    pub fn put_places(&self, value: &mut Value)
         ensures { view value.new ≡ placed self.now (view value.old) }
     {
         rename(value, &self.layout.places, NO_FORM);

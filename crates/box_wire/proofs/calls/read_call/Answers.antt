@@ -18,4 +18,4 @@ pub returns : goal.returns
 returns c =
     reads_value c.args.profile.now c.schema.ensures.sound calls tt c.args.bytes.now c.value_of_call.ensures.bytes call_tree call_in (λ _. ⊤) call_laws (view c.in_ok-value.value)
     (whole_call c.schema.result.now c.args.profile.now.schema c.args.bytes.now c.schema.ensures.schema (Ok c.in_ok-value.value) c.in_ok-value.ensures.whole)
-    (view c.own.new.value) c.own.ensures c.call_in.result c.call_in.ensures
+    (view c.put_forms.new.value) c.put_forms.ensures c.call_in.result c.call_in.ensures

@@ -23,4 +23,4 @@ returns c =
     let formed = frame_formed c.args.profile.now c.plan.ensures.sound in
     reads_value c.args.profile.now c.plan.ensures.sound frames formed c.args.bytes.now c.value_in.ensures.bytes frame_tree frame_in IsFrame frame_laws (view c.in_ok-value.value)
     (of_root c.args.profile.now c.plan.result.now c.plan.ensures.plan 0 (cell_shape c.args.profile.now frames.cell) refl formed (λ S T. ReadsWhole S T c.args.bytes.now (Ok c.in_ok-value.value)) c.in_ok-value.ensures.whole)
-    (view c.own.new.value) c.own.ensures c.frame_in.result c.frame_in.ensures
+    (view c.put_forms.new.value) c.put_forms.ensures c.frame_in.result c.frame_in.ensures

@@ -3,6 +3,7 @@ use Rattle.wire_values.specs.Calls.{call_in, call_tree}
 use Rattle.wire_values.specs.Carried.{FitsCall}
 use Rattle.box_wire.specs.Kinds.{calls}
 use Rattle.box_wire.proofs.CallLaws.{call_laws, call_levels}
+use Rattle.frame_sizes.proofs.Least.{calls_are_long}
 use Rattle.frame_sizes.proofs.MessageForms.{call_has, call_served}
 use Rattle.frame_sizes.proofs.MessagesFit.{call_in_fits}
 use Rattle.frame_sizes.proofs.SpelledMessages.{of_the_kind, of_their_size, are_whole, are_meant, meant_fit}
@@ -22,3 +23,6 @@ returns-clause-meant c = are_meant calls call_tree call_in (λ _. ⊤) call_laws
 
 pub returns-clause-fit : goal.returns-clause-fit
 returns-clause-fit c = meant_fit calls call_tree call_in (λ _. ⊤) call_laws FitsCall call_in_fits
+
+pub returns-clause-least : goal.returns-clause-least
+returns-clause-least c = calls_are_long

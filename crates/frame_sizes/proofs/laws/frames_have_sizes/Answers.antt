@@ -3,6 +3,7 @@ use Rattle.wire_values.specs.Frames.{frame_in, frame_tree}
 use Rattle.box_wire.specs.Kinds.{frames}
 use Rattle.box_wire.proofs.FrameLaws.{frame_laws}
 use Rattle.box_wire.proofs.FrameLevels.{frame_levels}
+use Rattle.frame_sizes.proofs.Least.{frames_are_long}
 use Rattle.frame_sizes.proofs.MessageForms.{frame_has}
 use Rattle.frame_sizes.proofs.MessagesFit.{frame_in_fits}
 use Rattle.frame_sizes.proofs.SpelledMessages.{of_the_kind, of_their_size, are_whole, are_meant, meant_fit}
@@ -22,3 +23,6 @@ returns-clause-meant c = are_meant frames frame_tree frame_in IsFrame frame_laws
 
 pub returns-clause-fit : goal.returns-clause-fit
 returns-clause-fit c = meant_fit frames frame_tree frame_in IsFrame frame_laws FitsFrame frame_in_fits
+
+pub returns-clause-least : goal.returns-clause-least
+returns-clause-least c = frames_are_long
