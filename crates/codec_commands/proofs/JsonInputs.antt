@@ -1,5 +1,5 @@
 -- The value that an input's JSON is, from its text and its file.
-use Rattle.std.proofs.Common.{◌≡◌, ℕ, ◌<◌, ◌≤◌, List, [], ◌++◌, length, append-nil, Option, None, Result, Ok, Err, sym, ap, ◌∙◌, subst, arith, inl, inr, Vec, Global}
+use Rattle.std.proofs.Common.{◌≡◌, ℕ, ◌<◌, ◌≤◌, List, [], ◌++◌, length, append-nil, Option, Result, Ok, Err, sym, ap, ◌∙◌, subst, arith, inl, inr, Vec, Global}
 use Rattle.std.specs.Prelude.{IsErrAnd}
 use Rattle.std.proofs.lemmas.List.{length-append}
 use Rattle.std.proofs.lemmas.Bool.{cases_lt}

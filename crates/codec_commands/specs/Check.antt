@@ -10,7 +10,7 @@ use Rattle.tl_schema.specs.Meanings.{base_shape}
 use Rattle.codec_commands.specs.declared.causes.SchemaCause.{SchemaCause}
 use Rattle.codec_commands.specs.Loaded.{IsSchemaText, SchemaRefused}
 use Rattle.command_base.specs.Answer.{Answer, done, refused}
-use Rattle.command_base.specs.Jobs.{Job}
+use Rattle.command_base.specs.Jobs.{Job, unlinked_job}
 use Rattle.command_base.specs.Kept.{KeepsUnread}
 use Rattle.codec_commands.specs.Lines.{schema_line}
 
@@ -50,4 +50,4 @@ CheckAnswer files schema a = (text : List ℕ) × HasFile files schema text × O
 
 -- `check SCHEMA`, which never comes to Input
 abbrev pub check_job : List ℕ → Job
-check_job schema = record { answers = λ v a. CheckAnswer v.files schema a; in_pieces = ⊥; keeps = λ v w. KeepsUnread ⊥ v w }
+check_job schema = unlinked_job (λ v a. CheckAnswer v.files schema a) ⊥ (λ v w. KeepsUnread ⊥ v w)

@@ -12,7 +12,7 @@ use Rattle.codec_commands.specs.declared.causes.PlanCause.{PlanCause}
 use Rattle.codec_commands.specs.Loaded.{IsSchemaText, SchemaRefused, TypeNameRefused, HasPlan, PlanRefused}
 use Rattle.codec_commands.specs.Lines.{schema_line, type_line, plan_line}
 use Rattle.command_base.specs.Answer.{Answer, refused}
-use Rattle.command_base.specs.Jobs.{Job}
+use Rattle.command_base.specs.Jobs.{Job, unlinked_job}
 use Rattle.command_base.specs.Kept.{KeepsUnread}
 
 -- what is answered to the bytes of an input, of a type of the schema
@@ -46,4 +46,4 @@ pub record ReachesInput (files : Files) (schema type : List ℕ) : Type 0 where
 
 -- the command, of SCHEMA, TYPE and INPUT
 abbrev pub typed_job : ToInput → List ℕ → List ℕ → List ℕ → Job
-typed_job Tells schema type input = record { answers = λ v a. TypedAnswer Tells v.files schema type input a; in_pieces = ⊥; keeps = λ v w. KeepsUnread (ReachesInput v.files schema type) v w }
+typed_job Tells schema type input = unlinked_job (λ v a. TypedAnswer Tells v.files schema type input a) ⊥ (λ v w. KeepsUnread (ReachesInput v.files schema type) v w)

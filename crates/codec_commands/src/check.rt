@@ -3,15 +3,16 @@ ghost use Rattle.std.specs.Prelude.{IsErrOf};
 ghost use Rattle.tl_base.specs.Calls.{Told};
 ghost use Rattle.tl_base.specs.Using.{MeetsFaults};
 ghost use Rattle.tl_base.specs.declared.counts.Kind.TheVariants as kinds;
-ghost use Rattle.command_base.specs.Jobs.{MakesOutput, Works, making};
+ghost use Rattle.command_base.specs.Jobs.{MakesOutput, WorksOver, making};
 ghost use Rattle.command_base.specs.Kept.{LeavesInput};
-ghost use Rattle.command_base.specs.Sound.{Answered, Fits, MeetsBothFaults};
+ghost use Rattle.command_base.specs.Sound.{Answered, MeetsFaultsOf};
+ghost use Rattle.command_base.specs.Telling.{status_of};
 ghost use Rattle.codec_commands.specs.Check.{check_job};
 
 use crate::lines::schema_unmade;
 use crate::listing::listing;
 use crate::schema_text::load_schema;
-use command_base::{Stop, Unmade, write_made};
+use command_base::{Status, Stop, Unmade, write_made};
 use std::alloc::Global;
 use tl_base::Host;
 
@@ -31,10 +32,10 @@ fn made_listing<H: Host>(alloc: Global, host: &mut H, schema: &str) -> Result<Ve
 }
 
 /// Checks a schema, and writes the list of its declarations.
-pub fn check_schema<H: Host>(alloc: Global, host: &mut H, schema: &str) -> Result<(), Stop>
-    ensures works { Told (H.state host.old).view (H.state host.new).view (Works (check_job schema.now) result) }
+pub fn check_schema<H: Host>(alloc: Global, host: &mut H, schema: &str) -> Result<Status, Stop>
+    ensures works { WorksOver (check_job schema.now) (H.state host.old) (H.state host.new) result }
     ensures kept { Told (H.state host.old).view (H.state host.new).view (check_job schema.now).keeps }
-    ensures faults { MeetsBothFaults (H.state host.old) (H.state host.new) (IsErrOf result Stop.ReadFault) (IsErrOf result Stop.WriteFault) (Fits (check_job schema.now)) }
+    ensures faults { MeetsFaultsOf (check_job schema.now) (H.state host.old) (H.state host.new) (status_of result) }
 {
     let made = made_listing(alloc, host, schema);
     write_made(host, made)

@@ -3,9 +3,10 @@ ghost use Rattle.std.specs.Prelude.{◌≡◌, ◌<◌, ℕ, List, None, IfOk, I
 ghost use Rattle.tl_base.specs.Calls.{Told};
 ghost use Rattle.tl_base.specs.Using.{MeetsFaults};
 ghost use Rattle.tl_base.specs.declared.counts.Kind.TheVariants as kinds;
-ghost use Rattle.command_base.specs.Jobs.{MakesOutput, Works, making};
+ghost use Rattle.command_base.specs.Jobs.{MakesOutput, WorksOver, making};
 ghost use Rattle.command_base.specs.Kept.{LeavesInput};
-ghost use Rattle.command_base.specs.Sound.{Answered, Fits, MeetsBothFaults};
+ghost use Rattle.command_base.specs.Sound.{Answered, MeetsFaultsOf};
+ghost use Rattle.command_base.specs.Telling.{status_of};
 ghost use Rattle.tl_schema.specs.Types.{Shape};
 ghost use Rattle.tl_plan.specs.PlanLaws.{IsInstance};
 ghost use Rattle.tl_types.specs.Fitting.{misfit};
@@ -21,7 +22,7 @@ use crate::refusal::{CodecFault, unmade};
 use crate::schema_text::load_schema;
 use crate::type_plan::plan_of;
 use crate::type_word::type_named;
-use command_base::{Stop, Unmade, write_made};
+use command_base::{Status, Stop, Unmade, write_made};
 use std::alloc::{AllocError, Global};
 use tl_base::Host;
 use tl_encode::spelling_of;
@@ -86,10 +87,10 @@ pub fn encode_input<H: Host>(
     schema: &str,
     of: &str,
     input: &str,
-) -> Result<(), Stop>
-    ensures works { Told (H.state host.old).view (H.state host.new).view (Works (encode_job schema.now of.now input.now) result) }
+) -> Result<Status, Stop>
+    ensures works { WorksOver (encode_job schema.now of.now input.now) (H.state host.old) (H.state host.new) result }
     ensures kept { Told (H.state host.old).view (H.state host.new).view (encode_job schema.now of.now input.now).keeps }
-    ensures faults { MeetsBothFaults (H.state host.old) (H.state host.new) (IsErrOf result Stop.ReadFault) (IsErrOf result Stop.WriteFault) (Fits (encode_job schema.now of.now input.now)) }
+    ensures faults { MeetsFaultsOf (encode_job schema.now of.now input.now) (H.state host.old) (H.state host.new) (status_of result) }
 {
     let made = made_spelling(alloc, host, schema, of, input);
     write_made(host, made)

@@ -1,5 +1,5 @@
 -- Where a call can't fail, from where those that it makes can't.
-use Rattle.std.proofs.Common.{◌⊎◌, Bool, Option, Some, None, IsSome, IsTrue, refl, ap, ◌∙◌, arith, inl, inr}
+use Rattle.std.proofs.Common.{◌≡◌, ◌≢◌, Bool, Option, Some, None, IsSome, IsTrue, refl, ap, ◌∙◌, arith, inl, inr}
 use Rattle.std.proofs.lemmas.Bool.{false≢true}
 use Rattle.std.specs.Prelude.{IfSome}
 use Rattle.tl_base.specs.Outside.{View, HostState}
@@ -7,7 +7,10 @@ use Rattle.tl_base.specs.Using.{MeetsFaults}
 use Rattle.tl_base.specs.declared.counts.Kind.{Kind}
 use Rattle.tl_base.specs.declared.counts.Kind.TheVariants as kinds
 use Rattle.tl_base.specs.Calls.{Told}
-use Rattle.command_base.specs.Sound.{MeetsBothFaults}
+use Rattle.command_base.specs.declared.status.Status.{Status}
+use Rattle.command_base.specs.declared.status.Status.TheVariants.{ReadFault, WriteFault, LinkFault, PeerFault}
+use Rattle.command_base.specs.Jobs.{Job}
+use Rattle.command_base.specs.Sound.{IsFault, MeetsFaultsOf, Answered, Fits}
 
 -- where the view is told and the outside is sound, it stays sound, and where P the call doesn't fail so
 pub record NeverFails (told : Option View) (before now : Bool) (failed : Type 0) (P : View → Type 0) : Type 0 where
@@ -40,23 +43,51 @@ then_fails (Some v) None x y z F P R Q between first second known = absurd betwe
 then_fails (Some v) (Some w) x y z F P R Q between first second known =
     record { stays = stays_sound (Some v) (Some w) x y z Q between first second.stays; never = λ sound p failed. second.never (first refl sound) (known v w between p) failed }
 
--- ---- calls that may meet both faults
+-- ---- work that reads and then writes
 
-later_fails : (told : Option View) (S R W : Type 0) (Q : View → Type 0) → (R → ⊥) → IfSome told (λ v. S → Q v → W → ⊥) → IfSome told (λ v. S → Q v → R ⊎ W → ⊥)
-later_fails None S R W Q none never = tt
-later_fails (Some v) S R W Q none never = λ sound q failed. elim failed [ inl r ↦ absurd (none r) | inr w ↦ never sound q w ]
+later_fails : (told : Option View) (S W : Type 0) (s : Status) (Q : View → Type 0) → (s ≡ ReadFault → ⊥) → (s ≡ LinkFault → ⊥) → (s ≡ WriteFault → W) → IfSome told (λ v. S → Q v → W → ⊥) → IfSome told (λ v. S → Q v → IsFault s → ⊥)
+later_fails None S W s Q none link to never = tt
+later_fails (Some v) S W s Q none link to never = λ sound q failed.
+    elim failed [ inl r ↦ absurd (none r) | inr other ↦ elim other [ inl w ↦ never sound q (to w) | inr l ↦ absurd (link l) ] ]
 
 -- a call that read, and then one that wrote: only the writing failed
-pub written_faults : (a b c : HostState) (R W F G : Type 0) (P Q S : View → Type 0) → MeetsFaults kinds.Reads a b F P → MeetsFaults kinds.Writes b c G S → (W → G) → (R → ⊥) → NeverFails a.view a.sound c.sound G Q → MeetsBothFaults a c R W Q
-written_faults a b c R W F G P Q S reads writes to none both =
+pub written_faults : (job : Job) (a b c : HostState) (s : Status) (F G : Type 0) (P S : View → Type 0) → MeetsFaults kinds.Reads a b F P → MeetsFaults kinds.Writes b c G S
+    → (s ≡ WriteFault → G) → s ≢ ReadFault → s ≢ LinkFault → s ≢ PeerFault → NeverFails a.view a.sound c.sound G (Fits job) → MeetsFaultsOf job a c s
+written_faults job a b c s F G P S reads writes to none no_link no_peer both =
     let reads_kept = ap (λ k. k.reads) writes.others in
     let writes_kept = ap (λ k. k.writes) reads.others in
+    let links_kept = ap (λ k. k.links) writes.others ∙ ap (λ k. k.links) reads.others in
     record {
       reads_later = omega (arith, reads.later, reads_kept);
       writes_later = omega (arith, writes.later, writes_kept);
-      links_kept = ap (λ k. k.links) writes.others ∙ ap (λ k. k.links) reads.others;
+      links_later = omega (arith, links_kept);
       read = λ failed. absurd (none failed);
       write = λ failed. omega (arith, writes.cause (to failed), writes_kept);
+      link = λ failed. absurd (no_link failed);
+      unlinked = λ free. (links_kept, no_link, no_peer);
       stays = both.stays;
-      never = later_fails a.view (IsTrue a.sound) R W Q none (fails_as a.view a.sound c.sound G W Q Q both to (λ v q. q)).never;
+      never = later_fails a.view (IsTrue a.sound) G s (Fits job) none no_link to both.never;
+    }
+
+unread_fails : (told : Option View) (S F : Type 0) (s : Status) (job : Job) → (s ≡ ReadFault → F) → (s ≡ WriteFault → ⊥) → (s ≡ LinkFault → ⊥) → IfSome told (λ v. S → Answered job v → F → ⊥) → IfSome told (λ v. S → Fits job v → IsFault s → ⊥)
+unread_fails None S F s job to write link never = tt
+unread_fails (Some v) S F s job to write link never = λ sound fits failed.
+    elim failed [ inl r ↦ never sound (fits.0, fits.1) (to r) | inr other ↦ elim other [ inl w ↦ absurd (write w) | inr l ↦ absurd (link l) ] ]
+
+-- a call that read, after which nothing was written
+pub read_faults : (job : Job) (a b : HostState) (s : Status) (F : Type 0) → MeetsFaults kinds.Reads a b F (Answered job)
+    → (s ≡ ReadFault → F) → s ≢ WriteFault → s ≢ LinkFault → s ≢ PeerFault → MeetsFaultsOf job a b s
+read_faults job a b s F reads to no_write no_link no_peer =
+    let writes_kept = ap (λ k. k.writes) reads.others in
+    let links_kept = ap (λ k. k.links) reads.others in
+    record {
+      reads_later = reads.later;
+      writes_later = omega (arith, writes_kept);
+      links_later = omega (arith, links_kept);
+      read = λ failed. reads.cause (to failed);
+      write = λ failed. absurd (no_write failed);
+      link = λ failed. absurd (no_link failed);
+      unlinked = λ free. (links_kept, no_link, no_peer);
+      stays = reads.stays;
+      never = unread_fails a.view (IsTrue a.sound) F s job to no_write no_link reads.never;
     }

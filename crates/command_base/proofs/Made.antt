@@ -1,10 +1,12 @@
 -- The work of a job that makes its Output and then writes it.
-use Rattle.std.proofs.Common.{◌≡◌, ◌⊎◌, ℕ, List, ◌++◌, append-nil, length, IsTrue, Option, Some, None, Result, Ok, Err, Vec, Global, refl, sym, ap, ◌∙◌, subst, arith, inl, inr}
+use Rattle.std.proofs.Common.{◌≡◌, ◌≢◌, ℕ, List, ◌++◌, append-nil, length, IsTrue, Option, Some, None, Result, Ok, Err, Vec, Global, refl, sym, ap, ◌∙◌, subst, arith, inl, inr}
 use Rattle.std.specs.Prelude.{IfSome, IsErrOf}
 use Rattle.tl_base.specs.Outside.{View, HostState}
 use Rattle.tl_base.specs.Calls.{Told}
 use Rattle.tl_base.specs.Using.{MeetsFaults}
 use Rattle.tl_base.specs.declared.counts.Kind.TheVariants as kinds
+use Rattle.command_base.specs.declared.status.Status.{Status}
+use Rattle.command_base.specs.declared.status.Status.TheVariants.{ReadFault, WriteFault, LinkFault, PeerFault}
 use Rattle.command_base.specs.declared.stop.Stop.{Stop}
 use Rattle.command_base.specs.declared.stop.Stop.TheVariants as stop
 use Rattle.command_base.specs.declared.stop.Unmade.{Unmade}
@@ -12,7 +14,7 @@ use Rattle.command_base.specs.declared.stop.Unmade.TheVariants as unmade
 use Rattle.command_base.specs.Answer.{Answer, done, refused}
 use Rattle.command_base.specs.Kept.{KeepsRest, LeavesInput, KeepsUnread, OnlyReads}
 use Rattle.command_base.specs.Jobs.{Job, Works, Making, made, refused_by, unread, no_memory, of_fault, making, MakesOutput, TellsAs, WritesMade}
-use Rattle.command_base.specs.Sound.{MeetsBothFaults, Answered, Fits, MadeFits}
+use Rattle.command_base.specs.Sound.{IsFault, MeetsFaultsOf, Answered, Fits, MadeFits}
 use Rattle.command_base.proofs.Views.{told_as, told_both, told_then}
 use Rattle.command_base.proofs.Rests.{rest_then, output_rest, same_rest, then_same, rest_left, unread_by}
 use Rattle.command_base.proofs.Faults.{safe, then_fails}
@@ -34,52 +36,52 @@ module _ (job : Job) where
 
   -- ---- what is written
 
-  works : (m : Making) (r : Result (Unit {0}) Stop) (v u w : View) → MakesOutput job m v u → WritesMade m r u w → Works job r v w
-  works (made text) (Ok x) v u w (answer, only) put = (
+  works : (W L : Type 0) (m : Making) (r : Result Status Stop) (v u w : View) → MakesOutput job m v u → WritesMade m r u w → Works W L job r v w
+  works W L (made text) (Ok s) v u w (answer, only) (is, put) = (
     done text,
-    answer,
-    refl,
-    refl,
+    inl answer,
+    sym is,
     record {
       output = ap (λ (z : View). z.written.output) put ∙ ap (λ (z : List ℕ). z ++ text) only.output;
-      errors = ap (λ (z : View). z.written.errors) put ∙ only.errors;
-      leaves = rest_left (done text) v w (refl, refl, refl) (rest_then v u w only.rest (output_rest _ u w put));
+      leaves = rest_left (done text) v w (refl, refl, refl, refl, refl) (rest_then v u w only.rest (output_rest _ u w put));
     },
+    inl (ap (λ (z : View). z.written.errors) put ∙ only.errors ∙ sym (append-nil v.written.errors)),
   )
-  works (made text) (Err e) v u w (answer, only) (is, prefix, rest, split, put) =
-      subst (λ (y : Stop). Works job (Err y) v w) (sym is) (
-        (done text, answer, (prefix, rest, split, ap (λ (z : View). z.written.output) put ∙ ap (λ (z : List ℕ). z ++ prefix) only.output)),
-        ap (λ (z : View). z.written.errors) put ∙ only.errors,
+  works W L (made text) (Err e) v u w (answer, only) (is, prefix, rest, split, put) =
+      subst (λ (y : Stop). Works W L job (Err y) v w) (sym is) (
+        done text,
+        inl answer,
+        (prefix, rest, split, ap (λ (z : View). z.written.output) put ∙ ap (λ (z : List ℕ). z ++ prefix) only.output),
+        inl (ap (λ (z : View). z.written.errors) put ∙ only.errors),
       )
-  works (refused_by line) (Ok x) v u w h none = absurd none
-  works unread (Ok x) v u w h none = absurd none
-  works no_memory (Ok x) v u w h none = absurd none
-  works (refused_by line) (Err (stop.Refused told)) v u w (answer, only) (is, same) =
+  works W L (refused_by line) (Ok x) v u w h none = absurd none
+  works W L unread (Ok x) v u w h none = absurd none
+  works W L no_memory (Ok x) v u w h none = absurd none
+  works W L (refused_by line) (Err (stop.Refused told)) v u w (answer, only) (is, same) =
       let all = then_same v u w only same in (
         refused line,
         answer,
         refl,
         sym is,
-        record {
-          output = all.output ∙ sym (append-nil v.written.output);
-          errors = all.errors;
-          leaves = rest_left (refused line) v w (refl, refl, refl) all.rest;
-        },
+        record { output = all.output ∙ sym (append-nil v.written.output); leaves = rest_left (refused line) v w (refl, refl, refl, refl, refl) all.rest },
+        all.errors,
         inl all.output,
       )
-  works (refused_by line) (Err stop.ReadFault) v u w h none = absurd none
-  works (refused_by line) (Err stop.WriteFault) v u w h none = absurd none
-  works (refused_by line) (Err stop.Memory) v u w h none = absurd none
-  works unread (Err e) v u w only (is, same) = subst (λ (y : Stop). Works job (Err y) v w) (sym is) (then_same v u w only same)
-  works no_memory (Err e) v u w only (is, same) =
+  works W L (refused_by line) (Err stop.ReadFault) v u w h none = absurd none
+  works W L (refused_by line) (Err stop.WriteFault) v u w h none = absurd none
+  works W L (refused_by line) (Err stop.LinkFault) v u w h none = absurd none
+  works W L (refused_by line) (Err (stop.Peer told)) v u w h none = absurd none
+  works W L (refused_by line) (Err stop.Memory) v u w h none = absurd none
+  works W L unread (Err e) v u w only (is, same) = subst (λ (y : Stop). Works W L job (Err y) v w) (sym is) (then_same v u w only same)
+  works W L no_memory (Err e) v u w only (is, same) =
       let all = then_same v u w only same in
-      subst (λ (y : Stop). Works job (Err y) v w) (sym is) (inl all.output, all.errors)
+      subst (λ (y : Stop). Works W L job (Err y) v w) (sym is) (inl (all.output, all.errors))
 
-  pub made_works : (m : Making) (r : Result (Unit {0}) Stop) (a b c : Option View) → Told a b (MakesOutput job m) → Told b c (WritesMade m r) → Told a c (Works job r)
-  made_works m r a b c = told_then a b c (MakesOutput job m) (WritesMade m r) (Works job r) (works m r)
+  pub made_works : (W L : Type 0) (m : Making) (r : Result Status Stop) (a b c : Option View) → Told a b (MakesOutput job m) → Told b c (WritesMade m r) → Told a c (Works W L job r)
+  made_works W L m r a b c = told_then a b c (MakesOutput job m) (WritesMade m r) (Works W L job r) (works W L m r)
 
-  kept : (m : Making) (r : Result (Unit {0}) Stop) (v u w : View) → MakesOutput job m v u → WritesMade m r u w → KeepsRest v w
-  kept (made text) (Ok x) v u w h put = rest_then v u w h.1.rest (output_rest _ u w put)
+  kept : (m : Making) (r : Result Status Stop) (v u w : View) → MakesOutput job m v u → WritesMade m r u w → KeepsRest v w
+  kept (made text) (Ok x) v u w h put = rest_then v u w h.1.rest (output_rest _ u w put.1)
   kept (made text) (Err e) v u w h put = rest_then v u w h.1.rest (output_rest _ u w put.4)
   kept (refused_by line) (Ok x) v u w h none = absurd none
   kept unread (Ok x) v u w h none = absurd none
@@ -87,16 +89,18 @@ module _ (job : Job) where
   kept (refused_by line) (Err (stop.Refused told)) v u w h put = rest_then v u w h.1.rest (same_rest u w put.1)
   kept (refused_by line) (Err stop.ReadFault) v u w h none = absurd none
   kept (refused_by line) (Err stop.WriteFault) v u w h none = absurd none
+  kept (refused_by line) (Err stop.LinkFault) v u w h none = absurd none
+  kept (refused_by line) (Err (stop.Peer told)) v u w h none = absurd none
   kept (refused_by line) (Err stop.Memory) v u w h none = absurd none
   kept unread (Err e) v u w h put = rest_then v u w h.rest (same_rest u w put.1)
   kept no_memory (Err e) v u w h put = rest_then v u w h.rest (same_rest u w put.1)
 
-  pub made_kept : (m : Making) (r : Result (Unit {0}) Stop) (a b c : Option View) → Told a b (MakesOutput job m) → Told b c (WritesMade m r) → Told a c KeepsRest
+  pub made_kept : (m : Making) (r : Result Status Stop) (a b c : Option View) → Told a b (MakesOutput job m) → Told b c (WritesMade m r) → Told a c KeepsRest
   made_kept m r a b c = told_then a b c (MakesOutput job m) (WritesMade m r) KeepsRest (kept m r)
 
   -- what is left of Input is left by what is written
-  input_written : (m : Making) (r : Result (Unit {0}) Stop) (u w : View) → WritesMade m r u w → w.left.input ≡ u.left.input
-  input_written (made text) (Ok x) u w put = ap (λ (z : View). z.left.input) put
+  input_written : (m : Making) (r : Result Status Stop) (u w : View) → WritesMade m r u w → w.left.input ≡ u.left.input
+  input_written (made text) (Ok x) u w put = ap (λ (z : View). z.left.input) put.1
   input_written (made text) (Err e) u w put = ap (λ (z : View). z.left.input) put.4
   input_written (refused_by line) (Ok x) u w none = absurd none
   input_written unread (Ok x) u w none = absurd none
@@ -104,12 +108,14 @@ module _ (job : Job) where
   input_written (refused_by line) (Err (stop.Refused told)) u w put = ap (λ (z : View). z.left.input) put.1
   input_written (refused_by line) (Err stop.ReadFault) u w none = absurd none
   input_written (refused_by line) (Err stop.WriteFault) u w none = absurd none
+  input_written (refused_by line) (Err stop.LinkFault) u w none = absurd none
+  input_written (refused_by line) (Err (stop.Peer told)) u w none = absurd none
   input_written (refused_by line) (Err stop.Memory) u w none = absurd none
   input_written unread (Err e) u w put = ap (λ (z : View). z.left.input) put.1
   input_written no_memory (Err e) u w put = ap (λ (z : View). z.left.input) put.1
 
   -- what was made and then written leaves Input, unless the work came to it
-  pub made_unread : (Came : View → Type 0) (m : Making) (r : Result (Unit {0}) Stop) (a b c : Option View) → Told a b (MakesOutput job m) → Told a b (λ v w. LeavesInput (Came v) v w) → Told b c (WritesMade m r)
+  pub made_unread : (Came : View → Type 0) (m : Making) (r : Result Status Stop) (a b c : Option View) → Told a b (MakesOutput job m) → Told a b (λ v w. LeavesInput (Came v) v w) → Told b c (WritesMade m r)
       → Told a c (λ v w. KeepsUnread (Came v) v w)
   made_unread Came m r a b c makes leaves =
       told_then a b c (λ v w. MakesOutput job m v w × LeavesInput (Came v) v w) (WritesMade m r) (λ v w. KeepsUnread (Came v) v w)
@@ -125,7 +131,7 @@ module _ (job : Job) where
   made_fits : HasOne → (m : Making) (v u : View) → MakesOutput job m v u → Fits job v → MadeFits m u
   made_fits one (made text) v u (answer, only) (a, also, room) =
       let is : a ≡ done text = one v a (done text) also answer in
-      omega (arith, ap (λ (b : Answer). length b.output) is, ap length only.output, ap (λ (x : View). x.room) only.rest, room)
+      omega (arith, ap (λ (b : Answer). length b.output) is, ap length only.output, ap (λ (x : View). x.room) only.rest, room.output)
   made_fits one (refused_by line) v u h fits = tt
   made_fits one unread v u h fits = tt
   made_fits one no_memory v u h fits = tt
@@ -133,24 +139,29 @@ module _ (job : Job) where
   fits_answered : (v : View) → Fits job v → Answered job v
   fits_answered v (a, answer, room) = (a, answer)
 
-  either_fails : (F G H : Type 0) (told : Option View) (S : Type 0) → (H → F) → IfSome told (λ v. S → Answered job v → F → ⊥) → IfSome told (λ v. S → Fits job v → G → ⊥) → IfSome told (λ v. S → Fits job v → H ⊎ G → ⊥)
-  either_fails F G H None S to first second = tt
-  either_fails F G H (Some v) S to first second = λ sound fits failed. elim failed [ inl h ↦ first sound (fits_answered v fits) (to h) | inr g ↦ second sound fits g ]
+  -- the status of a fault is that of reading, or of writing
+  either_fails : (F G L : Type 0) (s : Status) (told : Option View) (S : Type 0) → (s ≡ ReadFault → F) → (s ≡ WriteFault → G) → (s ≡ LinkFault → ⊥) → IfSome told (λ v. S → Answered job v → F → ⊥) → IfSome told (λ v. S → Fits job v → G → ⊥)
+      → IfSome told (λ v. S → Fits job v → IsFault s → ⊥)
+  either_fails F G L s None S to write link first second = tt
+  either_fails F G L s (Some v) S to write link first second = λ sound fits failed.
+      elim failed [ inl r ↦ first sound (fits_answered v fits) (to r) | inr other ↦ elim other [ inl w ↦ second sound fits (write w) | inr l ↦ absurd (link l) ] ]
 
-  pub made_faults : HasOne → (text : Result (Vec ℕ Global) Unmade) (r : Result (Unit {0}) Stop) (a b c : HostState)
+  pub made_faults : HasOne → (text : Result (Vec ℕ Global) Unmade) (s : Status) (a b c : HostState)
       → Told a.view b.view (MakesOutput job (making text)) → MeetsFaults kinds.Reads a b (IsErrOf text unmade.ReadFault) (Answered job)
-      → MeetsFaults kinds.Writes b c (IsErrOf r stop.WriteFault) (MadeFits (making text)) → (IsErrOf r stop.ReadFault → IsErrOf text unmade.ReadFault)
-      → MeetsBothFaults a c (IsErrOf r stop.ReadFault) (IsErrOf r stop.WriteFault) (Fits job)
-  made_faults one text r a b c told reads writes same =
+      → MeetsFaults kinds.Writes b c (s ≡ WriteFault) (MadeFits (making text)) → (s ≡ ReadFault → IsErrOf text unmade.ReadFault) → s ≢ LinkFault → s ≢ PeerFault
+      → MeetsFaultsOf job a c s
+  made_faults one text s a b c told reads writes same no_link no_peer =
       let both = then_fails a.view b.view a.sound b.sound c.sound _ (Fits job) (MadeFits (making text)) (MakesOutput job (making text)) told reads.stays (safe writes) (made_fits one (making text)) in
       let reads_kept = ap (λ k. k.reads) writes.others in
       let links_kept = ap (λ k. k.links) writes.others ∙ ap (λ k. k.links) reads.others in
       record {
         reads_later = omega (arith, reads.later, reads_kept);
         writes_later = omega (arith, writes.later, ap (λ k. k.writes) reads.others);
-        links_kept = links_kept;
+        links_later = omega (arith, links_kept);
         read = λ failed. omega (arith, reads.cause (same failed), reads_kept);
         write = λ failed. omega (arith, writes.cause failed, ap (λ k. k.writes) reads.others);
+        link = λ failed. absurd (no_link failed);
+        unlinked = λ free. (links_kept, no_link, no_peer);
         stays = both.stays;
-        never = either_fails (IsErrOf text unmade.ReadFault) (IsErrOf r stop.WriteFault) (IsErrOf r stop.ReadFault) a.view (IsTrue a.sound) same reads.never both.never;
+        never = either_fails (IsErrOf text unmade.ReadFault) (s ≡ WriteFault) ⊥ s a.view (IsTrue a.sound) same (λ w. w) no_link reads.never both.never;
       }

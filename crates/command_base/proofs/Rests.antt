@@ -1,5 +1,5 @@
 -- What calls leave as it was.
-use Rattle.std.proofs.Common.{◌≡◌, ◌⊎◌, ℕ, List, [], ◌++◌, append-nil, None, Result, Ok, Err, Vec, Global, sym, ap, ◌∙◌, inl, inr}
+use Rattle.std.proofs.Common.{◌≡◌, ℕ, List, [], ◌++◌, append-nil, drop, None, Result, Ok, Err, Vec, Global, sym, ap, ◌∙◌, inl, inr}
 use Rattle.tl_base.specs.Outside.{View, left_of, with_left, with_written}
 use Rattle.tl_base.specs.Hosted.{OnlySlot, ReadsFile}
 use Rattle.tl_base.specs.declared.host.Slot.TheVariants.{Schema, Input}
@@ -93,14 +93,15 @@ then_same u v w p e =
 
 -- ---- what an answer leaves
 
--- the answer creates no State, takes no link and uses no address
+-- the answer creates no State, and uses no link, no address and no moment
 abbrev pub IsPrinted : Answer → Type 0
-IsPrinted a = (a.state ≡ None) × (a.links ≡ []) × (a.address ≡ None)
+IsPrinted a = (a.state ≡ None) × (a.links ≡ []) × (a.address ≡ None) × (a.taken ≡ 0) × (a.moments ≡ 0)
 
 pub rest_left : (a : Answer) (v w : View) → IsPrinted a → KeepsRest v w → Leaves a v w
-rest_left a v w (no_state, no_links, no_address) rest = record {
+rest_left a v w (no_state, no_links, no_address, no_taken, no_moments) rest = record {
   files = ap (λ (x : View). x.files) rest;
-  moments = ap (λ (x : View). x.moments) rest;
+  moments = ap (λ (x : View). x.moments) rest ∙ ap (λ (n : ℕ). drop n v.moments) (sym no_moments);
+  coming = ap (λ (x : View). x.links) rest ∙ ap (λ (n : ℕ). drop n v.links) (sym no_taken);
   state_name = ap (λ (x : View). x.state_name) rest ∙ ap (λ s. name_after s v.state_name) (sym no_state);
   state = ap (λ (x : View). x.written.state) rest ∙ ap (λ s. bytes_after s v.written.state) (sym no_state);
   links = ap (λ (x : View). x.written.links) rest ∙ sym (append-nil v.written.links) ∙ ap (λ (ls : List (List ℕ)). v.written.links ++ ls) (sym no_links);
@@ -112,6 +113,7 @@ pub left_then : (a : Answer) (v u w : View) → Leaves a v u → KeepsRest u w �
 left_then a v u w left rest = record {
   files = ap (λ (x : View). x.files) rest ∙ left.files;
   moments = ap (λ (x : View). x.moments) rest ∙ left.moments;
+  coming = ap (λ (x : View). x.links) rest ∙ left.coming;
   state_name = ap (λ (x : View). x.state_name) rest ∙ left.state_name;
   state = ap (λ (x : View). x.written.state) rest ∙ left.state;
   links = ap (λ (x : View). x.written.links) rest ∙ left.links;

@@ -14,19 +14,22 @@ status_number Memory = 5
 status_number LinkFault = 6
 status_number PeerFault = 7
 
--- An answer: its status, what it adds to Output, and its line on Errors. `state` is the name under which it creates State and the bytes that it
--- writes there, where it creates it; `links` what it writes to each link that it takes; `address` the address that it uses last, where it uses one.
+-- An answer: its status, what it adds to Output, and its lines on Errors. `state` is the name under which it creates State and the bytes that it
+-- writes there, where it creates it; `taken` how many links it asks for, `links` what it writes to each that it takes, and `moments` how many moments it
+-- asks for; `address` is the address that it uses last, where it uses one.
 pub record Answer : Type 0 where
   pub status : Status
   pub output : List ℕ
   pub errors : List ℕ
   pub state : Option (List ℕ × List ℕ)
+  pub taken : ℕ
   pub links : List (List ℕ)
+  pub moments : ℕ
   pub address : Option (List ℕ)
 
 -- an answer that writes to Output and Errors alone
 abbrev pub printed : Status → List ℕ → List ℕ → Answer
-printed status output line = record { status = status; output = output; errors = line; state = None; links = []; address = None }
+printed status output line = record { status = status; output = output; errors = line; state = None; taken = 0; links = []; moments = 0; address = None }
 
 abbrev pub done : List ℕ → Answer
 done output = printed Done output []
@@ -57,6 +60,9 @@ read_fault_line = codes "tlbox: read fault\n"
 
 abbrev pub write_fault_line : List ℕ
 write_fault_line = codes "tlbox: write fault\n"
+
+abbrev pub link_fault_line : List ℕ
+link_fault_line = codes "tlbox: link fault\n"
 
 abbrev pub memory_line : List ℕ
 memory_line = codes "tlbox: memory\n"

@@ -1,43 +1,73 @@
 -- What a job is, and what its work does. This project's own.
-use Rattle.std.specs.Prelude.{◌≡◌, ◌⊎◌, ℕ, List, [], ◌++◌, Result, Ok, Err, Vec, String, string_bytes}
+use Rattle.std.specs.Prelude.{◌≡◌, ◌⊎◌, ℕ, List, ◌++◌, Result, Ok, Err, Vec, String, string_bytes}
 use Rattle.std.specs.declared.alloc.Global.{Global}
 use Rattle.std.specs.declared.alloc.AllocError.{AllocError}
-use Rattle.tl_base.specs.Outside.{View, written_of, with_written}
+use Rattle.tl_base.specs.Calls.{Told}
+use Rattle.tl_base.specs.Causes.{Rose}
+use Rattle.tl_base.specs.Outside.{View, HostState, written_of, with_written}
 use Rattle.tl_base.specs.declared.host.Out.TheVariants.{Output}
 use Rattle.command_base.specs.declared.stop.Stop.{Stop}
 use Rattle.command_base.specs.declared.stop.Stop.TheVariants as stop
 use Rattle.command_base.specs.declared.stop.Unmade.{Unmade}
 use Rattle.command_base.specs.declared.stop.Unmade.TheVariants as unmade
+use Rattle.command_base.specs.declared.status.Status.{Status}
 use Rattle.command_base.specs.declared.status.Status.TheVariants as status
 use Rattle.command_base.specs.Answer.{Answer, done, refused}
 use Rattle.command_base.specs.Kept.{OnlyReads, AddsPrefix, Leaves}
+use Rattle.command_base.specs.Telling.{Tells}
 
--- A job: what is answered over an outside, whether its work writes its Output in pieces and may stop between them, and what it leaves as it was.
+-- A job: what is answered over an outside; what may be answered there where a link failed that others follow; whether its work writes its Output in
+-- pieces and may stop between them, tells lines on Errors as it goes, and uses links; and what it leaves as it was.
 pub record Job : Type 1 where
   pub answers : View → Answer → Type 0
+  pub broken : View → Answer → Type 0
   pub in_pieces : Type 0
+  pub tells : Type 0
+  pub linked : Type 0
   pub keeps : View → View → Type 0
+
+-- a job that reads, and then writes its Output or is refused; whether it writes in pieces
+abbrev pub unlinked_job : (View → Answer → Type 0) → Type 0 → (View → View → Type 0) → Job
+unlinked_job answers in_pieces keeps = record { answers = answers; broken = λ v a. ⊥; in_pieces = in_pieces; tells = ⊥; linked = ⊥; keeps = keeps }
 
 -- ---- work
 
--- all of the answer is given but its line
+-- Output and all that an answer leaves are the answer's
 pub record GivesOutput (a : Answer) (v w : View) : Type 0 where
   pub output : w.written.output ≡ v.written.output ++ a.output
-  pub errors : w.written.errors ≡ v.written.errors
   pub leaves : Leaves a v w
 
--- Output has a prefix of what the job's answer writes
-abbrev pub WritesSomeOf : Job → View → View → Type 0
-WritesSomeOf job v w = (a : Answer) × job.answers v a × AddsPrefix v.written.output w.written.output a.output
+-- what a job may answer: its answer, or, where a link failed, one that this broke
+abbrev pub MayAnswer : Job → Type 0 → View → Answer → Type 0
+MayAnswer job link_rose v a = job.answers v a ⊎ (link_rose × job.broken v a)
 
--- the work of a job: its answer is given, or why not
-abbrev pub Works : Job → Result (Unit {0}) Stop → View → View → Type 0
-Works job (Ok u) v w = (a : Answer) × job.answers v a × (a.status ≡ status.Done) × (a.errors ≡ []) × GivesOutput a v w
-Works job (Err (stop.Refused line)) v w =
-    (a : Answer) × job.answers v a × (a.status ≡ status.Refused) × (a.errors ≡ string_bytes line) × GivesOutput a v w × ((w.written.output ≡ v.written.output) ⊎ job.in_pieces)
-Works job (Err stop.ReadFault) v w = OnlyReads v w
-Works job (Err stop.WriteFault) v w = WritesSomeOf job v w × (w.written.errors ≡ v.written.errors)
-Works job (Err stop.Memory) v w = ((w.written.output ≡ v.written.output) ⊎ (job.in_pieces × WritesSomeOf job v w)) × (w.written.errors ≡ v.written.errors)
+-- Errors is as before; or the job tells lines as it goes, and a prefix of its answer's was told
+abbrev pub ToldSome : Job → Answer → View → View → Type 0
+ToldSome job a v w = (w.written.errors ≡ v.written.errors) ⊎ (job.tells × AddsPrefix v.written.errors w.written.errors a.errors)
+
+-- Output has a prefix of what the job's answer writes, and Errors what was told until then
+abbrev pub WritesSomeOf : Job → Type 0 → View → View → Type 0
+WritesSomeOf job link_rose v w = (a : Answer) × MayAnswer job link_rose v a × AddsPrefix v.written.output w.written.output a.output × ToldSome job a v w
+
+-- the answer that ends with this status and this line is given, but for the line
+abbrev pub EndsBy : Job → Status → List ℕ → View → View → Type 0
+EndsBy job status line v w =
+    (a : Answer) × job.answers v a × (a.status ≡ status) × (a.errors ≡ line) × GivesOutput a v w × (w.written.errors ≡ v.written.errors) × ((w.written.output ≡ v.written.output) ⊎ job.in_pieces)
+
+-- The work of a job: its answer is given, or why not; where a count of faults rose.
+abbrev pub Works : Type 0 → Type 0 → Job → Result Status Stop → View → View → Type 0
+Works write_rose link_rose job (Ok status) v w = (a : Answer) × MayAnswer job link_rose v a × (a.status ≡ status) × GivesOutput a v w × Tells write_rose a.errors v w
+Works write_rose link_rose job (Err (stop.Refused line)) v w = EndsBy job status.Refused (string_bytes line) v w
+Works write_rose link_rose job (Err (stop.Peer line)) v w = EndsBy job status.PeerFault (string_bytes line) v w
+Works write_rose link_rose job (Err stop.ReadFault) v w = OnlyReads v w
+Works write_rose link_rose job (Err stop.WriteFault) v w = WritesSomeOf job link_rose v w
+Works write_rose link_rose job (Err stop.LinkFault) v w = WritesSomeOf job link_rose v w
+Works write_rose link_rose job (Err stop.Memory) v w =
+    ((w.written.output ≡ v.written.output) × (w.written.errors ≡ v.written.errors)) ⊎ (job.in_pieces × WritesSomeOf job link_rose v w)
+
+-- the same over a host that tells its files, before and after
+abbrev pub WorksOver : Job → HostState → HostState → Result Status Stop → Type 0
+WorksOver job old new result = Told old.view new.view (Works (Rose old.counts.writes new.counts.writes) (Rose old.counts.links new.counts.links) job result)
 
 -- ---- a text that is made, and then written
 
@@ -79,8 +109,8 @@ of_unmade unmade.ReadFault = stop.ReadFault
 of_unmade unmade.Memory = stop.Memory
 
 -- a text that was made is written, or a prefix of it where a write failed; what was not made is told, and nothing changes
-abbrev pub WritesMade : Making → Result (Unit {0}) Stop → View → View → Type 0
-WritesMade (made text) (Ok u) v w = w ≡ with_written Output (written_of Output v ++ text) v
+abbrev pub WritesMade : Making → Result Status Stop → View → View → Type 0
+WritesMade (made text) (Ok s) v w = (s ≡ status.Done) × (w ≡ with_written Output (written_of Output v ++ text) v)
 WritesMade (made text) (Err e) v w = (e ≡ stop.WriteFault) × (prefix : List ℕ) × (rest : List ℕ) × (prefix ++ rest ≡ text) × (w ≡ with_written Output (written_of Output v ++ prefix) v)
 WritesMade m (Ok u) v w = ⊥
 WritesMade (refused_by line) (Err (stop.Refused told)) v w = (string_bytes told ≡ line) × (w ≡ v)

@@ -1,5 +1,5 @@
 -- What a call leaves of the outside as it was. This project's own.
-use Rattle.std.specs.Prelude.{◌≡◌, ◌⊎◌, ℕ, List, ◌++◌, Option, Some, None}
+use Rattle.std.specs.Prelude.{◌≡◌, ◌⊎◌, ℕ, List, ◌++◌, drop, Option, Some, None}
 use Rattle.tl_base.specs.Outside.{View}
 use Rattle.command_base.specs.Answer.{Answer}
 
@@ -47,10 +47,12 @@ abbrev pub address_after : Option (List ℕ) → Option (List ℕ) → Option (L
 address_after None before = before
 address_after (Some used) before = Some used
 
--- Files and moments to come are as before. State, what is written to links and the address are the answer's, where it has such, and else as before.
+-- Files are as before. State, what is written to links and the address are the answer's, where it has such, and else as before; of links and moments to
+-- come those that it asked for are gone. What is left of the slot Link isn't told.
 pub record Leaves (a : Answer) (v w : View) : Type 0 where
   pub files : w.files ≡ v.files
-  pub moments : w.moments ≡ v.moments
+  pub moments : w.moments ≡ drop a.moments v.moments
+  pub coming : w.links ≡ drop a.taken v.links
   pub state_name : w.state_name ≡ name_after a.state v.state_name
   pub state : w.written.state ≡ bytes_after a.state v.written.state
   pub links : w.written.links ≡ v.written.links ++ a.links

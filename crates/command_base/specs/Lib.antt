@@ -1,5 +1,5 @@
 pub mod Answer
 pub mod Kept
-pub mod Jobs
 pub mod Telling
+pub mod Jobs
 pub mod Sound

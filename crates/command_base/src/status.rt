@@ -17,7 +17,7 @@ pub enum Status {
     WriteFault,
     /// 5: memory was refused.
     Memory,
-    /// 6: the link failed. No command answers this yet.
+    /// 6: a link failed. No command answers this yet.
     LinkFault,
     /// 7: the other end sent what can't be taken. No command answers this yet.
     PeerFault,

@@ -16,6 +16,11 @@ pub enum Stop {
     ReadFault,
     #[error("write fault")]
     WriteFault,
+    #[error("link fault")]
+    LinkFault,
+    /// The other end of a link sent what can't be taken, and this is the whole line that says so on Errors.
+    #[error("{0}")]
+    Peer(String),
     #[error("out of memory")]
     Memory,
 }

@@ -1,10 +1,10 @@
 -- How clap reads the command: the words after it are left to its row.
-use Rattle.std.proofs.Common.{◌≡◌, ◌∙◌, ℕ, List, [], ◌∷◌, Bool, true, false, eqb, refl, sym, ap, ap₂, Option, Some, None, is_some, codes}
+use Rattle.std.proofs.Common.{◌≡◌, ◌∙◌, ℕ, List, [], ◌∷◌, true, false, eqb, refl, sym, ap, ap₂, Option, Some, is_some, codes}
 use Rattle.std.specs.List.{find, fold}
 use Rattle.std.specs.Option.{option_map, option_map_or}
 use Rattle.std.specs.Str.{bytes_eq}
 use Rattle.std.proofs.lemmas.Bool.{ne_eqb}
-use Rattle.clap.specs.Words.{Row, Shape, Text, Kinds, fault_of, is_simple, is_simple_and_free, subcommand_of}
+use Rattle.clap.specs.Words.{Shape, Text, Kinds, fault_of, is_simple, is_simple_and_free, subcommand_of}
 use Rattle.clap.specs.Walk.{Names, Walk, answers_to, finished, nothing_held, settled, walk, walk_from, walked}
 use Rattle.clap.specs.Simple.{built, entered, label_of, names_of, rows_at}
 use Rattle.clap.specs.Kinds.{or_else}

@@ -1,21 +1,22 @@
 -- How a run ends, from how its job ended and what was told.
-use Rattle.std.proofs.Common.{◌≡◌, ℕ, List, [], ◌++◌, append-nil, Option, Some, None, Ok, Err, refl, sym, ap, ◌∙◌, subst, inl, inr, string_bytes}
-use Rattle.std.specs.Prelude.{IfSome, IsErrOf, ◌⊎◌}
-use Rattle.tl_base.specs.Outside.{View}
+use Rattle.std.proofs.Common.{◌≡◌, ◌≢◌, ℕ, List, ◌++◌, append-nil, Option, Some, None, Ok, Err, refl, sym, ap, ◌∙◌, subst, inl, inr, string_bytes}
+use Rattle.std.specs.Prelude.{IfSome}
+use Rattle.tl_base.specs.Outside.{View, HostState}
 use Rattle.tl_base.specs.Calls.{Told}
 use Rattle.command_base.specs.declared.stop.Stop.{Stop}
 use Rattle.command_base.specs.declared.stop.Stop.TheVariants as stop
 use Rattle.command_base.specs.declared.status.Status.{Status}
 use Rattle.command_base.specs.declared.status.Status.TheVariants as status
-use Rattle.command_base.specs.Jobs.{Works, WritesSomeOf}
+use Rattle.command_base.specs.Answer.{Answer, read_fault_line, write_fault_line, link_fault_line, memory_line}
+use Rattle.command_base.specs.Jobs.{MayAnswer as MayAnswerOf, EndsBy, Works, WritesSomeOf}
 use Rattle.command_base.specs.Kept.{KeepsRest, OnlyErrors}
-use Rattle.command_base.specs.Sound.{Fits}
-use Rattle.command_base.specs.Telling.{Tells, TellsLine, Reports}
+use Rattle.command_base.specs.Sound.{Fits, IsFault}
+use Rattle.command_base.specs.Telling.{Tells, TellsLine, stop_status, stop_line}
 use Rattle.command_base.proofs.Rests.{errors_rest, errors_unread, unread_then, rest_left, left_then}
 use Rattle.command_base.proofs.Views.{told_as, told_both, told_then}
 use Rattle.commands.specs.Requests.{RequestText, check, decode, encode, replay, AsksFor, AsksNothing, job_of}
 use Rattle.commands.specs.Answers.{usage, usage_line, no_request, requested}
-use Rattle.commands.specs.Runs.{WritesPrefix, Ends, answered, read_failed, write_failed, out_of_memory, Keeps, AnswerFits}
+use Rattle.commands.specs.Runs.{MayAnswer, StopsAfter, Ends, answered, read_failed, write_failed, link_failed, out_of_memory, out_of_memory_later, Keeps, LeavesLinks, AnswerFits}
 use Rattle.commands.proofs.OneAnswer.{answer_to}
 use Rattle.commands.proofs.Rows.{one_request}
 
@@ -25,46 +26,65 @@ tells_on : {W : Type 0} (V : Type 0) (line : List ℕ) (v u w : View) → u.writ
 tells_on V line v u w e rose (inl h) = inl (h ∙ ap (λ (x : List ℕ). x ++ line) e)
 tells_on V line v u w e rose (inr (r, (prefix, rest, split, h))) = inr (rose r, (prefix, rest, split, h ∙ ap (λ (x : List ℕ). x ++ prefix) e))
 
-tells_none : {W : Type 0} (line : List ℕ) (v w : View) → line ≡ [] → w.written.errors ≡ v.written.errors → Tells W line v w
-tells_none line v w none e = inl (e ∙ sym (append-nil v.written.errors) ∙ ap (λ (x : List ℕ). v.written.errors ++ x) (sym none))
-
 -- words that ask for this request
-module _ (words : List (List ℕ)) (r : RequestText) (asks : AsksFor words r) (R W V : Type 0) where
-  done_there : (k : Status) → k ≡ status.Done → (v w : View) → Works (job_of r) (Ok tt) v w → Ends words R W k v w
-  done_there k is v w (a, answer, good, silent, gives) = answered a (requested r asks answer) (is ∙ sym good) gives.output gives.leaves (tells_none a.errors v w silent gives.errors)
+module _ (words : List (List ℕ)) (r : RequestText) (asks : AsksFor words r) where
+  -- what the job may answer the run may answer
+  may_answer : (M L : Type 0) (a : Answer) (v : View) → (M → L) → MayAnswerOf (job_of r) M v a → MayAnswer words L v a
+  may_answer M L a v to (inl answer) = inl (requested r asks answer)
+  may_answer M L a v to (inr (rose, broken)) = inr (to rose, r, asks, broken)
 
-  pub ends_done : (a b : Option View) (k : Status) → k ≡ status.Done → Told a b (Works (job_of r) (Ok tt)) → Told a b (Ends words R W k)
-  ends_done a b k is = told_as a b (Works (job_of r) (Ok tt)) (Ends words R W k) (done_there k is)
+  -- a count that rose until the work's end has risen at the run's
+  still_may : (M L : Type 0) (a : Answer) (v : View) → (M → L) → MayAnswerOf (job_of r) M v a → MayAnswerOf (job_of r) L v a
+  still_may M L a v to (inl answer) = inl answer
+  still_may M L a v to (inr (rose, broken)) = inr (to rose, broken)
 
-  prefix_of : (v u w : View) → w.written.output ≡ u.written.output → WritesSomeOf (job_of r) v u → WritesPrefix words v w
-  prefix_of v u w same (a, answer, (prefix, rest, split, put)) = (a, requested r asks answer, (prefix, rest, split, same ∙ put))
+  still_some : (M L : Type 0) (v u : View) → (M → L) → WritesSomeOf (job_of r) M v u → WritesSomeOf (job_of r) L v u
+  still_some M L v u to (a, may, output, errors) = (a, still_may M L a v to may, output, errors)
 
-  ended : (e : Stop) (k : Status) → (V → W) → (e ≡ stop.ReadFault → R) → (e ≡ stop.WriteFault → W) → (v u w : View) → Works (job_of r) (Err e) v u → Reports V e k u w → KeepsRest u w → Ends words R W k v w
-  ended (stop.Refused line) k rose read write v u w (a, answer, bad, tells, gives, goes) (is, (same, told)) rest =
-      answered a (requested r asks answer) (is ∙ sym bad) (same ∙ gives.output) (left_then a v u w gives.leaves rest)
-      (subst (λ (x : List ℕ). Tells W x v w) (sym tells) (tells_on V (string_bytes line) v u w gives.errors rose told))
-  ended stop.ReadFault k rose read write v u w only (is, (same, told)) rest =
-      read_failed (r, asks) (read refl) is (same ∙ only.output) (tells_on V _ v u w only.errors rose told)
-  ended stop.WriteFault k rose read write v u w (some, errors) (is, (same, told)) rest =
-      write_failed (r, asks) (write refl) is (prefix_of v u w same some) (tells_on V _ v u w errors rose told)
-  ended stop.Memory k rose read write v u w (inl e, errors) (is, (same, told)) rest =
-      out_of_memory is (inl (same ∙ e)) (tells_on V _ v u w errors rose told)
-  ended stop.Memory k rose read write v u w (inr (goes, some), errors) (is, (same, told)) rest =
-      out_of_memory is (inr (r, asks, goes, prefix_of v u w same some)) (tells_on V _ v u w errors rose told)
+  module _ (R W L : Type 0) where
+    pub ends_well : (a b : Option View) (k s : Status) → k ≡ s → Told a b (Works W L (job_of r) (Ok s)) → Told a b (Ends words R W L k)
+    ends_well a b k s is = told_as a b (Works W L (job_of r) (Ok s)) (Ends words R W L k)
+        (λ v w h. answered h.0 (may_answer L L h.0 v (λ l. l) h.1) (is ∙ sym h.2) h.3.output h.3.leaves h.4)
 
-  pub ends_stopped : (e : Stop) (k : Status) (a m b : Option View) → (V → W) → (e ≡ stop.ReadFault → R) → (e ≡ stop.WriteFault → W) → Told a m (Works (job_of r) (Err e)) → Told m b (Reports V e k) → Told m b OnlyErrors → Told a b (Ends words R W k)
-  ends_stopped e k a m b rose read write works reports rest =
-      told_then a m b (Works (job_of r) (Err e)) (λ v w. Reports V e k v w × OnlyErrors v w) (Ends words R W k)
-      (λ v u w h p. ended e k rose read write v u w h p.0 (errors_rest u w p.1)) works (told_both m b (Reports V e k) OnlyErrors reports rest)
+    -- V: a write failed until the work's end; T: as its line was told; M: a link failed
+    module _ (V T M : Type 0) (to_write : V → W) (told_write : T → W) (to_link : M → L) where
+      stopped_after : (line : List ℕ) (v u w : View) → WritesSomeOf (job_of r) M v u → TellsLine T line u w → StopsAfter words W L line v w
+      stopped_after line v u w some (same, told) =
+          record { request = r; asked = asks; stopped = u; given = still_some M L v u to_link some; told = (same, tells_on T line u u w refl told_write told) }
 
-pub ends_usage : (words : List (List ℕ)) (R W : Type 0) (a b : Option View) (k : Status) → AsksNothing words → k ≡ status.Usage → Told a b (TellsLine W usage_line) → Told a b OnlyErrors → Told a b (Ends words R W k)
-ends_usage words R W a b k none is told rest =
-    told_as a b (λ v w. TellsLine W usage_line v w × OnlyErrors v w) (Ends words R W k)
-    (λ v w h. answered usage (no_request none refl) is (h.0.0 ∙ sym (append-nil v.written.output)) (rest_left usage v w (refl, refl, refl) (errors_rest v w h.1)) h.0.1) (told_both a b (TellsLine W usage_line) OnlyErrors told rest)
+      ended_by : (s k : Status) (line : List ℕ) (v u w : View) → k ≡ s → EndsBy (job_of r) s line v u → TellsLine T line u w → KeepsRest u w → Ends words R W L k v w
+      ended_by s k line v u w is (a, answer, status, tells, gives, errors, goes) (same, told) rest =
+          answered a (inl (requested r asks answer)) (is ∙ sym status) (same ∙ gives.output) (left_then a v u w gives.leaves rest)
+          (subst (λ (x : List ℕ). Tells W x v w) (sym tells) (tells_on T line v u w errors told_write told))
+
+      ended : (e : Stop) (k : Status) → k ≡ stop_status e → (k ≡ status.ReadFault → R) → (k ≡ status.WriteFault → W) → (k ≡ status.LinkFault → L) → (v u w : View)
+          → Works V M (job_of r) (Err e) v u → TellsLine T (stop_line e) u w → KeepsRest u w → Ends words R W L k v w
+      unfolding stopped_after
+      ended (stop.Refused line) k is read write link v u w h told rest = ended_by status.Refused k (string_bytes line) v u w is h told rest
+      ended (stop.Peer line) k is read write link v u w h told rest = ended_by status.PeerFault k (string_bytes line) v u w is h told rest
+      ended stop.ReadFault k is read write link v u w only (same, told) rest =
+          read_failed (r, asks) (read is) is (same ∙ only.output) (tells_on T read_fault_line v u w only.errors told_write told)
+      ended stop.WriteFault k is read write link v u w some told rest = write_failed (write is) is (stopped_after write_fault_line v u w some told)
+      ended stop.LinkFault k is read write link v u w some told rest = link_failed (link is) is (stopped_after link_fault_line v u w some told)
+      ended stop.Memory k is read write link v u w (inl (output, errors)) (same, told) rest =
+          out_of_memory is (same ∙ output) (tells_on T memory_line v u w errors told_write told)
+      ended stop.Memory k is read write link v u w (inr (goes, some)) told rest = out_of_memory_later is (stopped_after memory_line v u w some told) goes
+
+      pub ends_stopped : (e : Stop) (k : Status) (a m b : Option View) → k ≡ stop_status e → (k ≡ status.ReadFault → R) → (k ≡ status.WriteFault → W) → (k ≡ status.LinkFault → L)
+          → Told a m (Works V M (job_of r) (Err e)) → Told m b (TellsLine T (stop_line e)) → Told m b OnlyErrors → Told a b (Ends words R W L k)
+      ends_stopped e k a m b is read write link works told rest =
+          told_then a m b (Works V M (job_of r) (Err e)) (λ v w. TellsLine T (stop_line e) v w × OnlyErrors v w) (Ends words R W L k)
+          (λ v u w h p. ended e k is read write link v u w h p.0 (errors_rest u w p.1)) works (told_both m b (TellsLine T (stop_line e)) OnlyErrors told rest)
+
+pub ends_usage : (words : List (List ℕ)) (R W L : Type 0) (a b : Option View) (k : Status) → AsksNothing words → k ≡ status.Usage → Told a b (TellsLine W usage_line) → Told a b OnlyErrors → Told a b (Ends words R W L k)
+ends_usage words R W L a b k none is told rest =
+    told_as a b (λ v w. TellsLine W usage_line v w × OnlyErrors v w) (Ends words R W L k)
+    (λ v w h. answered usage (inl (no_request none refl)) is (h.0.0 ∙ sym (append-nil v.written.output)) (rest_left usage v w (refl, refl, refl, refl, refl) (errors_rest v w h.1)) h.0.1)
+    (told_both a b (TellsLine W usage_line) OnlyErrors told rest)
 
 -- memory was refused for the words
-pub ends_memory : (words : List (List ℕ)) (R W : Type 0) (a b : Option View) (k : Status) → Told a b (Reports W stop.Memory k) → Told a b (Ends words R W k)
-ends_memory words R W a b k = told_as a b (Reports W stop.Memory k) (Ends words R W k) (λ v w h. out_of_memory h.0 (inl h.1.0) h.1.1)
+pub ends_memory : (words : List (List ℕ)) (R W L : Type 0) (a b : Option View) (k : Status) → k ≡ status.Memory → Told a b (TellsLine W memory_line) → Told a b (Ends words R W L k)
+ends_memory words R W L a b k is = told_as a b (TellsLine W memory_line) (Ends words R W L k) (λ v w h. out_of_memory is h.0 h.1)
 
 -- ---- what is kept
 
@@ -100,14 +120,14 @@ module _ (words : List (List ℕ)) (r : RequestText) (asks : AsksFor words r) wh
 
 -- ---- where no fault ends a run
 
--- a status of a fault is the stop's
-stop_failed : (e : Stop) (k : Status) → (k ≡ status.ReadFault → e ≡ stop.ReadFault) → (k ≡ status.WriteFault → e ≡ stop.WriteFault) → k ≡ status.ReadFault ⊎ k ≡ status.WriteFault
-    → IsErrOf {T = Unit {0}} (Err e) stop.ReadFault ⊎ IsErrOf {T = Unit {0}} (Err e) stop.WriteFault
-stop_failed e k read write (inl is) = inl (ap Err (read is))
-stop_failed e k read write (inr is) = inr (ap Err (write is))
+pub request_never : (words : List (List ℕ)) (r : RequestText) → AsksFor words r → (a : Option View) (S : Type 0) (k s : Status) → k ≡ s
+    → IfSome a (λ v. S → Fits (job_of r) v → IsFault s → ⊥) → IfSome a (λ v. S → AnswerFits words v → IsFault k → ⊥)
+request_never words r asks None S k s is never = tt
+request_never words r asks (Some v) S k s is never = λ sound fits failed. never sound (fits.0, answer_to words v r fits.0 asks fits.1, fits.2) (subst IsFault is failed)
 
-pub request_never : (words : List (List ℕ)) (r : RequestText) → AsksFor words r → (a : Option View) (S : Type 0) (e : Stop) (k : Status)
-    → IfSome a (λ v. S → Fits (job_of r) v → IsErrOf {T = Unit {0}} (Err e) stop.ReadFault ⊎ IsErrOf {T = Unit {0}} (Err e) stop.WriteFault → ⊥)
-    → (k ≡ status.ReadFault → e ≡ stop.ReadFault) → (k ≡ status.WriteFault → e ≡ stop.WriteFault) → IfSome a (λ v. S → AnswerFits words v → k ≡ status.ReadFault ⊎ k ≡ status.WriteFault → ⊥)
-request_never words r asks None S e k never read write = tt
-request_never words r asks (Some v) S e k never read write = λ sound fits failed. never sound (fits.0, answer_to words v r fits.0 asks fits.1, fits.2) (stop_failed e k read write failed)
+-- ---- links
+
+-- words of a request whose job leaves links
+pub leaves_links : (words : List (List ℕ)) (r : RequestText) → AsksFor words r → (a b c : HostState) (k s : Status) → k ≡ s → c.counts.links ≡ b.counts.links
+    → (((job_of r).linked → ⊥) → (b.counts.links ≡ a.counts.links) × (s ≢ status.LinkFault) × (s ≢ status.PeerFault)) → LeavesLinks words a c k
+leaves_links words r asks a b c k s is kept unlinked none = let h = unlinked (none r asks) in (kept ∙ h.0, (λ e. h.1 (sym is ∙ e)), (λ e. h.2 (sym is ∙ e)))

@@ -1,6 +1,6 @@
 -- What clap found, as a request.
-use Rattle.std.proofs.Common.{◌≡◌, ◌∙◌, ℕ, List, [], ◌∷◌, map, refl, sym, ap, Option, Some, None, option_map, codes}
-use Rattle.clap.specs.Words.{Row, Text, first_of, first_value, found_of, rows_of, subcommand_rows_of, subcommand_name_of}
+use Rattle.std.proofs.Common.{◌≡◌, ◌∙◌, List, sym, ap, Option, Some, None, option_map}
+use Rattle.clap.specs.Words.{Row, Text, first_value, found_of, rows_of, subcommand_rows_of, subcommand_name_of}
 use Rattle.clap.proofs.WalkLemmas.{first_value-rows}
 use Rattle.clap.specs.declared.parser.matches.ArgMatches.{ArgMatches}
 use Rattle.commands.specs.Requests.{RequestText}

@@ -1,8 +1,7 @@
 -- The rows of words: they ask for one request at most, and whether they do is decided.
-use Rattle.std.proofs.Common.{get_or, map, ◌≡◌, ◌≢◌, ℕ, ◌<◌, ◌≤◌, List, [], ◌∷◌, length, refl, sym, ap, ◌∙◌, subst, inl, inr, arith, codes}
+use Rattle.std.proofs.Common.{get_or, ◌≡◌, ℕ, List, [], ◌∷◌, refl, sym, ap, ◌∙◌, subst, inl, inr, codes}
 use Rattle.std.specs.Prelude.{if◌then◌else◌, ◌==◌}
 use Rattle.std.proofs.lemmas.Bool.{cases_eq}
-use Rattle.std.proofs.lemmas.List.{length-map}
 use Rattle.commands.proofs.Decided.{Decided, decided_as, decided_and, decided_not, text_decided}
 use Rattle.commands.specs.Requests.{RequestText, check, decode, encode, replay, IsOperand, AsksFor, AsksNothing}
 use Rattle.commands.specs.Answers.{Asks, nothing, something}

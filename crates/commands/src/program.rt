@@ -1,11 +1,12 @@
 //! The top call.
-ghost use Rattle.std.specs.Prelude.{◌≡◌, ◌⊎◌, IfSome, IsErrOf, IsTrue, map, string_bytes};
+ghost use Rattle.std.specs.Prelude.{◌≡◌, IfSome, IsTrue, map, string_bytes};
 ghost use Rattle.tl_base.specs.Calls.{Told};
 ghost use Rattle.tl_base.specs.Causes.{Rose};
-ghost use Rattle.command_base.specs.Jobs.{Works};
-ghost use Rattle.command_base.specs.Sound.{Fits, MeetsBothFaults};
+ghost use Rattle.command_base.specs.Jobs.{WorksOver};
+ghost use Rattle.command_base.specs.Sound.{IsFault, MeetsFaultsOf};
+ghost use Rattle.command_base.specs.Telling.{status_of};
 ghost use Rattle.commands.specs.Requests.{AskForOne, AsksNothing, job_of, request_text};
-ghost use Rattle.commands.specs.Runs.{AnswerFits, EndsOver, Keeps};
+ghost use Rattle.commands.specs.Runs.{AnswerFits, EndsOver, Keeps, LeavesLinks};
 
 use crate::request::{Request, request_of};
 use codec_commands::{check_schema, decode_input, encode_input};
@@ -22,24 +23,22 @@ const USAGE: &[u8] =
 pub fn run<H: Host>(alloc: Global, words: &[String], host: &mut H) -> Status
     // Status, Output, Errors and what is left are those of the answer; or the status is a fault's whose count rose, or memory's.
     ensures ends { EndsOver (map string_bytes words.now) (H.state host.old) (H.state host.new) result }
-    // What the request's job keeps is kept: files, State, links, addresses and moments, and what is left of Input until the work comes to it. So
-    // is the links' count of faults.
+    // What the request's job keeps is kept: files, State, links, addresses and moments, and what is left of Input until the work comes to it.
     ensures kept { Told (H.state host.old).view (H.state host.new).view (Keeps (map string_bytes words.now)) }
-    ensures links { (H.state host.new).counts.links ≡ (H.state host.old).counts.links }
     // A fault's status comes only of a request, and where its count rose, told or not. Where there is no request nothing is read.
     ensures read { result ≡ Status.ReadFault → AskForOne (map string_bytes words.now) × Rose (H.state host.old).counts.reads (H.state host.new).counts.reads }
     ensures write { result ≡ Status.WriteFault → AskForOne (map string_bytes words.now) × Rose (H.state host.old).counts.writes (H.state host.new).counts.writes }
+    ensures link { result ≡ Status.LinkFault → AskForOne (map string_bytes words.now) × Rose (H.state host.old).counts.links (H.state host.new).counts.links }
     ensures unasked { AsksNothing (map string_bytes words.now) → (H.state host.new).counts.reads ≡ (H.state host.old).counts.reads }
-    // Over a sound host with the files that the words take and room enough, no fault's status comes.
-    ensures sound { IfSome (H.state host.old).view (λ v. IsTrue (H.state host.old).sound → AnswerFits (map string_bytes words.now) v → (result ≡ Status.ReadFault) ⊎ (result ≡ Status.WriteFault) → ⊥) }
-    // No command takes a link yet, so these never come.
-    ensures never { result ≡ Status.LinkFault → ⊥ }
-    ensures never_peer { result ≡ Status.PeerFault → ⊥ }
+    // Where no link is used no fault of links is met.
+    ensures unlinked { LeavesLinks (map string_bytes words.now) (H.state host.old) (H.state host.new) result }
+    // Over a sound host with the files that the words take, the links to come and room enough, no fault's status comes.
+    ensures sound { IfSome (H.state host.old).view (λ v. IsTrue (H.state host.old).sound → AnswerFits (map string_bytes words.now) v → IsFault result → ⊥) }
 {
     match request_of(alloc, words) {
         Ok(None) => tell(host, Status::Usage, USAGE),
         Ok(Some(request)) => match answer(alloc, host, request) {
-            Ok(()) => Status::Done,
+            Ok(status) => status,
             Err(stop) => report(host, &stop),
         },
         Err(_) => report(host, &Stop::Memory),
@@ -47,10 +46,10 @@ pub fn run<H: Host>(alloc: Global, words: &[String], host: &mut H) -> Status
 }
 
 // Makes the work of a request.
-fn answer<H: Host>(alloc: Global, host: &mut H, request: Request) -> Result<(), Stop>
-    ensures works { Told (H.state host.old).view (H.state host.new).view (Works (job_of (request_text request.entry)) result) }
+fn answer<H: Host>(alloc: Global, host: &mut H, request: Request) -> Result<Status, Stop>
+    ensures works { WorksOver (job_of (request_text request.entry)) (H.state host.old) (H.state host.new) result }
     ensures kept { Told (H.state host.old).view (H.state host.new).view (job_of (request_text request.entry)).keeps }
-    ensures faults { MeetsBothFaults (H.state host.old) (H.state host.new) (IsErrOf result Stop.ReadFault) (IsErrOf result Stop.WriteFault) (Fits (job_of (request_text request.entry))) }
+    ensures faults { MeetsFaultsOf (job_of (request_text request.entry)) (H.state host.old) (H.state host.new) (status_of result) }
 {
     match request {
         Request::Check { schema } => check_schema(alloc, host, schema),

@@ -1,5 +1,5 @@
 -- A journal's replay, written to Output.
-use Rattle.std.proofs.Common.{◌≡◌, ℕ, ◌+◌, ◌<◌, ◌≤◌, List, [], ◌∷◌, ◌++◌, append-nil, zero, suc, length, get_or, Option, Some, None, Result, Ok, Err, Bool, refl, sym, ap, ◌∙◌, subst, arith, inl, inr}
+use Rattle.std.proofs.Common.{◌≡◌, ◌≢◌, ℕ, ◌+◌, ◌<◌, ◌≤◌, List, [], ◌∷◌, ◌++◌, append-nil, zero, suc, length, get_or, Option, Some, None, Result, Ok, Err, Bool, refl, sym, ap, ◌∙◌, subst, arith, inl, inr}
 use Rattle.std.specs.Prelude.{IfSome, IsSome, IsTrue, IsErrOf, IsErrAnd}
 use Rattle.std.proofs.lemmas.Bool.{cases_lt}
 use Rattle.tl_base.specs.Contents.{AreBytes, HoldBytes}
@@ -25,10 +25,13 @@ use Rattle.command_base.specs.declared.stop.Stop.TheVariants as stop
 use Rattle.command_base.specs.Answer.{Answer, refused, refused_after}
 use Rattle.command_base.specs.Jobs.{GivesOutput, WritesSomeOf, Works}
 use Rattle.command_base.specs.Kept.{KeepsRest, LeavesInput, OnlyReads}
-use Rattle.command_base.specs.Sound.{MeetsBothFaults, Answered, Fits}
+use Rattle.command_base.specs.Sound.{MeetsFaultsOf, Answered, Fits}
+use Rattle.command_base.specs.Telling.{stop_status}
+use Rattle.command_base.specs.declared.status.Status.{Status}
+use Rattle.command_base.specs.declared.status.Status.TheVariants as status
 use Rattle.command_base.proofs.SameFiles.{same_file, file_bytes}
 use Rattle.command_base.proofs.Rests.{rest_then, output_rest, output_leaves, unread_rest, rest_left}
-use Rattle.command_base.proofs.Faults.{NeverFails, safe, stays_sound, written_faults}
+use Rattle.command_base.proofs.Faults.{NeverFails, safe, stays_sound, written_faults, read_faults}
 use Rattle.command_base.proofs.Views.{told_as, told_both, told_then}
 use Rattle.update_commands.specs.declared.fault.LoadFault.{LoadFault}
 use Rattle.update_commands.specs.declared.fault.LoadFault.TheVariants as load
@@ -139,34 +142,41 @@ module _ (s j read : List ℕ) (v : View) (files : HoldBytes v.files) (from : Re
   answer_is output w r settled h = (PROFILE_TEXT.now, from.0, profile_text (read ++ from.1) refl from.2 (settled_answer (read ++ from.1) w output r settled (whole output w r h)))
 
   -- what stopped has written a prefix of the answer
-  writes_some : (w : View) (output : List ℕ) → Stopped read output → w.written.output ≡ v.written.output ++ output → WritesSomeOf (replay_job s j) v w
-  writes_some w output stopped put =
+  writes_some : (L : Type 0) (w : View) (output : List ℕ) → Stopped read output → w.written.output ≡ v.written.output ++ output → w.written.errors ≡ v.written.errors → WritesSomeOf (replay_job s j) L v w
+  writes_some L w output stopped put same =
       let all = each_replayed read read_bytes in
       let front = stopped_first read output all.1 all.0 all.2 stopped all.3 all.4 in
-      (answer_of all.1 all.2, answer_is all.1 all.0 all.2 all.3 all.4, (output, front.0, front.1 ∙ sym (answer_output all.1 all.2), put))
+      (answer_of all.1 all.2, inl (answer_is all.1 all.0 all.2 all.3 all.4), (output, front.0, front.1 ∙ sym (answer_output all.1 all.2), put), inl same)
 
-  module _ (w : View) (output : List ℕ) (world : World) (put : w.written.output ≡ v.written.output ++ output) (same : w.written.errors ≡ v.written.errors) (rest : KeepsRest v w) where
+  module _ (W L : Type 0) (w : View) (output : List ℕ) (world : World) (put : w.written.output ≡ v.written.output ++ output) (same : w.written.errors ≡ v.written.errors) (rest : KeepsRest v w) where
     pub gives_output : (line : List ℕ) → GivesOutput (refused_after output line) v w
-    gives_output line = record { output = put; errors = same; leaves = rest_left (refused_after output line) v w (refl, refl, refl) rest }
+    gives_output line = record { output = put; leaves = rest_left (refused_after output line) v w (refl, refl, refl, refl, refl) rest }
 
-    pub report_done : (n : ℕ) → Replayed read world output (Ok n) → Works (replay_job s j) (Ok tt) v w
-    report_done n h =
-        (answer_of output (Ok n), answer_is output world (Ok n) tt h, refl, refl, record { output = put; errors = same; leaves = rest_left (answer_of output (Ok n)) v w (refl, refl, refl) rest })
+    pub report_done : (k : Status) (n : ℕ) → k ≡ status.Done → Replayed read world output (Ok n) → Works W L (replay_job s j) (Ok k) v w
+    report_done k n is h = (
+      answer_of output (Ok n),
+      inl (answer_is output world (Ok n) tt h),
+      sym is,
+      record { output = put; leaves = rest_left (answer_of output (Ok n)) v w (refl, refl, refl, refl, refl) rest },
+      inl (same ∙ sym (append-nil v.written.errors)),
+    )
 
     -- a refusal of the journal is told, or there was no memory for its line
-    report_refused : (line : List ℕ) (e : Stop) → ReplayAnswer v.files s j (refused_after output line) → Refuses line e → Works (replay_job s j) (Err e) v w
-    report_refused line (stop.Refused told) answer is = (refused_after output line, answer, refl, sym is, gives_output line, inr tt)
+    report_refused : (line : List ℕ) (e : Stop) → ReplayAnswer v.files s j (refused_after output line) → Refuses line e → Works W L (replay_job s j) (Err e) v w
+    report_refused line (stop.Refused told) answer is = (refused_after output line, answer, refl, sym is, gives_output line, same, inr tt)
     report_refused line stop.ReadFault answer is = absurd is
     report_refused line stop.WriteFault answer is = absurd is
-    report_refused line stop.Memory answer is = (inr (tt, (refused_after output line, answer, (output, [], append-nil output, put))), same)
+    report_refused line stop.LinkFault answer is = absurd is
+    report_refused line (stop.Peer told) answer is = absurd is
+    report_refused line stop.Memory answer is = inr (tt, (refused_after output line, inl answer, (output, [], append-nil output, put), inl same))
 
-    pub report_stopped : (f : ReplayFault) (e : Stop) → Replayed read world output (Err f) → (f ≡ fault.ReadFault → ⊥) → TellsReplay f e → Works (replay_job s j) (Err e) v w
+    pub report_stopped : (f : ReplayFault) (e : Stop) → Replayed read world output (Err f) → (f ≡ fault.ReadFault → ⊥) → TellsReplay f e → Works W L (replay_job s j) (Err e) v w
     report_stopped (fault.NotYetBuilt at) e h read_never tells = report_refused _ e (answer_is output world (Err (fault.NotYetBuilt at)) tt h) tells
     report_stopped (fault.NoPacket at k) e h read_never tells = report_refused _ e (answer_is output world (Err (fault.NoPacket at k)) tt h) tells
     report_stopped (fault.TooLong at) e h read_never tells = report_refused _ e (answer_is output world (Err (fault.TooLong at)) tt h) tells
     report_stopped fault.ReadFault e h read_never tells = absurd (read_never refl)
-    report_stopped fault.WriteFault e h read_never tells = subst (λ (y : Stop). Works (replay_job s j) (Err y) v w) (sym tells) (writes_some w output h put, same)
-    report_stopped fault.Memory e h read_never tells = subst (λ (y : Stop). Works (replay_job s j) (Err y) v w) (sym tells) (inr (tt, writes_some w output h put), same)
+    report_stopped fault.WriteFault e h read_never tells = subst (λ (y : Stop). Works W L (replay_job s j) (Err y) v w) (sym tells) (writes_some L w output h put same)
+    report_stopped fault.Memory e h read_never tells = subst (λ (y : Stop). Works W L (replay_job s j) (Err y) v w) (sym tells) (inr (tt, writes_some L w output h put same))
 
   -- where the answer's Output has room, what is read is replayed with room
   fits_there : (u : View) → OnlyReads v u → Fits (replay_job s j) v → JournalFits read u
@@ -176,32 +186,32 @@ module _ (s j read : List ℕ) (v : View) (files : HoldBytes v.files) (from : Re
       let one : OfJournal (read ++ from.1) a = subst (λ (b : List ℕ). OfJournal b a) (same_file v.files j bytes (read ++ from.1) holds from.2) tells in
       let same : a ≡ answer_of all.1 all.2 = one_journal (read ++ from.1) a (answer_of all.1 all.2) one (settled_answer (read ++ from.1) all.0 all.1 all.2 all.3 (whole all.1 all.0 all.2 all.4)) in
       let long : length a.output ≡ length all.1 = ap (λ (x : Answer). length x.output) same ∙ ap length (answer_output all.1 all.2) in
-      (all.0, all.1, all.2, all.3, all.4, omega (arith, room, long, ap (λ (o : List ℕ). length o) only.output, ap (λ (x : View). x.room) only.rest))
+      (all.0, all.1, all.2, all.3, all.4, omega (arith, room.output, long, ap (λ (o : List ℕ). length o) only.output, ap (λ (x : View). x.room) only.rest))
 
 -- ---- the job
 
 -- how the replay ended is how the job does
-abbrev pub EndsAs : Result (Unit {0}) ReplayFault → Result (Unit {0}) Stop → Type 0
-EndsAs (Ok x) (Ok u) = Unit {0}
+abbrev pub EndsAs : Result (Unit {0}) ReplayFault → Result Status Stop → Type 0
+EndsAs (Ok x) (Ok k) = k ≡ status.Done
 EndsAs (Ok x) (Err e) = ⊥
 EndsAs (Err f) (Ok u) = ⊥
 EndsAs (Err f) (Err e) = TellsReplay f e
 
-module _ (s j read : List ℕ) where
-  reports : (r : Result ℕ ReplayFault) (result : Result (Unit {0}) Stop) (v w : View) (files : HoldBytes v.files) (from : ReadsJournal s j read v) (output : List ℕ) (world : World) → w.written.output ≡ v.written.output ++ output
-      → w.written.errors ≡ v.written.errors → KeepsRest v w → Replayed read world output r → (IsErrOf (ended r) fault.ReadFault → ⊥) → EndsAs (ended r) result → Works (replay_job s j) result v w
-  reports (Ok n) (Ok u) v w files from output world put same rest h never how = report_done s j read v files from w output world put same rest n h
+module _ (W L : Type 0) (s j read : List ℕ) where
+  reports : (r : Result ℕ ReplayFault) (result : Result Status Stop) (v w : View) (files : HoldBytes v.files) (from : ReadsJournal s j read v) (output : List ℕ) (world : World) → w.written.output ≡ v.written.output ++ output
+      → w.written.errors ≡ v.written.errors → KeepsRest v w → Replayed read world output r → (IsErrOf (ended r) fault.ReadFault → ⊥) → EndsAs (ended r) result → Works W L (replay_job s j) result v w
+  reports (Ok n) (Ok k) v w files from output world put same rest h never how = report_done s j read v files from W L w output world put same rest k n how h
   reports (Ok n) (Err e) v w files from output world put same rest h never how = absurd how
   reports (Err f) (Ok u) v w files from output world put same rest h never how = absurd how
-  reports (Err f) (Err e) v w files from output world put same rest h never how = report_stopped s j read v files from w output world put same rest f e h (λ is. never (ap Err is)) how
+  reports (Err f) (Err e) v w files from output world put same rest h never how = report_stopped s j read v files from W L w output world put same rest f e h (λ is. never (ap Err is)) how
 
-  told_there : (x : Result (Unit {0}) ReplayFault) (result : Result (Unit {0}) Stop) (v u w : View) → HoldBytes v.files → (IsErrOf x fault.ReadFault → ⊥) → EndsAs x result → LoadsJournal s j (Ok read) v u → WritesReplay read x u w → Works (replay_job s j) result v w
+  told_there : (x : Result (Unit {0}) ReplayFault) (result : Result Status Stop) (v u w : View) → HoldBytes v.files → (IsErrOf x fault.ReadFault → ⊥) → EndsAs x result → LoadsJournal s j (Ok read) v u → WritesReplay read x u w → Works W L (replay_job s j) result v w
   told_there x result v u w files never how (from, only) (output, world, r, h, ends, put) =
       reports r result v w files from output world (ap (λ (z : View). z.written.output) put ∙ ap (λ (o : List ℕ). o ++ output) only.output) (ap (λ (z : View). z.written.errors) put ∙ only.errors)
       (rest_then v u w only.rest (output_rest _ u w put)) h (subst (λ (z : Result (Unit {0}) ReplayFault). IsErrOf z fault.ReadFault → ⊥) ends never) (subst (λ (z : Result (Unit {0}) ReplayFault). EndsAs z result) ends how)
 
-  pub replay_told : (x : Result (Unit {0}) ReplayFault) (result : Result (Unit {0}) Stop) (a m b : Option View) → IfSome a ShowsBytes → (IsErrOf x fault.ReadFault → ⊥) → EndsAs x result → Told a m (LoadsJournal s j (Ok read)) → Told m b (WritesReplay read x)
-      → Told a b (Works (replay_job s j) result)
+  pub replay_told : (x : Result (Unit {0}) ReplayFault) (result : Result Status Stop) (a m b : Option View) → IfSome a ShowsBytes → (IsErrOf x fault.ReadFault → ⊥) → EndsAs x result → Told a m (LoadsJournal s j (Ok read)) → Told m b (WritesReplay read x)
+      → Told a b (Works W L (replay_job s j) result)
   replay_told x result None None None files never how loaded writes = tt
   replay_told x result None None (Some w) files never how loaded writes = writes
   replay_told x result None (Some u) b files never how loaded writes = absurd loaded
@@ -211,26 +221,30 @@ module _ (s j read : List ℕ) where
 
 -- ---- a journal that is not loaded
 
-no_profile_told : (s j : List ℕ) (e : Stop) (v w : View) → Refuses profile_line e → ReplayAnswer v.files s j (refused profile_line) → OnlyReads v w → Works (replay_job s j) (Err e) v w
-no_profile_told s j (stop.Refused line) v w is answer only = (
-  refused profile_line,
-  answer,
-  refl,
-  sym is,
-  record { output = only.output ∙ sym (append-nil v.written.output); errors = only.errors; leaves = rest_left (refused profile_line) v w (refl, refl, refl) only.rest },
-  inl only.output,
-)
-no_profile_told s j stop.ReadFault v w is answer only = absurd is
-no_profile_told s j stop.WriteFault v w is answer only = absurd is
-no_profile_told s j stop.Memory v w is answer only = (inl only.output, only.errors)
+module _ (W L : Type 0) where
+  no_profile_told : (s j : List ℕ) (e : Stop) (v w : View) → Refuses profile_line e → ReplayAnswer v.files s j (refused profile_line) → OnlyReads v w → Works W L (replay_job s j) (Err e) v w
+  no_profile_told s j (stop.Refused line) v w is answer only = (
+    refused profile_line,
+    answer,
+    refl,
+    sym is,
+    record { output = only.output ∙ sym (append-nil v.written.output); leaves = rest_left (refused profile_line) v w (refl, refl, refl, refl, refl) only.rest },
+    only.errors,
+    inl only.output,
+  )
+  no_profile_told s j stop.ReadFault v w is answer only = absurd is
+  no_profile_told s j stop.WriteFault v w is answer only = absurd is
+  no_profile_told s j stop.LinkFault v w is answer only = absurd is
+  no_profile_told s j (stop.Peer told) v w is answer only = absurd is
+  no_profile_told s j stop.Memory v w is answer only = inl (only.output, only.errors)
 
-not_loaded : (s j : List ℕ) (f : LoadFault) (e : Stop) (v w : View) → TellsLoad f e → LoadsJournal s j (Err f) v w → Works (replay_job s j) (Err e) v w
-not_loaded s j load.Profile e v w tells ((text, has, other), only) = no_profile_told s j e v w tells (text, has, other_text other refl) only
-not_loaded s j load.ReadFault e v w tells only = subst (λ (y : Stop). Works (replay_job s j) (Err y) v w) (sym tells) only
-not_loaded s j load.Memory e v w tells only = subst (λ (y : Stop). Works (replay_job s j) (Err y) v w) (sym tells) (inl only.output, only.errors)
+  not_loaded : (s j : List ℕ) (f : LoadFault) (e : Stop) (v w : View) → TellsLoad f e → LoadsJournal s j (Err f) v w → Works W L (replay_job s j) (Err e) v w
+  not_loaded s j load.Profile e v w tells ((text, has, other), only) = no_profile_told s j e v w tells (text, has, other_text other refl) only
+  not_loaded s j load.ReadFault e v w tells only = subst (λ (y : Stop). Works W L (replay_job s j) (Err y) v w) (sym tells) only
+  not_loaded s j load.Memory e v w tells only = subst (λ (y : Stop). Works W L (replay_job s j) (Err y) v w) (sym tells) (inl (only.output, only.errors))
 
-pub not_loaded_told : (s j : List ℕ) (f : LoadFault) (e : Stop) (a b : Option View) → TellsLoad f e → Told a b (LoadsJournal s j (Err f)) → Told a b (Works (replay_job s j) (Err e))
-not_loaded_told s j f e a b tells = told_as a b (LoadsJournal s j (Err f)) (Works (replay_job s j) (Err e)) (λ v w. not_loaded s j f e v w tells)
+  pub not_loaded_told : (s j : List ℕ) (f : LoadFault) (e : Stop) (a b : Option View) → TellsLoad f e → Told a b (LoadsJournal s j (Err f)) → Told a b (Works W L (replay_job s j) (Err e))
+  not_loaded_told s j f e a b tells = told_as a b (LoadsJournal s j (Err f)) (Works W L (replay_job s j) (Err e)) (λ v w. not_loaded s j f e v w tells)
 
 loaded_rest : (s j : List ℕ) (r : Result (List ℕ) LoadFault) (v w : View) → LoadsJournal s j r v w → KeepsRest v w
 loaded_rest s j (Ok read) v w h = h.1.rest
@@ -264,15 +278,66 @@ replay_sound : (s j read : List ℕ) (a m : Option View) (before now after : Boo
 replay_sound s j read a m before now after W files loaded stays writes =
     record { stays = stays_sound a m before now after (LoadsJournal s j (Ok read)) loaded stays writes.stays; never = never_there s j read a m before now after W files loaded stays writes }
 
--- the stop's failure is the replay's
-of_stop : (e x : Stop) (P : Type 0) → (e ≡ x → P) → IsErrOf {T = Unit {0}} (Err e) x → P
-of_stop e x P to is = to (ap (λ (z : Result (Unit {0}) Stop). elim z as (λ _. Stop) [ Ok u ↦ x | Err y ↦ y ]) is)
+-- a replay that ends with this status: only its writing failed
+pub replayed_faults : (s j read : List ℕ) (x : Result (Unit {0}) ReplayFault) (k : Status) (a b c : HostState) → IfSome a.view ShowsBytes → Told a.view b.view (LoadsJournal s j (Ok read))
+    → MeetsFaults Reads a b (IsErrOf {T = List ℕ} (Ok read) load.ReadFault) (Answered (replay_job s j)) → MeetsFaults Writes b c (IsErrOf x fault.WriteFault) (JournalFits read)
+    → (k ≡ status.WriteFault → IsErrOf x fault.WriteFault) → k ≢ status.ReadFault → k ≢ status.LinkFault → k ≢ status.PeerFault → MeetsFaultsOf (replay_job s j) a c k
+replayed_faults s j read x k a b c files loaded reads writes to none no_link no_peer =
+    written_faults (replay_job s j) a b c k (IsErrOf {T = List ℕ} (Ok read) load.ReadFault) (IsErrOf x fault.WriteFault) (Answered (replay_job s j)) (JournalFits read)
+    reads writes to none no_link no_peer (replay_sound s j read a.view b.view a.sound b.sound c.sound _ files loaded reads.stays (safe writes))
+
+-- ---- the status of a stop
+
+-- a refusal's status is no fault's
+refuses_no : (line : List ℕ) (e : Stop) (k : Status) → status.Refused ≢ k → status.Memory ≢ k → Refuses line e → stop_status e ≢ k
+refuses_no line (stop.Refused told) k refused memory is = refused
+refuses_no line stop.ReadFault k refused memory is = absurd is
+refuses_no line stop.WriteFault k refused memory is = absurd is
+refuses_no line stop.LinkFault k refused memory is = absurd is
+refuses_no line (stop.Peer told) k refused memory is = absurd is
+refuses_no line stop.Memory k refused memory is = memory
+
+same_no : (e x : Stop) (k : Status) → e ≡ x → stop_status x ≢ k → stop_status e ≢ k
+same_no e x k is other same = other (sym (ap stop_status is) ∙ same)
+
+load_no : (f : LoadFault) (e : Stop) (k : Status) → status.Refused ≢ k → status.Memory ≢ k → status.ReadFault ≢ k → TellsLoad f e → stop_status e ≢ k
+load_no load.Profile e k refused memory read tells = refuses_no _ e k refused memory tells
+load_no load.ReadFault e k refused memory read tells = same_no e stop.ReadFault k tells read
+load_no load.Memory e k refused memory read tells = same_no e stop.Memory k tells memory
+
+replay_no : (f : ReplayFault) (e : Stop) (k : Status) → status.Refused ≢ k → status.Memory ≢ k → (f ≡ fault.ReadFault → status.ReadFault ≢ k) → (f ≡ fault.WriteFault → status.WriteFault ≢ k) → TellsReplay f e → stop_status e ≢ k
+replay_no (fault.NotYetBuilt at) e k refused memory read write tells = refuses_no _ e k refused memory tells
+replay_no (fault.NoPacket at n) e k refused memory read write tells = refuses_no _ e k refused memory tells
+replay_no (fault.TooLong at) e k refused memory read write tells = refuses_no _ e k refused memory tells
+replay_no fault.ReadFault e k refused memory read write tells = same_no e stop.ReadFault k tells (read refl)
+replay_no fault.WriteFault e k refused memory read write tells = same_no e stop.WriteFault k tells (write refl)
+replay_no fault.Memory e k refused memory read write tells = same_no e stop.Memory k tells memory
+
+load_read : (f : LoadFault) (e : Stop) → TellsLoad f e → stop_status e ≡ status.ReadFault → f ≡ load.ReadFault
+load_read load.Profile e tells is = absurd (refuses_no _ e status.ReadFault (λ x. absurd cc) (λ x. absurd cc) tells is)
+load_read load.ReadFault e tells is = refl
+load_read load.Memory e tells is = absurd (same_no e stop.Memory status.ReadFault tells (λ x. absurd cc) is)
+
+replay_write : (f : ReplayFault) (e : Stop) → TellsReplay f e → stop_status e ≡ status.WriteFault → f ≡ fault.WriteFault
+replay_write (fault.NotYetBuilt at) e tells is = absurd (refuses_no _ e status.WriteFault (λ x. absurd cc) (λ x. absurd cc) tells is)
+replay_write (fault.NoPacket at n) e tells is = absurd (refuses_no _ e status.WriteFault (λ x. absurd cc) (λ x. absurd cc) tells is)
+replay_write (fault.TooLong at) e tells is = absurd (refuses_no _ e status.WriteFault (λ x. absurd cc) (λ x. absurd cc) tells is)
+replay_write fault.ReadFault e tells is = absurd (same_no e stop.ReadFault status.WriteFault tells (λ x. absurd cc) is)
+replay_write fault.WriteFault e tells is = refl
+replay_write fault.Memory e tells is = absurd (same_no e stop.Memory status.WriteFault tells (λ x. absurd cc) is)
+
+-- a journal that isn't loaded ends the work by a fault of reading, or by none
+pub unloaded_faults : (s j : List ℕ) (f : LoadFault) (e : Stop) (a b : HostState) → TellsLoad f e → MeetsFaults Reads a b (IsErrOf {T = List ℕ} (Err f) load.ReadFault) (Answered (replay_job s j)) → MeetsFaultsOf (replay_job s j) a b (stop_status e)
+unloaded_faults s j f e a b tells reads =
+    read_faults (replay_job s j) a b (stop_status e) (IsErrOf {T = List ℕ} (Err f) load.ReadFault) reads (λ is. ap Err (load_read f e tells is))
+    (load_no f e status.WriteFault (λ x. absurd cc) (λ x. absurd cc) (λ x. absurd cc) tells) (load_no f e status.LinkFault (λ x. absurd cc) (λ x. absurd cc) (λ x. absurd cc) tells)
+    (load_no f e status.PeerFault (λ x. absurd cc) (λ x. absurd cc) (λ x. absurd cc) tells)
 
 pub stopped_faults : (s j read : List ℕ) (f : ReplayFault) (e : Stop) (a b c : HostState) → IfSome a.view ShowsBytes → Told a.view b.view (LoadsJournal s j (Ok read))
     → MeetsFaults Reads a b (IsErrOf {T = List ℕ} (Ok read) load.ReadFault) (Answered (replay_job s j)) → MeetsFaults Writes b c (IsErrOf {T = Unit {0}} (Err f) fault.WriteFault) (JournalFits read)
-    → (IsErrOf {T = Unit {0}} (Err f) fault.ReadFault → ⊥) → (e ≡ stop.ReadFault → f ≡ fault.ReadFault) → (e ≡ stop.WriteFault → f ≡ fault.WriteFault)
-    → MeetsBothFaults a c (IsErrOf {T = Unit {0}} (Err e) stop.ReadFault) (IsErrOf {T = Unit {0}} (Err e) stop.WriteFault) (Fits (replay_job s j))
-stopped_faults s j read f e a b c files loaded reads writes never read_is write_is =
-    written_faults a b c (IsErrOf {T = Unit {0}} (Err e) stop.ReadFault) (IsErrOf {T = Unit {0}} (Err e) stop.WriteFault) (IsErrOf {T = List ℕ} (Ok read) load.ReadFault) (IsErrOf {T = Unit {0}} (Err f) fault.WriteFault) (Answered (replay_job s j)) (Fits (replay_job s j)) (JournalFits read)
-    reads writes (λ failed. of_stop e stop.WriteFault _ (λ is. ap Err (write_is is)) failed) (λ failed. of_stop e stop.ReadFault _ (λ is. never (ap Err (read_is is))) failed)
-    (replay_sound s j read a.view b.view a.sound b.sound c.sound _ files loaded reads.stays (safe writes))
+    → (IsErrOf {T = Unit {0}} (Err f) fault.ReadFault → ⊥) → TellsReplay f e → MeetsFaultsOf (replay_job s j) a c (stop_status e)
+stopped_faults s j read f e a b c files loaded reads writes never tells =
+    replayed_faults s j read (Err f) (stop_status e) a b c files loaded reads writes (λ is. ap Err (replay_write f e tells is))
+    (replay_no f e status.ReadFault (λ x. absurd cc) (λ x. absurd cc) (λ is. absurd (never (ap Err is))) (λ is x. absurd cc) tells)
+    (replay_no f e status.LinkFault (λ x. absurd cc) (λ x. absurd cc) (λ is x. absurd cc) (λ is x. absurd cc) tells)
+    (replay_no f e status.PeerFault (λ x. absurd cc) (λ x. absurd cc) (λ is x. absurd cc) (λ is x. absurd cc) tells)

@@ -28,6 +28,8 @@ abbrev pub Refuses : List ℕ → Stop → Type 0
 Refuses line (stop.Refused told) = string_bytes told ≡ line
 Refuses line stop.ReadFault = ⊥
 Refuses line stop.WriteFault = ⊥
+Refuses line stop.LinkFault = ⊥
+Refuses line (stop.Peer told) = ⊥
 Refuses line stop.Memory = Unit {0}
 
 -- the stop of a journal that is not loaded

@@ -38,8 +38,6 @@ impl From<TextFault> for LoadFault {
 /// The stop of a job whose journal is not loaded.
 pub fn load_stop(alloc: Global, fault: LoadFault) -> Stop
     ensures tells { TellsLoad fault result }
-    ensures read { result ≡ Stop.ReadFault → fault ≡ LoadFault.ReadFault }
-    ensures write { result ≡ Stop.WriteFault → ⊥ }
 {
     match fault {
         LoadFault::Profile => {
@@ -54,8 +52,6 @@ pub fn load_stop(alloc: Global, fault: LoadFault) -> Stop
 /// The stop of a job whose replay stopped before its journal's end.
 pub fn replay_stop(alloc: Global, fault: ReplayFault) -> Stop
     ensures tells { TellsReplay fault result }
-    ensures read { result ≡ Stop.ReadFault → fault ≡ ReplayFault.ReadFault }
-    ensures write { result ≡ Stop.WriteFault → fault ≡ ReplayFault.WriteFault }
 {
     match fault {
         ReplayFault::NotYetBuilt { at } => journal_stop(alloc, at, "NotYetBuilt"),

@@ -4,15 +4,16 @@ ghost use Rattle.tl_base.specs.Calls.{Told};
 ghost use Rattle.tl_base.specs.Outside.{HasFile};
 ghost use Rattle.tl_base.specs.Using.{MeetsFaults};
 ghost use Rattle.tl_base.specs.declared.counts.Kind.TheVariants as kinds;
-ghost use Rattle.command_base.specs.Jobs.{Works};
+ghost use Rattle.command_base.specs.Jobs.{WorksOver};
 ghost use Rattle.command_base.specs.Kept.{KeepsRest, LeavesInput};
-ghost use Rattle.command_base.specs.Sound.{Answered, Fits, MeetsBothFaults};
+ghost use Rattle.command_base.specs.Sound.{Answered, MeetsFaultsOf};
+ghost use Rattle.command_base.specs.Telling.{status_of};
 ghost use Rattle.update_commands.specs.Replay.{replay_job};
 ghost use Rattle.update_commands.specs.Replaying.{JournalFits, LoadsJournal, WritesReplay};
 ghost use Rattle.update_replay.specs.declared.profile.TheConstants.{PROFILE_TEXT};
 
 use crate::fault::{LoadFault, load_stop, replay_stop};
-use command_base::Stop;
+use command_base::{Status, Stop};
 use std::alloc::Global;
 use tl_base::{Bytes, Host, MemSource, Out, SinkOf, Slot, read_file};
 use update_replay::{PROFILE_TEXT, ReplayFault, World, replay_steps};
@@ -60,17 +61,17 @@ pub fn replay_journal<H: Host>(
     host: &mut H,
     schema: &str,
     journal: &str,
-) -> Result<(), Stop>
-    ensures works { Told (H.state host.old).view (H.state host.new).view (Works (replay_job schema.now journal.now) result) }
+) -> Result<Status, Stop>
+    ensures works { WorksOver (replay_job schema.now journal.now) (H.state host.old) (H.state host.new) result }
     ensures kept { Told (H.state host.old).view (H.state host.new).view (replay_job schema.now journal.now).keeps }
-    ensures faults { MeetsBothFaults (H.state host.old) (H.state host.new) (IsErrOf result Stop.ReadFault) (IsErrOf result Stop.WriteFault) (Fits (replay_job schema.now journal.now)) }
+    ensures faults { MeetsFaultsOf (replay_job schema.now journal.now) (H.state host.old) (H.state host.new) (status_of result) }
 {
     let bytes = match load_journal(alloc, host, schema, journal) {
         Ok(bytes) => bytes,
         Err(fault) => return Err(load_stop(alloc, fault)),
     };
     match write_replay(alloc, host, bytes) {
-        Ok(()) => Ok(()),
+        Ok(()) => Ok(Status::Done),
         Err(fault) => Err(replay_stop(alloc, fault)),
     }
 }

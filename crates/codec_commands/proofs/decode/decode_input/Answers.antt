@@ -1,4 +1,5 @@
 use Rattle.command_base.specs.Jobs.{making}
+use Rattle.command_base.specs.Telling.{status_of}
 use Rattle.command_base.proofs.Made.{made_works, made_unread, made_faults}
 use Rattle.codec_commands.specs.Decode.{decode_job}
 use Rattle.codec_commands.proofs.OneDecode.{one_decode}
@@ -7,7 +8,7 @@ use Rattle.codec_commands.proofs.decode.decode_input.Goals as goal
 
 pub returns-clause-works : goal.returns-clause-works
 returns-clause-works g c =
-    made_works (decode_job c.args.schema.now c.args.of.now c.args.input.now) (making c.made_line-made.result) c.write_made.result _ _ _ c.made_line-made.ensures.makes c.write_made.ensures.writes
+    made_works (decode_job c.args.schema.now c.args.of.now c.args.input.now) _ _ (making c.made_line-made.result) c.write_made.result _ _ _ c.made_line-made.ensures.makes c.write_made.ensures.writes
 
 pub returns-clause-kept : goal.returns-clause-kept
 returns-clause-kept g c =
@@ -16,5 +17,5 @@ returns-clause-kept g c =
 
 pub returns-clause-faults : goal.returns-clause-faults
 returns-clause-faults g c =
-    made_faults (decode_job c.args.schema.now c.args.of.now c.args.input.now) (λ v. one_decode v.files c.args.schema.now c.args.of.now c.args.input.now) c.made_line-made.result c.write_made.result _ _ _ c.made_line-made.ensures.makes
-    c.made_line-made.ensures.faults c.write_made.ensures.faults c.write_made.ensures.read
+    made_faults (decode_job c.args.schema.now c.args.of.now c.args.input.now) (λ v. one_decode v.files c.args.schema.now c.args.of.now c.args.input.now) c.made_line-made.result (status_of c.write_made.result) _ _ _ c.made_line-made.ensures.makes
+    c.made_line-made.ensures.faults c.write_made.ensures.faults c.write_made.ensures.read c.write_made.ensures.link c.write_made.ensures.peer

@@ -1,4 +1,4 @@
-use Rattle.std.proofs.Common.{rules, codes}
+use Rattle.std.proofs.Common.{codes}
 use Rattle.commands.proofs.Found.{found_as}
 use Rattle.commands.proofs.request.request_in.Goals as goal
 

@@ -1,4 +1,4 @@
-use Rattle.std.proofs.Common.{◌≡◌, ◌∙◌, rules, map, string_bytes}
+use Rattle.std.proofs.Common.{◌∙◌, rules, map, string_bytes}
 use Rattle.clap.specs.Words.{app_of, subcommand_rows_of}
 use Rattle.commands.proofs.WordsRead.{none_asked, refused_asked, found_asked, operands_from}
 use Rattle.commands.proofs.request.request_of.Goals as goal

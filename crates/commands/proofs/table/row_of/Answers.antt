@@ -1,4 +1,4 @@
-use Rattle.std.proofs.Common.{◌≡◌, ◌∙◌, rules, refl}
+use Rattle.std.proofs.Common.{rules}
 use Rattle.clap.specs.Words.{app_of, rule_of}
 use Rattle.commands.proofs.RowsTold.{one_more}
 use Rattle.commands.proofs.table.row_of.Goals as goal
