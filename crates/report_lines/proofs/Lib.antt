@@ -1,0 +1,4 @@
+mod Puts
+mod Lookups
+mod Digits
+mod Lanes

@@ -1,0 +1,15 @@
+use Rattle.std.proofs.Common.{◌≡◌, pos, get_or, to_z, of_z, w64, refl, rules}
+use Rattle.channel_box.specs.States.{states}
+use Rattle.report_lines.specs.Closing.{own_channels}
+use Rattle.report_lines.specs.Watched.{lines_of}
+use Rattle.report_lines.proofs.Lookups.{put_next, put_all}
+use Rattle.report_lines.proofs.closing.put_channels.Goals as goal
+
+pub loop-id-preserved : goal.loop-id-preserved
+loop-id-preserved c =
+    let ids = c.ids-id-items.result.now in
+    let same : to_z w64 (of_z w64 (get_or ids c.loop-id.id-index (pos 0))) ≡ get_or ids c.loop-id.id-index (pos 0) = (search rules) in
+    put_next (own_channels c.args.number) (lines_of c.args.number) (λ d ds. refl) (states c.args.channels.now) ids c.loop-id.id-index (pos 0) _ _ _ _ c.ids-id-items.ensures.value c.ids-id-items.ensures.distinct c.loop-id-test.true same c.loop-id.invariant c.in_ok-put_channel.ensures
+
+pub returns : goal.returns
+returns c = put_all (own_channels c.args.number) refl (states c.args.channels.now) c.ids-id-items.result.now c.loop-id.id-index _ _ c.ids-id-items.ensures.value c.loop-id-test.false c.loop-id.invariant

@@ -1,0 +1,11 @@
+//! As what a client heard a packet.
+
+/// As what a client heard a packet.
+#[derive(Clone, Copy, Debug, PartialEq, Eq)]
+pub enum HeardAs {
+    Push,
+    /// A reply that it waited for.
+    Reply,
+    /// A reply for which it doesn't wait, or no longer.
+    Stale,
+}
