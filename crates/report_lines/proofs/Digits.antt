@@ -1,5 +1,5 @@
 -- Bytes as hexadecimal digits, one after the other.
-use Rattle.std.proofs.Common.{◌≡◌, ℕ, ◌+◌, ◌<◌, ◌≤◌, ◌/◌, ◌%◌, ℤ, pos, List, [], ◌∷◌, ◌++◌, length, drop, get_or, slice_index, append_assoc, append-nil, refl, sym, ap, ◌∙◌}
+use Rattle.std.proofs.Common.{◌≡◌, ℕ, ◌+◌, ◌<◌, ◌≤◌, ◌/◌, ◌%◌, ℤ, List, [], ◌∷◌, ◌++◌, length, drop, get_or, slice_index, append_assoc, append-nil, refl, sym, ap, ◌∙◌}
 use Rattle.std.proofs.lemmas.List.{drop_all, drop_more}
 use Rattle.hex.specs.Hex.{encode_lower, encode_with, lower_digits}
 use Rattle.hex.proofs.Pairs.{encode_with-drop}

@@ -1,5 +1,5 @@
 -- Lanes end within a box's limit.
-use Rattle.std.proofs.Common.{◌≡◌, ◌+◌, arith}
+use Rattle.std.proofs.Common.{arith}
 use Rattle.box_events.specs.Events.{EventView, count_of}
 use Rattle.pts_machine.specs.States.{LaneState, IsSound}
 use Rattle.channel_box.proofs.Brought.{ending_sums}

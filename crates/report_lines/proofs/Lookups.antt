@@ -1,5 +1,5 @@
 -- Channels in order, each looked up by its id.
-use Rattle.std.proofs.Common.{◌≡◌, ℕ, zero, suc, ◌+◌, ◌<◌, ◌≤◌, ℤ, List, [], ◌∷◌, ◌++◌, length, take, drop, get_or, Option, Some, None, append-nil, refl, sym, ap, ◌∙◌, subst, arith}
+use Rattle.std.proofs.Common.{◌≡◌, ℕ, zero, suc, ◌+◌, ◌<◌, ◌≤◌, ℤ, List, [], ◌∷◌, ◌++◌, length, take, drop, get_or, Option, Some, append-nil, refl, sym, ap, ◌∙◌, subst, arith}
 use native.Mathlib.Numerals.{add-one}
 use Rattle.channel_box.specs.States.{ChannelState, ids_of, AreDistinct, has_id, first}
 use Rattle.box_client.proofs.Savings.{here}

@@ -1,6 +1,6 @@
 -- The lines of a replay's report, but for the closing ones: numbers are decimal, bytes are hexadecimal, and each line ends with a line feed.
 -- The texts are this project's own.
-use Rattle.std.specs.Prelude.{ℕ, ℤ, List, [], ◌∷◌, ◌++◌, map, codes, decimal, Option, Some, None}
+use Rattle.std.specs.Prelude.{ℕ, ℤ, List, [], ◌∷◌, ◌++◌, codes, decimal, Option, Some, None}
 use Rattle.std.specs.Fmt.{signed_decimal}
 use Rattle.hex.specs.Hex.{encode_lower}
 use Rattle.box_events.specs.declared.positions.State.{State}

@@ -1,4 +1,4 @@
-use Rattle.std.proofs.Common.{◌≡◌, ℕ, ℤ, List, map, pos, get_or, to_z, of_z, w64, refl, rules}
+use Rattle.std.proofs.Common.{◌≡◌, ℕ, List, map, pos, get_or, to_z, of_z, w64, refl, rules}
 use Rattle.channel_box.specs.States.{ChannelState, states}
 use Rattle.box_client.specs.Numbers.{channel_numbers}
 use Rattle.report_lines.specs.Texts.{channel_positions}

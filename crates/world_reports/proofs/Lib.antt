@@ -1,0 +1,5 @@
+mod Stretching
+mod Telling
+mod OwnLines
+mod NextNumbers
+mod Drawing

@@ -1,0 +1,22 @@
+//! Laws of reports, each carried by a function that does nothing.
+ghost use Rattle.world_reports.specs.Laws.{NewPacketsAreAdded, StepsAreOfRuns, ClientsAreTold, ClosingsAreOwn, DrawsAreSmall, FirstDraw, MadeStepsAreRefusedByBytes};
+
+/// The lines of a step tell all packets that it sends, and after every list of steps they are of the numbers of the world after it.
+pub fn steps_are_told()
+    ensures added { NewPacketsAreAdded }
+    ensures run { StepsAreOfRuns }
+{}
+
+/// After every list of steps, what each client has is what lies in the server's boxes between its numbers, and its settings are the server's
+/// latest at its seq; so the closing lines, which are of numbers and of the server, are those of the clients themselves.
+pub fn clients_are_told()
+    ensures told { ClientsAreTold }
+    ensures lines { ClosingsAreOwn }
+{}
+
+/// What is drawn has 31 bits, and a step that is made of draws is possible, but where the pool has no place for what it sends.
+pub fn made_steps_are_possible()
+    ensures small { DrawsAreSmall }
+    ensures first { FirstDraw }
+    ensures refused { MadeStepsAreRefusedByBytes }
+{}
