@@ -1,8 +1,9 @@
 -- What is saved is loaded as the client after a restart.
-use Rattle.std.proofs.Common.{◌≡◌, ℕ, ◌+◌, ◌<◌, ◌≤◌, ℤ, List, [], ◌∷◌, ◌++◌, length, map, Bool, true, false, ◌&&◌, ◌||◌, leb, cond, Option, Some, None, int_eq, refl, sym, ap, ◌∙◌, subst, arith}
-use Rattle.std.specs.List.{sum_by}
+use Rattle.std.proofs.Common.{◌≡◌, ℕ, suc, ◌+◌, ◌<◌, ◌≤◌, ℤ, List, [], ◌∷◌, ◌++◌, length, map, Bool, true, false, ◌&&◌, ◌||◌, leb, cond, Option, Some, None, int_eq, refl, sym, ap, ◌∙◌, subst, arith}
+use Rattle.std.specs.List.{All, sum_by}
 use Rattle.std.specs.FinMap as map_of
 use Rattle.std.proofs.lemmas.Bool.Decides.{nat_tests, Decides-eqb}
+use Rattle.std.proofs.lemmas.List.Elements.{All-head, All-tail}
 use Rattle.box_events.specs.Events.{EventView, count_of}
 use Rattle.box_events.specs.declared.limits.TheConstants.{MAX_CHANNELS, MAX_END}
 use Rattle.box_events.specs.declared.positions.LaneName.{LaneName}
@@ -23,6 +24,8 @@ use Rattle.box_client.specs.Asking.{restarted}
 use Rattle.box_client.specs.Saving.{lane_saved, channel_saved, saved_of, is_even, load_cause, uneven_channel, is_surplus, surplus_after, channel_loaded, client_loaded}
 use Rattle.box_client.specs.Ranges.{AreChannelsInRange}
 use Rattle.box_client.specs.Loads.{IsRight, IsLoadedAs, IsRestartOf}
+use Rattle.box_client.specs.Savable.{EndsAtEvents}
+use Rattle.box_client.specs.Laws.{SavedAreLoaded}
 use Rattle.box_client.proofs.Orders.{saved_in_order, saved_again}
 use Rattle.box_client.proofs.Loadings.{next_in_range, no_cause, lanes_of}
 
@@ -152,3 +155,30 @@ found_of c f one low new = record { cause = no_cause (saved_of c) (right c one l
 
 pub restarts : (c : ClientState) (s : Saved) → Found c s → 1 ≤ c.next → are_messages c.secret.events ≡ true → c.next ≤ 2000000000 → IsRestartOf c s
 restarts c s f one new low = subst (IsRestartOf c) (sym f.is) (found_of c (subst (Found c) f.is f) one low new)
+
+-- of a client that can be saved
+
+even_lane : (t : LaneState EventView) → EndsAtEvents t → is_even (lane_saved t) ≡ true
+even_lane t ends = (Decides-eqb t.at (t.restart + sum_by count_of t.events)).1 ends
+
+even_channels : (cs : List ChannelState) → All (λ d. EndsAtEvents d.lane) cs → uneven_channel (map channel_saved cs) ≡ None
+even_channels [] all = refl
+even_channels (c ∷ cs) all =
+    let P : ChannelState → Type 0 = λ d. EndsAtEvents d.lane in
+    over_even (is_even (lane_saved c.lane)) (uneven_channel (map channel_saved cs)) c.id (even_lane c.lane (All-head P c cs all)) (even_channels cs (All-tail P c cs all))
+
+length_ids : (cs : List ChannelState) → length (ids_of cs) ≡ length cs
+length_ids [] = refl
+length_ids (c ∷ cs) = ap suc (length_ids cs)
+
+pub saved_are_loaded : SavedAreLoaded
+saved_are_loaded c h low =
+    let few = h.few in
+    let long = length_ids c.channels in
+    found_of c (record {
+      is = refl;
+      common = even_lane c.common h.common;
+      secret = even_lane c.secret h.secret;
+      even = even_channels c.channels h.lanes;
+      ids = ids_fit c.channels (ids_of c.channels) (map channel_saved c.channels) refl h.distinct (omega (arith, few, long)) refl;
+    }) h.next low h.messages

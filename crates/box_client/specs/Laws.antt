@@ -1,10 +1,14 @@
 -- Laws of clients. This project's own.
-use Rattle.std.specs.Prelude.{◌≡◌, ℕ, ◌+◌, ℤ, List, [], ◌∷◌, length}
+use Rattle.std.specs.Prelude.{◌≡◌, ℕ, ◌+◌, ◌≤◌, ℤ, List, [], ◌∷◌, length}
 use Rattle.box_events.specs.declared.requests.Numbered.{Numbered}
 use Rattle.box_events.specs.declared.updates.Push.{Push}
 use Rattle.box_events.specs.declared.replies.Reply.{Reply}
 use Rattle.channel_box.specs.Steps.{watched, may_watch}
+use Rattle.box_client.specs.declared.loading.TheConstants.{MAX_NEXT}
 use Rattle.box_client.specs.States.{ClientState, new_client}
+use Rattle.box_client.specs.Saving.{saved_of}
+use Rattle.box_client.specs.Loads.{IsRestartOf}
+use Rattle.box_client.specs.Savable.{IsSavable}
 use Rattle.box_client.specs.Pushes.{pushed}
 use Rattle.box_client.specs.Replies.{Outcome, ignored, refuses, becomes, replied}
 use Rattle.box_client.specs.Asking.{ticks, wakes, restarted}
@@ -45,3 +49,7 @@ pub record AreGivenOnce : Type 0 where
   pub reply : (c : ClientState) (n : ℕ) (reply : Reply) → next_after c (replied c n reply) ≡ c.next
   pub wake : (c : ClientState) → (wakes c).next ≡ c.next
   pub restart : (c : ClientState) → (restarted c).next ≡ c.next
+
+-- what a client saves is loaded as the client after a restart
+abbrev pub SavedAreLoaded : Type 0
+SavedAreLoaded = (c : ClientState) → IsSavable c → c.next ≤ MAX_NEXT → IsRestartOf c (saved_of c)

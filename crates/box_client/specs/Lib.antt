@@ -8,6 +8,7 @@ pub mod Numbers
 pub mod Laws
 pub mod Saving
 pub mod Loads
+pub mod Savable
 pub mod Calls
 pub mod Faults
 pub mod Rooms

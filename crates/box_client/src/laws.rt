@@ -1,5 +1,5 @@
 //! Laws of the definitions, carried by functions that do nothing.
-ghost use Rattle.box_client.specs.Laws.{FollowFromNumbers, AreGivenOnce};
+ghost use Rattle.box_client.specs.Laws.{FollowFromNumbers, AreGivenOnce, SavedAreLoaded};
 
 /// A client's numbers after a step follow from its numbers alone: its events, values and recent messages say nothing of them.
 pub fn numbers_alone()
@@ -9,4 +9,9 @@ pub fn numbers_alone()
 /// No request number is given twice, restarts included.
 pub fn numbers_are_given_once()
     ensures { AreGivenOnce }
+{}
+
+/// What is saved of a client is loaded as the client after a restart.
+pub fn what_is_saved_is_loaded()
+    ensures { SavedAreLoaded }
 {}

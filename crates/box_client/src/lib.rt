@@ -14,4 +14,4 @@ mod saving;
 
 pub use client::Client;
 pub use fault::{ClientFault, LoadFault, Told};
-pub use laws::{numbers_alone, numbers_are_given_once};
+pub use laws::{numbers_alone, numbers_are_given_once, what_is_saved_is_loaded};

@@ -4,15 +4,17 @@ use Rattle.std.proofs.lemmas.List.Elements.{All-nil}
 use Rattle.std.specs.Ordering.{int_cmp, nat_cmp}
 use Rattle.std.specs.Cmp.Lexicographic.{slice_cmp}
 use Rattle.std.specs.FinMap as map
+use Rattle.std.specs.List.{All}
 use Rattle.std.specs.List.Sorted.{IsStrictlySortedBy}
 use Rattle.std.specs.Map.{keys_of}
 use Rattle.box_events.specs.declared.positions.Receipt.{Receipt}
 use Rattle.box_events.specs.Events.{EventView, is_new}
 use Rattle.box_events.specs.BoxViews.{BoxView}
+use Rattle.box_events.specs.Views.{HasCount}
 use Rattle.box_events.specs.SettingLists.{Dated}
 use Rattle.box_server.specs.declared.server.Server.TheInside.{Inside}
-use Rattle.box_server.specs.Servers.{Receipts, new_server}
-use Rattle.box_server.specs.Sound.{IsSound, IsSoundChannel}
+use Rattle.box_server.specs.Servers.{ChannelBox, Receipts, new_server}
+use Rattle.box_server.specs.Sound.{IsSound, IsSoundChannel, IsSmall}
 use Rattle.box_server.specs.inner.Insides.{channel_view, server_view, IsServer}
 
 pub sound_new : IsSound new_server
@@ -28,6 +30,8 @@ sound_new = record {
   keys = omega (arith, map.len-empty (slice_cmp nat_cmp) Dated);
   dates = All-nil (λ (e : Dated). e.date ≤ 0);
   rise = λ i j d a b lt. absurd (omega (arith, lt));
+  events = record { common = All-nil HasCount; secret = All-nil HasCount; channels = All-nil (λ (c : ChannelBox). All HasCount c.events) };
+  sizes = All-nil IsSmall;
 }
 
 abbrev no_receipts : Receipts

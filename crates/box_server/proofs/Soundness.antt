@@ -1,30 +1,31 @@
 -- Servers stay sound.
 use Rattle.std.proofs.Common.{◌≡◌, ℕ, ℤ, ◌+◌, ◌-◌, ◌^◌, ◌<◌, ◌≤◌, List, [], ◌∷◌, ◌++◌, Bool, true, false, ◌||◌, Option, Some, None, eqb, ltb, if◌then◌else◌, length, take, drop, map as each, max, refl, sym, ap, ◌∙◌, subst, arith}
-use Rattle.std.specs.List.{All, list_any}
+use Rattle.std.specs.List.{All, list_any, sum_by}
 use Rattle.std.specs.Ordering.{int_eq}
 use Rattle.std.specs.FinMap as map
 use Rattle.std.proofs.lemmas.Bool.Decides.{nat_tests}
 use Rattle.std.proofs.lemmas.Cmp.{int_eq_equiv}
 use Rattle.std.proofs.lemmas.List.{length-append, length-map, length-drop, take-append-drop}
-use Rattle.std.proofs.lemmas.List.Elements.{All-nil, All-cons, All-head, All-tail, All-push, All-weaker}
-use Rattle.box_events.specs.declared.limits.TheConstants.{MAX_END, MAX_CHANNELS, MAX_KEYS}
+use Rattle.std.proofs.lemmas.List.Elements.{All-nil, All-cons, All-head, All-tail, All-push, All-drop, All-weaker}
+use Rattle.box_events.specs.declared.limits.TheConstants.{MAX_END, MAX_IDS, MAX_CHANNELS, MAX_KEYS, MAX_KEY_BYTES, MAX_VALUE_BYTES, MAX_POSTS, MAX_POST_BYTES}
 use Rattle.box_events.specs.declared.requests.Post.{Post}
 use Rattle.box_events.specs.declared.positions.Receipt.{Receipt}
 use Rattle.box_events.specs.Events.{EventView, added, is_new, count_of}
 use Rattle.box_events.specs.Boxes.{ending, AreCounted}
 use Rattle.box_events.specs.SettingLists.{Dated, NeverFallFrom, or_else}
+use Rattle.box_events.specs.Views.{HasCount}
 use Rattle.box_events.proofs.Boundaries.{ending-append, counted-append}
 use Rattle.box_events.proofs.Stretches.{counted_right}
 use Rattle.box_events.proofs.SettingDates.{rise_pushed}
 use Rattle.box_server.specs.declared.fault.PostFault.{PostFault}
 use Rattle.box_server.specs.declared.fault.PostFault.TheVariants.{BoxFull}
 use Rattle.box_server.specs.Servers.{ChannelBox, ServerState, Receipts, channel_in, channel_end, lane_end, dated_at}
-use Rattle.box_server.specs.Entries.{Entry, to_common, to_secret, to_channel, to_settings, entries_of, lane_of, raise_of, is_event}
+use Rattle.box_server.specs.Entries.{Entry, to_common, to_secret, to_channel, to_settings, entries_of, lane_of, raise_of, size_of, is_event, is_setting}
 use Rattle.box_server.specs.LastEntries.{keys_in}
 use Rattle.box_server.specs.Posting.{with_event, applied, applied_all, cut, excess, posted}
 use Rattle.box_server.specs.Refusing.{first_cause, bad_entries, too_many, box_full, post_cause}
 use Rattle.box_server.specs.Receiving.{state_by, after_post}
-use Rattle.box_server.specs.Sound.{IsSoundBox, IsSoundChannel, AreDistinct, IsSound}
+use Rattle.box_server.specs.Sound.{IsSoundBox, IsSoundChannel, AreDistinct, HasEvents, IsSmall, IsSound}
 
 -- ---- boxes
 
@@ -66,6 +67,23 @@ with_by c cs id e false t s a some le more = All-cons IsOpenChannel c (with_even
 all_with : (cs : List ChannelBox) (id : ℤ) (e : EventView) → All IsOpenChannel cs → 1 ≤ count_of e → channel_end (channel_in cs id) + count_of e ≤ MAX_END → All IsOpenChannel (with_event cs id e)
 all_with [] id e a some le = All-cons IsOpenChannel (record { id = id; first = 0; events = e ∷ [] }) [] (record { counted = (some, tt); limit = omega (arith, le) }) (All-nil IsOpenChannel)
 all_with (c ∷ cs) id e a some le = with_by c cs id e (int_eq c.id id) refl (All-head IsOpenChannel c cs a) (All-tail IsOpenChannel c cs a) some le (all_with cs id e (All-tail IsOpenChannel c cs a) some)
+
+-- ---- counts of a channel's events
+
+abbrev HasCounts : ChannelBox → Type 0
+HasCounts c = All HasCount c.events
+
+counts_by : (c : ChannelBox) (cs : List ChannelBox) (id : ℤ) (e : EventView) (t : Bool) → All HasCounts (c ∷ cs) → HasCount e → All HasCounts (with_event cs id e) → All HasCounts (if t then record c { events = c.events ++ e ∷ [] } ∷ cs else c ∷ with_event cs id e)
+counts_by c cs id e true a h more = All-cons HasCounts (record c { events = c.events ++ e ∷ [] }) cs (All-push HasCount c.events e (All-head HasCounts c cs a) h) (All-tail HasCounts c cs a)
+counts_by c cs id e false a h more = All-cons HasCounts c (with_event cs id e) (All-head HasCounts c cs a) more
+
+counts_with : (cs : List ChannelBox) (id : ℤ) (e : EventView) → All HasCounts cs → HasCount e → All HasCounts (with_event cs id e)
+counts_with [] id e a h = All-cons HasCounts (record { id = id; first = 0; events = e ∷ [] }) [] (All-cons HasCount e [] h (All-nil HasCount)) a
+counts_with (c ∷ cs) id e a h = counts_by c cs id e (int_eq c.id id) a h (counts_with cs id e (All-tail HasCounts c cs a) h)
+
+counts_cut : (cs : List ChannelBox) → All HasCounts cs → All HasCounts (each cut cs)
+counts_cut [] a = a
+counts_cut (c ∷ cs) a = All-cons HasCounts (cut c) (each cut cs) (All-drop HasCount (excess c) c.events (All-head HasCounts c cs a)) (counts_cut cs (All-tail HasCounts c cs a))
 
 -- ---- distinct ids
 
@@ -113,6 +131,8 @@ pub record IsOpen (s : ServerState) : Type 0 where
   pub seq : length s.settings ≤ MAX_END
   pub dates : All (λ e. e.date ≤ s.date) s.settings
   pub rise : NeverFallFrom 0 s.settings
+  pub events : HasEvents s
+  pub sizes : All IsSmall s.settings
 
 open_server : (s : ServerState) → IsSound s → IsOpen s
 open_server s h = record {
@@ -125,28 +145,75 @@ open_server s h = record {
   seq = h.seq;
   dates = h.dates;
   rise = h.rise;
+  events = h.events;
+  sizes = h.sizes;
 }
 
--- an event counts
-abbrev Counts : Entry → Type 0
-Counts x = is_event (λ e. eqb (count_of e) 0) x ≡ false
+any_none : (a b : Bool) → (a || b) ≡ false → (a ≡ false) × (b ≡ false)
+any_none true b e = absurd cc
+any_none false b e = (refl, e)
 
 some_count : (n : ℕ) → eqb n 0 ≡ false → 1 ≤ n
 some_count n e = grind (arith, nat_tests)
 
-open_applied : (s : ServerState) (x : Entry) → IsOpen s → Counts x → lane_end s (lane_of x) + raise_of x ≤ MAX_END → IsOpen (applied s x)
-open_applied s (to_common e) h c le = record {
-  date = h.date;
-  common = box_with s.common e h.common (some_count (count_of e) c) le;
-  secret = h.secret;
-  messages = h.messages;
-  channels = h.channels;
-  distinct = h.distinct;
-  seq = h.seq;
-  dates = h.dates;
-  rise = h.rise;
-}
-open_applied s (to_secret body) h c le = record {
+pub within : (a b : ℕ) → ltb a b ≡ false → b ≤ a
+within a b e = grind (arith, nat_tests)
+
+-- what is refused of an entry by itself
+abbrev is_none : Entry → Bool
+is_none = is_event (λ e. eqb (count_of e) 0)
+
+abbrev is_more : Entry → Bool
+is_more = is_event (λ e. ltb MAX_IDS (count_of e))
+
+abbrev has_long_key : Entry → Bool
+has_long_key = is_setting (λ x. ltb MAX_KEY_BYTES (length x.key))
+
+abbrev has_long_value : Entry → Bool
+has_long_value = is_setting (λ x. ltb MAX_VALUE_BYTES (length x.value))
+
+-- it isn't refused
+pub record IsFit (x : Entry) : Type 0 where
+  pub some : is_none x ≡ false
+  pub few : is_more x ≡ false
+  pub key : has_long_key x ≡ false
+  pub value : has_long_value x ≡ false
+
+-- none of them is
+pub record AreFit (xs : List Entry) : Type 0 where
+  pub some : list_any is_none xs ≡ false
+  pub few : list_any is_more xs ≡ false
+  pub key : list_any has_long_key xs ≡ false
+  pub value : list_any has_long_value xs ≡ false
+
+pub fit_first : (x : Entry) (xs : List Entry) → AreFit (x ∷ xs) → IsFit x × AreFit xs
+fit_first x xs f =
+    let some = any_none (is_none x) (list_any is_none xs) f.some in
+    let few = any_none (is_more x) (list_any is_more xs) f.few in
+    let key = any_none (has_long_key x) (list_any has_long_key xs) f.key in
+    let val = any_none (has_long_value x) (list_any has_long_value xs) f.value in
+    (record { some = some.0; few = few.0; key = key.0; value = val.0 }, record { some = some.1; few = few.1; key = key.1; value = val.1 })
+
+pub has_count : (e : EventView) → eqb (count_of e) 0 ≡ false → ltb MAX_IDS (count_of e) ≡ false → HasCount e
+has_count e some few = (some_count (count_of e) some, within MAX_IDS (count_of e) few)
+
+open_applied : (s : ServerState) (x : Entry) → IsOpen s → IsFit x → lane_end s (lane_of x) + raise_of x ≤ MAX_END → IsOpen (applied s x)
+open_applied s (to_common e) h fit le =
+    let count = has_count e fit.some fit.few in
+    record {
+      date = h.date;
+      common = box_with s.common e h.common count.0 le;
+      secret = h.secret;
+      messages = h.messages;
+      channels = h.channels;
+      distinct = h.distinct;
+      seq = h.seq;
+      dates = h.dates;
+      rise = h.rise;
+      events = record { common = All-push HasCount s.common e h.events.common count; secret = h.events.secret; channels = h.events.channels };
+      sizes = h.sizes;
+    }
+open_applied s (to_secret body) h fit le = record {
   date = h.date;
   common = h.common;
   secret = box_with s.secret (added body) h.secret (omega arith) le;
@@ -156,19 +223,25 @@ open_applied s (to_secret body) h c le = record {
   seq = h.seq;
   dates = h.dates;
   rise = h.rise;
+  events = record { common = h.events.common; secret = All-push HasCount s.secret (added body) h.events.secret (omega arith, omega arith); channels = h.events.channels };
+  sizes = h.sizes;
 }
-open_applied s (to_channel id e) h c le = record {
-  date = h.date;
-  common = h.common;
-  secret = h.secret;
-  messages = h.messages;
-  channels = all_with s.channels id e h.channels (some_count (count_of e) c) le;
-  distinct = distinct_with s.channels id e h.distinct;
-  seq = h.seq;
-  dates = h.dates;
-  rise = h.rise;
-}
-open_applied s (to_settings x) h c le =
+open_applied s (to_channel id e) h fit le =
+    let count = has_count e fit.some fit.few in
+    record {
+      date = h.date;
+      common = h.common;
+      secret = h.secret;
+      messages = h.messages;
+      channels = all_with s.channels id e h.channels count.0 le;
+      distinct = distinct_with s.channels id e h.distinct;
+      seq = h.seq;
+      dates = h.dates;
+      rise = h.rise;
+      events = record { common = h.events.common; secret = h.events.secret; channels = counts_with s.channels id e h.events.channels count };
+      sizes = h.sizes;
+    }
+open_applied s (to_settings x) h fit le =
     let new : Dated = record { setting = x; date = s.date } in
     record {
       date = h.date;
@@ -180,9 +253,11 @@ open_applied s (to_settings x) h c le =
       seq = omega (arith, le, length-append s.settings (new ∷ []));
       dates = All-push (λ (e : Dated). e.date ≤ s.date) s.settings new h.dates (omega arith);
       rise = rise_pushed s.settings new 0 h.rise h.dates;
+      events = record { common = h.events.common; secret = h.events.secret; channels = h.events.channels };
+      sizes = All-push IsSmall s.settings new h.sizes (within MAX_KEY_BYTES (length x.key) fit.key, within MAX_VALUE_BYTES (length x.value) fit.value);
     }
 
-none_if : {A : Type 0} (b : Bool) (x : A) (o : Option A) → (if b then Some x else o) ≡ None → (b ≡ false) × (o ≡ None)
+pub none_if : {A : Type 0} (b : Bool) (x : A) (o : Option A) → (if b then Some x else o) ≡ None → (b ≡ false) × (o ≡ None)
 none_if true x o e = absurd cc
 none_if false x o e = (refl, e)
 
@@ -190,23 +265,18 @@ none_else : {A : Type 0} (o p : Option A) → or_else o p ≡ None → (o ≡ No
 none_else None p e = (refl, e)
 none_else (Some x) p e = absurd cc
 
-any_none : (a b : Bool) → (a || b) ≡ false → (a ≡ false) × (b ≡ false)
-any_none true b e = absurd cc
-any_none false b e = (refl, e)
-
-within : (a b : ℕ) → ltb a b ≡ false → b ≤ a
-within a b e = grind (arith, nat_tests)
-
-open_all : (s : ServerState) (xs : List Entry) → IsOpen s → list_any (is_event (λ e. eqb (count_of e) 0)) xs ≡ false → box_full s xs ≡ None → IsOpen (applied_all s xs)
-open_all s [] h c full = h
-open_all s (x ∷ xs) h c full =
-    let some = any_none (is_event (λ e. eqb (count_of e) 0) x) (list_any (is_event (λ e. eqb (count_of e) 0)) xs) c in
+open_all : (s : ServerState) (xs : List Entry) → IsOpen s → AreFit xs → box_full s xs ≡ None → IsOpen (applied_all s xs)
+open_all s [] h fit full = h
+open_all s (x ∷ xs) h fit full =
+    let both = fit_first x xs fit in
     let none = none_if (ltb MAX_END (lane_end s (lane_of x) + raise_of x)) (BoxFull (lane_of x) (lane_end s (lane_of x))) (box_full (applied s x) xs) full in
-    open_all (applied s x) xs (open_applied s x h some.0 (within MAX_END (lane_end s (lane_of x) + raise_of x) none.0)) some.1 none.1
+    open_all (applied s x) xs (open_applied s x h both.0 (within MAX_END (lane_end s (lane_of x) + raise_of x) none.0)) both.1 none.1
 
 -- what no cause says of entries
 pub record IsTaken (s : ServerState) (xs : List Entry) : Type 0 where
-  pub counted : list_any (is_event (λ e. eqb (count_of e) 0)) xs ≡ false
+  pub few : length xs ≤ MAX_POSTS
+  pub bytes : sum_by size_of xs ≤ MAX_POST_BYTES
+  pub fit : AreFit xs
   pub channels : length (applied_all s xs).channels ≤ MAX_CHANNELS
   pub keys : keys_in (applied_all s xs).settings ≤ MAX_KEYS
   pub full : box_full s xs ≡ None
@@ -229,7 +299,7 @@ taken s posts none =
     let inner = none_else (first_cause (too_many t)) (box_full s xs) outer.1 in
     let bad = no_cause (bad_entries xs) outer.0 in
     let many = no_cause (too_many t) inner.0 in
-    record { counted = bad.1.1.0; channels = within MAX_CHANNELS (length t.channels) many.0; keys = within MAX_KEYS (keys_in t.settings) many.1.0; full = inner.1 }
+    record { few = within MAX_POSTS (length xs) bad.1.0; bytes = within MAX_POST_BYTES (sum_by size_of xs) bad.1.1.1.1.1.1.1.0; fit = record { some = bad.1.1.0; few = bad.1.1.1.0; key = bad.1.1.1.1.1.0; value = bad.1.1.1.1.1.1.0 }; channels = within MAX_CHANNELS (length t.channels) many.0; keys = within MAX_KEYS (keys_in t.settings) many.1.0; full = inner.1 }
 
 close_server : (s : ServerState) (receipts : Receipts) → IsOpen s → length s.channels ≤ MAX_CHANNELS → keys_in s.settings ≤ MAX_KEYS → IsSound (record s { channels = each cut s.channels; receipts = receipts })
 close_server s receipts h few keys = record {
@@ -244,6 +314,8 @@ close_server s receipts h few keys = record {
   keys = keys;
   dates = h.dates;
   rise = h.rise;
+  events = record { common = h.events.common; secret = h.events.secret; channels = counts_cut s.channels h.events.channels };
+  sizes = h.sizes;
 }
 
 pub posted_sound : (s : ServerState) (random_id : ℤ) (posts : List Post) → IsSound s → post_cause s posts ≡ None → IsSound (posted s random_id posts)
@@ -251,7 +323,7 @@ unfolding posted
 posted_sound s random_id posts h none =
     let t : ServerState = applied_all s (entries_of posts) in
     let k = taken s posts none in
-    close_server t (posted s random_id posts).receipts (open_all s (entries_of posts) (open_server s h) k.counted k.full) k.channels k.keys
+    close_server t (posted s random_id posts).receipts (open_all s (entries_of posts) (open_server s h) k.fit k.full) k.channels k.keys
 
 sound_by : (s : ServerState) (random_id : ℤ) (posts : List Post) (r : Option Receipt) (c : Option PostFault) → IsSound s → post_cause s posts ≡ c → IsSound (state_by s random_id posts r c)
 sound_by s random_id posts (Some r) c h is = h
@@ -276,4 +348,6 @@ dated_sound s date h lt =
       keys = h.keys;
       dates = All-weaker (λ (e : Dated). e.date ≤ s.date) (λ (e : Dated). e.date ≤ max s.date date) (λ e le. omega (arith, le)) s.settings h.dates;
       rise = h.rise;
+      events = record { common = h.events.common; secret = h.events.secret; channels = h.events.channels };
+      sizes = h.sizes;
     }

@@ -3,6 +3,7 @@ pub mod Entries
 pub mod LastEntries
 pub mod Posting
 pub mod Refusing
+pub mod FaultNames
 pub mod Receiving
 pub mod Runs
 pub mod Answers

@@ -1,4 +1,7 @@
 //! Why a server refuses a post.
+ghost use Rattle.std.specs.Prelude.{◌≡◌};
+ghost use Rattle.box_server.specs.FaultNames.{name_of};
+
 use box_events::LaneName;
 use std::alloc::{AllocError, AllocFailed};
 use thiserror::Error;
@@ -39,6 +42,28 @@ pub enum PostFault {
     BoxFull { lane: LaneName, at: u32 },
     #[error("out of memory")]
     Memory,
+}
+
+impl PostFault {
+    /// The cause in one word.
+    pub fn name(self) -> &'static str
+        ensures { result.now ≡ name_of self }
+    {
+        match self {
+            PostFault::NoPosts => "NoPosts",
+            PostFault::TooManyPosts => "TooManyPosts",
+            PostFault::NoIds => "NoIds",
+            PostFault::TooManyIds => "TooManyIds",
+            PostFault::BodyTooLong => "BodyTooLong",
+            PostFault::KeyTooLong => "KeyTooLong",
+            PostFault::ValueTooLong => "ValueTooLong",
+            PostFault::PostTooLarge => "PostTooLarge",
+            PostFault::TooManyChannels => "TooManyChannels",
+            PostFault::TooManySettings => "TooManySettings",
+            PostFault::BoxFull { .. } => "BoxFull",
+            PostFault::Memory => "Memory",
+        }
+    }
 }
 
 impl From<AllocError> for PostFault {

@@ -19,3 +19,4 @@ pub mod Streams
 pub mod NumberWorlds
 pub mod Recovering
 pub mod Histories
+pub mod OneMore

@@ -1,5 +1,5 @@
 -- Laws of worlds. This project's own.
-use Rattle.std.specs.Prelude.{◌≡◌, ◌≢◌, ◌≤◌, ℕ, ℤ, ◌+◌, ◌*◌, List, ◌++◌, length, true, false, Some, None, slice_get}
+use Rattle.std.specs.Prelude.{◌≡◌, ◌≢◌, ◌≤◌, ℕ, ℤ, ◌+◌, ◌*◌, List, [], ◌∷◌, ◌++◌, length, true, false, Some, None, slice_get}
 use Rattle.box_events.specs.declared.limits.TheConstants.{MAX_ASKS, MAX_CHANNELS}
 use Rattle.std.specs.FinMap as map
 use Rattle.box_events.specs.declared.positions.Receipt.{Receipt}
@@ -17,7 +17,8 @@ use Rattle.box_server.specs.declared.fault.PostFault.{PostFault}
 use Rattle.box_client.specs.States.{ClientState, new_client}
 use Rattle.box_client.specs.Replies.{Cause, refuses, becomes, replied}
 use Rattle.box_client.specs.Ranges.{IsPushInRange, IsReplyInRange}
-use Rattle.box_world.specs.Worlds.{Packet, push, request, reply, World, happens, run}
+use Rattle.box_world.specs.Worlds.{Packet, push, request, reply, World, happens, run, start}
+use Rattle.box_world.specs.Possible.{AllPossible, Possible}
 use Rattle.box_world.specs.Agreeing.{Agrees, Boxes, IsPast, is_final, is_last_part}
 use Rattle.box_world.specs.Growing.{Continues, IsLedger}
 use Rattle.box_world.specs.Awaiting.{Still}
@@ -93,3 +94,21 @@ ServersKeepOrder = (n : ℕ) (steps : List Step) → IsLedger (run n steps).serv
 -- further steps only add to the server's boxes, and to the packets that were sent
 abbrev pub WorldsGrow : Type 0
 WorldsGrow = (n : ℕ) (steps later : List Step) → Continues (run n steps).server (run n (steps ++ later)).server (boxes_of (run n steps)) (boxes_of (run n (steps ++ later)))
+
+-- a client's next number is at most one more than the packets that were sent
+abbrev pub NextStaysBelow : Type 0
+NextStaysBelow = (n : ℕ) (steps : List Step) (k : ℕ) (c : ClientState) → slice_get (run n steps).clients k ≡ Some c → c.next ≤ 1 + length (run n steps).pool
+
+-- ---- one more step
+
+-- the world after steps and one more is that step of the world after the steps
+abbrev pub RunsGoOn : Type 0
+RunsGoOn = (n : ℕ) (steps : List Step) (s : Step) → run n (steps ++ s ∷ []) ≡ happens (run n steps) s
+
+-- a possible step after possible steps is one more of them
+abbrev pub PossibleGoOn : Type 0
+PossibleGoOn = (size : Packet → ℕ) (n : ℕ) (steps : List Step) (s : Step) → AllPossible size (start n) steps → Possible size (run n steps) s → AllPossible size (start n) (steps ++ s ∷ [])
+
+-- there are as many clients as at the start
+abbrev pub ClientsStay : Type 0
+ClientsStay = (n : ℕ) (steps : List Step) → length (run n steps).clients ≡ n

@@ -2,7 +2,7 @@
 ghost use Rattle.std.specs.Prelude.{ℤ};
 ghost use Rattle.box_client.specs.States.{ClientState};
 ghost use Rattle.box_client.specs.Asking.{ticks, wakes, restarted};
-ghost use Rattle.box_world.specs.Laws.{NewClientsAgree, AgreeAsServersGrow, AgreeAsClientsGoOn, StillAsClientsGoOn, ClientsAgree, PacketsFit, RepliesAreTaken, ClientsCatchUp, ChannelsCatchUp, KnownPostsChangeNothing, NumbersStayBelow, PacketsAreInRange, RefusedPostsChangeNothing, ServersKeepOrder, WorldsGrow};
+ghost use Rattle.box_world.specs.Laws.{NewClientsAgree, AgreeAsServersGrow, AgreeAsClientsGoOn, StillAsClientsGoOn, ClientsAgree, PacketsFit, RepliesAreTaken, ClientsCatchUp, ClientsStay, ChannelsCatchUp, KnownPostsChangeNothing, NextStaysBelow, NumbersStayBelow, PacketsAreInRange, PossibleGoOn, RefusedPostsChangeNothing, RunsGoOn, ServersKeepOrder, WorldsGrow};
 ghost use Rattle.box_world.specs.NumberWorlds.{NumbersAlone};
 ghost use Rattle.box_world.specs.Recovering.{FramesAreBounded};
 ghost use Rattle.box_world.specs.Streams.{HonestStreamsAgree};
@@ -33,9 +33,17 @@ pub fn worlds_agree()
     ensures channels_catch_up { ChannelsCatchUp }
     ensures packets { PacketsFit }
     ensures numbers { NumbersStayBelow }
+    ensures next { NextStaysBelow }
     ensures ranges { PacketsAreInRange }
     ensures order { ServersKeepOrder }
     ensures grow { WorldsGrow }
+{}
+
+/// A run with one more step is that step of the run; where both are possible all is; and no client comes or goes.
+pub fn runs_go_on()
+    ensures step { RunsGoOn }
+    ensures possible { PossibleGoOn }
+    ensures clients { ClientsStay }
 {}
 
 /// A post that the server knows, or refuses, changes nothing in a world.

@@ -5,5 +5,5 @@ mod laws;
 
 pub use laws::{
     clients_go_on, frames_are_bounded, honest_streams_agree, numbers_follow, posts_change_nothing,
-    servers_go_on, worlds_agree,
+    runs_go_on, servers_go_on, worlds_agree,
 };

@@ -1,7 +1,17 @@
 //! cases: runs tlbox over files in memory as case files say, and tells which runs end otherwise.
 #![tactic(auto)]
 
-use case_files::{BadLine, Case, Ending, read_cases};
+mod block;
+mod case;
+mod ending;
+mod fault;
+mod reader;
+mod setting;
+mod words;
+
+use crate::case::Case;
+use crate::ending::Ending;
+use crate::reader::{BadLine, read_cases};
 use commands::run;
 use std::alloc::{AllocError, Global};
 use std::process::ExitCode;
@@ -62,7 +72,7 @@ fn run_cases(rt: &HostRuntime, cases: &[Case]) -> io::Result<Counts> {
 
 // Prints what can't be used of a file. It counts as a run that ends otherwise.
 fn refuse(rt: &HostRuntime, name: &str, bad: BadLine) -> io::Result<Counts> {
-    let (number, fault) = (bad.line, bad.fault);
+    let (number, fault) = (bad.line, bad.fault.text());
     println!(rt; "{name}:{number} {fault}")?;
     Ok(Counts { runs: 0, differ: 1 })
 }

@@ -37,9 +37,9 @@ use Rattle.codec_commands.specs.declared.causes.TextCause.TheVariants.{TextTooLo
 use Rattle.codec_commands.specs.Loaded.{TextRefused, too_long, bad_byte, open_comment, unexpected, not_profile, too_many, SchemaRefused, by_text, by_checks}
 use Rattle.codec_commands.specs.Parts.{TakesValue}
 use Rattle.codec_commands.specs.Parts.{ReadsSchema, LoadsSchema, LoadsValue}
-use Rattle.command_base.specs.Kept.{OnlyReads}
+use Rattle.command_base.specs.Kept.{LeavesInput, OnlyReads}
 use Rattle.command_base.proofs.Views.{told_as}
-use Rattle.command_base.proofs.Rests.{only_schema, opened_input, only_input, then_reads}
+use Rattle.command_base.proofs.Rests.{schema_read, only_schema, opened_input, only_input, then_reads}
 
 -- ---- the schema of a text
 
@@ -76,6 +76,10 @@ no_text name limit e r None None read is = tt
 no_text name limit e r None (Some w) read is = read
 no_text name limit e r (Some v) None read is = read
 no_text name limit e r (Some v) (Some w) read is = stopped_at name e r v w (only_schema v w read) is
+
+-- loading a schema leaves Input
+pub schema_unread : (name : List ℕ) (limit : ℕ) (r : Result (Vec ℕ Global) TextFault) (a b : Option View) → Told a b (ReadsFile Schema name limit r) → Told a b (LeavesInput ⊥)
+schema_unread name limit r a b = told_as a b (ReadsFile Schema name limit r) (LeavesInput ⊥) (schema_read name limit r)
 
 -- the schema of what was read is that of the file, whole or cut
 whole_file : (bytes read rest : List ℕ) (r : Result Declared SchemaTextFault) → bytes ≡ read ++ rest → rest ≡ [] → ReadsSchema read r → ReadsSchema bytes r

@@ -1,5 +1,5 @@
 -- What `decode` and `encode` make of schema, type and input, from their parts.
-use Rattle.std.proofs.Common.{◌≡◌, ℕ, List, Bool, IsTrue, IsSome, Option, Result, Ok, Err, Vec, Global, refl, sym, ap, subst}
+use Rattle.std.proofs.Common.{◌≡◌, ℕ, List, Bool, IsTrue, IsSome, Option, Result, Ok, Err, Vec, Global, refl, sym, ap, subst, inr}
 use Rattle.std.specs.Prelude.{IsErrAnd, IsErrOf}
 use Rattle.tl_base.specs.Contents.{Files}
 use Rattle.tl_base.specs.Outside.{View, HasFile, IsThere}
@@ -13,9 +13,9 @@ use Rattle.command_base.specs.Sound.{Answered}
 use Rattle.command_base.specs.declared.stop.Unmade.{Unmade}
 use Rattle.command_base.proofs.SameFiles.{same_file}
 use Rattle.command_base.proofs.Faults.{NeverFails, fails_as, then_fails}
-use Rattle.command_base.specs.Kept.{OnlyReads}
+use Rattle.command_base.specs.Kept.{LeavesInput, OnlyReads}
 use Rattle.command_base.proofs.Made.{not_made}
-use Rattle.command_base.proofs.Rests.{then_reads}
+use Rattle.command_base.proofs.Rests.{not_come, then_reads}
 use Rattle.command_base.proofs.Views.{told_as, told_then}
 use Rattle.codec_commands.specs.declared.schema_text.SchemaFault.{SchemaFault}
 use Rattle.codec_commands.specs.declared.schema_text.SchemaFault.TheVariants as loading
@@ -27,7 +27,7 @@ use Rattle.codec_commands.specs.declared.refusal.CodecFault.{CodecFault}
 use Rattle.codec_commands.specs.declared.refusal.CodecFault.TheVariants as fault
 use Rattle.codec_commands.specs.Faults.{of_no_schema, of_no_type, of_no_plan, of_codec, codec_making}
 use Rattle.codec_commands.specs.Loaded.{IsSchemaText, HasPlan, PlanRefused}
-use Rattle.codec_commands.specs.Typed.{ToInput, OfType, no_type, no_plan, typed, OfSchema, no_schema, schema_of, TypedAnswer, typed_job}
+use Rattle.codec_commands.specs.Typed.{ToInput, OfType, no_type, no_plan, typed, OfSchema, no_schema, schema_of, ReachesInput, TypedAnswer, typed_job}
 use Rattle.codec_commands.specs.Parts.{LoadsSchema, MeansType, PlansType}
 use Rattle.codec_commands.proofs.OneSchemaText.{one_schema_text, never_schema}
 use Rattle.codec_commands.proofs.OneTypeName.{never_type}
@@ -77,6 +77,10 @@ module _ (Tells : ToInput) (s t i : List ℕ) where
   no_plan_line schema T e r a b loaded means h is =
       told_as a b (LoadsSchema s (Ok schema)) (MakesOutput job (of_codec r)) (λ v w l. stops job (of_no_plan e) r v w (plan_stops schema T e v w l means h) is) loaded
 
+  -- before the work comes to the input it is as it was
+  pub unread_yet : (a b : Option View) → Told a b (LeavesInput ⊥) → Told a b (λ v w. LeavesInput (ReachesInput v.files s t) v w)
+  unread_yet a b = told_as a b (LeavesInput ⊥) (λ v w. LeavesInput (ReachesInput v.files s t) v w) (λ v w. not_come (ReachesInput v.files s t) v w)
+
   -- a plan is made without a read
   pub plan_unread : (e : TypePlanFault) (r : Result (Vec ℕ Global) CodecFault) → IsErrAnd r (λ z. z ≡ of_no_plan e) → IsErrOf r fault.ReadFault → ⊥
   plan_unread e (Ok x) is failed = absurd is
@@ -96,6 +100,12 @@ module _ (Tells : ToInput) (s t i : List ℕ) where
         → (r : Result (Vec ℕ Global) CodecFault) (a m b : Option View) → Told a m (LoadsSchema s (Ok schema)) → Told m b Loads → IsErrAnd r (λ z. z ≡ e) → Told a b (MakesOutput job (of_codec r))
     no_value_line Loads e makes r a m b loaded h is =
         told_then a m b (LoadsSchema s (Ok schema)) Loads (MakesOutput job (of_codec r)) (λ v u w l k. stops job e r v w (makes v u w l k) is) loaded h
+
+    -- after schema, type and plan the work comes to the input
+    pub input_reached : (Q : View → View → Type 0) (a m b : Option View) → Told a m (LoadsSchema s (Ok schema)) → Told m b Q → Told a b (λ v w. LeavesInput (ReachesInput v.files s t) v w)
+    input_reached Q a m b loaded h =
+        told_then a m b (LoadsSchema s (Ok schema)) Q (λ v w. LeavesInput (ReachesInput v.files s t) v w)
+        (λ v u w l k. inr (record { text = l.0.0; of = schema; meant = T; there = l.0.1; accepted = l.0.2; named = means; planned = planned })) loaded h
 
     -- out of memory after the input was read
     pub no_memory_line : (Loads : View → View → Type 0) → ((u w : View) → Loads u w → OnlyReads u w) → (r : Result (Vec ℕ Global) CodecFault) (a m b : Option View)

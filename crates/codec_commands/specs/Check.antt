@@ -11,7 +11,7 @@ use Rattle.codec_commands.specs.declared.causes.SchemaCause.{SchemaCause}
 use Rattle.codec_commands.specs.Loaded.{IsSchemaText, SchemaRefused}
 use Rattle.command_base.specs.Answer.{Answer, done, refused}
 use Rattle.command_base.specs.Jobs.{Job}
-use Rattle.command_base.specs.Kept.{KeepsRest}
+use Rattle.command_base.specs.Kept.{KeepsUnread}
 use Rattle.codec_commands.specs.Lines.{schema_line}
 
 -- ---- the list
@@ -48,6 +48,6 @@ pub data OfChecked (text : List ℕ) (a : Answer) : Type 0 where
 abbrev pub CheckAnswer : Files → List ℕ → Answer → Type 0
 CheckAnswer files schema a = (text : List ℕ) × HasFile files schema text × OfChecked text a
 
--- `check SCHEMA`
+-- `check SCHEMA`, which never comes to Input
 abbrev pub check_job : List ℕ → Job
-check_job schema = record { answers = λ v a. CheckAnswer v.files schema a; in_pieces = ⊥; keeps = KeepsRest }
+check_job schema = record { answers = λ v a. CheckAnswer v.files schema a; in_pieces = ⊥; keeps = λ v w. KeepsUnread ⊥ v w }

@@ -13,7 +13,7 @@ use Rattle.codec_commands.specs.Loaded.{IsSchemaText, SchemaRefused, TypeNameRef
 use Rattle.codec_commands.specs.Lines.{schema_line, type_line, plan_line}
 use Rattle.command_base.specs.Answer.{Answer, refused}
 use Rattle.command_base.specs.Jobs.{Job}
-use Rattle.command_base.specs.Kept.{KeepsRest}
+use Rattle.command_base.specs.Kept.{KeepsUnread}
 
 -- what is answered to the bytes of an input, of a type of the schema
 abbrev pub ToInput : Type 1
@@ -34,6 +34,16 @@ pub data OfSchema (Tells : ToInput) (text type input : List ℕ) (files : Files)
 abbrev pub TypedAnswer : ToInput → Files → List ℕ → List ℕ → List ℕ → Answer → Type 0
 TypedAnswer Tells files schema type input a = (text : List ℕ) × HasFile files schema text × OfSchema Tells text type input files a
 
+-- the work comes to the input: the text is a schema's, the word is one of its types, and that has a plan
+pub record ReachesInput (files : Files) (schema type : List ℕ) : Type 0 where
+  pub text : List ℕ
+  pub of : Declared
+  pub meant : Shape
+  pub there : HasFile files schema text
+  pub accepted : IsSchemaText text of
+  pub named : IsTypeText of.program type meant
+  pub planned : HasPlan of meant
+
 -- the command, of SCHEMA, TYPE and INPUT
 abbrev pub typed_job : ToInput → List ℕ → List ℕ → List ℕ → Job
-typed_job Tells schema type input = record { answers = λ v a. TypedAnswer Tells v.files schema type input a; in_pieces = ⊥; keeps = KeepsRest }
+typed_job Tells schema type input = record { answers = λ v a. TypedAnswer Tells v.files schema type input a; in_pieces = ⊥; keeps = λ v w. KeepsUnread (ReachesInput v.files schema type) v w }

@@ -4,6 +4,7 @@ ghost use Rattle.tl_base.specs.Calls.{Told};
 ghost use Rattle.tl_base.specs.Using.{MeetsFaults};
 ghost use Rattle.tl_base.specs.declared.counts.Kind.TheVariants as kinds;
 ghost use Rattle.command_base.specs.Jobs.{MakesOutput, Works, making};
+ghost use Rattle.command_base.specs.Kept.{LeavesInput};
 ghost use Rattle.command_base.specs.Sound.{Answered, Fits, MeetsBothFaults};
 ghost use Rattle.codec_commands.specs.Check.{check_job};
 
@@ -17,6 +18,7 @@ use tl_base::Host;
 // The list of the schema's declarations.
 fn made_listing<H: Host>(alloc: Global, host: &mut H, schema: &str) -> Result<Vec<u8>, Unmade>
     ensures makes { Told (H.state host.old).view (H.state host.new).view (MakesOutput (check_job schema.now) (making result)) }
+    ensures unread { Told (H.state host.old).view (H.state host.new).view (LeavesInput ⊥) }
     ensures faults { MeetsFaults kinds.Reads (H.state host.old) (H.state host.new) (IsErrOf result Unmade.ReadFault) (Answered (check_job schema.now)) }
 {
     match load_schema(alloc, host, schema) {

@@ -4,11 +4,13 @@ ghost use Rattle.tl_base.specs.Calls.{Told};
 ghost use Rattle.tl_base.specs.Using.{MeetsFaults};
 ghost use Rattle.tl_base.specs.declared.counts.Kind.TheVariants as kinds;
 ghost use Rattle.command_base.specs.Jobs.{MakesOutput, Works, making};
+ghost use Rattle.command_base.specs.Kept.{LeavesInput};
 ghost use Rattle.command_base.specs.Sound.{Answered, Fits, MeetsBothFaults};
 ghost use Rattle.tl_schema.specs.Seen.{shape};
 ghost use Rattle.tl_types.specs.Seen.{view};
 ghost use Rattle.codec_commands.specs.Decode.{decode_job};
 ghost use Rattle.codec_commands.specs.Faults.{of_codec};
+ghost use Rattle.codec_commands.specs.Typed.{ReachesInput};
 ghost use Rattle.codec_commands.specs.Lines.{line_text};
 
 use crate::input::load_value;
@@ -46,6 +48,7 @@ fn decoded_line<H: Host>(
     input: &str,
 ) -> Result<Vec<u8>, CodecFault>
     ensures line { Told (H.state host.old).view (H.state host.new).view (MakesOutput (decode_job schema.now of.now input.now) (of_codec result)) }
+    ensures unread { Told (H.state host.old).view (H.state host.new).view (λ v w. LeavesInput (ReachesInput v.files schema.now of.now) v w) }
     ensures faults { MeetsFaults kinds.Reads (H.state host.old) (H.state host.new) (IsErrOf result CodecFault.ReadFault) (Answered (decode_job schema.now of.now input.now)) }
 {
     let schema = load_schema(alloc, host, schema)?;
@@ -65,6 +68,7 @@ fn made_line<H: Host>(
     input: &str,
 ) -> Result<Vec<u8>, Unmade>
     ensures makes { Told (H.state host.old).view (H.state host.new).view (MakesOutput (decode_job schema.now of.now input.now) (making result)) }
+    ensures unread { Told (H.state host.old).view (H.state host.new).view (λ v w. LeavesInput (ReachesInput v.files schema.now of.now) v w) }
     ensures faults { MeetsFaults kinds.Reads (H.state host.old) (H.state host.new) (IsErrOf result Unmade.ReadFault) (Answered (decode_job schema.now of.now input.now)) }
 {
     match decoded_line(alloc, host, schema, of, input) {

@@ -4,6 +4,7 @@ ghost use Rattle.tl_base.specs.Calls.{Told};
 ghost use Rattle.tl_base.specs.Using.{MeetsFaults};
 ghost use Rattle.tl_base.specs.declared.counts.Kind.TheVariants as kinds;
 ghost use Rattle.command_base.specs.Jobs.{MakesOutput, Works, making};
+ghost use Rattle.command_base.specs.Kept.{LeavesInput};
 ghost use Rattle.command_base.specs.Sound.{Answered, Fits, MeetsBothFaults};
 ghost use Rattle.tl_schema.specs.Types.{Shape};
 ghost use Rattle.tl_plan.specs.PlanLaws.{IsInstance};
@@ -13,6 +14,7 @@ ghost use Rattle.tl_types.specs.Spelling.{Spells};
 ghost use Rattle.tl_types.specs.declared.value.TheConstants.{MAX_LEVELS};
 ghost use Rattle.codec_commands.specs.Encode.{encode_job};
 ghost use Rattle.codec_commands.specs.Faults.{of_codec};
+ghost use Rattle.codec_commands.specs.Typed.{ReachesInput};
 
 use crate::json_input::load_json;
 use crate::refusal::{CodecFault, unmade};
@@ -48,6 +50,7 @@ fn encoded_value<H: Host>(
     input: &str,
 ) -> Result<Vec<u8>, CodecFault>
     ensures spelling { Told (H.state host.old).view (H.state host.new).view (MakesOutput (encode_job schema.now of.now input.now) (of_codec result)) }
+    ensures unread { Told (H.state host.old).view (H.state host.new).view (λ v w. LeavesInput (ReachesInput v.files schema.now of.now) v w) }
     ensures faults { MeetsFaults kinds.Reads (H.state host.old) (H.state host.new) (IsErrOf result CodecFault.ReadFault) (Answered (encode_job schema.now of.now input.now)) }
 {
     let schema = load_schema(alloc, host, schema)?;
@@ -67,6 +70,7 @@ fn made_spelling<H: Host>(
     input: &str,
 ) -> Result<Vec<u8>, Unmade>
     ensures makes { Told (H.state host.old).view (H.state host.new).view (MakesOutput (encode_job schema.now of.now input.now) (making result)) }
+    ensures unread { Told (H.state host.old).view (H.state host.new).view (λ v w. LeavesInput (ReachesInput v.files schema.now of.now) v w) }
     ensures faults { MeetsFaults kinds.Reads (H.state host.old) (H.state host.new) (IsErrOf result Unmade.ReadFault) (Answered (encode_job schema.now of.now input.now)) }
 {
     match encoded_value(alloc, host, schema, of, input) {

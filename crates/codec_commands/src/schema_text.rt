@@ -4,6 +4,7 @@ ghost use Rattle.tl_base.specs.Calls.{Told};
 ghost use Rattle.tl_base.specs.Outside.{IsThere};
 ghost use Rattle.tl_base.specs.Using.{MeetsFaults};
 ghost use Rattle.tl_base.specs.declared.counts.Kind.TheVariants as kinds;
+ghost use Rattle.command_base.specs.Kept.{LeavesInput};
 ghost use Rattle.codec_commands.specs.Faults.{of_schema_text};
 ghost use Rattle.codec_commands.specs.Parts.{LoadsSchema, ReadsSchema};
 
@@ -129,6 +130,7 @@ fn schema_of(alloc: Global, text: &[u8]) -> Result<Schema, SchemaTextFault>
 /// The schema that a file spells.
 pub fn load_schema<H: Host>(alloc: Global, host: &mut H, name: &str) -> Result<Schema, SchemaFault>
     ensures loads { Told (H.state host.old).view (H.state host.new).view (LoadsSchema name.now result) }
+    ensures unread { Told (H.state host.old).view (H.state host.new).view (LeavesInput ⊥) }
     ensures faults { MeetsFaults kinds.Reads (H.state host.old) (H.state host.new) (IsErrOf result SchemaFault.ReadFault) (IsThere name.now) }
 {
     let text = read_file(alloc, host, Slot::Schema, name, SCHEMA_BYTES)?;

@@ -10,11 +10,11 @@ use Rattle.command_base.specs.declared.stop.Stop.TheVariants as stop
 use Rattle.command_base.specs.declared.stop.Unmade.{Unmade}
 use Rattle.command_base.specs.declared.stop.Unmade.TheVariants as unmade
 use Rattle.command_base.specs.Answer.{Answer, done, refused}
-use Rattle.command_base.specs.Kept.{KeepsRest, OnlyReads}
+use Rattle.command_base.specs.Kept.{KeepsRest, LeavesInput, KeepsUnread, OnlyReads}
 use Rattle.command_base.specs.Jobs.{Job, Works, Making, made, refused_by, unread, no_memory, of_fault, making, MakesOutput, TellsAs, WritesMade}
 use Rattle.command_base.specs.Sound.{MeetsBothFaults, Answered, Fits, MadeFits}
-use Rattle.command_base.proofs.Views.{told_as, told_then}
-use Rattle.command_base.proofs.Rests.{rest_then, output_rest, same_rest, then_same, rest_left}
+use Rattle.command_base.proofs.Views.{told_as, told_both, told_then}
+use Rattle.command_base.proofs.Rests.{rest_then, output_rest, same_rest, then_same, rest_left, unread_by}
 use Rattle.command_base.proofs.Faults.{safe, then_fails}
 
 module _ (job : Job) where
@@ -93,6 +93,27 @@ module _ (job : Job) where
 
   pub made_kept : (m : Making) (r : Result (Unit {0}) Stop) (a b c : Option View) → Told a b (MakesOutput job m) → Told b c (WritesMade m r) → Told a c KeepsRest
   made_kept m r a b c = told_then a b c (MakesOutput job m) (WritesMade m r) KeepsRest (kept m r)
+
+  -- what is left of Input is left by what is written
+  input_written : (m : Making) (r : Result (Unit {0}) Stop) (u w : View) → WritesMade m r u w → w.left.input ≡ u.left.input
+  input_written (made text) (Ok x) u w put = ap (λ (z : View). z.left.input) put
+  input_written (made text) (Err e) u w put = ap (λ (z : View). z.left.input) put.4
+  input_written (refused_by line) (Ok x) u w none = absurd none
+  input_written unread (Ok x) u w none = absurd none
+  input_written no_memory (Ok x) u w none = absurd none
+  input_written (refused_by line) (Err (stop.Refused told)) u w put = ap (λ (z : View). z.left.input) put.1
+  input_written (refused_by line) (Err stop.ReadFault) u w none = absurd none
+  input_written (refused_by line) (Err stop.WriteFault) u w none = absurd none
+  input_written (refused_by line) (Err stop.Memory) u w none = absurd none
+  input_written unread (Err e) u w put = ap (λ (z : View). z.left.input) put.1
+  input_written no_memory (Err e) u w put = ap (λ (z : View). z.left.input) put.1
+
+  -- what was made and then written leaves Input, unless the work came to it
+  pub made_unread : (Came : View → Type 0) (m : Making) (r : Result (Unit {0}) Stop) (a b c : Option View) → Told a b (MakesOutput job m) → Told a b (λ v w. LeavesInput (Came v) v w) → Told b c (WritesMade m r)
+      → Told a c (λ v w. KeepsUnread (Came v) v w)
+  made_unread Came m r a b c makes leaves =
+      told_then a b c (λ v w. MakesOutput job m v w × LeavesInput (Came v) v w) (WritesMade m r) (λ v w. KeepsUnread (Came v) v w)
+      (λ v u w h put. unread_by (Came v) v u w (kept m r v u w h.0 put) h.1 (input_written m r u w put)) (told_both a b (MakesOutput job m) (λ v w. LeavesInput (Came v) v w) makes leaves)
 
   -- ---- where writing can't fail
 

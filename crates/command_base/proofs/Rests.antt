@@ -1,11 +1,12 @@
 -- What calls leave as it was.
-use Rattle.std.proofs.Common.{◌≡◌, ℕ, List, [], ◌++◌, append-nil, None, sym, ap, ◌∙◌}
+use Rattle.std.proofs.Common.{◌≡◌, ◌⊎◌, ℕ, List, [], ◌++◌, append-nil, None, Result, Ok, Err, Vec, Global, sym, ap, ◌∙◌, inl, inr}
 use Rattle.tl_base.specs.Outside.{View, left_of, with_left, with_written}
-use Rattle.tl_base.specs.Hosted.{OnlySlot}
+use Rattle.tl_base.specs.Hosted.{OnlySlot, ReadsFile}
 use Rattle.tl_base.specs.declared.host.Slot.TheVariants.{Schema, Input}
+use Rattle.tl_base.specs.declared.source.TextFault.{TextFault}
 use Rattle.tl_base.specs.declared.host.Out.TheVariants.{Output}
 use Rattle.command_base.specs.Answer.{Answer}
-use Rattle.command_base.specs.Kept.{KeepsRest, OnlyReads, Leaves, name_after, bytes_after, address_after}
+use Rattle.command_base.specs.Kept.{KeepsRest, OnlyErrors, LeavesInput, KeepsUnread, OnlyReads, Leaves, name_after, bytes_after, address_after}
 
 -- what `KeepsRest` gives for the new view
 rest_of : View → View → View
@@ -35,6 +36,53 @@ output_rest bytes v w e = e ∙ ap (rest_of v) (sym e)
 pub same_rest : (v w : View) → w ≡ v → KeepsRest v w
 unfolding rest_of
 same_rest v w e = e ∙ ap (rest_of v) (sym e)
+
+-- what is written to Errors leaves the rest
+pub errors_rest : (v w : View) → OnlyErrors v w → KeepsRest v w
+unfolding rest_of
+errors_rest v w e = e ∙ ap (rest_of v) (sym e)
+
+errors_input : (v w : View) → OnlyErrors v w → w.left.input ≡ v.left.input
+errors_input v w e = ap (λ (x : View). x.left.input) e
+
+-- what is left of Input in one call after another
+input_then : (came : Type 0) (v u w : View) → LeavesInput came v u → w.left.input ≡ u.left.input → LeavesInput came v w
+input_then came v u w (inl same) e = inl (e ∙ same)
+input_then came v u w (inr c) e = inr c
+
+-- what is said of Input before the work comes to it is said in any case
+pub not_come : (came : Type 0) (v w : View) → LeavesInput ⊥ v w → LeavesInput came v w
+not_come came v w (inl same) = inl same
+not_come came v w (inr never) = absurd never
+
+slot_leaves : (v w : View) → OnlySlot Schema v w → LeavesInput ⊥ v w
+slot_leaves v w e = inl (ap (λ (x : View). x.left.input) e)
+
+-- reading a file by Schema leaves Input
+pub schema_read : (name : List ℕ) (limit : ℕ) (r : Result (Vec ℕ Global) TextFault) (v w : View) → ReadsFile Schema name limit r v w → LeavesInput ⊥ v w
+schema_read name limit (Ok text) v w h = slot_leaves v w h.1
+schema_read name limit (Err e) v w h = slot_leaves v w h
+
+-- what is left of Input after a call that leaves it
+leaves_then : (came : Type 0) (v u w : View) → LeavesInput came v u → LeavesInput ⊥ u w → LeavesInput came v w
+leaves_then came v u w h (inl e) = input_then came v u w h e
+leaves_then came v u w h (inr never) = absurd never
+
+pub unread_rest : (came : Type 0) (v u w : View) → KeepsUnread came v u → KeepsRest u w → LeavesInput ⊥ u w → KeepsUnread came v w
+unread_rest came v u w h rest leaves = record { rest = rest_then v u w h.rest rest; input = leaves_then came v u w h.input leaves }
+
+pub output_leaves : (bytes : List ℕ) (v w : View) → w ≡ with_written Output bytes v → LeavesInput ⊥ v w
+output_leaves bytes v w e = inl (ap (λ (x : View). x.left.input) e)
+
+pub errors_unread : (came : Type 0) (v w : View) → OnlyErrors v w → KeepsUnread came v w
+errors_unread came v w e = record { rest = errors_rest v w e; input = inl (errors_input v w e) }
+
+pub unread_then : (came : Type 0) (v u w : View) → KeepsUnread came v u → OnlyErrors u w → KeepsUnread came v w
+unread_then came v u w h e = record { rest = rest_then v u w h.rest (errors_rest u w e); input = input_then came v u w h.input (errors_input u w e) }
+
+-- a call that leaves the rest and what is left of Input
+pub unread_by : (came : Type 0) (v u w : View) → KeepsRest v w → LeavesInput came v u → w.left.input ≡ u.left.input → KeepsUnread came v w
+unread_by came v u w rest h e = record { rest = rest; input = input_then came v u w h e }
 
 pub then_reads : (u v w : View) → OnlyReads u v → OnlyReads v w → OnlyReads u w
 then_reads u v w p q = record { output = q.output ∙ p.output; errors = q.errors ∙ p.errors; rest = rest_then u v w p.rest q.rest }

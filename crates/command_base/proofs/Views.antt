@@ -9,6 +9,13 @@ told_as None (Some w) P Q f h = h
 told_as (Some v) None P Q f h = h
 told_as (Some v) (Some w) P Q f h = f v w h
 
+-- two facts of one call
+pub told_both : (a b : Option View) (P Q : View → View → Type 0) → Told a b P → Told a b Q → Told a b (λ v w. P v w × Q v w)
+told_both None None P Q h k = tt
+told_both None (Some w) P Q h k = h
+told_both (Some v) None P Q h k = h
+told_both (Some v) (Some w) P Q h k = (h, k)
+
 -- one call after another
 pub told_then : (a m b : Option View) (P Q R : View → View → Type 0) → ((v u w : View) → P v u → Q u w → R v w) → Told a m P → Told m b Q → Told a b R
 told_then None None None P Q R f h k = tt

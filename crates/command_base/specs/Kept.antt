@@ -1,11 +1,24 @@
 -- What a call leaves of the outside as it was. This project's own.
-use Rattle.std.specs.Prelude.{◌≡◌, ℕ, List, ◌++◌, Option, Some, None}
+use Rattle.std.specs.Prelude.{◌≡◌, ◌⊎◌, ℕ, List, ◌++◌, Option, Some, None}
 use Rattle.tl_base.specs.Outside.{View}
 use Rattle.command_base.specs.Answer.{Answer}
 
 -- nothing changed but what is left of Schema and Input, and what was written to Output and Errors
 abbrev pub KeepsRest : View → View → Type 0
 KeepsRest v w = w ≡ record v { left = record v.left { schema = w.left.schema; input = w.left.input }; written = record v.written { output = w.written.output; errors = w.written.errors } }
+
+-- nothing changed but what was written to Errors
+abbrev pub OnlyErrors : View → View → Type 0
+OnlyErrors v w = w ≡ record v { written = record v.written { errors = w.written.errors } }
+
+-- what is left of Input is as before, unless the work came to it
+abbrev pub LeavesInput : Type 0 → View → View → Type 0
+LeavesInput came v w = (w.left.input ≡ v.left.input) ⊎ came
+
+-- likewise, and nothing else changed but what is left of Schema, and what was written to Output and Errors
+pub record KeepsUnread (came : Type 0) (v w : View) : Type 0 where
+  pub rest : KeepsRest v w
+  pub input : LeavesInput came v w
 
 -- Output and Errors are as before, and so is all else but what is left of Schema and Input
 pub record OnlyReads (v w : View) : Type 0 where

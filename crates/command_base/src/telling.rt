@@ -2,7 +2,7 @@
 ghost use Rattle.std.specs.Prelude.{◌≡◌, ◌≤◌};
 ghost use Rattle.tl_base.specs.Calls.{Told};
 ghost use Rattle.tl_base.specs.Causes.{Rose};
-ghost use Rattle.command_base.specs.Kept.{KeepsRest};
+ghost use Rattle.command_base.specs.Kept.{OnlyErrors};
 ghost use Rattle.command_base.specs.Telling.{Reports, TellsLine};
 
 use crate::status::Status;
@@ -15,7 +15,7 @@ pub fn tell<H: Host>(host: &mut H, status: Status, line: &[u8]) -> Status
     ensures told { Told (H.state host.old).view (H.state host.new).view (TellsLine (Rose (H.state host.old).counts.writes (H.state host.new).counts.writes) line.now) }
     ensures later { (H.state host.old).counts.writes ≤ (H.state host.new).counts.writes }
     ensures others { (H.state host.new).counts.reads ≡ (H.state host.old).counts.reads }
-    ensures kept { Told (H.state host.old).view (H.state host.new).view KeepsRest }
+    ensures kept { Told (H.state host.old).view (H.state host.new).view OnlyErrors }
     ensures links { (H.state host.new).counts.links ≡ (H.state host.old).counts.links }
 {
     let _ = write_out(host, Out::Errors, line);
@@ -27,7 +27,7 @@ pub fn report<H: Host>(host: &mut H, stop: &Stop) -> Status
     ensures reports { Told (H.state host.old).view (H.state host.new).view (Reports (Rose (H.state host.old).counts.writes (H.state host.new).counts.writes) stop.now result) }
     ensures later { (H.state host.old).counts.writes ≤ (H.state host.new).counts.writes }
     ensures others { (H.state host.new).counts.reads ≡ (H.state host.old).counts.reads }
-    ensures kept { Told (H.state host.old).view (H.state host.new).view KeepsRest }
+    ensures kept { Told (H.state host.old).view (H.state host.new).view OnlyErrors }
     ensures links { (H.state host.new).counts.links ≡ (H.state host.old).counts.links }
     ensures read { result ≡ Status.ReadFault → stop.now ≡ Stop.ReadFault }
     ensures write { result ≡ Status.WriteFault → stop.now ≡ Stop.WriteFault }

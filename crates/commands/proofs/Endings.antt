@@ -8,11 +8,11 @@ use Rattle.command_base.specs.declared.stop.Stop.TheVariants as stop
 use Rattle.command_base.specs.declared.status.Status.{Status}
 use Rattle.command_base.specs.declared.status.Status.TheVariants as status
 use Rattle.command_base.specs.Jobs.{Works, WritesSomeOf}
-use Rattle.command_base.specs.Kept.{KeepsRest}
+use Rattle.command_base.specs.Kept.{KeepsRest, OnlyErrors}
 use Rattle.command_base.specs.Sound.{Fits}
 use Rattle.command_base.specs.Telling.{Tells, TellsLine, Reports}
-use Rattle.command_base.proofs.Rests.{rest_then, rest_left, left_then}
-use Rattle.command_base.proofs.Views.{told_as, told_then}
+use Rattle.command_base.proofs.Rests.{errors_rest, errors_unread, unread_then, rest_left, left_then}
+use Rattle.command_base.proofs.Views.{told_as, told_both, told_then}
 use Rattle.commands.specs.Requests.{RequestText, check, decode, encode, replay, AsksFor, AsksNothing, job_of}
 use Rattle.commands.specs.Answers.{usage, usage_line, no_request, requested}
 use Rattle.commands.specs.Runs.{WritesPrefix, Ends, answered, read_failed, write_failed, out_of_memory, Keeps, AnswerFits}
@@ -44,35 +44,23 @@ module _ (words : List (List ℕ)) (r : RequestText) (asks : AsksFor words r) (R
       answered a (requested r asks answer) (is ∙ sym bad) (same ∙ gives.output) (left_then a v u w gives.leaves rest)
       (subst (λ (x : List ℕ). Tells W x v w) (sym tells) (tells_on V (string_bytes line) v u w gives.errors rose told))
   ended stop.ReadFault k rose read write v u w only (is, (same, told)) rest =
-      read_failed (read refl) is (same ∙ only.output) (tells_on V _ v u w only.errors rose told)
+      read_failed (r, asks) (read refl) is (same ∙ only.output) (tells_on V _ v u w only.errors rose told)
   ended stop.WriteFault k rose read write v u w (some, errors) (is, (same, told)) rest =
-      write_failed (write refl) is (prefix_of v u w same some) (tells_on V _ v u w errors rose told)
+      write_failed (r, asks) (write refl) is (prefix_of v u w same some) (tells_on V _ v u w errors rose told)
   ended stop.Memory k rose read write v u w (inl e, errors) (is, (same, told)) rest =
       out_of_memory is (inl (same ∙ e)) (tells_on V _ v u w errors rose told)
   ended stop.Memory k rose read write v u w (inr (goes, some), errors) (is, (same, told)) rest =
       out_of_memory is (inr (r, asks, goes, prefix_of v u w same some)) (tells_on V _ v u w errors rose told)
 
-  -- both are told of the report
-  both : (e : Stop) (k : Status) (m b : Option View) → Told m b (Reports V e k) → Told m b KeepsRest → Told m b (λ v w. Reports V e k v w × KeepsRest v w)
-  both e k None None p q = tt
-  both e k None (Some w) p q = p
-  both e k (Some v) None p q = p
-  both e k (Some v) (Some w) p q = (p, q)
-
-  pub ends_stopped : (e : Stop) (k : Status) (a m b : Option View) → (V → W) → (e ≡ stop.ReadFault → R) → (e ≡ stop.WriteFault → W) → Told a m (Works (job_of r) (Err e)) → Told m b (Reports V e k) → Told m b KeepsRest → Told a b (Ends words R W k)
+  pub ends_stopped : (e : Stop) (k : Status) (a m b : Option View) → (V → W) → (e ≡ stop.ReadFault → R) → (e ≡ stop.WriteFault → W) → Told a m (Works (job_of r) (Err e)) → Told m b (Reports V e k) → Told m b OnlyErrors → Told a b (Ends words R W k)
   ends_stopped e k a m b rose read write works reports rest =
-      told_then a m b (Works (job_of r) (Err e)) (λ v w. Reports V e k v w × KeepsRest v w) (Ends words R W k) (λ v u w h p. ended e k rose read write v u w h p.0 p.1) works (both e k m b reports rest)
+      told_then a m b (Works (job_of r) (Err e)) (λ v w. Reports V e k v w × OnlyErrors v w) (Ends words R W k)
+      (λ v u w h p. ended e k rose read write v u w h p.0 (errors_rest u w p.1)) works (told_both m b (Reports V e k) OnlyErrors reports rest)
 
-usage_both : (W : Type 0) (a b : Option View) → Told a b (TellsLine W usage_line) → Told a b KeepsRest → Told a b (λ v w. TellsLine W usage_line v w × KeepsRest v w)
-usage_both W None None p q = tt
-usage_both W None (Some w) p q = p
-usage_both W (Some v) None p q = p
-usage_both W (Some v) (Some w) p q = (p, q)
-
-pub ends_usage : (words : List (List ℕ)) (R W : Type 0) (a b : Option View) (k : Status) → AsksNothing words → k ≡ status.Usage → Told a b (TellsLine W usage_line) → Told a b KeepsRest → Told a b (Ends words R W k)
+pub ends_usage : (words : List (List ℕ)) (R W : Type 0) (a b : Option View) (k : Status) → AsksNothing words → k ≡ status.Usage → Told a b (TellsLine W usage_line) → Told a b OnlyErrors → Told a b (Ends words R W k)
 ends_usage words R W a b k none is told rest =
-    told_as a b (λ v w. TellsLine W usage_line v w × KeepsRest v w) (Ends words R W k)
-    (λ v w h. answered usage (no_request none refl) is (h.0.0 ∙ sym (append-nil v.written.output)) (rest_left usage v w (refl, refl, refl) h.1) h.0.1) (usage_both W a b told rest)
+    told_as a b (λ v w. TellsLine W usage_line v w × OnlyErrors v w) (Ends words R W k)
+    (λ v w h. answered usage (no_request none refl) is (h.0.0 ∙ sym (append-nil v.written.output)) (rest_left usage v w (refl, refl, refl) (errors_rest v w h.1)) h.0.1) (told_both a b (TellsLine W usage_line) OnlyErrors told rest)
 
 -- memory was refused for the words
 pub ends_memory : (words : List (List ℕ)) (R W : Type 0) (a b : Option View) (k : Status) → Told a b (Reports W stop.Memory k) → Told a b (Ends words R W k)
@@ -80,35 +68,35 @@ ends_memory words R W a b k = told_as a b (Reports W stop.Memory k) (Ends words 
 
 -- ---- what is kept
 
--- what changes the least keeps what each job keeps
-rest_keeps : (r : RequestText) (v w : View) → KeepsRest v w → (job_of r).keeps v w
-rest_keeps (check schema) v w rest = rest
-rest_keeps (decode schema type input) v w rest = rest
-rest_keeps (encode schema type input) v w rest = rest
-rest_keeps (replay schema journal) v w rest = rest
+-- what changes Errors alone keeps what each job keeps
+rest_keeps : (r : RequestText) (v w : View) → OnlyErrors v w → (job_of r).keeps v w
+rest_keeps (check schema) v w = errors_unread _ v w
+rest_keeps (decode schema type input) v w = errors_unread _ v w
+rest_keeps (encode schema type input) v w = errors_unread _ v w
+rest_keeps (replay schema journal) v w = errors_unread _ v w
 
-pub memory_kept : (words : List (List ℕ)) (a b : Option View) → Told a b KeepsRest → Told a b (Keeps words)
-memory_kept words a b = told_as a b KeepsRest (Keeps words) (λ v w rest. record { of_none = λ asks. rest; of_request = λ r asks. rest_keeps r v w rest })
+pub memory_kept : (words : List (List ℕ)) (a b : Option View) → Told a b OnlyErrors → Told a b (Keeps words)
+memory_kept words a b = told_as a b OnlyErrors (Keeps words) (λ v w rest. record { of_none = λ asks. rest; of_request = λ r asks. rest_keeps r v w rest })
 
-pub none_kept : (words : List (List ℕ)) (a b : Option View) → AsksNothing words → Told a b KeepsRest → Told a b (Keeps words)
-none_kept words a b none = told_as a b KeepsRest (Keeps words) (λ v w rest. record { of_none = λ asks. rest; of_request = λ r asks. absurd (none r asks) })
+pub none_kept : (words : List (List ℕ)) (a b : Option View) → AsksNothing words → Told a b OnlyErrors → Told a b (Keeps words)
+none_kept words a b none = told_as a b OnlyErrors (Keeps words) (λ v w rest. record { of_none = λ asks. rest; of_request = λ r asks. absurd (none r asks) })
 
 module _ (words : List (List ℕ)) (r : RequestText) (asks : AsksFor words r) where
   job_kept : (v w : View) → (job_of r).keeps v w → Keeps words v w
   job_kept v w h = record { of_none = λ none. absurd (none r asks); of_request = λ s also. subst (λ (x : RequestText). (job_of x).keeps v w) (one_request words r s asks also) h }
 
   -- what tells a line keeps what the job keeps
-  kept_then : (s : RequestText) (v u w : View) → (job_of s).keeps v u → KeepsRest u w → (job_of s).keeps v w
-  kept_then (check schema) = rest_then
-  kept_then (decode schema type input) = rest_then
-  kept_then (encode schema type input) = rest_then
-  kept_then (replay schema journal) = rest_then
+  kept_then : (s : RequestText) (v u w : View) → (job_of s).keeps v u → OnlyErrors u w → (job_of s).keeps v w
+  kept_then (check schema) v u w = unread_then _ v u w
+  kept_then (decode schema type input) v u w = unread_then _ v u w
+  kept_then (encode schema type input) v u w = unread_then _ v u w
+  kept_then (replay schema journal) v u w = unread_then _ v u w
 
   pub done_kept : (a b : Option View) → Told a b (job_of r).keeps → Told a b (Keeps words)
   done_kept a b = told_as a b (job_of r).keeps (Keeps words) job_kept
 
-  pub stopped_kept : (a m b : Option View) → Told a m (job_of r).keeps → Told m b KeepsRest → Told a b (Keeps words)
-  stopped_kept a m b = told_then a m b (job_of r).keeps KeepsRest (Keeps words) (λ v u w h rest. job_kept v w (kept_then r v u w h rest))
+  pub stopped_kept : (a m b : Option View) → Told a m (job_of r).keeps → Told m b OnlyErrors → Told a b (Keeps words)
+  stopped_kept a m b = told_then a m b (job_of r).keeps OnlyErrors (Keeps words) (λ v u w h rest. job_kept v w (kept_then r v u w h rest))
 
 -- ---- where no fault ends a run
 

@@ -33,6 +33,10 @@ AsksFor words (replay schema journal) = (words ≡ codes "replay" ∷ schema ∷
 abbrev pub AsksNothing : List (List ℕ) → Type 0
 AsksNothing words = (r : RequestText) → AsksFor words r → ⊥
 
+-- the words are those of a request
+abbrev pub AskForOne : List (List ℕ) → Type 0
+AskForOne words = (r : RequestText) × AsksFor words r
+
 -- some file has this name
 abbrev pub IsFile : Files → List ℕ → Type 0
 IsFile files name = (bytes : List ℕ) × HasFile files name bytes

@@ -4,7 +4,7 @@ ghost use Rattle.tl_base.specs.Calls.{Told};
 ghost use Rattle.tl_base.specs.Causes.{Rose};
 ghost use Rattle.command_base.specs.Jobs.{Works};
 ghost use Rattle.command_base.specs.Sound.{Fits, MeetsBothFaults};
-ghost use Rattle.commands.specs.Requests.{job_of, request_text};
+ghost use Rattle.commands.specs.Requests.{AskForOne, AsksNothing, job_of, request_text};
 ghost use Rattle.commands.specs.Runs.{AnswerFits, EndsOver, Keeps};
 
 use crate::request::{Request, request_of};
@@ -22,12 +22,14 @@ const USAGE: &[u8] =
 pub fn run<H: Host>(alloc: Global, words: &[String], host: &mut H) -> Status
     // Status, Output, Errors and what is left are those of the answer; or the status is a fault's whose count rose, or memory's.
     ensures ends { EndsOver (map string_bytes words.now) (H.state host.old) (H.state host.new) result }
-    // What the request's job keeps is kept: files, State, links, addresses and moments. So is the links' count of faults.
+    // What the request's job keeps is kept: files, State, links, addresses and moments, and what is left of Input until the work comes to it. So
+    // is the links' count of faults.
     ensures kept { Told (H.state host.old).view (H.state host.new).view (Keeps (map string_bytes words.now)) }
     ensures links { (H.state host.new).counts.links ≡ (H.state host.old).counts.links }
-    // A fault's status comes only where its count rose, told or not.
-    ensures read { result ≡ Status.ReadFault → Rose (H.state host.old).counts.reads (H.state host.new).counts.reads }
-    ensures write { result ≡ Status.WriteFault → Rose (H.state host.old).counts.writes (H.state host.new).counts.writes }
+    // A fault's status comes only of a request, and where its count rose, told or not. Where there is no request nothing is read.
+    ensures read { result ≡ Status.ReadFault → AskForOne (map string_bytes words.now) × Rose (H.state host.old).counts.reads (H.state host.new).counts.reads }
+    ensures write { result ≡ Status.WriteFault → AskForOne (map string_bytes words.now) × Rose (H.state host.old).counts.writes (H.state host.new).counts.writes }
+    ensures unasked { AsksNothing (map string_bytes words.now) → (H.state host.new).counts.reads ≡ (H.state host.old).counts.reads }
     // Over a sound host with the files that the words take and room enough, no fault's status comes.
     ensures sound { IfSome (H.state host.old).view (λ v. IsTrue (H.state host.old).sound → AnswerFits (map string_bytes words.now) v → (result ≡ Status.ReadFault) ⊎ (result ≡ Status.WriteFault) → ⊥) }
     // No command takes a link yet, so these never come.

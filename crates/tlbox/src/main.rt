@@ -1,41 +1,45 @@
 //! tlbox: reads schemas of Telegram's TL language, values that are spelled in them, and journals of updates.
 #![tactic(auto)]
 
+mod links;
 mod real;
+mod state_file;
+mod streams;
+mod words;
 
 use commands::{Status, run};
 use real::RealHost;
-use std::env;
-use std::io::ErrorKind;
 use std::process::ExitCode;
+use streams::hold_streams;
 use tl_base::{Out, SinkOf, write_all};
+use words::words_of;
 
 const MEMORY_LINE: &[u8] = b"tlbox: memory\n";
 
-// The words after the program's name; None where memory was refused for them. A word that is no UTF-8 is no operand of any
-// command, so words with one are answered as no words are: by the usage line.
-fn words_of(rt: &HostRuntime) -> Option<Vec<String>> {
-    let alloc = rt.alloc();
-    match env::args(rt) {
-        Ok(args) => args.skip(1).collect::<Vec<String>>(alloc).ok(),
-        Err(fault) if fault.kind() == ErrorKind::InvalidData => Some(Vec::new(alloc)),
-        Err(_) => None,
+const WRITE_FAULT_LINE: &[u8] = b"tlbox: write fault\n";
+
+// Says a line on Errors. Where it can't be written the status still tells it.
+fn tell(host: &mut RealHost, status: Status, line: &[u8]) -> Status {
+    let _told = write_all(&mut SinkOf::new(host, Out::Errors), line);
+    status
+}
+
+// Ends the run: State takes its name where all went well.
+fn end(host: &mut RealHost, status: Status) -> Status {
+    match host.end_state(status == Status::Done) {
+        Ok(()) => status,
+        Err(_) => tell(host, Status::WriteFault, WRITE_FAULT_LINE),
     }
 }
 
-// Says on Errors that memory was refused. Where that can't be written the status still tells it.
-fn tell_memory(host: &mut RealHost) -> Status {
-    let _told = write_all(&mut SinkOf::new(host, Out::Errors), MEMORY_LINE);
-    Status::Memory
-}
-
 fn main(rt: HostRuntime) -> ExitCode {
+    hold_streams(&rt);
     let alloc = rt.alloc();
     let words = words_of(&rt);
     let mut host = RealHost::new(rt);
     let status = match words {
         Some(words) => run(alloc, words.as_slice(), &mut host),
-        None => tell_memory(&mut host),
+        None => tell(&mut host, Status::Memory, MEMORY_LINE),
     };
-    ExitCode::from(status.code())
+    ExitCode::from(end(&mut host, status).code())
 }

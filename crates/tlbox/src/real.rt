@@ -1,23 +1,25 @@
 //! The real outside: files, the standard streams, TCP and the clock. What they hold or take is not told: this is the trusted edge.
 ghost use Rattle.std.specs.Prelude.{None, false, IfSome, ◌≤◌, ◌<◌, ◌^◌, length};
 
+use crate::links::{Link, accept, connect};
+use crate::state_file::StateFile;
 use std::fs::File;
-use std::io::{BufReader, Read, Write};
-use std::net::{TcpListener, TcpStream};
+use std::io::{BufReader, ErrorKind, Read, Write};
+use std::net::TcpListener;
 use std::time::{SystemTime, UNIX_EPOCH};
 use std::{fs, io};
 use tl_base::{Counts, Failed, Host, Kind, Out, Slot};
 
-/// Files read and written through buffers, the standard streams, one listener and one link.
+/// Files and a link that are read through buffers, the file that State is written to, the standard streams and one listener.
 #[derive(Drop)]
 pub struct RealHost {
     rt: HostRuntime,
     schema: Option<BufReader<File>>,
     input: Option<BufReader<File>>,
     state: Option<BufReader<File>>,
-    saved: Option<File>,
+    saved: Option<StateFile>,
     listener: Option<TcpListener>,
-    link: Option<TcpStream>,
+    link: Option<Link>,
     counts: Counts,
     // The moment that was told last.
     moment: u32,
@@ -44,6 +46,18 @@ impl RealHost {
         BufReader::new(self.rt.alloc(), fs::open(&self.rt, name)?)
     }
 
+    /// Gives the file that State was written to its name, if it is to be kept, and removes it else.
+    pub fn end_state(&mut self, is_kept: bool) -> io::Result<()> {
+        match self.saved.take() {
+            None => Ok(()),
+            Some(file) if is_kept => file.keep(&self.rt),
+            Some(file) => {
+                file.discard(&self.rt);
+                Ok(())
+            }
+        }
+    }
+
     // The seconds since 1970, where the clock can be read and shows fewer than 2^31.
     fn seconds(&self) -> Option<u32>
         ensures { IfSome result (λ n. n < 2 ^ 31) }
@@ -58,23 +72,44 @@ impl RealHost {
     }
 }
 
-// Reads from a file or a link, if it is open.
+// Reads from a file or a link, if it is open, and again where a signal cut the call off.
 fn read_some<R: Read>(from: &mut Option<R>, into: &mut [u8]) -> Option<usize>
     ensures { IfSome result (λ n. n ≤ length into.new) }
 {
-    match from {
-        None => None,
-        Some(from) => from.read(into).ok(),
+    let Some(from) = from else {
+        return None;
+    };
+    for _ in 0..u64::MAX {
+        match from.read(into) {
+            Ok(count) => return Some(count),
+            Err(fault) if fault.kind() == ErrorKind::Interrupted => {}
+            Err(_) => return None,
+        }
     }
+    None
+}
+
+// Writes to a stream, and again where a signal cut the call off.
+fn write_some<W: Write>(to: &mut W, piece: &[u8]) -> Option<usize>
+    ensures { IfSome result (λ n. n ≤ length piece.now) }
+{
+    for _ in 0..u64::MAX {
+        match to.write(piece) {
+            Ok(count) => return Some(count),
+            Err(fault) if fault.kind() == ErrorKind::Interrupted => {}
+            Err(_) => return None,
+        }
+    }
+    None
 }
 
 // Writes to a file or a link, if it is open.
-fn write_some<W: Write>(to: &mut Option<W>, piece: &[u8]) -> Option<usize>
+fn write_open<W: Write>(to: &mut Option<W>, piece: &[u8]) -> Option<usize>
     ensures { IfSome result (λ n. n ≤ length piece.now) }
 {
     match to {
         None => None,
-        Some(to) => to.write(piece).ok(),
+        Some(to) => write_some(to, piece),
     }
 }
 
@@ -119,7 +154,11 @@ impl Host for RealHost {
         if out != Out::State {
             return Err(self.counts.fail(out.kind()));
         }
-        match fs::create(&self.rt, name) {
+        // What was written under another name is given up.
+        if let Some(file) = self.saved.take() {
+            file.discard(&self.rt);
+        }
+        match StateFile::create(&self.rt, name) {
             Ok(file) => {
                 self.saved = Some(file);
                 Ok(())
@@ -133,10 +172,10 @@ impl Host for RealHost {
             return Ok(0);
         }
         let wrote = match out {
-            Out::Output => self.rt.stdout().write(piece).ok(),
-            Out::Errors => self.rt.stderr().write(piece).ok(),
-            Out::State => write_some(&mut self.saved, piece),
-            Out::Link => write_some(&mut self.link, piece),
+            Out::Output => write_some(&mut self.rt.stdout(), piece),
+            Out::Errors => write_some(&mut self.rt.stderr(), piece),
+            Out::State => write_open(&mut self.saved, piece),
+            Out::Link => write_open(&mut self.link, piece),
         };
         match wrote {
             Some(count) if count > 0 => Ok(count),
@@ -155,9 +194,10 @@ impl Host for RealHost {
     }
 
     fn connect(&mut self, address: &str) -> Result<(), Failed> {
-        match TcpStream::connect(&self.rt, address) {
-            Ok(stream) => {
-                self.link = Some(stream);
+        self.link = None;
+        match connect(&self.rt, address) {
+            Ok(link) => {
+                self.link = Some(link);
                 Ok(())
             }
             Err(_) => Err(self.counts.fail(Kind::Links)),
@@ -165,16 +205,19 @@ impl Host for RealHost {
     }
 
     fn accept(&mut self) -> Result<(), Failed> {
-        match &self.listener {
-            None => {}
-            Some(listener) => {
-                if let Ok((stream, _)) = listener.accept() {
-                    self.link = Some(stream);
-                    return Ok(());
-                }
+        // The link before is closed now, and not when the next one comes: its other end may wait for that.
+        self.link = None;
+        let accepted = match &self.listener {
+            None => None,
+            Some(listener) => accept(&self.rt, listener).ok(),
+        };
+        match accepted {
+            Some(link) => {
+                self.link = Some(link);
+                Ok(())
             }
+            None => Err(self.counts.fail(Kind::Links)),
         }
-        Err(self.counts.fail(Kind::Links))
     }
 
     fn now(&mut self) -> u32 {

@@ -1,5 +1,5 @@
 -- The bytes of a journal, read where the schema is the profile's.
-use Rattle.std.proofs.Common.{◌≡◌, ℕ, ◌≤◌, List, [], ◌++◌, append-nil, length, length-append, Option, Ok, Err, Bool, true, false, refl, sym, ap, ◌∙◌, subst, arith, Vec, Global}
+use Rattle.std.proofs.Common.{◌≡◌, ℕ, ◌≤◌, List, [], ◌++◌, append-nil, length, length-append, Option, Result, Ok, Err, Bool, true, false, refl, sym, ap, ◌∙◌, subst, arith, inr, Vec, Global}
 use Rattle.std.specs.Prelude.{bytes_eq, not, IsSome, IfSome, IsTrue}
 use Rattle.std.proofs.lemmas.Slice.Eq.{bytes_eq-Decides}
 use Rattle.tl_base.specs.Contents.{Files}
@@ -7,12 +7,14 @@ use Rattle.tl_base.specs.Outside.{View, HasFile, IsThere, left_of}
 use Rattle.tl_base.specs.Hosted.{ReadsFile}
 use Rattle.tl_base.specs.Calls.{Told}
 use Rattle.tl_base.specs.declared.host.Slot.TheVariants.{Schema, Input}
+use Rattle.tl_base.specs.declared.source.TextFault.{TextFault}
 use Rattle.update_replay.specs.declared.profile.TheConstants.{PROFILE_TEXT}
 use Rattle.command_base.specs.Sound.{Answered}
 use Rattle.update_commands.specs.declared.fault.LoadFault.TheVariants as load
 use Rattle.update_commands.specs.Replay.{other_text, profile_text, replay_job}
 use Rattle.update_commands.specs.Replaying.{LoadsJournal}
-use Rattle.command_base.proofs.Rests.{only_schema, only_input, then_reads}
+use Rattle.command_base.specs.Kept.{LeavesInput}
+use Rattle.command_base.proofs.Rests.{not_come, schema_read, only_schema, only_input, then_reads}
 use Rattle.command_base.proofs.SameFiles.{same_file}
 use Rattle.command_base.proofs.Faults.{NeverFails, fails_as, then_fails}
 use Rattle.command_base.proofs.Views.{told_as, told_then}
@@ -38,6 +40,11 @@ differ xs ys a b ea eb other same = absurd (let h : bytes_eq a b ≡ true = (byt
 pub agree : (xs ys a b : List ℕ) → a ≡ xs → b ≡ ys → false ≡ not (bytes_eq a b) → xs ≡ ys
 agree xs ys a b ea eb same = sym ea ∙ (bytes_eq-Decides a b).0 (was_true (bytes_eq a b) same) ∙ eb
 
+-- reading the schema leaves Input
+pub journal_unread : (s : List ℕ) (n : ℕ) (r : Result (Vec ℕ Global) TextFault) (a b : Option View) → Told a b (ReadsFile Schema s n r) → Told a b (λ v w. LeavesInput (HasFile v.files s PROFILE_TEXT.now) v w)
+journal_unread s n r a b =
+    told_as a b (ReadsFile Schema s n r) (λ v w. LeavesInput (HasFile v.files s PROFILE_TEXT.now) v w) (λ v w h. not_come (HasFile v.files s PROFILE_TEXT.now) v w (schema_read s n r v w h))
+
 module _ (s j : List ℕ) (n : ℕ) (fits : length PROFILE_TEXT.now ≤ n) (text : Vec ℕ Global) where
   pub no_profile : (a b : Option View) → Told a b (ReadsFile Schema s n (Ok text)) → (text.items ≡ PROFILE_TEXT.now → ⊥) → Told a b (LoadsJournal s j (Err load.Profile))
   no_profile a b read other = told_as a b (ReadsFile Schema s n (Ok text)) (LoadsJournal s j (Err load.Profile))
@@ -55,6 +62,11 @@ module _ (s j : List ℕ) (n : ℕ) (fits : length PROFILE_TEXT.now ≤ n) (text
       let only = only_schema v u h.1 in
       let file : HasFile v.files j (read.items ++ left_of Input w) = subst (λ (fs : Files). HasFile fs j (read.items ++ left_of Input w)) (ap (λ (x : View). x.files) only.rest) (subst (HasFile u.files j) k.0.2 k.0.1) in
       ((has_profile v u h is, left_of Input w, file, k.0.4), then_reads v u w only (only_input u w k.1))) first second)
+
+  -- the work comes to the journal
+  pub journal_reached : (Q : View → View → Type 0) (a m b : Option View) → Told a m (ReadsFile Schema s n (Ok text)) → text.items ≡ PROFILE_TEXT.now → Told m b Q → Told a b (λ v w. LeavesInput (HasFile v.files s PROFILE_TEXT.now) v w)
+  journal_reached Q a m b first is h =
+      told_then a m b (ReadsFile Schema s n (Ok text)) Q (λ v w. LeavesInput (HasFile v.files s PROFILE_TEXT.now) v w) (λ v u w l k. inr (has_profile v u l is)) first h
 
   -- where there is an answer the journal's file is there
   there : (v u : View) → ReadsFile Schema s n (Ok text) v u → text.items ≡ PROFILE_TEXT.now → Answered (replay_job s j) v → IsThere j u

@@ -3,7 +3,7 @@ use Rattle.std.proofs.Common.{◌≡◌, ℕ, ◌+◌, ◌<◌, ◌≤◌, List,
 use Rattle.std.specs.Prelude.{IfSome, IsSome, IsTrue, IsErrOf, IsErrAnd}
 use Rattle.std.proofs.lemmas.Bool.{cases_lt}
 use Rattle.tl_base.specs.Contents.{AreBytes, HoldBytes}
-use Rattle.tl_base.specs.Outside.{View, HostState, ShowsBytes, written_of, with_written}
+use Rattle.tl_base.specs.Outside.{View, HostState, HasFile, ShowsBytes, written_of, with_written}
 use Rattle.tl_base.specs.Using.{SinkState, Wrote, WritesOnly, MeetsFaults}
 use Rattle.tl_base.specs.Lending.{out_written, out_aside, out_state, room_of}
 use Rattle.tl_base.specs.Calls.{Told}
@@ -24,12 +24,12 @@ use Rattle.command_base.specs.declared.stop.Stop.{Stop}
 use Rattle.command_base.specs.declared.stop.Stop.TheVariants as stop
 use Rattle.command_base.specs.Answer.{Answer, refused, refused_after}
 use Rattle.command_base.specs.Jobs.{GivesOutput, WritesSomeOf, Works}
-use Rattle.command_base.specs.Kept.{KeepsRest, OnlyReads}
+use Rattle.command_base.specs.Kept.{KeepsRest, LeavesInput, OnlyReads}
 use Rattle.command_base.specs.Sound.{MeetsBothFaults, Answered, Fits}
 use Rattle.command_base.proofs.SameFiles.{same_file, file_bytes}
-use Rattle.command_base.proofs.Rests.{rest_then, output_rest, rest_left}
+use Rattle.command_base.proofs.Rests.{rest_then, output_rest, output_leaves, unread_rest, rest_left}
 use Rattle.command_base.proofs.Faults.{NeverFails, safe, stays_sound, written_faults}
-use Rattle.command_base.proofs.Views.{told_as}
+use Rattle.command_base.proofs.Views.{told_as, told_both, told_then}
 use Rattle.update_commands.specs.declared.fault.LoadFault.{LoadFault}
 use Rattle.update_commands.specs.declared.fault.LoadFault.TheVariants as load
 use Rattle.update_commands.specs.Replay.{OfJournal, other_text, profile_text, ReplayAnswer, profile_line, replay_job}
@@ -60,6 +60,9 @@ ended_err e (Err z) is = ap Err is
 -- what is written to Output leaves the rest
 pub replay_kept : (P : View → View → Type 0) (bytes : View → List ℕ) (a b : Option View) → Told a b (λ v w. P v w × (w ≡ with_written Output (bytes w) v)) → Told a b KeepsRest
 replay_kept P bytes a b = told_as a b (λ v w. P v w × (w ≡ with_written Output (bytes w) v)) KeepsRest (λ v w h. output_rest (bytes w) v w h.1)
+
+pub replay_leaves : (P : View → View → Type 0) (bytes : View → List ℕ) (a b : Option View) → Told a b (λ v w. P v w × (w ≡ with_written Output (bytes w) v)) → Told a b (LeavesInput ⊥)
+replay_leaves P bytes a b = told_as a b (λ v w. P v w × (w ≡ with_written Output (bytes w) v)) (LeavesInput ⊥) (λ v w h. output_leaves (bytes w) v w h.1)
 
 -- there is room in the view of an out
 room_there : (journal : List ℕ) (a : Option View) (sound : Bool) (F : Type 0) → NeverFull journal (out_written Output a) sound (room_of a) F → IfSome a (λ v. IsTrue sound → JournalFits journal v → F → ⊥)
@@ -235,8 +238,18 @@ loaded_rest s j (Err load.Profile) v w h = h.1.rest
 loaded_rest s j (Err load.ReadFault) v w h = h.rest
 loaded_rest s j (Err load.Memory) v w h = h.rest
 
-pub loaded_kept : (s j : List ℕ) (r : Result (List ℕ) LoadFault) (a b : Option View) → Told a b (LoadsJournal s j r) → Told a b KeepsRest
-loaded_kept s j r a b = told_as a b (LoadsJournal s j r) KeepsRest (loaded_rest s j r)
+-- what is left of Input, unless the work came to it
+abbrev pub Leaves : List ℕ → View → View → Type 0
+Leaves s v w = LeavesInput (HasFile v.files s PROFILE_TEXT.now) v w
+
+pub loaded_kept : (s j : List ℕ) (r : Result (List ℕ) LoadFault) (a b : Option View) → Told a b (LoadsJournal s j r) → Told a b (Leaves s) → Told a b (replay_job s j).keeps
+loaded_kept s j r a b loads leaves =
+    told_as a b (λ v w. LoadsJournal s j r v w × Leaves s v w) (replay_job s j).keeps (λ v w h. record { rest = loaded_rest s j r v w h.0; input = h.1 }) (told_both a b (LoadsJournal s j r) (Leaves s) loads leaves)
+
+pub written_kept : (s j : List ℕ) (r : Result (List ℕ) LoadFault) (a m b : Option View) → Told a m (LoadsJournal s j r) → Told a m (Leaves s) → Told m b KeepsRest → Told m b (LeavesInput ⊥) → Told a b (replay_job s j).keeps
+written_kept s j r a m b loads leaves rest after =
+    told_then a m b (replay_job s j).keeps (λ v w. KeepsRest v w × LeavesInput ⊥ v w) (replay_job s j).keeps (λ v u w h k. unread_rest (HasFile v.files s PROFILE_TEXT.now) v u w h k.0 k.1)
+    (loaded_kept s j r a m loads leaves) (told_both m b KeepsRest (LeavesInput ⊥) rest after)
 
 -- ---- where a replay can't fail
 

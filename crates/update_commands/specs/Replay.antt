@@ -4,7 +4,7 @@ use Rattle.tl_base.specs.Contents.{Files}
 use Rattle.tl_base.specs.Outside.{HasFile}
 use Rattle.command_base.specs.Answer.{Answer, done, refused, refused_after, placed_line, unplaced_line}
 use Rattle.command_base.specs.Jobs.{Job}
-use Rattle.command_base.specs.Kept.{KeepsRest}
+use Rattle.command_base.specs.Kept.{KeepsUnread}
 use Rattle.update_replay.specs.declared.profile.TheConstants.{PROFILE_TEXT}
 use Rattle.update_replay.specs.declared.replay.ReplayFault.TheVariants.{NotYetBuilt, NoPacket, TooLong}
 use Rattle.update_replay.specs.Worlds.{World}
@@ -33,6 +33,6 @@ pub data OfProfile (text journal : List ℕ) (files : Files) (a : Answer) : Type
 abbrev pub ReplayAnswer : Files → List ℕ → List ℕ → Answer → Type 0
 ReplayAnswer files schema journal a = (text : List ℕ) × HasFile files schema text × OfProfile text journal files a
 
--- `replay SCHEMA JOURNAL 1`, which writes as it goes
+-- `replay SCHEMA JOURNAL 1`, which writes as it goes, and comes to Input where the schema's text is the profile's
 abbrev pub replay_job : List ℕ → List ℕ → Job
-replay_job schema journal = record { answers = λ v a. ReplayAnswer v.files schema journal a; in_pieces = Unit {0}; keeps = KeepsRest }
+replay_job schema journal = record { answers = λ v a. ReplayAnswer v.files schema journal a; in_pieces = Unit {0}; keeps = λ v w. KeepsUnread (HasFile v.files schema PROFILE_TEXT.now) v w }

@@ -1,13 +1,15 @@
 //! `replay`: a journal is loaded, its steps are made, and its report is written as they are.
 ghost use Rattle.std.specs.Prelude.{IsErrOf};
 ghost use Rattle.tl_base.specs.Calls.{Told};
+ghost use Rattle.tl_base.specs.Outside.{HasFile};
 ghost use Rattle.tl_base.specs.Using.{MeetsFaults};
 ghost use Rattle.tl_base.specs.declared.counts.Kind.TheVariants as kinds;
 ghost use Rattle.command_base.specs.Jobs.{Works};
-ghost use Rattle.command_base.specs.Kept.{KeepsRest};
+ghost use Rattle.command_base.specs.Kept.{KeepsRest, LeavesInput};
 ghost use Rattle.command_base.specs.Sound.{Answered, Fits, MeetsBothFaults};
 ghost use Rattle.update_commands.specs.Replay.{replay_job};
 ghost use Rattle.update_commands.specs.Replaying.{JournalFits, LoadsJournal, WritesReplay};
+ghost use Rattle.update_replay.specs.declared.profile.TheConstants.{PROFILE_TEXT};
 
 use crate::fault::{LoadFault, load_stop, replay_stop};
 use command_base::Stop;
@@ -26,6 +28,7 @@ fn load_journal<H: Host>(
     journal: &str,
 ) -> Result<Bytes, LoadFault>
     ensures loads { Told (H.state host.old).view (H.state host.new).view (LoadsJournal schema.now journal.now result) }
+    ensures unread { Told (H.state host.old).view (H.state host.new).view (λ v w. LeavesInput (HasFile v.files schema.now PROFILE_TEXT.now) v w) }
     ensures faults { MeetsFaults kinds.Reads (H.state host.old) (H.state host.new) (IsErrOf result LoadFault.ReadFault) (Answered (replay_job schema.now journal.now)) }
 {
     let text = read_file(alloc, host, Slot::Schema, schema, PROFILE_TEXT.len() as u32)?;
@@ -40,6 +43,7 @@ fn load_journal<H: Host>(
 fn write_replay<H: Host>(alloc: Global, host: &mut H, journal: Bytes) -> Result<(), ReplayFault>
     ensures writes { Told (H.state host.old).view (H.state host.new).view (WritesReplay journal result) }
     ensures kept { Told (H.state host.old).view (H.state host.new).view KeepsRest }
+    ensures unread { Told (H.state host.old).view (H.state host.new).view (LeavesInput ⊥) }
     ensures no_read { IsErrOf result ReplayFault.ReadFault → ⊥ }
     ensures faults { MeetsFaults kinds.Writes (H.state host.old) (H.state host.new) (IsErrOf result ReplayFault.WriteFault) (JournalFits journal) }
 {

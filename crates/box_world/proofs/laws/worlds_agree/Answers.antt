@@ -1,5 +1,6 @@
 use Rattle.box_server.proofs.Carrying.{changed_overlays}
 use Rattle.box_world.proofs.Numbers.{numbers_stay_below}
+use Rattle.box_world.proofs.OneMore.{next_stays_below}
 use Rattle.box_world.proofs.Ranges.{packets_in_range}
 use Rattle.box_world.proofs.Reaching.{clients_agree, replies_are_taken, clients_catch_up, channels_catch_up, packets_fit, servers_keep_order, worlds_grow}
 use Rattle.box_world.proofs.laws.worlds_agree.Goals as goal
@@ -21,6 +22,9 @@ returns-clause-packets c = packets_fit changed_overlays
 
 pub returns-clause-numbers : goal.returns-clause-numbers
 returns-clause-numbers c = numbers_stay_below changed_overlays
+
+pub returns-clause-next : goal.returns-clause-next
+returns-clause-next c = next_stays_below
 
 pub returns-clause-ranges : goal.returns-clause-ranges
 returns-clause-ranges c = packets_in_range changed_overlays

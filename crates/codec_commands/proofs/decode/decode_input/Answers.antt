@@ -1,7 +1,8 @@
 use Rattle.command_base.specs.Jobs.{making}
-use Rattle.command_base.proofs.Made.{made_works, made_kept, made_faults}
+use Rattle.command_base.proofs.Made.{made_works, made_unread, made_faults}
 use Rattle.codec_commands.specs.Decode.{decode_job}
 use Rattle.codec_commands.proofs.OneDecode.{one_decode}
+use Rattle.codec_commands.specs.Typed.{ReachesInput}
 use Rattle.codec_commands.proofs.decode.decode_input.Goals as goal
 
 pub returns-clause-works : goal.returns-clause-works
@@ -10,7 +11,8 @@ returns-clause-works g c =
 
 pub returns-clause-kept : goal.returns-clause-kept
 returns-clause-kept g c =
-    made_kept (decode_job c.args.schema.now c.args.of.now c.args.input.now) (making c.made_line-made.result) c.write_made.result _ _ _ c.made_line-made.ensures.makes c.write_made.ensures.writes
+    made_unread (decode_job c.args.schema.now c.args.of.now c.args.input.now) (λ v. ReachesInput v.files c.args.schema.now c.args.of.now) (making c.made_line-made.result) c.write_made.result _ _ _ c.made_line-made.ensures.makes c.made_line-made.ensures.unread
+    c.write_made.ensures.writes
 
 pub returns-clause-faults : goal.returns-clause-faults
 returns-clause-faults g c =

@@ -2,7 +2,7 @@ use Rattle.std.proofs.Common.{◌≡◌, Ok, Err, rules}
 use Rattle.tl_types.specs.Seen.{view}
 use Rattle.tl_schema.specs.Seen.{shape}
 use Rattle.command_base.proofs.Faults.{safe, never_failed, stays_sound}
-use Rattle.codec_commands.proofs.TypedLines.{no_schema_line, no_type_line, no_plan_line, plan_unread, no_value_line, no_memory_line, no_value_sound}
+use Rattle.codec_commands.proofs.TypedLines.{unread_yet, input_reached, no_schema_line, no_type_line, no_plan_line, plan_unread, no_value_line, no_memory_line, no_value_sound}
 use Rattle.codec_commands.proofs.Planned.{planned}
 use Rattle.codec_commands.proofs.EncodedValues.{fits_planned, input_stops, read_stop, spelled_planned, value_spelled}
 use Rattle.codec_commands.specs.Encode.{OfJson}
@@ -93,3 +93,30 @@ fitting_spelling-requires-clause-root g c = (planned c.in_ok-schema.schema (shap
 
 pub fitting_spelling-requires-clause-fits : goal.fitting_spelling-requires-clause-fits
 fitting_spelling-requires-clause-fits g c = fits_planned c.in_ok-schema.schema (shape c.in_ok-of.of) c.in_ok-plan.plan (view c.in_ok-value.value) c.in_ok-plan.ensures.plans c.in_ok-value.ensures.fits
+
+pub returns-in_err-schema-clause-unread : goal.returns-in_err-schema-clause-unread
+returns-in_err-schema-clause-unread g c = unread_yet OfJson c.args.schema.now c.args.of.now c.args.input.now _ _ c.in_err-schema.ensures.unread
+
+pub returns-in_err-of-clause-unread : goal.returns-in_err-of-clause-unread
+returns-in_err-of-clause-unread g c = unread_yet OfJson c.args.schema.now c.args.of.now c.args.input.now _ _ c.in_ok-schema.ensures.unread
+
+pub returns-in_err-plan-clause-unread : goal.returns-in_err-plan-clause-unread
+returns-in_err-plan-clause-unread g c = unread_yet OfJson c.args.schema.now c.args.of.now c.args.input.now _ _ c.in_ok-schema.ensures.unread
+
+pub returns-in_err-value-clause-unread : goal.returns-in_err-value-clause-unread
+returns-in_err-value-clause-unread g c =
+    let T = shape c.in_ok-of.of in
+    input_reached OfJson c.args.schema.now c.args.of.now c.args.input.now c.in_ok-schema.schema T c.in_ok-of.ensures.names (c.in_ok-plan.plan, c.in_ok-plan.ensures.plans)
+    (LoadsJson c.in_ok-schema.schema T c.args.input.now (Err c.in_err-value.field-0.0)) _ _ _ c.in_ok-schema.ensures.loads (c.in_err-value.ensures.loads)
+
+pub returns-in_err-bytes-clause-unread : goal.returns-in_err-bytes-clause-unread
+returns-in_err-bytes-clause-unread g c =
+    let T = shape c.in_ok-of.of in
+    input_reached OfJson c.args.schema.now c.args.of.now c.args.input.now c.in_ok-schema.schema T c.in_ok-of.ensures.names (c.in_ok-plan.plan, c.in_ok-plan.ensures.plans)
+    (LoadsJson c.in_ok-schema.schema T c.args.input.now (Ok c.in_ok-value.value)) _ _ _ c.in_ok-schema.ensures.loads (c.in_ok-value.ensures.loads)
+
+pub returns-clause-unread : goal.returns-clause-unread
+returns-clause-unread g c =
+    let T = shape c.in_ok-of.of in
+    input_reached OfJson c.args.schema.now c.args.of.now c.args.input.now c.in_ok-schema.schema T c.in_ok-of.ensures.names (c.in_ok-plan.plan, c.in_ok-plan.ensures.plans)
+    (LoadsJson c.in_ok-schema.schema T c.args.input.now (Ok c.in_ok-value.value)) _ _ _ c.in_ok-schema.ensures.loads (c.in_ok-value.ensures.loads)

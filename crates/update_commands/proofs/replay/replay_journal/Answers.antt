@@ -1,5 +1,5 @@
 use Rattle.std.proofs.Common.{Ok, Err}
-use Rattle.update_commands.proofs.Reports.{replay_told, not_loaded_told, stopped_faults}
+use Rattle.update_commands.proofs.Reports.{loaded_kept, written_kept, replay_told, not_loaded_told, stopped_faults}
 use Rattle.update_commands.proofs.replay.replay_journal.Goals as goal
 
 pub returns-in-Err-clause-works : goal.returns-in-Err-clause-works
@@ -19,3 +19,14 @@ pub returns-in-Err-write_replay-clause-faults : goal.returns-in-Err-write_replay
 returns-in-Err-write_replay-clause-faults g c =
     stopped_faults c.args.schema.now c.args.journal.now c.in-Ok.bytes c.in-Err-write_replay.fault c.replay_stop.result _ _ _ (g.met.H.Host.are_bytes c.args.host.now) c.in-Ok.ensures.loads c.in-Ok.ensures.faults c.in-Err-write_replay.ensures.faults
     c.in-Err-write_replay.ensures.no_read c.replay_stop.ensures.read c.replay_stop.ensures.write
+
+pub returns-in-Err-clause-kept : goal.returns-in-Err-clause-kept
+returns-in-Err-clause-kept g c = loaded_kept c.args.schema.now c.args.journal.now (Err c.in-Err.fault) _ _ c.in-Err.ensures.loads c.in-Err.ensures.unread
+
+pub returns-in-Ok-write_replay-clause-kept : goal.returns-in-Ok-write_replay-clause-kept
+returns-in-Ok-write_replay-clause-kept g c =
+    written_kept c.args.schema.now c.args.journal.now (Ok c.in-Ok.bytes) _ _ _ c.in-Ok.ensures.loads c.in-Ok.ensures.unread c.in-Ok-write_replay.ensures.kept c.in-Ok-write_replay.ensures.unread
+
+pub returns-in-Err-write_replay-clause-kept : goal.returns-in-Err-write_replay-clause-kept
+returns-in-Err-write_replay-clause-kept g c =
+    written_kept c.args.schema.now c.args.journal.now (Ok c.in-Ok.bytes) _ _ _ c.in-Ok.ensures.loads c.in-Ok.ensures.unread c.in-Err-write_replay.ensures.kept c.in-Err-write_replay.ensures.unread

@@ -1,0 +1,71 @@
+//! How runs end.
+ghost use Rattle.std.specs.Prelude.{◌≡◌, ◌↔◌, IfOk, IsTrue};
+ghost use Rattle.cases.specs.Endings.{EndsAs};
+
+use crate::fault::CaseFault;
+use std::alloc::{AllocError, Global};
+
+/// How a run ends, and what it writes.
+#[derive(Drop)]
+pub struct Ending {
+    /// The exit status.
+    pub status: u8,
+    /// All bytes on Output.
+    pub output: Vec<u8>,
+    /// All bytes on Errors.
+    pub errors: Vec<u8>,
+}
+
+impl Ending {
+    /// The end of a run that writes nothing, with status 0.
+    pub fn new(alloc: Global) -> Ending {
+        Ending {
+            status: 0,
+            output: Vec::new(alloc),
+            errors: Vec::new(alloc),
+        }
+    }
+
+    /// Tells whether another run ends so too.
+    pub fn ends_as(&self, other: &Ending) -> bool
+        ensures { IsTrue result ↔ EndsAs self.now other.now }
+    {
+        self.status == other.status
+            && self.output.as_slice() == other.output.as_slice()
+            && self.errors.as_slice() == other.errors.as_slice()
+    }
+
+    pub fn copy(&self) -> Result<Ending, AllocError>
+        ensures { IfOk result (λ e. EndsAs e self.now) }
+    {
+        Ok(Ending {
+            status: self.status,
+            output: self.output.clone()?,
+            errors: self.errors.clone()?,
+        })
+    }
+
+    /// Keeps the first bytes, so many at most, of what is written on each out.
+    pub fn keep_front(&mut self, count: usize) {
+        self.output.truncate(count);
+        self.errors.truncate(count);
+    }
+
+    /// Sets the status that a text spells.
+    pub fn put_status(&mut self, text: &str) -> Result<(), CaseFault> {
+        match text.parse::<u8>() {
+            Ok(status) => {
+                self.status = status;
+                Ok(())
+            }
+            Err(_) => Err(CaseFault::NoNumber),
+        }
+    }
+}
+
+/// Appends a text and a line feed.
+pub fn put_line(bytes: &mut Vec<u8>, line: &str) -> Result<(), AllocError> {
+    bytes.extend_from_slice(line.as_bytes())?;
+    bytes.push(b'\n')?;
+    Ok(())
+}

@@ -1,0 +1,212 @@
+//! What a run finds.
+use crate::ending::put_line;
+use crate::fault::CaseFault;
+use crate::words::{bytes_of, cut_word, number_of, numbered_call, numbers_of};
+use std::alloc::{AllocError, Global};
+use tl_base::{Bytes, HostCall, MemHost};
+
+// How many bytes each out takes, where no line says it.
+const ROOM: u32 = 16_777_216;
+
+/// A file that a run finds.
+#[derive(Drop)]
+struct CaseFile {
+    name: String,
+    bytes: Vec<u8>,
+}
+
+/// The files that a run finds, and how its calls go.
+#[derive(Drop)]
+pub struct Setting {
+    alloc: Global,
+    files: Vec<CaseFile>,
+    fails: Vec<(HostCall, u64)>,
+    // How many bytes each read gives at most; the last holds for all further reads. None: as many as are asked for.
+    most: Vec<u32>,
+    room: u32,
+}
+
+fn copy_files(alloc: Global, files: &[CaseFile]) -> Result<Vec<CaseFile>, AllocError> {
+    let mut copies = Vec::new(alloc);
+    for file in files {
+        let name = file.name.clone()?;
+        let bytes = file.bytes.clone()?;
+        copies.push(CaseFile { name, bytes })?;
+    }
+    Ok(copies)
+}
+
+// Appends a text so many times: a count, a space, and the text.
+fn put_often(bytes: &mut Vec<u8>, rest: &str) -> Result<(), CaseFault> {
+    let (count, text) = cut_word(rest);
+    for _ in 0..number_of(count)? {
+        bytes.extend_from_slice(text.as_bytes())?;
+    }
+    Ok(())
+}
+
+// Appends one byte until there are so many: the size, a space, and the byte's digits.
+fn pad(alloc: Global, bytes: &mut Vec<u8>, rest: &str) -> Result<(), CaseFault> {
+    let (size, digits) = cut_word(rest);
+    let size = number_of(size)? as usize;
+    if bytes.len() > size {
+        return Err(CaseFault::LongFile);
+    }
+    match bytes_of(alloc, digits)?.as_slice() {
+        [byte] => Ok(bytes.resize(size, *byte)?),
+        _ => Err(CaseFault::NoDigits),
+    }
+}
+
+// Takes so many bytes away from the end.
+fn chop(bytes: &mut Vec<u8>, rest: &str) -> Result<(), CaseFault> {
+    let count = number_of(rest)? as usize;
+    if count > bytes.len() {
+        return Err(CaseFault::ShortFile);
+    }
+    bytes.truncate(bytes.len() - count);
+    Ok(())
+}
+
+// The index of the file with a name.
+fn index_of(files: &[CaseFile], name: &str) -> Option<usize> {
+    for (index, file) in files.iter().enumerate() {
+        if file.name.as_str() == name {
+            return Some(index);
+        }
+    }
+    None
+}
+
+impl Setting {
+    /// No file; no call fails or is cut.
+    pub fn new(alloc: Global) -> Setting {
+        Setting {
+            alloc,
+            files: Vec::new(alloc),
+            fails: Vec::new(alloc),
+            most: Vec::new(alloc),
+            room: ROOM,
+        }
+    }
+
+    /// The same files and calls, for one run.
+    pub fn copy(&self) -> Result<Setting, AllocError> {
+        Ok(Setting {
+            alloc: self.alloc,
+            files: copy_files(self.alloc, &self.files)?,
+            fails: Vec::from_slice(self.alloc, &self.fails)?,
+            most: Vec::from_slice(self.alloc, &self.most)?,
+            room: self.room,
+        })
+    }
+
+    pub fn alloc(&self) -> Global {
+        self.alloc
+    }
+
+    /// Lets the calls of the next run go well, over the same files.
+    pub fn calm(&mut self) {
+        self.fails.clear();
+        self.most.clear();
+        self.room = ROOM;
+    }
+
+    /// Begins a file, in place of one with the name.
+    pub fn begin(&mut self, name: &str, bytes: Vec<u8>) -> Result<(), AllocError> {
+        self.files.retain(|file| file.name.as_str() != name);
+        let name = String::from_str(self.alloc, name)?;
+        self.files.push(CaseFile { name, bytes })?;
+        Ok(())
+    }
+
+    /// The bytes of the file with this name.
+    pub fn file(&self, name: &str) -> Option<&[u8]> {
+        let index = index_of(&self.files, name)?;
+        let file = self.files.get(index)?;
+        Some(file.bytes.as_slice())
+    }
+
+    /// Takes a line that says how the file that was begun last goes on.
+    pub fn take_content(&mut self, word: &str, rest: &str) -> Result<(), CaseFault> {
+        let alloc = self.alloc;
+        let Some(file) = self.files.last_mut() else {
+            return Err(CaseFault::NoFile);
+        };
+        match word {
+            "text" => Ok(file.bytes.extend_from_slice(rest.as_bytes())?),
+            "line" => Ok(put_line(&mut file.bytes, rest)?),
+            "repeat" => put_often(&mut file.bytes, rest),
+            "pad" => pad(alloc, &mut file.bytes, rest),
+            "chop" => chop(&mut file.bytes, rest),
+            "hex" => {
+                let bytes = bytes_of(alloc, rest)?;
+                Ok(file.bytes.extend_from_slice(&bytes)?)
+            }
+            _ => Err(CaseFault::NoWord),
+        }
+    }
+
+    /// Takes a line that says how calls of the next run go.
+    pub fn take_call(&mut self, word: &str, rest: &str) -> Result<(), CaseFault> {
+        match word {
+            "fails" => Ok(self.fails.push(numbered_call(rest)?)?),
+            "room" => {
+                self.room = number_of(rest)?;
+                Ok(())
+            }
+            "reads-at-most" => {
+                self.most = numbers_of(self.alloc, rest)?;
+                Ok(())
+            }
+            _ => Err(CaseFault::NoWord),
+        }
+    }
+
+    // The bytes of the longest file.
+    fn longest(&self) -> usize {
+        let mut most = 0usize;
+        for file in self.files.iter() {
+            most = most.max(file.bytes.len());
+        }
+        most
+    }
+
+    fn put_files(&self, host: &mut MemHost) -> Result<(), AllocError> {
+        for file in self.files.iter() {
+            let bytes = Bytes::from_slice(self.alloc, &file.bytes)?;
+            host.file(self.alloc, file.name.as_str(), bytes)?;
+        }
+        Ok(())
+    }
+
+    fn put_fails(&self, host: &mut MemHost) -> Result<(), AllocError> {
+        for (call, number) in self.fails.iter() {
+            host.fail(*call, *number)?;
+        }
+        Ok(())
+    }
+
+    // Says of each read of a file up to its end how many bytes it gives at most.
+    fn put_cuts(&self, host: &mut MemHost) -> Result<(), AllocError> {
+        let Some(last) = self.most.last() else {
+            return Ok(());
+        };
+        for most in self.most.iter() {
+            host.cut(*most)?;
+        }
+        for _ in 0..self.longest() {
+            host.cut(*last)?;
+        }
+        Ok(())
+    }
+
+    /// The outside of a run.
+    pub fn host(&self) -> Result<MemHost, AllocError> {
+        let mut host = MemHost::new(self.alloc, self.room)?;
+        self.put_files(&mut host)?;
+        self.put_fails(&mut host)?;
+        self.put_cuts(&mut host)?;
+        Ok(host)
+    }
+}

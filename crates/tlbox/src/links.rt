@@ -1,0 +1,71 @@
+//! Links: streams that give up in time, and send what they are given at once.
+use std::io;
+use std::io::{BufReader, ErrorKind, Read, Write};
+use std::net::{TcpListener, TcpStream, ToSocketAddrs};
+use std::time::Duration;
+
+/// How many seconds one call on a link may wait for the other end.
+const PATIENCE: u64 = 30;
+
+fn patience() -> Duration {
+    Duration::from_secs(PATIENCE)
+}
+
+/// A stream that is read through a buffer.
+#[derive(Drop)]
+pub struct Link {
+    stream: BufReader<TcpStream>,
+}
+
+impl Link {
+    // A packet is written in two pieces. Without the first option the second piece waits until the other end has confirmed the first.
+    fn new(rt: &HostRuntime, stream: TcpStream) -> io::Result<Link> {
+        stream.set_nodelay(true)?;
+        stream.set_read_timeout(Some(patience()))?;
+        stream.set_write_timeout(Some(patience()))?;
+        Ok(Link {
+            stream: BufReader::new(rt.alloc(), stream)?,
+        })
+    }
+}
+
+impl Read for Link {
+    fn read(&mut self, buf: &mut [u8]) -> io::Result<usize> {
+        self.stream.read(buf)
+    }
+}
+
+impl Write for Link {
+    fn write(&mut self, buf: &[u8]) -> io::Result<usize> {
+        let mut stream = self.stream.get_ref();
+        stream.write(buf)
+    }
+
+    fn flush(&mut self) -> io::Result<()> {
+        Ok(())
+    }
+}
+
+/// Connects to the first address of the name that answers.
+pub fn connect(rt: &HostRuntime, address: &str) -> io::Result<Link> {
+    let mut last = io::Error::from(ErrorKind::InvalidInput);
+    for address in address.to_socket_addrs(rt)? {
+        match TcpStream::connect_timeout(rt, &address, patience()) {
+            Ok(stream) => return Link::new(rt, stream),
+            Err(fault) => last = fault,
+        }
+    }
+    Err(last)
+}
+
+/// Waits for the next link that somebody makes. One whose other end gave up before it was accepted is passed over.
+pub fn accept(rt: &HostRuntime, listener: &TcpListener) -> io::Result<Link> {
+    for _ in 0..u64::MAX {
+        match listener.accept() {
+            Ok((stream, _)) => return Link::new(rt, stream),
+            Err(fault) if fault.kind() == ErrorKind::ConnectionAborted => {}
+            Err(fault) => return Err(fault),
+        }
+    }
+    Err(io::Error::from(ErrorKind::ConnectionAborted))
+}
