@@ -21,6 +21,14 @@ impl Asked<'_> {
     }
 }
 
+/// The first of some words, which is empty where there is none, and the others.
+pub fn first<'w, 'r>(words: &'w [&'r str]) -> (&'r str, &'w [&'r str]) {
+    match words {
+        [first, rest @ ..] => (*first, rest),
+        [] => ("", words),
+    }
+}
+
 /// The words and texts of what a row asks.
 pub fn asked_of(alloc: Global, row: &str) -> Result<Asked<'_>, AllocError> {
     let mut words = Vec::new(alloc);

@@ -5,7 +5,7 @@ mod numbers;
 mod sinks;
 mod sources;
 
-use crate::asked::{Asked, asked_of};
+use crate::asked::{Asked, asked_of, first};
 use crate::base::hosts::host_told;
 use crate::base::lists::list_told;
 use crate::base::numbers::number_told;
@@ -40,12 +40,14 @@ impl Base {
 // The answer of the call that a row says.
 fn told(alloc: Global, base: &mut Base, asked: &Asked) -> Result<String, AllocError> {
     let text = asked.text();
-    match asked.words.as_slice() {
-        ["list", name, call @ ..] => list_told(alloc, &mut base.lists, name, call, text),
-        ["source", name, call @ ..] => source_told(alloc, &mut base.sources, name, call, text),
-        ["sink", name, call @ ..] => sink_told(alloc, &mut base.sinks, name, call, text),
-        ["host", name, call @ ..] => host_told(alloc, &mut base.hosts, name, call, text),
-        call => number_told(alloc, call, text),
+    let (kind, words) = first(asked.words.as_slice());
+    let (name, call) = first(words);
+    match kind {
+        "list" => list_told(alloc, &mut base.lists, name, call, text),
+        "source" => source_told(alloc, &mut base.sources, name, call, text),
+        "sink" => sink_told(alloc, &mut base.sinks, name, call, text),
+        "host" => host_told(alloc, &mut base.hosts, name, call, text),
+        _ => number_told(alloc, asked.words.as_slice(), text),
     }
 }
 

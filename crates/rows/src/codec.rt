@@ -6,7 +6,7 @@ mod trees;
 mod values;
 mod walks;
 
-use crate::asked::{Asked, asked_of};
+use crate::asked::{Asked, asked_of, first};
 use crate::codec::entries::{entries_told, found_told, type_told};
 use crate::codec::grammar::text_told;
 use crate::codec::plans::planned_told;
@@ -39,33 +39,38 @@ fn schema_told(
     call: &[&str],
     text: &[u8],
 ) -> Result<String, AllocError> {
+    let (call, words) = first(call);
+    let (word, call_of) = first(words);
     match call {
-        ["find", name] => found_told(alloc, schema, name, false),
-        ["find", name, "function"] => found_told(alloc, schema, name, true),
-        ["type_of"] => type_told(alloc, schema, text),
-        ["walk", of, call @ ..] => walked_told(alloc, schema, of, call),
-        ["plan", of, call @ ..] => planned_told(alloc, schema, of, call, text),
+        "find" => found_told(alloc, schema, word, first(call_of).0 == "function"),
+        "type_of" => type_told(alloc, schema, text),
+        "walk" => walked_told(alloc, schema, word, call_of),
+        "plan" => planned_told(alloc, schema, word, call_of, text),
         _ => String::from_str(alloc, "an unknown call"),
     }
+}
+
+// Names a schema.
+fn put(alloc: Global, codec: &mut Codec, name: &str, schema: Schema) -> Result<String, AllocError> {
+    codec
+        .schemas
+        .insert(String::from_str(alloc, name)?, schema)?;
+    String::from_str(alloc, "made")
 }
 
 // The answer of the call that a row says.
 fn told(alloc: Global, codec: &mut Codec, asked: &Asked) -> Result<String, AllocError> {
     let text = asked.text();
-    match asked.words.as_slice() {
-        ["schema", name] => {
-            let schema = schema_of(alloc, text)?;
-            codec
-                .schemas
-                .insert(String::from_str(alloc, name)?, schema)?;
-            String::from_str(alloc, "made")
-        }
-        ["entries"] => entries_told(alloc, &schema_of(alloc, text)?),
-        ["by", name, call @ ..] => match codec.schemas.get(*name) {
+    let (kind, words) = first(asked.words.as_slice());
+    let (name, call) = first(words);
+    match kind {
+        "schema" => put(alloc, codec, name, schema_of(alloc, text)?),
+        "entries" => entries_told(alloc, &schema_of(alloc, text)?),
+        "by" => match codec.schemas.get(name) {
             Some(schema) => schema_told(alloc, schema, call, text),
             None => String::from_str(alloc, "no such schema"),
         },
-        call => text_told(alloc, call, text),
+        _ => text_told(alloc, kind, text),
     }
 }
 

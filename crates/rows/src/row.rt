@@ -1,5 +1,6 @@
 //! A row `ASKED => WANTED`, and how it is told.
 use std::alloc::{AllocError, Global};
+use std::fmt::Debug;
 
 /// What a row asks, and the answer that it wants; None where it has none.
 pub fn parted(row: &str) -> Option<(&str, &str)> {
@@ -22,4 +23,9 @@ pub fn otherwise(
 /// A row that can't be looked at, and why.
 pub fn unread(alloc: Global, row: &str, why: &str) -> Result<Option<String>, AllocError> {
     Ok(Some(format!(in alloc; "{row} => {why}")?))
+}
+
+/// The text of a value of any type, by its bound: how a type tells itself is not gone into.
+pub fn text_of<T: Debug>(alloc: Global, value: &T) -> Result<String, AllocError> {
+    format!(in alloc; "{value:?}")
 }

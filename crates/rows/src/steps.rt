@@ -1,5 +1,6 @@
 //! What reading steps from a source answers, told as text.
 use crate::answers::Read;
+use crate::row::text_of;
 use box_wire::{read_step, spell_step};
 use std::alloc::{AllocError, Global};
 use tl_base::{Bytes, MemSource};
@@ -23,11 +24,11 @@ fn source_of(
 pub fn step_read(alloc: Global, profile: &Profile, bytes: &Bytes) -> Result<Read, AllocError> {
     match read_step(alloc, profile, &mut source_of(alloc, bytes, false, false)?) {
         Ok(Some(step)) => match spell_step(alloc, profile, &step) {
-            Ok(spelled) => Ok(Ok((format!(in alloc; "{step:?}")?, spelled))),
+            Ok(spelled) => Ok(Ok((text_of(alloc, &step)?, spelled))),
             Err(_) => Err(AllocError),
         },
         Ok(None) => Ok(Err(String::from_str(alloc, "the end")?)),
-        Err(fault) => Ok(Err(format!(in alloc; "{fault:?}")?)),
+        Err(fault) => Ok(Err(text_of(alloc, &fault)?)),
     }
 }
 
@@ -40,7 +41,8 @@ fn put_step(
 ) -> Result<bool, AllocError> {
     match read_step(alloc, profile, from) {
         Ok(Some(step)) => {
-            text.push_str(format!(in alloc; "{step:?}; ")?.as_str())?;
+            text.push_str(text_of(alloc, &step)?.as_str())?;
+            text.push_str("; ")?;
             Ok(true)
         }
         Ok(None) => {
@@ -48,7 +50,7 @@ fn put_step(
             Ok(false)
         }
         Err(fault) => {
-            text.push_str(format!(in alloc; "{fault:?}")?.as_str())?;
+            text.push_str(text_of(alloc, &fault)?.as_str())?;
             Ok(false)
         }
     }

@@ -1,5 +1,5 @@
 //! Rows `host NAME CALL` of the host in memory.
-use crate::asked::quoted;
+use crate::asked::{first, quoted};
 use crate::base::sinks::all_told;
 use crate::base::sources::{end_told, rest_told, word_told};
 use std::alloc::{AllocError, Global};
@@ -43,16 +43,16 @@ fn out_of(word: &str) -> Option<Out> {
 }
 
 fn kind_of(words: &[&str]) -> Option<HostCall> {
-    match words {
-        ["open"] => Some(HostCall::Open),
-        ["read", slot] => Some(HostCall::Read {
-            slot: slot_of(slot)?,
-        }),
-        ["create"] => Some(HostCall::Create),
-        ["write", out] => Some(HostCall::Write { out: out_of(out)? }),
-        ["listen"] => Some(HostCall::Listen),
-        ["connect"] => Some(HostCall::Connect),
-        ["accept"] => Some(HostCall::Accept),
+    let (kind, words) = first(words);
+    let (of, _) = first(words);
+    match kind {
+        "open" => Some(HostCall::Open),
+        "read" => Some(HostCall::Read { slot: slot_of(of)? }),
+        "create" => Some(HostCall::Create),
+        "write" => Some(HostCall::Write { out: out_of(of)? }),
+        "listen" => Some(HostCall::Listen),
+        "connect" => Some(HostCall::Connect),
+        "accept" => Some(HostCall::Accept),
         _ => None,
     }
 }
@@ -122,12 +122,14 @@ fn tells(
     call: &[&str],
     text: &[u8],
 ) -> Result<bool, AllocError> {
+    let (call, words) = first(call);
+    let (word, kind) = first(words);
     match call {
-        ["to-come"] => tell_bytes(alloc, host, None, text),
-        ["file", name] => tell_bytes(alloc, host, Some(name), text),
-        ["cut", most] => tell_cut(host, most),
-        ["moment", now] => tell_moment(host, now),
-        ["fail", number, kind @ ..] => tell_fail(host, number, kind),
+        "to-come" => tell_bytes(alloc, host, None, text),
+        "file" => tell_bytes(alloc, host, Some(word), text),
+        "cut" => tell_cut(host, word),
+        "moment" => tell_moment(host, word),
+        "fail" => tell_fail(host, word, kind),
         _ => Ok(false),
     }
 }
@@ -172,11 +174,13 @@ fn slot_told(
     slot: Slot,
     call: &[&str],
 ) -> Result<String, AllocError> {
+    let (call, words) = first(call);
+    let (word, _) = first(words);
     match call {
-        ["open", name] => unit_told(alloc, host.open_slot(slot, name)),
-        ["read"] => read_told(alloc, host, slot),
-        ["end"] => end_told(alloc, &mut SourceOf::new(host, slot)),
-        ["rest", limit] => rest_told(alloc, &mut SourceOf::new(host, slot), limit),
+        "open" => unit_told(alloc, host.open_slot(slot, word)),
+        "read" => read_told(alloc, host, slot),
+        "end" => end_told(alloc, &mut SourceOf::new(host, slot)),
+        "rest" => rest_told(alloc, &mut SourceOf::new(host, slot), word),
         _ => String::from_str(alloc, "an unknown call"),
     }
 }
@@ -189,11 +193,12 @@ fn out_told(
     call: &[&str],
     text: &[u8],
 ) -> Result<String, AllocError> {
+    let (call, words) = first(call);
     match call {
-        ["create", name] => unit_told(alloc, host.create(out, name)),
-        ["write"] => write_told(alloc, host, out, text),
-        ["all"] => all_told(alloc, &mut SinkOf::new(host, out), text),
-        ["written"] => quoted(alloc, host.written(out)),
+        "create" => unit_told(alloc, host.create(out, first(words).0)),
+        "write" => write_told(alloc, host, out, text),
+        "all" => all_told(alloc, &mut SinkOf::new(host, out), text),
+        "written" => quoted(alloc, host.written(out)),
         _ => String::from_str(alloc, "an unknown call"),
     }
 }
@@ -205,10 +210,11 @@ fn link_told(
     call: &[&str],
     text: &[u8],
 ) -> Result<String, AllocError> {
+    let (call, _) = first(call);
     match call {
-        ["word"] => word_told(alloc, &mut LinkOf::new(host)),
-        ["end"] => end_told(alloc, &mut LinkOf::new(host)),
-        ["all"] => all_told(alloc, &mut LinkOf::new(host), text),
+        "word" => word_told(alloc, &mut LinkOf::new(host)),
+        "end" => end_told(alloc, &mut LinkOf::new(host)),
+        "all" => all_told(alloc, &mut LinkOf::new(host), text),
         _ => String::from_str(alloc, "an unknown call"),
     }
 }
@@ -241,28 +247,32 @@ fn failing_told(alloc: Global, host: &mut MemHost) -> Result<String, AllocError>
     Ok(text)
 }
 
+fn now_told(alloc: Global, host: &mut MemHost) -> Result<String, AllocError> {
+    let now = host.now();
+    format!(in alloc; "{now}")
+}
+
 fn answered(
     alloc: Global,
     host: &mut MemHost,
     call: &[&str],
     text: &[u8],
 ) -> Result<String, AllocError> {
+    let (call, words) = first(call);
+    let (word, call_of) = first(words);
     match call {
-        ["listen", address] => unit_told(alloc, host.listen(address)),
-        ["connect", address] => unit_told(alloc, host.connect(address)),
-        ["accept"] => unit_told(alloc, host.accept()),
-        ["now"] => {
-            let now = host.now();
-            format!(in alloc; "{now}")
-        }
-        ["three-of-each"] => failing_told(alloc, host),
-        ["link", call @ ..] => link_told(alloc, host, call, text),
-        ["from", slot, call @ ..] => match slot_of(slot) {
-            Some(slot) => slot_told(alloc, host, slot, call),
+        "listen" => unit_told(alloc, host.listen(word)),
+        "connect" => unit_told(alloc, host.connect(word)),
+        "accept" => unit_told(alloc, host.accept()),
+        "now" => now_told(alloc, host),
+        "three-of-each" => failing_told(alloc, host),
+        "link" => link_told(alloc, host, words, text),
+        "from" => match slot_of(word) {
+            Some(slot) => slot_told(alloc, host, slot, call_of),
             None => String::from_str(alloc, "no such slot"),
         },
-        ["to", out, call @ ..] => match out_of(out) {
-            Some(out) => out_told(alloc, host, out, call, text),
+        "to" => match out_of(word) {
+            Some(out) => out_told(alloc, host, out, call_of, text),
             None => String::from_str(alloc, "no such out"),
         },
         _ => String::from_str(alloc, "an unknown call"),
@@ -273,12 +283,13 @@ fn answered(
 
 // The host that the words make; None where they make none.
 fn made(alloc: Global, call: &[&str]) -> Result<Option<MemHost>, AllocError> {
+    let (call, words) = first(call);
     match call {
-        ["room", room] => match room.parse::<u32>() {
+        "room" => match first(words).0.parse::<u32>() {
             Ok(room) => Ok(Some(MemHost::new(alloc, room)?)),
             Err(_) => Ok(None),
         },
-        ["prepared"] => Ok(Some(prepared(alloc)?)),
+        "prepared" => Ok(Some(prepared(alloc)?)),
         _ => Ok(None),
     }
 }

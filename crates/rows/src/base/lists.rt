@@ -1,5 +1,5 @@
 //! Rows `list NAME CALL`.
-use crate::asked::quoted;
+use crate::asked::{first, quoted};
 use std::alloc::{AllocError, Global};
 use std::collections::BTreeMap;
 use tl_base::Bytes;
@@ -8,23 +8,35 @@ use tl_base::Bytes;
 fn list_after(
     alloc: Global,
     list: &mut Bytes,
-    call: &[&str],
+    call: &str,
     text: &[u8],
 ) -> Result<String, AllocError> {
     match call {
-        ["push"] => {
+        "push" => {
             for byte in text {
                 list.push(*byte)?;
             }
             quoted(alloc, list.as_slice())
         }
-        ["append"] => {
+        "append" => {
             list.append(text)?;
             quoted(alloc, list.as_slice())
         }
-        ["copy"] => quoted(alloc, list.copy()?.as_slice()),
+        "copy" => quoted(alloc, list.copy()?.as_slice()),
         _ => String::from_str(alloc, "an unknown call"),
     }
+}
+
+// Names a list.
+fn put(
+    alloc: Global,
+    lists: &mut BTreeMap<String, Bytes>,
+    name: &str,
+    list: Bytes,
+) -> Result<String, AllocError> {
+    let told = quoted(alloc, list.as_slice())?;
+    lists.insert(String::from_str(alloc, name)?, list)?;
+    Ok(told)
 }
 
 /// The answer of a call of the list with this name.
@@ -35,17 +47,15 @@ pub fn list_told(
     call: &[&str],
     text: &[u8],
 ) -> Result<String, AllocError> {
-    let made = match call {
-        ["new"] => Bytes::new(alloc),
-        ["of"] => Bytes::from_slice(alloc, text)?,
-        call => {
-            return match lists.get_mut(name) {
-                Some(list) => list_after(alloc, list, call, text),
-                None => String::from_str(alloc, "no such list"),
-            };
-        }
-    };
-    let told = quoted(alloc, made.as_slice())?;
-    lists.insert(String::from_str(alloc, name)?, made)?;
-    Ok(told)
+    let (call, _) = first(call);
+    if call == "of" {
+        return put(alloc, lists, name, Bytes::from_slice(alloc, text)?);
+    }
+    if call == "new" {
+        return put(alloc, lists, name, Bytes::new(alloc));
+    }
+    match lists.get_mut(name) {
+        Some(list) => list_after(alloc, list, call, text),
+        None => String::from_str(alloc, "no such list"),
+    }
 }

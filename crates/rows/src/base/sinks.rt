@@ -1,5 +1,5 @@
 //! Rows `sink NAME CALL`.
-use crate::asked::quoted;
+use crate::asked::{first, quoted};
 use crate::base::sources::fails_of;
 use std::alloc::{AllocError, Global};
 use std::collections::BTreeMap;
@@ -31,13 +31,27 @@ fn answered(
     call: &[&str],
     text: &[u8],
 ) -> Result<String, AllocError> {
+    let (call, _) = first(call);
     let told = match call {
-        ["write"] => all_told(alloc, to, text)?,
-        ["packet"] => packet_told(alloc, to, text)?,
+        "write" => all_told(alloc, to, text)?,
+        "packet" => packet_told(alloc, to, text)?,
         _ => String::from_str(alloc, "an unknown call")?,
     };
     let has = quoted(alloc, to.as_slice())?;
     format!(in alloc; "{told} {has}")
+}
+
+// Names a sink with so much room, whose writes with some numbers fail.
+fn put(
+    alloc: Global,
+    sinks: &mut BTreeMap<String, MemSink>,
+    name: &str,
+    room: u32,
+    fails: &str,
+) -> Result<String, AllocError> {
+    let sink = MemSink::new(alloc, room, fails_of(alloc, fails)?)?;
+    sinks.insert(String::from_str(alloc, name)?, sink)?;
+    String::from_str(alloc, "made")
 }
 
 /// The answer of a call of the sink with this name.
@@ -48,13 +62,11 @@ pub fn sink_told(
     call: &[&str],
     text: &[u8],
 ) -> Result<String, AllocError> {
-    if let ["room", room, "fails", fails] = call {
-        let Ok(room) = room.parse::<u32>() else {
-            return String::from_str(alloc, "no room");
+    if let [_, room, _, fails] = call {
+        return match room.parse::<u32>() {
+            Ok(room) => put(alloc, sinks, name, room, fails),
+            Err(_) => String::from_str(alloc, "no room"),
         };
-        let sink = MemSink::new(alloc, room, fails_of(alloc, fails)?)?;
-        sinks.insert(String::from_str(alloc, name)?, sink)?;
-        return String::from_str(alloc, "made");
     }
     match sinks.get_mut(name) {
         Some(sink) => answered(alloc, sink, call, text),

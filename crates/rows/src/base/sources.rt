@@ -1,5 +1,5 @@
 //! Rows `source NAME CALL`, and what any source answers, told as text.
-use crate::asked::quoted;
+use crate::asked::{first, quoted};
 use std::alloc::{AllocError, Global};
 use std::collections::BTreeMap;
 use tl_base::{
@@ -79,14 +79,15 @@ fn limited_told<S: Source>(alloc: Global, from: &mut S) -> Result<String, AllocE
 }
 
 fn answered<S: Source>(alloc: Global, from: &mut S, call: &[&str]) -> Result<String, AllocError> {
+    let (call, words) = first(call);
     match call {
-        ["read"] => read_told(alloc, from),
-        ["three"] => three_told(alloc, from),
-        ["word"] => word_told(alloc, from),
-        ["end"] => end_told(alloc, from),
-        ["rest", limit] => rest_told(alloc, from, limit),
-        ["packet"] => packet_told(alloc, from),
-        ["limited"] => limited_told(alloc, from),
+        "read" => read_told(alloc, from),
+        "three" => three_told(alloc, from),
+        "word" => word_told(alloc, from),
+        "end" => end_told(alloc, from),
+        "rest" => rest_told(alloc, from, first(words).0),
+        "packet" => packet_told(alloc, from),
+        "limited" => limited_told(alloc, from),
         _ => String::from_str(alloc, "an unknown call"),
     }
 }
@@ -139,7 +140,7 @@ pub fn source_told(
     call: &[&str],
     text: &[u8],
 ) -> Result<String, AllocError> {
-    if let ["cuts", cuts, "fails", fails] = call {
+    if let [_, cuts, _, fails] = call {
         return put(alloc, sources, name, made(alloc, text, cuts, fails)?);
     }
     match sources.get_mut(name) {

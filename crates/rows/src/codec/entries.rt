@@ -1,5 +1,6 @@
 //! Entries of schemas, and types by their names.
 use crate::asked::quoted;
+use crate::row::text_of;
 use std::alloc::{AllocError, Global};
 use tl_schema::{Entry, Schema, SchemaField, type_of};
 
@@ -11,14 +12,15 @@ fn put_field(alloc: Global, out: &mut String, field: &SchemaField) -> Result<(),
     if let Some(var) = field.var {
         out.push_str(&format!(in alloc; "!{var} ")?)?;
     }
-    let of = &field.of;
-    out.push_str(&format!(in alloc; "{of:?}\n")?)
+    out.push_str(&text_of(alloc, &field.of)?)?;
+    out.push_str("\n")
 }
 
 // The number of an entry, how many variables it has, its type's number and its result; and its fields.
 fn put_entry(alloc: Global, out: &mut String, entry: &Entry) -> Result<(), AllocError> {
-    let (number, vars, head, result) = (entry.number, entry.vars, entry.head, &entry.result);
-    out.push_str(&format!(in alloc; "= {number} {vars} {head} {result:?}\n")?)?;
+    let (number, vars, head) = (entry.number, entry.vars, entry.head);
+    let result = text_of(alloc, &entry.result)?;
+    out.push_str(&format!(in alloc; "= {number} {vars} {head} {result}\n")?)?;
     for field in &entry.fields {
         put_field(alloc, out, field)?;
     }
@@ -48,7 +50,7 @@ pub fn found_told(
 /// The type that a text names.
 pub fn type_told(alloc: Global, schema: &Schema, text: &[u8]) -> Result<String, AllocError> {
     match type_of(alloc, schema, text) {
-        Ok(of) => format!(in alloc; "{of:?}"),
-        Err(fault) => format!(in alloc; "{fault:?}"),
+        Ok(of) => text_of(alloc, &of),
+        Err(fault) => text_of(alloc, &fault),
     }
 }

@@ -79,13 +79,13 @@ fn printed_told(alloc: Global, text: &[u8]) -> Result<String, AllocError> {
 }
 
 /// The answer of a call of a text alone.
-pub fn text_told(alloc: Global, call: &[&str], text: &[u8]) -> Result<String, AllocError> {
+pub fn text_told(alloc: Global, call: &str, text: &[u8]) -> Result<String, AllocError> {
     match call {
-        ["tokens"] => tokens_told(alloc, text),
-        ["program"] => program_told(alloc, text),
-        ["type"] => tree_told(alloc, text),
-        ["description"] => description_told(alloc, text),
-        ["print"] => printed_told(alloc, text),
+        "tokens" => tokens_told(alloc, text),
+        "program" => program_told(alloc, text),
+        "type" => tree_told(alloc, text),
+        "description" => description_told(alloc, text),
+        "print" => printed_told(alloc, text),
         _ => String::from_str(alloc, "an unknown call"),
     }
 }

@@ -1,6 +1,7 @@
 //! Values from bytes and bytes from values, by the plan of a type.
-use crate::asked::quoted;
+use crate::asked::{first, quoted};
 use crate::codec::values::value_of;
+use crate::row::text_of;
 use crate::schemas::plan_of;
 use std::alloc::{AllocError, Global};
 use tl_base::{Bytes, MemSink, MemSource};
@@ -26,8 +27,11 @@ fn decoded_told(alloc: Global, plan: &Plan, bytes: &[u8]) -> Result<String, Allo
         return String::from_str(alloc, "no root");
     }
     match decode(alloc, plan, 0, &mut at, &mut from) {
-        Ok(value) => format!(in alloc; "{value:?} to {at}"),
-        Err(fault) => format!(in alloc; "{fault:?}"),
+        Ok(value) => {
+            let value = text_of(alloc, &value)?;
+            format!(in alloc; "{value} to {at}")
+        }
+        Err(fault) => text_of(alloc, &fault),
     }
 }
 
@@ -45,7 +49,8 @@ fn put_next(
     }
     match decode_or_end(alloc, plan, 0, at, from) {
         Ok(Some(value)) => {
-            told.push_str(format!(in alloc; "{value:?} to {at}; ")?.as_str())?;
+            let value = text_of(alloc, &value)?;
+            told.push_str(format!(in alloc; "{value} to {at}; ")?.as_str())?;
             Ok(true)
         }
         Ok(None) => {
@@ -53,7 +58,7 @@ fn put_next(
             Ok(false)
         }
         Err(fault) => {
-            told.push_str(format!(in alloc; "{fault:?}")?.as_str())?;
+            told.push_str(text_of(alloc, &fault)?.as_str())?;
             Ok(false)
         }
     }
@@ -88,12 +93,12 @@ fn fed<'p, 's>(
             Ok(Some(decoder))
         }
         Ok(Fed::Done { used }) => {
-            let value = decoder.into_value();
-            told.push_str(format!(in alloc; "done after {used}, {value:?}")?.as_str())?;
+            let value = text_of(alloc, &decoder.into_value())?;
+            told.push_str(format!(in alloc; "done after {used}, {value}")?.as_str())?;
             Ok(None)
         }
         Err(fault) => {
-            told.push_str(format!(in alloc; "{fault:?}")?.as_str())?;
+            told.push_str(text_of(alloc, &fault)?.as_str())?;
             Ok(None)
         }
     }
@@ -144,7 +149,7 @@ fn encoded_told(alloc: Global, plan: &Plan, value: &Value) -> Result<String, All
             let has = quoted(alloc, to.as_slice())?;
             format!(in alloc; "{count} {has}")
         }
-        Err(fault) => format!(in alloc; "{fault:?}"),
+        Err(fault) => text_of(alloc, &fault),
     }
 }
 
@@ -158,7 +163,7 @@ fn length_told(alloc: Global, plan: &Plan, value: &Value) -> Result<String, Allo
             let (length, asked) = (spelling.len(), spelled_len(plan, 0, value));
             format!(in alloc; "{length} {asked}")
         }
-        Err(fault) => format!(in alloc; "{fault:?}"),
+        Err(fault) => text_of(alloc, &fault),
     }
 }
 
@@ -202,9 +207,7 @@ pub fn planned_told(
     call: &[&str],
     text: &[u8],
 ) -> Result<String, AllocError> {
-    let [call, words @ ..] = call else {
-        return String::from_str(alloc, "an unknown call");
-    };
+    let (call, words) = first(call);
     match plan_of(alloc, schema, of.as_bytes()) {
         Some(plan) => plan_told(alloc, &plan, call, words, text),
         None => String::from_str(alloc, "no plan"),

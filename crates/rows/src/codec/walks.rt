@@ -1,6 +1,7 @@
 //! Values as bytes and as JSON, by a schema and a type.
-use crate::asked::quoted;
+use crate::asked::{first, quoted};
 use crate::codec::values::value_of;
+use crate::row::text_of;
 use std::alloc::{AllocError, Global};
 use tl_base::MemSink;
 use tl_encode::encode_walk;
@@ -21,7 +22,7 @@ fn encoded_told(
     };
     match encode_walk(alloc, schema, &of, value, to) {
         Ok(count) => format!(in alloc; "{count}"),
-        Err(fault) => format!(in alloc; "{fault:?}"),
+        Err(fault) => text_of(alloc, &fault),
     }
 }
 
@@ -59,17 +60,17 @@ pub fn walked_told(
     of: &str,
     call: &[&str],
 ) -> Result<String, AllocError> {
-    let (["room", _, words @ ..] | ["show", words @ ..]) = call else {
-        return String::from_str(alloc, "an unknown call");
-    };
-    let Some(value) = value_of(alloc, words)? else {
-        return String::from_str(alloc, "no value");
-    };
+    let (call, words) = first(call);
+    let (word, after) = first(words);
     match call {
-        ["room", room, ..] => match room.parse::<u32>() {
-            Ok(room) => into_room(alloc, schema, of, &value, room),
-            Err(_) => String::from_str(alloc, "no room"),
+        "show" => match value_of(alloc, words)? {
+            Some(value) => shown_told(alloc, schema, of, &value),
+            None => String::from_str(alloc, "no value"),
         },
-        _ => shown_told(alloc, schema, of, &value),
+        "room" => match (word.parse::<u32>(), value_of(alloc, after)?) {
+            (Ok(room), Some(value)) => into_room(alloc, schema, of, &value, room),
+            _ => String::from_str(alloc, "no room or no value"),
+        },
+        _ => String::from_str(alloc, "an unknown call"),
     }
 }
