@@ -108,9 +108,9 @@ serves_last_fits w date (Some m) is =
     serve_fits w m (in_range w.pool m f.packet at) (ap is_served at ∙ f.holds)
 
 -- either of two steps
-either : (w : World) (b : Bool) (x y : Chosen Step) → Fits w x.it → Fits w y.it → Fits w (if b then x else y).it
-either w true x y fits other = fits
-either w false x y other fits = fits
+pub either : (P : Step → Type 0) (b : Bool) (x y : Chosen Step) → P x.it → P y.it → P (if b then x else y).it
+either P true x y is other = is
+either P false x y other is = is
 
 one_of_two : (w : World) (x : ℕ) → length w.clients ≡ 2 → draw_of x % 2 < length w.clients
 one_of_two w x two = omega (arith, two)
@@ -118,19 +118,19 @@ one_of_two w x two = omega (arith, two)
 rest_fits : (w : World) (x : ℕ) → length w.clients ≡ 2 → Fits w (drawn_rest x).it
 rest_fits w x two =
     let client = there no_client (draw_of (drawn x) % 2) (length w.clients) (one_of_two w (drawn x) two) in
-    either w (draw_of x % 16 == 0) _ _ (record { client = client; packet = refl; way = refl }) (either w (draw_of x % 16 == 1) _ _ (record { client = refl; packet = refl; way = refl }) (record { client = client; packet = refl; way = refl }))
+    either (Fits w) (draw_of x % 16 == 0) _ _ (record { client = client; packet = refl; way = refl }) (either (Fits w) (draw_of x % 16 == 1) _ _ (record { client = refl; packet = refl; way = refl }) (record { client = client; packet = refl; way = refl }))
 
 made_fits : (w : World) (n x : ℕ) → length w.clients ≡ 2 → Fits w (made_step (numbers_of w) n x).it
 made_fits w n x two =
     let kind = draw_of x % 8 in
     let k = draw_of (drawn x) % 2 in
     let client = one_of_two w (drawn x) two in
-    either w (kind == 2) _ _ (date_fits w (w.server.date + 1))
-    (either w (kind == 3) _ _ (hears_drawn_fits w w.server.date k (drawn (drawn x)) w.pool refl client)
-    (either w (kind == 4) _ _ (hears_last_fits w w.server.date k (last_where (λ p. is_for k (Some p)) 0 w.pool) refl client)
-    (either w (kind == 5) _ _ (record { client = there no_client k (length w.clients) client; packet = refl; way = refl })
-    (either w (kind == 6) _ _ (serves_last_fits w w.server.date (last_where (λ p. is_served (Some p)) 0 w.pool) refl)
-    (either w (kind == 7) _ _ (rest_fits w (drawn x) two) (record { client = refl; packet = refl; way = refl }))))))
+    either (Fits w) (kind == 2) _ _ (date_fits w (w.server.date + 1))
+    (either (Fits w) (kind == 3) _ _ (hears_drawn_fits w w.server.date k (drawn (drawn x)) w.pool refl client)
+    (either (Fits w) (kind == 4) _ _ (hears_last_fits w w.server.date k (last_where (λ p. is_for k (Some p)) 0 w.pool) refl client)
+    (either (Fits w) (kind == 5) _ _ (record { client = there no_client k (length w.clients) client; packet = refl; way = refl })
+    (either (Fits w) (kind == 6) _ _ (serves_last_fits w w.server.date (last_where (λ p. is_served (Some p)) 0 w.pool) refl)
+    (either (Fits w) (kind == 7) _ _ (rest_fits w (drawn x) two) (record { client = refl; packet = refl; way = refl }))))))
 
 pub made_steps_are_refused_by_bytes : MadeStepsAreRefusedByBytes
 made_steps_are_refused_by_bytes size w n x cause two e = refused_by_bytes size w (made_step (numbers_of w) n x).it cause (made_fits w n x two) e

@@ -3,3 +3,5 @@ mod Telling
 mod OwnLines
 mod NextNumbers
 mod Drawing
+mod Dates
+mod Summing

@@ -1,18 +1,21 @@
 -- Laws of reports. This project's own.
-use Rattle.std.specs.Prelude.{◌≡◌, ◌<◌, ◌^◌, ℕ, List, [], ◌∷◌, ◌++◌, length, Some, slice_get}
+use Rattle.std.specs.Prelude.{◌≡◌, ◌<◌, ◌≤◌, ◌+◌, ◌^◌, ℕ, List, map, [], ◌∷◌, ◌++◌, length, Some, slice_get}
 use Rattle.box_events.specs.declared.steps.Step.{Step}
 use Rattle.box_events.specs.declared.steps.Step.TheVariants.{Date}
 use Rattle.box_server.specs.Servers.{state_of}
+use Rattle.box_client.specs.Numbers.{client_numbers}
 use Rattle.box_client.specs.States.{ClientState}
 use Rattle.box_world.specs.NumberWorlds.{NumberWorld, numbers_of, n_happens, n_run}
-use Rattle.box_world.specs.Possible.{StepCause, no_client, no_packet, wrong_end, pool_full, refusal}
+use Rattle.box_world.specs.Possible.{StepCause, no_client, no_packet, wrong_end, pool_full, bytes_in, refusal}
 use Rattle.box_world.specs.Reached.{boxes_of}
 use Rattle.box_world.specs.Worlds.{Packet, World, run}
 use Rattle.report_lines.specs.Closing.{server_line}
+use Rattle.report_lines.specs.Texts.{made_line}
 use Rattle.world_reports.specs.Closings.{closing_lines}
 use Rattle.world_reports.specs.Draws.{drawn, draw_of}
 use Rattle.world_reports.specs.Made.{made_step, made_steps}
 use Rattle.world_reports.specs.StepLines.{new_packets}
+use Rattle.world_reports.specs.Summaries.{standing_lines, summary}
 use Rattle.world_reports.specs.Told.{IsTold, all_own_lines}
 
 -- ---- lines of steps
@@ -54,3 +57,21 @@ IsPoolFull (pool_full bytes) = Unit {0}
 -- in a world with two clients a step that is made is refused for the pool's bytes alone
 abbrev pub MadeStepsAreRefusedByBytes : Type 0
 MadeStepsAreRefusedByBytes = (size : Packet → ℕ) (w : World) (n x : ℕ) (cause : StepCause) → length w.clients ≡ 2 → refusal size w (made_step (numbers_of w) n x).it ≡ Some cause → IsPoolFull cause
+
+-- the server's clock is set one second on
+abbrev pub IsNextDate : ℕ → Step → Type 0
+IsNextDate date (Date next) = next ≡ date + 1
+IsNextDate date s = Unit {0}
+
+abbrev pub MadeDatesAreNext : Type 0
+MadeDatesAreNext = (w : NumberWorld) (n x : ℕ) → IsNextDate w.server.date (made_step w n x).it
+
+-- so a made run ends at a date that isn't above the number of its steps
+abbrev pub MadeDatesStayBelow : Type 0
+MadeDatesStayBelow = (number count : ℕ) → (n_run 2 (made_steps number count)).server.date ≤ count
+
+-- the summary is of the run of the made steps: of the server, the packets and the clients themselves
+abbrev pub SummariesAreOfRuns : Type 0
+SummariesAreOfRuns = (size : Packet → ℕ) (n count : ℕ) (steps : List Step)
+    → summary size count (n_run n steps)
+    ≡ made_line count (length (run n steps).pool) (bytes_in size (run n steps).pool) ++ server_line (state_of (run n steps).server) ++ standing_lines 0 (map client_numbers (run n steps).clients)

@@ -1,5 +1,5 @@
 //! Laws of reports, each carried by a function that does nothing.
-ghost use Rattle.world_reports.specs.Laws.{NewPacketsAreAdded, StepsAreOfRuns, ClientsAreTold, ClosingsAreOwn, DrawsAreSmall, FirstDraw, MadeStepsAreRefusedByBytes};
+ghost use Rattle.world_reports.specs.Laws.{NewPacketsAreAdded, StepsAreOfRuns, ClientsAreTold, ClosingsAreOwn, DrawsAreSmall, FirstDraw, MadeStepsAreRefusedByBytes, MadeDatesAreNext, MadeDatesStayBelow, SummariesAreOfRuns};
 
 /// The lines of a step tell all packets that it sends, and after every list of steps they are of the numbers of the world after it.
 pub fn steps_are_told()
@@ -14,9 +14,17 @@ pub fn clients_are_told()
     ensures lines { ClosingsAreOwn }
 {}
 
-/// What is drawn has 31 bits, and a step that is made of draws is possible, but where the pool has no place for what it sends.
+/// What is drawn has 31 bits, and a step that is made of draws is possible, but where the pool has no place for what it sends. It sets the clock
+/// one second on, if at all.
 pub fn made_steps_are_possible()
     ensures small { DrawsAreSmall }
     ensures first { FirstDraw }
     ensures refused { MadeStepsAreRefusedByBytes }
+    ensures dates { MadeDatesAreNext }
+    ensures below { MadeDatesStayBelow }
+{}
+
+/// The summary of a run tells its packets, its server and its clients as they are.
+pub fn summaries_are_of_runs()
+    ensures { SummariesAreOfRuns }
 {}

@@ -3,4 +3,4 @@
 
 mod laws;
 
-pub use laws::{clients_are_told, made_steps_are_possible, steps_are_told};
+pub use laws::{clients_are_told, made_steps_are_possible, steps_are_told, summaries_are_of_runs};

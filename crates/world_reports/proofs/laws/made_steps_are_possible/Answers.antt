@@ -1,3 +1,4 @@
+use Rattle.world_reports.proofs.Dates.{made_dates_are_next, made_dates_stay_below}
 use Rattle.world_reports.proofs.Drawing.{draws_are_small, first_draw, made_steps_are_refused_by_bytes}
 use Rattle.world_reports.proofs.laws.made_steps_are_possible.Goals as goal
 
@@ -9,3 +10,9 @@ returns-clause-first c = first_draw
 
 pub returns-clause-refused : goal.returns-clause-refused
 returns-clause-refused c = made_steps_are_refused_by_bytes
+
+pub returns-clause-dates : goal.returns-clause-dates
+returns-clause-dates c = made_dates_are_next
+
+pub returns-clause-below : goal.returns-clause-below
+returns-clause-below c = made_dates_stay_below
