@@ -14,7 +14,7 @@ ghost use Rattle.box_client.specs.Views.{client_of};
 
 use crate::fault::LoadFault;
 use crate::parts::Parts;
-use box_events::{Event, Kind, LaneName, ListOf, Saved, SavedChannel, SavedLane, Setting};
+use box_events::{Event, EventKind, LaneName, ListOf, Saved, SavedChannel, SavedLane, Setting};
 use channel_box::{Channels, WatchFault};
 use pts_machine::Lane;
 use seq_machine::Settings;
@@ -119,8 +119,8 @@ fn is_message(event: &Event) -> bool
     ensures { result ≡ is_new event.now }
 {
     match event.kind() {
-        Kind::New => true,
-        Kind::Edit | Kind::Delete | Kind::Read { .. } => false,
+        EventKind::New => true,
+        EventKind::Edit | EventKind::Delete | EventKind::Read { .. } => false,
     }
 }
 

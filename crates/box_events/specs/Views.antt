@@ -2,8 +2,8 @@
 use Rattle.std.specs.Prelude.{◌≤◌}
 use Rattle.box_events.specs.declared.event.Change.{Change}
 use Rattle.box_events.specs.declared.event.Change.TheVariants.{New as NewChange, Edit as EditChange, Delete as DeleteChange, Read as ReadChange}
-use Rattle.box_events.specs.declared.event.Kind.{Kind}
-use Rattle.box_events.specs.declared.event.Kind.TheVariants.{New, Edit, Delete, Read}
+use Rattle.box_events.specs.declared.event.EventKind.{EventKind}
+use Rattle.box_events.specs.declared.event.EventKind.TheVariants.{New, Edit, Delete, Read}
 use Rattle.box_events.specs.declared.limits.TheConstants.{MAX_IDS}
 use Rattle.box_events.specs.Events.{EventView, added, edited, deleted, read, count_of}
 
@@ -15,7 +15,7 @@ event_view (DeleteChange ids) = deleted ids
 event_view (ReadChange id) = read id
 
 -- which of the four it is
-abbrev pub kind_of : EventView → Kind
+abbrev pub kind_of : EventView → EventKind
 kind_of (added body) = New
 kind_of (edited body) = Edit
 kind_of (deleted ids) = Delete

@@ -10,7 +10,7 @@ use tl_base::{Bytes, Memory};
 
 /// What an event does.
 #[derive(Clone, Copy, Debug, PartialEq, Eq)]
-pub enum Kind {
+pub enum EventKind {
     New,
     Edit,
     Delete,
@@ -91,14 +91,14 @@ impl Event {
         }
     }
 
-    pub fn kind(&self) -> Kind
+    pub fn kind(&self) -> EventKind
         ensures { result ≡ kind_of self.now }
     {
         match &self.change {
-            Change::New(_) => Kind::New,
-            Change::Edit(_) => Kind::Edit,
-            Change::Delete(_) => Kind::Delete,
-            Change::Read(max_id) => Kind::Read { max_id: *max_id },
+            Change::New(_) => EventKind::New,
+            Change::Edit(_) => EventKind::Edit,
+            Change::Delete(_) => EventKind::Delete,
+            Change::Read(max_id) => EventKind::Read { max_id: *max_id },
         }
     }
 

@@ -20,7 +20,7 @@ mod steps;
 mod updates;
 
 pub use asks::Asks;
-pub use event::{Event, Kind};
+pub use event::{Event, EventKind};
 pub use event_box::EventBox;
 pub use fault::BoxFault;
 pub use ids::Ids;

@@ -1,4 +1,5 @@
 //! Limits of boxes and messages, each with its unit in its name.
+use tl_base::PACKET_BYTES;
 
 /// No box ends above this number, and no seq is above it.
 pub const MAX_END: u32 = 1_000_000;
@@ -51,8 +52,8 @@ pub const RECENT_EVENTS: usize = 20;
 /// A channel's `TooLong` carries so many bytes of recent messages at most.
 pub const RECENT_BYTES: usize = 262_144;
 
-/// A frame has so many bytes at most.
-pub const MAX_FRAME_BYTES: u32 = 1_048_576;
+/// A frame has so many bytes at most: those of a packet.
+pub const MAX_FRAME_BYTES: u32 = PACKET_BYTES;
 
 /// A client asks so many requests at once: one for each watched channel, and one for its common box, its secret box and its settings.
 pub const MAX_ASKS: usize = 65;

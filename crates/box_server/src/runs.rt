@@ -8,7 +8,7 @@ ghost use Rattle.box_server.specs.Runs.{recent_of, limited};
 ghost use Rattle.box_server.specs.inner.Carrying.{Carries, Fills};
 
 use box_events::{
-    Event, EventBox, ID_BYTES, Kind, ListOf, RECENT_BYTES, RECENT_EVENTS, RUN_BYTES, RUN_EVENTS,
+    Event, EventBox, EventKind, ID_BYTES, ListOf, RECENT_BYTES, RECENT_EVENTS, RUN_BYTES, RUN_EVENTS,
 };
 use difference::Parts;
 use std::alloc::Global;
@@ -69,9 +69,9 @@ pub fn bytes_of(event: &Event) -> usize
     ensures { result ≡ bytes_of event.now }
 {
     match event.kind() {
-        Kind::New | Kind::Edit => event.body().len(),
-        Kind::Delete => ID_BYTES * event.ids().len(),
-        Kind::Read { .. } => ID_BYTES,
+        EventKind::New | EventKind::Edit => event.body().len(),
+        EventKind::Delete => ID_BYTES * event.ids().len(),
+        EventKind::Read { .. } => ID_BYTES,
     }
 }
 
@@ -105,7 +105,7 @@ fn messages_in(alloc: Global, events: &EventBox) -> Result<Vec<&[u8]>, Memory>
 fn is_message(event: &Event) -> bool
     ensures { result ≡ is_new event.now }
 {
-    matches!(event.kind(), Kind::New)
+    matches!(event.kind(), EventKind::New)
 }
 
 // Copies of the first messages, of which a channel is told where it is too far behind.

@@ -4,7 +4,7 @@ ghost use Rattle.box_events.specs.Events.{count_of, is_new};
 ghost use Rattle.box_events.specs.Boxes.{ending};
 ghost use Rattle.difference.specs.Weaving.{Woven};
 
-use box_events::{Event, Kind, ListOf, MAX_END, Placed};
+use box_events::{Event, EventKind, ListOf, MAX_END, Placed};
 use std::alloc::Global;
 use std::marker::Model;
 use tl_base::{Bytes, Memory};
@@ -74,7 +74,7 @@ impl Parts {
 fn is_message(event: &Event) -> bool
     ensures { result ≡ is_new event.now }
 {
-    matches!(event.kind(), Kind::New)
+    matches!(event.kind(), EventKind::New)
 }
 
 /// The messages' bodies of a list of events that starts at `from`, and its other events, each with the number at which it ends; all are copies.

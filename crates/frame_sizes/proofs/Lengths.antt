@@ -1,28 +1,27 @@
 -- The spelling of a value has its size.
 use Rattle.std.specs.Prelude.{◌⊎◌}
-use Rattle.std.proofs.Common.{◌≡◌, ℕ, ◌+◌, List, [], ◌∷◌, ◌++◌, map, length, length-append, None, Bool, true, false, refl, sym, ap, ap₂, ◌∙◌, subst, inl, inr, true≢false, arith}
+use Rattle.std.proofs.Common.{◌≡◌, ℕ, ◌+◌, List, [], ◌∷◌, ◌++◌, map, length, length-append, Bool, true, false, refl, sym, ap, ap₂, ◌∙◌, subst, inl, inr, arith}
 use Rattle.tl_base.specs.Numbers.{word}
 use Rattle.tl_schema.specs.Types.{Shape, Shapes, no_shapes}
 use Rattle.tl_schema.specs.Types as type
-use Rattle.tl_schema.specs.Closing.{closed, list_of_shapes}
-use Rattle.tl_schema.specs.Schemas.{Slot, Declaration, Declared}
+use Rattle.tl_schema.specs.Closing.{closed}
+use Rattle.tl_schema.specs.Schemas.{Declaration, Declared}
 use Rattle.tl_types.specs.Values.{ValueView, int, long, nat, opaque, text, truth, absent, list, node, call, ValueViews, no_values, value, count}
 use Rattle.tl_types.specs.Conditions.{stands_by}
 use Rattle.tl_types.specs.Spelling.{Begins, Spells, SpellEach, SpellFields, vector_prefix}
 use Rattle.tl_types.specs.Spelling as begins
-use Rattle.tl_types.proofs.Closings.{closed_none}
 use Rattle.wire_forms.specs.declared.form.Cell.{Cell}
 use Rattle.wire_forms.specs.declared.form.Cell.TheVariants.{Whole, Signed, Long, Body, Key, Ids, Bodies, Flags, Final, Many, One, Bare, ManyBare, Query}
 use Rattle.wire_forms.specs.Forms.{FormView, PartView, cells_of}
 use Rattle.wire_forms.specs.Parts.{first}
 use Rattle.wire_forms.specs.IsOf.{IsField, IsOf, EachOf, AreOf}
 use Rattle.wire_profile.specs.Places.{ProfileView, number_at, form_at, cell_shape, cell_cond, slot_of}
-use Rattle.wire_profile.specs.Profiles.{IsProfile, IsForm}
+use Rattle.wire_profile.specs.Profiles.{IsProfile}
 use Rattle.wire_profile.specs.Renaming.{renamed, renamed_each}
 use Rattle.wire_profile.specs.SpelledForms.{owned, StandsAlone}
 use Rattle.wire_profile.proofs.FormTable.{IsFormAt, AreGood, form_is_good, member_form, function_form, cells_are, clash}
 use Rattle.wire_profile.proofs.ProfileFacts.{declared, own_again}
-use Rattle.wire_profile.proofs.OwnValues.{matched, item_is, boxed_is, bare_is, cells}
+use Rattle.wire_profile.proofs.OwnValues.{matched, boxed_is, bare_is, there, cells, elements, its_fields}
 use Rattle.frame_sizes.specs.Sizes.{size_in, sizes_of, fields_size}
 
 -- ---- what comes before the parts
@@ -58,13 +57,6 @@ bare_long S i e d args prefix (begins.bare same m f) = ap length f
 joined_long : (a r b : List ℕ) (n m : ℕ) → b ≡ a ++ r → length a ≡ n → length r ≡ m → length b ≡ n + m
 joined_long a r b n m is x y = ap length is ∙ length-append a r ∙ ap₂ (λ (i j : ℕ). i + j) x y
 
-elements : (S : Declared) (T U : Shape) (a b : Bool) (vs : ValueViews) (x : List ℕ) → type.vector a T ≡ type.vector b U → SpellEach S U vs x → SpellEach S T vs x
-elements S T U a b vs x e s = subst (λ (V : Shape). SpellEach S V vs x) (sym (item_is T U a b e)) s
-
-its_fields : (p : ProfileView) (f : FormView) (d : Declaration) (args : Shapes) (vs : ValueViews) (b : List ℕ) → args ≡ no_shapes → IsForm p f d → SpellFields p.schema (list_of_shapes args) [] d.fields vs b → SpellFields p.schema [] [] (map (slot_of p) f.parts) vs b
-its_fields p f d args vs b none is s =
-    subst (λ (fs : List Slot). SpellFields p.schema [] [] fs vs b) is.fields (subst (λ (us : Shapes). SpellFields p.schema (list_of_shapes us) [] d.fields vs b) none s)
-
 -- ---- one field
 
 flag_long : (S : Declared) (f : ℕ → ℕ) (v : ValueView) (x : List ℕ) → Spells S type.flag v x → length x ≡ size_in Final (renamed f v)
@@ -74,10 +66,6 @@ flag_long S f v x s = absurd (clash (matched S type.flag v x s))
 -- a field that isn't there
 gone : (p : ProfileView) (c : Cell) (v : ValueView) (x : List ℕ) → v ≡ absent → x ≡ [] → length x ≡ size_in c (owned p v)
 gone p c v x none empty = ap length empty ∙ sym (ap (λ (u : ValueView). size_in c (owned p u)) none)
-
-there : {P : Type 0} (S : Declared) (T : Shape) (before : List ValueView) (v : ValueView) (x : List ℕ) → ((stands_by None before ≡ true) × Spells S (closed [] T) v x) ⊎ ((stands_by None before ≡ false) × (v ≡ absent) × (x ≡ [])) → (Spells S T v x → P) → P
-there S T before v x (inl (set, s)) law = law (subst (λ (U : Shape). Spells S U v x) (closed_none T) s)
-there S T before v x (inr (clear, none, empty)) law = absurd (true≢false clear)
 
 field_long : (p : ProfileView) (flags : ValueView) (before : List ValueView) (c : Cell) (v : ValueView) (x : List ℕ) → ((stands_by (cell_cond c) before ≡ true) × Spells p.schema (closed [] (cell_shape p c)) v x) ⊎ ((stands_by (cell_cond c) before ≡ false) × (v ≡ absent) × (x ≡ []))
     → IsField flags c (owned p v) (IsOf c (owned p v)) → (StandsAlone c → Spells p.schema (cell_shape p c) v x → IsOf c (owned p v) → length x ≡ size_in c (owned p v)) → (cs : List Cell) → AreGood (c ∷ cs) → (length x ≡ size_in c (owned p v)) × AreGood cs

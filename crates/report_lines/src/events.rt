@@ -5,7 +5,7 @@ ghost use Rattle.hex.specs.Hex.{encode_lower};
 ghost use Rattle.report_lines.specs.Closing.{ids_bytes, event_bytes, event_word, event_line, event_lines};
 
 use crate::pieces::{put_hex, put_line_end, put_number, put_text};
-use box_events::{Event, Kind, MAX_END};
+use box_events::{Event, EventKind, MAX_END};
 use tl_base::Memory;
 
 /// Puts the lines of the events that stand after the number `restart`.
@@ -35,10 +35,10 @@ fn event_word(event: &Event) -> &'static str
     ensures { result.now ≡ event_word event.now }
 {
     match event.kind() {
-        Kind::New => "new ",
-        Kind::Edit => "edit ",
-        Kind::Delete => "delete ",
-        Kind::Read { .. } => "read ",
+        EventKind::New => "new ",
+        EventKind::Edit => "edit ",
+        EventKind::Delete => "delete ",
+        EventKind::Read { .. } => "read ",
     }
 }
 
@@ -47,9 +47,9 @@ fn put_event_bytes(lines: &mut Vec<u8>, event: &Event) -> Result<(), Memory>
     ensures { OnOk result (lines.new.items ≡ lines.old.items ++ encode_lower (event_bytes event.now)) }
 {
     match event.kind() {
-        Kind::New | Kind::Edit => put_hex(lines, event.body()),
-        Kind::Delete => put_ids(lines, event.ids()),
-        Kind::Read { max_id } => put_hex(lines, &max_id.to_le_bytes()),
+        EventKind::New | EventKind::Edit => put_hex(lines, event.body()),
+        EventKind::Delete => put_ids(lines, event.ids()),
+        EventKind::Read { max_id } => put_hex(lines, &max_id.to_le_bytes()),
     }
 }
 

@@ -4,11 +4,11 @@ use Rattle.std.specs.Prelude.{codes}
 use Rattle.std.specs.Int.{w32, cast_unsigned, to_le_bytes}
 use Rattle.box_events.specs.Events.{EventView, added, edited, deleted, read}
 use Rattle.box_events.specs.Views.{kind_of}
-use Rattle.box_events.specs.declared.event.Kind.{Kind}
-use Rattle.box_events.specs.declared.event.Kind.TheVariants.{New, Edit, Delete, Read}
+use Rattle.box_events.specs.declared.event.EventKind.{EventKind}
+use Rattle.box_events.specs.declared.event.EventKind.TheVariants.{New, Edit, Delete, Read}
 use Rattle.update_replay.specs.Report.{change_line, event_line}
 
-marked : Kind → ℤ → ℤ
+marked : EventKind → ℤ → ℤ
 marked New id = id
 marked Edit id = id
 marked Delete id = id
@@ -19,4 +19,4 @@ unfolding marked
 read_line (added body) end id is = absurd cc
 read_line (edited body) end id is = absurd cc
 read_line (deleted ids) end id is = absurd cc
-read_line (read i) end id is = ap (λ (j : ℤ). change_line (codes "read") end (to_le_bytes w32 (cast_unsigned w32 j))) (ap (λ (k : Kind). marked k id) is)
+read_line (read i) end id is = ap (λ (j : ℤ). change_line (codes "read") end (to_le_bytes w32 (cast_unsigned w32 j))) (ap (λ (k : EventKind). marked k id) is)

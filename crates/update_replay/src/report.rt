@@ -7,7 +7,7 @@ ghost use Rattle.update_replay.specs.Report.{again_line, posted_line, heard_line
 
 use crate::outcome::Outcome;
 use crate::packets::packet_of;
-use box_events::{Event, Kind};
+use box_events::{Event, EventKind};
 use std::alloc::Global;
 use tl_base::Memory;
 
@@ -139,13 +139,13 @@ fn put_event(alloc: Global, lines: &mut Vec<u8>, end: u32, event: &Event) -> Res
     ensures { OnOk result (lines.new.items ≡ lines.old.items ++ event_line end event.now) }
 {
     match event.kind() {
-        Kind::New => put_change(alloc, lines, "new", end, event.body()),
-        Kind::Edit => put_change(alloc, lines, "edit", end, event.body()),
-        Kind::Delete => {
+        EventKind::New => put_change(alloc, lines, "new", end, event.body()),
+        EventKind::Edit => put_change(alloc, lines, "edit", end, event.body()),
+        EventKind::Delete => {
             let bytes = bytes_of(alloc, event.ids())?;
             put_change(alloc, lines, "delete", end, bytes.as_slice())
         }
-        Kind::Read { max_id } => put_change(alloc, lines, "read", end, &max_id.to_le_bytes()),
+        EventKind::Read { max_id } => put_change(alloc, lines, "read", end, &max_id.to_le_bytes()),
     }
 }
 

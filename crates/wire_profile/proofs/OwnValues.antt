@@ -131,7 +131,7 @@ flag_by true f v set clear = ap (renamed f) (set refl)
 flag_by false f v set clear = ap (renamed f) (clear refl)
 
 -- a field that stands alone is there
-there : {P : Type 0} (S : Declared) (T : Shape) (before : List ValueView) (v : ValueView) (x : List ℕ) → ((stands_by None before ≡ true) × Spells S (closed [] T) v x) ⊎ ((stands_by None before ≡ false) × (v ≡ absent) × (x ≡ [])) → (Spells S T v x → P) → P
+pub there : {P : Type 0} (S : Declared) (T : Shape) (before : List ValueView) (v : ValueView) (x : List ℕ) → ((stands_by None before ≡ true) × Spells S (closed [] T) v x) ⊎ ((stands_by None before ≡ false) × (v ≡ absent) × (x ≡ [])) → (Spells S T v x → P) → P
 there S T before v x (inl (set, s)) law = law (subst (λ (U : Shape). Spells S U v x) (closed_none T) s)
 there S T before v x (inr (clear, none, empty)) law = absurd (true≢false clear)
 
@@ -164,11 +164,12 @@ cells parts = map (λ part. part.cell) parts
 short : (f : ℕ → ℕ) (vs : ValueViews) → count vs < 2 ^ 31 → IsShort (renamed_each f vs)
 short f vs few = subst (λ (n : ℕ). n < 2 ^ 31) (sym (count_same f vs)) few
 
-elements : (S : Declared) (T U : Shape) (a b : Bool) (vs : ValueViews) (x : List ℕ) → type.vector a T ≡ type.vector b U → SpellEach S U vs x → SpellEach S T vs x
+-- the elements of a vector, by its own type
+pub elements : (S : Declared) (T U : Shape) (a b : Bool) (vs : ValueViews) (x : List ℕ) → type.vector a T ≡ type.vector b U → SpellEach S U vs x → SpellEach S T vs x
 elements S T U a b vs x e s = subst (λ (V : Shape). SpellEach S V vs x) (sym (item_is T U a b e)) s
 
 -- the fields of a declaration, which declares a form
-its_fields : (p : ProfileView) (f : FormView) (d : Declaration) (args : Shapes) (vs : ValueViews) (b : List ℕ) → args ≡ no_shapes → IsForm p f d → SpellFields p.schema (list_of_shapes args) [] d.fields vs b → SpellFields p.schema [] [] (map (slot_of p) f.parts) vs b
+pub its_fields : (p : ProfileView) (f : FormView) (d : Declaration) (args : Shapes) (vs : ValueViews) (b : List ℕ) → args ≡ no_shapes → IsForm p f d → SpellFields p.schema (list_of_shapes args) [] d.fields vs b → SpellFields p.schema [] [] (map (slot_of p) f.parts) vs b
 its_fields p f d args vs b none is s =
     subst (λ (fs : List Slot). SpellFields p.schema [] [] fs vs b) is.fields (subst (λ (us : Shapes). SpellFields p.schema (list_of_shapes us) [] d.fields vs b) none s)
 

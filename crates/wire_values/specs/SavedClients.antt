@@ -3,8 +3,8 @@ use Rattle.std.specs.Prelude.{ℕ, ℤ, List, [], ◌∷◌, ◌==◌, if◌then
 use Rattle.tl_types.specs.Values.{ValueView, int, long, text, list, node, ValueViews, values_of}
 use Rattle.box_events.specs.Events.{EventView, added, edited, read, body_of, ids_of}
 use Rattle.box_events.specs.Views.{kind_of}
-use Rattle.box_events.specs.declared.event.Kind.{Kind}
-use Rattle.box_events.specs.declared.event.Kind.TheVariants.{New, Edit, Delete, Read}
+use Rattle.box_events.specs.declared.event.EventKind.{EventKind}
+use Rattle.box_events.specs.declared.event.EventKind.TheVariants.{New, Edit, Delete, Read}
 use Rattle.box_events.specs.declared.settings.Setting as settings
 use Rattle.box_events.specs.declared.saved.Saved.{Saved}
 use Rattle.box_events.specs.declared.saved.SavedLane.{SavedLane}
@@ -16,7 +16,7 @@ use Rattle.wire_values.specs.Frames.{bodies_tree, bodies_in}
 use Rattle.wire_values.specs.declared.saved_writer.TheConstants.{VERSION}
 
 -- an event of a saved lane
-abbrev pub event_by : Kind → List ℕ → List ℤ → ValueView
+abbrev pub event_by : EventKind → List ℕ → List ℤ → ValueView
 event_by New body ids = node EVENT_NEW (values_of (text body ∷ []))
 event_by Edit body ids = node EVENT_EDIT (values_of (text body ∷ []))
 event_by Delete body ids = node EVENT_DELETE (values_of (list (row int ids) ∷ []))

@@ -5,8 +5,8 @@ use Rattle.tl_types.specs.Values.{ValueView, int, long, text, list, node, ValueV
 use Rattle.box_events.specs.Events.{EventView, added, edited, deleted, read, body_of, ids_of}
 use Rattle.box_events.specs.Views.{kind_of}
 use Rattle.box_events.specs.declared.limits.TheConstants.{MAX_IDS}
-use Rattle.box_events.specs.declared.event.Kind.{Kind}
-use Rattle.box_events.specs.declared.event.Kind.TheVariants.{New, Edit, Delete, Read}
+use Rattle.box_events.specs.declared.event.EventKind.{EventKind}
+use Rattle.box_events.specs.declared.event.EventKind.TheVariants.{New, Edit, Delete, Read}
 use Rattle.box_events.specs.declared.settings.Setting as settings
 use Rattle.box_events.specs.declared.updates.Placed as placed
 use Rattle.box_events.specs.declared.updates.Update.{Update}
@@ -15,7 +15,7 @@ use Rattle.wire_forms.specs.Parts.{at, parts_of, entry_of, text_of, int_of, long
 use Rattle.wire_forms.specs.declared.numbers.TheConstants.{UPDATE_NEW_MESSAGE, UPDATE_EDIT_MESSAGE, UPDATE_DELETE_MESSAGES, UPDATE_NEW_ENCRYPTED_MESSAGE, UPDATE_NEW_CHANNEL_MESSAGE, UPDATE_EDIT_CHANNEL_MESSAGE, UPDATE_DELETE_CHANNEL_MESSAGES, UPDATE_CHANNEL_TOO_LONG, UPDATE_SETTING, UPDATE_READ_HISTORY, UPDATE_READ_CHANNEL_HISTORY}
 
 -- an event of the common box and the number at which it ends, with the event's count
-abbrev pub common_by : Kind → List ℕ → List ℤ → ℕ → ValueView
+abbrev pub common_by : EventKind → List ℕ → List ℤ → ℕ → ValueView
 common_by New body ids pts = node UPDATE_NEW_MESSAGE (values_of (text body ∷ number pts ∷ number 1 ∷ []))
 common_by Edit body ids pts = node UPDATE_EDIT_MESSAGE (values_of (text body ∷ number pts ∷ number 1 ∷ []))
 common_by Delete body ids pts = node UPDATE_DELETE_MESSAGES (values_of (list (row int ids) ∷ number pts ∷ number (held (length ids)) ∷ []))
@@ -26,7 +26,7 @@ abbrev pub common_tree : EventView → ℕ → ValueView
 common_tree e pts = common_by (kind_of e) (body_of e) (ids_of e) pts
 
 -- likewise of a channel's box
-abbrev pub channel_by : ℤ → Kind → List ℕ → List ℤ → ℕ → ValueView
+abbrev pub channel_by : ℤ → EventKind → List ℕ → List ℤ → ℕ → ValueView
 channel_by id New body ids pts = node UPDATE_NEW_CHANNEL_MESSAGE (values_of (long id ∷ text body ∷ number pts ∷ number 1 ∷ []))
 channel_by id Edit body ids pts = node UPDATE_EDIT_CHANNEL_MESSAGE (values_of (long id ∷ text body ∷ number pts ∷ number 1 ∷ []))
 channel_by id Delete body ids pts = node UPDATE_DELETE_CHANNEL_MESSAGES (values_of (long id ∷ list (row int ids) ∷ number pts ∷ number (held (length ids)) ∷ []))

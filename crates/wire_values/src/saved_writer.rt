@@ -5,7 +5,7 @@ ghost use Rattle.tl_types.specs.Values.{list};
 ghost use Rattle.wire_forms.specs.Parts.{row};
 ghost use Rattle.wire_values.specs.SavedClients.{event_tree, lane_tree, saved_setting_tree, saved_channel_tree, saved_tree};
 
-use box_events::{Event, Kind, Saved, SavedChannel, SavedLane, Setting};
+use box_events::{Event, EventKind, Saved, SavedChannel, SavedLane, Setting};
 use std::alloc::Global;
 use tl_base::Memory;
 use tl_types::Value;
@@ -21,10 +21,10 @@ fn event_value(alloc: Global, event: &Event) -> Result<Value, Memory>
     ensures { IfOk result (λ v. view v ≡ event_tree event.now) }
 {
     match event.kind() {
-        Kind::New => node(alloc, EVENT_NEW, [text_value(alloc, event.body())?]),
-        Kind::Edit => node(alloc, EVENT_EDIT, [text_value(alloc, event.body())?]),
-        Kind::Delete => node(alloc, EVENT_DELETE, [ids_value(alloc, event.ids())?]),
-        Kind::Read { max_id } => node(alloc, EVENT_READ, [Value::Int(max_id)]),
+        EventKind::New => node(alloc, EVENT_NEW, [text_value(alloc, event.body())?]),
+        EventKind::Edit => node(alloc, EVENT_EDIT, [text_value(alloc, event.body())?]),
+        EventKind::Delete => node(alloc, EVENT_DELETE, [ids_value(alloc, event.ids())?]),
+        EventKind::Read { max_id } => node(alloc, EVENT_READ, [Value::Int(max_id)]),
     }
 }
 

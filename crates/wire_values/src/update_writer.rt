@@ -6,7 +6,7 @@ ghost use Rattle.wire_forms.specs.Parts.{row};
 ghost use Rattle.wire_values.specs.Others.{joined};
 ghost use Rattle.wire_values.specs.Updates.{channel_tree, common_tree, placed_tree, setting_tree, update_tree};
 
-use box_events::{Event, Kind, Placed, Setting, Update};
+use box_events::{Event, EventKind, Placed, Setting, Update};
 use std::alloc::Global;
 use tl_base::Memory;
 use tl_types::Value;
@@ -23,17 +23,17 @@ fn common_value(alloc: Global, event: &Event, pts: u32) -> Result<Value, Memory>
     ensures { IfOk result (λ v. view v ≡ common_tree event.now pts) }
 {
     match event.kind() {
-        Kind::New => node(
+        EventKind::New => node(
             alloc,
             UPDATE_NEW_MESSAGE,
             [text_value(alloc, event.body())?, number(pts), number(1)],
         ),
-        Kind::Edit => node(
+        EventKind::Edit => node(
             alloc,
             UPDATE_EDIT_MESSAGE,
             [text_value(alloc, event.body())?, number(pts), number(1)],
         ),
-        Kind::Delete => node(
+        EventKind::Delete => node(
             alloc,
             UPDATE_DELETE_MESSAGES,
             [
@@ -42,7 +42,7 @@ fn common_value(alloc: Global, event: &Event, pts: u32) -> Result<Value, Memory>
                 counted(event.ids().len()),
             ],
         ),
-        Kind::Read { max_id } => node(
+        EventKind::Read { max_id } => node(
             alloc,
             UPDATE_READ_HISTORY,
             [Value::Int(max_id), number(pts), number(1)],
@@ -55,7 +55,7 @@ fn channel_value(alloc: Global, id: i64, event: &Event, pts: u32) -> Result<Valu
     ensures { IfOk result (λ v. view v ≡ channel_tree id event.now pts) }
 {
     match event.kind() {
-        Kind::New => node(
+        EventKind::New => node(
             alloc,
             UPDATE_NEW_CHANNEL_MESSAGE,
             [
@@ -65,7 +65,7 @@ fn channel_value(alloc: Global, id: i64, event: &Event, pts: u32) -> Result<Valu
                 number(1),
             ],
         ),
-        Kind::Edit => node(
+        EventKind::Edit => node(
             alloc,
             UPDATE_EDIT_CHANNEL_MESSAGE,
             [
@@ -75,7 +75,7 @@ fn channel_value(alloc: Global, id: i64, event: &Event, pts: u32) -> Result<Valu
                 number(1),
             ],
         ),
-        Kind::Delete => node(
+        EventKind::Delete => node(
             alloc,
             UPDATE_DELETE_CHANNEL_MESSAGES,
             [
@@ -85,7 +85,7 @@ fn channel_value(alloc: Global, id: i64, event: &Event, pts: u32) -> Result<Valu
                 counted(event.ids().len()),
             ],
         ),
-        Kind::Read { max_id } => node(
+        EventKind::Read { max_id } => node(
             alloc,
             UPDATE_READ_CHANNEL_HISTORY,
             [Value::Long(id), Value::Int(max_id), number(pts), number(1)],

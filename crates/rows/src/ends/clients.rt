@@ -4,7 +4,7 @@ use crate::ends::pushes::hear_push;
 use crate::ends::replies::hear_reply;
 use crate::ends::words::{RowFault, Words};
 use box_client::Client;
-use box_events::{Asks, Event, Kind};
+use box_events::{Asks, Event, EventKind};
 use channel_box::WatchFault;
 use pts_machine::Lane;
 use seq_machine::Settings;
@@ -53,7 +53,7 @@ fn lane_text(alloc: Global, lane: &Lane<Event>) -> Result<String, RowFault> {
     let (restart, at, held) = (lane.restart(), lane.at(), lane.held());
     let mut text = format!(in alloc; "{restart}..{at}+{held} ")?;
     for event in lane.events() {
-        if event.kind() == Kind::Edit {
+        if event.kind() == EventKind::Edit {
             text.push('*')?;
         }
         for byte in event.body() {

@@ -5,7 +5,7 @@ ghost use Rattle.box_events.specs.Events.{count_of};
 ghost use Rattle.box_events.specs.Boxes.{ending};
 
 use crate::ends::words::{RowFault, Words, put_quoted};
-use box_events::{Event, Ids, Kind, Placed};
+use box_events::{Event, EventKind, Ids, Placed};
 use std::alloc::Global;
 
 fn delete(ids: Ids) -> Result<Event, RowFault> {
@@ -61,21 +61,21 @@ pub fn events_of(alloc: Global, words: &mut Words) -> Result<Vec<Event>, RowFaul
 }
 
 // The kind of an event, as a word with a space after it.
-fn kind_word(kind: Kind) -> &'static str {
+fn kind_word(kind: EventKind) -> &'static str {
     match kind {
-        Kind::New => "message ",
-        Kind::Edit => "edit ",
-        Kind::Delete => "delete ",
-        Kind::Read { .. } => "read ",
+        EventKind::New => "message ",
+        EventKind::Edit => "edit ",
+        EventKind::Delete => "delete ",
+        EventKind::Read { .. } => "read ",
     }
 }
 
 // What stands after an event's kind.
 fn put_content(alloc: Global, text: &mut String, event: &Event) -> Result<(), RowFault> {
     match event.kind() {
-        Kind::New | Kind::Edit => put_quoted(text, event.body()),
-        Kind::Delete => put_ids(alloc, text, event.ids()),
-        Kind::Read { max_id } => put_number(alloc, text, max_id as i64),
+        EventKind::New | EventKind::Edit => put_quoted(text, event.body()),
+        EventKind::Delete => put_ids(alloc, text, event.ids()),
+        EventKind::Read { max_id } => put_number(alloc, text, max_id as i64),
     }
 }
 

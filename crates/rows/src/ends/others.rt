@@ -6,13 +6,13 @@ ghost use Rattle.difference.specs.Laws.{AreCountedOthers};
 
 use crate::ends::events::event_of;
 use crate::ends::words::{RowFault, Words};
-use box_events::{Event, Kind, ListOf, Placed};
+use box_events::{Event, EventKind, ListOf, Placed};
 use std::alloc::Global;
 
 fn is_message(event: &Event) -> bool
     ensures { result ≡ is_new event.now }
 {
-    matches!(event.kind(), Kind::New)
+    matches!(event.kind(), EventKind::New)
 }
 
 fn push(others: &mut ListOf<Placed>, event: Event, pts: u32) -> Result<(), RowFault>
