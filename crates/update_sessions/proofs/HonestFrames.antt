@@ -132,9 +132,11 @@ module _ (p : ProfileView) where
   begins c d (Some bytes) (Some before) None w1 w2 first result packed l wrote h = absurd cc
   begins c d (Some bytes) (Some before) (Some same) None w2 first result packed l wrote h = absurd wrote
   begins c d (Some bytes) (Some before) (Some same) (Some now) w2 first result packed l wrote (more, then_wrote, (fs, last, h)) =
-      let is : same ≡ bytes = cc in
-      (first ++ more, Appends-trans (Some before) (Some now) w2 first more wrote then_wrote,
-      honestly c d bytes (first ++ more) result fs last (asked first more packed refl (subst (λ (b : List ℕ). HearsOn p (begun c) b more d result fs last) is h)))
+      let is : same ≡ bytes = cc in (
+        first ++ more,
+        Appends-trans (Some before) (Some now) w2 first more wrote then_wrote,
+        honestly c d bytes (first ++ more) result fs last (asked first more packed refl (subst (λ (b : List ℕ). HearsOn p (begun c) b more d result fs last) is h)),
+      )
 
   -- ---- over a sound link
 

@@ -65,10 +65,15 @@ module _ {S M N : Type 0} (side : Side S M N) where
   so_far_then s u t n m k (Some bytes) None l1 w1 l2 w2 p q e = tt
   so_far_then s u t n m k (Some bytes) (Some before) None w1 l2 w2 (ms, left, x, wrote, is, ex, len) q e = absurd (no_some left is)
   so_far_then s u t n m k (Some bytes) (Some before) (Some mid) None l2 w2 (ms, left, x, wrote, is, ex, len) q e = absurd wrote
-  so_far_then s u t n m k (Some bytes) (Some before) (Some mid) (Some now) l2 w2 (ms, left, x, wrote, is, ex, len) (ns, rest, y, more, told, then_ex, count) e =
-      (ms ++ ns, rest, x ++ y, Appends-trans (Some before) (Some now) w2 x y wrote more, told,
-      exchanged_then side s u t bytes left rest x y ms ns ex (subst (λ (l : List ℕ). Exchanged side u l rest y t ns) (same_some mid left is) then_ex),
-      omega (arith, length-append ms ns, len, count, e))
+  so_far_then s u t n m k (Some bytes) (Some before) (Some mid) (Some now) l2 w2 (ms, left, x, wrote, is, ex, len) (ns, rest, y, more, told, then_ex, count) e = (
+    ms ++ ns,
+    rest,
+    x ++ y,
+    Appends-trans (Some before) (Some now) w2 x y wrote more,
+    told,
+    exchanged_then side s u t bytes left rest x y ms ns ex (subst (λ (l : List ℕ). Exchanged side u l rest y t ns) (same_some mid left is) then_ex),
+    omega (arith, length-append ms ns, len, count, e),
+  )
 
   -- the last step ends them
   pub over_then : (s u : S) (n : ℕ) (l0 w0 l1 w1 w2 : Option (List ℕ)) (P Q : List ℕ → List ℕ → Type 0) → SoFar side s n l0 w0 l1 w1 u → OverLink l1 w1 w2 P
@@ -112,20 +117,24 @@ module _ {S M N : Type 0} (side : Side S M N) where
         → OverLink l0 w0 w2 (λ bytes y. BreaksOff side s bytes y t)
     step_cut None w0 l1 w1 w2 r w packed is wrote = tt
     step_cut (Some bytes) None l1 w1 w2 r w packed is wrote = tt
-    step_cut (Some bytes) (Some before) l1 w1 w2 r w packed is (prefix, rest, whole, wrote) =
-        (prefix, subst (λ (o : Option (List ℕ)). Appends o w2 prefix) (sym w) wrote,
-        (m ∷ [], omega arith, cut_one side s t bytes r.0 prefix m r.1 takes (partly_of side.spells (side.sends s m) out prefix rest packed whole) is))
+    step_cut (Some bytes) (Some before) l1 w1 w2 r w packed is (prefix, rest, whole, wrote) = (
+      prefix,
+      subst (λ (o : Option (List ℕ)). Appends o w2 prefix) (sym w) wrote,
+      (m ∷ [], omega arith, cut_one side s t bytes r.0 prefix m r.1 takes (partly_of side.spells (side.sends s m) out prefix rest packed whole) is),
+    )
 
     -- a fault before anything is written
     pub step_kept : (l0 w0 l1 w1 : Option (List ℕ)) → IfSome l0 (λ bytes. Receives side.means Refused bytes l1 (Ok (Some m))) → w0 ≡ w1 → (t ≡ s) ⊎ (t ≡ side.next s m) → OverLink l0 w0 w1 (λ bytes y. BreaksOff side s bytes y t)
     step_kept None w0 l1 w1 r w moved = tt
     step_kept (Some bytes) None l1 w1 r w moved = tt
-    step_kept (Some bytes) (Some before) l1 w1 r w moved =
-        ([], subst (λ (o : Option (List ℕ)). Appends (Some before) o []) w (Appends-nil (Some before)),
-        elim moved as (λ v. BreaksOff side s bytes [] t) [
-          | inl same ↦ ([], omega arith, cut_none side s t bytes same)
-          | inr is ↦ (m ∷ [], omega arith, cut_one side s t bytes r.0 [] m r.1 takes (partly_none side.spells (side.sends s m)) is)
-        ])
+    step_kept (Some bytes) (Some before) l1 w1 r w moved = (
+      [],
+      subst (λ (o : Option (List ℕ)). Appends (Some before) o []) w (Appends-nil (Some before)),
+      elim moved as (λ v. BreaksOff side s bytes [] t) [
+        | inl same ↦ ([], omega arith, cut_none side s t bytes same)
+        | inr is ↦ (m ∷ [], omega arith, cut_one side s t bytes r.0 [] m r.1 takes (partly_none side.spells (side.sends s m)) is)
+      ],
+    )
 
     pub step_never : (a b : SourceState) (x y z : SinkState) (P F : Type 0) → IfSome a.left (λ bytes. Receives side.means Refused bytes b.left (Ok (Some m))) → UsesLink a b x y P → x.written ≡ y.written → Packed side.spells (side.sends s m) out → t ≡ side.next s m
         → IsOne b y → Wrote y z (length out) F → LinkNeverFails a x (MaySend side s) F

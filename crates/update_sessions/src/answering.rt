@@ -32,7 +32,15 @@ pub fn answer_call(
     let Numbered { number, request } = call;
     match request {
         Request::Post { random_id, posts } => {
-            put_post(alloc, profile, server, number, random_id, posts.as_slice(), out)
+            put_post(
+                alloc,
+                profile,
+                server,
+                number,
+                random_id,
+                posts.as_slice(),
+                out,
+            )
         }
         request => put_answer(alloc, profile, server, number, &request, out),
     }

@@ -60,7 +60,15 @@ fn hear_all<L: Link>(
         if !client.asking() {
             return Ok(frames);
         }
-        hear_next(alloc, profile, client, link, &mut asks, &mut packet, &mut out)?;
+        hear_next(
+            alloc,
+            profile,
+            client,
+            link,
+            &mut asks,
+            &mut packet,
+            &mut out,
+        )?;
     }
     if client.asking() {
         return Err(SessionFault::TooManyFrames);

@@ -34,9 +34,9 @@ loop-frames-preserved g c =
     let to = g.L.Sink in
     record {
       so_far = so_far_then (client_side c.args.profile.now) c.args.client.now c.loop-frames.client c.hear_next.new.client c.loop-frames.frames 1 (c.loop-frames.frames + 1) (from.state c.args.link.now).left (to.state c.args.link.now).written
-      (from.state c.loop-frames.link).left (to.state c.loop-frames.link).written (from.state c.hear_next.new.link).left (to.state c.hear_next.new.link).written c.loop-frames.invariant.so_far c.in_ok-hear_next.ensures.hears refl;
+          (from.state c.loop-frames.link).left (to.state c.loop-frames.link).written (from.state c.hear_next.new.link).left (to.state c.hear_next.new.link).written c.loop-frames.invariant.so_far c.in_ok-hear_next.ensures.hears refl;
       used = uses_then (from.state c.args.link.now) (from.state c.loop-frames.link) (from.state c.hear_next.new.link) (to.state c.args.link.now) (to.state c.loop-frames.link) (to.state c.hear_next.new.link) ⊥ ⊥ c.loop-frames.invariant.used
-      (uses_as (from.state c.loop-frames.link) (from.state c.hear_next.new.link) (to.state c.loop-frames.link) (to.state c.hear_next.new.link) _ ⊥ c.hear_next.ensures.used (λ f. absurd f));
+          (uses_as (from.state c.loop-frames.link) (from.state c.hear_next.new.link) (to.state c.loop-frames.link) (to.state c.hear_next.new.link) _ ⊥ c.hear_next.ensures.used (λ f. absurd f));
       beside = c.hear_next.ensures.beside ∙ c.loop-frames.invariant.beside;
       next = omega (arith, c.hear_next.ensures.next, c.loop-frames.invariant.next);
     }

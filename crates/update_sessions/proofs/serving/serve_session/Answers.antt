@@ -41,8 +41,8 @@ loop-calls-preserved g c =
     let w2 = (to.state c.serve_next.new.link).written in
     record {
       so_far = so_far_then (server_side p) (dated_at c.args.server.now c.args.now) c.loop-calls.server c.serve_next.new.server c.loop-calls.calls 1 (c.loop-calls.calls + 1) l0 w0 l1 w1 l2 w2 c.loop-calls.invariant.so_far
-      (next_true p c.loop-calls.server c.serve_next.new.server l1 w1 l2 w2 c.in_ok-serve_next.field-0 (search rules) c.in_ok-serve_next.ensures.serves) refl;
+          (next_true p c.loop-calls.server c.serve_next.new.server l1 w1 l2 w2 c.in_ok-serve_next.field-0 (search rules) c.in_ok-serve_next.ensures.serves) refl;
       used = uses_then (from.state c.args.link.now) (from.state c.loop-calls.link) (from.state c.serve_next.new.link) (to.state c.args.link.now) (to.state c.loop-calls.link) (to.state c.serve_next.new.link) ⊥ ⊥ c.loop-calls.invariant.used
-      (uses_as (from.state c.loop-calls.link) (from.state c.serve_next.new.link) (to.state c.loop-calls.link) (to.state c.serve_next.new.link) _ ⊥ c.serve_next.ensures.used (λ f. absurd f));
+          (uses_as (from.state c.loop-calls.link) (from.state c.serve_next.new.link) (to.state c.loop-calls.link) (to.state c.serve_next.new.link) _ ⊥ c.serve_next.ensures.used (λ f. absurd f));
       beside = c.serve_next.ensures.beside ∙ c.loop-calls.invariant.beside;
     }
