@@ -2,7 +2,7 @@
 ghost use Rattle.std.specs.Prelude.{◌≡◌, IfOk, map, false};
 ghost use Rattle.clap.specs.Words.{app_of};
 ghost use Rattle.clap.specs.declared.builder.command.Command.TheViews.{out-Command as fields_of};
-ghost use Rattle.commands.specs.CommandLine.{row, table};
+ghost use Rattle.commands.specs.CommandLine.{program, row, table};
 
 use clap::{Arg, Command};
 use std::alloc::{AllocError, Global};
@@ -11,16 +11,24 @@ use std::alloc::{AllocError, Global};
 pub fn table_of<'a>(alloc: Global) -> Result<Command<'a>, AllocError>
     ensures { IfOk result (λ c. app_of c ≡ table) }
 {
+    program_of(alloc)
+        .subcommand(row_of(alloc, "check", &["SCHEMA"])?)?
+        .subcommand(row_of(alloc, "decode", &["SCHEMA", "TYPE", "INPUT"])?)?
+        .subcommand(row_of(alloc, "encode", &["SCHEMA", "TYPE", "INPUT"])?)?
+        .subcommand(row_of(alloc, "replay", &["SCHEMA", "JOURNAL", "CLIENTS"])?)?
+        .subcommand(row_of(alloc, "layers", &["OLD", "NEW", "TYPE"])?)
+}
+
+// The program without its rows.
+fn program_of<'a>(alloc: Global) -> Command<'a>
+    ensures { app_of result ≡ program }
+{
     Command::new(alloc, "tlbox")
         .no_binary_name(true)
         .disable_help_flag(true)
         .disable_help_subcommand(true)
         .disable_version_flag(true)
         .subcommand_required(true)
-        .subcommand(row_of(alloc, "check", &["SCHEMA"])?)?
-        .subcommand(row_of(alloc, "decode", &["SCHEMA", "TYPE", "INPUT"])?)?
-        .subcommand(row_of(alloc, "encode", &["SCHEMA", "TYPE", "INPUT"])?)?
-        .subcommand(row_of(alloc, "replay", &["SCHEMA", "JOURNAL", "CLIENTS"])?)
 }
 
 // A command with its operands in order.
