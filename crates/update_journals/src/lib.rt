@@ -1,0 +1,7 @@
+//! Journals.
+#![tactic(auto)]
+
+mod drawing;
+mod generator;
+
+pub use generator::Generator;
