@@ -3,5 +3,6 @@
 
 mod drawing;
 mod generator;
+mod limits;
 
 pub use generator::Generator;
