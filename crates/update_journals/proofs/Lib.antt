@@ -1,3 +1,5 @@
 pub mod Drawn
-pub mod MadeSteps
+pub mod LastPackets
 pub mod MadeSizes
+pub mod MakingRuns
+pub mod EachRun

@@ -1,7 +1,7 @@
 mod Stretching
 mod Telling
 mod OwnLines
-mod NextNumbers
+pub mod NextNumbers
 pub mod Drawing
 pub mod Dates
 pub mod Summing
