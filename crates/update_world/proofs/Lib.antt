@@ -1,0 +1,14 @@
+pub mod WireLaws
+pub mod SentLists
+pub mod PoolBytes
+pub mod Refusals
+pub mod Exits
+pub mod Sendings
+pub mod Posts
+pub mod Runs
+pub mod Serving
+pub mod Hearing
+pub mod ClientSteps
+pub mod Carried
+pub mod HeldMessages
+pub mod Steadying

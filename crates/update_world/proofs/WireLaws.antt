@@ -1,0 +1,34 @@
+-- The laws of spellings that packets need, of frames and of calls.
+use Rattle.std.proofs.Common.{ℕ, ◌≤◌}
+use Rattle.std.specs.Prelude.{⊤}
+use Rattle.box_events.specs.declared.requests.Numbered.{Numbered}
+use Rattle.box_events.specs.declared.replies.Frame.{Frame}
+use Rattle.wire_values.specs.Calls.{call_in, call_tree}
+use Rattle.wire_values.specs.CarriedFrames.{IsFrame}
+use Rattle.wire_values.specs.Frames.{frame_in, frame_tree}
+use Rattle.box_wire.specs.Kinds.{calls, frames}
+use Rattle.box_wire.proofs.CallLaws.{call_laws, call_levels}
+use Rattle.box_wire.proofs.FrameLaws.{frame_laws}
+use Rattle.box_wire.proofs.FrameLevels.{frame_levels}
+use Rattle.frame_sizes.specs.Laws.{CallsAreLong, FramesAreLong, SpelledAreMeant, SpelledHaveTheirSize}
+use Rattle.frame_sizes.proofs.Least.{calls_are_long, frames_are_long}
+use Rattle.frame_sizes.proofs.MessageForms.{call_has, call_served, frame_has}
+use Rattle.frame_sizes.proofs.SpelledMessages.{are_meant, of_their_size}
+
+pub frames_size : SpelledHaveTheirSize frames frame_tree
+frames_size = of_their_size frames frame_tree frame_in IsFrame frame_laws frame_has (λ m. tt)
+
+pub calls_size : SpelledHaveTheirSize calls call_tree
+calls_size = of_their_size calls call_tree call_in (λ _. ⊤) call_laws call_has call_served
+
+pub frames_meant : SpelledAreMeant frames frame_tree IsFrame
+frames_meant = are_meant frames frame_tree frame_in IsFrame frame_laws frame_has (λ m. tt) (λ t is clear. frame_levels t is)
+
+pub calls_meant : SpelledAreMeant calls call_tree (λ _. ⊤)
+calls_meant = are_meant calls call_tree call_in (λ _. ⊤) call_laws call_has call_served call_levels
+
+pub frames_long : FramesAreLong
+frames_long = frames_are_long
+
+pub calls_long : CallsAreLong
+calls_long = calls_are_long

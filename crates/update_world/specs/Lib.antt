@@ -1,0 +1,5 @@
+pub mod Spelled
+pub mod Shown
+pub mod Outcomes
+pub mod Stepping
+pub mod inner
