@@ -1,4 +1,4 @@
-mod Puts
+pub mod Puts
 mod Lookups
 mod Digits
 mod Lanes

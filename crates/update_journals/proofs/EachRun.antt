@@ -6,6 +6,8 @@ use Rattle.box_events.specs.declared.steps.Step.{Step}
 use Rattle.box_world.specs.NumberWorlds.{NumberWorld, n_happens, n_run, numbers_of}
 use Rattle.box_world.specs.Possible.{StepCause, no_client, no_packet, wrong_end, pool_full, refusal}
 use Rattle.box_world.specs.Worlds.{World, happens, run, start}
+use Rattle.box_server.proofs.Carrying.{changed_overlays}
+use Rattle.box_world.proofs.NumberWorlds.{numbers_follow}
 use Rattle.box_world.proofs.OneMore.{clients_stay, runs_go_on}
 use Rattle.frame_sizes.specs.Sizes.{step_size}
 use Rattle.update_world.specs.Spelled.{packet_size}
@@ -51,7 +53,7 @@ ended number count at (pool_full bytes) is e = (at, bytes, e)
 
 ends : (number count : ℕ) (o : Option Refusal) → first_refused (start 2) 0 (made_steps number count) ≡ o → ((text : List ℕ) × MakesRun number count (Ok text)) ⊎ ((place : ℕ) × (bytes : ℕ) × MakesRun number count (Err (PoolFull place bytes)))
 ends number count None e = inl (summary packet_size count (n_run 2 (made_steps number count)), (e, refl))
-ends number count (Some r) e = inr (ended number count r.at r.cause (full_from count [] 0 number 0 r e) e)
+ends number count (Some r) e = inr (ended number count r.at r.cause (full_from count [] 0 number 0 r (subst (λ (w : NumberWorld). first_refused (start 2) 0 (made_from count w 0 number) ≡ Some r) (sym (numbers_follow changed_overlays 2 [])) e)) e)
 
 -- its summary, or where the pool fills
 pub each_run : (number count : ℕ) → ((text : List ℕ) × MakesRun number count (Ok text)) ⊎ ((place : ℕ) × (bytes : ℕ) × MakesRun number count (Err (PoolFull place bytes)))

@@ -22,15 +22,10 @@ use Rattle.frame_sizes.proofs.SpelledMessages.{of_their_size}
 use Rattle.world_reports.specs.Draws.{drawn, draw_of}
 use Rattle.world_reports.specs.Made.{Chosen, drawn_ids, drawn_post, drawn_posted, drawn_rest, hears_drawn, hears_if, hears_last, serves_last, last_where, or_date, or_dated, made_step}
 use Rattle.world_reports.proofs.Drawing.{either}
-use Rattle.update_journals.specs.MadeRuns.{journal_size}
 
 -- what is spelled for a step has the step's size
 pub steps_size : SpelledHaveTheirSize steps step_tree
 steps_size = of_their_size steps step_tree step_in (λ _. ⊤) step_laws step_has (λ m. tt)
-
-pub size_more : (ss : List Step) (s : Step) → journal_size (ss ++ s ∷ []) ≡ journal_size ss + step_size s
-size_more [] s = omega arith
-size_more (t ∷ ts) s = omega (arith, size_more ts s)
 
 -- ---- a step that is made has 48 bytes at most
 

@@ -4,6 +4,8 @@ use Rattle.box_events.specs.declared.steps.Step.{Step}
 use Rattle.box_world.specs.NumberWorlds.{NumberWorld, numbers_of, n_happens}
 use Rattle.box_world.specs.Possible.{pool_full, refusal}
 use Rattle.box_world.specs.Worlds.{World, happens, run, start}
+use Rattle.box_server.proofs.Carrying.{changed_overlays}
+use Rattle.box_world.proofs.NumberWorlds.{numbers_follow}
 use Rattle.box_world.proofs.OneMore.{runs_go_on}
 use Rattle.frame_sizes.specs.Sizes.{step_size}
 use Rattle.update_world.specs.declared.sent.Sent.{Sent}
@@ -29,11 +31,14 @@ pub record Going (number count k at x : ℕ) (s : Shown) : Type 0 where
   pub date : s.server.date ≤ k
   pub small : at ≤ 48 * k
 
+at_start : (number count : ℕ) → made_steps number count ≡ made_from (count - 0) (numbers_of (run 2 [])) 0 number
+at_start number count = ap (λ (w : NumberWorld). made_from count w 0 number) (sym (numbers_follow changed_overlays 2 [])) ∙ ap (λ (n : ℕ). made_from n (numbers_of (run 2 [])) 0 number) {y = count - 0} (omega arith)
+
 pub going_first : (number count : ℕ) (s : Shown) → IsNew 2 s → Going number count 0 0 number s
 going_first number count s new = record {
   done = [];
-  whole = ap (λ (n : ℕ). made_from n (numbers_of (run 2 [])) 0 number) (omega arith);
-  refused = ap (λ (n : ℕ). first_refused (start 2) 0 (made_from n (numbers_of (run 2 [])) 0 number)) (omega arith);
+  whole = at_start number count;
+  refused = ap (first_refused (start 2) 0) (at_start number count);
   stands = record { server = sym new.server; clients = sym new.clients; pool = subst (λ (ss : List Sent). AreSent s.profile ss []) (sym new.pool) tt };
   fine = new.fine;
   two = ap length new.clients;
@@ -68,7 +73,7 @@ module _ (number count k at x : ℕ) (s : Shown) (g : Going number count k at x 
   unfolding here made rest
   going_on bytes y t one few two =
       let more = g.done ++ made.it ∷ [] in
-      let next : made_from (count - (k + 1)) (n_happens (numbers_of here) made.it) (k + 1) made.x ≡ made_from (count - (k + 1)) (numbers_of (run 2 more)) (k + 1) y = rw (one.number) ap (λ (w : NumberWorld). made_from (count - (k + 1)) w (k + 1) made.x) numbers_next in
+      let next : made_from (count - (k + 1)) (n_happens (numbers_of here) made.it) (k + 1) made.x ≡ made_from (count - (k + 1)) (numbers_of (run 2 more)) (k + 1) y = rw (one.after) (ap (λ (w : NumberWorld). made_from (count - (k + 1)) w (k + 1) made.x) numbers_next) in
       record {
         done = more;
         whole = g.whole ∙ ap (λ (l : List Step). g.done ++ l) (parted ∙ ap (λ (l : List Step). made.it ∷ l) next) ∙ sym (append_assoc g.done (made.it ∷ []) _);

@@ -1,5 +1,5 @@
 //! Steps that are chosen by draws, on a world as it stands.
-ghost use Rattle.std.specs.Prelude.{◌≡◌, ◌<◌, IfOk, Option, length};
+ghost use Rattle.std.specs.Prelude.{◌≡◌, ◌<◌, ◌+◌, ◌^◌, IfOk, Option, length};
 ghost use Rattle.box_wire.specs.StepReading.{IsDated};
 ghost use Rattle.box_world.specs.NumberWorlds.{numbers_of};
 ghost use Rattle.box_world.specs.Worlds as worlds;

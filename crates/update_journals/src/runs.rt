@@ -1,5 +1,5 @@
 //! Made runs.
-ghost use Rattle.std.specs.Prelude.{◌≡◌, ◌<◌, ◌≤◌, ◌++◌, ◌^◌, OnOk, IfOk, Option, length, map};
+ghost use Rattle.std.specs.Prelude.{◌≡◌, ◌<◌, ◌≤◌, ◌+◌, ◌++◌, ◌^◌, OnOk, IfOk, Option, length, map};
 ghost use Rattle.box_client.specs.Numbers.{client_numbers};
 ghost use Rattle.box_server.specs.Servers.{state_of};
 ghost use Rattle.box_world.specs.Worlds as worlds;

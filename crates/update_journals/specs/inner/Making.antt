@@ -21,12 +21,12 @@ pub record IsNew (n : ℕ) (s : Shown) : Type 0 where
   pub fine : s.spoiled ≡ None
 
 -- a step was made, whose bytes are so many
-pub record OneMade (n : ℕ) (w : World) (x bytes : ℕ) (s : Shown) (y : ℕ) : Type 0 where
-  pub bytes : bytes ≡ step_size (made_step (numbers_of w) n x).it
+pub record OneMade (n : ℕ) (w : World) (x size : ℕ) (s : Shown) (y : ℕ) : Type 0 where
+  pub bytes : size ≡ step_size (made_step (numbers_of w) n x).it
   pub possible : refusal packet_size w (made_step (numbers_of w) n x).it ≡ None
   pub stands : StandsFor s (happens w (made_step (numbers_of w) n x).it)
   pub fine : s.spoiled ≡ None
-  pub number : y ≡ (made_step (numbers_of w) n x).x
+  pub after : y ≡ (made_step (numbers_of w) n x).x
 
 abbrev pub MakesOne : ℕ → ℕ → World → ℕ → Result ℕ MakeFault → Shown → ℕ → Type 0
 MakesOne n at w x (Ok bytes) s y = OneMade n w x bytes s y
