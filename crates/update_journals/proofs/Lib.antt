@@ -1,0 +1,4 @@
+pub mod LineLists
+pub mod Packets
+pub mod StepTexts
+pub mod Told
