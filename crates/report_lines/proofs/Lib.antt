@@ -1,4 +1,4 @@
-pub mod Puts
+mod Puts
 mod Lookups
 mod Digits
 mod Lanes

@@ -1,5 +1,5 @@
 -- Each type reaches a first break, or nothing that breaks: which declarations are reached is decided, and so is each break.
-use Rattle.std.proofs.Common.{◌≡◌, ◌≢◌, ◌⊎◌, inl, inr, ◌↔◌, ℕ, zero, suc, ◌+◌, ◌<◌, ◌≤◌, List, [], ◌∷◌, ◌++◌, length, slice_get, get_or, Bool, true, false, Option, Some, None, nat_lt, if◌then◌else◌, refl, ap, sym, ◌∙◌, subst, true≢false, arith, ltb-true, ◌==◌}
+use Rattle.std.proofs.Common.{◌≡◌, ◌≢◌, ◌⊎◌, inl, inr, ◌↔◌, ℕ, zero, suc, ◌+◌, ◌<◌, ◌≤◌, List, [], ◌∷◌, ◌++◌, length, slice_get, get_or, Bool, true, false, Option, Some, None, nat_lt, if◌then◌else◌, refl, ap, sym, ◌∙◌, subst, true≢false, arith, ltb-true, ◌==◌, count_by}
 use Rattle.std.proofs.lemmas.Bool.{cases_eq, cases_order}
 use Rattle.std.proofs.lemmas.List.{length_push, get_or_past}
 use Rattle.std.proofs.lemmas.Option.{none-some, same_Some, slice_get_within}
@@ -21,6 +21,7 @@ use Rattle.tl_plan.specs.inner.Walks.{AreHeads}
 use Rattle.tl_layers.specs.Reached.{Reached}
 use Rattle.tl_layers.specs.Counterparts.{counterpart, first_constructor, namesake}
 use Rattle.tl_layers.specs.Breaks.{ArePair, IsSplit, LacksField, IsBefore, IsChanged, IsAdded, IsUnbroken, Breaks}
+use Rattle.tl_layers.specs.Compared.{IsCount}
 use Rattle.tl_layers.specs.LayerLaws.{EachIsUnbrokenOrBreaks}
 use Rattle.tl_layers.specs.inner.Pairs.{PairView}
 use Rattle.tl_layers.specs.inner.Graphs.{type_total, all_lists}
@@ -39,6 +40,7 @@ use Rattle.tl_layers.proofs.KeptDeclarations.{first_kept, first_broken}
 use Rattle.tl_layers.proofs.EdgeLists.{are_edges}
 use Rattle.tl_layers.proofs.ReachedPaths.{is_graph, path_reached, reached_within}
 use Rattle.tl_layers.proofs.OneBreak.{never_both, one_break}
+use Rattle.tl_layers.proofs.OneCount.{one_count}
 use Rattle.tl_layers.proofs.Verdicts.{unbroken, breaks}
 
 -- ---- what is reached is decided
@@ -232,27 +234,36 @@ module _ (p : PairView) where
         by (o, f) (true, at) = here o f true at at (first_break n)
         by (o, f) (false, at) = (o, up o (first_kept p marks n false at (λ m. absurd (true≢false (same_Some true false (sym m ∙ at)))) o f))
 
+-- ---- what is reached is marked and counted
+
+module _ (S : Declared) (good : IsSchema S) (T : Shape) (formed : IsFormed S T) where
+  -- marks of all declarations
+  all_marks : (marks : List Bool) × (length marks ≡ length S.decls) × ((i : ℕ) → i < length S.decls → IsMarked marks i ↔ Reached S T i)
+  all_marks = marks_for (Reached S T) (reached_decided S good T formed) (length S.decls)
+
+  are_marks : (i : ℕ) → IsMarked all_marks.0 i ↔ Reached S T i
+  are_marks i = (
+    λ m. (all_marks.2 i (let w = slice_get_within all_marks.0 i true m in let l = all_marks.1 in omega (arith, w, l))).0 m,
+    λ r. (all_marks.2 i (reached_within S good T i formed r)).1 r,
+  )
+
+  pub some_count : (n : ℕ) × IsCount (Reached S T) n
+  some_count = (count_by (λ b. b) all_marks.0, (all_marks.0, are_marks, refl))
+
 -- ---- the law
 
 pub each_is_unbroken_or_breaks : EachIsUnbrokenOrBreaks
 each_is_unbroken_or_breaks old new T good_old good_new formed = record {
-  either = by (first_among p marks.0 (length old.decls) (let l = marks.1 in omega (arith, l)));
+  either = by (first_among p (all_marks old good_old T formed).0 (length old.decls) (let l = (all_marks old good_old T formed).1 in omega (arith, l)));
   never_both = never_both old new T;
   one_break = one_break old new T;
+  some_count = some_count old good_old T formed;
+  one_count = one_count (Reached old T);
 }
   where
     p : PairView
     p = record { old = old; new = new }
 
-    marks : (marks : List Bool) × (length marks ≡ length old.decls) × ((i : ℕ) → i < length old.decls → IsMarked marks i ↔ Reached old T i)
-    marks = marks_for (Reached old T) (reached_decided old good_old T formed) (length old.decls)
-
-    are_marks : (i : ℕ) → IsMarked marks.0 i ↔ Reached old T i
-    are_marks i = (
-      λ m. (marks.2 i (let w = slice_get_within marks.0 i true m in let l = marks.1 in omega (arith, w, l))).0 m,
-      λ r. (marks.2 i (reached_within old good_old T i formed r)).1 r,
-    )
-
-    by : ((o : Option (ℕ × Break)) × IsFirstOf p marks.0 (length old.decls) o) → IsUnbroken old new T ⊎ ((i : ℕ) × (cause : Break) × Breaks old new T i cause)
-    by (None, none) = inl (unbroken old new T good_old formed marks.0 are_marks none)
-    by (Some b, f) = inr (b.0, b.1, breaks old new T good_old formed marks.0 are_marks b f)
+    by : ((o : Option (ℕ × Break)) × IsFirstOf p (all_marks old good_old T formed).0 (length old.decls) o) → IsUnbroken old new T ⊎ ((i : ℕ) × (cause : Break) × Breaks old new T i cause)
+    by (None, none) = inl (unbroken old new T good_old formed (all_marks old good_old T formed).0 (are_marks old good_old T formed) none)
+    by (Some b, f) = inr (b.0, b.1, breaks old new T good_old formed (all_marks old good_old T formed).0 (are_marks old good_old T formed) b f)

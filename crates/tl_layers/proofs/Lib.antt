@@ -7,6 +7,7 @@ pub mod DecidedBreaks
 pub mod MovedDeclarations
 pub mod KeptDepths
 pub mod OneBreak
+pub mod OneCount
 pub mod FormedImages
 pub mod EvenTypes
 pub mod FoundCounterparts

@@ -1,6 +1,5 @@
+pub mod LineLists
+pub mod Packets
+pub mod StepTexts
+pub mod Told
 pub mod Drawn
-pub mod LastPackets
-pub mod MadeSizes
-pub mod Standings
-pub mod MakingRuns
-pub mod EachRun

@@ -1,3 +1,3 @@
+pub mod WorldLines
+pub mod LineLaws
 pub mod Making
-pub mod MadeRuns
-pub mod inner

@@ -1,13 +1,14 @@
-//! Journals and made runs, over worlds.
+//! Replays of journals and made runs: what a replay writes of a world, and what a made run draws.
 #![tactic(auto)]
 
 mod drawing;
+mod fault;
 mod generator;
-mod limits;
-mod making;
-mod runs;
+mod laws;
+mod lines;
 
+pub use drawing::draw_post;
+pub use fault::LineFault;
 pub use generator::Generator;
-pub use limits::{MAX_JOURNAL_BYTES, MAX_STEPS};
-pub use making::make_step;
-pub use runs::{MADE_CLIENTS, MakeFault, made_run};
+pub use laws::lines_are_told;
+pub use lines::{write_end, write_step};

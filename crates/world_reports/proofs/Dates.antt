@@ -93,7 +93,7 @@ go_date : (w : NumberWorld) (k : ℕ) (f : ClientNumbers → ClientNumbers) (c :
 go_date w k f None = refl
 go_date w k f (Some c) = refl
 
-pub next_date : (w : NumberWorld) (s : Step) → IsNextDate w.server.date s → (n_happens w s).server.date ≤ w.server.date + 1
+next_date : (w : NumberWorld) (s : Step) → IsNextDate w.server.date s → (n_happens w s).server.date ≤ w.server.date + 1
 next_date w (step.Post id ps) next = omega (arith, post_date w id ps (maps.get w.server.receipts id) (post_cause w.server ps))
 next_date w (step.Date date) next = omega (arith, next)
 next_date w (step.Serve m) next = omega (arith, serve_date w (slice_get w.pool m))

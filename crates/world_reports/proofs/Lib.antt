@@ -1,7 +1,7 @@
 mod Stretching
 mod Telling
-mod OwnLines
+pub mod OwnLines
 pub mod NextNumbers
-pub mod Drawing
-pub mod Dates
-pub mod Summing
+mod Drawing
+mod Dates
+mod Summing

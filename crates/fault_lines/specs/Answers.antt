@@ -1,0 +1,32 @@
+-- The lines of answers that a client refuses. Out of memory has none. This project's own.
+use Rattle.std.specs.Prelude.{List, ◌++◌, ℕ, Option, Some, None, option_map, codes, decimal}
+use Rattle.std.specs.Fmt.{signed_decimal}
+use Rattle.command_base.specs.Answer.{unplaced_line}
+use Rattle.difference.specs.declared.fault.WeaveFault.{WeaveFault}
+use Rattle.difference.specs.declared.fault.WeaveFault.TheVariants as weave
+use Rattle.box_client.specs.declared.fault.ClientFault.{ClientFault}
+use Rattle.box_client.specs.declared.fault.ClientFault.TheVariants as client
+
+-- causes of several values
+abbrev pub uneven_words : ℕ → ℕ → ℕ → List ℕ
+uneven_words from covered to = ((((codes "Uneven " ++ decimal from) ++ codes " ") ++ decimal covered) ++ codes " ") ++ decimal to
+
+abbrev pub seq_words : ℕ → ℕ → List ℕ
+seq_words at seq = ((codes "SeqBack " ++ decimal at) ++ codes " ") ++ decimal seq
+
+-- why events make no list, with its numbers
+abbrev pub weave_words : WeaveFault → Option (List ℕ)
+weave_words (weave.Overlap pts) = Some (codes "Overlap " ++ decimal pts)
+weave_words (weave.Uneven from covered to) = Some (uneven_words from covered to)
+weave_words weave.Memory = None
+
+-- the cause, and its values
+abbrev pub answer_words : ClientFault → Option (List ℕ)
+answer_words (client.PeerError code) = Some (codes "PeerError " ++ signed_decimal code)
+answer_words client.WrongKind = Some (codes "WrongKind")
+answer_words (client.Weave fault) = weave_words fault
+answer_words (client.SeqBack at seq) = Some (seq_words at seq)
+answer_words client.Memory = None
+
+abbrev pub answer_line : ClientFault → Option (List ℕ)
+answer_line fault = option_map (unplaced_line (codes "peer")) (answer_words fault)

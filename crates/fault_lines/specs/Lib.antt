@@ -1,0 +1,5 @@
+pub mod Messages
+pub mod Answers
+pub mod SavedClients
+pub mod Packets
+pub mod Profiles

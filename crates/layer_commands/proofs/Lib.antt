@@ -1,0 +1,3 @@
+pub mod LayersLines
+pub mod OneLayers
+pub mod EachLayers

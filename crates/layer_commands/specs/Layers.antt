@@ -1,0 +1,96 @@
+-- What `layers` answers: how many declarations the type reaches, or the first break, or where and why a schema or the type is refused. This project's own.
+use Rattle.std.specs.Prelude.{◌≡◌, ℕ, List, ◌++◌, codes, decimal, Result, Ok, Err, Vec}
+use Rattle.std.specs.declared.alloc.Global.{Global}
+use Rattle.tl_base.specs.Contents.{Files}
+use Rattle.tl_base.specs.Outside.{HasFile}
+use Rattle.tl_schema.specs.Types.{Shape}
+use Rattle.tl_schema.specs.Schemas.{Declared}
+use Rattle.tl_schema.specs.AskedTypes.{IsTypeText}
+use Rattle.command_base.specs.Answer.{Answer, done, refused, decl_line}
+use Rattle.command_base.specs.Jobs.{Job, unlinked_job}
+use Rattle.command_base.specs.Kept.{KeepsUnread}
+use Rattle.command_base.specs.Loading.{Refuses}
+use Rattle.command_base.specs.declared.stop.Unmade.{Unmade}
+use Rattle.schema_files.specs.Causes.{SchemaCause, TypeNameCause}
+use Rattle.schema_files.specs.Loaded.{IsSchemaText, SchemaRefused, TypeNameRefused}
+use Rattle.schema_files.specs.Lines.{schema_line, type_line}
+use Rattle.tl_layers.specs.Reached.{Reached}
+use Rattle.tl_layers.specs.Breaks.{IsUnbroken, Breaks}
+use Rattle.tl_layers.specs.Compared.{IsCount}
+use Rattle.tl_layers.specs.declared.fault.Break.{Break}
+use Rattle.tl_layers.specs.declared.fault.Break.TheVariants.{Gone, NewNumber, NewVars, TypeSplit, FieldGone, FieldOrder, FieldChanged, FieldAdded}
+
+-- ---- lines
+
+-- a break, and the index of its field
+abbrev pub break_text : Break → List ℕ
+break_text Gone = codes "Gone"
+break_text NewNumber = codes "NewNumber"
+break_text NewVars = codes "NewVars"
+break_text TypeSplit = codes "TypeSplit"
+break_text (FieldGone k) = codes "FieldGone " ++ decimal k
+break_text (FieldOrder k) = codes "FieldOrder " ++ decimal k
+break_text (FieldChanged k) = codes "FieldChanged " ++ decimal k
+break_text (FieldAdded m) = codes "FieldAdded " ++ decimal m
+
+abbrev pub layers_line : ℕ → Break → List ℕ
+layers_line decl cause = decl_line (codes "layers") decl (break_text cause)
+
+abbrev pub yes_line : ℕ → List ℕ
+yes_line n = (codes "yes " ++ decimal n) ++ codes "\n"
+
+-- ---- layers
+
+-- the type reaches nothing that breaks, or this is the first break
+pub data OfLayers (old new : Declared) (T : Shape) (a : Answer) : Type 0 where
+  broken : (decl : ℕ) (cause : Break) → Breaks old new T decl cause → a ≡ refused (layers_line decl cause) → OfLayers old new T a
+  whole : (n : ℕ) → IsUnbroken old new T → IsCount (Reached old T) n → a ≡ done (yes_line n) → OfLayers old new T a
+
+-- the line of what is answered, or its refusal; out of memory is free
+abbrev pub TellsLayers : Declared → Declared → Shape → Result (Vec ℕ Global) Unmade → Type 0
+TellsLayers old new T (Ok line) = OfLayers old new T (done line.items)
+TellsLayers old new T (Err fault) = Refuses (λ line. OfLayers old new T (refused line)) fault
+
+-- the new text is no schema's, or it is one's
+pub data OfNew (old : Declared) (T : Shape) (text : List ℕ) (a : Answer) : Type 0 where
+  no_new : (cause : SchemaCause) → SchemaRefused text cause → a ≡ refused (schema_line (codes "new") cause) → OfNew old T text a
+  new_of : (new : Declared) → IsSchemaText text new → OfLayers old new T a → OfNew old T text a
+
+-- the word is refused as a type, or it is one, and then the new schema's file tells
+pub data OfType (old : Declared) (type new : List ℕ) (files : Files) (a : Answer) : Type 0 where
+  no_type : (cause : TypeNameCause) → TypeNameRefused old type cause → a ≡ refused (type_line cause) → OfType old type new files a
+  typed : (T : Shape) (text : List ℕ) → IsTypeText old.program type T → HasFile files new text → OfNew old T text a → OfType old type new files a
+
+-- the old text is no schema's, or it is one's, and then the type tells
+pub data OfOld (text type new : List ℕ) (files : Files) (a : Answer) : Type 0 where
+  no_schema : (cause : SchemaCause) → SchemaRefused text cause → a ≡ refused (schema_line (codes "schema") cause) → OfOld text type new files a
+  schema_of : (old : Declared) → IsSchemaText text old → OfType old type new files a → OfOld text type new files a
+
+-- layers' answer
+abbrev pub LayersAnswer : Files → List ℕ → List ℕ → List ℕ → Answer → Type 0
+LayersAnswer files old new type a = (text : List ℕ) × HasFile files old text × OfOld text type new files a
+
+-- some file has this name
+abbrev pub IsFile : Files → List ℕ → Type 0
+IsFile files name = (bytes : List ℕ) × HasFile files name bytes
+
+-- files have one answer at most, and one where both are there
+pub record HasOneAnswer (files : Files) (old new type : List ℕ) : Type 0 where
+  pub one : (a b : Answer) → LayersAnswer files old new type a → LayersAnswer files old new type b → a ≡ b
+  pub there : IsFile files old → IsFile files new → (a : Answer) × LayersAnswer files old new type a
+
+abbrev pub EachHasOneAnswer : Type 0
+EachHasOneAnswer = (files : Files) (old new type : List ℕ) → HasOneAnswer files old new type
+
+-- the work comes to the new schema: the old text is a schema's, and the word is one of its types
+pub record ReachesNew (files : Files) (old type : List ℕ) : Type 0 where
+  pub text : List ℕ
+  pub of : Declared
+  pub meant : Shape
+  pub there : HasFile files old text
+  pub accepted : IsSchemaText text of
+  pub named : IsTypeText of.program type meant
+
+-- `layers OLD NEW TYPE`
+abbrev pub layers_job : List ℕ → List ℕ → List ℕ → Job
+layers_job old new type = unlinked_job (λ v a. LayersAnswer v.files old new type a) ⊥ (λ v w. KeepsUnread (ReachesNew v.files old type) v w)

@@ -1,0 +1,10 @@
+//! The command over layers: `layers`, which tells whether a new schema still reads the bytes of an old one.
+#![tactic(auto)]
+
+mod laws;
+mod layers;
+mod lines;
+mod verdict;
+
+pub use laws::files_have_one_answer;
+pub use layers::compare_schemas;

@@ -1,0 +1,10 @@
+pub mod Packets
+pub mod LinkUses
+pub mod Exchanging
+pub mod Stepping
+pub mod Sizes
+pub mod Received
+pub mod Answered
+pub mod ServerSteps
+pub mod ClientSteps
+pub mod HonestFrames

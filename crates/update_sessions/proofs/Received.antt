@@ -1,0 +1,109 @@
+-- How a message is received: a packet, and what its bytes mean.
+use Rattle.std.proofs.Common.{◌≡◌, ◌⊎◌, inl, inr, Bool, ℕ, List, ◌++◌, length, true, false, Option, Some, None, Ok, Err, refl, subst}
+use Rattle.std.specs.Prelude.{IfSome}
+use Rattle.tl_base.specs.Packets.{IsPacketLength, ReadsPacket, PacketInto, packet}
+use Rattle.tl_base.specs.declared.packet.PacketFault.{PacketFault}
+use Rattle.tl_base.specs.declared.packet.PacketFault.TheVariants as packets
+use Rattle.wire_checks.specs.declared.fault.WireFault.{WireFault}
+use Rattle.wire_checks.specs.declared.fault.WireFault.TheVariants as wire
+use Rattle.box_events.specs.declared.replies.Frame.{Frame}
+use Rattle.wire_profile.specs.Places.{ProfileView}
+use Rattle.wire_profile.specs.Profiles.{IsProfile}
+use Rattle.server_frames.specs.Fitting.{IsHearable}
+use Rattle.server_frames.proofs.ReadFrames.{frames_taken}
+use Rattle.update_sessions.specs.declared.fault.SessionFault.TheVariants.{LinkFault}
+use Rattle.update_sessions.specs.Faults.{of_packet, of_wire}
+use Rattle.update_sessions.specs.Packed.{MeansFrame}
+use Rattle.update_sessions.specs.Receiving.{Receives}
+
+module _ {M : Type 0} (MeansIt : M → List ℕ → Type 0) (Refused : List ℕ → WireFault → Type 0) where
+  -- no packet comes
+  pub no_packet : (a b : Option (List ℕ)) (into : List ℕ) (fault : PacketFault) → IfSome a (λ bytes. ReadsPacket bytes b into (Err fault)) → PacketInto into (Err fault) → IfSome a (λ bytes. Receives {M = M} MeansIt Refused bytes b (Err (of_packet fault)))
+  no_packet None b into fault h g = tt
+  no_packet (Some x) None into (packets.BadLength n) h g = absurd h
+  no_packet (Some x) (Some y) into (packets.BadLength n) h g = (y, h, g.1)
+  no_packet (Some x) b into (packets.Ended had) h g = (h.0, g.1, h.1)
+  no_packet (Some x) b into packets.ReadFault h g = tt
+  no_packet (Some x) b into packets.Memory h g = tt
+
+  -- the bytes have ended
+  pub no_more : (a b : Option (List ℕ)) (into : List ℕ) → IfSome a (λ bytes. ReadsPacket bytes b into (Ok false)) → IfSome a (λ bytes. Receives {M = M} MeansIt Refused bytes b (Ok None))
+  no_more None b into h = tt
+  no_more (Some x) b into h = h.0
+
+  -- a packet is refused; a fault of memory is one of a session
+  refused_by : (x y into : List ℕ) (fault : WireFault) → IsPacketLength (length into) → x ≡ packet into ++ y → (fault ≡ wire.Memory) ⊎ Refused into fault → Receives {M = M} MeansIt Refused x (Some y) (Err (of_wire fault))
+  refused_by x y into wire.Memory fits is h = tt
+  refused_by x y into (wire.Refused place cause) fits is (inl e) = absurd cc
+  refused_by x y into (wire.Refused place cause) fits is (inr r) = record { body = into; rest = y; fits = fits; parts = is; refused = r }
+  refused_by x y into (wire.Trailing place) fits is (inl e) = absurd cc
+  refused_by x y into (wire.Trailing place) fits is (inr r) = record { body = into; rest = y; fits = fits; parts = is; refused = r }
+  refused_by x y into (wire.NotServed place) fits is (inl e) = absurd cc
+  refused_by x y into (wire.NotServed place) fits is (inr r) = record { body = into; rest = y; fits = fits; parts = is; refused = r }
+  refused_by x y into (wire.BadVersion version) fits is (inl e) = absurd cc
+  refused_by x y into (wire.BadVersion version) fits is (inr r) = record { body = into; rest = y; fits = fits; parts = is; refused = r }
+  refused_by x y into (wire.BadNumber number) fits is (inl e) = absurd cc
+  refused_by x y into (wire.BadNumber number) fits is (inr r) = record { body = into; rest = y; fits = fits; parts = is; refused = r }
+  refused_by x y into (wire.WrongUpdate place) fits is (inl e) = absurd cc
+  refused_by x y into (wire.WrongUpdate place) fits is (inr r) = record { body = into; rest = y; fits = fits; parts = is; refused = r }
+  refused_by x y into (wire.BadCount pts count) fits is (inl e) = absurd cc
+  refused_by x y into (wire.BadCount pts count) fits is (inr r) = record { body = into; rest = y; fits = fits; parts = is; refused = r }
+  refused_by x y into (wire.BadEnd pts) fits is (inl e) = absurd cc
+  refused_by x y into (wire.BadEnd pts) fits is (inr r) = record { body = into; rest = y; fits = fits; parts = is; refused = r }
+  refused_by x y into (wire.BadDate date) fits is (inl e) = absurd cc
+  refused_by x y into (wire.BadDate date) fits is (inr r) = record { body = into; rest = y; fits = fits; parts = is; refused = r }
+  refused_by x y into wire.UnorderedSetting fits is (inl e) = absurd cc
+  refused_by x y into wire.UnorderedSetting fits is (inr r) = record { body = into; rest = y; fits = fits; parts = is; refused = r }
+  refused_by x y into (wire.BadSeq seq_start seq) fits is (inl e) = absurd cc
+  refused_by x y into (wire.BadSeq seq_start seq) fits is (inr r) = record { body = into; rest = y; fits = fits; parts = is; refused = r }
+
+  pub no_message : (a b : Option (List ℕ)) (into : List ℕ) (fault : WireFault) → IfSome a (λ bytes. ReadsPacket bytes b into (Ok true)) → IsPacketLength (length into) → (fault ≡ wire.Memory) ⊎ Refused into fault
+      → IfSome a (λ bytes. Receives {M = M} MeansIt Refused bytes b (Err (of_wire fault)))
+  no_message None b into fault h fits r = tt
+  no_message (Some x) None into fault h fits r = absurd h
+  no_message (Some x) (Some y) into fault h fits r = refused_by x y into fault fits h r
+
+  pub message : (a b : Option (List ℕ)) (into : List ℕ) (m : M) → IfSome a (λ bytes. ReadsPacket bytes b into (Ok true)) → IsPacketLength (length into) → MeansIt m into → IfSome a (λ bytes. Receives MeansIt Refused bytes b (Ok (Some m)))
+  message None b into m h fits means = tt
+  message (Some x) None into m h fits means = absurd h
+  message (Some x) (Some y) into m h fits means = (y, record { body = into; fits = fits; parts = h; means = means }, refl)
+
+  -- a packet was read; of its bytes this is said
+  module _ (a b : Option (List ℕ)) (into slice : List ℕ) (whole : Bool) (is : whole ≡ true) (read : IfSome a (λ bytes. ReadsPacket bytes b into (Ok whole))) (fits : PacketInto into (Ok whole)) (same : slice ≡ into) where
+    was_read : IfSome a (λ bytes. ReadsPacket bytes b into (Ok true))
+    was_read = subst (λ (v : Bool). IfSome a (λ bytes. ReadsPacket bytes b into (Ok v))) is read
+
+    is_fit : IsPacketLength (length into)
+    is_fit = subst (λ (v : Bool). PacketInto into (Ok v)) is fits
+
+    pub meant : (m : M) → MeansIt m slice → IfSome a (λ bytes. Receives MeansIt Refused bytes b (Ok (Some m)))
+    meant m means = message a b into m was_read is_fit (subst (MeansIt m) same means)
+
+    pub refused : (fault : WireFault) → (fault ≡ wire.Memory) ⊎ Refused slice fault → IfSome a (λ bytes. Receives {M = M} MeansIt Refused bytes b (Err (of_wire fault)))
+    refused fault told = no_message a b into fault was_read is_fit (subst (λ (l : List ℕ). (fault ≡ wire.Memory) ⊎ Refused l fault) same told)
+
+-- a link fault is one of the packet
+pub packet_failed : (fault : PacketFault) → of_packet fault ≡ LinkFault → fault ≡ packets.ReadFault
+packet_failed (packets.BadLength n) e = absurd cc
+packet_failed (packets.Ended had) e = absurd cc
+packet_failed packets.ReadFault e = refl
+packet_failed packets.Memory e = absurd cc
+
+-- no refusal of a message is one
+pub wire_failed : (fault : WireFault) → of_wire fault ≡ LinkFault → ⊥
+wire_failed (wire.Refused place cause) e = cc
+wire_failed (wire.Trailing place) e = cc
+wire_failed (wire.NotServed place) e = cc
+wire_failed (wire.BadVersion version) e = cc
+wire_failed (wire.BadNumber number) e = cc
+wire_failed (wire.WrongUpdate place) e = cc
+wire_failed (wire.BadCount pts count) e = cc
+wire_failed (wire.BadEnd pts) e = cc
+wire_failed (wire.BadDate date) e = cc
+wire_failed wire.UnorderedSetting e = cc
+wire_failed (wire.BadSeq seq_start seq) e = cc
+wire_failed wire.Memory e = cc
+
+-- a frame that was read is one that a client takes
+pub hearable : (p : ProfileView) → IsProfile p → (f : Frame) (b : List ℕ) → MeansFrame p f b → IsHearable f
+hearable p good f b m = frames_taken p good f b m.0 m.1

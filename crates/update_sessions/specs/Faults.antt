@@ -1,0 +1,26 @@
+-- The faults of calls below as a session's. This project's own.
+use Rattle.tl_base.specs.declared.packet.PacketFault.{PacketFault}
+use Rattle.tl_base.specs.declared.packet.PacketFault.TheVariants as packets
+use Rattle.wire_checks.specs.declared.fault.WireFault.{WireFault}
+use Rattle.wire_checks.specs.declared.fault.WireFault.TheVariants as wire
+use Rattle.box_client.specs.declared.fault.ClientFault.{ClientFault}
+use Rattle.box_client.specs.declared.fault.ClientFault.TheVariants as client
+use Rattle.update_sessions.specs.declared.fault.SessionFault.{SessionFault}
+use Rattle.update_sessions.specs.declared.fault.SessionFault.TheVariants.{Packet, Wire, Client, LinkFault, Memory}
+
+-- a packet isn't read
+abbrev pub of_packet : PacketFault → SessionFault
+of_packet packets.ReadFault = LinkFault
+of_packet packets.Memory = Memory
+of_packet (packets.BadLength n) = Packet (packets.BadLength n)
+of_packet (packets.Ended had) = Packet (packets.Ended had)
+
+-- a packet is no message
+abbrev pub of_wire : WireFault → SessionFault
+of_wire wire.Memory = Memory
+of_wire fault = Wire fault
+
+-- an answer is refused
+abbrev pub of_client : ClientFault → SessionFault
+of_client client.Memory = Memory
+of_client fault = Client fault

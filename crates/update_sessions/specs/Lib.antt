@@ -1,0 +1,11 @@
+pub mod Links
+pub mod Packed
+pub mod Exchanges
+pub mod Faults
+pub mod Receiving
+pub mod Serving
+pub mod Served
+pub mod Hearing
+pub mod Heard
+pub mod Honest
+pub mod inner

@@ -1,0 +1,97 @@
+//! Why a session ends before its time.
+use box_client::ClientFault;
+use std::alloc::AllocError;
+use thiserror::Error;
+use tl_base::{PacketFault, WriteFault};
+use wire_checks::WireFault;
+
+/// How many frames a session takes at most.
+pub const MAX_FRAMES: u64 = 1_048_576;
+
+/// Why a session ended.
+#[derive(Clone, Copy, Debug, PartialEq, Eq, Error)]
+pub enum SessionFault {
+    /// The next bytes are no packet; `Ended` with 0 bytes where the link has ended and a client still asks. It holds no `ReadFault` and no `Memory`.
+    #[error("{0}")]
+    Packet(PacketFault),
+    /// The next packet is no message. It holds no `Memory`.
+    #[error("{0}")]
+    Wire(WireFault),
+    /// The client refuses the next frame. It holds no `Memory`.
+    #[error("{0}")]
+    Client(ClientFault),
+    /// So many frames as a session takes were taken; a client still asks.
+    #[error("too many frames")]
+    TooManyFrames,
+    #[error("link fault")]
+    LinkFault,
+    #[error("out of memory")]
+    Memory,
+}
+
+impl From<AllocError> for SessionFault {
+    ghost use Rattle.std.specs.Prelude.{◌≡◌};
+    ghost use Rattle.update_sessions.specs.declared.fault.SessionFault.TheVariants.{Memory};
+
+    ghost from_gives = { λ _ e. e ≡ Memory };
+
+    fn from(_e: AllocError) -> SessionFault {
+        SessionFault::Memory
+    }
+}
+
+impl From<PacketFault> for SessionFault {
+    ghost use Rattle.std.specs.Prelude.{◌≡◌};
+    ghost use Rattle.update_sessions.specs.Faults.{of_packet};
+
+    ghost from_gives = { λ fault e. e ≡ of_packet fault };
+
+    fn from(fault: PacketFault) -> SessionFault {
+        match fault {
+            PacketFault::BadLength { .. } | PacketFault::Ended { .. } => {
+                SessionFault::Packet(fault)
+            }
+            PacketFault::ReadFault => SessionFault::LinkFault,
+            PacketFault::Memory => SessionFault::Memory,
+        }
+    }
+}
+
+impl From<WireFault> for SessionFault {
+    ghost use Rattle.std.specs.Prelude.{◌≡◌};
+    ghost use Rattle.update_sessions.specs.Faults.{of_wire};
+
+    ghost from_gives = { λ fault e. e ≡ of_wire fault };
+
+    fn from(fault: WireFault) -> SessionFault {
+        match fault {
+            WireFault::Memory => SessionFault::Memory,
+            fault => SessionFault::Wire(fault),
+        }
+    }
+}
+
+impl From<ClientFault> for SessionFault {
+    ghost use Rattle.std.specs.Prelude.{◌≡◌};
+    ghost use Rattle.update_sessions.specs.Faults.{of_client};
+
+    ghost from_gives = { λ fault e. e ≡ of_client fault };
+
+    fn from(fault: ClientFault) -> SessionFault {
+        match fault {
+            ClientFault::Memory => SessionFault::Memory,
+            fault => SessionFault::Client(fault),
+        }
+    }
+}
+
+impl From<WriteFault> for SessionFault {
+    ghost use Rattle.std.specs.Prelude.{◌≡◌};
+    ghost use Rattle.update_sessions.specs.declared.fault.SessionFault.TheVariants.{LinkFault};
+
+    ghost from_gives = { λ _ e. e ≡ LinkFault };
+
+    fn from(_e: WriteFault) -> SessionFault {
+        SessionFault::LinkFault
+    }
+}

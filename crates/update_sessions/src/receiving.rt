@@ -1,0 +1,52 @@
+//! Messages from a link.
+ghost use Rattle.std.specs.Prelude.{IfOk, IfSome, IsErrOf};
+ghost use Rattle.tl_base.specs.Using.{Used};
+ghost use Rattle.box_wire.specs.Framing.{WireRefused};
+ghost use Rattle.box_wire.specs.Kinds.{calls, frames};
+ghost use Rattle.server_frames.specs.Fitting.{IsHearable};
+ghost use Rattle.update_sessions.specs.Packed.{MeansCall, MeansFrame};
+ghost use Rattle.update_sessions.specs.Receiving.{Receives};
+
+use crate::fault::SessionFault;
+use box_events::{Frame, Numbered};
+use box_wire::{read_call, read_frame};
+use std::alloc::Global;
+use tl_base::{Bytes, Source, read_packet};
+use wire_profile::Profile;
+
+/// Reads the next call; none where the link has ended. Its packet's bytes are read into `packet`.
+pub fn receive_call<S: Source>(
+    alloc: Global,
+    profile: &Profile,
+    from: &mut S,
+    packet: &mut Bytes,
+) -> Result<Option<Numbered>, SessionFault>
+    ensures receives { IfSome (S.state from.old).left (λ bytes. Receives (MeansCall profile.now) (WireRefused profile.now calls) bytes (S.state from.new).left result) }
+    ensures used { Used (S.state from.old) (S.state from.new) (IsErrOf result SessionFault.LinkFault) }
+{
+    if !read_packet(from, packet)? {
+        return Ok(None);
+    }
+    let call = read_call(alloc, profile, packet.as_slice())?;
+    Ok(Some(call))
+}
+
+/// Reads the next frame; none where the link has ended. Its packet's bytes are read into `packet`.
+pub fn receive_frame<S: Source>(
+    alloc: Global,
+    profile: &Profile,
+    from: &mut S,
+    packet: &mut Bytes,
+) -> Result<Option<Frame>, SessionFault>
+    ensures receives { IfSome (S.state from.old).left (λ bytes. Receives (MeansFrame profile.now) (WireRefused profile.now frames) bytes (S.state from.new).left result) }
+    ensures hearable { IfOk result (λ next. IfSome next IsHearable) }
+    ensures used { Used (S.state from.old) (S.state from.new) (IsErrOf result SessionFault.LinkFault) }
+{
+    // Read for the proof alone: that the profile is sound.
+    let _schema = profile.schema();
+    if !read_packet(from, packet)? {
+        return Ok(None);
+    }
+    let frame = read_frame(alloc, profile, packet.as_slice())?;
+    Ok(Some(frame))
+}
