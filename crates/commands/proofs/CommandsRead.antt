@@ -86,6 +86,10 @@ pub replay_enters : (rest : List Text) → Enters (codes "replay") (leaf (codes 
 unfolding clap_on_literals
 replay_enters = enters (codes "replay") _ refl refl refl
 
+pub layers_enters : (rest : List Text) → Enters (codes "layers") (leaf (codes "layers") (codes "OLD" ∷ codes "NEW" ∷ codes "TYPE" ∷ [])) rest
+unfolding clap_on_literals
+layers_enters = enters (codes "layers") _ refl refl refl
+
 -- ---- words of no command
 
 missing : fault_of table [] ≡ MissingSubcommand ∷ []
@@ -98,10 +102,11 @@ no_words none = let bad = sym missing ∙ none in absurd cc
 -- no command is this word
 abbrev pub NoCommand : Text → Type 0
 NoCommand w = (bytes_eq (codes "check") w ≡ false) × (bytes_eq (codes "decode") w ≡ false) × (bytes_eq (codes "encode") w ≡ false) × (bytes_eq (codes "replay") w ≡ false)
+    × (bytes_eq (codes "layers") w ≡ false)
 
 stray : (x : ℕ) (xs : Text) → eqb x 45 ≡ false → NoCommand (x ∷ xs) → turn_fault top names start (x ∷ xs) ≡ UnknownArgument ∷ InvalidSubcommand ∷ []
 unfolding clap_on_literals
-stray x xs e other = simp (e, other.0, other.1, other.2, other.3)
+stray x xs e other = simp (e, other.0, other.1, other.2, other.3, other.4)
 
 pub no_command : (w : Text) (rest : List Text) → IsOperand w → NoCommand w → fault_of table (w ∷ rest) ≡ [] → ⊥
 unfolding walk_fault

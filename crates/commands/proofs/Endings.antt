@@ -14,7 +14,7 @@ use Rattle.command_base.specs.Sound.{Fits, IsFault}
 use Rattle.command_base.specs.Telling.{Tells, TellsLine, stop_status, stop_line}
 use Rattle.command_base.proofs.Rests.{errors_rest, errors_unread, unread_then, rest_left, left_then}
 use Rattle.command_base.proofs.Views.{told_as, told_both, told_then}
-use Rattle.commands.specs.Requests.{RequestText, check, decode, encode, replay, AsksFor, AsksNothing, job_of}
+use Rattle.commands.specs.Requests.{RequestText, check, decode, encode, replay, layers, AsksFor, AsksNothing, job_of}
 use Rattle.commands.specs.Answers.{usage, usage_line, no_request, requested}
 use Rattle.commands.specs.Runs.{MayAnswer, StopsAfter, Ends, answered, read_failed, write_failed, link_failed, out_of_memory, out_of_memory_later, Keeps, LeavesLinks, AnswerFits}
 use Rattle.commands.proofs.OneAnswer.{answer_to}
@@ -94,6 +94,7 @@ rest_keeps (check schema) v w = errors_unread _ v w
 rest_keeps (decode schema type input) v w = errors_unread _ v w
 rest_keeps (encode schema type input) v w = errors_unread _ v w
 rest_keeps (replay schema journal) v w = errors_unread _ v w
+rest_keeps (layers old new type) v w = errors_unread _ v w
 
 pub memory_kept : (words : List (List ℕ)) (a b : Option View) → Told a b OnlyErrors → Told a b (Keeps words)
 memory_kept words a b = told_as a b OnlyErrors (Keeps words) (λ v w rest. record { of_none = λ asks. rest; of_request = λ r asks. rest_keeps r v w rest })
@@ -111,6 +112,7 @@ module _ (words : List (List ℕ)) (r : RequestText) (asks : AsksFor words r) wh
   kept_then (decode schema type input) v u w = unread_then _ v u w
   kept_then (encode schema type input) v u w = unread_then _ v u w
   kept_then (replay schema journal) v u w = unread_then _ v u w
+  kept_then (layers old new type) v u w = unread_then _ v u w
 
   pub done_kept : (a b : Option View) → Told a b (job_of r).keeps → Told a b (Keeps words)
   done_kept a b = told_as a b (job_of r).keeps (Keeps words) job_kept

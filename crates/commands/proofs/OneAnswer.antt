@@ -2,11 +2,12 @@
 use Rattle.std.proofs.Common.{◌≡◌, List, ℕ, sym, ◌∙◌, subst}
 use Rattle.tl_base.specs.Outside.{View}
 use Rattle.command_base.specs.Answer.{Answer}
-use Rattle.commands.specs.Requests.{RequestText, check, decode, encode, replay, AsksFor, AsksNothing}
+use Rattle.commands.specs.Requests.{RequestText, check, decode, encode, replay, layers, AsksFor, AsksNothing}
 use Rattle.commands.specs.Answers.{usage, AnswerTo, Answers, no_request, requested, HasOneAnswer}
 use Rattle.codec_commands.proofs.OneCheck.{one_check}
 use Rattle.codec_commands.proofs.OneDecode.{one_decode}
 use Rattle.codec_commands.proofs.OneEncode.{one_encode}
+use Rattle.layer_commands.proofs.OneLayers.{one_layers}
 use Rattle.update_commands.proofs.OneReplay.{one_replay}
 use Rattle.commands.proofs.Rows.{one_request}
 
@@ -15,6 +16,7 @@ one_to (check schema) v a c = one_check v.files schema a c
 one_to (decode schema type input) v a c = one_decode v.files schema type input a c
 one_to (encode schema type input) v a c = one_encode v.files schema type input a c
 one_to (replay schema journal) v a c = one_replay v.files schema journal a c
+one_to (layers old new type) v a c = one_layers v.files old new type a c
 
 module _ (words : List (List ℕ)) (v : View) where
   -- the answer to words that ask for this

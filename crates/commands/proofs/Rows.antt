@@ -3,14 +3,14 @@ use Rattle.std.proofs.Common.{get_or, ◌≡◌, ℕ, List, [], ◌∷◌, refl,
 use Rattle.std.specs.Prelude.{if◌then◌else◌, ◌==◌}
 use Rattle.std.proofs.lemmas.Bool.{cases_eq}
 use Rattle.commands.proofs.Decided.{Decided, decided_as, decided_and, decided_not, text_decided}
-use Rattle.commands.specs.Requests.{RequestText, check, decode, encode, replay, IsOperand, AsksFor, AsksNothing}
+use Rattle.commands.specs.Requests.{RequestText, check, decode, encode, replay, layers, IsOperand, AsksFor, AsksNothing}
 use Rattle.commands.specs.Answers.{Asks, nothing, something}
 
 -- ---- one request
 
 -- the request that words may ask for, by the first letter of the command
 abbrev of_letter : ℕ → List ℕ → List ℕ → List ℕ → RequestText
-of_letter letter a b c = if letter == 99 then check a else if letter == 100 then decode a b c else if letter == 101 then encode a b c else replay a b
+of_letter letter a b c = if letter == 99 then check a else if letter == 100 then decode a b c else if letter == 101 then encode a b c else if letter == 108 then layers a b c else replay a b
 
 abbrev pub may_ask_for : List (List ℕ) → RequestText
 may_ask_for words = of_letter (get_or (get_or words 0 []) 0 0) (get_or words 1 []) (get_or words 2 []) (get_or words 3 [])
@@ -20,6 +20,7 @@ asked_is words (check schema) asks = ap may_ask_for asks.0
 asked_is words (decode schema type input) asks = ap may_ask_for asks.0
 asked_is words (encode schema type input) asks = ap may_ask_for asks.0
 asked_is words (replay schema journal) asks = ap may_ask_for asks.0
+asked_is words (layers old new type) asks = ap may_ask_for asks.0
 
 pub one_request : (words : List (List ℕ)) (r s : RequestText) → AsksFor words r → AsksFor words s → r ≡ s
 one_request words r s p q = sym (asked_is words r p) ∙ asked_is words s q
@@ -56,6 +57,7 @@ asked_decided words (decode schema type input) = three_decided words (codes "dec
 asked_decided words (encode schema type input) = three_decided words (codes "encode") schema type input
 asked_decided words (replay schema journal) = decided_as (λ h. (h.0, h.1.0, h.1.1)) (λ h. (h.0, (h.1, h.2)))
     (decided_and (row_decided words (codes "replay" ∷ schema ∷ journal ∷ codes "1" ∷ [])) (decided_and (operand_decided schema) (operand_decided journal)))
+asked_decided words (layers old new type) = three_decided words (codes "layers") old new type
 
 asks_from : (words : List (List ℕ)) → Decided (AsksFor words (may_ask_for words)) → Asks words
 asks_from words (inl asks) = something (may_ask_for words) asks

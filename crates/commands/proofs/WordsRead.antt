@@ -8,10 +8,10 @@ use Rattle.std.proofs.lemmas.Slice.Eq.{bytes_eq-Decides}
 use Rattle.clap.specs.Words.{App, Text, Row, fault_of, subcommand_of, is_simple, is_simple_and_free, HasKind, kind_of}
 use Rattle.clap.specs.declared.error.Error.{Error}
 use Rattle.clap.specs.declared.error.kind.ErrorKind.TheVariants.{OutOfMemory}
-use Rattle.commands.specs.Requests.{RequestText, check, decode, encode, replay, IsOperand, AsksFor, AsksNothing, FindsRequest, request_text}
+use Rattle.commands.specs.Requests.{RequestText, check, decode, encode, replay, layers, IsOperand, AsksFor, AsksNothing, FindsRequest, request_text}
 use Rattle.commands.specs.declared.request.Request.{Request}
 use Rattle.commands.specs.CommandLine.{table, request_in, replayed}
-use Rattle.commands.proofs.CommandsRead.{table_is_simple, table_is_free, check_enters, decode_enters, encode_enters, replay_enters, no_words, no_command}
+use Rattle.commands.proofs.CommandsRead.{table_is_simple, table_is_free, check_enters, decode_enters, encode_enters, replay_enters, layers_enters, no_words, no_command}
 use Rattle.commands.proofs.OperandsRead.{Operands, one_fits, one_read, one_only, three_fit, three_read, three_only}
 
 -- ---- operands
@@ -21,6 +21,7 @@ asked_operands words (check schema) asks = subst Operands (sym asks.0) (eqb-fals
 asked_operands words (decode schema type input) asks = subst Operands (sym asks.0) (eqb-false 100 45 refl, (asks.1, (asks.2, (asks.3, tt))))
 asked_operands words (encode schema type input) asks = subst Operands (sym asks.0) (eqb-false 101 45 refl, (asks.1, (asks.2, (asks.3, tt))))
 asked_operands words (replay schema journal) asks = subst Operands (sym asks.0) (eqb-false 114 45 refl, (asks.1, (asks.2, (eqb-false 49 45 refl, tt))))
+asked_operands words (layers old new type) asks = subst Operands (sym asks.0) (eqb-false 108 45 refl, (asks.1, (asks.2, (asks.3, tt))))
 
 module _ {A : Type 0} (f : A → Text) where
   pub operands_from : (xs : List A) → All (λ w. IsOperand (f w)) xs → Operands (map f xs)
@@ -50,6 +51,9 @@ row_fits words (encode schema type input) asks =
 row_fits words (replay schema journal) asks =
     ap (fault_of table) asks.0 ∙ (replay_enters (schema ∷ journal ∷ codes "1" ∷ [])).fault
     ∙ three_fit (codes "replay") (codes "SCHEMA") (codes "JOURNAL") (codes "CLIENTS") refl refl refl schema journal (codes "1") asks.1 asks.2 (eqb-false 49 45 refl)
+row_fits words (layers old new type) asks =
+    ap (fault_of table) asks.0 ∙ (layers_enters (old ∷ new ∷ type ∷ [])).fault
+    ∙ three_fit (codes "layers") (codes "OLD") (codes "NEW") (codes "TYPE") refl refl refl old new type asks.1 asks.2 asks.3
 
 -- so words that are refused, and not for memory, are no row
 refused : (words : List Text) (e : Error) → HasKind (fault_of table words) e → (kind_of e ≡ OutOfMemory → ⊥) → fault_of table words ≡ [] → ⊥
@@ -102,6 +106,7 @@ no_replay : (s j n : Text) → (n ≡ codes "1" → ⊥) → AsksNothing (replay
 no_replay s j n other (check schema) asks = let e : ◌≡◌ {A = ℕ} 4 2 = ap length asks.0 in omega (arith, e)
 no_replay s j n other (decode schema type input) asks = absurd (eqb-false 114 100 refl (ap (λ (ws : List Text). get_or (get_or ws 0 []) 0 0) asks.0))
 no_replay s j n other (encode schema type input) asks = absurd (eqb-false 114 101 refl (ap (λ (ws : List Text). get_or (get_or ws 0 []) 0 0) asks.0))
+no_replay s j n other (layers old new type) asks = absurd (eqb-false 114 108 refl (ap (λ (ws : List Text). get_or (get_or ws 0 []) 0 0) asks.0))
 no_replay s j n other (replay schema journal) asks = other (ap (λ (ws : List Text). get_or ws 3 []) asks.0)
 
 clients_made : (s j n : Text) → IsOperand s → IsOperand j → (b : Bool) → bytes_eq n (codes "1") ≡ b → Makes (replay_words s j n) (replayed (Some s) (Some j) (Some n))
@@ -115,15 +120,27 @@ replay_made rest o none =
     (λ s j n os oj on. subst (MakesOf (replay_words s j n)) (sym ((replay_enters (s ∷ j ∷ n ∷ [])).found ∙ ap Some (three_read (codes "replay") (codes "SCHEMA") (codes "JOURNAL") (codes "CLIENTS") refl refl refl s j n os oj on)))
     (clients_made s j n os oj (bytes_eq n (codes "1")) refl))
 
+layers_made : (rest : List Text) → Made (codes "layers" ∷ rest)
+layers_made rest o none =
+    let goes = layers_enters rest in
+    three_only (codes "layers") (codes "OLD") (codes "NEW") (codes "TYPE") refl refl refl (λ rest. MakesOf (codes "layers" ∷ rest) (subcommand_of table (codes "layers" ∷ rest))) rest o.1 (sym goes.fault ∙ none)
+    (λ s t i os ot oi. subst (MakesOf (codes "layers" ∷ s ∷ t ∷ i ∷ [])) (sym ((layers_enters (s ∷ t ∷ i ∷ [])).found ∙ ap Some (three_read (codes "layers") (codes "OLD") (codes "NEW") (codes "TYPE") refl refl refl s t i os ot oi)))
+    (refl, os, ot, oi))
+
 -- ---- by the command
 
 named : (command w : Text) (rest : List Text) → bytes_eq command w ≡ true → Made (command ∷ rest) → Made (w ∷ rest)
 named command w rest is = subst (λ (x : Text). Made (x ∷ rest)) ((bytes_eq-Decides command w).0 is)
 
+by_layers : (w : Text) (rest : List Text) → bytes_eq (codes "check") w ≡ false → bytes_eq (codes "decode") w ≡ false → bytes_eq (codes "encode") w ≡ false
+    → bytes_eq (codes "replay") w ≡ false → (b : Bool) → bytes_eq (codes "layers") w ≡ b → Made (w ∷ rest)
+by_layers w rest e f g h true i = named (codes "layers") w rest i (layers_made rest)
+by_layers w rest e f g h false i = λ o none. absurd (no_command w rest o.0 (e, f, g, h, i) none)
+
 by_replay : (w : Text) (rest : List Text) → bytes_eq (codes "check") w ≡ false → bytes_eq (codes "decode") w ≡ false → bytes_eq (codes "encode") w ≡ false → (b : Bool)
     → bytes_eq (codes "replay") w ≡ b → Made (w ∷ rest)
 by_replay w rest e f g true h = named (codes "replay") w rest h (replay_made rest)
-by_replay w rest e f g false h = λ o none. absurd (no_command w rest o.0 (e, f, g, h) none)
+by_replay w rest e f g false h = by_layers w rest e f g h (bytes_eq (codes "layers") w) refl
 
 by_encode : (w : Text) (rest : List Text) → bytes_eq (codes "check") w ≡ false → bytes_eq (codes "decode") w ≡ false → (b : Bool) → bytes_eq (codes "encode") w ≡ b → Made (w ∷ rest)
 by_encode w rest e f true g = named (codes "encode") w rest g (encode_made rest)

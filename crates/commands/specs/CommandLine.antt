@@ -3,7 +3,7 @@
 use Rattle.std.specs.Prelude.{true, List, [], ◌∷◌, map, Option, Some, None, option_map, option_and_then, codes, if◌then◌else◌}
 use Rattle.std.specs.Str.{bytes_eq}
 use Rattle.clap.specs.Words.{App, Row, Rule, Text, first_of, new_app, new_rule, with_subcommand}
-use Rattle.commands.specs.Requests.{RequestText, check, decode, encode, replay}
+use Rattle.commands.specs.Requests.{RequestText, check, decode, encode, replay, layers}
 
 -- an operand, which has to be there
 abbrev pub operand : Text → Rule
@@ -23,20 +23,21 @@ abbrev with_row : App → Text → List Text → App
 with_row a command operands = with_subcommand a (row command operands).top
 
 abbrev pub table : App
-table = with_row (with_row (with_row (with_row program
+table = with_row (with_row (with_row (with_row (with_row program
     (codes "check") (codes "SCHEMA" ∷ []))
     (codes "decode") (codes "SCHEMA" ∷ codes "TYPE" ∷ codes "INPUT" ∷ []))
     (codes "encode") (codes "SCHEMA" ∷ codes "TYPE" ∷ codes "INPUT" ∷ []))
-    (codes "replay") (codes "SCHEMA" ∷ codes "JOURNAL" ∷ codes "CLIENTS" ∷ [])
+    (codes "replay") (codes "SCHEMA" ∷ codes "JOURNAL" ∷ codes "CLIENTS" ∷ []))
+    (codes "layers") (codes "OLD" ∷ codes "NEW" ∷ codes "TYPE" ∷ [])
 
 -- ---- the request of a row, by the word of each operand
 
 abbrev pub check_of : (Text → Option Text) → Option RequestText
 check_of word = option_map check (word (codes "SCHEMA"))
 
--- what is asked of a schema, one of its types and an input
+-- what is asked of three operands
 abbrev typed : (Text → Text → Text → RequestText) → Option Text → Option Text → Option Text → Option RequestText
-typed asks (Some schema) (Some type) (Some input) = Some (asks schema type input)
+typed asks (Some a) (Some b) (Some c) = Some (asks a b c)
 typed asks _ _ _ = None
 
 abbrev pub decode_of : (Text → Option Text) → Option RequestText
@@ -53,12 +54,16 @@ replayed _ _ _ = None
 abbrev pub replay_of : (Text → Option Text) → Option RequestText
 replay_of word = replayed (word (codes "SCHEMA")) (word (codes "JOURNAL")) (word (codes "CLIENTS"))
 
+abbrev pub layers_of : (Text → Option Text) → Option RequestText
+layers_of word = typed layers (word (codes "OLD")) (word (codes "NEW")) (word (codes "TYPE"))
+
 abbrev pub request_at : Text → (Text → Option Text) → Option RequestText
 request_at command word =
     if bytes_eq command (codes "check") then check_of word
     else if bytes_eq command (codes "decode") then decode_of word
     else if bytes_eq command (codes "encode") then encode_of word
     else if bytes_eq command (codes "replay") then replay_of word
+    else if bytes_eq command (codes "layers") then layers_of word
     else None
 
 -- the request of the command that clap found, and of what it found for each operand

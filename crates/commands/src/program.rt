@@ -11,13 +11,14 @@ ghost use Rattle.commands.specs.Runs.{AnswerFits, EndsOver, Keeps, LeavesLinks};
 use crate::request::{Request, request_of};
 use codec_commands::{check_schema, decode_input, encode_input};
 use command_base::{Status, Stop, report, tell};
+use layer_commands::compare_schemas;
 use std::alloc::Global;
 use tl_base::Host;
 use update_commands::replay_journal;
 
 /// What is told where the words are no row.
 const USAGE: &[u8] =
-    b"usage: tlbox check SCHEMA, decode SCHEMA TYPE INPUT, encode SCHEMA TYPE INPUT, replay SCHEMA JOURNAL CLIENTS, make SCHEMA NUMBER STEPS, serve SCHEMA ADDRESS SESSIONS, post SCHEMA ADDRESS INPUT, client SCHEMA ADDRESS STATE [CHANNEL ..]\n";
+    b"usage: tlbox check SCHEMA, decode SCHEMA TYPE INPUT, encode SCHEMA TYPE INPUT, replay SCHEMA JOURNAL CLIENTS, make SCHEMA NUMBER STEPS, serve SCHEMA ADDRESS SESSIONS, post SCHEMA ADDRESS INPUT, client SCHEMA ADDRESS STATE [CHANNEL ..], layers OLD NEW TYPE\n";
 
 /// Runs the program over an outside: the words without the program's name, and the status that it ends with.
 pub fn run<H: Host>(alloc: Global, words: &[String], host: &mut H) -> Status
@@ -56,5 +57,6 @@ fn answer<H: Host>(alloc: Global, host: &mut H, request: Request) -> Result<Stat
         Request::Decode { schema, of, input } => decode_input(alloc, host, schema, of, input),
         Request::Encode { schema, of, input } => encode_input(alloc, host, schema, of, input),
         Request::Replay { schema, journal } => replay_journal(alloc, host, schema, journal),
+        Request::Layers { old, new, of } => compare_schemas(alloc, host, old, new, of),
     }
 }

@@ -3,7 +3,7 @@ ghost use Rattle.std.specs.Prelude.{IfOk, IsTrue, ◌≡◌, ◌↔◌, map, opt
 ghost use Rattle.std.specs.List.{All};
 ghost use Rattle.clap.specs.Words.{first_value, found_of, subcommand_rows_of};
 ghost use Rattle.commands.specs.Requests.{IsOperand, FindsRequest, request_text};
-ghost use Rattle.commands.specs.CommandLine.{check_of, decode_of, encode_of, replay_of, request_in};
+ghost use Rattle.commands.specs.CommandLine.{check_of, decode_of, encode_of, layers_of, replay_of, request_in};
 
 use crate::table::table_of;
 use clap::ArgMatches;
@@ -34,6 +34,12 @@ pub enum Request<'a> {
         schema: &'a str,
         journal: &'a str,
     },
+    /// `layers OLD NEW TYPE`
+    Layers {
+        old: &'a str,
+        new: &'a str,
+        of: &'a str,
+    },
 }
 
 /// The request that the words ask for. No word of any row is empty or begins with `-`: `clap`, which reads the rest, sees none such.
@@ -62,6 +68,7 @@ fn request_in<'a>(matches: &ArgMatches<'a>) -> Option<Request<'a>>
         "decode" => decode_of(operands),
         "encode" => encode_of(operands),
         "replay" => replay_of(operands),
+        "layers" => layers_of(operands),
         _ => None,
     }
 }
@@ -104,6 +111,16 @@ fn replay_of<'a>(operands: &ArgMatches<'a>) -> Option<Request<'a>>
         "1" => Some(Request::Replay { schema, journal }),
         _ => None,
     }
+}
+
+// The request of `layers`.
+fn layers_of<'a>(operands: &ArgMatches<'a>) -> Option<Request<'a>>
+    ensures { option_map request_text result ≡ layers_of (first_value (found_of operands.now)) }
+{
+    let old = operands.get_str("OLD")?;
+    let new = operands.get_str("NEW")?;
+    let of = operands.get_str("TYPE")?;
+    Some(Request::Layers { old, new, of })
 }
 
 // Whether each word may be an operand.

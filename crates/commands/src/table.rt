@@ -20,7 +20,8 @@ pub fn table_of<'a>(alloc: Global) -> Result<Command<'a>, AllocError>
         .subcommand(row_of(alloc, "check", &["SCHEMA"])?)?
         .subcommand(row_of(alloc, "decode", &["SCHEMA", "TYPE", "INPUT"])?)?
         .subcommand(row_of(alloc, "encode", &["SCHEMA", "TYPE", "INPUT"])?)?
-        .subcommand(row_of(alloc, "replay", &["SCHEMA", "JOURNAL", "CLIENTS"])?)
+        .subcommand(row_of(alloc, "replay", &["SCHEMA", "JOURNAL", "CLIENTS"])?)?
+        .subcommand(row_of(alloc, "layers", &["OLD", "NEW", "TYPE"])?)
 }
 
 // A command with its operands in order.
