@@ -25,13 +25,13 @@ use Rattle.codec_commands.specs.Check.{OfChecked, no_schema, listed, CheckAnswer
 use Rattle.codec_commands.specs.Typed.{ToInput, OfType, no_type, no_plan, typed, OfSchema, schema_of, TypedAnswer}
 use Rattle.codec_commands.specs.Typed as typing
 use Rattle.codec_commands.specs.Decode.{OfInput, whole, longer, faulty, DecodeAnswer}
-use Rattle.codec_commands.specs.JsonInput.{IsJson}
+use Rattle.schema_files.specs.JsonInput.{IsJson}
 use Rattle.codec_commands.specs.Encode.{OfJson, too_long, no_json, badly_formed, misfit, spelled, EncodeAnswer}
-use Rattle.codec_commands.specs.declared.json_input.TheConstants.{JSON_BYTES}
-use Rattle.codec_commands.proofs.FormedWords.{word_formed}
-use Rattle.codec_commands.proofs.OneSchemaText.{schema_or_refused}
-use Rattle.codec_commands.proofs.OneTypeName.{type_or_refused}
-use Rattle.codec_commands.proofs.TypePlans.{plan_or_refused}
+use Rattle.schema_files.specs.declared.json_input.TheConstants.{JSON_BYTES}
+use Rattle.schema_files.proofs.FormedWords.{word_formed}
+use Rattle.schema_files.proofs.OneSchemaText.{schema_or_refused}
+use Rattle.schema_files.proofs.OneTypeName.{type_or_refused}
+use Rattle.schema_files.proofs.TypePlans.{plan_or_refused}
 
 -- some file has this name
 abbrev IsFile : Files → List ℕ → Type 0

@@ -1,21 +1,12 @@
-pub mod FormedWords
 pub mod OneSpelling
 pub mod FedWhole
 pub mod Loading
-pub mod JsonInputs
 pub mod OneTyped
 pub mod OneDecode
 pub mod OneEncode
-pub mod OneFault
-pub mod OneText
-pub mod OneSchemaText
-pub mod OneTypeName
 pub mod OneCheck
 pub mod EachAnswer
 pub mod ListedLines
-pub mod TypeWords
-mod TypePlans
-pub mod Planned
 pub mod TypedLines
 pub mod DecodedLines
 pub mod EncodedValues

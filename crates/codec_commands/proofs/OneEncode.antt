@@ -17,9 +17,9 @@ use Rattle.tl_encode.proofs.OneSpelling.{one_spelling}
 use Rattle.tl_show.specs.Reading.{read, Read, FaultView}
 use Rattle.tl_show.specs.declared.fault.FormCause.{FormCause}
 use Rattle.command_base.specs.Answer.{Answer, done, refused}
-use Rattle.codec_commands.specs.declared.json_input.TheConstants.{JSON_BYTES}
-use Rattle.codec_commands.specs.JsonInput.{IsJson, IsNoJson}
-use Rattle.codec_commands.specs.Lines.{whole_input_line, form_text, misfit_text}
+use Rattle.schema_files.specs.declared.json_input.TheConstants.{JSON_BYTES}
+use Rattle.schema_files.specs.JsonInput.{IsJson, IsNoJson}
+use Rattle.schema_files.specs.Lines.{whole_input_line, form_text, misfit_text}
 use Rattle.codec_commands.specs.Encode.{OfJson, too_long, no_json, badly_formed, misfit, spelled, EncodeAnswer}
 use Rattle.codec_commands.proofs.OneTyped.{one_typed}
 

@@ -1,5 +1,5 @@
 -- What a command answers to a schema, a type and an input is one, where what it answers to an input is.
-use Rattle.std.proofs.Common.{◌≡◌, ℕ, List, sym, ap, ◌∙◌, subst}
+use Rattle.std.proofs.Common.{◌≡◌, ℕ, List, codes, sym, ap, ◌∙◌, subst}
 use Rattle.tl_base.specs.Contents.{Files}
 use Rattle.tl_schema.specs.Types.{Shape}
 use Rattle.tl_schema.specs.Schemas.{Declared}
@@ -8,16 +8,16 @@ use Rattle.tl_schema.specs.Formed.{IsFormed}
 use Rattle.tl_schema.proofs.OneType.{one_meaning}
 use Rattle.command_base.specs.Answer.{Answer, refused}
 use Rattle.command_base.proofs.SameFiles.{same_file}
-use Rattle.codec_commands.specs.declared.causes.SchemaCause.{SchemaCause}
-use Rattle.codec_commands.specs.declared.causes.TypeNameCause.{TypeNameCause}
-use Rattle.codec_commands.specs.declared.causes.PlanCause.{PlanCause}
-use Rattle.codec_commands.specs.Lines.{schema_line, type_line, plan_line}
+use Rattle.schema_files.specs.Causes.{SchemaCause}
+use Rattle.schema_files.specs.Causes.{TypeNameCause}
+use Rattle.schema_files.specs.Causes.{PlanCause}
+use Rattle.schema_files.specs.Lines.{schema_line, type_line, plan_line}
 use Rattle.codec_commands.specs.Typed.{ToInput, OfType, no_type, no_plan, typed, OfSchema, no_schema, schema_of, TypedAnswer}
-use Rattle.codec_commands.proofs.FormedWords.{word_formed}
-use Rattle.codec_commands.proofs.OneSchemaText.{one_schema_text, one_schema_cause, never_schema}
-use Rattle.codec_commands.proofs.OneTypeName.{one_type_cause, never_type}
-use Rattle.codec_commands.specs.Loaded.{HasPlan, PlanRefused}
-use Rattle.codec_commands.proofs.TypePlans.{one_plan_cause, never_plan}
+use Rattle.schema_files.proofs.FormedWords.{word_formed}
+use Rattle.schema_files.proofs.OneSchemaText.{one_schema_text, one_schema_cause, never_schema}
+use Rattle.schema_files.proofs.OneTypeName.{one_type_cause, never_type}
+use Rattle.schema_files.specs.Loaded.{HasPlan, PlanRefused}
+use Rattle.schema_files.proofs.TypePlans.{one_plan_cause, never_plan}
 
 -- bytes have one answer at most, of each formed type of a schema
 abbrev pub TellsOne : ToInput → Type 0
@@ -44,7 +44,7 @@ module _ (Tells : ToInput) (one_input : TellsOne Tells) where
       one_input schema good s (word_formed schema good type s means) bytes a c tells there
 
   one_schema : (text t i : List ℕ) (files : Files) (a c : Answer) → OfSchema Tells text t i files a → OfSchema Tells text t i files c → a ≡ c
-  one_schema text t i files a c (no_schema b r is) (no_schema d k at) = is ∙ ap (λ (x : SchemaCause). refused (schema_line x)) (one_schema_cause text b d r k) ∙ sym at
+  one_schema text t i files a c (no_schema b r is) (no_schema d k at) = is ∙ ap (λ (x : SchemaCause). refused (schema_line (codes "schema") x)) (one_schema_cause text b d r k) ∙ sym at
   one_schema text t i files a c (no_schema b r is) (schema_of s h tells) = absurd (never_schema text s b h r)
   one_schema text t i files a c (schema_of s h tells) (no_schema b r at) = absurd (never_schema text s b h r)
   one_schema text t i files a c (schema_of s h tells) (schema_of u k says) =

@@ -1,116 +1,130 @@
 -- What `decode` and `encode` make of schema, type and input, from their parts.
-use Rattle.std.proofs.Common.{◌≡◌, ℕ, List, Bool, IsTrue, IsSome, Option, Result, Ok, Err, Vec, Global, refl, sym, ap, subst, inr}
+use Rattle.std.proofs.Common.{◌≡◌, ℕ, List, Bool, IsTrue, IsSome, Option, Result, Ok, Err, Vec, Global, codes, refl, sym, ap, subst, inl, inr}
 use Rattle.std.specs.Prelude.{IsErrAnd, IsErrOf}
 use Rattle.tl_base.specs.Contents.{Files}
 use Rattle.tl_base.specs.Outside.{View, HasFile, IsThere}
+use Rattle.tl_base.specs.Hosted.{OnlySlot}
 use Rattle.tl_base.specs.Calls.{Told}
+use Rattle.tl_base.specs.declared.host.Slot.TheVariants as slots
 use Rattle.tl_schema.specs.Types.{Shape}
 use Rattle.tl_schema.specs.Schemas.{Declared}
 use Rattle.tl_schema.specs.AskedTypes.{IsTypeText}
-use Rattle.command_base.specs.Answer.{Answer}
-use Rattle.command_base.specs.Jobs.{Job, MakesOutput, of_fault, TellsAs}
+use Rattle.tl_schema.proofs.OneType.{one_meaning}
+use Rattle.command_base.specs.Answer.{Answer, done, refused}
+use Rattle.command_base.specs.Jobs.{Job, MakesOutput, making, made, of_fault}
+use Rattle.command_base.specs.Kept.{LeavesInput, OnlyReads}
+use Rattle.command_base.specs.Loading.{Refuses, Loads}
 use Rattle.command_base.specs.Sound.{Answered}
 use Rattle.command_base.specs.declared.stop.Unmade.{Unmade}
+use Rattle.command_base.specs.declared.stop.Unmade.TheVariants as unmade
 use Rattle.command_base.proofs.SameFiles.{same_file}
 use Rattle.command_base.proofs.Faults.{NeverFails, fails_as, then_fails}
-use Rattle.command_base.specs.Kept.{LeavesInput, OnlyReads}
-use Rattle.command_base.proofs.Made.{not_made}
-use Rattle.command_base.proofs.Rests.{not_come, then_reads}
+use Rattle.command_base.proofs.Loaded.{slot_only}
+use Rattle.command_base.proofs.Rests.{only_schema, only_input, then_reads}
 use Rattle.command_base.proofs.Views.{told_as, told_then}
-use Rattle.codec_commands.specs.declared.schema_text.SchemaFault.{SchemaFault}
-use Rattle.codec_commands.specs.declared.schema_text.SchemaFault.TheVariants as loading
-use Rattle.codec_commands.specs.declared.type_word.TypeWordFault.{TypeWordFault}
-use Rattle.codec_commands.specs.declared.type_word.TypeWordFault.TheVariants as word
-use Rattle.codec_commands.specs.declared.type_plan.TypePlanFault.{TypePlanFault}
-use Rattle.codec_commands.specs.declared.type_plan.TypePlanFault.TheVariants as plan
-use Rattle.codec_commands.specs.declared.refusal.CodecFault.{CodecFault}
-use Rattle.codec_commands.specs.declared.refusal.CodecFault.TheVariants as fault
-use Rattle.codec_commands.specs.Faults.{of_no_schema, of_no_type, of_no_plan, of_codec, codec_making}
-use Rattle.codec_commands.specs.Loaded.{IsSchemaText, HasPlan, PlanRefused}
+use Rattle.schema_files.specs.Loaded.{IsSchemaText, HasPlan, PlanRefused}
+use Rattle.schema_files.specs.Parts.{LoadsSchema, TellsSchema, TellsType, TellsPlan}
+use Rattle.schema_files.proofs.OneSchemaText.{one_schema_text, never_schema}
+use Rattle.schema_files.proofs.OneTypeName.{never_type}
+use Rattle.schema_files.proofs.TypePlans.{never_plan}
 use Rattle.codec_commands.specs.Typed.{ToInput, OfType, no_type, no_plan, typed, OfSchema, no_schema, schema_of, ReachesInput, TypedAnswer, typed_job}
-use Rattle.codec_commands.specs.Parts.{LoadsSchema, MeansType, PlansType}
-use Rattle.codec_commands.proofs.OneSchemaText.{one_schema_text, never_schema}
-use Rattle.codec_commands.proofs.OneTypeName.{never_type}
-use Rattle.codec_commands.proofs.TypePlans.{never_plan}
-use Rattle.tl_schema.proofs.OneType.{one_meaning}
+
+-- the schema of these commands
+abbrev pub LoadsFirst : List ℕ → Result Declared Unmade → View → View → Type 0
+LoadsFirst s r v w = LoadsSchema slots.Schema (codes "schema") s r v w
+
+-- loading it leaves Input, whatever comes later
+pub leaves_input : (s : List ℕ) (came : View → Type 0) (r : Result Declared Unmade) (a b : Option View) → Told a b (LoadsFirst s r) → Told a b (λ v w. LeavesInput (came v) v w)
+leaves_input s came r a b h =
+    told_as a b (OnlySlot slots.Schema) (λ v w. LeavesInput (came v) v w) (λ v w only. inl (ap (λ (x : View). x.left.input) only)) (slot_only slots.Schema s 4194304 IsSchemaText (TellsSchema (codes "schema")) r a b h)
 
 -- the exit of a `?`
-pub stops : (job : Job) (e : CodecFault) (r : Result (Vec ℕ Global) CodecFault) (v w : View) → MakesOutput job (codec_making e) v w → IsErrAnd r (λ z. z ≡ e) → MakesOutput job (of_codec r) v w
+stops : (job : Job) (e : Unmade) (r : Result (Vec ℕ Global) Unmade) (v w : View) → MakesOutput job (of_fault e) v w → IsErrAnd r (λ z. z ≡ e) → MakesOutput job (making r) v w
 stops job e (Ok x) v w h is = absurd is
-stops job e (Err z) v w h is = subst (λ (y : CodecFault). MakesOutput job (codec_making y) v w) (sym is) h
+stops job e (Err z) v w h is = subst (λ (y : Unmade). MakesOutput job (of_fault y) v w) (sym is) h
 
 module _ (Tells : ToInput) (s t i : List ℕ) where
   abbrev job : Job
   job = typed_job Tells s t i
 
+  -- an answer that refuses, by its line
+  refuses : (P : List ℕ → Type 0) (e : Unmade) (v w : View) → ((line : List ℕ) → P line → TypedAnswer Tells v.files s t i (refused line)) → Refuses P e → OnlyReads v w → MakesOutput job (of_fault e) v w
+  refuses P (unmade.Refused line) v w answers h only = (answers _ h, only)
+  refuses P unmade.ReadFault v w answers h only = only
+  refuses P unmade.Memory v w answers h only = only
+
   -- ---- the schema
 
-  schema_stops : (e : SchemaFault) (v w : View) → LoadsSchema s (Err e) v w → MakesOutput job (codec_making (of_no_schema e)) v w
-  schema_stops (loading.Refused cause) v w ((text, has, h), only) = ((text, has, no_schema cause h refl), only)
-  schema_stops loading.ReadFault v w only = only
-  schema_stops loading.Memory v w only = only
+  schema_stops : (e : Unmade) (v w : View) → LoadsFirst s (Err e) v w → MakesOutput job (of_fault e) v w
+  schema_stops (unmade.Refused line) v w ((text, has, (cause, h, is)), only) = ((text, has, no_schema cause h (ap refused is)), only_schema v w only)
+  schema_stops unmade.ReadFault v w only = only_schema v w only
+  schema_stops unmade.Memory v w only = only_schema v w only
 
-  pub no_schema_line : (e : SchemaFault) (r : Result (Vec ℕ Global) CodecFault) (a b : Option View) → Told a b (LoadsSchema s (Err e)) → IsErrAnd r (λ z. z ≡ of_no_schema e)
-      → Told a b (MakesOutput job (of_codec r))
-  no_schema_line e r a b h is = told_as a b (LoadsSchema s (Err e)) (MakesOutput job (of_codec r)) (λ v w l. stops job (of_no_schema e) r v w (schema_stops e v w l) is) h
+  pub no_schema_line : (e : Unmade) (r : Result (Vec ℕ Global) Unmade) (a b : Option View) → Told a b (LoadsFirst s (Err e)) → IsErrAnd r (λ z. z ≡ e) → Told a b (MakesOutput job (making r))
+  no_schema_line e r a b h is = told_as a b (LoadsFirst s (Err e)) (MakesOutput job (making r)) (λ v w l. stops job e r v w (schema_stops e v w l) is) h
 
   -- ---- the type
 
-  type_stops : (schema : Declared) (e : TypeWordFault) (v w : View) → LoadsSchema s (Ok schema) v w → MeansType schema t (Err e) → MakesOutput job (codec_making (of_no_type e)) v w
-  type_stops schema (word.Refused cause) v w ((text, has, is), only) h = ((text, has, schema_of schema is (no_type cause h refl)), only)
-  type_stops schema word.Memory v w (is, only) h = only
-
-  pub no_type_line : (schema : Declared) (e : TypeWordFault) (r : Result (Vec ℕ Global) CodecFault) (a b : Option View) → Told a b (LoadsSchema s (Ok schema))
-      → MeansType schema t (Err e) → IsErrAnd r (λ z. z ≡ of_no_type e) → Told a b (MakesOutput job (of_codec r))
+  pub no_type_line : (schema : Declared) (e : Unmade) (r : Result (Vec ℕ Global) Unmade) (a b : Option View) → Told a b (LoadsFirst s (Ok schema))
+      → Refuses (TellsType schema t) e → IsErrAnd r (λ z. z ≡ e) → Told a b (MakesOutput job (making r))
   no_type_line schema e r a b loaded h is =
-      told_as a b (LoadsSchema s (Ok schema)) (MakesOutput job (of_codec r)) (λ v w l. stops job (of_no_type e) r v w (type_stops schema e v w l h) is) loaded
+      told_as a b (LoadsFirst s (Ok schema)) (MakesOutput job (making r)) (λ v w l. stops job e r v w
+      (refuses (TellsType schema t) e v w (λ line (cause, refused_so, tells). (l.0.0, l.0.1, schema_of schema l.0.2 (no_type cause refused_so (ap refused tells)))) h (only_schema v w l.1)) is) loaded
 
   -- ---- the plan
 
-  plan_stops : (schema : Declared) (T : Shape) (e : TypePlanFault) (v w : View) → LoadsSchema s (Ok schema) v w → IsTypeText schema.program t T → PlansType schema T (Err e)
-      → MakesOutput job (codec_making (of_no_plan e)) v w
-  plan_stops schema T (plan.Refused cause) v w ((text, has, is), only) means h = ((text, has, schema_of schema is (no_plan T cause means h refl)), only)
-  plan_stops schema T plan.Memory v w (is, only) means h = only
-
-  pub no_plan_line : (schema : Declared) (T : Shape) (e : TypePlanFault) (r : Result (Vec ℕ Global) CodecFault) (a b : Option View) → Told a b (LoadsSchema s (Ok schema))
-      → IsTypeText schema.program t T → PlansType schema T (Err e) → IsErrAnd r (λ z. z ≡ of_no_plan e) → Told a b (MakesOutput job (of_codec r))
+  pub no_plan_line : (schema : Declared) (T : Shape) (e : Unmade) (r : Result (Vec ℕ Global) Unmade) (a b : Option View) → Told a b (LoadsFirst s (Ok schema))
+      → IsTypeText schema.program t T → Refuses (TellsPlan schema T) e → IsErrAnd r (λ z. z ≡ e) → Told a b (MakesOutput job (making r))
   no_plan_line schema T e r a b loaded means h is =
-      told_as a b (LoadsSchema s (Ok schema)) (MakesOutput job (of_codec r)) (λ v w l. stops job (of_no_plan e) r v w (plan_stops schema T e v w l means h) is) loaded
-
-  -- before the work comes to the input it is as it was
-  pub unread_yet : (a b : Option View) → Told a b (LeavesInput ⊥) → Told a b (λ v w. LeavesInput (ReachesInput v.files s t) v w)
-  unread_yet a b = told_as a b (LeavesInput ⊥) (λ v w. LeavesInput (ReachesInput v.files s t) v w) (λ v w. not_come (ReachesInput v.files s t) v w)
-
-  -- a plan is made without a read
-  pub plan_unread : (e : TypePlanFault) (r : Result (Vec ℕ Global) CodecFault) → IsErrAnd r (λ z. z ≡ of_no_plan e) → IsErrOf r fault.ReadFault → ⊥
-  plan_unread e (Ok x) is failed = absurd is
-  plan_unread (plan.Refused cause) (Err z) is failed = absurd cc
-  plan_unread plan.Memory (Err z) is failed = absurd cc
+      told_as a b (LoadsFirst s (Ok schema)) (MakesOutput job (making r)) (λ v w l. stops job e r v w
+      (refuses (TellsPlan schema T) e v w (λ line (cause, refused_so, tells). (l.0.0, l.0.1, schema_of schema l.0.2 (no_plan T cause means refused_so (ap refused tells)))) h (only_schema v w l.1)) is) loaded
 
   -- ---- the input
 
   module _ (schema : Declared) (T : Shape) (means : IsTypeText schema.program t T) (planned : HasPlan schema T) where
     -- what the input tells, after the schema and its type
-    pub of_input_answer : (bytes : List ℕ) (a : Answer) (v u : View) → LoadsSchema s (Ok schema) v u → HasFile u.files i bytes → Tells schema T bytes a → TypedAnswer Tells v.files s t i a
+    of_input_answer : (bytes : List ℕ) (a : Answer) (v u : View) → LoadsFirst s (Ok schema) v u → HasFile u.files i bytes → Tells schema T bytes a → TypedAnswer Tells v.files s t i a
     of_input_answer bytes a v u ((text, has, is), only) there tells =
-        (text, has, schema_of schema is (typed T bytes means planned (subst (λ (fs : Files). HasFile fs i bytes) (ap (λ (x : View). x.files) only.rest) there) tells))
+        (text, has, schema_of schema is (typed T bytes means planned (subst (λ (fs : Files). HasFile fs i bytes) (ap (λ (x : View). x.files) only) there) tells))
 
-    -- an input that stops for this fault, by what reading it tells
-    pub no_value_line : (Loads : View → View → Type 0) (e : CodecFault) → ((v u w : View) → LoadsSchema s (Ok schema) v u → Loads u w → MakesOutput job (codec_making e) v w)
-        → (r : Result (Vec ℕ Global) CodecFault) (a m b : Option View) → Told a m (LoadsSchema s (Ok schema)) → Told m b Loads → IsErrAnd r (λ z. z ≡ e) → Told a b (MakesOutput job (of_codec r))
-    no_value_line Loads e makes r a m b loaded h is =
-        told_then a m b (LoadsSchema s (Ok schema)) Loads (MakesOutput job (of_codec r)) (λ v u w l k. stops job e r v w (makes v u w l k) is) loaded h
+    -- the schema was read, and then the input
+    both_read : (v u w : View) → LoadsFirst s (Ok schema) v u → OnlySlot slots.Input u w → OnlyReads v w
+    both_read v u w loaded only = then_reads v u w (only_schema v u loaded.1) (only_input u w only)
 
     -- after schema, type and plan the work comes to the input
-    pub input_reached : (Q : View → View → Type 0) (a m b : Option View) → Told a m (LoadsSchema s (Ok schema)) → Told m b Q → Told a b (λ v w. LeavesInput (ReachesInput v.files s t) v w)
+    pub input_reached : (Q : View → View → Type 0) (a m b : Option View) → Told a m (LoadsFirst s (Ok schema)) → Told m b Q → Told a b (λ v w. LeavesInput (ReachesInput v.files s t) v w)
     input_reached Q a m b loaded h =
-        told_then a m b (LoadsSchema s (Ok schema)) Q (λ v w. LeavesInput (ReachesInput v.files s t) v w)
+        told_then a m b (LoadsFirst s (Ok schema)) Q (λ v w. LeavesInput (ReachesInput v.files s t) v w)
         (λ v u w l k. inr (record { text = l.0.0; of = schema; meant = T; there = l.0.1; accepted = l.0.2; named = means; planned = planned })) loaded h
 
-    -- out of memory after the input was read
-    pub no_memory_line : (Loads : View → View → Type 0) → ((u w : View) → Loads u w → OnlyReads u w) → (r : Result (Vec ℕ Global) CodecFault) (a m b : Option View)
-        → Told a m (LoadsSchema s (Ok schema)) → Told m b Loads → IsErrAnd r (λ z. z ≡ fault.Memory) → Told a b (MakesOutput job (of_codec r))
-    no_memory_line Loads reads r a m b loaded h is = no_value_line Loads fault.Memory (λ v u w l k. then_reads v u w l.1 (reads u w k)) r a m b loaded h is
+    module _ {X : Type 0} (Is : List ℕ → X → Type 0) (Says : List ℕ → List ℕ → Type 0) where
+      abbrev LoadsInput : Result X Unmade → View → View → Type 0
+      LoadsInput r v w = Loads slots.Input i Is Says r v w
+
+      -- an input that is refused, or isn't read
+      input_stops : ((bytes line : List ℕ) → Says bytes line → Tells schema T bytes (refused line)) → (e : Unmade) (v u w : View) → LoadsFirst s (Ok schema) v u → LoadsInput (Err e) u w
+          → MakesOutput job (of_fault e) v w
+      input_stops tells (unmade.Refused line) v u w loaded ((bytes, there, h), only) = (of_input_answer bytes _ v u loaded there (tells bytes _ h), both_read v u w loaded only)
+      input_stops tells unmade.ReadFault v u w loaded only = both_read v u w loaded only
+      input_stops tells unmade.Memory v u w loaded only = both_read v u w loaded only
+
+      pub no_value_line : ((bytes line : List ℕ) → Says bytes line → Tells schema T bytes (refused line)) → (e : Unmade) (r : Result (Vec ℕ Global) Unmade) (a m b : Option View)
+          → Told a m (LoadsFirst s (Ok schema)) → Told m b (LoadsInput (Err e)) → IsErrAnd r (λ z. z ≡ e) → Told a b (MakesOutput job (making r))
+      no_value_line tells e r a m b loaded h is =
+          told_then a m b (LoadsFirst s (Ok schema)) (LoadsInput (Err e)) (MakesOutput job (making r)) (λ v u w l k. stops job e r v w (input_stops tells e v u w l k) is) loaded h
+
+      -- out of memory after the input was read
+      pub no_memory_line : (x : X) (r : Result (Vec ℕ Global) Unmade) (a m b : Option View)
+          → Told a m (LoadsFirst s (Ok schema)) → Told m b (LoadsInput (Ok x)) → IsErrAnd r (λ z. z ≡ unmade.Memory) → Told a b (MakesOutput job (making r))
+      no_memory_line x r a m b loaded h is =
+          told_then a m b (LoadsFirst s (Ok schema)) (LoadsInput (Ok x)) (MakesOutput job (making r)) (λ v u w l k. stops job unmade.Memory r v w (both_read v u w l k.1) is) loaded h
+
+      -- what is made of the value
+      pub value_line : (x : X) (out : List ℕ) → ((text bytes : List ℕ) → IsSchemaText text schema → Is bytes x → Tells schema T bytes (done out)) → (a m b : Option View)
+          → Told a m (LoadsFirst s (Ok schema)) → Told m b (LoadsInput (Ok x)) → Told a b (MakesOutput job (made out))
+      value_line x out tells a m b loaded h =
+          told_then a m b (LoadsFirst s (Ok schema)) (LoadsInput (Ok x)) (MakesOutput job (made out))
+          (λ v u w l k. (of_input_answer k.0.0 (done out) v u l k.0.1 (tells l.0.0 k.0.0 l.0.2 k.0.2), both_read v u w l k.1)) loaded h
 
     -- ---- where reading the input can't fail
 
@@ -126,20 +140,15 @@ module _ (Tells : ToInput) (s t i : List ℕ) where
     schema_there text files a h (schema_of other k tells) = type_there files a (subst (λ (x : Declared). OfType Tells x t i files a) (one_schema_text text other schema k h) tells)
 
     -- the schema that was loaded is the answer's: the input's file is there
-    input_there : (v u : View) → LoadsSchema s (Ok schema) v u → Answered job v → IsThere i u
+    input_there : (v u : View) → LoadsFirst s (Ok schema) v u → Answered job v → IsThere i u
     input_there v u ((text, has, h), only) (a, (other, also, tells)) =
         let same : other ≡ text = same_file v.files s other text also has in
         let there = schema_there text v.files a h (subst (λ (x : List ℕ). OfSchema Tells x t i v.files a) same tells) in
-        (there.0, subst (λ (fs : Files). HasFile fs i there.0) (sym (ap (λ (x : View). x.files) only.rest)) there.1)
+        (there.0, subst (λ (fs : Files). HasFile fs i there.0) (sym (ap (λ (x : View). x.files) only)) there.1)
 
     -- over a sound view with an answer the input's file is there, so reading it doesn't fail
-    pub no_value_sound : (Failed : Type 0) (r : Result (Vec ℕ Global) CodecFault) (a m : Option View) (x y z : Bool) → (IsErrOf r fault.ReadFault → Failed)
-        → Told a m (LoadsSchema s (Ok schema)) → (IsSome a → IsTrue x → IsTrue y) → NeverFails m y z Failed (IsThere i) → NeverFails a x z (IsErrOf r fault.ReadFault) (Answered job)
+    pub no_value_sound : (Failed : Type 0) (r : Result (Vec ℕ Global) Unmade) (a m : Option View) (x y z : Bool) → (IsErrOf r unmade.ReadFault → Failed)
+        → Told a m (LoadsFirst s (Ok schema)) → (IsSome a → IsTrue x → IsTrue y) → NeverFails m y z Failed (IsThere i) → NeverFails a x z (IsErrOf r unmade.ReadFault) (Answered job)
     no_value_sound Failed r a m x y z failed loaded first second =
-        let both = then_fails a m x y z _ (Answered job) (IsThere i) (LoadsSchema s (Ok schema)) loaded first second input_there in
+        let both = then_fails a m x y z _ (Answered job) (IsThere i) (LoadsFirst s (Ok schema)) loaded first second input_there in
         fails_as a x z _ _ (Answered job) (Answered job) both failed (λ v answered. answered)
-
-  -- ---- the line of a fault
-
-  pub told_line : (e : CodecFault) (x : Unmade) (a b : Option View) → TellsAs (codec_making e) x → Told a b (MakesOutput job (of_codec (Err e))) → Told a b (MakesOutput job (of_fault x))
-  told_line e x a b tells h = not_made job (codec_making e) x a b tells h

@@ -7,12 +7,12 @@ use Rattle.tl_base.specs.Contents.{Files}
 use Rattle.tl_base.specs.Outside.{HasFile}
 use Rattle.tl_schema.specs.Schemas.{Declaration, Declared}
 use Rattle.tl_schema.specs.Meanings.{base_shape}
-use Rattle.codec_commands.specs.declared.causes.SchemaCause.{SchemaCause}
-use Rattle.codec_commands.specs.Loaded.{IsSchemaText, SchemaRefused}
+use Rattle.schema_files.specs.Causes.{SchemaCause}
+use Rattle.schema_files.specs.Loaded.{IsSchemaText, SchemaRefused}
 use Rattle.command_base.specs.Answer.{Answer, done, refused}
 use Rattle.command_base.specs.Jobs.{Job, unlinked_job}
 use Rattle.command_base.specs.Kept.{KeepsUnread}
-use Rattle.codec_commands.specs.Lines.{schema_line}
+use Rattle.schema_files.specs.Lines.{schema_line}
 
 -- ---- the list
 
@@ -41,7 +41,7 @@ listing es = flat_map entry_line es ++ counts_line (count_by is_listed_construct
 
 -- the text is no schema's, or it is one's, and its list is the answer
 pub data OfChecked (text : List ℕ) (a : Answer) : Type 0 where
-  no_schema : (cause : SchemaCause) → SchemaRefused text cause → a ≡ refused (schema_line cause) → OfChecked text a
+  no_schema : (cause : SchemaCause) → SchemaRefused text cause → a ≡ refused (schema_line (codes "schema") cause) → OfChecked text a
   listed : (schema : Declared) → IsSchemaText text schema → a ≡ done (listing schema.decls) → OfChecked text a
 
 -- check's answer

@@ -12,7 +12,7 @@ use Rattle.tl_types.specs.declared.value.TheConstants.{MAX_LEVELS}
 use Rattle.codec_commands.specs.Typed.{TypedAnswer, typed_job}
 use Rattle.command_base.specs.Answer.{Answer, done, refused}
 use Rattle.command_base.specs.Jobs.{Job}
-use Rattle.codec_commands.specs.Lines.{line_text, input_line, cause_text}
+use Rattle.schema_files.specs.Lines.{line_text, input_line, cause_text}
 
 -- The input is the spelling of one value of the type, or more bytes stand after such a spelling, or it is refused.
 -- A place stops at 2^64 - 1.

@@ -1,10 +1,6 @@
-pub mod Loaded
-pub mod Lines
+pub mod Decoding
 pub mod Typed
 pub mod Check
 pub mod Decode
-pub mod Decoding
-pub mod JsonInput
 pub mod Encode
-pub mod Faults
-pub mod Parts
+pub mod Inputs

@@ -1,16 +1,14 @@
 -- What a command answers that takes a schema, one of its types and an input: what the input tells, or where and why schema, type or plan is refused.
 -- This project's own.
-use Rattle.std.specs.Prelude.{◌≡◌, ℕ, List}
+use Rattle.std.specs.Prelude.{◌≡◌, ℕ, List, codes}
 use Rattle.tl_base.specs.Contents.{Files}
 use Rattle.tl_base.specs.Outside.{HasFile}
 use Rattle.tl_schema.specs.Types.{Shape}
 use Rattle.tl_schema.specs.Schemas.{Declared}
 use Rattle.tl_schema.specs.AskedTypes.{IsTypeText}
-use Rattle.codec_commands.specs.declared.causes.SchemaCause.{SchemaCause}
-use Rattle.codec_commands.specs.declared.causes.TypeNameCause.{TypeNameCause}
-use Rattle.codec_commands.specs.declared.causes.PlanCause.{PlanCause}
-use Rattle.codec_commands.specs.Loaded.{IsSchemaText, SchemaRefused, TypeNameRefused, HasPlan, PlanRefused}
-use Rattle.codec_commands.specs.Lines.{schema_line, type_line, plan_line}
+use Rattle.schema_files.specs.Causes.{SchemaCause, TypeNameCause, PlanCause}
+use Rattle.schema_files.specs.Loaded.{IsSchemaText, SchemaRefused, TypeNameRefused, HasPlan, PlanRefused}
+use Rattle.schema_files.specs.Lines.{schema_line, type_line, plan_line}
 use Rattle.command_base.specs.Answer.{Answer, refused}
 use Rattle.command_base.specs.Jobs.{Job, unlinked_job}
 use Rattle.command_base.specs.Kept.{KeepsUnread}
@@ -27,7 +25,7 @@ pub data OfType (Tells : ToInput) (schema : Declared) (type input : List ℕ) (f
 
 -- the text is no schema's, or it is one's, and then the type tells
 pub data OfSchema (Tells : ToInput) (text type input : List ℕ) (files : Files) (a : Answer) : Type 0 where
-  no_schema : (cause : SchemaCause) → SchemaRefused text cause → a ≡ refused (schema_line cause) → OfSchema Tells text type input files a
+  no_schema : (cause : SchemaCause) → SchemaRefused text cause → a ≡ refused (schema_line (codes "schema") cause) → OfSchema Tells text type input files a
   schema_of : (schema : Declared) → IsSchemaText text schema → OfType Tells schema type input files a → OfSchema Tells text type input files a
 
 -- the command's answer

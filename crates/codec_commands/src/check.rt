@@ -9,12 +9,11 @@ ghost use Rattle.command_base.specs.Sound.{Answered, MeetsFaultsOf};
 ghost use Rattle.command_base.specs.Telling.{status_of};
 ghost use Rattle.codec_commands.specs.Check.{check_job};
 
-use crate::lines::schema_unmade;
 use crate::listing::listing;
-use crate::schema_text::load_schema;
 use command_base::{Status, Stop, Unmade, write_made};
+use schema_files::load_schema;
 use std::alloc::Global;
-use tl_base::Host;
+use tl_base::{Host, Slot};
 
 // The list of the schema's declarations.
 fn made_listing<H: Host>(alloc: Global, host: &mut H, schema: &str) -> Result<Vec<u8>, Unmade>
@@ -22,13 +21,9 @@ fn made_listing<H: Host>(alloc: Global, host: &mut H, schema: &str) -> Result<Ve
     ensures unread { Told (H.state host.old).view (H.state host.new).view (LeavesInput ⊥) }
     ensures faults { MeetsFaults kinds.Reads (H.state host.old) (H.state host.new) (IsErrOf result Unmade.ReadFault) (Answered (check_job schema.now)) }
 {
-    match load_schema(alloc, host, schema) {
-        Ok(schema) => {
-            let text = listing(alloc, &schema)?;
-            Ok(text)
-        }
-        Err(fault) => Err(schema_unmade(alloc, fault)),
-    }
+    let schema = load_schema(alloc, host, Slot::Schema, "schema", schema)?;
+    let text = listing(alloc, &schema)?;
+    Ok(text)
 }
 
 /// Checks a schema, and writes the list of its declarations.

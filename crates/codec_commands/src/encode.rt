@@ -14,17 +14,12 @@ ghost use Rattle.tl_types.specs.Seen.{view};
 ghost use Rattle.tl_types.specs.Spelling.{Spells};
 ghost use Rattle.tl_types.specs.declared.value.TheConstants.{MAX_LEVELS};
 ghost use Rattle.codec_commands.specs.Encode.{encode_job};
-ghost use Rattle.codec_commands.specs.Faults.{of_codec};
 ghost use Rattle.codec_commands.specs.Typed.{ReachesInput};
 
-use crate::json_input::load_json;
-use crate::refusal::{CodecFault, unmade};
-use crate::schema_text::load_schema;
-use crate::type_plan::plan_of;
-use crate::type_word::type_named;
 use command_base::{Status, Stop, Unmade, write_made};
+use schema_files::{load_json, load_schema, plan_of, type_named};
 use std::alloc::{AllocError, Global};
-use tl_base::Host;
+use tl_base::{Host, Slot};
 use tl_encode::spelling_of;
 use tl_plan::Plan;
 use tl_types::{FitFault, Value};
@@ -43,26 +38,6 @@ fn fitting_spelling(alloc: Global, plan: &Plan, value: &Value) -> Result<Vec<u8>
 }
 
 // The spelling of the value that the input's JSON is.
-fn encoded_value<H: Host>(
-    alloc: Global,
-    host: &mut H,
-    schema: &str,
-    of: &str,
-    input: &str,
-) -> Result<Vec<u8>, CodecFault>
-    ensures spelling { Told (H.state host.old).view (H.state host.new).view (MakesOutput (encode_job schema.now of.now input.now) (of_codec result)) }
-    ensures unread { Told (H.state host.old).view (H.state host.new).view (λ v w. LeavesInput (ReachesInput v.files schema.now of.now) v w) }
-    ensures faults { MeetsFaults kinds.Reads (H.state host.old) (H.state host.new) (IsErrOf result CodecFault.ReadFault) (Answered (encode_job schema.now of.now input.now)) }
-{
-    let schema = load_schema(alloc, host, schema)?;
-    let of = type_named(alloc, &schema, of)?;
-    let plan = plan_of(alloc, &schema, &of)?;
-    let value = load_json(alloc, host, &schema, &of, input)?;
-    let bytes = fitting_spelling(alloc, &plan, &value)?;
-    Ok(bytes)
-}
-
-// The same, where a fault is its line.
 fn made_spelling<H: Host>(
     alloc: Global,
     host: &mut H,
@@ -74,10 +49,12 @@ fn made_spelling<H: Host>(
     ensures unread { Told (H.state host.old).view (H.state host.new).view (λ v w. LeavesInput (ReachesInput v.files schema.now of.now) v w) }
     ensures faults { MeetsFaults kinds.Reads (H.state host.old) (H.state host.new) (IsErrOf result Unmade.ReadFault) (Answered (encode_job schema.now of.now input.now)) }
 {
-    match encoded_value(alloc, host, schema, of, input) {
-        Ok(bytes) => Ok(bytes),
-        Err(fault) => Err(unmade(alloc, fault)),
-    }
+    let schema = load_schema(alloc, host, Slot::Schema, "schema", schema)?;
+    let of = type_named(alloc, &schema, of)?;
+    let plan = plan_of(alloc, &schema, &of)?;
+    let value = load_json(alloc, host, &schema, &of, input)?;
+    let bytes = fitting_spelling(alloc, &plan, &value)?;
+    Ok(bytes)
 }
 
 /// Encodes the value that the input's JSON is, and writes its spelling.

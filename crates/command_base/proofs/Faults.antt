@@ -25,6 +25,11 @@ pub never_failed : (told : Option View) (S F : Type 0) (P : View → Type 0) →
 never_failed None S F P never = tt
 never_failed (Some v) S F P never = λ sound p failed. never failed
 
+-- a call that met no more faults after another
+pub read_on : {k : Kind} {a b : HostState} {F G : Type 0} {P R : View → Type 0} → MeetsFaults k a b F P → (G → ⊥) → MeetsFaults k a b G R
+read_on {G = G} {R = R} met never =
+    record { later = met.later; cause = λ failed. absurd (never failed); others = met.others; stays = met.stays; never = never_failed _ _ G R never }
+
 -- a failure that is another call's, where more is known of the view
 pub fails_as : (told : Option View) (x y : Bool) (F G : Type 0) (P R : View → Type 0) → NeverFails told x y F P → (G → F) → ((v : View) → R v → P v) → NeverFails told x y G R
 fails_as None x y F G P R call cause known = record { stays = call.stays; never = tt }

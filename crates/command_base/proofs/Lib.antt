@@ -3,3 +3,4 @@ pub mod Rests
 pub mod SameFiles
 pub mod Faults
 pub mod Made
+pub mod Loaded

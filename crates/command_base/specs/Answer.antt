@@ -55,6 +55,10 @@ placed_line what place why = (((((codes "tlbox: " ++ what) ++ codes " ") ++ deci
 abbrev pub unplaced_line : List ℕ → List ℕ → List ℕ
 unplaced_line what why = (((codes "tlbox: " ++ what) ++ codes " - ") ++ why) ++ codes "\n"
 
+-- likewise, of a declaration that is refused, by its number
+abbrev pub decl_line : List ℕ → ℕ → List ℕ → List ℕ
+decl_line what decl why = (((((codes "tlbox: " ++ what) ++ codes " decl ") ++ decimal decl) ++ codes " ") ++ why) ++ codes "\n"
+
 abbrev pub read_fault_line : List ℕ
 read_fault_line = codes "tlbox: read fault\n"
 

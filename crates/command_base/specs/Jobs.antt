@@ -1,5 +1,5 @@
 -- What a job is, and what its work does. This project's own.
-use Rattle.std.specs.Prelude.{◌≡◌, ◌⊎◌, ℕ, List, ◌++◌, Result, Ok, Err, Vec, String, string_bytes}
+use Rattle.std.specs.Prelude.{◌≡◌, ◌⊎◌, ℕ, List, ◌++◌, Result, Ok, Err, Vec}
 use Rattle.std.specs.declared.alloc.Global.{Global}
 use Rattle.std.specs.declared.alloc.AllocError.{AllocError}
 use Rattle.tl_base.specs.Calls.{Told}
@@ -57,8 +57,8 @@ EndsBy job status line v w =
 -- The work of a job: its answer is given, or why not; where a count of faults rose.
 abbrev pub Works : Type 0 → Type 0 → Job → Result Status Stop → View → View → Type 0
 Works write_rose link_rose job (Ok status) v w = (a : Answer) × MayAnswer job link_rose v a × (a.status ≡ status) × GivesOutput a v w × Tells write_rose a.errors v w
-Works write_rose link_rose job (Err (stop.Refused line)) v w = EndsBy job status.Refused (string_bytes line) v w
-Works write_rose link_rose job (Err (stop.Peer line)) v w = EndsBy job status.PeerFault (string_bytes line) v w
+Works write_rose link_rose job (Err (stop.Refused line)) v w = EndsBy job status.Refused line.items v w
+Works write_rose link_rose job (Err (stop.Peer line)) v w = EndsBy job status.PeerFault line.items v w
 Works write_rose link_rose job (Err stop.ReadFault) v w = OnlyReads v w
 Works write_rose link_rose job (Err stop.WriteFault) v w = WritesSomeOf job link_rose v w
 Works write_rose link_rose job (Err stop.LinkFault) v w = WritesSomeOf job link_rose v w
@@ -79,7 +79,7 @@ pub data Making : Type 0 where
   no_memory : Making
 
 abbrev pub of_fault : Unmade → Making
-of_fault (unmade.Refused line) = refused_by (string_bytes line)
+of_fault (unmade.Refused line) = refused_by line.items
 of_fault unmade.ReadFault = unread
 of_fault unmade.Memory = no_memory
 
@@ -95,7 +95,7 @@ MakesOutput job unread v w = OnlyReads v w
 MakesOutput job no_memory v w = OnlyReads v w
 
 -- the refusal with this line, or out of memory where there is no line
-abbrev pub RefusedBy : Result (String Global) AllocError → Unmade → Type 0
+abbrev pub RefusedBy : Result (Vec ℕ Global) AllocError → Unmade → Type 0
 RefusedBy (Ok line) fault = fault ≡ unmade.Refused line
 RefusedBy (Err e) fault = fault ≡ unmade.Memory
 
@@ -113,7 +113,7 @@ abbrev pub WritesMade : Making → Result Status Stop → View → View → Type
 WritesMade (made text) (Ok s) v w = (s ≡ status.Done) × (w ≡ with_written Output (written_of Output v ++ text) v)
 WritesMade (made text) (Err e) v w = (e ≡ stop.WriteFault) × (prefix : List ℕ) × (rest : List ℕ) × (prefix ++ rest ≡ text) × (w ≡ with_written Output (written_of Output v ++ prefix) v)
 WritesMade m (Ok u) v w = ⊥
-WritesMade (refused_by line) (Err (stop.Refused told)) v w = (string_bytes told ≡ line) × (w ≡ v)
+WritesMade (refused_by line) (Err (stop.Refused told)) v w = (told.items ≡ line) × (w ≡ v)
 WritesMade unread (Err e) v w = (e ≡ stop.ReadFault) × (w ≡ v)
 WritesMade no_memory (Err e) v w = (e ≡ stop.Memory) × (w ≡ v)
 WritesMade m (Err e) v w = ⊥

@@ -3,3 +3,4 @@ pub mod Kept
 pub mod Telling
 pub mod Jobs
 pub mod Sound
+pub mod Loading

@@ -1,5 +1,5 @@
 -- How a run that stopped is told on Errors, and the status that it ends with. This project's own.
-use Rattle.std.specs.Prelude.{◌≡◌, ◌⊎◌, ℕ, List, ◌++◌, Result, Ok, Err, string_bytes}
+use Rattle.std.specs.Prelude.{◌≡◌, ◌⊎◌, ℕ, List, ◌++◌, Result, Ok, Err}
 use Rattle.tl_base.specs.Outside.{View}
 use Rattle.command_base.specs.declared.stop.Stop.{Stop}
 use Rattle.command_base.specs.declared.stop.Stop.TheVariants as stop
@@ -29,11 +29,11 @@ stop_status stop.Memory = status.Memory
 
 -- its line on Errors
 abbrev pub stop_line : Stop → List ℕ
-stop_line (stop.Refused line) = string_bytes line
+stop_line (stop.Refused line) = line.items
 stop_line stop.ReadFault = read_fault_line
 stop_line stop.WriteFault = write_fault_line
 stop_line stop.LinkFault = link_fault_line
-stop_line (stop.Peer line) = string_bytes line
+stop_line (stop.Peer line) = line.items
 stop_line stop.Memory = memory_line
 
 -- the status that work ends with

@@ -7,7 +7,7 @@ mod status;
 mod stop;
 mod telling;
 
-pub use lines::{placed_line, unplaced_line};
+pub use lines::{decl_line, placed_line, unplaced_line};
 pub use output::write_made;
 pub use status::Status;
 pub use stop::{Stop, Unmade};

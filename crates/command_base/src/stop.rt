@@ -1,17 +1,20 @@
 //! Why a job ends before its work is done.
 ghost use Rattle.std.specs.Prelude.{◌≡◌};
+ghost use Rattle.command_base.specs.Answer.{decl_line, placed_line, unplaced_line};
 ghost use Rattle.command_base.specs.Jobs.{RefusedBy};
+ghost use Rattle.command_base.specs.Loading.{PeerBy, RefusesAs};
 
-use std::alloc::AllocError;
+use crate::lines::{decl_line, placed_line, unplaced_line};
+use std::alloc::{AllocError, Global};
 use thiserror::Error;
-use tl_base::WriteFault;
+use tl_base::{TextFault, WriteFault};
 
 /// Why a job ended.
 #[derive(Debug, Error, Drop)]
 pub enum Stop {
     /// Something is refused, and this is the whole line that says so on Errors.
-    #[error("{0}")]
-    Refused(String),
+    #[error("refused")]
+    Refused(Vec<u8>),
     #[error("read fault")]
     ReadFault,
     #[error("write fault")]
@@ -19,8 +22,8 @@ pub enum Stop {
     #[error("link fault")]
     LinkFault,
     /// The other end of a link sent what can't be taken, and this is the whole line that says so on Errors.
-    #[error("{0}")]
-    Peer(String),
+    #[error("the other end's fault")]
+    Peer(Vec<u8>),
     #[error("out of memory")]
     Memory,
 }
@@ -29,22 +32,69 @@ pub enum Stop {
 #[derive(Debug, Error, Drop)]
 pub enum Unmade {
     /// Something is refused, and this is the whole line that says so on Errors.
-    #[error("{0}")]
-    Refused(String),
+    #[error("refused")]
+    Refused(Vec<u8>),
     #[error("read fault")]
     ReadFault,
     #[error("out of memory")]
     Memory,
 }
 
+impl Stop {
+    /// The other end's fault that a line tells; out of memory, where there was none for the line.
+    pub fn of_peer(line: Result<Vec<u8>, AllocError>) -> Stop
+        ensures { PeerBy line result }
+    {
+        match line {
+            Ok(line) => Stop::Peer(line),
+            Err(_) => Stop::Memory,
+        }
+    }
+}
+
 impl Unmade {
     /// The refusal that a line tells; out of memory, where there was none for the line.
-    pub fn of_line(line: Result<String, AllocError>) -> Unmade
+    pub fn of_line(line: Result<Vec<u8>, AllocError>) -> Unmade
         ensures { RefusedBy line result }
     {
         match line {
             Ok(line) => Unmade::Refused(line),
             Err(_) => Unmade::Memory,
+        }
+    }
+
+    /// The refusal of what is refused at an offset.
+    pub fn placed(alloc: Global, what: &str, place: u64, why: &str) -> Unmade
+        ensures { RefusesAs (placed_line what.now place why.now) result }
+    {
+        Unmade::of_line(placed_line(alloc, what, place, why))
+    }
+
+    /// The refusal of what is refused for a cause without an offset.
+    pub fn unplaced(alloc: Global, what: &str, why: &str) -> Unmade
+        ensures { RefusesAs (unplaced_line what.now why.now) result }
+    {
+        Unmade::of_line(unplaced_line(alloc, what, why))
+    }
+
+    /// The refusal of a declaration, by its number, counted from 0.
+    pub fn of_decl(alloc: Global, what: &str, decl: u32, why: &str) -> Unmade
+        ensures { RefusesAs (decl_line what.now decl why.now) result }
+    {
+        Unmade::of_line(decl_line(alloc, what, decl, why))
+    }
+}
+
+impl From<TextFault> for Unmade {
+    ghost use Rattle.std.specs.Prelude.{◌≡◌};
+    ghost use Rattle.command_base.specs.Loading.{of_text};
+
+    ghost from_gives = { λ e fault. fault ≡ of_text e };
+
+    fn from(fault: TextFault) -> Unmade {
+        match fault {
+            TextFault::ReadFault => Unmade::ReadFault,
+            TextFault::Memory => Unmade::Memory,
         }
     }
 }

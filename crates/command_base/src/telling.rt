@@ -32,11 +32,11 @@ pub fn report<H: Host>(host: &mut H, stop: &Stop) -> Status
     ensures links { (H.state host.new).counts.links ≡ (H.state host.old).counts.links }
 {
     match stop {
-        Stop::Refused(line) => tell(host, Status::Refused, line.as_bytes()),
+        Stop::Refused(line) => tell(host, Status::Refused, line),
         Stop::ReadFault => tell(host, Status::ReadFault, b"tlbox: read fault\n"),
         Stop::WriteFault => tell(host, Status::WriteFault, b"tlbox: write fault\n"),
         Stop::LinkFault => tell(host, Status::LinkFault, b"tlbox: link fault\n"),
-        Stop::Peer(line) => tell(host, Status::PeerFault, line.as_bytes()),
+        Stop::Peer(line) => tell(host, Status::PeerFault, line),
         Stop::Memory => tell(host, Status::Memory, b"tlbox: memory\n"),
     }
 }

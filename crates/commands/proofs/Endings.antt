@@ -1,5 +1,5 @@
 -- How a run ends, from how its job ended and what was told.
-use Rattle.std.proofs.Common.{◌≡◌, ◌≢◌, ℕ, List, ◌++◌, append-nil, Option, Some, None, Ok, Err, refl, sym, ap, ◌∙◌, subst, inl, inr, string_bytes}
+use Rattle.std.proofs.Common.{◌≡◌, ◌≢◌, ℕ, List, ◌++◌, append-nil, Option, Some, None, Ok, Err, refl, sym, ap, ◌∙◌, subst, inl, inr}
 use Rattle.std.specs.Prelude.{IfSome}
 use Rattle.tl_base.specs.Outside.{View, HostState}
 use Rattle.tl_base.specs.Calls.{Told}
@@ -60,8 +60,8 @@ module _ (words : List (List ℕ)) (r : RequestText) (asks : AsksFor words r) wh
       ended : (e : Stop) (k : Status) → k ≡ stop_status e → (k ≡ status.ReadFault → R) → (k ≡ status.WriteFault → W) → (k ≡ status.LinkFault → L) → (v u w : View)
           → Works V M (job_of r) (Err e) v u → TellsLine T (stop_line e) u w → KeepsRest u w → Ends words R W L k v w
       unfolding stopped_after
-      ended (stop.Refused line) k is read write link v u w h told rest = ended_by status.Refused k (string_bytes line) v u w is h told rest
-      ended (stop.Peer line) k is read write link v u w h told rest = ended_by status.PeerFault k (string_bytes line) v u w is h told rest
+      ended (stop.Refused line) k is read write link v u w h told rest = ended_by status.Refused k line.items v u w is h told rest
+      ended (stop.Peer line) k is read write link v u w h told rest = ended_by status.PeerFault k line.items v u w is h told rest
       ended stop.ReadFault k is read write link v u w only (same, told) rest =
           read_failed (r, asks) (read is) is (same ∙ only.output) (tells_on T read_fault_line v u w only.errors told_write told)
       ended stop.WriteFault k is read write link v u w some told rest = write_failed (write is) is (stopped_after write_fault_line v u w some told)

@@ -20,8 +20,8 @@ use Rattle.tl_types.specs.declared.value.Value.{Value}
 use Rattle.tl_show.specs.Shown.{name_text}
 use Rattle.tl_show.specs.declared.fault.FormCause.{FormCause}
 use Rattle.tl_show.specs.declared.fault.FormCause.TheVariants.{WrongJson, NoSuchName, MissingField, ExtraField, OutOfRange}
-use Rattle.tl_show.specs.declared.fault.ReadFault.{ReadFault}
-use Rattle.tl_show.specs.declared.fault.ReadFault.TheVariants as fault
+use Rattle.tl_show.specs.declared.fault.JsonFault.{JsonFault}
+use Rattle.tl_show.specs.declared.fault.JsonFault.TheVariants as fault
 
 -- ---- what is read, or the first fault
 
@@ -242,7 +242,7 @@ read ds T d = reader ds d T
 -- ---- answers
 
 -- what is answered is what is read, and its misfit, if there is one; out of memory is free
-abbrev pub TellsRead : List Declaration → Shape → Data → Result Value ReadFault → Type 0
+abbrev pub TellsRead : List Declaration → Shape → Data → Result Value JsonFault → Type 0
 TellsRead ds T d (Ok v) = (read ds T d ≡ Ok (view v)) × (misfit ds MAX_LEVELS None T (view v) ≡ None)
 TellsRead ds T d (Err (fault.Form path cause)) = read ds T d ≡ Err (path.items, cause)
 TellsRead ds T d (Err (fault.Misfit m)) = (v : ValueView) × (read ds T d ≡ Ok v) × (misfit ds MAX_LEVELS None T v ≡ Some (m.path.items, m.cause))

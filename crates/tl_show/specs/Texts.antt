@@ -7,8 +7,8 @@ use Rattle.tl_schema.specs.Schemas.{Declaration}
 use Rattle.tl_types.specs.Values.{ValueView}
 use Rattle.tl_types.specs.declared.value.Value.{Value}
 use Rattle.tl_show.specs.Reading.{TellsRead, read}
-use Rattle.tl_show.specs.declared.fault.ReadFault.{ReadFault}
-use Rattle.tl_show.specs.declared.fault.ReadFault.TheVariants as fault
+use Rattle.tl_show.specs.declared.fault.JsonFault.{JsonFault}
+use Rattle.tl_show.specs.declared.fault.JsonFault.TheVariants as fault
 use Rattle.tl_show.specs.declared.fault.TextReadFault.{TextReadFault}
 use Rattle.tl_show.specs.declared.fault.TextReadFault.TheVariants.{NoJson, Unread}
 
@@ -21,7 +21,7 @@ abbrev pub IsFormOf : List Declaration → Shape → List ℕ → ValueView → 
 IsFormOf ds T bytes v = (d : Data) × IsJsonText bytes d × (read ds T d ≡ Ok v)
 
 -- the bytes are JSON, and this is told of it
-abbrev pub TellsJson : List Declaration → Shape → List ℕ → Result Value ReadFault → Type 0
+abbrev pub TellsJson : List Declaration → Shape → List ℕ → Result Value JsonFault → Type 0
 TellsJson ds T bytes r = (d : Data) × IsJsonText bytes d × TellsRead ds T d r
 
 -- what is answered is what is read of the JSON, or that there is none; out of memory is free

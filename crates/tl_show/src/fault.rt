@@ -31,7 +31,7 @@ pub enum FormCause {
 
 /// Why no value is read from JSON.
 #[derive(Debug, Drop, PartialEq, Eq, Error)]
-pub enum ReadFault {
+pub enum JsonFault {
     /// The JSON isn't of the form of the type's values, for this cause at this part. The path is the way to the part, the outermost step first: a field
     /// by its index in the declaration, an element by its index in the list.
     #[error("{cause}")]
@@ -52,7 +52,7 @@ pub enum TextReadFault {
     NoJson,
     /// It is JSON, of which no value is read.
     #[error("{0}")]
-    Unread(ReadFault),
+    Unread(JsonFault),
 }
 
 // Why JSON isn't of a form, and where.
@@ -84,30 +84,30 @@ impl<T: Drop> From<AllocFailed<T>> for FormFault {
     }
 }
 
-impl From<FormFault> for ReadFault {
+impl From<FormFault> for JsonFault {
     ghost use Rattle.std.specs.Prelude.{◌≡◌};
     ghost use Rattle.tl_show.specs.inner.ReadFaults.{of_form};
 
     ghost from_gives = { λ f e. e ≡ of_form f };
 
-    fn from(fault: FormFault) -> ReadFault {
+    fn from(fault: FormFault) -> JsonFault {
         match fault {
-            FormFault::Form { path, cause } => ReadFault::Form { path, cause },
-            FormFault::Memory => ReadFault::Memory,
+            FormFault::Form { path, cause } => JsonFault::Form { path, cause },
+            FormFault::Memory => JsonFault::Memory,
         }
     }
 }
 
-impl From<FitFault> for ReadFault {
+impl From<FitFault> for JsonFault {
     ghost use Rattle.std.specs.Prelude.{◌≡◌};
     ghost use Rattle.tl_show.specs.inner.ReadFaults.{of_fit};
 
     ghost from_gives = { λ f e. e ≡ of_fit f };
 
-    fn from(fault: FitFault) -> ReadFault {
+    fn from(fault: FitFault) -> JsonFault {
         match fault {
-            FitFault::Misfit(misfit) => ReadFault::Misfit(misfit),
-            FitFault::Memory => ReadFault::Memory,
+            FitFault::Misfit(misfit) => JsonFault::Misfit(misfit),
+            FitFault::Memory => JsonFault::Memory,
         }
     }
 }
@@ -119,19 +119,19 @@ impl From<serde_json::Error> for TextReadFault {
 
     fn from(error: serde_json::Error) -> TextReadFault {
         if error.is_memory() {
-            return TextReadFault::Unread(ReadFault::Memory);
+            return TextReadFault::Unread(JsonFault::Memory);
         }
         TextReadFault::NoJson
     }
 }
 
-impl From<ReadFault> for TextReadFault {
+impl From<JsonFault> for TextReadFault {
     ghost use Rattle.std.specs.Prelude.{◌≡◌};
     ghost use Rattle.tl_show.specs.declared.fault.TextReadFault.TheVariants.{Unread};
 
     ghost from_gives = { λ f e. e ≡ Unread f };
 
-    fn from(fault: ReadFault) -> TextReadFault {
+    fn from(fault: JsonFault) -> TextReadFault {
         TextReadFault::Unread(fault)
     }
 }
@@ -144,7 +144,7 @@ impl From<FitFault> for TextReadFault {
     ghost from_gives = { λ f e. e ≡ Unread (of_fit f) };
 
     fn from(fault: FitFault) -> TextReadFault {
-        TextReadFault::Unread(ReadFault::from(fault))
+        TextReadFault::Unread(JsonFault::from(fault))
     }
 }
 

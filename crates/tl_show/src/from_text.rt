@@ -8,7 +8,7 @@ ghost use Rattle.tl_types.specs.Seen.{view};
 ghost use Rattle.tl_show.specs.Reading.{each_element, reader, readers};
 ghost use Rattle.tl_show.specs.Texts.{IsFormOf, TellsText};
 
-use crate::fault::{ReadFault, TextReadFault};
+use crate::fault::{JsonFault, TextReadFault};
 use crate::keyed::KeyedSchema;
 use crate::reading::{read, value_of};
 use crate::tokens::{GivenUp, tree_of};

@@ -17,7 +17,7 @@ mod tokens;
 mod tree;
 mod writing;
 
-pub use fault::{FormCause, ReadFault, TextReadFault};
+pub use fault::{FormCause, JsonFault, TextReadFault};
 pub use from_text::read_text;
 pub use laws::{each_text_tells, each_value_reads_back};
 pub use line::show_text;

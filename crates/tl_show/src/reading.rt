@@ -12,7 +12,7 @@ ghost use Rattle.tl_show.specs.Reading as reading;
 ghost use Rattle.tl_show.specs.inner.FormTells.{Tells};
 ghost use Rattle.tl_show.specs.inner.Keyed.{keyed_slot};
 
-use crate::fault::{FormCause, FormFault, ReadFault, at_part, refused};
+use crate::fault::{FormCause, FormFault, JsonFault, at_part, refused};
 use crate::keyed::{KeyedField, KeyedSchema};
 use crate::plain::plain_of;
 use crate::records::{entry_of, fill_members, has_other, is_record, not_there, record_value};
@@ -28,7 +28,7 @@ pub fn read(
     schema: &Schema,
     of: &TypeRef,
     json: &serde_json::Value,
-) -> Result<Value, ReadFault>
+) -> Result<Value, JsonFault>
     ensures reads { TellsRead schema.now.decls (shape of.now) (data_of json.now) result }
 {
     let value = read_form(alloc, schema, of, json)?;

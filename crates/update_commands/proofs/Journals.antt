@@ -10,7 +10,7 @@ use Rattle.tl_base.specs.declared.host.Slot.TheVariants.{Schema, Input}
 use Rattle.tl_base.specs.declared.source.TextFault.{TextFault}
 use Rattle.update_replay.specs.declared.profile.TheConstants.{PROFILE_TEXT}
 use Rattle.command_base.specs.Sound.{Answered}
-use Rattle.update_commands.specs.declared.fault.LoadFault.TheVariants as load
+use Rattle.update_commands.specs.declared.fault.JournalFault.TheVariants as load
 use Rattle.update_commands.specs.Replay.{other_text, profile_text, replay_job}
 use Rattle.update_commands.specs.Replaying.{LoadsJournal}
 use Rattle.command_base.specs.Kept.{LeavesInput}

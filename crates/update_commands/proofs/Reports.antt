@@ -33,8 +33,8 @@ use Rattle.command_base.proofs.SameFiles.{same_file, file_bytes}
 use Rattle.command_base.proofs.Rests.{rest_then, output_rest, output_leaves, unread_rest, rest_left}
 use Rattle.command_base.proofs.Faults.{NeverFails, safe, stays_sound, written_faults, read_faults}
 use Rattle.command_base.proofs.Views.{told_as, told_both, told_then}
-use Rattle.update_commands.specs.declared.fault.LoadFault.{LoadFault}
-use Rattle.update_commands.specs.declared.fault.LoadFault.TheVariants as load
+use Rattle.update_commands.specs.declared.fault.JournalFault.{JournalFault}
+use Rattle.update_commands.specs.declared.fault.JournalFault.TheVariants as load
 use Rattle.update_commands.specs.Replay.{OfJournal, other_text, profile_text, ReplayAnswer, profile_line, replay_job}
 use Rattle.update_commands.specs.Replaying.{ReadsJournal, LoadsJournal, ended, WritesReplay, JournalFits, Refuses, TellsLoad, TellsReplay}
 use Rattle.update_commands.proofs.OneReplay.{answer_of, settled_answer, answer_output, one_journal}
@@ -238,15 +238,15 @@ module _ (W L : Type 0) where
   no_profile_told s j (stop.Peer told) v w is answer only = absurd is
   no_profile_told s j stop.Memory v w is answer only = inl (only.output, only.errors)
 
-  not_loaded : (s j : List ℕ) (f : LoadFault) (e : Stop) (v w : View) → TellsLoad f e → LoadsJournal s j (Err f) v w → Works W L (replay_job s j) (Err e) v w
+  not_loaded : (s j : List ℕ) (f : JournalFault) (e : Stop) (v w : View) → TellsLoad f e → LoadsJournal s j (Err f) v w → Works W L (replay_job s j) (Err e) v w
   not_loaded s j load.Profile e v w tells ((text, has, other), only) = no_profile_told s j e v w tells (text, has, other_text other refl) only
   not_loaded s j load.ReadFault e v w tells only = subst (λ (y : Stop). Works W L (replay_job s j) (Err y) v w) (sym tells) only
   not_loaded s j load.Memory e v w tells only = subst (λ (y : Stop). Works W L (replay_job s j) (Err y) v w) (sym tells) (inl (only.output, only.errors))
 
-  pub not_loaded_told : (s j : List ℕ) (f : LoadFault) (e : Stop) (a b : Option View) → TellsLoad f e → Told a b (LoadsJournal s j (Err f)) → Told a b (Works W L (replay_job s j) (Err e))
+  pub not_loaded_told : (s j : List ℕ) (f : JournalFault) (e : Stop) (a b : Option View) → TellsLoad f e → Told a b (LoadsJournal s j (Err f)) → Told a b (Works W L (replay_job s j) (Err e))
   not_loaded_told s j f e a b tells = told_as a b (LoadsJournal s j (Err f)) (Works W L (replay_job s j) (Err e)) (λ v w. not_loaded s j f e v w tells)
 
-loaded_rest : (s j : List ℕ) (r : Result (List ℕ) LoadFault) (v w : View) → LoadsJournal s j r v w → KeepsRest v w
+loaded_rest : (s j : List ℕ) (r : Result (List ℕ) JournalFault) (v w : View) → LoadsJournal s j r v w → KeepsRest v w
 loaded_rest s j (Ok read) v w h = h.1.rest
 loaded_rest s j (Err load.Profile) v w h = h.1.rest
 loaded_rest s j (Err load.ReadFault) v w h = h.rest
@@ -256,11 +256,11 @@ loaded_rest s j (Err load.Memory) v w h = h.rest
 abbrev pub Leaves : List ℕ → View → View → Type 0
 Leaves s v w = LeavesInput (HasFile v.files s PROFILE_TEXT.now) v w
 
-pub loaded_kept : (s j : List ℕ) (r : Result (List ℕ) LoadFault) (a b : Option View) → Told a b (LoadsJournal s j r) → Told a b (Leaves s) → Told a b (replay_job s j).keeps
+pub loaded_kept : (s j : List ℕ) (r : Result (List ℕ) JournalFault) (a b : Option View) → Told a b (LoadsJournal s j r) → Told a b (Leaves s) → Told a b (replay_job s j).keeps
 loaded_kept s j r a b loads leaves =
     told_as a b (λ v w. LoadsJournal s j r v w × Leaves s v w) (replay_job s j).keeps (λ v w h. record { rest = loaded_rest s j r v w h.0; input = h.1 }) (told_both a b (LoadsJournal s j r) (Leaves s) loads leaves)
 
-pub written_kept : (s j : List ℕ) (r : Result (List ℕ) LoadFault) (a m b : Option View) → Told a m (LoadsJournal s j r) → Told a m (Leaves s) → Told m b KeepsRest → Told m b (LeavesInput ⊥) → Told a b (replay_job s j).keeps
+pub written_kept : (s j : List ℕ) (r : Result (List ℕ) JournalFault) (a m b : Option View) → Told a m (LoadsJournal s j r) → Told a m (Leaves s) → Told m b KeepsRest → Told m b (LeavesInput ⊥) → Told a b (replay_job s j).keeps
 written_kept s j r a m b loads leaves rest after =
     told_then a m b (replay_job s j).keeps (λ v w. KeepsRest v w × LeavesInput ⊥ v w) (replay_job s j).keeps (λ v u w h k. unread_rest (HasFile v.files s PROFILE_TEXT.now) v u w h k.0 k.1)
     (loaded_kept s j r a m loads leaves) (told_both m b KeepsRest (LeavesInput ⊥) rest after)
@@ -300,7 +300,7 @@ refuses_no line stop.Memory k refused memory is = memory
 same_no : (e x : Stop) (k : Status) → e ≡ x → stop_status x ≢ k → stop_status e ≢ k
 same_no e x k is other same = other (sym (ap stop_status is) ∙ same)
 
-load_no : (f : LoadFault) (e : Stop) (k : Status) → status.Refused ≢ k → status.Memory ≢ k → status.ReadFault ≢ k → TellsLoad f e → stop_status e ≢ k
+load_no : (f : JournalFault) (e : Stop) (k : Status) → status.Refused ≢ k → status.Memory ≢ k → status.ReadFault ≢ k → TellsLoad f e → stop_status e ≢ k
 load_no load.Profile e k refused memory read tells = refuses_no _ e k refused memory tells
 load_no load.ReadFault e k refused memory read tells = same_no e stop.ReadFault k tells read
 load_no load.Memory e k refused memory read tells = same_no e stop.Memory k tells memory
@@ -313,7 +313,7 @@ replay_no fault.ReadFault e k refused memory read write tells = same_no e stop.R
 replay_no fault.WriteFault e k refused memory read write tells = same_no e stop.WriteFault k tells (write refl)
 replay_no fault.Memory e k refused memory read write tells = same_no e stop.Memory k tells memory
 
-load_read : (f : LoadFault) (e : Stop) → TellsLoad f e → stop_status e ≡ status.ReadFault → f ≡ load.ReadFault
+load_read : (f : JournalFault) (e : Stop) → TellsLoad f e → stop_status e ≡ status.ReadFault → f ≡ load.ReadFault
 load_read load.Profile e tells is = absurd (refuses_no _ e status.ReadFault (λ x. absurd cc) (λ x. absurd cc) tells is)
 load_read load.ReadFault e tells is = refl
 load_read load.Memory e tells is = absurd (same_no e stop.Memory status.ReadFault tells (λ x. absurd cc) is)
@@ -327,7 +327,7 @@ replay_write fault.WriteFault e tells is = refl
 replay_write fault.Memory e tells is = absurd (same_no e stop.Memory status.WriteFault tells (λ x. absurd cc) is)
 
 -- a journal that isn't loaded ends the work by a fault of reading, or by none
-pub unloaded_faults : (s j : List ℕ) (f : LoadFault) (e : Stop) (a b : HostState) → TellsLoad f e → MeetsFaults Reads a b (IsErrOf {T = List ℕ} (Err f) load.ReadFault) (Answered (replay_job s j)) → MeetsFaultsOf (replay_job s j) a b (stop_status e)
+pub unloaded_faults : (s j : List ℕ) (f : JournalFault) (e : Stop) (a b : HostState) → TellsLoad f e → MeetsFaults Reads a b (IsErrOf {T = List ℕ} (Err f) load.ReadFault) (Answered (replay_job s j)) → MeetsFaultsOf (replay_job s j) a b (stop_status e)
 unloaded_faults s j f e a b tells reads =
     read_faults (replay_job s j) a b (stop_status e) (IsErrOf {T = List ℕ} (Err f) load.ReadFault) reads (λ is. ap Err (load_read f e tells is))
     (load_no f e status.WriteFault (λ x. absurd cc) (λ x. absurd cc) (λ x. absurd cc) tells) (load_no f e status.LinkFault (λ x. absurd cc) (λ x. absurd cc) (λ x. absurd cc) tells)

@@ -1,5 +1,5 @@
 -- What the parts of `replay` answer, and what they do to the outside. This project's own.
-use Rattle.std.specs.Prelude.{◌≡◌, ℕ, ◌≤◌, List, [], ◌++◌, length, Result, Ok, Err, codes, decimal, string_bytes}
+use Rattle.std.specs.Prelude.{◌≡◌, ℕ, ◌≤◌, List, [], ◌++◌, length, Result, Ok, Err, codes, decimal}
 use Rattle.tl_base.specs.Outside.{View, HasFile, HasRoom, written_of, with_written}
 use Rattle.tl_base.specs.declared.host.Out.TheVariants.{Output}
 use Rattle.tl_base.specs.declared.source.TextFault.{TextFault}
@@ -13,19 +13,19 @@ use Rattle.update_replay.specs.declared.replay.ReplayFault.TheVariants as replay
 use Rattle.update_replay.specs.Worlds.{World}
 use Rattle.update_replay.specs.Replays.{Replayed}
 use Rattle.update_replay.specs.Settled.{Settled}
-use Rattle.update_commands.specs.declared.fault.LoadFault.{LoadFault}
-use Rattle.update_commands.specs.declared.fault.LoadFault.TheVariants as load
+use Rattle.update_commands.specs.declared.fault.JournalFault.{JournalFault}
+use Rattle.update_commands.specs.declared.fault.JournalFault.TheVariants as load
 use Rattle.update_commands.specs.Replay.{profile_line, journal_line}
 
 -- ---- stops
 
-abbrev pub of_text : TextFault → LoadFault
+abbrev pub of_text : TextFault → JournalFault
 of_text text.ReadFault = load.ReadFault
 of_text text.Memory = load.Memory
 
 -- a refusal with this line; or there was no memory for it
 abbrev pub Refuses : List ℕ → Stop → Type 0
-Refuses line (stop.Refused told) = string_bytes told ≡ line
+Refuses line (stop.Refused told) = told.items ≡ line
 Refuses line stop.ReadFault = ⊥
 Refuses line stop.WriteFault = ⊥
 Refuses line stop.LinkFault = ⊥
@@ -33,7 +33,7 @@ Refuses line (stop.Peer told) = ⊥
 Refuses line stop.Memory = Unit {0}
 
 -- the stop of a journal that is not loaded
-abbrev pub TellsLoad : LoadFault → Stop → Type 0
+abbrev pub TellsLoad : JournalFault → Stop → Type 0
 TellsLoad load.Profile s = Refuses profile_line s
 TellsLoad load.ReadFault s = s ≡ stop.ReadFault
 TellsLoad load.Memory s = s ≡ stop.Memory
@@ -58,7 +58,7 @@ abbrev pub HasNoProfile : List ℕ → View → Type 0
 HasNoProfile schema v = (text : List ℕ) × HasFile v.files schema text × (text ≡ PROFILE_TEXT.now → ⊥)
 
 -- the journal's bytes, where the schema is the profile's
-abbrev pub LoadsJournal : List ℕ → List ℕ → Result (List ℕ) LoadFault → View → View → Type 0
+abbrev pub LoadsJournal : List ℕ → List ℕ → Result (List ℕ) JournalFault → View → View → Type 0
 LoadsJournal schema journal (Ok read) v w = ReadsJournal schema journal read v × OnlyReads v w
 LoadsJournal schema journal (Err load.Profile) v w = HasNoProfile schema v × OnlyReads v w
 LoadsJournal schema journal (Err load.ReadFault) v w = OnlyReads v w

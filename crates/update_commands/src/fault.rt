@@ -11,7 +11,7 @@ use update_replay::ReplayFault;
 
 /// Why a journal is not loaded.
 #[derive(Clone, Copy, Debug, PartialEq, Eq, Error)]
-pub enum LoadFault {
+pub enum JournalFault {
     /// The schema's text is another than the profile's.
     #[error("the profile is not yet built")]
     Profile,
@@ -21,31 +21,31 @@ pub enum LoadFault {
     Memory,
 }
 
-impl From<TextFault> for LoadFault {
+impl From<TextFault> for JournalFault {
     ghost use Rattle.std.specs.Prelude.{◌≡◌};
     ghost use Rattle.update_commands.specs.Replaying.{of_text};
 
     ghost from_gives = { λ e fault. fault ≡ of_text e };
 
-    fn from(fault: TextFault) -> LoadFault {
+    fn from(fault: TextFault) -> JournalFault {
         match fault {
-            TextFault::ReadFault => LoadFault::ReadFault,
-            TextFault::Memory => LoadFault::Memory,
+            TextFault::ReadFault => JournalFault::ReadFault,
+            TextFault::Memory => JournalFault::Memory,
         }
     }
 }
 
 /// The stop of a job whose journal is not loaded.
-pub fn load_stop(alloc: Global, fault: LoadFault) -> Stop
+pub fn load_stop(alloc: Global, fault: JournalFault) -> Stop
     ensures tells { TellsLoad fault result }
 {
     match fault {
-        LoadFault::Profile => {
+        JournalFault::Profile => {
             let line = unplaced_line(alloc, "profile", "NotYetBuilt");
             Stop::from(Unmade::of_line(line))
         }
-        LoadFault::ReadFault => Stop::ReadFault,
-        LoadFault::Memory => Stop::Memory,
+        JournalFault::ReadFault => Stop::ReadFault,
+        JournalFault::Memory => Stop::Memory,
     }
 }
 

@@ -12,7 +12,7 @@ ghost use Rattle.update_commands.specs.Replay.{replay_job};
 ghost use Rattle.update_commands.specs.Replaying.{JournalFits, LoadsJournal, WritesReplay};
 ghost use Rattle.update_replay.specs.declared.profile.TheConstants.{PROFILE_TEXT};
 
-use crate::fault::{LoadFault, load_stop, replay_stop};
+use crate::fault::{JournalFault, load_stop, replay_stop};
 use command_base::{Status, Stop};
 use std::alloc::Global;
 use tl_base::{Bytes, Host, MemSource, Out, SinkOf, Slot, read_file};
@@ -27,14 +27,14 @@ fn load_journal<H: Host>(
     host: &mut H,
     schema: &str,
     journal: &str,
-) -> Result<Bytes, LoadFault>
+) -> Result<Bytes, JournalFault>
     ensures loads { Told (H.state host.old).view (H.state host.new).view (LoadsJournal schema.now journal.now result) }
     ensures unread { Told (H.state host.old).view (H.state host.new).view (λ v w. LeavesInput (HasFile v.files schema.now PROFILE_TEXT.now) v w) }
-    ensures faults { MeetsFaults kinds.Reads (H.state host.old) (H.state host.new) (IsErrOf result LoadFault.ReadFault) (Answered (replay_job schema.now journal.now)) }
+    ensures faults { MeetsFaults kinds.Reads (H.state host.old) (H.state host.new) (IsErrOf result JournalFault.ReadFault) (Answered (replay_job schema.now journal.now)) }
 {
     let text = read_file(alloc, host, Slot::Schema, schema, PROFILE_TEXT.len() as u32)?;
     if text.as_slice() != PROFILE_TEXT.as_bytes() {
-        return Err(LoadFault::Profile);
+        return Err(JournalFault::Profile);
     }
     let bytes = read_file(alloc, host, Slot::Input, journal, JOURNAL_BYTES)?;
     Ok(Bytes::from_vec(bytes))

@@ -6,16 +6,16 @@ use Rattle.tl_types.specs.declared.misfit.FitFault.{FitFault}
 use Rattle.tl_types.specs.declared.misfit.FitFault.TheVariants as fit
 use Rattle.tl_show.specs.declared.fault.FormFault.{FormFault}
 use Rattle.tl_show.specs.declared.fault.FormFault.TheVariants as form
-use Rattle.tl_show.specs.declared.fault.ReadFault.{ReadFault}
-use Rattle.tl_show.specs.declared.fault.ReadFault.TheVariants as fault
+use Rattle.tl_show.specs.declared.fault.JsonFault.{JsonFault}
+use Rattle.tl_show.specs.declared.fault.JsonFault.TheVariants as fault
 use Rattle.tl_show.specs.declared.fault.TextReadFault.{TextReadFault}
 use Rattle.tl_show.specs.declared.fault.TextReadFault.TheVariants.{NoJson, Unread}
 
-abbrev pub of_form : FormFault → ReadFault
+abbrev pub of_form : FormFault → JsonFault
 of_form (form.Form path cause) = fault.Form path cause
 of_form form.Memory = fault.Memory
 
-abbrev pub of_fit : FitFault → ReadFault
+abbrev pub of_fit : FitFault → JsonFault
 of_fit (fit.Misfit m) = fault.Misfit m
 of_fit fit.Memory = fault.Memory
 

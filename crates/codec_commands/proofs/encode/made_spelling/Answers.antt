@@ -1,6 +1,111 @@
+use Rattle.std.proofs.Common.{◌≡◌, Ok, Err, rules}
+use Rattle.tl_schema.specs.Seen.{shape}
+use Rattle.tl_types.specs.Seen.{view}
+use Rattle.tl_types.specs.declared.value.Value.{Value}
+use Rattle.command_base.proofs.Faults.{safe, never_failed, read_on, stays_sound}
+use Rattle.command_base.proofs.Loaded.{failed_before, refusal_unread}
+use Rattle.schema_files.specs.Parts.{TellsType, TellsPlan, IsJsonValue, TellsJson, LoadsJson}
+use Rattle.schema_files.proofs.Planned.{planned}
 use Rattle.codec_commands.specs.Encode.{OfJson}
-use Rattle.codec_commands.proofs.TypedLines.{told_line}
+use Rattle.codec_commands.specs.Typed.{ReachesInput}
+use Rattle.codec_commands.proofs.TypedLines.{LoadsFirst, leaves_input, no_schema_line, no_type_line, no_plan_line, no_value_line, no_memory_line, value_line, input_reached, no_value_sound}
+use Rattle.codec_commands.proofs.EncodedValues.{fits_planned, refused_there, spelled_planned, spelled_there}
 use Rattle.codec_commands.proofs.encode.made_spelling.Goals as goal
 
-pub returns-in-Err-clause-makes : goal.returns-in-Err-clause-makes
-returns-in-Err-clause-makes g c = told_line OfJson c.args.schema.now c.args.of.now c.args.input.now c.in-Err.fault c.unmade.result _ _ c.unmade.ensures.tells c.in-Err.ensures.spelling
+pub returns-in_err-schema-clause-makes : goal.returns-in_err-schema-clause-makes
+returns-in_err-schema-clause-makes g c = no_schema_line OfJson c.args.schema.now c.args.of.now c.args.input.now c.in_err-schema.field-0.0 c.from_residual.result _ _ c.in_err-schema.ensures.loads c.from_residual.ensures.1
+
+pub returns-in_err-of-clause-makes : goal.returns-in_err-of-clause-makes
+returns-in_err-of-clause-makes g c =
+    no_type_line OfJson c.args.schema.now c.args.of.now c.args.input.now c.in_ok-schema.schema c.in_err-of.field-0.0 c.from_residual-in_err-of.result _ _ c.in_ok-schema.ensures.loads c.in_err-of.ensures.names c.from_residual-in_err-of.ensures.1
+
+pub returns-in_err-plan-clause-makes : goal.returns-in_err-plan-clause-makes
+returns-in_err-plan-clause-makes g c =
+    no_plan_line OfJson c.args.schema.now c.args.of.now c.args.input.now c.in_ok-schema.schema (shape c.in_ok-of.of) c.in_err-plan.field-0.0 c.from_residual-in_err-plan.result _ _
+    c.in_ok-schema.ensures.loads c.in_ok-of.ensures.names c.in_err-plan.ensures.plans c.from_residual-in_err-plan.ensures.1
+
+pub returns-in_err-value-clause-makes : goal.returns-in_err-value-clause-makes
+returns-in_err-value-clause-makes g c =
+    no_value_line OfJson c.args.schema.now c.args.of.now c.args.input.now c.in_ok-schema.schema (shape c.in_ok-of.of) c.in_ok-of.ensures.names (c.in_ok-plan.plan, c.in_ok-plan.ensures.plans) (IsJsonValue c.in_ok-schema.schema (shape c.in_ok-of.of)) (TellsJson c.in_ok-schema.schema (shape c.in_ok-of.of))
+    (refused_there c.in_ok-schema.schema (shape c.in_ok-of.of)) c.in_err-value.field-0.0 c.from_residual-in_err-value.result _ _ _ c.in_ok-schema.ensures.loads c.in_err-value.ensures.loads c.from_residual-in_err-value.ensures.1
+
+pub returns-in_err-bytes-clause-makes : goal.returns-in_err-bytes-clause-makes
+returns-in_err-bytes-clause-makes g c =
+    no_memory_line OfJson c.args.schema.now c.args.of.now c.args.input.now c.in_ok-schema.schema (shape c.in_ok-of.of) c.in_ok-of.ensures.names (c.in_ok-plan.plan, c.in_ok-plan.ensures.plans) (IsJsonValue c.in_ok-schema.schema (shape c.in_ok-of.of)) (TellsJson c.in_ok-schema.schema (shape c.in_ok-of.of))
+    c.in_ok-value.value c.from_residual-in_err-bytes.result _ _ _ c.in_ok-schema.ensures.loads c.in_ok-value.ensures.loads c.from_residual-in_err-bytes.ensures.1
+
+pub returns-clause-makes : goal.returns-clause-makes
+returns-clause-makes g c =
+    value_line OfJson c.args.schema.now c.args.of.now c.args.input.now c.in_ok-schema.schema (shape c.in_ok-of.of) c.in_ok-of.ensures.names (c.in_ok-plan.plan, c.in_ok-plan.ensures.plans) (IsJsonValue c.in_ok-schema.schema (shape c.in_ok-of.of)) (TellsJson c.in_ok-schema.schema (shape c.in_ok-of.of))
+    c.in_ok-value.value _ (spelled_there c.in_ok-schema.schema (shape c.in_ok-of.of) c.in_ok-value.value _ c.in_ok-of.ensures.formed
+    (spelled_planned {P = λ b. c.in_ok-bytes.bytes.items ≡ b} c.in_ok-schema.schema (shape c.in_ok-of.of) c.in_ok-plan.plan (view c.in_ok-value.value) c.in_ok-plan.ensures.plans c.in_ok-bytes.ensures)) _ _ _ c.in_ok-schema.ensures.loads c.in_ok-value.ensures.loads
+
+pub returns-in_err-of-clause-faults : goal.returns-in_err-of-clause-faults
+returns-in_err-of-clause-faults g c =
+    read_on c.in_ok-schema.ensures.faults (refusal_unread (TellsType c.in_ok-schema.schema c.args.of.now) c.in_err-of.field-0.0 c.from_residual-in_err-of.result c.in_err-of.ensures.names c.from_residual-in_err-of.ensures.1)
+
+pub returns-in_err-plan-clause-faults : goal.returns-in_err-plan-clause-faults
+returns-in_err-plan-clause-faults g c =
+    read_on c.in_ok-schema.ensures.faults (refusal_unread (TellsPlan c.in_ok-schema.schema (shape c.in_ok-of.of)) c.in_err-plan.field-0.0 c.from_residual-in_err-plan.result c.in_err-plan.ensures.plans c.from_residual-in_err-plan.ensures.1)
+
+pub returns-in_err-value-clause-faults : goal.returns-in_err-value-clause-faults
+returns-in_err-value-clause-faults g c =
+    let p =
+    no_value_sound OfJson c.args.schema.now c.args.of.now c.args.input.now c.in_ok-schema.schema (shape c.in_ok-of.of) c.in_ok-of.ensures.names (c.in_ok-plan.plan, c.in_ok-plan.ensures.plans)
+    _ c.from_residual-in_err-value.result _ _ _ _ _ (failed_before {X = Value} c.in_err-value.field-0.0 c.from_residual-in_err-value.result c.from_residual-in_err-value.ensures.1)
+    c.in_ok-schema.ensures.loads c.in_ok-schema.ensures.faults.stays (safe c.in_err-value.ensures.faults) in
+    record {
+      later = search rules;
+      cause = search rules;
+      others = search rules;
+      stays = p.stays;
+      never = p.never;
+    }
+
+pub returns-in_err-bytes-clause-faults : goal.returns-in_err-bytes-clause-faults
+returns-in_err-bytes-clause-faults g c = record {
+  later = search rules;
+  cause = search rules;
+  others = search rules;
+  stays = stays_sound _ _ _ _ _ (LoadsFirst c.args.schema.now (Ok c.in_ok-schema.schema)) c.in_ok-schema.ensures.loads c.in_ok-schema.ensures.faults.stays c.in_ok-value.ensures.faults.stays;
+  never = never_failed (g.H.Host.state c.args.host.now).view _ _ _ (λ failed. search rules);
+}
+
+pub returns-clause-faults : goal.returns-clause-faults
+returns-clause-faults g c = record {
+  later = search rules;
+  cause = search rules;
+  others = search rules;
+  stays = stays_sound _ _ _ _ _ (LoadsFirst c.args.schema.now (Ok c.in_ok-schema.schema)) c.in_ok-schema.ensures.loads c.in_ok-schema.ensures.faults.stays c.in_ok-value.ensures.faults.stays;
+  never = never_failed (g.H.Host.state c.args.host.now).view _ _ _ (λ failed. search rules);
+}
+
+pub returns-in_err-schema-clause-unread : goal.returns-in_err-schema-clause-unread
+returns-in_err-schema-clause-unread g c = leaves_input c.args.schema.now (λ v. ReachesInput v.files c.args.schema.now c.args.of.now) (Err c.in_err-schema.field-0.0) _ _ c.in_err-schema.ensures.loads
+
+pub returns-in_err-of-clause-unread : goal.returns-in_err-of-clause-unread
+returns-in_err-of-clause-unread g c = leaves_input c.args.schema.now (λ v. ReachesInput v.files c.args.schema.now c.args.of.now) (Ok c.in_ok-schema.schema) _ _ c.in_ok-schema.ensures.loads
+
+pub returns-in_err-plan-clause-unread : goal.returns-in_err-plan-clause-unread
+returns-in_err-plan-clause-unread g c = leaves_input c.args.schema.now (λ v. ReachesInput v.files c.args.schema.now c.args.of.now) (Ok c.in_ok-schema.schema) _ _ c.in_ok-schema.ensures.loads
+
+pub returns-in_err-value-clause-unread : goal.returns-in_err-value-clause-unread
+returns-in_err-value-clause-unread g c =
+    input_reached OfJson c.args.schema.now c.args.of.now c.args.input.now c.in_ok-schema.schema (shape c.in_ok-of.of) c.in_ok-of.ensures.names (c.in_ok-plan.plan, c.in_ok-plan.ensures.plans)
+    (LoadsJson c.in_ok-schema.schema (shape c.in_ok-of.of) c.args.input.now (Err c.in_err-value.field-0.0)) _ _ _ c.in_ok-schema.ensures.loads c.in_err-value.ensures.loads
+
+pub returns-in_err-bytes-clause-unread : goal.returns-in_err-bytes-clause-unread
+returns-in_err-bytes-clause-unread g c =
+    input_reached OfJson c.args.schema.now c.args.of.now c.args.input.now c.in_ok-schema.schema (shape c.in_ok-of.of) c.in_ok-of.ensures.names (c.in_ok-plan.plan, c.in_ok-plan.ensures.plans)
+    (LoadsJson c.in_ok-schema.schema (shape c.in_ok-of.of) c.args.input.now (Ok c.in_ok-value.value)) _ _ _ c.in_ok-schema.ensures.loads c.in_ok-value.ensures.loads
+
+pub returns-clause-unread : goal.returns-clause-unread
+returns-clause-unread g c =
+    input_reached OfJson c.args.schema.now c.args.of.now c.args.input.now c.in_ok-schema.schema (shape c.in_ok-of.of) c.in_ok-of.ensures.names (c.in_ok-plan.plan, c.in_ok-plan.ensures.plans)
+    (LoadsJson c.in_ok-schema.schema (shape c.in_ok-of.of) c.args.input.now (Ok c.in_ok-value.value)) _ _ _ c.in_ok-schema.ensures.loads c.in_ok-value.ensures.loads
+
+pub fitting_spelling-requires-clause-root : goal.fitting_spelling-requires-clause-root
+fitting_spelling-requires-clause-root g c = (planned c.in_ok-schema.schema (shape c.in_ok-of.of) c.in_ok-plan.plan c.in_ok-plan.ensures.plans).1
+
+pub fitting_spelling-requires-clause-fits : goal.fitting_spelling-requires-clause-fits
+fitting_spelling-requires-clause-fits g c = fits_planned c.in_ok-schema.schema (shape c.in_ok-of.of) c.in_ok-plan.plan (view c.in_ok-value.value) c.in_ok-plan.ensures.plans c.in_ok-value.ensures.fits

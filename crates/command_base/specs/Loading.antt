@@ -1,0 +1,53 @@
+-- What is made of a text and of a file: something, or a refusal with its line. This project's own.
+use Rattle.std.specs.Prelude.{◌≡◌, ℕ, List, Result, Ok, Err, Vec}
+use Rattle.std.specs.declared.alloc.Global.{Global}
+use Rattle.std.specs.declared.alloc.AllocError.{AllocError}
+use Rattle.tl_base.specs.Outside.{View, HasFile}
+use Rattle.tl_base.specs.Hosted.{OnlySlot}
+use Rattle.tl_base.specs.declared.host.Slot.{Slot}
+use Rattle.tl_base.specs.declared.source.TextFault.{TextFault}
+use Rattle.tl_base.specs.declared.source.TextFault.TheVariants as text
+use Rattle.command_base.specs.declared.stop.Stop.{Stop}
+use Rattle.command_base.specs.declared.stop.Stop.TheVariants as stop
+use Rattle.command_base.specs.declared.stop.Unmade.{Unmade}
+use Rattle.command_base.specs.declared.stop.Unmade.TheVariants as unmade
+
+-- a refusal with a line of which this holds; or there was no memory
+abbrev pub Refuses : (List ℕ → Type 0) → Unmade → Type 0
+Refuses Says (unmade.Refused line) = Says line.items
+Refuses Says unmade.ReadFault = ⊥
+Refuses Says unmade.Memory = Unit {0}
+
+-- a refusal with this line; or there was no memory for it
+abbrev pub RefusesAs : List ℕ → Unmade → Type 0
+RefusesAs line fault = Refuses (λ told. told ≡ line) fault
+
+-- the other end's fault with this line, or out of memory where there is no line
+abbrev pub PeerBy : Result (Vec ℕ Global) AllocError → Stop → Type 0
+PeerBy (Ok line) s = s ≡ stop.Peer line
+PeerBy (Err e) s = s ≡ stop.Memory
+
+-- likewise, where the other end is at fault
+abbrev pub PeerAs : List ℕ → Stop → Type 0
+PeerAs line (stop.Peer told) = told.items ≡ line
+PeerAs line (stop.Refused told) = ⊥
+PeerAs line stop.ReadFault = ⊥
+PeerAs line stop.WriteFault = ⊥
+PeerAs line stop.LinkFault = ⊥
+PeerAs line stop.Memory = Unit {0}
+
+-- what is made of a text: what is the text's, or a refusal whose line tells of the text
+abbrev pub Gives : {X : Type 0} → (List ℕ → X → Type 0) → (List ℕ → List ℕ → Type 0) → List ℕ → Result X Unmade → Type 0
+Gives Is Tells text (Ok x) = Is text x
+Gives Is Tells text (Err fault) = Refuses (Tells text) fault
+
+-- What is made of a file, which is read by a slot; nothing but the slot changes. Of a failed read and of memory nothing is said here.
+abbrev pub Loads : {X : Type 0} → Slot → List ℕ → (List ℕ → X → Type 0) → (List ℕ → List ℕ → Type 0) → Result X Unmade → View → View → Type 0
+Loads slot name Is Tells (Ok x) v w = ((text : List ℕ) × HasFile v.files name text × Is text x) × OnlySlot slot v w
+Loads slot name Is Tells (Err (unmade.Refused line)) v w = ((text : List ℕ) × HasFile v.files name text × Tells text line.items) × OnlySlot slot v w
+Loads slot name Is Tells (Err unmade.ReadFault) v w = OnlySlot slot v w
+Loads slot name Is Tells (Err unmade.Memory) v w = OnlySlot slot v w
+
+abbrev pub of_text : TextFault → Unmade
+of_text text.ReadFault = unmade.ReadFault
+of_text text.Memory = unmade.Memory

@@ -1,0 +1,10 @@
+pub mod FormedWords
+pub mod OneFault
+pub mod OneText
+pub mod OneSchemaText
+pub mod OneTypeName
+pub mod TypePlans
+pub mod Planned
+pub mod TypeWords
+pub mod Schemas
+pub mod JsonInputs

@@ -1,0 +1,6 @@
+pub mod Causes
+pub mod Loaded
+pub mod JsonInput
+pub mod Lines
+pub mod Parts
+pub mod inner

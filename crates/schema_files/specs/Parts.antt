@@ -1,0 +1,72 @@
+-- What is made of schemas, types and inputs: the thing, or a refusal with its line. This project's own.
+use Rattle.std.specs.Prelude.{◌≡◌, ℕ, List, [], ◌∷◌, Result, Ok, Err}
+use Rattle.tl_base.specs.Outside.{View}
+use Rattle.tl_base.specs.declared.host.Slot.{Slot}
+use Rattle.tl_base.specs.declared.host.Slot.TheVariants.{Input}
+use Rattle.tl_schema.specs.Types.{Shape}
+use Rattle.tl_schema.specs.Schemas.{Declared}
+use Rattle.tl_schema.specs.AskedTypes.{IsTypeText}
+use Rattle.tl_schema.specs.Seen.{shape}
+use Rattle.tl_schema.specs.declared.schema.TypeRef.{TypeRef}
+use Rattle.tl_plan.specs.Plans.{PlanView, answer}
+use Rattle.tl_types.specs.Seen.{view}
+use Rattle.tl_types.specs.declared.value.Value.{Value}
+use Rattle.command_base.specs.declared.stop.Unmade.{Unmade}
+use Rattle.command_base.specs.Loading.{Refuses, Gives, Loads}
+use Rattle.schema_files.specs.Causes.{SchemaCause, TypeNameCause, PlanCause, JsonCause}
+use Rattle.schema_files.specs.Loaded.{IsSchemaText, SchemaRefused, TypeNameRefused, PlanRefused}
+use Rattle.schema_files.specs.JsonInput.{IsJsonOf, JsonRefused}
+use Rattle.schema_files.specs.Lines.{schema_line, type_line, plan_line, json_line}
+
+-- ---- schemas
+
+-- the line says why the text is no schema's, by what its input is called
+abbrev pub TellsSchema : List ℕ → List ℕ → List ℕ → Type 0
+TellsSchema what text line = (cause : SchemaCause) × SchemaRefused text cause × (line ≡ schema_line what cause)
+
+-- the schema of a text
+abbrev pub ReadsSchema : List ℕ → List ℕ → Result Declared Unmade → Type 0
+ReadsSchema what text result = Gives IsSchemaText (TellsSchema what) text result
+
+-- the schema of a file, which is read by a slot
+abbrev pub LoadsSchema : Slot → List ℕ → List ℕ → Result Declared Unmade → View → View → Type 0
+LoadsSchema slot what name result v w = Loads slot name IsSchemaText (TellsSchema what) result v w
+
+-- ---- types
+
+-- the line says why the word is no type
+abbrev pub TellsType : Declared → List ℕ → List ℕ → Type 0
+TellsType schema text line = (cause : TypeNameCause) × TypeNameRefused schema text cause × (line ≡ type_line cause)
+
+-- the type that a word means
+abbrev pub MeansType : Declared → List ℕ → Result TypeRef Unmade → Type 0
+MeansType schema text (Ok type) = IsTypeText schema.program text (shape type)
+MeansType schema text (Err fault) = Refuses (TellsType schema text) fault
+
+-- ---- plans
+
+-- the line says why the type has no plan
+abbrev pub TellsPlan : Declared → Shape → List ℕ → Type 0
+TellsPlan schema T line = (cause : PlanCause) × PlanRefused schema T cause × (line ≡ plan_line cause)
+
+-- the plan of a type
+abbrev pub PlansType : Declared → Shape → Result PlanView Unmade → Type 0
+PlansType schema T (Ok p) = answer schema (T ∷ []) ≡ Ok p
+PlansType schema T (Err fault) = Refuses (TellsPlan schema T) fault
+
+-- ---- inputs of JSON
+
+abbrev pub IsJsonValue : Declared → Shape → List ℕ → Value → Type 0
+IsJsonValue schema T bytes value = IsJsonOf schema T bytes (view value)
+
+-- the line says why the bytes are the JSON of no value of the type
+abbrev pub TellsJson : Declared → Shape → List ℕ → List ℕ → Type 0
+TellsJson schema T bytes line = (cause : JsonCause) × JsonRefused schema T bytes cause × (line ≡ json_line cause)
+
+-- the value that a text is the JSON of
+abbrev pub ReadsJson : Declared → Shape → List ℕ → Result Value Unmade → Type 0
+ReadsJson schema T bytes result = Gives (IsJsonValue schema T) (TellsJson schema T) bytes result
+
+-- the value that a file is the JSON of
+abbrev pub LoadsJson : Declared → Shape → List ℕ → Result Value Unmade → View → View → Type 0
+LoadsJson schema T name result v w = Loads Input name (IsJsonValue schema T) (TellsJson schema T) result v w

@@ -1,0 +1,57 @@
+-- The line that each fault of a part is told by; out of memory has none. This project's own.
+use Rattle.std.specs.Prelude.{◌≡◌, ℕ, List, codes}
+use Rattle.tl_lexer.specs.declared.fault.LexFault.{LexFault}
+use Rattle.tl_lexer.specs.declared.fault.LexFault.TheVariants as lex
+use Rattle.tl_combinators.specs.declared.fault.SyntaxFault.{SyntaxFault}
+use Rattle.tl_combinators.specs.declared.fault.SyntaxFault.TheVariants as syntax
+use Rattle.tl_schema.specs.declared.fault.CheckFault.{CheckFault}
+use Rattle.tl_schema.specs.declared.fault.CheckFault.TheVariants as check
+use Rattle.tl_schema.specs.declared.fault.TypeFault.{TypeFault}
+use Rattle.tl_schema.specs.declared.fault.TypeFault.TheVariants as type
+use Rattle.tl_plan.specs.declared.fault.PlanFault.{PlanFault}
+use Rattle.tl_plan.specs.declared.fault.PlanFault.TheVariants as planning
+use Rattle.tl_show.specs.declared.fault.JsonFault.{JsonFault}
+use Rattle.tl_show.specs.declared.fault.JsonFault.TheVariants as json
+use Rattle.tl_show.specs.declared.fault.TextReadFault.{TextReadFault}
+use Rattle.tl_show.specs.declared.fault.TextReadFault.TheVariants as reading
+use Rattle.command_base.specs.declared.stop.Unmade.{Unmade}
+use Rattle.command_base.specs.declared.stop.Unmade.TheVariants as unmade
+use Rattle.command_base.specs.Loading.{RefusesAs}
+use Rattle.schema_files.specs.Causes.{TextCause, TextTooLong, BadByte, OpenComment, Unexpected, NotProfile, TooMany, Checked, Asked, TypeTooDeep, TooManyInstances, NoJson, Unformed, Misfit}
+use Rattle.schema_files.specs.Lines.{text_line, schema_line, type_line, plan_line, json_line}
+
+abbrev pub TellsLex : List ℕ → LexFault → Unmade → Type 0
+TellsLex what lex.TextTooLong u = RefusesAs (text_line what TextTooLong) u
+TellsLex what (lex.BadByte at) u = RefusesAs (text_line what (BadByte at)) u
+TellsLex what (lex.OpenComment at) u = RefusesAs (text_line what (OpenComment at)) u
+TellsLex what lex.Memory u = u ≡ unmade.Memory
+
+abbrev pub TellsSyntax : List ℕ → SyntaxFault → Unmade → Type 0
+TellsSyntax what (syntax.Unexpected at) u = RefusesAs (text_line what (Unexpected at)) u
+TellsSyntax what (syntax.NotProfile at form) u = RefusesAs (text_line what (NotProfile at form)) u
+TellsSyntax what (syntax.TooMany at) u = RefusesAs (text_line what (TooMany at)) u
+TellsSyntax what syntax.Memory u = u ≡ unmade.Memory
+
+abbrev pub TellsCheck : List ℕ → CheckFault → Unmade → Type 0
+TellsCheck what (check.Refused decl cause) u = RefusesAs (schema_line what (Checked decl cause)) u
+TellsCheck what check.Memory u = u ≡ unmade.Memory
+
+abbrev pub TellsNoType : TypeFault → Unmade → Type 0
+TellsNoType (type.Lex fault) u = TellsLex (codes "type") fault u
+TellsNoType (type.Syntax fault) u = TellsSyntax (codes "type") fault u
+TellsNoType (type.Refused cause) u = RefusesAs (type_line (Asked cause)) u
+TellsNoType type.Memory u = u ≡ unmade.Memory
+
+abbrev pub TellsNoPlan : PlanFault → Unmade → Type 0
+TellsNoPlan (planning.TypeTooDeep decl) u = RefusesAs (plan_line (TypeTooDeep decl)) u
+TellsNoPlan planning.TooManyInstances u = RefusesAs (plan_line TooManyInstances) u
+TellsNoPlan planning.Memory u = u ≡ unmade.Memory
+
+abbrev pub TellsNoValue : JsonFault → Unmade → Type 0
+TellsNoValue (json.Form path cause) u = RefusesAs (json_line (Unformed path.items cause)) u
+TellsNoValue (json.Misfit told) u = RefusesAs (json_line (Misfit told.path.items told.cause)) u
+TellsNoValue json.Memory u = u ≡ unmade.Memory
+
+abbrev pub TellsNoJson : TextReadFault → Unmade → Type 0
+TellsNoJson reading.NoJson u = RefusesAs (json_line NoJson) u
+TellsNoJson (reading.Unread fault) u = TellsNoValue fault u

@@ -1,0 +1,96 @@
+//! Values from inputs of JSON.
+ghost use Rattle.std.specs.Prelude.{◌≡◌, None, IfOk, IsErrOf};
+ghost use Rattle.tl_base.specs.Calls.{Told};
+ghost use Rattle.tl_base.specs.Outside.{IsThere};
+ghost use Rattle.tl_base.specs.Using.{MeetsFaults};
+ghost use Rattle.tl_base.specs.declared.counts.Kind.TheVariants as kinds;
+ghost use Rattle.tl_schema.specs.Seen.{shape};
+ghost use Rattle.tl_types.specs.Fitting.{misfit};
+ghost use Rattle.tl_types.specs.Seen.{view};
+ghost use Rattle.tl_types.specs.declared.value.TheConstants.{MAX_LEVELS};
+ghost use Rattle.command_base.specs.Loading.{RefusesAs};
+ghost use Rattle.schema_files.specs.Causes.{Misfit, Unformed};
+ghost use Rattle.schema_files.specs.Lines.{json_line};
+ghost use Rattle.schema_files.specs.Parts.{LoadsJson, ReadsJson};
+ghost use Rattle.schema_files.specs.inner.Tellings.{TellsNoJson, TellsNoValue};
+
+use crate::lines::{form_text, misfit_text};
+use command_base::Unmade;
+use std::alloc::Global;
+use tl_base::{Host, Slot, read_file};
+use tl_schema::{Schema, TypeRef};
+use tl_show::{FormCause, JsonFault, TextReadFault, read_text};
+use tl_types::{MisfitCause, Value};
+
+/// The most bytes that an input of JSON may have.
+pub const JSON_BYTES: u32 = 16_777_216;
+
+// What is told of JSON that isn't of the form of a type's values.
+fn form_unmade(alloc: Global, path: &[u32], cause: FormCause) -> Unmade
+    ensures { RefusesAs (json_line (Unformed path.now cause)) result }
+{
+    match form_text(alloc, path, cause) {
+        Ok(why) => Unmade::unplaced(alloc, "input", why.as_str()),
+        Err(_) => Unmade::Memory,
+    }
+}
+
+// What is told of JSON of a value that doesn't fit.
+fn misfit_unmade(alloc: Global, path: &[u32], cause: MisfitCause) -> Unmade
+    ensures { RefusesAs (json_line (Misfit path.now cause)) result }
+{
+    match misfit_text(alloc, path, cause) {
+        Ok(why) => Unmade::unplaced(alloc, "input", why.as_str()),
+        Err(_) => Unmade::Memory,
+    }
+}
+
+// What is told of JSON that is no value.
+fn value_unmade(alloc: Global, fault: &JsonFault) -> Unmade
+    ensures { TellsNoValue fault.now result }
+{
+    match fault {
+        JsonFault::Form { path, cause } => form_unmade(alloc, path, *cause),
+        JsonFault::Misfit(misfit) => misfit_unmade(alloc, &misfit.path, misfit.cause),
+        JsonFault::Memory => Unmade::Memory,
+    }
+}
+
+// What is told of a text that is the JSON of no value.
+fn json_unmade(alloc: Global, fault: &TextReadFault) -> Unmade
+    ensures { TellsNoJson fault.now result }
+{
+    match fault {
+        TextReadFault::NoJson => Unmade::unplaced(alloc, "input", "Json"),
+        TextReadFault::Unread(fault) => value_unmade(alloc, fault),
+    }
+}
+
+// The value that a text is the JSON of.
+fn value_of(alloc: Global, schema: &Schema, of: &TypeRef, text: &[u8]) -> Result<Value, Unmade>
+    ensures { ReadsJson schema.now (shape of.now) text.now result }
+{
+    if text.len() > JSON_BYTES as usize {
+        return Err(Unmade::unplaced(alloc, "input", "TooLong"));
+    }
+    match read_text(alloc, schema, of, text) {
+        Ok(value) => Ok(value),
+        Err(fault) => Err(json_unmade(alloc, &fault)),
+    }
+}
+
+/// The value that the JSON of a file is, which is read by the slot Input.
+pub fn load_json<H: Host>(
+    alloc: Global,
+    host: &mut H,
+    schema: &Schema,
+    of: &TypeRef,
+    name: &str,
+) -> Result<Value, Unmade>
+    ensures loads { Told (H.state host.old).view (H.state host.new).view (LoadsJson schema.now (shape of.now) name.now result) }
+    ensures fits { IfOk result (λ value. misfit schema.now.decls MAX_LEVELS None (shape of.now) (view value) ≡ None) }
+    ensures faults { MeetsFaults kinds.Reads (H.state host.old) (H.state host.new) (IsErrOf result Unmade.ReadFault) (IsThere name.now) }
+{
+    let text = read_file(alloc, host, Slot::Input, name, JSON_BYTES)?;
+    value_of(alloc, schema, of, &text)
+}

@@ -1,0 +1,17 @@
+//! Schemas, their types and inputs of JSON from files and words, for each command: the thing, or a refusal with its line.
+#![tactic(auto)]
+
+mod json_input;
+mod lines;
+mod schema_text;
+mod shown;
+mod text;
+mod type_plan;
+mod type_word;
+
+pub use json_input::{JSON_BYTES, load_json};
+pub use lines::cause_text;
+pub use schema_text::load_schema;
+pub use shown::value_line;
+pub use type_plan::plan_of;
+pub use type_word::type_named;

@@ -1,0 +1,67 @@
+//! Schemas from their texts and files.
+ghost use Rattle.std.specs.Prelude.{IsErrOf};
+ghost use Rattle.tl_base.specs.Calls.{Told};
+ghost use Rattle.tl_base.specs.Kinds.{slot_kind};
+ghost use Rattle.tl_base.specs.Outside.{IsThere};
+ghost use Rattle.tl_base.specs.Using.{MeetsFaults};
+ghost use Rattle.schema_files.specs.Parts.{LoadsSchema, ReadsSchema};
+ghost use Rattle.schema_files.specs.inner.Tellings.{TellsCheck};
+
+use crate::lines::check_name;
+use crate::text::{lex_unmade, syntax_unmade};
+use command_base::Unmade;
+use std::alloc::Global;
+use tl_base::{Host, Slot, read_file};
+use tl_combinators::parse;
+use tl_lexer::{TEXT_LIMIT, lex};
+use tl_schema::{CheckFault, Schema, check};
+
+/// The most bytes that a schema's text may have.
+const SCHEMA_BYTES: u32 = 4_194_304;
+
+const _: () = prove!(SCHEMA_BYTES as usize == TEXT_LIMIT);
+
+// What is told of a program that is no schema.
+fn check_unmade(alloc: Global, what: &str, fault: CheckFault) -> Unmade
+    ensures { TellsCheck what.now fault result }
+{
+    match fault {
+        CheckFault::Refused { decl, cause } => {
+            Unmade::of_decl(alloc, what, decl, check_name(cause))
+        }
+        CheckFault::Memory => Unmade::Memory,
+    }
+}
+
+// The schema that a text spells.
+fn schema_of(alloc: Global, what: &str, text: &[u8]) -> Result<Schema, Unmade>
+    ensures { ReadsSchema what.now text.now result }
+{
+    let tokens = match lex(alloc, text) {
+        Ok(tokens) => tokens,
+        Err(fault) => return Err(lex_unmade(alloc, what, fault)),
+    };
+    let program = match parse(alloc, text, &tokens) {
+        Ok(program) => program,
+        Err(fault) => return Err(syntax_unmade(alloc, what, fault)),
+    };
+    match check(alloc, &program) {
+        Ok(schema) => Ok(schema),
+        Err(fault) => Err(check_unmade(alloc, what, fault)),
+    }
+}
+
+/// The schema that a file spells, which is read by a slot. `what` is what lines call the input: `schema`, where a command reads one alone.
+pub fn load_schema<H: Host>(
+    alloc: Global,
+    host: &mut H,
+    slot: Slot,
+    what: &str,
+    name: &str,
+) -> Result<Schema, Unmade>
+    ensures loads { Told (H.state host.old).view (H.state host.new).view (LoadsSchema slot what.now name.now result) }
+    ensures faults { MeetsFaults (slot_kind slot) (H.state host.old) (H.state host.new) (IsErrOf result Unmade.ReadFault) (IsThere name.now) }
+{
+    let text = read_file(alloc, host, slot, name, SCHEMA_BYTES)?;
+    schema_of(alloc, what, &text)
+}

@@ -1,0 +1,24 @@
+//! Lines of values.
+ghost use Rattle.std.specs.Prelude.{◌≡◌, IfOk};
+ghost use Rattle.tl_schema.specs.Seen.{shape};
+ghost use Rattle.tl_types.specs.Seen.{view};
+ghost use Rattle.schema_files.specs.Lines.{line_text};
+
+use std::alloc::{AllocError, Global};
+use tl_schema::{Schema, TypeRef};
+use tl_show::show_text;
+use tl_types::Value;
+
+/// The line of a value of a type: its JSON, and a line feed.
+pub fn value_line(
+    alloc: Global,
+    schema: &Schema,
+    of: &TypeRef,
+    value: &Value,
+) -> Result<Vec<u8>, AllocError>
+    ensures { IfOk result (λ line. line.items ≡ line_text schema.now.decls (shape of.now) (view value.now)) }
+{
+    let mut line = show_text(alloc, schema, of, value)?;
+    line.push(b'\n')?;
+    Ok(line)
+}

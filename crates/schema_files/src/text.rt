@@ -1,0 +1,46 @@
+//! What is told of a text that is refused, that of a schema or of a type.
+ghost use Rattle.command_base.specs.Loading.{RefusesAs};
+ghost use Rattle.schema_files.specs.Causes.{NotProfile};
+ghost use Rattle.schema_files.specs.Lines.{text_line};
+ghost use Rattle.schema_files.specs.inner.Tellings.{TellsLex, TellsSyntax};
+
+use crate::lines::form_name;
+use command_base::Unmade;
+use std::alloc::Global;
+use tl_combinators::{Form, SyntaxFault};
+use tl_lexer::LexFault;
+
+/// What is told of a text without tokens.
+pub fn lex_unmade(alloc: Global, what: &str, fault: LexFault) -> Unmade
+    ensures { TellsLex what.now fault result }
+{
+    match fault {
+        LexFault::TextTooLong => Unmade::unplaced(alloc, what, "TextTooLong"),
+        LexFault::BadByte { at } => Unmade::placed(alloc, what, at as u64, "BadByte"),
+        LexFault::OpenComment { at } => Unmade::placed(alloc, what, at as u64, "OpenComment"),
+        LexFault::Memory => Unmade::Memory,
+    }
+}
+
+/// What is told of tokens that are refused.
+pub fn syntax_unmade(alloc: Global, what: &str, fault: SyntaxFault) -> Unmade
+    ensures { TellsSyntax what.now fault result }
+{
+    match fault {
+        SyntaxFault::Unexpected { at } => Unmade::placed(alloc, what, at as u64, "Unexpected"),
+        SyntaxFault::NotProfile { at, form } => form_unmade(alloc, what, at, form),
+        SyntaxFault::TooMany { at } => Unmade::placed(alloc, what, at as u64, "TooMany"),
+        SyntaxFault::Memory => Unmade::Memory,
+    }
+}
+
+// What is told of a form that is left out.
+fn form_unmade(alloc: Global, what: &str, at: u32, form: Form) -> Unmade
+    ensures { RefusesAs (text_line what.now (NotProfile at form)) result }
+{
+    let name = form_name(form);
+    match format!(in alloc; "NotProfile {name}") {
+        Ok(why) => Unmade::placed(alloc, what, at as u64, why.as_str()),
+        Err(_) => Unmade::Memory,
+    }
+}

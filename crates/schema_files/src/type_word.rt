@@ -1,0 +1,35 @@
+//! Types from words.
+ghost use Rattle.std.specs.Prelude.{IfOk};
+ghost use Rattle.tl_schema.specs.Formed.{IsFormed};
+ghost use Rattle.tl_schema.specs.Seen.{shape};
+ghost use Rattle.schema_files.specs.Parts.{MeansType};
+ghost use Rattle.schema_files.specs.inner.Tellings.{TellsNoType};
+
+use crate::lines::type_cause_name;
+use crate::text::{lex_unmade, syntax_unmade};
+use command_base::Unmade;
+use std::alloc::Global;
+use tl_schema::{Schema, TypeFault, TypeRef, type_of};
+
+// What is told of a word that is no type.
+fn type_unmade(alloc: Global, fault: TypeFault) -> Unmade
+    ensures { TellsNoType fault result }
+{
+    match fault {
+        TypeFault::Lex(fault) => lex_unmade(alloc, "type", fault),
+        TypeFault::Syntax(fault) => syntax_unmade(alloc, "type", fault),
+        TypeFault::Refused { cause } => Unmade::unplaced(alloc, "type", type_cause_name(cause)),
+        TypeFault::Memory => Unmade::Memory,
+    }
+}
+
+/// The type that a word means.
+pub fn type_named(alloc: Global, schema: &Schema, text: &str) -> Result<TypeRef, Unmade>
+    ensures names { MeansType schema.now text.now result }
+    ensures formed { IfOk result (λ of. IsFormed schema.now (shape of)) }
+{
+    match type_of(alloc, schema, text.as_bytes()) {
+        Ok(of) => Ok(of),
+        Err(fault) => Err(type_unmade(alloc, fault)),
+    }
+}
