@@ -1,22 +1,21 @@
 -- An input's value from its file.
-use Rattle.std.proofs.Common.{◌≡◌, ℕ, List, Option, Some, None, Result, Ok, Err, refl, sym, ap, ◌∙◌, subst, codes}
+use Rattle.std.proofs.Common.{◌≡◌, ℕ, List, Option, Some, None, Result, Ok, Err, sym, ap, ◌∙◌, subst, codes}
 use Rattle.tl_base.specs.Outside.{View, HasFile, left_of, with_left}
 use Rattle.tl_base.specs.Hosted.{OnlySlot}
 use Rattle.tl_base.specs.Calls.{Told, Opens}
 use Rattle.tl_base.specs.declared.host.Slot.TheVariants.{Input}
 use Rattle.tl_schema.specs.Types.{Shape}
 use Rattle.tl_schema.specs.Schemas.{Declared}
-use Rattle.tl_plan.specs.Plans.{PlanView}
 use Rattle.tl_types.specs.declared.value.Value.{Value}
 use Rattle.command_base.specs.Answer.{refused}
-use Rattle.command_base.specs.Loading.{RefusesAs, Loads}
+use Rattle.command_base.specs.Loading.{RefusesAs}
 use Rattle.command_base.specs.declared.stop.Unmade.{Unmade}
 use Rattle.command_base.specs.declared.stop.Unmade.TheVariants as unmade
 use Rattle.command_base.proofs.Views.{told_as}
 use Rattle.schema_files.specs.Lines.{input_line, cause_text}
 use Rattle.codec_commands.specs.Decode.{OfInput, longer, faulty}
 use Rattle.codec_commands.specs.Decoding.{DecodesWhole}
-use Rattle.codec_commands.specs.Inputs.{TakesValue, FileIsValue, TellsFault, IsWhole, TellsInput, LoadsValue}
+use Rattle.codec_commands.specs.Inputs.{TakesValue, FileIsValue, TellsFault, TellsInput, LoadsValue}
 use Rattle.codec_commands.specs.declared.whole.InputFault.{InputFault}
 use Rattle.codec_commands.specs.declared.whole.InputFault.TheVariants as input
 

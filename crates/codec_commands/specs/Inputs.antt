@@ -1,5 +1,5 @@
 -- What is made of an input's bytes, for `decode`: a value, or a refusal with its line. This project's own.
-use Rattle.std.specs.Prelude.{◌≡◌, ℕ, ◌≤◌, List, Result, Ok, Err, codes}
+use Rattle.std.specs.Prelude.{◌≡◌, ℕ, ◌≤◌, List, Result, Err, codes}
 use Rattle.tl_base.specs.Outside.{View, HasFile, left_of}
 use Rattle.tl_base.specs.Hosted.{OnlySlot}
 use Rattle.tl_base.specs.declared.host.Slot.TheVariants.{Input}

@@ -2,7 +2,7 @@
 use Rattle.std.proofs.Common.{◌≡◌, ℕ, ◌<◌, ◌≤◌, List, [], ◌++◌, length, append-nil, Option, Result, Ok, Err, refl, sym, ap, ◌∙◌, subst, arith, inl, inr, Vec, Global}
 use Rattle.std.specs.Prelude.{IsErrAnd, IsErrOf}
 use Rattle.std.proofs.lemmas.Bool.{cases_lt}
-use Rattle.tl_base.specs.Outside.{View, HasFile, left_of}
+use Rattle.tl_base.specs.Outside.{View, left_of}
 use Rattle.tl_base.specs.Hosted.{OnlySlot, ReadsFile}
 use Rattle.tl_base.specs.Calls.{Told}
 use Rattle.tl_base.specs.declared.host.Slot.{Slot}
@@ -77,6 +77,9 @@ module _ {X : Type 0} (slot : Slot) (name : List ℕ) (limit : ℕ) (Is : List �
     pub loaded : (read : Vec ℕ Global) (r : Result X Unmade) (a b : Option View) → Told a b (ReadsFile slot name limit (Ok read)) → Gives Is Tells read.items r → Told a b (Loads slot name Is Tells r)
     loaded read r a b file h = told_as a b (ReadsFile slot name limit (Ok read)) (Loads slot name Is Tells r) (λ v w f. loaded_there read r v w f h) file
 
+-- ---- what loading leaves
+
+module _ {X : Type 0} (slot : Slot) (name : List ℕ) (Is : List ℕ → X → Type 0) (Tells : List ℕ → List ℕ → Type 0) where
   only_slot : (r : Result X Unmade) (v w : View) → Loads slot name Is Tells r v w → OnlySlot slot v w
   only_slot (Ok x) v w h = h.1
   only_slot (Err (unmade.Refused line)) v w h = h.1

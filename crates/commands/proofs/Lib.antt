@@ -8,3 +8,4 @@ pub mod WordsRead
 pub mod OneAnswer
 pub mod AnAnswer
 pub mod Endings
+mod Digits

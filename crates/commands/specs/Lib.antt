@@ -2,3 +2,4 @@ pub mod Requests
 pub mod CommandLine
 pub mod Answers
 pub mod Runs
+pub mod Numbers

@@ -2,10 +2,12 @@
 #![tactic(auto)]
 
 mod laws;
+mod number;
 mod program;
 mod request;
 mod table;
 
 pub use command_base::Status;
 pub use laws::{words_and_files_have_an_answer, words_and_files_have_one_answer};
+pub use number::{Range, number_in};
 pub use program::run;

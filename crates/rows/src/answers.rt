@@ -1,5 +1,5 @@
 //! What the calls answer for bytes, told as text.
-use crate::row::text_of;
+use base_rows::text_of;
 use box_events::{Frame, Numbered, Saved};
 use box_wire::{read_call, read_frame, read_saved, spell_call, spell_frame, spell_saved};
 use std::alloc::{AllocError, Global};

@@ -2,28 +2,23 @@
 #![tactic(auto)]
 
 mod answers;
-mod asked;
-mod base;
-mod codec;
-mod ends;
 mod messages;
 mod profiles;
 mod repeat;
-mod row;
 mod schemas;
 mod steps;
 mod words;
 
-use crate::base::{Base, base_difference};
-use crate::codec::{Codec, codec_difference};
-use crate::ends::{Ends, ends_difference};
 use crate::messages::message_difference;
 use crate::profiles::profile_difference;
 use crate::repeat::{repeat_difference, repeated};
 use crate::schemas::schema;
+use base_rows::{Base, base_difference};
+use codec_rows::{Codec, codec_difference};
+use end_rows::{Ends, ends_difference};
 use std::alloc::{AllocError, Global};
-use std::process::ExitCode;
 use std::{env, fs, io};
+use std::process::ExitCode;
 use tl_schema::Schema;
 use wire_profile::Profile;
 

@@ -1,8 +1,8 @@
 //! Rows `KIND WORDS => TOLD` of messages as bytes.
 use crate::answers::{Read, call_read, frame_read, saved_read};
-use crate::row::{otherwise, parted, unread};
 use crate::steps::{step_read, steps_told};
-use crate::words::{WordFault, bytes_of, digits};
+use crate::words::{WordFault, bytes_of};
+use base_rows::{digits, otherwise, parted, unread};
 use std::alloc::{AllocError, Global};
 use tl_base::Bytes;
 use wire_profile::Profile;

@@ -1,6 +1,6 @@
 //! Rows `LEFT OUT | PUT BEFORE => TOLD` of texts near the profile's.
-use crate::row::{otherwise, parted, unread};
-use crate::schemas::schema_of;
+use base_rows::{otherwise, parted, unread};
+use codec_rows::schema_of;
 use std::alloc::{AllocError, Global};
 use tl_schema::Schema;
 use wire_profile::{PROFILE_TEXT, Profile, ProfileFault};

@@ -6,7 +6,7 @@ mod pushes;
 
 use crate::repeat::pieces::{fed, plans};
 use crate::repeat::pushes::pushes;
-use crate::row::{otherwise, parted, unread};
+use base_rows::{otherwise, parted, unread};
 use box_events::{BoxFault, Event, EventBox, Post, Reply, Request};
 use box_server::{PostFault, Server};
 use gap_buffer::{Gap, Held};

@@ -1,6 +1,6 @@
 //! What reading steps from a source answers, told as text.
 use crate::answers::Read;
-use crate::row::text_of;
+use base_rows::text_of;
 use box_wire::{read_step, spell_step};
 use std::alloc::{AllocError, Global};
 use tl_base::{Bytes, MemSource};

@@ -120,12 +120,3 @@ fn put_name(schema: &Schema, name: &str, bytes: &mut Bytes) -> Result<(), WordFa
         _ => Err(WordFault::Unknown),
     }
 }
-
-/// The digits of bytes, two for each.
-pub fn digits(alloc: Global, bytes: &[u8]) -> Result<String, AllocError> {
-    let mut text = String::new(alloc);
-    for byte in bytes {
-        text.push_str(format!(in alloc; "{byte:02x}")?.as_str())?;
-    }
-    Ok(text)
-}

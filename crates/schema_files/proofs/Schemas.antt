@@ -1,5 +1,5 @@
 -- A schema from its text and its file.
-use Rattle.std.proofs.Common.{◌≡◌, ℕ, ◌<◌, List, [], ◌++◌, length, Result, Ok, Err, refl, sym, ap, ◌∙◌, arith, inl, inr}
+use Rattle.std.proofs.Common.{◌≡◌, ℕ, ◌<◌, List, ◌++◌, length, Ok, Err, refl, ap, arith, inl, inr}
 use Rattle.std.proofs.lemmas.List.{length-append}
 use Rattle.tl_base.specs.declared.host.Slot.{Slot}
 use Rattle.tl_lexer.specs.declared.token.Token.{Token}
@@ -11,13 +11,11 @@ use Rattle.tl_combinators.specs.declared.fault.SyntaxFault.{SyntaxFault}
 use Rattle.tl_combinators.specs.declared.fault.SyntaxFault.TheVariants as syntax
 use Rattle.tl_combinators.specs.Program.{DeclText}
 use Rattle.tl_combinators.specs.Sentences.{Reads, SyntaxRefused, FaultIs}
-use Rattle.tl_schema.specs.Schemas.{Declared}
 use Rattle.tl_schema.specs.CheckedPrograms.{Checks}
 use Rattle.tl_schema.specs.declared.fault.CheckFault.{CheckFault}
 use Rattle.tl_schema.specs.declared.fault.CheckFault.TheVariants as check
 use Rattle.command_base.specs.declared.stop.Unmade.{Unmade}
-use Rattle.command_base.specs.declared.stop.Unmade.TheVariants as unmade
-use Rattle.command_base.specs.Loading.{Refuses, RefusesAs, Gives}
+use Rattle.command_base.specs.Loading.{Refuses, RefusesAs}
 use Rattle.command_base.proofs.Loaded.{refuses_as, memory_refuses, StaysLong}
 use Rattle.schema_files.specs.Causes.{TextCause, TextTooLong, BadByte, OpenComment, Unexpected, NotProfile, TooMany, SchemaCause, Text, Checked}
 use Rattle.schema_files.specs.Lines.{schema_line}

@@ -1,5 +1,5 @@
 -- The type that a word means.
-use Rattle.std.proofs.Common.{◌≡◌, ℕ, List, Result, Ok, Err, subst}
+use Rattle.std.proofs.Common.{◌≡◌, ℕ, List, Ok, Err, subst}
 use Rattle.tl_lexer.specs.declared.fault.LexFault.TheVariants as lex
 use Rattle.tl_combinators.specs.declared.fault.SyntaxFault.TheVariants as syntax
 use Rattle.tl_schema.specs.Schemas.{Declared}

@@ -1,6 +1,6 @@
 -- What is sent for a call.
-use Rattle.std.proofs.Common.{◌≡◌, ◌≢◌, ◌⊎◌, inl, inr, ℕ, ℤ, pos, ◌≤◌, List, [], ◌∷◌, ◌++◌, Option, Some, None, Result, Ok, Err, refl, sym, ap, ◌∙◌, subst, arith}
-use Rattle.std.specs.Prelude.{OnOk, IfOk, IfSome}
+use Rattle.std.proofs.Common.{◌≡◌, ◌≢◌, inl, inr, ℕ, ℤ, pos, ◌≤◌, List, [], ◌∷◌, ◌++◌, Option, Some, None, Result, Ok, Err, refl, sym, ap, ◌∙◌, subst, arith}
+use Rattle.std.specs.Prelude.{OnOk, IfSome}
 use Rattle.std.specs.FinMap as map
 use Rattle.std.specs.declared.alloc.AllocError.{AllocError}
 use Rattle.tl_base.specs.Packets.{packet}
@@ -16,7 +16,7 @@ use Rattle.box_events.specs.declared.requests.Request.TheVariants as request
 use Rattle.box_events.specs.declared.updates.Push.{Push}
 use Rattle.box_server.specs.Answers.{IsAnswered, answer}
 use Rattle.box_server.specs.FaultNames.{name_of}
-use Rattle.box_server.specs.Posting.{posted, push_of, receipt_of}
+use Rattle.box_server.specs.Posting.{push_of}
 use Rattle.box_server.specs.Receiving.{Receives, answer_by, after_post, post_answer}
 use Rattle.box_server.specs.Refusing.{post_cause}
 use Rattle.box_server.specs.Servers.{ServerState}
@@ -27,7 +27,7 @@ use Rattle.box_server.specs.declared.posted.Posted.{Posted}
 use Rattle.wire_profile.specs.Places.{ProfileView}
 use Rattle.frame_sizes.specs.Sizes.{frame_size}
 use Rattle.server_frames.proofs.AnswersBelow.{answers_below}
-use Rattle.server_frames.proofs.PushesBelow.{pushes_below}
+use Rattle.server_frames.proofs.PushesBelow.{pushes_below, receipts_below}
 use Rattle.update_sessions.specs.Packed.{Packed, SpellsFrame}
 use Rattle.update_sessions.specs.Serving.{after_request, push_frames, posted_frames, sent_for}
 use Rattle.update_sessions.specs.inner.Steps.{AnswersCall, AnswersPost, Puts}
@@ -69,15 +69,17 @@ pub second_by : (p : ProfileView) (f g : Frame) (old mid new : List ℕ) (r : Re
 second_by p f g old mid new (Ok u) none first h = packed_second p (f ∷ []) g mid new (packed_first p f old mid none first) h
 second_by p f g old mid new (Err e) none first h = tt
 
--- a receipt with its push, and one without
-pub posted_some : (p : ProfileView) (n : ℕ) (q : Posted) (push : Push) (old mid new : List ℕ) (r : Result (Unit {0}) AllocError) → q.push ≡ Some push → old ≡ [] → Puts (SpellsFrame p (Reply n (ReceiptReply q.receipt))) old mid → OnOk r (Puts (SpellsFrame p (PushFrame push)) mid new)
-    → OnOk r (Packed (SpellsFrame p) (posted_frames n (Ok q)) new)
-posted_some p n q push old mid new r is none first h =
-    subst (λ (o : Option Push). OnOk r (Packed (SpellsFrame p) (Reply n (ReceiptReply q.receipt) ∷ push_frames o) new)) (sym is) (second_by p (Reply n (ReceiptReply q.receipt)) (PushFrame push) old mid new r none first h)
+pub receipt_short : (n : ℕ) (receipt : Receipt) → frame_size (Reply n (ReceiptReply receipt)) ≤ MAX_FRAME_BYTES
+receipt_short n receipt = let size = receipts_below n receipt in omega (arith, size)
 
-pub posted_none : (p : ProfileView) (n : ℕ) (q : Posted) (old new : List ℕ) → q.push ≡ None → old ≡ [] → Puts (SpellsFrame p (Reply n (ReceiptReply q.receipt))) old new → Packed (SpellsFrame p) (posted_frames n (Ok q)) new
-posted_none p n q old new is none first =
-    subst (λ (o : Option Push). Packed (SpellsFrame p) (Reply n (ReceiptReply q.receipt) ∷ push_frames o) new) (sym is) (packed_first p (Reply n (ReceiptReply q.receipt)) old new none first)
+-- a receipt with its push, and one without
+pub posted_some : (p : ProfileView) (n : ℕ) (q : Posted) (push : Push) (new : List ℕ) (r : Result (Unit {0}) AllocError) → q.push ≡ Some push → OnOk r (Packed (SpellsFrame p) (Reply n (ReceiptReply q.receipt) ∷ PushFrame push ∷ []) new)
+    → OnOk r (Packed (SpellsFrame p) (posted_frames n (Ok q)) new)
+posted_some p n q push new r is h = subst (λ (o : Option Push). OnOk r (Packed (SpellsFrame p) (Reply n (ReceiptReply q.receipt) ∷ push_frames o) new)) (sym is) h
+
+pub posted_none : (p : ProfileView) (n : ℕ) (q : Posted) (old new : List ℕ) (r : Result (Unit {0}) AllocError) → q.push ≡ None → old ≡ [] → OnOk r (Puts (SpellsFrame p (Reply n (ReceiptReply q.receipt))) old new)
+    → OnOk r (Packed (SpellsFrame p) (posted_frames n (Ok q)) new)
+posted_none p n q old new r is none h = first_by p (Reply n (ReceiptReply q.receipt)) (posted_frames n (Ok q)) old new r none (ap (λ (o : Option Push). Reply n (ReceiptReply q.receipt) ∷ push_frames o) is) h
 
 -- an answer is short, and so is what is sent
 pub answer_short : (s : ServerState) (n : ℕ) (r : Request) (reply : SomeReply) → IsSound s → reply ≡ answer s r → frame_size (Reply n reply) ≤ MAX_FRAME_BYTES

@@ -1,5 +1,5 @@
 -- Steps of a client's session.
-use Rattle.std.proofs.Common.{◌≡◌, ◌⊎◌, inl, inr, ℕ, ◌+◌, ◌<◌, ◌≤◌, List, [], ◌∷◌, ◌++◌, length, true, false, Option, Some, None, Result, Ok, Err, refl, sym, ap, ◌∙◌, subst, arith}
+use Rattle.std.proofs.Common.{◌≡◌, inl, inr, ℕ, ◌<◌, ◌≤◌, List, [], ◌∷◌, ◌++◌, length, true, false, Option, Some, None, Ok, Err, refl, sym, ap, ◌∙◌, subst, arith}
 use Rattle.std.specs.Prelude.{IfSome}
 use Rattle.std.specs.Io.KnownBytes.{Appends}
 use Rattle.tl_base.specs.Writing.{AppendsPrefix}
@@ -8,19 +8,17 @@ use Rattle.difference.specs.declared.fault.WeaveFault.TheVariants as weaving
 use Rattle.box_events.specs.declared.replies.Frame.{Frame}
 use Rattle.box_events.specs.declared.replies.Frame.TheVariants.{Push, Reply}
 use Rattle.box_events.specs.declared.replies.Reply.{Reply as SomeReply}
-use Rattle.box_events.specs.declared.requests.Numbered.{Numbered}
-use Rattle.box_events.specs.declared.limits.TheConstants.{MAX_ASKS}
 use Rattle.box_client.specs.States.{ClientState}
 use Rattle.box_client.specs.Asking.{ticks, is_one_asking}
 use Rattle.box_client.specs.Calls.{Answers}
 use Rattle.box_client.specs.Laws.{next_after}
-use Rattle.box_client.specs.Replies.{Cause, Outcome, ignored, refuses, becomes, peer_error, wrong_kind, no_list, seq_back, replied}
+use Rattle.box_client.specs.Replies.{Outcome, ignored, refuses, becomes, peer_error, wrong_kind, no_list, seq_back, replied}
 use Rattle.difference.specs.Weaves.{overlaps, uneven}
 use Rattle.box_client.specs.declared.fault.ClientFault.{ClientFault}
 use Rattle.box_client.specs.declared.fault.ClientFault.TheVariants as client
 use Rattle.box_client.specs.declared.fault.Told.{Told}
 use Rattle.box_client.specs.declared.fault.Told.TheVariants.{Reply as Taken, Stale}
-use Rattle.box_client.proofs.GivenOnce.{next_past, pushed_next, replied_next}
+use Rattle.box_client.proofs.GivenOnce.{pushed_next, replied_next}
 use Rattle.box_world.specs.Worlds.{after_reply}
 use Rattle.wire_profile.specs.Places.{ProfileView}
 use Rattle.box_wire.specs.Framing.{WireRefused}
@@ -30,8 +28,8 @@ use Rattle.update_sessions.specs.declared.fault.SessionFault.TheVariants.{Packet
 use Rattle.update_sessions.specs.declared.fault.TheConstants.{MAX_FRAMES}
 use Rattle.update_sessions.specs.Exchanges.{Exchanged}
 use Rattle.update_sessions.specs.Faults.{of_client}
-use Rattle.update_sessions.specs.Heard.{HearsOn, NoFrame, RefusedFrame, StillAsks}
-use Rattle.update_sessions.specs.Hearing.{IsFaultOf, IsTaken, cause_in, cause_of, client_side, hears}
+use Rattle.update_sessions.specs.Heard.{HearsOn, RefusedFrame, StillAsks}
+use Rattle.update_sessions.specs.Hearing.{IsTaken, cause_in, client_side, hears}
 use Rattle.update_sessions.specs.Links.{OverLink}
 use Rattle.update_sessions.specs.Packed.{MeansFrame, Packed, SpellsCall}
 use Rattle.update_sessions.specs.Receiving.{Receives, ComesFirst}

@@ -1,10 +1,9 @@
 -- Exchanges, one after the other.
-use Rattle.std.proofs.Common.{◌≡◌, ℕ, ◌+◌, ◌≤◌, List, [], ◌∷◌, ◌++◌, length, refl, sym, ap, ◌∙◌, subst, append_assoc, append-nil, arith}
-use Rattle.tl_base.specs.Packets.{packet}
+use Rattle.std.proofs.Common.{◌≡◌, ℕ, List, [], ◌∷◌, ◌++◌, refl, sym, ap, ◌∙◌, subst, append_assoc, append-nil}
 use Rattle.update_sessions.specs.Packed.{Packed, PartlyPacked, Came}
 use Rattle.update_sessions.specs.Exchanges.{Side, TakesAll, after_all, sends_all, Exchanged, Cut, Broken, MaySend}
 use Rattle.update_sessions.specs.Receiving.{ComesFirst}
-use Rattle.update_sessions.proofs.Packets.{packed_then, came_then, partly_none}
+use Rattle.update_sessions.proofs.Packets.{packed_then, came_then}
 
 module _ {S M N : Type 0} (side : Side S M N) where
   takes_then : (s : S) (ms ns : List M) → TakesAll side s ms → TakesAll side (after_all side s ms) ns → TakesAll side s (ms ++ ns)

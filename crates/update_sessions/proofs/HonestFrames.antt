@@ -1,5 +1,5 @@
 -- Sessions of clients: how they begin, and what holds where the frames are an honest server's.
-use Rattle.std.proofs.Common.{◌≡◌, ◌⊎◌, inl, inr, Bool, ℕ, ◌+◌, ◌≤◌, List, [], ◌∷◌, ◌++◌, length, true, false, Option, Some, None, Result, Ok, Err, refl, sym, ap, ◌∙◌, subst, append-nil, length-append, arith}
+use Rattle.std.proofs.Common.{◌≡◌, inl, inr, Bool, ℕ, ◌+◌, ◌≤◌, List, [], ◌∷◌, ◌++◌, length, Option, Some, None, Result, Ok, Err, refl, sym, ap, ◌∙◌, subst, append-nil, length-append, arith}
 use Rattle.std.specs.Prelude.{IsSome, IsTrue, IfSome}
 use Rattle.std.specs.Io.KnownBytes.{Appends}
 use Rattle.std.proofs.KnownBytes.{Appends-nil, Appends-trans}
@@ -11,17 +11,17 @@ use Rattle.box_events.specs.declared.replies.Reply.{Reply as SomeReply}
 use Rattle.box_server.specs.Servers.{ServerState}
 use Rattle.box_server.proofs.Carrying.{changed_overlays}
 use Rattle.box_client.specs.States.{ClientState}
-use Rattle.box_client.specs.Asking.{ticks, wakes, is_one_asking}
+use Rattle.box_client.specs.Asking.{ticks, wakes}
 use Rattle.box_client.specs.Replies.{Cause, Outcome, ignored, refuses, becomes, replied}
 use Rattle.box_world.specs.Agreeing.{Agrees}
-use Rattle.box_world.specs.Streams.{Doing, Past, past_of, begun, Honest, heard_frame, told_reply, AgreesThrough, IsTaken}
+use Rattle.box_world.specs.Streams.{Past, past_of, begun, heard_frame, told_reply, AgreesThrough}
 use Rattle.box_world.specs.Recovering.{AnswersEach, most_frames}
 use Rattle.box_world.proofs.Streams as streams
 use Rattle.box_world.proofs.Histories as histories
 use Rattle.wire_profile.specs.Places.{ProfileView}
 use Rattle.update_sessions.specs.declared.fault.SessionFault.{SessionFault}
 use Rattle.update_sessions.specs.declared.fault.SessionFault.TheVariants.{Packet, Wire, Client, TooManyFrames, LinkFault, Memory}
-use Rattle.update_sessions.specs.Exchanges.{Exchanged, Broken, MaySend, after_all}
+use Rattle.update_sessions.specs.Exchanges.{MaySend, after_all}
 use Rattle.update_sessions.specs.Heard.{Hears, HearsOn, IsBrokenOff, MayAsk, broke_off, asked}
 use Rattle.update_sessions.specs.Hearing.{cause_in, cause_of, client_side, hears}
 use Rattle.update_sessions.specs.Honest.{AnswersAll, HearsHonestly, IsNoClientFault, StaysHonest, StaysShort, told, told_all}

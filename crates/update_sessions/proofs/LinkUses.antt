@@ -1,5 +1,5 @@
 -- Calls over a link, one after the other.
-use Rattle.std.proofs.Common.{◌≡◌, ℕ, ◌≤◌, List, Bool, Option, Some, None, refl, sym, ◌∙◌, subst, arith}
+use Rattle.std.proofs.Common.{◌≡◌, ℕ, List, Bool, Option, refl, sym, ◌∙◌, subst, arith}
 use Rattle.std.specs.Prelude.{IsSome, IsTrue}
 use Rattle.tl_base.specs.Causes.{Rose}
 use Rattle.tl_base.specs.Using.{SourceState, SinkState, Used, Wrote}

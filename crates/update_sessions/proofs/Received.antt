@@ -1,8 +1,6 @@
 -- How a message is received: a packet, and what its bytes mean.
-use Rattle.std.proofs.Common.{◌≡◌, ◌⊎◌, inl, inr, Bool, ℕ, List, [], ◌++◌, length, true, false, Option, Some, None, Result, Ok, Err, refl, sym, ap, ◌∙◌, subst}
-use Rattle.std.specs.Prelude.{IfSome, IfOk}
-use Rattle.std.specs.Io.KnownBytes.{Consumes}
-use Rattle.tl_base.specs.Numbers.{word}
+use Rattle.std.proofs.Common.{◌≡◌, ◌⊎◌, inl, inr, Bool, ℕ, List, ◌++◌, length, true, false, Option, Some, None, Ok, Err, refl, subst}
+use Rattle.std.specs.Prelude.{IfSome}
 use Rattle.tl_base.specs.Packets.{IsPacketLength, ReadsPacket, PacketInto, packet}
 use Rattle.tl_base.specs.declared.packet.PacketFault.{PacketFault}
 use Rattle.tl_base.specs.declared.packet.PacketFault.TheVariants as packets
@@ -11,17 +9,12 @@ use Rattle.wire_checks.specs.declared.fault.WireFault.TheVariants as wire
 use Rattle.box_events.specs.declared.replies.Frame.{Frame}
 use Rattle.wire_profile.specs.Places.{ProfileView}
 use Rattle.wire_profile.specs.Profiles.{IsProfile}
-use Rattle.wire_values.specs.CarriedFrames.{IsFrame}
-use Rattle.wire_values.specs.Frames.{frame_tree}
-use Rattle.box_wire.specs.Answers.{Reads}
-use Rattle.box_wire.specs.Framing.{Means, WireRefused}
-use Rattle.box_wire.specs.Kinds.{frames}
 use Rattle.server_frames.specs.Fitting.{IsHearable}
 use Rattle.server_frames.proofs.ReadFrames.{frames_taken}
 use Rattle.update_sessions.specs.declared.fault.SessionFault.TheVariants.{LinkFault}
 use Rattle.update_sessions.specs.Faults.{of_packet, of_wire}
 use Rattle.update_sessions.specs.Packed.{MeansFrame}
-use Rattle.update_sessions.specs.Receiving.{Receives, ComesFirst, RefusedPacket}
+use Rattle.update_sessions.specs.Receiving.{Receives}
 
 module _ {M : Type 0} (MeansIt : M → List ℕ → Type 0) (Refused : List ℕ → WireFault → Type 0) where
   -- no packet comes

@@ -1,5 +1,5 @@
 -- What is spelled of messages that aren't too long.
-use Rattle.std.proofs.Common.{◌≡◌, ◌⊎◌, inl, inr, ℕ, ◌+◌, ◌<◌, ◌≤◌, List, [], ◌∷◌, ◌++◌, length, take, get_or, slice_get, Some, Result, Ok, Err, refl, sym, ap, ◌∙◌, subst, arith}
+use Rattle.std.proofs.Common.{◌≡◌, inl, inr, ℕ, ◌+◌, ◌≤◌, List, [], ◌∷◌, ◌++◌, length, take, slice_get, Some, Result, Ok, Err, sym, ap, ◌∙◌, subst, arith}
 use Rattle.std.specs.Prelude.{OnOk, ⊤}
 use Rattle.std.specs.List.{All}
 use Rattle.std.proofs.lemmas.List.{take_more}
@@ -18,8 +18,7 @@ use Rattle.wire_values.specs.CarriedFrames.{IsFrame}
 use Rattle.wire_values.specs.Frames.{frame_in, frame_tree}
 use Rattle.box_wire.specs.Answers.{Spelled}
 use Rattle.box_wire.specs.Kinds.{calls, frames}
-use Rattle.box_wire.specs.declared.fault.SpellFault.{SpellFault}
-use Rattle.box_wire.specs.declared.fault.SpellFault.TheVariants.{TooLong, Memory}
+use Rattle.box_wire.specs.declared.fault.SpellFault.TheVariants.{TooLong}
 use Rattle.box_wire.proofs.CallLaws.{call_laws}
 use Rattle.box_wire.proofs.FrameLaws.{frame_laws}
 use Rattle.frame_sizes.specs.Sizes.{call_size, frame_size}

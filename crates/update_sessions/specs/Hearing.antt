@@ -1,6 +1,6 @@
 -- What a client does in a session: all is asked about, and then each frame is heard and what is due is asked, until it asks no more.
 -- This project's own.
-use Rattle.std.specs.Prelude.{◌≡◌, ℕ, true, Option, Some, None}
+use Rattle.std.specs.Prelude.{◌≡◌, true, Option, Some, None}
 use Rattle.difference.specs.declared.fault.WeaveFault.TheVariants as weaving
 use Rattle.difference.specs.Weaves.{overlaps, uneven}
 use Rattle.box_events.specs.declared.requests.Numbered.{Numbered}

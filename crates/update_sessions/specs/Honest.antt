@@ -1,5 +1,5 @@
 -- What holds of a client's session where the frames are an honest server's. This project's own.
-use Rattle.std.specs.Prelude.{◌≡◌, ℕ, ◌≤◌, List, [], ◌∷◌, ◌++◌, length, false, Result, Ok, Err}
+use Rattle.std.specs.Prelude.{◌≡◌, ℕ, ◌≤◌, List, [], ◌∷◌, ◌++◌, length, false, Result, Err}
 use Rattle.box_events.specs.declared.replies.Frame.{Frame}
 use Rattle.box_events.specs.declared.replies.Frame.TheVariants.{Push, Reply}
 use Rattle.box_server.specs.Servers.{ServerState}

@@ -1,6 +1,5 @@
 -- A session of a server over a link: what it reads and writes, and how it ends. This project's own.
-use Rattle.std.specs.Prelude.{◌≡◌, ℕ, ◌<◌, List, [], ◌++◌, length, Result, Ok, Err}
-use Rattle.tl_base.specs.Packets.{IsPacketLength, packet}
+use Rattle.std.specs.Prelude.{◌≡◌, ℕ, ◌<◌, List, [], length, Result, Ok, Err}
 use Rattle.box_events.specs.declared.requests.Numbered.{Numbered}
 use Rattle.box_server.specs.Servers.{ServerState}
 use Rattle.wire_profile.specs.Places.{ProfileView}

@@ -1,5 +1,5 @@
 //! What a server sends for a call, as packets in a buffer.
-ghost use Rattle.std.specs.Prelude.{◌≡◌, ◌≤◌, [], IfSome, OnOk};
+ghost use Rattle.std.specs.Prelude.{◌≡◌, ◌≤◌, [], ◌∷◌, IfSome, OnOk};
 ghost use Rattle.frame_sizes.specs.Sizes.{frame_size};
 ghost use Rattle.box_events.specs.declared.limits.TheConstants.{MAX_FRAME_BYTES};
 ghost use Rattle.box_events.specs.declared.replies.Frame.TheVariants.{Push as PushFrame};
@@ -98,12 +98,31 @@ fn put_posted(
     ensures { OnOk result (Packed (SpellsFrame profile.now) (posted_frames number (Ok posted)) out.new) }
 {
     let Posted { receipt, push } = posted;
-    let reply = Reply::Receipt(receipt);
-    put_frame(alloc, profile, &Frame::Reply { number, reply }, out)?;
+    let reply = Frame::Reply {
+        number,
+        reply: Reply::Receipt(receipt),
+    };
     match push {
-        Some(push) => put_frame(alloc, profile, &Frame::Push(push), out),
-        None => Ok(()),
+        Some(push) => put_both(alloc, profile, &reply, &Frame::Push(push), out),
+        None => put_frame(alloc, profile, &reply, out),
     }
+}
+
+// Appends two frames.
+fn put_both(
+    alloc: Global,
+    profile: &Profile,
+    first: &Frame,
+    second: &Frame,
+    out: &mut Bytes,
+) -> Result<(), Memory>
+    requires first { frame_size first.now ≤ MAX_FRAME_BYTES }
+    requires second { frame_size second.now ≤ MAX_FRAME_BYTES }
+    requires empty { out.old ≡ [] }
+    ensures { OnOk result (Packed (SpellsFrame profile.now) (first.now ∷ second.now ∷ []) out.new) }
+{
+    put_frame(alloc, profile, first, out)?;
+    put_frame(alloc, profile, second, out)
 }
 
 // Appends the refusal of posts by its name.

@@ -1,7 +1,7 @@
 mod Stretching
 mod Telling
-mod OwnLines
-mod NextNumbers
+pub mod OwnLines
+pub mod NextNumbers
 mod Drawing
 mod Dates
 mod Summing

@@ -30,13 +30,27 @@ drawn_ids (suc n) x = let more = drawn_ids n (drawn x) in record { it = cast_sig
 
 -- ---- posts
 
+abbrev pub drawn_message : ℕ → Chosen Post
+drawn_message x = let body = drawn_body x in record { it = Message body.it; x = body.x }
+
+-- one to three ids
+abbrev pub drawn_delete : ℕ → Chosen Post
+drawn_delete x = let n = drawn_below 3 x in let ids = drawn_ids (1 + n.it) n.x in record { it = Delete ids.it; x = ids.x }
+
+abbrev pub drawn_secret : ℕ → Chosen Post
+drawn_secret x = let body = drawn_body x in record { it = Secret body.it; x = body.x }
+
+-- the key is a letter from a to p
+abbrev pub drawn_setting : ℕ → Chosen Post
+drawn_setting x = let key = drawn_below 16 x in let body = drawn_body key.x in record { it = Setting ((97 + key.it) ∷ []) body.it; x = body.x }
+
 abbrev pub drawn_post : ℕ → Chosen Post
 drawn_post x =
     let kind = drawn_below 4 x in
-    if kind.it == 0 then (let body = drawn_body kind.x in record { it = Message body.it; x = body.x })
-    else if kind.it == 1 then (let n = drawn_below 3 kind.x in let ids = drawn_ids (1 + n.it) n.x in record { it = Delete ids.it; x = ids.x })
-    else if kind.it == 2 then (let body = drawn_body kind.x in record { it = Secret body.it; x = body.x })
-    else (let key = drawn_below 16 kind.x in let body = drawn_body key.x in record { it = Setting ((97 + key.it) ∷ []) body.it; x = body.x })
+    if kind.it == 0 then drawn_message kind.x
+    else if kind.it == 1 then drawn_delete kind.x
+    else if kind.it == 2 then drawn_secret kind.x
+    else drawn_setting kind.x
 
 -- ---- packets
 
@@ -76,25 +90,44 @@ or_date date (Some s) = s
 abbrev pub or_dated : ℕ → Chosen (Option Step) → Chosen Step
 or_dated date c = record { it = or_date date c.it; x = c.x }
 
+abbrev pub drawn_client : (ℕ → Step) → ℕ → Chosen Step
+drawn_client f x = let k = drawn_below 2 x in record { it = f k.it; x = k.x }
+
 -- what begins anew, or is pushed, or is woken
 abbrev pub drawn_rest : ℕ → Chosen Step
 drawn_rest x =
     let kind = drawn_below 16 x in
-    if kind.it == 0 then (let k = drawn_below 2 kind.x in record { it = step.Restart k.it; x = k.x })
+    if kind.it == 0 then drawn_client step.Restart kind.x
     else if kind.it == 1 then record { it = step.TooLong; x = kind.x }
-    else (let k = drawn_below 2 kind.x in record { it = step.Wake k.it; x = k.x })
+    else drawn_client step.Wake kind.x
+
+-- a client hears any packet
+abbrev pub drawn_hear : NumberWorld → ℕ → Chosen Step
+drawn_hear w x = let k = drawn_below 2 x in or_dated w.server.date (hears_drawn w.pool k.it k.x)
+
+-- a client hears the last packet that it may
+abbrev pub drawn_last : NumberWorld → ℕ → Chosen Step
+drawn_last w x = let k = drawn_below 2 x in record { it = or_date w.server.date (hears_last k.it (last_where (λ p. is_for k.it (Some p)) 0 w.pool)); x = k.x }
+
+-- one post, under the step's number
+abbrev pub drawn_posted : ℕ → ℕ → Chosen Step
+drawn_posted n x = let post = drawn_post x in record { it = step.Post (pos n) (post.it ∷ []); x = post.x }
+
+-- the last request is answered
+abbrev pub served_last : NumberWorld → Step
+served_last w = or_date w.server.date (serves_last (last_where (λ p. is_served (Some p)) 0 w.pool))
 
 -- step number n in a world with two clients
 abbrev pub made_step : NumberWorld → ℕ → ℕ → Chosen Step
 made_step w n x =
     let kind = drawn_below 8 x in
     if kind.it == 2 then record { it = or_date w.server.date None; x = kind.x }
-    else if kind.it == 3 then (let k = drawn_below 2 kind.x in or_dated w.server.date (hears_drawn w.pool k.it k.x))
-    else if kind.it == 4 then (let k = drawn_below 2 kind.x in record { it = or_date w.server.date (hears_last k.it (last_where (λ p. is_for k.it (Some p)) 0 w.pool)); x = k.x })
-    else if kind.it == 5 then (let k = drawn_below 2 kind.x in record { it = step.Tick k.it; x = k.x })
-    else if kind.it == 6 then record { it = or_date w.server.date (serves_last (last_where (λ p. is_served (Some p)) 0 w.pool)); x = kind.x }
+    else if kind.it == 3 then drawn_hear w kind.x
+    else if kind.it == 4 then drawn_last w kind.x
+    else if kind.it == 5 then drawn_client step.Tick kind.x
+    else if kind.it == 6 then record { it = served_last w; x = kind.x }
     else if kind.it == 7 then drawn_rest kind.x
-    else (let post = drawn_post kind.x in record { it = step.Post (pos n) (post.it ∷ []); x = post.x })
+    else drawn_posted n kind.x
 
 -- so many steps from number n on, in a world and with the generator's number
 abbrev pub made_from : ℕ → NumberWorld → ℕ → ℕ → List Step

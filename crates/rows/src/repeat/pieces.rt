@@ -1,7 +1,7 @@
 //! Plans of large schemas, and values that are fed to a decoder in pieces.
 ghost use Rattle.std.specs.Prelude.{◌<◌};
 
-use crate::schemas::{plan_of, schema_of};
+use codec_rows::{plan_of, schema_of};
 use std::alloc::{AllocError, Global};
 use tl_base::BOXED_VECTOR;
 use tl_decode::{Decoder, Fed};
@@ -15,17 +15,25 @@ const NAME: [u8; 20] = *b"\x11record no. 000000\0\0";
 
 // ---- plans
 
+fn put_constructor(alloc: Global, i: u32, text: &mut String) -> Result<(), AllocError> {
+    text.push_str(&format!(in alloc; "made{i} flags:# number:int name:string = Made{i};\n")?)
+}
+
+fn put_function(alloc: Global, i: u32, text: &mut String) -> Result<(), AllocError> {
+    let made = format!(in alloc; "Made{i}")?;
+    text.push_str(&format!(in alloc; "call{i} of:{made} all:Vector<{made}> ")?)?;
+    text.push_str(&format!(in alloc; "more:Vector<int> = {made};\n")?)
+}
+
 // So many constructors, each of a type of its own, and as many functions.
 fn text_of(alloc: Global, pairs: u32) -> Result<String, AllocError> {
     let mut text = String::new(alloc);
     for i in 0..pairs {
-        text.push_str(&format!(in alloc; "made{i} flags:# number:int name:string = Made{i};\n")?)?;
+        put_constructor(alloc, i, &mut text)?;
     }
     text.push_str("---functions---\n")?;
     for i in 0..pairs {
-        text.push_str(&format!(in alloc;
-            "call{i} of:Made{i} all:Vector<Made{i}> more:Vector<int> = Made{i};\n"
-        )?)?;
+        put_function(alloc, i, &mut text)?;
     }
     Ok(text)
 }

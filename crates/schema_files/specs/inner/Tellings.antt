@@ -17,7 +17,7 @@ use Rattle.tl_show.specs.declared.fault.TextReadFault.TheVariants as reading
 use Rattle.command_base.specs.declared.stop.Unmade.{Unmade}
 use Rattle.command_base.specs.declared.stop.Unmade.TheVariants as unmade
 use Rattle.command_base.specs.Loading.{RefusesAs}
-use Rattle.schema_files.specs.Causes.{TextCause, TextTooLong, BadByte, OpenComment, Unexpected, NotProfile, TooMany, Checked, Asked, TypeTooDeep, TooManyInstances, NoJson, Unformed, Misfit}
+use Rattle.schema_files.specs.Causes.{TextTooLong, BadByte, OpenComment, Unexpected, NotProfile, TooMany, Checked, Asked, TypeTooDeep, TooManyInstances, NoJson, Unformed, Misfit}
 use Rattle.schema_files.specs.Lines.{text_line, schema_line, type_line, plan_line, json_line}
 
 abbrev pub TellsLex : List ℕ → LexFault → Unmade → Type 0

@@ -1,8 +1,7 @@
 use Rattle.std.proofs.Common.{ℕ, List, subst}
 use Rattle.tl_base.specs.declared.host.Slot.TheVariants.{Input}
 use Rattle.tl_schema.specs.Seen.{shape}
-use Rattle.command_base.proofs.Faults.{read_on}
-use Rattle.command_base.proofs.Loaded.{loaded, given_unread}
+use Rattle.command_base.proofs.Loaded.{loaded}
 use Rattle.schema_files.specs.declared.json_input.TheConstants.{JSON_BYTES}
 use Rattle.schema_files.specs.Parts.{IsJsonValue, TellsJson, ReadsJson}
 use Rattle.schema_files.proofs.JsonInputs.{stays_long}

@@ -1,4 +1,4 @@
-use Rattle.std.proofs.Common.{ℕ, List, Ok, Err, subst}
+use Rattle.std.proofs.Common.{ℕ, List, subst}
 use Rattle.command_base.proofs.Faults.{read_on}
 use Rattle.command_base.proofs.Loaded.{not_read, loaded, given_unread}
 use Rattle.schema_files.specs.Loaded.{IsSchemaText}

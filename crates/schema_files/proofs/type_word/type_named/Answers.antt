@@ -1,4 +1,4 @@
-use Rattle.schema_files.proofs.TypeWords.{no_type_of, type_meant}
+use Rattle.schema_files.proofs.TypeWords.{no_type_of}
 use Rattle.schema_files.proofs.type_word.type_named.Goals as goal
 
 pub returns-in-Err-clause-names : goal.returns-in-Err-clause-names

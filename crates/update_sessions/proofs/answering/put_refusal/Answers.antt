@@ -1,4 +1,4 @@
-use Rattle.std.proofs.Common.{rules, ◌∙◌, pos, Err}
+use Rattle.std.proofs.Common.{◌∙◌, pos, Err}
 use Rattle.box_events.specs.declared.replies.Frame.TheVariants.{Reply}
 use Rattle.box_events.specs.declared.replies.Reply.TheVariants.{Error}
 use Rattle.update_sessions.specs.Serving.{posted_frames}

@@ -12,7 +12,7 @@ use Rattle.update_sessions.specs.Hearing.{client_side}
 use Rattle.update_sessions.specs.Links.{LinkNeverFails, OverLink}
 use Rattle.update_sessions.specs.Packed.{Packed, SpellsCall}
 use Rattle.update_sessions.proofs.HonestFrames.{begins, begins_cut, begins_kept, begins_never, first_never}
-use Rattle.update_sessions.proofs.LinkUses.{IsOne, uses_write}
+use Rattle.update_sessions.proofs.LinkUses.{IsOne}
 use Rattle.update_sessions.proofs.Stepping.{never_as}
 use Rattle.update_sessions.proofs.hearing.client_session.Goals as goal
 

@@ -1,0 +1,34 @@
+//! Objects that rows speak of by their names.
+use crate::words::RowFault;
+use std::alloc::Global;
+
+/// Objects of one kind.
+#[derive(Drop)]
+pub struct Named<T> {
+    items: Vec<(String, T)>,
+}
+
+impl<T: Drop> Named<T> {
+    pub fn new(alloc: Global) -> Named<T> {
+        Named {
+            items: Vec::new(alloc),
+        }
+    }
+
+    /// Takes the object of a name out.
+    pub fn take(&mut self, name: &str) -> Option<T> {
+        let index = self.items.iter().position(|item| item.0.as_str() == name)?;
+        if index >= self.items.len() {
+            return None;
+        }
+        let (_, object) = self.items.swap_remove(index);
+        Some(object)
+    }
+
+    /// Puts an object in under a name.
+    pub fn put(&mut self, alloc: Global, name: &str, object: T) -> Result<(), RowFault> {
+        let name = String::from_str(alloc, name)?;
+        self.items.push((name, object))?;
+        Ok(())
+    }
+}

@@ -1,0 +1,5 @@
+pub mod LineLists
+pub mod Packets
+pub mod StepTexts
+pub mod Told
+pub mod Drawn

@@ -1,0 +1,3 @@
+pub mod WorldLines
+pub mod LineLaws
+pub mod Making
