@@ -34,7 +34,7 @@ LoadsFirst s r v w = LoadsSchema slots.Schema (codes "schema") s r v w
 -- loading it leaves Input, whatever comes later
 pub leaves_input : (s : List ℕ) (came : View → Type 0) (r : Result Declared Unmade) (a b : Option View) → Told a b (LoadsFirst s r) → Told a b (λ v w. LeavesInput (came v) v w)
 leaves_input s came r a b h =
-    told_as a b (OnlySlot slots.Schema) (λ v w. LeavesInput (came v) v w) (λ v w only. inl (ap (λ (x : View). x.left.input) only)) (slot_only slots.Schema s 4194304 IsSchemaText (TellsSchema (codes "schema")) r a b h)
+    told_as a b (OnlySlot slots.Schema) (λ v w. LeavesInput (came v) v w) (λ v w only. inl (ap (λ (x : View). x.left.input) only)) (slot_only slots.Schema s IsSchemaText (TellsSchema (codes "schema")) r a b h)
 
 -- the exit of a `?`
 stops : (job : Job) (e : Unmade) (r : Result (Vec ℕ Global) Unmade) (v w : View) → MakesOutput job (of_fault e) v w → IsErrAnd r (λ z. z ≡ e) → MakesOutput job (making r) v w
