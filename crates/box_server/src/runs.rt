@@ -8,7 +8,8 @@ ghost use Rattle.box_server.specs.Runs.{recent_of, limited};
 ghost use Rattle.box_server.specs.inner.Carrying.{Carries, Fills};
 
 use box_events::{
-    Event, EventBox, EventKind, ID_BYTES, ListOf, RECENT_BYTES, RECENT_EVENTS, RUN_BYTES, RUN_EVENTS,
+    Event, EventBox, EventKind, ID_BYTES, ListOf, RECENT_BYTES, RECENT_EVENTS, RUN_BYTES,
+    RUN_EVENTS,
 };
 use difference::Parts;
 use std::alloc::Global;

@@ -17,8 +17,8 @@ use base_rows::{Base, base_difference};
 use codec_rows::{Codec, codec_difference};
 use end_rows::{Ends, ends_difference};
 use std::alloc::{AllocError, Global};
-use std::{env, fs, io};
 use std::process::ExitCode;
+use std::{env, fs, io};
 use tl_schema::Schema;
 use wire_profile::Profile;
 
