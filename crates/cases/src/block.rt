@@ -34,7 +34,7 @@ impl Block {
     }
 }
 
-// The number that stands so far from another: `+3`, `-3` or nothing.
+// The number that stands so far from another, or is so many times as large: `+3`, `-3`, `*3` or nothing.
 fn moved(number: u32, by: &str) -> Result<u32, CaseFault> {
     if by.is_empty() {
         return Ok(number);
@@ -42,6 +42,11 @@ fn moved(number: u32, by: &str) -> Result<u32, CaseFault> {
     if let Some(more) = by.strip_prefix('+') {
         return number
             .checked_add(number_of(more)?)
+            .ok_or(CaseFault::NoForm);
+    }
+    if let Some(times) = by.strip_prefix('*') {
+        return number
+            .checked_mul(number_of(times)?)
             .ok_or(CaseFault::NoForm);
     }
     match by.strip_prefix('-') {

@@ -4,3 +4,5 @@ pub mod SameFiles
 pub mod Faults
 pub mod Made
 pub mod Loaded
+pub mod Stages
+pub mod StageFaults

@@ -16,7 +16,7 @@ use Rattle.command_base.specs.Kept.{KeepsRest, LeavesInput, KeepsUnread, OnlyRea
 use Rattle.command_base.specs.Jobs.{Job, Works, Making, made, refused_by, unread, no_memory, of_fault, making, MakesOutput, TellsAs, WritesMade}
 use Rattle.command_base.specs.Sound.{IsFault, MeetsFaultsOf, Answered, Fits, MadeFits}
 use Rattle.command_base.proofs.Views.{told_as, told_both, told_then}
-use Rattle.command_base.proofs.Rests.{rest_then, output_rest, same_rest, then_same, rest_left, unread_by}
+use Rattle.command_base.proofs.Rests.{rest_then, output_rest, same_rest, then_same, wrote_nothing, rest_left, unread_by}
 use Rattle.command_base.proofs.Faults.{safe, then_fails}
 
 module _ (job : Job) where
@@ -50,7 +50,7 @@ module _ (job : Job) where
   works W L (made text) (Err e) v u w (answer, only) (is, prefix, rest, split, put) =
       subst (λ (y : Stop). Works W L job (Err y) v w) (sym is) (
         done text,
-        inl answer,
+        inl (inl answer),
         (prefix, rest, split, ap (λ (z : View). z.written.output) put ∙ ap (λ (z : List ℕ). z ++ prefix) only.output),
         inl (ap (λ (z : View). z.written.errors) put ∙ only.errors),
       )
@@ -72,10 +72,9 @@ module _ (job : Job) where
   works W L (refused_by line) (Err stop.LinkFault) v u w h none = absurd none
   works W L (refused_by line) (Err (stop.Peer told)) v u w h none = absurd none
   works W L (refused_by line) (Err stop.Memory) v u w h none = absurd none
-  works W L unread (Err e) v u w only (is, same) = subst (λ (y : Stop). Works W L job (Err y) v w) (sym is) (then_same v u w only same)
+  works W L unread (Err e) v u w only (is, same) = subst (λ (y : Stop). Works W L job (Err y) v w) (sym is) (wrote_nothing v w (then_same v u w only same))
   works W L no_memory (Err e) v u w only (is, same) =
-      let all = then_same v u w only same in
-      subst (λ (y : Stop). Works W L job (Err y) v w) (sym is) (inl (all.output, all.errors))
+      subst (λ (y : Stop). Works W L job (Err y) v w) (sym is) (inl (wrote_nothing v w (then_same v u w only same)))
 
   pub made_works : (W L : Type 0) (m : Making) (r : Result Status Stop) (a b c : Option View) → Told a b (MakesOutput job m) → Told b c (WritesMade m r) → Told a c (Works W L job r)
   made_works W L m r a b c = told_then a b c (MakesOutput job m) (WritesMade m r) (Works W L job r) (works W L m r)

@@ -6,7 +6,7 @@ use Rattle.tl_base.specs.declared.host.Slot.TheVariants.{Schema, Input}
 use Rattle.tl_base.specs.declared.source.TextFault.{TextFault}
 use Rattle.tl_base.specs.declared.host.Out.TheVariants.{Output}
 use Rattle.command_base.specs.Answer.{Answer}
-use Rattle.command_base.specs.Kept.{KeepsRest, OnlyErrors, LeavesInput, KeepsUnread, OnlyReads, Leaves, name_after, bytes_after, address_after}
+use Rattle.command_base.specs.Kept.{KeepsRest, OnlyErrors, LeavesInput, KeepsUnread, WritesNothing, OnlyReads, Leaves, name_after, bytes_after, address_after}
 
 -- what `KeepsRest` gives for the new view
 rest_of : View → View → View
@@ -90,6 +90,10 @@ then_reads u v w p q = record { output = q.output ∙ p.output; errors = q.error
 pub then_same : (u v w : View) → OnlyReads u v → w ≡ v → OnlyReads u w
 then_same u v w p e =
     record { output = ap (λ (x : View). x.written.output) e ∙ p.output; errors = ap (λ (x : View). x.written.errors) e ∙ p.errors; rest = rest_then u v w p.rest (same_rest v w e) }
+
+-- what only reads writes nothing
+pub wrote_nothing : (v w : View) → OnlyReads v w → WritesNothing v w
+wrote_nothing v w h = record { output = h.output; errors = h.errors }
 
 -- ---- what an answer leaves
 

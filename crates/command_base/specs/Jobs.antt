@@ -13,14 +13,16 @@ use Rattle.command_base.specs.declared.stop.Unmade.TheVariants as unmade
 use Rattle.command_base.specs.declared.status.Status.{Status}
 use Rattle.command_base.specs.declared.status.Status.TheVariants as status
 use Rattle.command_base.specs.Answer.{Answer, done, refused}
-use Rattle.command_base.specs.Kept.{OnlyReads, AddsPrefix, Leaves}
+use Rattle.command_base.specs.Kept.{WritesNothing, OnlyReads, AddsPrefix, Leaves}
 use Rattle.command_base.specs.Telling.{Tells}
 
--- A job: what is answered over an outside; what may be answered there where a link failed that others follow; whether its work writes its Output in
--- pieces and may stop between them, tells lines on Errors as it goes, and uses links; and what it leaves as it was.
+-- A job: what is answered over an outside; what may be answered there where a link failed that others follow; what its first parts gave, where its
+-- work may stop between them, before there is an answer; whether its work writes its Output in pieces and may stop between them, tells lines on Errors
+-- as it goes, and uses links; and what it leaves as it was.
 pub record Job : Type 1 where
   pub answers : View → Answer → Type 0
   pub broken : View → Answer → Type 0
+  pub partial : View → Answer → Type 0
   pub in_pieces : Type 0
   pub tells : Type 0
   pub linked : Type 0
@@ -28,7 +30,7 @@ pub record Job : Type 1 where
 
 -- a job that reads, and then writes its Output or is refused; whether it writes in pieces
 abbrev pub unlinked_job : (View → Answer → Type 0) → Type 0 → (View → View → Type 0) → Job
-unlinked_job answers in_pieces keeps = record { answers = answers; broken = λ v a. ⊥; in_pieces = in_pieces; tells = ⊥; linked = ⊥; keeps = keeps }
+unlinked_job answers in_pieces keeps = record { answers = answers; broken = λ v a. ⊥; partial = λ v a. ⊥; in_pieces = in_pieces; tells = ⊥; linked = ⊥; keeps = keeps }
 
 -- ---- work
 
@@ -45,25 +47,28 @@ MayAnswer job link_rose v a = job.answers v a ⊎ (link_rose × job.broken v a)
 abbrev pub ToldSome : Job → Answer → View → View → Type 0
 ToldSome job a v w = (w.written.errors ≡ v.written.errors) ⊎ (job.tells × AddsPrefix v.written.errors w.written.errors a.errors)
 
--- Output has a prefix of what the job's answer writes, and Errors what was told until then
+-- what a job that stops was about to give: what it may answer, or what its first parts give
+abbrev pub MayGive : Job → Type 0 → View → Answer → Type 0
+MayGive job link_rose v a = MayAnswer job link_rose v a ⊎ job.partial v a
+
+-- Output has a prefix of what that writes, and Errors what was told until then
 abbrev pub WritesSomeOf : Job → Type 0 → View → View → Type 0
-WritesSomeOf job link_rose v w = (a : Answer) × MayAnswer job link_rose v a × AddsPrefix v.written.output w.written.output a.output × ToldSome job a v w
+WritesSomeOf job link_rose v w = (a : Answer) × MayGive job link_rose v a × AddsPrefix v.written.output w.written.output a.output × ToldSome job a v w
 
 -- the answer that ends with this status and this line is given, but for the line
 abbrev pub EndsBy : Job → Status → List ℕ → View → View → Type 0
 EndsBy job status line v w =
     (a : Answer) × job.answers v a × (a.status ≡ status) × (a.errors ≡ line) × GivesOutput a v w × (w.written.errors ≡ v.written.errors) × ((w.written.output ≡ v.written.output) ⊎ job.in_pieces)
 
--- The work of a job: its answer is given, or why not; where a count of faults rose.
+-- The work of a job: its answer is given, or why not; where a count of faults rose. What is left else where it stops is said by what it keeps.
 abbrev pub Works : Type 0 → Type 0 → Job → Result Status Stop → View → View → Type 0
 Works write_rose link_rose job (Ok status) v w = (a : Answer) × MayAnswer job link_rose v a × (a.status ≡ status) × GivesOutput a v w × Tells write_rose a.errors v w
 Works write_rose link_rose job (Err (stop.Refused line)) v w = EndsBy job status.Refused line.items v w
 Works write_rose link_rose job (Err (stop.Peer line)) v w = EndsBy job status.PeerFault line.items v w
-Works write_rose link_rose job (Err stop.ReadFault) v w = OnlyReads v w
+Works write_rose link_rose job (Err stop.ReadFault) v w = WritesNothing v w
 Works write_rose link_rose job (Err stop.WriteFault) v w = WritesSomeOf job link_rose v w
 Works write_rose link_rose job (Err stop.LinkFault) v w = WritesSomeOf job link_rose v w
-Works write_rose link_rose job (Err stop.Memory) v w =
-    ((w.written.output ≡ v.written.output) × (w.written.errors ≡ v.written.errors)) ⊎ (job.in_pieces × WritesSomeOf job link_rose v w)
+Works write_rose link_rose job (Err stop.Memory) v w = WritesNothing v w ⊎ (job.in_pieces × WritesSomeOf job link_rose v w)
 
 -- the same over a host that tells its files, before and after
 abbrev pub WorksOver : Job → HostState → HostState → Result Status Stop → Type 0

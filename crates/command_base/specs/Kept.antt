@@ -20,6 +20,11 @@ pub record KeepsUnread (came : Type 0) (v w : View) : Type 0 where
   pub rest : KeepsRest v w
   pub input : LeavesInput came v w
 
+-- Output and Errors are as before
+pub record WritesNothing (v w : View) : Type 0 where
+  pub output : w.written.output ≡ v.written.output
+  pub errors : w.written.errors ≡ v.written.errors
+
 -- Output and Errors are as before, and so is all else but what is left of Schema and Input
 pub record OnlyReads (v w : View) : Type 0 where
   pub output : w.written.output ≡ v.written.output

@@ -14,7 +14,7 @@ use Rattle.clap.proofs.OnLiterals.{clap_on_literals}
 use Rattle.clap.proofs.WalkLemmas.{walk_stopped}
 use Rattle.clap.proofs.FaultLemmas.{stopped_fault}
 use Rattle.commands.specs.Requests.{IsOperand}
-use Rattle.commands.specs.CommandLine.{table}
+use Rattle.commands.specs.CommandLine.{RowText, rows, table}
 use Rattle.commands.proofs.OperandsRead.{leaf, faults, first_none}
 
 pub table_is_simple : is_simple table ≡ true
@@ -86,6 +86,10 @@ pub replay_enters : (rest : List Text) → Enters (codes "replay") (leaf (codes 
 unfolding clap_on_literals
 replay_enters = enters (codes "replay") _ refl refl refl
 
+pub make_enters : (rest : List Text) → Enters (codes "make") (leaf (codes "make") (codes "SCHEMA" ∷ codes "NUMBER" ∷ codes "STEPS" ∷ [])) rest
+unfolding clap_on_literals
+make_enters = enters (codes "make") _ refl refl refl
+
 pub layers_enters : (rest : List Text) → Enters (codes "layers") (leaf (codes "layers") (codes "OLD" ∷ codes "NEW" ∷ codes "TYPE" ∷ [])) rest
 unfolding clap_on_literals
 layers_enters = enters (codes "layers") _ refl refl refl
@@ -99,16 +103,16 @@ missing = refl
 pub no_words : fault_of table [] ≡ [] → ⊥
 no_words none = let bad = sym missing ∙ none in absurd cc
 
--- no command is this word
-abbrev pub NoCommand : Text → Type 0
-NoCommand w = (bytes_eq (codes "check") w ≡ false) × (bytes_eq (codes "decode") w ≡ false) × (bytes_eq (codes "encode") w ≡ false) × (bytes_eq (codes "replay") w ≡ false)
-    × (bytes_eq (codes "layers") w ≡ false)
+-- none of these rows' commands is this word
+abbrev pub NoneOf : List RowText → Text → Type 0
+NoneOf [] w = Unit {0}
+NoneOf (r ∷ rs) w = (bytes_eq r.0 w ≡ false) × NoneOf rs w
 
-stray : (x : ℕ) (xs : Text) → eqb x 45 ≡ false → NoCommand (x ∷ xs) → turn_fault top names start (x ∷ xs) ≡ UnknownArgument ∷ InvalidSubcommand ∷ []
+stray : (x : ℕ) (xs : Text) → eqb x 45 ≡ false → NoneOf rows (x ∷ xs) → turn_fault top names start (x ∷ xs) ≡ UnknownArgument ∷ InvalidSubcommand ∷ []
 unfolding clap_on_literals
-stray x xs e other = simp (e, other.0, other.1, other.2, other.3, other.4)
+stray x xs e other = simp (e, other.0, other.1.0, other.1.1.0, other.1.1.1.0, other.1.1.1.1.0, other.1.1.1.1.1.0)
 
-pub no_command : (w : Text) (rest : List Text) → IsOperand w → NoCommand w → fault_of table (w ∷ rest) ≡ [] → ⊥
+pub no_command : (w : Text) (rest : List Text) → IsOperand w → NoneOf rows w → fault_of table (w ∷ rest) ≡ [] → ⊥
 unfolding walk_fault
 no_command [] rest o other none = absurd o
 no_command (x ∷ xs) rest o other none = let bad = sym (stray x xs (ne_eqb x 45 o) other) ∙ first_none _ _ (first_none _ _ none) in absurd cc

@@ -8,13 +8,13 @@ use Rattle.command_base.specs.declared.stop.Stop.TheVariants as stop
 use Rattle.command_base.specs.declared.status.Status.{Status}
 use Rattle.command_base.specs.declared.status.Status.TheVariants as status
 use Rattle.command_base.specs.Answer.{Answer, read_fault_line, write_fault_line, link_fault_line, memory_line}
-use Rattle.command_base.specs.Jobs.{MayAnswer as MayAnswerOf, EndsBy, Works, WritesSomeOf}
+use Rattle.command_base.specs.Jobs.{MayAnswer as MayAnswerOf, MayGive, EndsBy, Works, WritesSomeOf}
 use Rattle.command_base.specs.Kept.{KeepsRest, OnlyErrors}
 use Rattle.command_base.specs.Sound.{Fits, IsFault}
 use Rattle.command_base.specs.Telling.{Tells, TellsLine, stop_status, stop_line}
 use Rattle.command_base.proofs.Rests.{errors_rest, errors_unread, unread_then, rest_left, left_then}
 use Rattle.command_base.proofs.Views.{told_as, told_both, told_then}
-use Rattle.commands.specs.Requests.{RequestText, check, decode, encode, replay, layers, AsksFor, AsksNothing, job_of}
+use Rattle.commands.specs.Requests.{RequestText, check, decode, encode, replay, make, layers, AsksFor, AsksNothing, job_of}
 use Rattle.commands.specs.Answers.{usage, usage_line, no_request, requested}
 use Rattle.commands.specs.Runs.{MayAnswer, StopsAfter, Ends, answered, read_failed, write_failed, link_failed, out_of_memory, out_of_memory_later, Keeps, LeavesLinks, AnswerFits}
 use Rattle.commands.proofs.OneAnswer.{answer_to}
@@ -38,8 +38,12 @@ module _ (words : List (List ℕ)) (r : RequestText) (asks : AsksFor words r) wh
   still_may M L a v to (inl answer) = inl answer
   still_may M L a v to (inr (rose, broken)) = inr (to rose, broken)
 
+  still_gives : (M L : Type 0) (a : Answer) (v : View) → (M → L) → MayGive (job_of r) M v a → MayGive (job_of r) L v a
+  still_gives M L a v to (inl may) = inl (still_may M L a v to may)
+  still_gives M L a v to (inr part) = inr part
+
   still_some : (M L : Type 0) (v u : View) → (M → L) → WritesSomeOf (job_of r) M v u → WritesSomeOf (job_of r) L v u
-  still_some M L v u to (a, may, output, errors) = (a, still_may M L a v to may, output, errors)
+  still_some M L v u to (a, may, output, errors) = (a, still_gives M L a v to may, output, errors)
 
   module _ (R W L : Type 0) where
     pub ends_well : (a b : Option View) (k s : Status) → k ≡ s → Told a b (Works W L (job_of r) (Ok s)) → Told a b (Ends words R W L k)
@@ -62,12 +66,12 @@ module _ (words : List (List ℕ)) (r : RequestText) (asks : AsksFor words r) wh
       unfolding stopped_after
       ended (stop.Refused line) k is read write link v u w h told rest = ended_by status.Refused k line.items v u w is h told rest
       ended (stop.Peer line) k is read write link v u w h told rest = ended_by status.PeerFault k line.items v u w is h told rest
-      ended stop.ReadFault k is read write link v u w only (same, told) rest =
-          read_failed (r, asks) (read is) is (same ∙ only.output) (tells_on T read_fault_line v u w only.errors told_write told)
+      ended stop.ReadFault k is read write link v u w none (same, told) rest =
+          read_failed (r, asks) (read is) is (same ∙ none.output) (tells_on T read_fault_line v u w none.errors told_write told)
       ended stop.WriteFault k is read write link v u w some told rest = write_failed (write is) is (stopped_after write_fault_line v u w some told)
       ended stop.LinkFault k is read write link v u w some told rest = link_failed (link is) is (stopped_after link_fault_line v u w some told)
-      ended stop.Memory k is read write link v u w (inl (output, errors)) (same, told) rest =
-          out_of_memory is (same ∙ output) (tells_on T memory_line v u w errors told_write told)
+      ended stop.Memory k is read write link v u w (inl none) (same, told) rest =
+          out_of_memory is (same ∙ none.output) (tells_on T memory_line v u w none.errors told_write told)
       ended stop.Memory k is read write link v u w (inr (goes, some)) told rest = out_of_memory_later is (stopped_after memory_line v u w some told) goes
 
       pub ends_stopped : (e : Stop) (k : Status) (a m b : Option View) → k ≡ stop_status e → (k ≡ status.ReadFault → R) → (k ≡ status.WriteFault → W) → (k ≡ status.LinkFault → L)
@@ -93,7 +97,8 @@ rest_keeps : (r : RequestText) (v w : View) → OnlyErrors v w → (job_of r).ke
 rest_keeps (check schema) v w = errors_unread _ v w
 rest_keeps (decode schema type input) v w = errors_unread _ v w
 rest_keeps (encode schema type input) v w = errors_unread _ v w
-rest_keeps (replay schema journal) v w = errors_unread _ v w
+rest_keeps (replay schema journal clients) v w = errors_unread _ v w
+rest_keeps (make schema number steps) v w = errors_unread _ v w
 rest_keeps (layers old new type) v w = errors_unread _ v w
 
 pub memory_kept : (words : List (List ℕ)) (a b : Option View) → Told a b OnlyErrors → Told a b (Keeps words)
@@ -111,7 +116,8 @@ module _ (words : List (List ℕ)) (r : RequestText) (asks : AsksFor words r) wh
   kept_then (check schema) v u w = unread_then _ v u w
   kept_then (decode schema type input) v u w = unread_then _ v u w
   kept_then (encode schema type input) v u w = unread_then _ v u w
-  kept_then (replay schema journal) v u w = unread_then _ v u w
+  kept_then (replay schema journal clients) v u w = unread_then _ v u w
+  kept_then (make schema number steps) v u w = unread_then _ v u w
   kept_then (layers old new type) v u w = unread_then _ v u w
 
   pub done_kept : (a b : Option View) → Told a b (job_of r).keeps → Told a b (Keeps words)

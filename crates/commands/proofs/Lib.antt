@@ -1,5 +1,7 @@
 pub mod Decided
+pub mod NumberWords
 pub mod Rows
+pub mod Ranges
 pub mod RowsTold
 pub mod OperandsRead
 pub mod CommandsRead

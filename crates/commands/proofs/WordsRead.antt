@@ -8,11 +8,14 @@ use Rattle.std.proofs.lemmas.Slice.Eq.{bytes_eq-Decides}
 use Rattle.clap.specs.Words.{App, Text, Row, fault_of, subcommand_of, is_simple, is_simple_and_free, HasKind, kind_of}
 use Rattle.clap.specs.declared.error.Error.{Error}
 use Rattle.clap.specs.declared.error.kind.ErrorKind.TheVariants.{OutOfMemory}
-use Rattle.commands.specs.Requests.{RequestText, check, decode, encode, replay, layers, IsOperand, AsksFor, AsksNothing, FindsRequest, request_text}
+use Rattle.commands.specs.Numbers.{number_from, is_number}
+use Rattle.commands.specs.Requests.{RequestText, check, decode, encode, replay, make, layers, IsOperand, clients_range, run_range, steps_range, AsksFor, AsksNothing, FindsRequest, request_text}
 use Rattle.commands.specs.declared.request.Request.{Request}
-use Rattle.commands.specs.CommandLine.{table, request_in, replayed}
-use Rattle.commands.proofs.CommandsRead.{table_is_simple, table_is_free, check_enters, decode_enters, encode_enters, replay_enters, layers_enters, no_words, no_command}
-use Rattle.commands.proofs.OperandsRead.{Operands, one_fits, one_read, one_only, three_fit, three_read, three_only}
+use Rattle.commands.specs.CommandLine.{RowText, rows, table, request_in, replayed, drawn}
+use Rattle.commands.proofs.CommandsRead.{Enters, NoneOf, table_is_simple, table_is_free, check_enters, decode_enters, encode_enters, replay_enters, make_enters, layers_enters, no_words, no_command}
+use Rattle.commands.proofs.NumberWords.{is_number_word, no_number_word, number_operand}
+use Rattle.commands.proofs.OperandsRead.{Operands, leaf, given, one_fits, one_read, one_only, three_fit, three_read, three_only}
+use Rattle.commands.proofs.Rows.{asks_nothing}
 
 -- ---- operands
 
@@ -20,7 +23,9 @@ asked_operands : (words : List Text) (r : RequestText) → AsksFor words r → O
 asked_operands words (check schema) asks = subst Operands (sym asks.0) (eqb-false 99 45 refl, (asks.1, tt))
 asked_operands words (decode schema type input) asks = subst Operands (sym asks.0) (eqb-false 100 45 refl, (asks.1, (asks.2, (asks.3, tt))))
 asked_operands words (encode schema type input) asks = subst Operands (sym asks.0) (eqb-false 101 45 refl, (asks.1, (asks.2, (asks.3, tt))))
-asked_operands words (replay schema journal) asks = subst Operands (sym asks.0) (eqb-false 114 45 refl, (asks.1, (asks.2, (eqb-false 49 45 refl, tt))))
+asked_operands words (replay schema journal clients) (n, is, os, oj, number) = subst Operands (sym is) (eqb-false 114 45 refl, (os, (oj, (number_operand clients_range n clients number, tt))))
+asked_operands words (make schema number steps) (n, s, is, os, run, some) =
+    subst Operands (sym is) (eqb-false 109 45 refl, (os, (number_operand run_range n number run, (number_operand steps_range s steps some, tt))))
 asked_operands words (layers old new type) asks = subst Operands (sym asks.0) (eqb-false 108 45 refl, (asks.1, (asks.2, (asks.3, tt))))
 
 module _ {A : Type 0} (f : A → Text) where
@@ -37,35 +42,6 @@ module _ {A : Type 0} (f : A → Text) where
   pub none_asked : (xs : List A) → (All (λ w. IsOperand (f w)) xs → ⊥) → AsksNothing (map f xs)
   none_asked xs none r asks = none (all_from xs (asked_operands (map f xs) r asks))
 
--- ---- words of a row are taken
-
-row_fits : (words : List Text) (r : RequestText) → AsksFor words r → fault_of table words ≡ []
-row_fits words (check schema) asks =
-    ap (fault_of table) asks.0 ∙ (check_enters (schema ∷ [])).fault ∙ one_fits (codes "check") (codes "SCHEMA") schema asks.1
-row_fits words (decode schema type input) asks =
-    ap (fault_of table) asks.0 ∙ (decode_enters (schema ∷ type ∷ input ∷ [])).fault
-    ∙ three_fit (codes "decode") (codes "SCHEMA") (codes "TYPE") (codes "INPUT") refl refl refl schema type input asks.1 asks.2 asks.3
-row_fits words (encode schema type input) asks =
-    ap (fault_of table) asks.0 ∙ (encode_enters (schema ∷ type ∷ input ∷ [])).fault
-    ∙ three_fit (codes "encode") (codes "SCHEMA") (codes "TYPE") (codes "INPUT") refl refl refl schema type input asks.1 asks.2 asks.3
-row_fits words (replay schema journal) asks =
-    ap (fault_of table) asks.0 ∙ (replay_enters (schema ∷ journal ∷ codes "1" ∷ [])).fault
-    ∙ three_fit (codes "replay") (codes "SCHEMA") (codes "JOURNAL") (codes "CLIENTS") refl refl refl schema journal (codes "1") asks.1 asks.2 (eqb-false 49 45 refl)
-row_fits words (layers old new type) asks =
-    ap (fault_of table) asks.0 ∙ (layers_enters (old ∷ new ∷ type ∷ [])).fault
-    ∙ three_fit (codes "layers") (codes "OLD") (codes "NEW") (codes "TYPE") refl refl refl old new type asks.1 asks.2 asks.3
-
--- so words that are refused, and not for memory, are no row
-refused : (words : List Text) (e : Error) → HasKind (fault_of table words) e → (kind_of e ≡ OutOfMemory → ⊥) → fault_of table words ≡ [] → ⊥
-refused words e has never none = elim (subst (λ kinds. HasKind kinds e) none has) [
-  | inl memory ↦ never memory
-  | inr among ↦ among
-]
-
-pub refused_asked : (words : List Text) (a : App) (e : Error) → a ≡ table → (is_simple_and_free a ≡ true → HasKind (fault_of a words) e) → (kind_of e ≡ OutOfMemory → ⊥) → AsksNothing words
-refused_asked words a e is kinds never r asks =
-    refused words e (subst (λ (b : App). HasKind (fault_of b words) e) is (kinds (ap is_simple_and_free is ∙ table_is_free))) never (row_fits words r asks)
-
 -- ---- words that are taken make what is found in them
 
 abbrev Makes : List Text → Option RequestText → Type 0
@@ -78,85 +54,108 @@ MakesOf words found = Makes words (request_in found)
 abbrev Made : List Text → Type 0
 Made words = Operands words → fault_of table words ≡ [] → MakesOf words (subcommand_of table words)
 
-check_made : (rest : List Text) → Made (codes "check" ∷ rest)
-check_made rest o none =
-    let goes = check_enters rest in
-    one_only (codes "check") (codes "SCHEMA") (λ rest. MakesOf (codes "check" ∷ rest) (subcommand_of table (codes "check" ∷ rest))) rest o.1 (sym goes.fault ∙ none)
-    (λ s os. subst (MakesOf (codes "check" ∷ s ∷ [])) (sym ((check_enters (s ∷ [])).found ∙ ap Some (one_read (codes "check") (codes "SCHEMA") s os))) (refl, os))
+-- a command of one operand
+module _ (command a : Text) (goes : (rest : List Text) → Enters command (leaf command (a ∷ [])) rest) where
+  one_taken : (words : List Text) (s : Text) → words ≡ command ∷ s ∷ [] → IsOperand s → fault_of table words ≡ []
+  one_taken words s is os = ap (fault_of table) is ∙ (goes (s ∷ [])).fault ∙ one_fits command a s os
 
-decode_made : (rest : List Text) → Made (codes "decode" ∷ rest)
-decode_made rest o none =
-    let goes = decode_enters rest in
-    three_only (codes "decode") (codes "SCHEMA") (codes "TYPE") (codes "INPUT") refl refl refl (λ rest. MakesOf (codes "decode" ∷ rest) (subcommand_of table (codes "decode" ∷ rest))) rest o.1 (sym goes.fault ∙ none)
-    (λ s t i os ot oi. subst (MakesOf (codes "decode" ∷ s ∷ t ∷ i ∷ [])) (sym ((decode_enters (s ∷ t ∷ i ∷ [])).found ∙ ap Some (three_read (codes "decode") (codes "SCHEMA") (codes "TYPE") (codes "INPUT") refl refl refl s t i os ot oi)))
-    (refl, os, ot, oi))
+  one_made : ((s : Text) → IsOperand s → MakesOf (command ∷ s ∷ []) (Some (command, given a s ∷ []))) → (rest : List Text) → Made (command ∷ rest)
+  one_made makes rest o none =
+      one_only command a (λ rest. MakesOf (command ∷ rest) (subcommand_of table (command ∷ rest))) rest o.1 (sym (goes rest).fault ∙ none)
+      (λ s os. subst (MakesOf (command ∷ s ∷ [])) (sym ((goes (s ∷ [])).found ∙ ap Some (one_read command a s os))) (makes s os))
 
-encode_made : (rest : List Text) → Made (codes "encode" ∷ rest)
-encode_made rest o none =
-    let goes = encode_enters rest in
-    three_only (codes "encode") (codes "SCHEMA") (codes "TYPE") (codes "INPUT") refl refl refl (λ rest. MakesOf (codes "encode" ∷ rest) (subcommand_of table (codes "encode" ∷ rest))) rest o.1 (sym goes.fault ∙ none)
-    (λ s t i os ot oi. subst (MakesOf (codes "encode" ∷ s ∷ t ∷ i ∷ [])) (sym ((encode_enters (s ∷ t ∷ i ∷ [])).found ∙ ap Some (three_read (codes "encode") (codes "SCHEMA") (codes "TYPE") (codes "INPUT") refl refl refl s t i os ot oi)))
-    (refl, os, ot, oi))
+-- a command of three operands
+module _ (command a b c : Text) (ab : bytes_eq a b ≡ false) (ac : bytes_eq a c ≡ false) (bc : bytes_eq b c ≡ false) (goes : (rest : List Text) → Enters command (leaf command (a ∷ b ∷ c ∷ [])) rest) where
+  three_taken : (words : List Text) (s t u : Text) → words ≡ command ∷ s ∷ t ∷ u ∷ [] → IsOperand s → IsOperand t → IsOperand u → fault_of table words ≡ []
+  three_taken words s t u is os ot ou = ap (fault_of table) is ∙ (goes (s ∷ t ∷ u ∷ [])).fault ∙ three_fit command a b c ab ac bc s t u os ot ou
 
--- one client, or no row
-abbrev replay_words : Text → Text → Text → List Text
-replay_words s j n = codes "replay" ∷ s ∷ j ∷ n ∷ []
+  three_made : ((s t u : Text) → IsOperand s → IsOperand t → IsOperand u → MakesOf (command ∷ s ∷ t ∷ u ∷ []) (Some (command, given a s ∷ given b t ∷ given c u ∷ []))) → (rest : List Text) → Made (command ∷ rest)
+  three_made makes rest o none =
+      three_only command a b c ab ac bc (λ rest. MakesOf (command ∷ rest) (subcommand_of table (command ∷ rest))) rest o.1 (sym (goes rest).fault ∙ none)
+      (λ s t u os ot ou. subst (MakesOf (command ∷ s ∷ t ∷ u ∷ [])) (sym ((goes (s ∷ t ∷ u ∷ [])).found ∙ ap Some (three_read command a b c ab ac bc s t u os ot ou))) (makes s t u os ot ou))
 
-no_replay : (s j n : Text) → (n ≡ codes "1" → ⊥) → AsksNothing (replay_words s j n)
-no_replay s j n other (check schema) asks = let e : ◌≡◌ {A = ℕ} 4 2 = ap length asks.0 in omega (arith, e)
-no_replay s j n other (decode schema type input) asks = absurd (eqb-false 114 100 refl (ap (λ (ws : List Text). get_or (get_or ws 0 []) 0 0) asks.0))
-no_replay s j n other (encode schema type input) asks = absurd (eqb-false 114 101 refl (ap (λ (ws : List Text). get_or (get_or ws 0 []) 0 0) asks.0))
-no_replay s j n other (layers old new type) asks = absurd (eqb-false 114 108 refl (ap (λ (ws : List Text). get_or (get_or ws 0 []) 0 0) asks.0))
-no_replay s j n other (replay schema journal) asks = other (ap (λ (ws : List Text). get_or ws 3 []) asks.0)
+-- ---- words of a row are taken
 
-clients_made : (s j n : Text) → IsOperand s → IsOperand j → (b : Bool) → bytes_eq n (codes "1") ≡ b → Makes (replay_words s j n) (replayed (Some s) (Some j) (Some n))
-clients_made s j n os oj true is = rw is (ap (replay_words s j) ((bytes_eq-Decides n (codes "1")).0 is), os, oj)
-clients_made s j n os oj false is = rw is (no_replay s j n (λ e. true≢false (sym ((bytes_eq-Decides n (codes "1")).1 e) ∙ is)))
+row_fits : (words : List Text) (r : RequestText) → AsksFor words r → fault_of table words ≡ []
+row_fits words (check schema) asks = one_taken (codes "check") (codes "SCHEMA") check_enters words schema asks.0 asks.1
+row_fits words (decode schema type input) asks =
+    three_taken (codes "decode") (codes "SCHEMA") (codes "TYPE") (codes "INPUT") refl refl refl decode_enters words schema type input asks.0 asks.1 asks.2 asks.3
+row_fits words (encode schema type input) asks =
+    three_taken (codes "encode") (codes "SCHEMA") (codes "TYPE") (codes "INPUT") refl refl refl encode_enters words schema type input asks.0 asks.1 asks.2 asks.3
+row_fits words (replay schema journal clients) (n, is, os, oj, number) =
+    three_taken (codes "replay") (codes "SCHEMA") (codes "JOURNAL") (codes "CLIENTS") refl refl refl replay_enters words schema journal n is os oj (number_operand clients_range n clients number)
+row_fits words (make schema number steps) (n, s, is, os, run, some) =
+    three_taken (codes "make") (codes "SCHEMA") (codes "NUMBER") (codes "STEPS") refl refl refl make_enters words schema n s is os (number_operand run_range n number run) (number_operand steps_range s steps some)
+row_fits words (layers old new type) asks =
+    three_taken (codes "layers") (codes "OLD") (codes "NEW") (codes "TYPE") refl refl refl layers_enters words old new type asks.0 asks.1 asks.2 asks.3
 
-replay_made : (rest : List Text) → Made (codes "replay" ∷ rest)
-replay_made rest o none =
-    let goes = replay_enters rest in
-    three_only (codes "replay") (codes "SCHEMA") (codes "JOURNAL") (codes "CLIENTS") refl refl refl (λ rest. MakesOf (codes "replay" ∷ rest) (subcommand_of table (codes "replay" ∷ rest))) rest o.1 (sym goes.fault ∙ none)
-    (λ s j n os oj on. subst (MakesOf (replay_words s j n)) (sym ((replay_enters (s ∷ j ∷ n ∷ [])).found ∙ ap Some (three_read (codes "replay") (codes "SCHEMA") (codes "JOURNAL") (codes "CLIENTS") refl refl refl s j n os oj on)))
-    (clients_made s j n os oj (bytes_eq n (codes "1")) refl))
+-- so words that are refused, and not for memory, are no row
+refused : (words : List Text) (e : Error) → HasKind (fault_of table words) e → (kind_of e ≡ OutOfMemory → ⊥) → fault_of table words ≡ [] → ⊥
+refused words e has never none = elim (subst (λ kinds. HasKind kinds e) none has) [
+  | inl memory ↦ never memory
+  | inr among ↦ among
+]
 
-layers_made : (rest : List Text) → Made (codes "layers" ∷ rest)
-layers_made rest o none =
-    let goes = layers_enters rest in
-    three_only (codes "layers") (codes "OLD") (codes "NEW") (codes "TYPE") refl refl refl (λ rest. MakesOf (codes "layers" ∷ rest) (subcommand_of table (codes "layers" ∷ rest))) rest o.1 (sym goes.fault ∙ none)
-    (λ s t i os ot oi. subst (MakesOf (codes "layers" ∷ s ∷ t ∷ i ∷ [])) (sym ((layers_enters (s ∷ t ∷ i ∷ [])).found ∙ ap Some (three_read (codes "layers") (codes "OLD") (codes "NEW") (codes "TYPE") refl refl refl s t i os ot oi)))
-    (refl, os, ot, oi))
+pub refused_asked : (words : List Text) (a : App) (e : Error) → a ≡ table → (is_simple_and_free a ≡ true → HasKind (fault_of a words) e) → (kind_of e ≡ OutOfMemory → ⊥) → AsksNothing words
+refused_asked words a e is kinds never r asks =
+    refused words e (subst (λ (b : App). HasKind (fault_of b words) e) is (kinds (ap is_simple_and_free is ∙ table_is_free))) never (row_fits words r asks)
 
 -- ---- by the command
+
+check_made : (rest : List Text) → Made (codes "check" ∷ rest)
+check_made = one_made (codes "check") (codes "SCHEMA") check_enters (λ s os. (refl, os))
+
+decode_made : (rest : List Text) → Made (codes "decode" ∷ rest)
+decode_made = three_made (codes "decode") (codes "SCHEMA") (codes "TYPE") (codes "INPUT") refl refl refl decode_enters (λ s t i os ot oi. (refl, os, ot, oi))
+
+encode_made : (rest : List Text) → Made (codes "encode" ∷ rest)
+encode_made = three_made (codes "encode") (codes "SCHEMA") (codes "TYPE") (codes "INPUT") refl refl refl encode_enters (λ s t i os ot oi. (refl, os, ot, oi))
+
+-- of a number of clients, or of none
+replay_words : (s j n : Text) → IsOperand s → IsOperand j → (b : Bool) → is_number clients_range n ≡ b → Makes (codes "replay" ∷ s ∷ j ∷ n ∷ []) (replayed (Some s) (Some j) (Some n))
+replay_words s j n os oj true is = rw is (n, refl, os, oj, (is_number_word clients_range n).0 is)
+replay_words s j n os oj false is =
+    rw is (asks_nothing (codes "replay" ∷ s ∷ j ∷ n ∷ []) (replay s j (number_from 0 n)) refl (λ asks. no_number_word clients_range n asks.0 (number_from 0 n) is (ap (λ (ws : List Text). get_or ws 3 []) asks.1) asks.4))
+
+replay_made : (rest : List Text) → Made (codes "replay" ∷ rest)
+replay_made = three_made (codes "replay") (codes "SCHEMA") (codes "JOURNAL") (codes "CLIENTS") refl refl refl replay_enters (λ s j n os oj on. replay_words s j n os oj (is_number clients_range n) refl)
+
+-- of two numbers, or not
+make_words : (s n k : Text) → IsOperand s → (b : Bool) → is_number run_range n ≡ b → (d : Bool) → is_number steps_range k ≡ d → Makes (codes "make" ∷ s ∷ n ∷ k ∷ []) (drawn (Some s) (Some n) (Some k))
+make_words s n k os true is true at = rw is (rw at (n, k, refl, os, (is_number_word run_range n).0 is, (is_number_word steps_range k).0 at))
+make_words s n k os true is false at =
+    rw is (rw at (asks_nothing (codes "make" ∷ s ∷ n ∷ k ∷ []) (make s (number_from 0 n) (number_from 0 k)) refl (λ asks. no_number_word steps_range k asks.1 (number_from 0 k) at (ap (λ (ws : List Text). get_or ws 3 []) asks.2) asks.5)))
+make_words s n k os false is d at =
+    rw is (asks_nothing (codes "make" ∷ s ∷ n ∷ k ∷ []) (make s (number_from 0 n) (number_from 0 k)) refl (λ asks. no_number_word run_range n asks.0 (number_from 0 n) is (ap (λ (ws : List Text). get_or ws 2 []) asks.2) asks.4))
+
+make_made : (rest : List Text) → Made (codes "make" ∷ rest)
+make_made = three_made (codes "make") (codes "SCHEMA") (codes "NUMBER") (codes "STEPS") refl refl refl make_enters (λ s n k os on ok. make_words s n k os (is_number run_range n) refl (is_number steps_range k) refl)
+
+layers_made : (rest : List Text) → Made (codes "layers" ∷ rest)
+layers_made = three_made (codes "layers") (codes "OLD") (codes "NEW") (codes "TYPE") refl refl refl layers_enters (λ s t i os ot oi. (refl, os, ot, oi))
+
+-- words that begin with these rows' commands
+abbrev EachMade : List RowText → Type 0
+EachMade [] = Unit {0}
+EachMade (r ∷ rs) = ((rest : List Text) → Made (r.0 ∷ rest)) × EachMade rs
+
+each_made : EachMade rows
+each_made = (check_made, (decode_made, (encode_made, (replay_made, (make_made, (layers_made, tt))))))
 
 named : (command w : Text) (rest : List Text) → bytes_eq command w ≡ true → Made (command ∷ rest) → Made (w ∷ rest)
 named command w rest is = subst (λ (x : Text). Made (x ∷ rest)) ((bytes_eq-Decides command w).0 is)
 
-by_layers : (w : Text) (rest : List Text) → bytes_eq (codes "check") w ≡ false → bytes_eq (codes "decode") w ≡ false → bytes_eq (codes "encode") w ≡ false
-    → bytes_eq (codes "replay") w ≡ false → (b : Bool) → bytes_eq (codes "layers") w ≡ b → Made (w ∷ rest)
-by_layers w rest e f g h true i = named (codes "layers") w rest i (layers_made rest)
-by_layers w rest e f g h false i = λ o none. absurd (no_command w rest o.0 (e, f, g, h, i) none)
+by_first : (r : RowText) (w : Text) (rest : List Text) → ((more : List Text) → Made (r.0 ∷ more)) → (b : Bool) → bytes_eq r.0 w ≡ b → (bytes_eq r.0 w ≡ false → Made (w ∷ rest)) → Made (w ∷ rest)
+by_first r w rest each true is other = named r.0 w rest is (each rest)
+by_first r w rest each false is other = other is
 
-by_replay : (w : Text) (rest : List Text) → bytes_eq (codes "check") w ≡ false → bytes_eq (codes "decode") w ≡ false → bytes_eq (codes "encode") w ≡ false → (b : Bool)
-    → bytes_eq (codes "replay") w ≡ b → Made (w ∷ rest)
-by_replay w rest e f g true h = named (codes "replay") w rest h (replay_made rest)
-by_replay w rest e f g false h = by_layers w rest e f g h (bytes_eq (codes "layers") w) refl
-
-by_encode : (w : Text) (rest : List Text) → bytes_eq (codes "check") w ≡ false → bytes_eq (codes "decode") w ≡ false → (b : Bool) → bytes_eq (codes "encode") w ≡ b → Made (w ∷ rest)
-by_encode w rest e f true g = named (codes "encode") w rest g (encode_made rest)
-by_encode w rest e f false g = by_replay w rest e f g (bytes_eq (codes "replay") w) refl
-
-by_decode : (w : Text) (rest : List Text) → bytes_eq (codes "check") w ≡ false → (b : Bool) → bytes_eq (codes "decode") w ≡ b → Made (w ∷ rest)
-by_decode w rest e true f = named (codes "decode") w rest f (decode_made rest)
-by_decode w rest e false f = by_encode w rest e f (bytes_eq (codes "encode") w) refl
-
-by_check : (w : Text) (rest : List Text) → (b : Bool) → bytes_eq (codes "check") w ≡ b → Made (w ∷ rest)
-by_check w rest true e = named (codes "check") w rest e (check_made rest)
-by_check w rest false e = by_decode w rest e (bytes_eq (codes "decode") w) refl
+by_rows : (rs : List RowText) (w : Text) (rest : List Text) → EachMade rs → (NoneOf rs w → Made (w ∷ rest)) → Made (w ∷ rest)
+by_rows [] w rest each other = other tt
+by_rows (r ∷ rs) w rest each other = by_first r w rest each.0 (bytes_eq r.0 w) refl (λ is. by_rows rs w rest each.1 (λ none. other (is, none)))
 
 made : (words : List Text) → Made words
 made [] = λ o none. absurd (no_words none)
-made (w ∷ rest) = by_check w rest (bytes_eq (codes "check") w) refl
+made (w ∷ rest) = by_rows rows w rest each_made (λ other o none. absurd (no_command w rest o.0 other none))
 
 finds : (words : List Text) (o : Option Request) → Makes words (option_map request_text o) → FindsRequest words o
 finds words None h = h

@@ -1,7 +1,7 @@
 -- What the program answers: its status, what it writes, and what it leaves. This project's own.
 use Rattle.std.specs.Prelude.{◌≡◌, ℕ, List, codes}
 use Rattle.tl_base.specs.Contents.{HoldBytes}
-use Rattle.tl_base.specs.Outside.{View}
+use Rattle.tl_base.specs.Outside.{View, ShowsBytes}
 use Rattle.command_base.specs.Answer.{Answer, misused}
 use Rattle.commands.specs.Requests.{RequestText, AsksFor, AsksNothing, HasFilesOf, job_of}
 
@@ -20,9 +20,9 @@ pub data Answers (words : List (List ℕ)) (v : View) (a : Answer) : Type 0 wher
   no_request : AsksNothing words → a ≡ usage → Answers words v a
   requested : (r : RequestText) → AsksFor words r → AnswerTo r v a → Answers words v a
 
--- words and an outside have one answer at most
+-- words have one answer at most over an outside that shows bytes
 abbrev pub HasOneAnswer : Type 0
-HasOneAnswer = (words : List (List ℕ)) (v : View) (a b : Answer) → Answers words v a → Answers words v b → a ≡ b
+HasOneAnswer = (words : List (List ℕ)) (v : View) → ShowsBytes v → (a b : Answer) → Answers words v a → Answers words v b → a ≡ b
 
 -- words ask for nothing, or for a request
 pub data Asks (words : List (List ℕ)) : Type 0 where

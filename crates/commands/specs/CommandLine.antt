@@ -1,9 +1,12 @@
 -- The rows as `clap` is told them, and the request that is made of what it finds: how words are read. What they ask for stands in Requests.antt,
 -- which cites nothing of this. This project's own.
-use Rattle.std.specs.Prelude.{true, List, [], ◌∷◌, map, Option, Some, None, option_map, option_and_then, codes, if◌then◌else◌}
+use Rattle.std.specs.Prelude.{true, ℕ, List, [], ◌∷◌, map, Option, Some, None, option_map, option_and_then, codes, if◌then◌else◌}
+use Rattle.std.specs.List.{fold}
 use Rattle.std.specs.Str.{bytes_eq}
 use Rattle.clap.specs.Words.{App, Row, Rule, Text, first_of, new_app, new_rule, with_subcommand}
-use Rattle.commands.specs.Requests.{RequestText, check, decode, encode, replay, layers}
+use Rattle.commands.specs.Numbers.{number_of}
+use Rattle.commands.specs.Requests.{RequestText, check, decode, encode, replay, make, layers, clients_range, run_range, steps_range}
+use Rattle.commands.specs.declared.table.Row.{Row as TableRow}
 
 -- an operand, which has to be there
 abbrev pub operand : Text → Rule
@@ -19,16 +22,32 @@ program =
     let a = new_app (codes "tlbox") in
     record a { top = record a.top { no_binary_name = true; disable_help_flag = true; disable_help_subcommand = true; disable_version_flag = true; subcommand_required = true } }
 
-abbrev with_row : App → Text → List Text → App
-with_row a command operands = with_subcommand a (row command operands).top
+-- a command, and the names of its operands
+abbrev pub RowText : Type 0
+RowText = Text × List Text
+
+abbrev pub rows : List RowText
+rows =
+    (codes "check", codes "SCHEMA" ∷ [])
+    ∷ (codes "decode", codes "SCHEMA" ∷ codes "TYPE" ∷ codes "INPUT" ∷ [])
+    ∷ (codes "encode", codes "SCHEMA" ∷ codes "TYPE" ∷ codes "INPUT" ∷ [])
+    ∷ (codes "replay", codes "SCHEMA" ∷ codes "JOURNAL" ∷ codes "CLIENTS" ∷ [])
+    ∷ (codes "make", codes "SCHEMA" ∷ codes "NUMBER" ∷ codes "STEPS" ∷ [])
+    ∷ (codes "layers", codes "OLD" ∷ codes "NEW" ∷ codes "TYPE" ∷ [])
+    ∷ []
+
+abbrev pub with_row : App → RowText → App
+with_row a r = with_subcommand a (row r.0 r.1).top
+
+abbrev pub with_rows : App → List RowText → App
+with_rows a rs = fold with_row a rs
 
 abbrev pub table : App
-table = with_row (with_row (with_row (with_row (with_row program
-    (codes "check") (codes "SCHEMA" ∷ []))
-    (codes "decode") (codes "SCHEMA" ∷ codes "TYPE" ∷ codes "INPUT" ∷ []))
-    (codes "encode") (codes "SCHEMA" ∷ codes "TYPE" ∷ codes "INPUT" ∷ []))
-    (codes "replay") (codes "SCHEMA" ∷ codes "JOURNAL" ∷ codes "CLIENTS" ∷ []))
-    (codes "layers") (codes "OLD" ∷ codes "NEW" ∷ codes "TYPE" ∷ [])
+table = with_rows program rows
+
+-- a row of the program
+abbrev pub row_text : TableRow → RowText
+row_text r = (r.command.now, map (λ s. s.now) r.operands.now)
 
 -- ---- the request of a row, by the word of each operand
 
@@ -46,13 +65,25 @@ decode_of word = typed decode (word (codes "SCHEMA")) (word (codes "TYPE")) (wor
 abbrev pub encode_of : (Text → Option Text) → Option RequestText
 encode_of word = typed encode (word (codes "SCHEMA")) (word (codes "TYPE")) (word (codes "INPUT"))
 
--- one client
+-- some clients
 abbrev pub replayed : Option Text → Option Text → Option Text → Option RequestText
-replayed (Some schema) (Some journal) (Some clients) = if bytes_eq clients (codes "1") then Some (replay schema journal) else None
+replayed (Some schema) (Some journal) (Some clients) = option_map (replay schema journal) (number_of clients_range clients)
 replayed _ _ _ = None
 
 abbrev pub replay_of : (Text → Option Text) → Option RequestText
 replay_of word = replayed (word (codes "SCHEMA")) (word (codes "JOURNAL")) (word (codes "CLIENTS"))
+
+-- a run of a number, of some steps
+abbrev numbered : Text → Option ℕ → Option ℕ → Option RequestText
+numbered schema (Some number) (Some steps) = Some (make schema number steps)
+numbered schema _ _ = None
+
+abbrev pub drawn : Option Text → Option Text → Option Text → Option RequestText
+drawn (Some schema) (Some number) (Some steps) = numbered schema (number_of run_range number) (number_of steps_range steps)
+drawn _ _ _ = None
+
+abbrev pub make_of : (Text → Option Text) → Option RequestText
+make_of word = drawn (word (codes "SCHEMA")) (word (codes "NUMBER")) (word (codes "STEPS"))
 
 abbrev pub layers_of : (Text → Option Text) → Option RequestText
 layers_of word = typed layers (word (codes "OLD")) (word (codes "NEW")) (word (codes "TYPE"))
@@ -63,6 +94,7 @@ request_at command word =
     else if bytes_eq command (codes "decode") then decode_of word
     else if bytes_eq command (codes "encode") then encode_of word
     else if bytes_eq command (codes "replay") then replay_of word
+    else if bytes_eq command (codes "make") then make_of word
     else if bytes_eq command (codes "layers") then layers_of word
     else None
 

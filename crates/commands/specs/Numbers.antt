@@ -1,5 +1,5 @@
 -- Numbers in words. This project's own.
-use Rattle.std.specs.Prelude.{◌≡◌, ℕ, ◌+◌, ◌-◌, ◌*◌, ◌^◌, ◌≤◌, min, List, [], ◌∷◌, length, Option, Some, None}
+use Rattle.std.specs.Prelude.{◌≡◌, ℕ, ◌+◌, ◌-◌, ◌*◌, ◌^◌, ◌≤◌, min, List, [], ◌∷◌, length, Bool, true, ◌&&◌, leb, Option, Some, None, if◌then◌else◌}
 use Rattle.std.specs.List.{All}
 use Rattle.commands.specs.declared.number.Range.{Range}
 
@@ -25,6 +25,20 @@ pub record IsNumberWord (range : Range) (word : List ℕ) (n : ℕ) : Type 0 whe
 abbrev pub FindsNumber : Range → List ℕ → Option ℕ → Type 0
 FindsNumber range word (Some n) = IsNumberWord range word n
 FindsNumber range word None = (n : ℕ) → IsNumberWord range word n → ⊥
+
+-- ---- the same as functions
+
+abbrev pub are_digits : List ℕ → Bool
+are_digits [] = true
+are_digits (b ∷ bs) = (leb 48 b && leb b 57) && are_digits bs
+
+-- some digits, not too many, of a number from the least to the most
+abbrev pub is_number : Range → List ℕ → Bool
+is_number range word = ((leb 1 (length word) && leb (length word) range.digits) && are_digits word) && (leb range.least (number_from 0 word) && leb (number_from 0 word) range.most)
+
+-- the number of the range that the word is, if it is one
+abbrev pub number_of : Range → List ℕ → Option ℕ
+number_of range word = if is_number range word then Some (number_from 0 word) else None
 
 -- ---- parts
 

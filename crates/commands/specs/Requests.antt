@@ -1,5 +1,5 @@
 -- The table of requests: what words ask for, which files that takes, and the job that is done. This project's own.
-use Rattle.std.specs.Prelude.{◌≡◌, ◌≢◌, ℕ, List, [], ◌∷◌, Option, Some, None, codes}
+use Rattle.std.specs.Prelude.{◌≡◌, ◌≢◌, ◌≤◌, ℕ, List, [], ◌∷◌, Option, Some, None, codes}
 use Rattle.tl_base.specs.Contents.{Files}
 use Rattle.tl_base.specs.Outside.{HasFile}
 use Rattle.command_base.specs.Jobs.{Job}
@@ -7,16 +7,20 @@ use Rattle.codec_commands.specs.Check.{check_job}
 use Rattle.codec_commands.specs.Decode.{decode_job}
 use Rattle.codec_commands.specs.Encode.{encode_job}
 use Rattle.layer_commands.specs.Layers.{layers_job}
+use Rattle.update_commands.specs.Make.{make_job}
 use Rattle.update_commands.specs.Replay.{replay_job}
+use Rattle.commands.specs.Numbers.{IsNumberWord}
+use Rattle.commands.specs.declared.number.Range.{Range}
 use Rattle.commands.specs.declared.request.Request.{Request}
-use Rattle.commands.specs.declared.request.Request.TheVariants.{Check, Decode, Encode, Layers, Replay}
+use Rattle.commands.specs.declared.request.Request.TheVariants.{Check, Decode, Encode, Layers, Make, Replay}
 
--- what a run is asked for, each operand as its bytes
+-- what a run is asked for, each operand as its bytes or its number
 pub data RequestText : Type 0 where
   check : (schema : List ℕ) → RequestText
   decode : (schema type input : List ℕ) → RequestText
   encode : (schema type input : List ℕ) → RequestText
-  replay : (schema journal : List ℕ) → RequestText
+  replay : (schema journal : List ℕ) → (clients : ℕ) → RequestText
+  make : (schema : List ℕ) → (number steps : ℕ) → RequestText
   layers : (old new type : List ℕ) → RequestText
 
 -- a word that may be an operand: it is not empty and does not begin with `-`
@@ -24,12 +28,26 @@ abbrev pub IsOperand : List ℕ → Type 0
 IsOperand [] = ⊥
 IsOperand (b ∷ bs) = b ≢ 45
 
--- the words are the request's row: `check SCHEMA`, `decode SCHEMA TYPE INPUT`, `encode SCHEMA TYPE INPUT`, `replay SCHEMA JOURNAL 1`, `layers OLD NEW TYPE`
+-- how many clients a replay has
+abbrev pub clients_range : Range
+clients_range = record { digits = 10; least = 1; most = 16 }
+
+-- the number that a made run is drawn of, and how many steps it has
+abbrev pub run_range : Range
+run_range = record { digits = 10; least = 0; most = 9999999999 }
+
+abbrev pub steps_range : Range
+steps_range = record { digits = 10; least = 1; most = 100000 }
+
+-- the words are the request's row: `check SCHEMA`, `decode SCHEMA TYPE INPUT`, `encode SCHEMA TYPE INPUT`, `replay SCHEMA JOURNAL CLIENTS`,
+-- `make SCHEMA NUMBER STEPS`, `layers OLD NEW TYPE`
 abbrev pub AsksFor : List (List ℕ) → RequestText → Type 0
 AsksFor words (check schema) = (words ≡ codes "check" ∷ schema ∷ []) × IsOperand schema
 AsksFor words (decode schema type input) = (words ≡ codes "decode" ∷ schema ∷ type ∷ input ∷ []) × IsOperand schema × IsOperand type × IsOperand input
 AsksFor words (encode schema type input) = (words ≡ codes "encode" ∷ schema ∷ type ∷ input ∷ []) × IsOperand schema × IsOperand type × IsOperand input
-AsksFor words (replay schema journal) = (words ≡ codes "replay" ∷ schema ∷ journal ∷ codes "1" ∷ []) × IsOperand schema × IsOperand journal
+AsksFor words (replay schema journal clients) = (n : List ℕ) × (words ≡ codes "replay" ∷ schema ∷ journal ∷ n ∷ []) × IsOperand schema × IsOperand journal × IsNumberWord clients_range n clients
+AsksFor words (make schema number steps) =
+    (n s : List ℕ) × (words ≡ codes "make" ∷ schema ∷ n ∷ s ∷ []) × IsOperand schema × IsNumberWord run_range n number × IsNumberWord steps_range s steps
 AsksFor words (layers old new type) = (words ≡ codes "layers" ∷ old ∷ new ∷ type ∷ []) × IsOperand old × IsOperand new × IsOperand type
 
 -- the words are those of no request
@@ -49,7 +67,8 @@ abbrev pub HasFilesOf : Files → RequestText → Type 0
 HasFilesOf files (check schema) = IsFile files schema
 HasFilesOf files (decode schema type input) = IsFile files schema × IsFile files input
 HasFilesOf files (encode schema type input) = IsFile files schema × IsFile files input
-HasFilesOf files (replay schema journal) = IsFile files schema × IsFile files journal
+HasFilesOf files (replay schema journal clients) = IsFile files schema × IsFile files journal
+HasFilesOf files (make schema number steps) = IsFile files schema
 HasFilesOf files (layers old new type) = IsFile files old × IsFile files new
 
 -- the job of a request
@@ -57,7 +76,8 @@ abbrev pub job_of : RequestText → Job
 job_of (check schema) = check_job schema
 job_of (decode schema type input) = decode_job schema type input
 job_of (encode schema type input) = encode_job schema type input
-job_of (replay schema journal) = replay_job schema journal
+job_of (replay schema journal clients) = replay_job schema journal clients
+job_of (make schema number steps) = make_job schema number steps
 job_of (layers old new type) = layers_job old new type
 
 -- ---- the request of the program
@@ -66,8 +86,15 @@ abbrev pub request_text : Request → RequestText
 request_text (Check schema) = check schema.now
 request_text (Decode schema type input) = decode schema.now type.now input.now
 request_text (Encode schema type input) = encode schema.now type.now input.now
-request_text (Replay schema journal) = replay schema.now journal.now
+request_text (Replay schema journal clients) = replay schema.now journal.now clients
+request_text (Make schema number steps) = make schema.now number steps
 request_text (Layers old new type) = layers old.now new.now type.now
+
+-- its numbers are those that its row takes
+abbrev pub IsInRange : RequestText → Type 0
+IsInRange (replay schema journal clients) = (1 ≤ clients) × (clients ≤ 16)
+IsInRange (make schema number steps) = (1 ≤ steps) × (steps ≤ 100000)
+IsInRange r = Unit {0}
 
 -- the request that the words ask for, or none where they ask for none
 abbrev pub FindsRequest : List (List ℕ) → Option Request → Type 0

@@ -2,7 +2,7 @@
 ghost use Rattle.std.specs.Prelude.{ℕ, List};
 ghost use Rattle.commands.specs.Answers.{Asks, HasAnAnswer, HasOneAnswer};
 
-/// Words and files have one answer at most, so that a run which ends with an answer ends with theirs.
+/// Words have one answer at most over an outside that shows bytes, as each host's does, so that a run which ends with an answer ends with theirs.
 pub fn words_and_files_have_one_answer()
     ensures { HasOneAnswer }
 {}

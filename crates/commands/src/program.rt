@@ -5,7 +5,7 @@ ghost use Rattle.tl_base.specs.Causes.{Rose};
 ghost use Rattle.command_base.specs.Jobs.{WorksOver};
 ghost use Rattle.command_base.specs.Sound.{IsFault, MeetsFaultsOf};
 ghost use Rattle.command_base.specs.Telling.{status_of};
-ghost use Rattle.commands.specs.Requests.{AskForOne, AsksNothing, job_of, request_text};
+ghost use Rattle.commands.specs.Requests.{AskForOne, AsksNothing, IsInRange, job_of, request_text};
 ghost use Rattle.commands.specs.Runs.{AnswerFits, EndsOver, Keeps, LeavesLinks};
 
 use crate::request::{Request, request_of};
@@ -14,7 +14,7 @@ use command_base::{Status, Stop, report, tell};
 use layer_commands::compare_schemas;
 use std::alloc::Global;
 use tl_base::Host;
-use update_commands::replay_journal;
+use update_commands::{make_run, replay_journal};
 
 /// What is told where the words are no row.
 const USAGE: &[u8] =
@@ -48,6 +48,7 @@ pub fn run<H: Host>(alloc: Global, words: &[String], host: &mut H) -> Status
 
 // Makes the work of a request.
 fn answer<H: Host>(alloc: Global, host: &mut H, request: Request) -> Result<Status, Stop>
+    requires { IsInRange (request_text request) }
     ensures works { WorksOver (job_of (request_text request.entry)) (H.state host.old) (H.state host.new) result }
     ensures kept { Told (H.state host.old).view (H.state host.new).view (job_of (request_text request.entry)).keeps }
     ensures faults { MeetsFaultsOf (job_of (request_text request.entry)) (H.state host.old) (H.state host.new) (status_of result) }
@@ -56,7 +57,16 @@ fn answer<H: Host>(alloc: Global, host: &mut H, request: Request) -> Result<Stat
         Request::Check { schema } => check_schema(alloc, host, schema),
         Request::Decode { schema, of, input } => decode_input(alloc, host, schema, of, input),
         Request::Encode { schema, of, input } => encode_input(alloc, host, schema, of, input),
-        Request::Replay { schema, journal } => replay_journal(alloc, host, schema, journal),
+        Request::Replay {
+            schema,
+            journal,
+            clients,
+        } => replay_journal(alloc, host, schema, journal, clients),
+        Request::Make {
+            schema,
+            number,
+            steps,
+        } => make_run(alloc, host, schema, number, steps),
         Request::Layers { old, new, of } => compare_schemas(alloc, host, old, new, of),
     }
 }

@@ -2,9 +2,11 @@
 ghost use Rattle.std.specs.Prelude.{IfOk, IsTrue, ◌≡◌, ◌↔◌, map, option_map, string_bytes};
 ghost use Rattle.std.specs.List.{All};
 ghost use Rattle.clap.specs.Words.{first_value, found_of, subcommand_rows_of};
-ghost use Rattle.commands.specs.Requests.{IsOperand, FindsRequest, request_text};
-ghost use Rattle.commands.specs.CommandLine.{check_of, decode_of, encode_of, layers_of, replay_of, request_in};
+ghost use Rattle.commands.specs.Numbers.{number_of};
+ghost use Rattle.commands.specs.Requests.{IsOperand, FindsRequest, clients_range, request_text, run_range, steps_range};
+ghost use Rattle.commands.specs.CommandLine.{check_of, decode_of, encode_of, layers_of, make_of, replay_of, request_in};
 
+use crate::number::{Range, number_in};
 use crate::table::table_of;
 use clap::ArgMatches;
 use clap::error::ErrorKind;
@@ -29,10 +31,17 @@ pub enum Request<'a> {
         of: &'a str,
         input: &'a str,
     },
-    /// `replay SCHEMA JOURNAL CLIENTS`. There is one client.
+    /// `replay SCHEMA JOURNAL CLIENTS`
     Replay {
         schema: &'a str,
         journal: &'a str,
+        clients: u32,
+    },
+    /// `make SCHEMA NUMBER STEPS`
+    Make {
+        schema: &'a str,
+        number: u64,
+        steps: u32,
     },
     /// `layers OLD NEW TYPE`
     Layers {
@@ -68,6 +77,7 @@ fn request_in<'a>(matches: &ArgMatches<'a>) -> Option<Request<'a>>
         "decode" => decode_of(operands),
         "encode" => encode_of(operands),
         "replay" => replay_of(operands),
+        "make" => make_of(operands),
         "layers" => layers_of(operands),
         _ => None,
     }
@@ -101,15 +111,75 @@ fn encode_of<'a>(operands: &ArgMatches<'a>) -> Option<Request<'a>>
     Some(Request::Encode { schema, of, input })
 }
 
-// The request of `replay`, where it has one client.
+// The request of `replay`.
 fn replay_of<'a>(operands: &ArgMatches<'a>) -> Option<Request<'a>>
     ensures { option_map request_text result ≡ replay_of (first_value (found_of operands.now)) }
 {
     let schema = operands.get_str("SCHEMA")?;
     let journal = operands.get_str("JOURNAL")?;
-    match operands.get_str("CLIENTS")? {
-        "1" => Some(Request::Replay { schema, journal }),
-        _ => None,
+    let clients = clients_in(operands.get_str("CLIENTS")?)?;
+    Some(Request::Replay {
+        schema,
+        journal,
+        clients,
+    })
+}
+
+// The number of clients that a word is.
+fn clients_in(word: &str) -> Option<u32>
+    ensures { result ≡ number_of clients_range word.now }
+{
+    let range = Range {
+        digits: 10,
+        least: 1,
+        most: 16,
+    };
+    match number_in(range, word) {
+        Some(clients) => Some(clients as u32),
+        None => None,
+    }
+}
+
+// The request of `make`.
+fn make_of<'a>(operands: &ArgMatches<'a>) -> Option<Request<'a>>
+    ensures { option_map request_text result ≡ make_of (first_value (found_of operands.now)) }
+{
+    let schema = operands.get_str("SCHEMA")?;
+    let number = operands.get_str("NUMBER")?;
+    let steps = operands.get_str("STEPS")?;
+    let number = number_of_run(number)?;
+    let steps = steps_in(steps)?;
+    Some(Request::Make {
+        schema,
+        number,
+        steps,
+    })
+}
+
+// The number of a made run that a word is.
+fn number_of_run(word: &str) -> Option<u64>
+    ensures { result ≡ number_of run_range word.now }
+{
+    let range = Range {
+        digits: 10,
+        least: 0,
+        most: 9_999_999_999,
+    };
+    number_in(range, word)
+}
+
+// The number of steps that a word is.
+fn steps_in(word: &str) -> Option<u32>
+    ensures { result ≡ number_of steps_range word.now }
+{
+    let range = Range {
+        digits: 10,
+        least: 1,
+        most: 100_000,
+    };
+    match number_in(range, word) {
+        Some(steps) => Some(steps as u32),
+        None => None,
     }
 }
 

@@ -2,21 +2,59 @@
 ghost use Rattle.std.specs.Prelude.{◌≡◌, IfOk, map, false};
 ghost use Rattle.clap.specs.Words.{app_of};
 ghost use Rattle.clap.specs.declared.builder.command.Command.TheViews.{out-Command as fields_of};
-ghost use Rattle.commands.specs.CommandLine.{program, row, table};
+ghost use Rattle.commands.specs.CommandLine.{program, row, row_text, rows, table};
 
 use clap::{Arg, Command};
 use std::alloc::{AllocError, Global};
+
+/// A row of the usage: a command, and the names of its operands in order.
+#[derive(Clone, Copy)]
+pub struct Row<'a> {
+    pub command: &'a str,
+    pub operands: &'a [&'a str],
+}
+
+// The rows in the order of the usage.
+fn rows<'a>() -> &'a [Row<'a>]
+    ensures { map row_text result.now ≡ rows }
+{
+    &[
+        Row {
+            command: "check",
+            operands: &["SCHEMA"],
+        },
+        Row {
+            command: "decode",
+            operands: &["SCHEMA", "TYPE", "INPUT"],
+        },
+        Row {
+            command: "encode",
+            operands: &["SCHEMA", "TYPE", "INPUT"],
+        },
+        Row {
+            command: "replay",
+            operands: &["SCHEMA", "JOURNAL", "CLIENTS"],
+        },
+        Row {
+            command: "make",
+            operands: &["SCHEMA", "NUMBER", "STEPS"],
+        },
+        Row {
+            command: "layers",
+            operands: &["OLD", "NEW", "TYPE"],
+        },
+    ]
+}
 
 /// The command line of the program: a subcommand for each row.
 pub fn table_of<'a>(alloc: Global) -> Result<Command<'a>, AllocError>
     ensures { IfOk result (λ c. app_of c ≡ table) }
 {
-    program_of(alloc)
-        .subcommand(row_of(alloc, "check", &["SCHEMA"])?)?
-        .subcommand(row_of(alloc, "decode", &["SCHEMA", "TYPE", "INPUT"])?)?
-        .subcommand(row_of(alloc, "encode", &["SCHEMA", "TYPE", "INPUT"])?)?
-        .subcommand(row_of(alloc, "replay", &["SCHEMA", "JOURNAL", "CLIENTS"])?)?
-        .subcommand(row_of(alloc, "layers", &["OLD", "NEW", "TYPE"])?)
+    let mut program = program_of(alloc);
+    for row in rows() {
+        program = program.subcommand(row_of(alloc, row.command, row.operands)?)?;
+    }
+    Ok(program)
 }
 
 // The program without its rows.

@@ -1,4 +1,4 @@
-//! Rows of the calls of boxes, lanes, both ends and replays.
+//! Rows of the calls of boxes, lanes and both ends.
 //!
 //! A row is `KIND NAME CALL WORDS => TOLD`, where the object of a name begins with the first row that names it, or `KIND WORDS => TOLD` of what
 //! has no name.
@@ -6,14 +6,12 @@ use crate::asks::asks_told;
 use crate::boxes::box_told;
 use crate::clients::client_told;
 use crate::gaps::gap_told;
-use crate::journals::journal_told;
 use crate::lanes::lane_told;
 use crate::named::Named;
 use crate::servers::server_told;
 use crate::settings::settings_told;
 use crate::weaves::{split_told, weave_told};
 use crate::words::{RowFault, Words};
-use crate::worlds::{closing_told, length_told, packet_told, world_told};
 use base_rows::{otherwise, parted, unread};
 use box_client::Client;
 use box_events::{Asks, Event, EventBox};
@@ -22,8 +20,6 @@ use gap_buffer::Gap;
 use pts_machine::Lane;
 use seq_machine::Settings;
 use std::alloc::{AllocError, Global};
-use tl_base::Bytes;
-use update_replay::World;
 
 /// What the rows of a file name.
 #[derive(Drop)]
@@ -31,7 +27,6 @@ pub struct Ends {
     lists: Lists,
     held: Held,
     peers: Peers,
-    replays: Replays,
 }
 
 #[derive(Drop)]
@@ -53,12 +48,6 @@ struct Peers {
     clients: Named<Client>,
 }
 
-#[derive(Drop)]
-struct Replays {
-    journals: Named<Bytes>,
-    worlds: Named<World>,
-}
-
 impl Ends {
     /// Nothing is named.
     pub fn new(alloc: Global) -> Ends {
@@ -75,10 +64,6 @@ impl Ends {
             peers: Peers {
                 servers: Named::new(alloc),
                 clients: Named::new(alloc),
-            },
-            replays: Replays {
-                journals: Named::new(alloc),
-                worlds: Named::new(alloc),
             },
         }
     }
@@ -179,32 +164,6 @@ fn of_client(
     told
 }
 
-fn of_journal(
-    alloc: Global,
-    all: &mut Named<Bytes>,
-    words: &mut Words,
-) -> Result<String, RowFault> {
-    let name = words.word()?;
-    let mut journal = match all.take(name) {
-        Some(journal) => journal,
-        None => Bytes::new(alloc),
-    };
-    let told = journal_told(alloc, &mut journal, words);
-    all.put(alloc, name, journal)?;
-    told
-}
-
-fn of_world(alloc: Global, all: &mut Named<World>, words: &mut Words) -> Result<String, RowFault> {
-    let name = words.word()?;
-    let mut world = match all.take(name) {
-        Some(world) => world,
-        None => World::new(alloc),
-    };
-    let told = world_told(alloc, &mut world, words);
-    all.put(alloc, name, world)?;
-    told
-}
-
 // ---- rows
 
 fn of_lists(
@@ -244,18 +203,6 @@ fn of_peers(
     }
 }
 
-fn of_replays(
-    alloc: Global,
-    replays: &mut Replays,
-    kind: &str,
-    words: &mut Words,
-) -> Result<String, RowFault> {
-    match kind {
-        "journal" => of_journal(alloc, &mut replays.journals, words),
-        _ => of_world(alloc, &mut replays.worlds, words),
-    }
-}
-
 // What a row asks, by its kind.
 fn told(alloc: Global, ends: &mut Ends, asked: &str) -> Result<String, RowFault> {
     let mut words = Words::of(asked);
@@ -264,7 +211,6 @@ fn told(alloc: Global, ends: &mut Ends, asked: &str) -> Result<String, RowFault>
         "asks" | "box" => of_lists(alloc, &mut ends.lists, kind, &mut words),
         "gap" | "lane" | "settings" => of_held(alloc, &mut ends.held, kind, &mut words),
         "server" | "client" => of_peers(alloc, &mut ends.peers, kind, &mut words),
-        "journal" | "world" => of_replays(alloc, &mut ends.replays, kind, &mut words),
         _ => of_none(alloc, kind, &mut words),
     }
 }
@@ -274,9 +220,6 @@ fn of_none(alloc: Global, kind: &str, words: &mut Words) -> Result<String, RowFa
     match kind {
         "weave" => weave_told(alloc, words),
         "split" => split_told(alloc, words),
-        "packet" => packet_told(alloc, words),
-        "length" => length_told(alloc, words),
-        "closing" => closing_told(alloc, words),
         _ => Err(RowFault::Unknown),
     }
 }

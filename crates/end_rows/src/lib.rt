@@ -1,4 +1,4 @@
-//! Rows of the calls of boxes, lanes, both ends and replays.
+//! Rows of the calls of boxes, lanes and both ends, and the words of rows.
 #![tactic(auto)]
 
 mod answers;
@@ -8,7 +8,6 @@ mod clients;
 mod ends;
 mod events;
 mod gaps;
-mod journals;
 mod lanes;
 mod named;
 mod others;
@@ -19,6 +18,8 @@ mod servers;
 mod settings;
 mod weaves;
 mod words;
-mod worlds;
 
 pub use ends::{Ends, ends_difference};
+pub use events::events_text;
+pub use named::Named;
+pub use words::{RowFault, Words};

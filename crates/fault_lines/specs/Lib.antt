@@ -3,3 +3,4 @@ pub mod Answers
 pub mod SavedClients
 pub mod Packets
 pub mod Profiles
+pub mod Profiled

@@ -1,10 +1,13 @@
 //! Schemas without the protocol's forms.
 ghost use Rattle.std.specs.Prelude.{◌≡◌, IfOk, Some};
+ghost use Rattle.fault_lines.specs.Profiled.{MakesProfile};
 ghost use Rattle.fault_lines.specs.Profiles.{named_line, profile_line};
 
+use command_base::Unmade;
 use std::alloc::{AllocError, Global};
 use tl_base::Bytes;
-use wire_profile::ProfileFault;
+use tl_schema::Schema;
+use wire_profile::{Profile, ProfileFault};
 
 // The line of a cause and the name that it is about.
 fn named_line(alloc: Global, cause: &str, name: &Bytes) -> Result<Vec<u8>, AllocError>
@@ -25,5 +28,15 @@ pub fn profile_line(alloc: Global, fault: &ProfileFault) -> Result<Vec<u8>, Allo
         ProfileFault::Missing { name } => named_line(alloc, "Missing", name),
         ProfileFault::Differs { name } => named_line(alloc, "Differs", name),
         ProfileFault::Memory => Err(AllocError),
+    }
+}
+
+/// The profile that a schema is, or the refusal for the first form that it lacks or has otherwise.
+pub fn profile_of<'s>(alloc: Global, schema: &'s Schema) -> Result<Profile<'s>, Unmade>
+    ensures { MakesProfile schema.now result }
+{
+    match Profile::of(alloc, schema) {
+        Ok(profile) => Ok(profile),
+        Err(fault) => Err(Unmade::of_line(profile_line(alloc, &fault))),
     }
 }

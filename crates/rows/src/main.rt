@@ -21,9 +21,10 @@ use std::process::ExitCode;
 use std::{env, fs, io};
 use tl_schema::Schema;
 use wire_profile::Profile;
+use world_rows::{Worlds, worlds_difference};
 
 const USAGE: &str =
-    "usage: rows MODE FILE.., where MODE is own, other, texts, base, codec, ends or repeats; or rows repeat NAME MANY CALLS";
+    "usage: rows MODE FILE.., where MODE is own, other, texts, base, codec, ends, worlds or repeats; or rows repeat NAME MANY CALLS";
 
 const REPEAT_USAGE: &str =
     "usage: rows repeat boundary|between EVENTS CALLS, last POSTS CALLS, plan DECLARATIONS CALLS, bytes RECORDS SIZE, spell|read|encode|decode BYTES CALLS, or forward|backward ITEMS";
@@ -59,8 +60,10 @@ enum Mode {
     Base,
     // Calls of tokens, programs, schemas, types and values.
     Codec,
-    // Calls of boxes, lanes, both ends and replays.
+    // Calls of boxes, lanes and both ends.
     Ends,
+    // Calls of worlds and of replays, by the profile's text.
+    Worlds,
     // What many calls come to.
     Repeats,
 }
@@ -74,6 +77,7 @@ fn mode_of(word: &str) -> Option<Mode> {
         "base" => Some(Mode::Base),
         "codec" => Some(Mode::Codec),
         "ends" => Some(Mode::Ends),
+        "worlds" => Some(Mode::Worlds),
         "repeats" => Some(Mode::Repeats),
         _ => None,
     }
@@ -87,6 +91,7 @@ enum State<'s> {
     Base(Base),
     Codec(Codec),
     Ends(Ends),
+    Worlds(Worlds<'s>),
     Repeats,
 }
 
@@ -98,6 +103,7 @@ fn difference(alloc: Global, state: &mut State, row: &str) -> Result<Option<Stri
         State::Base(base) => base_difference(alloc, base, row),
         State::Codec(codec) => codec_difference(alloc, codec, row),
         State::Ends(ends) => ends_difference(alloc, ends, row),
+        State::Worlds(worlds) => worlds_difference(alloc, worlds, row),
         State::Repeats => repeat_difference(alloc, row),
     }
 }
@@ -154,6 +160,11 @@ fn run_messages(rt: &HostRuntime, schema: &Schema, file: &str, text: &str) -> io
     }
 }
 
+// Looks at each row of a text, by a schema that is a profile.
+fn run_worlds(rt: &HostRuntime, schema: &Schema, file: &str, text: &str) -> io::Result<Counts> {
+    run_rows(rt, State::Worlds(Worlds::new(rt.alloc(), schema)), file, text)
+}
+
 // Looks at each row of a text.
 fn run_text(rt: &HostRuntime, mode: Mode, file: &str, text: &str) -> io::Result<Counts> {
     match mode {
@@ -163,6 +174,7 @@ fn run_text(rt: &HostRuntime, mode: Mode, file: &str, text: &str) -> io::Result<
         Mode::Base => run_rows(rt, State::Base(Base::new(rt.alloc())), file, text),
         Mode::Codec => run_rows(rt, State::Codec(Codec::new(rt.alloc())), file, text),
         Mode::Ends => run_rows(rt, State::Ends(Ends::new(rt.alloc())), file, text),
+        Mode::Worlds => run_worlds(rt, &schema(rt.alloc(), false)?, file, text),
         Mode::Repeats => run_rows(rt, State::Repeats, file, text),
     }
 }

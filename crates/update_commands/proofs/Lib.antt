@@ -1,4 +1,8 @@
+pub mod ToldCauses
 pub mod OneReplay
-pub mod EachReplay
-pub mod Journals
 pub mod Reports
+pub mod LentOutput
+pub mod JournalFiles
+pub mod ProfiledFiles
+pub mod OneMake
+pub mod MadeLines

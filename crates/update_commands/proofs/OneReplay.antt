@@ -1,74 +1,62 @@
--- What `replay` answers is one.
-use Rattle.std.proofs.Common.{◌≡◌, ℕ, List, ◌++◌, Result, Ok, Err, codes, refl, sym, ap, ◌∙◌, subst}
-use Rattle.std.specs.Prelude.{decimal}
-use Rattle.tl_base.specs.Contents.{Files}
-use Rattle.update_replay.specs.declared.replay.ReplayFault.{ReplayFault}
-use Rattle.update_replay.specs.declared.replay.ReplayFault.TheVariants as fault
-use Rattle.update_replay.specs.Worlds.{World}
-use Rattle.update_replay.specs.Replays.{Replayed}
-use Rattle.update_replay.specs.Settled.{Settled}
-use Rattle.update_replay.proofs.OneWay.{settled_once}
+-- What a replay answers is one.
+use Rattle.std.proofs.Common.{◌≡◌, ℕ, List, Option, Some, None, Bool, true, false, cond, option_map, refl, sym, ap, ap₂, ◌∙◌, subst}
+use Rattle.tl_base.specs.Contents.{AreBytes}
+use Rattle.box_events.specs.declared.steps.Step.{Step}
+use Rattle.wire_profile.specs.Places.{ProfileView}
+use Rattle.wire_profile.specs.Profiles.{IsProfile}
+use Rattle.wire_checks.specs.declared.fault.WireFault.{WireFault}
 use Rattle.command_base.specs.Answer.{Answer, done, refused_after}
-use Rattle.update_commands.specs.Replay.{journal_line, OfJournal, reported, no_step, too_long, no_packet, OfProfile, other_text, profile_text, ReplayAnswer}
-use Rattle.command_base.proofs.SameFiles.{same_file}
+use Rattle.fault_lines.specs.Messages.{step_line}
+use Rattle.update_replay.specs.Endings.{Ending, whole, no_step, not_made, too_long}
+use Rattle.update_replay.specs.Replays.{Replayed, no_step_follows, one_too_many, not_possible, at_its_end, goes_on, seen_of}
+use Rattle.update_replay.proofs.OneReplay.{replays_once}
+use Rattle.update_replay.proofs.EachReplay.{each_replayed}
+use Rattle.update_commands.specs.Replay.{ending_answer, OfJournal}
+use Rattle.update_commands.proofs.ToldCauses.{told_line}
 
--- what is answered where a replay that wrote this ended so, if its journal settles it
-abbrev pub answer_of : List ℕ → Result ℕ ReplayFault → Answer
-answer_of output (Ok n) = done output
-answer_of output (Err (fault.NotYetBuilt at)) = refused_after output (journal_line at (codes "NotYetBuilt"))
-answer_of output (Err (fault.NoPacket at k)) = refused_after output (journal_line at (codes "NoPacket " ++ decimal k))
-answer_of output (Err (fault.TooLong at)) = refused_after output (journal_line at (codes "TooLong"))
-answer_of output (Err fault.ReadFault) = done output
-answer_of output (Err fault.WriteFault) = done output
-answer_of output (Err fault.Memory) = done output
+-- ---- an ending's answer
 
--- the settled replay of a journal, and its answer
-pub record Settles (journal : List ℕ) (a : Answer) : Type 0 where
-  pub world : World
-  pub end : Result ℕ ReplayFault
-  pub output : List ℕ
-  pub settled : Settled end
-  pub replayed : Replayed journal world output end
-  pub is : a ≡ answer_of output end
+pub some_is : {A : Type 0} (x y : A) → Some x ≡ Some y → x ≡ y
+some_is x y e = cc
 
-pub settles : (journal : List ℕ) (a : Answer) → OfJournal journal a → Settles journal a
-settles journal a (reported w n output r is) = record { world = w; end = Ok n; output = output; settled = tt; replayed = r; is = is }
-settles journal a (no_step w at output r is) = record { world = w; end = Err (fault.NotYetBuilt at); output = output; settled = tt; replayed = r; is = is }
-settles journal a (too_long w at output r is) = record { world = w; end = Err (fault.TooLong at); output = output; settled = tt; replayed = r; is = is }
-settles journal a (no_packet w at k output r is) = record { world = w; end = Err (fault.NoPacket at k); output = output; settled = tt; replayed = r; is = is }
+mapped_output : (output : List ℕ) (o : Option (List ℕ)) (a : Answer) → option_map (refused_after output) o ≡ Some a → a.output ≡ output
+mapped_output output None a e = absurd cc
+mapped_output output (Some line) a e = sym (ap (λ (x : Answer). x.output) (some_is _ _ e))
 
-pub settled_answer : (journal : List ℕ) (w : World) (output : List ℕ) (r : Result ℕ ReplayFault) → Settled r → Replayed journal w output r → OfJournal journal (answer_of output r)
-settled_answer journal w output (Ok n) s h = reported w n output h refl
-settled_answer journal w output (Err (fault.NotYetBuilt at)) s h = no_step w at output h refl
-settled_answer journal w output (Err (fault.NoPacket at k)) s h = no_packet w at k output h refl
-settled_answer journal w output (Err (fault.TooLong at)) s h = too_long w at output h refl
-settled_answer journal w output (Err fault.ReadFault) s h = absurd s
-settled_answer journal w output (Err fault.WriteFault) s h = absurd s
-settled_answer journal w output (Err fault.Memory) s h = absurd s
+-- what it writes is what the replay wrote
+pub output_is : (output : List ℕ) (ending : Ending) (a : Answer) → ending_answer output ending ≡ Some a → a.output ≡ output
+output_is output (whole k) a e = sym (ap (λ (x : Answer). x.output) (some_is _ _ e))
+output_is output (no_step at fault) a e = mapped_output output (step_line at fault) a e
+output_is output (not_made at cause) a e = sym (ap (λ (x : Answer). x.output) (some_is _ _ e))
+output_is output (too_long at) a e = sym (ap (λ (x : Answer). x.output) (some_is _ _ e))
 
--- what a settled replay wrote is its answer's Output
-pub answer_output : (output : List ℕ) (r : Result ℕ ReplayFault) → (answer_of output r).output ≡ output
-answer_output output (Ok n) = refl
-answer_output output (Err (fault.NotYetBuilt at)) = refl
-answer_output output (Err (fault.NoPacket at k)) = refl
-answer_output output (Err (fault.TooLong at)) = refl
-answer_output output (Err fault.ReadFault) = refl
-answer_output output (Err fault.WriteFault) = refl
-answer_output output (Err fault.Memory) = refl
+abbrev Told : List ℕ → Ending → Type 0
+Told output ending = (a : Answer) × (ending_answer output ending ≡ Some a)
 
-pub one_journal : (journal : List ℕ) (a c : Answer) → OfJournal journal a → OfJournal journal c → a ≡ c
-one_journal journal a c h k =
-    let p = settles journal a h in
-    let q = settles journal c k in
-    let same = settled_once journal p.world q.world p.output q.output p.end q.end p.settled q.settled p.replayed q.replayed in
-    p.is ∙ ap (λ (r : Result ℕ ReplayFault). answer_of p.output r) same.0 ∙ ap (λ (o : List ℕ). answer_of o q.end) same.2 ∙ sym q.is
+refusal_told : (output : List ℕ) (b : Bool) (at : ℕ) (fault : WireFault) → ((line : List ℕ) × (step_line at fault ≡ Some line)) → Told output (cond b (too_long at) (no_step at fault))
+refusal_told output true at fault line = (_, refl)
+refusal_told output false at fault (line, is) = (_, ap (option_map (refused_after output)) is)
 
-one_profile : (text journal : List ℕ) (files : Files) (a c : Answer) → OfProfile text journal files a → OfProfile text journal files c → a ≡ c
-one_profile text journal files a c (other_text other is) (other_text also at) = is ∙ sym at
-one_profile text journal files a c (other_text other is) (profile_text bytes same has tells) = absurd (other same)
-one_profile text journal files a c (profile_text bytes same has tells) (other_text other is) = absurd (other same)
-one_profile text journal files a c (profile_text bytes same has tells) (profile_text more also holds says) =
-    one_journal bytes a c tells (subst (λ (b : List ℕ). OfJournal b c) (same_file files journal more bytes holds has) says)
+-- ---- a journal
 
-pub one_replay : (files : Files) (s j : List ℕ) (a c : Answer) → ReplayAnswer files s j a → ReplayAnswer files s j c → a ≡ c
-one_replay files s j a c (text, has, h) (other, holds, k) = one_profile text j files a c h (subst (λ (x : List ℕ). OfProfile x j files c) (same_file files s other text holds has) k)
+module _ (p : ProfileView) (n : ℕ) (journal : List ℕ) where
+  -- each ending of a replay is told
+  pub ending_told : (ss : List Step) (output : List ℕ) (ending : Ending) → Replayed p n journal ss output ending → (a : Answer) × (ending_answer output ending ≡ Some a)
+  ending_told ss output ending (no_step_follows at left fault began none is) = subst (Told output) (sym is) (refusal_told output _ at fault (told_line p left fault at none.0))
+  ending_told ss output ending (one_too_many at left s x rest began begins most is) = subst (Told output) (sym is) (_, refl)
+  ending_told ss output ending (not_possible at left s x rest cause began begins few refused is) = subst (Told output) (sym is) (_, refl)
+  ending_told ss output ending (at_its_end at lines began ended written is) = subst (Told output) (sym is) (_, refl)
+
+  pub answered : (ss : List Step) (output : List ℕ) (ending : Ending) → Replayed p n journal ss output ending → (a : Answer) × OfJournal p n journal a × (a.output ≡ output)
+  answered ss output ending r =
+      let told = ending_told ss output ending r in
+      (told.0, record { steps = ss; output = output; ending = ending; replayed = r; answered = told.1 }, output_is output ending told.0 told.1)
+
+  module _ (good : IsProfile p) (are : AreBytes (seen_of journal)) where
+    pub one_journal : (a b : Answer) → OfJournal p n journal a → OfJournal p n journal b → a ≡ b
+    one_journal a b h k =
+        let one = replays_once p good n (seen_of journal) are (goes_on journal) h.steps k.steps h.output k.output h.ending k.ending h.replayed k.replayed in
+        some_is a b (sym h.answered ∙ ap₂ ending_answer one.1 one.2 ∙ k.answered)
+
+    pub each_journal : (ss : List Step) × (output : List ℕ) × (ending : Ending) × Replayed p n journal ss output ending
+    each_journal = each_replayed p good n (seen_of journal) (goes_on journal) are

@@ -1,2 +1,4 @@
+pub mod Steps
 pub mod Replay
 pub mod Replaying
+pub mod Make

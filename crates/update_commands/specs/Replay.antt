@@ -1,38 +1,64 @@
--- What `replay` answers: the report of its journal, or where and why profile or journal is refused. This project's own.
-use Rattle.std.specs.Prelude.{◌≡◌, ◌≢◌, ℕ, List, ◌++◌, Ok, Err, codes, decimal}
-use Rattle.tl_base.specs.Contents.{Files}
+-- What `replay` answers: the report of its journal, or where and why schema, profile or journal is refused. This project's own.
+use Rattle.std.specs.Prelude.{◌≡◌, ℕ, List, ◌++◌, Option, Some, option_map, codes}
+use Rattle.tl_base.specs.Contents.{Files, HoldBytes}
 use Rattle.tl_base.specs.Outside.{HasFile}
-use Rattle.command_base.specs.Answer.{Answer, done, refused, refused_after, placed_line, unplaced_line}
+use Rattle.box_events.specs.declared.steps.Step.{Step}
+use Rattle.wire_profile.specs.Places.{ProfileView}
+use Rattle.command_base.specs.Answer.{Answer, done, refused_after, placed_line}
 use Rattle.command_base.specs.Jobs.{Job, unlinked_job}
-use Rattle.command_base.specs.Kept.{KeepsUnread}
-use Rattle.update_replay.specs.declared.profile.TheConstants.{PROFILE_TEXT}
-use Rattle.update_replay.specs.declared.replay.ReplayFault.TheVariants.{NotYetBuilt, NoPacket, TooLong}
-use Rattle.update_replay.specs.Worlds.{World}
+use Rattle.command_base.specs.Kept.{KeepsRest, KeepsUnread}
+use Rattle.fault_lines.specs.Messages.{step_line}
+use Rattle.fault_lines.specs.Profiled.{HasProfile, OfProfileText}
+use Rattle.update_replay.specs.Endings.{Ending, whole, no_step, not_made, too_long}
 use Rattle.update_replay.specs.Replays.{Replayed}
+use Rattle.update_commands.specs.Steps.{cause_line}
 
-abbrev pub profile_line : List ℕ
-profile_line = unplaced_line (codes "profile") (codes "NotYetBuilt")
+-- the step at this offset is one too many, or goes past what a journal may have
+abbrev pub long_line : ℕ → List ℕ
+long_line at = placed_line (codes "journal") at (codes "TooLong")
 
--- a refusal of the journal, at the offset where a step begins
-abbrev pub journal_line : ℕ → List ℕ → List ℕ
-journal_line place why = placed_line (codes "journal") place why
+-- what is answered where a replay has written this and comes to its ending: the lines stand, and a refusal is told
+abbrev pub ending_answer : List ℕ → Ending → Option Answer
+ending_answer output (whole k) = Some (done output)
+ending_answer output (no_step at fault) = option_map (refused_after output) (step_line at fault)
+ending_answer output (not_made at cause) = Some (refused_after output (cause_line at cause))
+ending_answer output (too_long at) = Some (refused_after output (long_line at))
 
--- The journal's steps are made up to its end, or to what is refused there; the lines of the steps before stand.
-pub data OfJournal (journal : List ℕ) (a : Answer) : Type 0 where
-  reported : (w : World) (n : ℕ) (output : List ℕ) → Replayed journal w output (Ok n) → a ≡ done output → OfJournal journal a
-  no_step : (w : World) (at : ℕ) (output : List ℕ) → Replayed journal w output (Err (NotYetBuilt at)) → a ≡ refused_after output (journal_line at (codes "NotYetBuilt")) → OfJournal journal a
-  too_long : (w : World) (at : ℕ) (output : List ℕ) → Replayed journal w output (Err (TooLong at)) → a ≡ refused_after output (journal_line at (codes "TooLong")) → OfJournal journal a
-  no_packet : (w : World) (at k : ℕ) (output : List ℕ) → Replayed journal w output (Err (NoPacket at k)) → a ≡ refused_after output (journal_line at (codes "NoPacket " ++ decimal k)) → OfJournal journal a
+-- the journal's steps are made up to its end, or to what is refused there
+pub record OfJournal (p : ProfileView) (n : ℕ) (journal : List ℕ) (a : Answer) : Type 0 where
+  pub steps : List Step
+  pub output : List ℕ
+  pub ending : Ending
+  pub replayed : Replayed p n journal steps output ending
+  pub answered : ending_answer output ending ≡ Some a
 
--- the schema's text is another than the profile's, or it is that, and then the journal tells
-pub data OfProfile (text journal : List ℕ) (files : Files) (a : Answer) : Type 0 where
-  other_text : text ≢ PROFILE_TEXT.now → a ≡ refused profile_line → OfProfile text journal files a
-  profile_text : (bytes : List ℕ) → text ≡ PROFILE_TEXT.now → HasFile files journal bytes → OfJournal bytes a → OfProfile text journal files a
+-- of a profile the journal's file tells
+abbrev pub OfJournalFile : Files → List ℕ → ℕ → ProfileView → Answer → Type 0
+OfJournalFile files journal n p a = (bytes : List ℕ) × HasFile files journal bytes × OfJournal p n bytes a
 
 -- replay's answer
-abbrev pub ReplayAnswer : Files → List ℕ → List ℕ → Answer → Type 0
-ReplayAnswer files schema journal a = (text : List ℕ) × HasFile files schema text × OfProfile text journal files a
+abbrev pub ReplayAnswer : Files → List ℕ → List ℕ → ℕ → Answer → Type 0
+ReplayAnswer files schema journal n a = (text : List ℕ) × HasFile files schema text × OfProfileText text (OfJournalFile files journal n) a
 
--- `replay SCHEMA JOURNAL 1`, which writes as it goes, and comes to Input where the schema's text is the profile's
-abbrev pub replay_job : List ℕ → List ℕ → Job
-replay_job schema journal = unlinked_job (λ v a. ReplayAnswer v.files schema journal a) (Unit {0}) (λ v w. KeepsUnread (HasFile v.files schema PROFILE_TEXT.now) v w)
+-- some file has this name
+abbrev pub IsFile : Files → List ℕ → Type 0
+IsFile files name = (bytes : List ℕ) × HasFile files name bytes
+
+-- files of bytes have one answer at most, and one where both are there
+pub record HasOneReplay (files : Files) (schema journal : List ℕ) (n : ℕ) : Type 0 where
+  pub one : (a b : Answer) → ReplayAnswer files schema journal n a → ReplayAnswer files schema journal n b → a ≡ b
+  pub there : IsFile files schema → IsFile files journal → (a : Answer) × ReplayAnswer files schema journal n a
+
+abbrev pub EachHasOneReplay : Type 0
+EachHasOneReplay = (files : Files) → HoldBytes files → (schema journal : List ℕ) (n : ℕ) → HasOneReplay files schema journal n
+
+-- `replay SCHEMA JOURNAL CLIENTS`, which writes as it goes, and comes to Input where the schema is a profile
+abbrev pub replay_job : List ℕ → List ℕ → ℕ → Job
+replay_job schema journal n = unlinked_job (λ v a. ReplayAnswer v.files schema journal n a) (Unit {0}) (λ v w. KeepsUnread (HasProfile v.files schema) v w)
+
+-- what is left to do of it for a profile, and for a journal that was read
+abbrev pub file_job : ProfileView → List ℕ → ℕ → Job
+file_job p journal n = unlinked_job (λ v a. OfJournalFile v.files journal n p a) (Unit {0}) KeepsRest
+
+abbrev pub journal_job : ProfileView → ℕ → List ℕ → Job
+journal_job p n journal = unlinked_job (λ v a. OfJournal p n journal a) (Unit {0}) KeepsRest

@@ -1,7 +1,11 @@
-//! The command over journals of updates: `replay`.
+//! The commands over journals of updates: `replay`, and `make`, which makes a run of draws.
 #![tactic(auto)]
 
-mod fault;
+mod laws;
+mod make;
 mod replay;
+mod steps;
 
+pub use laws::{journals_have_one_answer, made_runs_have_one_answer};
+pub use make::make_run;
 pub use replay::replay_journal;

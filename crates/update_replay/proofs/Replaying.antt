@@ -1,307 +1,335 @@
 -- A replay, step by step: what is kept from one step to the next, and how each of its ends is one of the definition's.
-use Rattle.std.proofs.Common.{◌≡◌, ℕ, ℤ, ◌+◌, ◌*◌, ◌<◌, ◌≤◌, List, [], ◌∷◌, ◌++◌, append_assoc, append-nil, length, length-append, Option, Some, None, Result, Ok, Err, Bool, true, false, refl, sym, ap, ◌∙◌, subst, arith, inl, inr}
-use Rattle.std.specs.Prelude.{IfSome, IsErrAnd, IsErrOf, slice_get, replicate}
+use Rattle.std.proofs.Common.{◌≡◌, ◌⊎◌, inl, inr, ℕ, ◌+◌, ◌<◌, List, [], ◌∷◌, ◌++◌, append-nil, length, length-append, drop, Bool, true, false, cond, Option, Some, None, Result, Ok, Err, refl, sym, ap, ap₂, ◌∙◌, subst, arith}
+use Rattle.std.specs.Prelude.{IfSome, IsTrue, IsErrAnd, IsErrOf}
 use Rattle.std.specs.Io.KnownBytes.{Appends}
 use Rattle.std.proofs.KnownBytes.{Appends-nil, Appends-trans}
-use Rattle.std.proofs.lemmas.List.{length-replicate}
+use Rattle.tl_base.specs.Taking.{TakesEnd}
 use Rattle.tl_base.specs.Writing.{AppendsPrefix}
-use Rattle.box_events.specs.Events.{EventView, added}
-use Rattle.box_events.specs.Boxes.{ending}
-use Rattle.box_events.proofs.Boundaries.{ending-append}
-use Rattle.box_events.proofs.Stretches.{stretch_counts, stretch_inside}
-use Rattle.update_replay.specs.Words.{word, double_word, missing, short_text}
-use Rattle.update_replay.specs.Worlds.{Push, Step, post, hears, World, start, push_of, posted, heard, is_known, happens, run, Possible}
-use Rattle.update_replay.specs.Journal.{SpellsStep, BeginsStep, post_number, hear_number, vector_number, message_number}
-use Rattle.update_replay.specs.Report.{post_lines, step_lines, closing_of, closing_lines}
-use Rattle.update_replay.specs.Outcomes.{came_of, outcome_of, push_body, outcome_lines}
-use Rattle.update_replay.specs.Reached.{IsReached}
-use Rattle.update_replay.specs.Reading.{step_of}
-use Rattle.update_replay.specs.Making.{of_line, NextRead, FrontOfLines, Makes}
-use Rattle.update_replay.specs.Replays.{Began, none, one_more, Next, nothing, a_step, the_end, Stopped, ReplayedOn}
-use Rattle.update_replay.specs.declared.journal.Step.{Step as DeclaredStep}
-use Rattle.update_replay.specs.declared.outcome.Outcome.{Outcome}
-use Rattle.update_replay.specs.declared.lines.LineFault.{LineFault}
-use Rattle.update_replay.specs.declared.lines.LineFault.TheVariants as line
-use Rattle.update_replay.specs.declared.replay.ReplayFault.{ReplayFault}
-use Rattle.update_replay.specs.declared.replay.ReplayFault.TheVariants.{NotYetBuilt, NoPacket, TooLong, ReadFault, WriteFault, Memory}
-use Rattle.update_replay.proofs.Reached.{run_more, kept}
+use Rattle.tl_types.specs.declared.cause.Cause.TheVariants.{Truncated}
+use Rattle.tl_types.specs.Refusal.{short}
+use Rattle.box_events.specs.declared.steps.Step.{Step}
+use Rattle.wire_checks.specs.declared.fault.WireFault.{WireFault}
+use Rattle.wire_checks.specs.declared.fault.WireFault.TheVariants as wire
+use Rattle.wire_profile.specs.Places.{ProfileView}
+use Rattle.box_wire.specs.StepReading.{StepRefused, no_value}
+use Rattle.box_world.specs.NumberWorlds.{n_run}
+use Rattle.box_world.specs.Possible.{StepCause, no_client, no_packet, wrong_end, pool_full}
+use Rattle.world_reports.specs.Closings.{closing_lines}
+use Rattle.update_world.specs.Shown.{Shown}
+use Rattle.update_world.specs.Spelled.{AreSent}
+use Rattle.update_world.specs.declared.sent.Sent.{Sent}
+use Rattle.update_world.specs.declared.fault.StepFault.{StepFault}
+use Rattle.update_replay.specs.Endings.{whole, no_step, not_made, too_long, is_cut_short, of_refusal}
+use Rattle.update_replay.specs.ReplayParts.{of_line, NextRead, IsPrefixOfLines, StandsUnless, Makes, IsCutOff, ComesOn}
+use Rattle.update_replay.specs.Replays.{BeginsStep, StepFollows, Began, one_more, NoStepFollows, Replays, no_step_follows, one_too_many, not_possible, at_its_end, Next, nothing, a_step, the_end, Stopped, StandsAfter, StandsThen, Settles, StopsReading, Ends, EndsOn, ReplaysOn, IsNew, goes_on, seen_of}
+use Rattle.update_replay.specs.Replays as replays
+use Rattle.update_replay.specs.WorldLines.{end_lines}
+use Rattle.update_replay.specs.declared.fault.LineFault.{LineFault}
+use Rattle.update_replay.specs.declared.fault.LineFault.TheVariants as line
+use Rattle.update_replay.specs.declared.fault.ReplayFault.{ReplayFault}
+use Rattle.update_replay.specs.declared.fault.ReplayFault.TheVariants.{Wire, Step as NotMade, TooLong, ReadFault, WriteFault, Memory}
+use Rattle.update_replay.specs.declared.limits.TheConstants.{MAX_JOURNAL_BYTES, MAX_STEPS}
+use Rattle.update_replay.specs.declared.replay.NextStep.{NextStep}
+use Rattle.update_replay.specs.declared.replay.NextStep.TheVariants as next
+use Rattle.update_replay.specs.declared.replay.Reached.{Reached}
+use Rattle.update_replay.proofs.Told.{ends_are_told}
+use Rattle.update_replay.proofs.Windows.{ends_there, goes_past}
 
--- ---- the lines
+-- ---- endings
 
-pub closing_fits : (w : World) → IsReached w → ending w.box ≤ 1000000 → w.lane.restart + ending w.lane.events ≤ 1000000
-closing_fits w r most =
-    let lies = (kept w r).lane.events in
-    omega (arith, stretch_counts w.box w.lane.restart w.lane.at w.lane.events lies, stretch_inside w.box w.lane.restart w.lane.at w.lane.events lies, most)
+not_cut : (more : Bool) (at : ℕ) (fault : WireFault) → is_cut_short fault ≡ false → no_step at fault ≡ of_refusal more at fault
+not_cut false at fault e = refl
+not_cut true at fault e = ap (λ (b : Bool). cond b (too_long at) (no_step at fault)) (sym e)
 
-last_of : {A : Type 0} (xs : List A) (y : A) → slice_get (xs ++ y ∷ []) (length xs) ≡ Some y
-last_of [] y = refl
-last_of (x ∷ xs) y = last_of xs y
+no_more : (more : Bool) (at : ℕ) (fault : WireFault) → more ≡ false → no_step at fault ≡ of_refusal more at fault
+no_more more at fault e = ap (λ (b : Bool). of_refusal b at fault) (sym e)
 
-posted_lines : (known : Bool) (w : World) (id : ℤ) (body : List ℕ) (n : ℕ) → outcome_lines (posted known w id (added body)) n (came_of known w) ≡ post_lines known n (ending w.box + 1) (length w.pool) body
-posted_lines true w id body n = refl
-posted_lines false w id body n = ap (λ (o : Option Push). post_lines false n (ending w.box + 1) (length w.pool) (push_body o)) (last_of w.pool (push_of w.box (added body)))
+is_cut : (more : Bool) (at : ℕ) (fault : WireFault) → more ≡ true → is_cut_short fault ≡ true → too_long at ≡ of_refusal more at fault
+is_cut more at fault e f = (λ i. cond (sym f i) (too_long at) (no_step at fault)) ∙ ap (λ (b : Bool). of_refusal b at fault) (sym e)
 
-pub lines_agree : (w : World) (s : Step) (n : ℕ) → outcome_lines (happens w s) n (outcome_of w s) ≡ step_lines n w s
-lines_agree w (post id body) n = posted_lines (is_known w.ids id) w id body n
-lines_agree w (hears k) n = refl
+-- no byte is no step, but it may be that one was cut short
+pub empty_refused : (p : ProfileView) → StepRefused p [] (wire.Refused 0 Truncated)
+empty_refused p = no_value 0 Truncated (inl (short (omega arith) refl refl)) refl
 
-pub closing_is : (w : World) (before : List ℕ) (e r at : ℕ) (es : List EventView) → before ≡ [] → e ≡ ending w.box → r ≡ w.lane.restart → at ≡ w.lane.at → es ≡ w.lane.events → before ++ closing_of e r at es ≡ closing_lines w
-closing_is w before e r at es b he hr ha hes = rw (b, he, hr, ha, hes) refl
+true_is : (b : Bool) → b ≡ true → IsTrue b
+true_is true e = refl
+true_is false e = absurd cc
 
--- ---- one step
+stands_then : (at : ℕ) (cause : StepCause) (p : ProfileView) (n : ℕ) (s : Shown) (ss : List Step) → StandsUnless cause p n s ss → StandsThen (not_made at cause) p n s ss
+stands_then at (no_client k) p n s ss h = h
+stands_then at (no_packet k) p n s ss h = h
+stands_then at (wrong_end k) p n s ss h = h
+stands_then at (pool_full bytes) p n s ss h = h
 
--- the lines of what came of a step are the step's
-pub same_lines : (count : ℕ) (w v : World) (s : Step) (o : Outcome) → v ≡ happens w s → o ≡ outcome_of w s → outcome_lines v count o ≡ step_lines count w s
-same_lines count w v s o is came = ap (λ (u : World). outcome_lines u count o) is ∙ ap (λ (p : Outcome). outcome_lines (happens w s) count p) came ∙ lines_agree w s count
+-- ---- worlds
 
-module _ (at count : ℕ) (w v : World) (s : Step) (o : Outcome) (a b : Option (List ℕ)) (few : count < 100000) (may : Possible w s) (is : v ≡ happens w s) (came : o ≡ outcome_of w s) where
-  same : outcome_lines v count o ≡ step_lines count w s
-  same = same_lines count w v s o is came
+pub new_stands : (s : Shown) → IsNew s → StandsAfter s.profile (length s.clients) s []
+new_stands s is = record {
+  profile = refl;
+  clients = refl;
+  fine = ap (λ (z : Shown). z.spoiled) is;
+  stands = record {
+    server = sym (ap (λ (z : Shown). z.server) is);
+    clients = sym (ap (λ (z : Shown). z.clients) is);
+    pool = subst (λ (z : List Sent). AreSent s.profile z []) (sym (ap (λ (z : Shown). z.pool) is)) tt;
+  };
+}
 
-  pub made : Appends a b (outcome_lines v count o) → Makes at count w s v a b (Ok tt)
-  made bytes = (step_lines count w s, subst (λ (x : List ℕ). Appends a b x) same bytes, (few, may, is, refl))
-
-  front_made : (e : LineFault) → AppendsPrefix a b (outcome_lines v count o) → Makes at count w s v a b (Err (of_line e))
-  front_made line.WriteFault (front, rest, split, bytes) = (front, bytes, (few, may, rest, split ∙ same))
-  front_made line.Memory (front, rest, split, bytes) = (front, bytes, (few, inr (may, rest, split ∙ same)))
-
-  pub not_made : (e : LineFault) (r : Result (Unit {0}) ReplayFault) → IsErrAnd r (λ z. z ≡ of_line e) → AppendsPrefix a b (outcome_lines v count o) → Makes at count w s v a b r
-  not_made e (Ok u) are bytes = absurd are
-  not_made e (Err z) are bytes = subst (λ (y : ReplayFault). Makes at count w s v a b (Err y)) (sym are) (front_made e bytes)
-
--- ---- faults that are passed on
-
-pub same_fault : {T : Type 0} (e f : ReplayFault) (r : Result T ReplayFault) → IsErrAnd r (λ z. z ≡ e) → IsErrOf r f → e ≡ f
-same_fault e f (Ok x) is failed = absurd is
-same_fault e f (Err z) is failed = grind arith
-
--- lines that could not be written failed a replay by their write alone
-pub line_failed : {T : Type 0} (e : LineFault) (r : Result T ReplayFault) → IsErrAnd r (λ z. z ≡ of_line e) → IsErrOf r WriteFault → e ≡ line.WriteFault
-line_failed line.WriteFault r is failed = refl
-line_failed line.Memory r is failed = let never : Memory ≡ WriteFault = same_fault Memory WriteFault r is failed in absurd (grind arith)
-
--- ---- a step's spelling is short
-
-word_length : (n : ℕ) → length (word n) ≡ 4
-word_length n = refl
-
-double_length : (n : ℕ) → length (double_word n) ≡ 8
-double_length n = refl
-
-text_length : (s : List ℕ) → length s ≤ 253 → length (short_text s) ≤ 256
-text_length s few = omega (arith, few, length-append s (replicate (missing (1 + length s)) 0), length-replicate {A = ℕ} (missing (1 + length s)) 0)
-
--- ---- a journal, as far as it is read
-
-pub began_front : (journal : List ℕ) (steps : List Step) (at : ℕ) (left lines : List ℕ) → Began journal steps at left lines → (front : List ℕ) × (journal ≡ front ++ left)
-began_front journal steps at left lines none = ([], refl)
-began_front journal steps at left lines (one_more before p more shown step x rest b few begins may) =
-    let f = began_front journal before p more shown b in
-    (f.0 ++ x, f.1 ∙ ap (λ (y : List ℕ). f.0 ++ y) begins.whole ∙ sym (append_assoc f.0 x rest))
-
-pub spelled_length : (s : Step) (x : List ℕ) → SpellsStep s x → length x ≤ 280
-spelled_length (post id body) x (n, bound, is, few, spelled) =
-    let h : length (word post_number) ≡ 4 = word_length post_number in
-    let d : length (double_word n) ≡ 8 = double_length n in
-    let v : length (word vector_number) ≡ 4 = word_length vector_number in
-    let o : length (word 1) ≡ 4 = word_length 1 in
-    let m : length (word message_number) ≡ 4 = word_length message_number in
-    omega (
-      arith,
-      ap length spelled,
-      h,
-      d,
-      v,
-      o,
-      m,
-      text_length body few,
-      length-append ((((word post_number ++ double_word n) ++ word vector_number) ++ word 1) ++ word message_number) (short_text body),
-      length-append (((word post_number ++ double_word n) ++ word vector_number) ++ word 1) (word message_number),
-      length-append ((word post_number ++ double_word n) ++ word vector_number) (word 1),
-      length-append (word post_number ++ double_word n) (word vector_number),
-      length-append (word post_number) (double_word n),
-    )
-spelled_length (hears k) x (bound, spelled) =
-    let h : length (word hear_number) ≡ 4 = word_length hear_number in
-    let z : length (word 0) ≡ 4 = word_length 0 in
-    let p : length (word k) ≡ 4 = word_length k in
-    omega (arith, ap length spelled, h, z, p, length-append (word hear_number ++ word 0) (word k), length-append (word hear_number) (word 0))
+-- by another name of its profile
+pub stands_by : (p q : ProfileView) (n : ℕ) (s : Shown) (ss : List Step) → p ≡ q → StandsAfter p n s ss → StandsAfter q n s ss
+stands_by p q n s ss e h = subst (λ (z : ProfileView). StandsAfter z n s ss) e h
 
 -- ---- where a replay stands
 
--- So many steps were made and their lines written; the journal goes on at this place with what the source has left.
-pub record Going (journal : List ℕ) (w : World) (at count : ℕ) (left a b : Option (List ℕ)) : Type 0 where
+-- So many steps were made and their lines written; the bytes go on at this offset with what is left.
+pub record Going (p : ProfileView) (n : ℕ) (seen : List ℕ) (w : Shown) (at count : ℕ) (left a b : Option (List ℕ)) : Type 0 where
   pub steps : List Step
   pub rest : List ℕ
   pub lines : List ℕ
   pub is_left : left ≡ Some rest
-  pub began : Began journal steps at rest lines
+  pub began : Began p n seen steps at rest lines
   pub number : count ≡ length steps
-  pub world : w ≡ run steps
+  pub stands : StandsAfter p n w steps
   pub written : Appends a b lines
-  pub place : at ≤ 280 * count
 
-pub going_first : (journal : List ℕ) (w : World) (left a : Option (List ℕ)) → w ≡ start → left ≡ Some journal → Going journal w 0 0 left a a
-going_first journal w left a is told = record { steps = []; rest = journal; lines = []; is_left = told; began = none; number = refl; world = is; written = Appends-nil a; place = omega arith }
+pub going_first : (p : ProfileView) (n : ℕ) (seen : List ℕ) (w : Shown) (left a : Option (List ℕ)) → StandsAfter p n w [] → left ≡ Some seen → Going p n seen w 0 0 left a a
+going_first p n seen w left a stands told = record { steps = []; rest = seen; lines = []; is_left = told; began = replays.none; number = refl; stands = stands; written = Appends-nil a }
 
--- what was read of what the source still has
-pub going_read : (P : List ℕ → Type 0) (journal : List ℕ) (w : World) (at count : ℕ) (left a b : Option (List ℕ)) (g : Going journal w at count left a b) → IfSome left P → P g.rest
-going_read P journal w at count left a b g read = subst (λ (o : Option (List ℕ)). IfSome o P) g.is_left read
+-- what is made of a step in the world, however many steps came before
+abbrev pub MakesThen : Shown → ℕ → ℕ → Step → Shown → Option (List ℕ) → Option (List ℕ) → Result (Unit {0}) ReplayFault → Type 0
+MakesThen w count at s v b c r = (n : ℕ) (ss : List Step) → StandsAfter w.profile n w ss → count ≡ length ss → Makes w.profile n ss at s v b c r
 
-module _ (journal : List ℕ) (w : World) (at count : ℕ) (left a b : Option (List ℕ)) (g : Going journal w at count left a b) where
+module _ (p : ProfileView) (n : ℕ) (seen : List ℕ) (w : Shown) (at count : ℕ) (left a b : Option (List ℕ)) (g : Going p n seen w at count left a b) where
+  -- what was read of what is left
+  read_of : (q : ProfileView) (after : Option (List ℕ)) (r : Result NextStep ReplayFault) → q ≡ w.profile → IfSome left (λ x. NextRead q x after at r) → NextRead p g.rest after at r
+  read_of q after r is read = subst (λ (z : ProfileView). NextRead z g.rest after at r) (is ∙ (g.stands).profile) (subst (λ (o : Option (List ℕ)). IfSome o (λ x. NextRead q x after at r)) g.is_left read)
+
+  made_of : (s : Step) (v : Shown) (c : Option (List ℕ)) (r : Result (Unit {0}) ReplayFault) → MakesThen w count at s v b c r → Makes p n g.steps at s v b c r
+  made_of s v c r makes = subst (λ (z : ProfileView). Makes z n g.steps at s v b c r) (g.stands).profile (makes n g.steps (stands_by p w.profile n w g.steps (sym (g.stands).profile) g.stands) g.number)
+
   -- the next step was made
-  pub going_on : (v : World) (q : ℕ) (step : DeclaredStep) (after c : Option (List ℕ)) → IfSome left (λ x. NextRead x after at q (Ok (Some step))) → Makes at count w (step_of step) v b c (Ok tt) → Going journal v q (count + 1) after a c
-  going_on v q step after c read (output, wrote, (few, may, is, shown)) =
-      let r = going_read (λ x. NextRead x after at q (Ok (Some step))) journal w at count left a b g read in
+  pub going_on : (q : ProfileView) (v : Shown) (to : ℕ) (s : Step) (after c : Option (List ℕ)) → q ≡ w.profile → IfSome left (λ x. NextRead q x after at (Ok (next.Read s))) → MakesThen w count at s v b c (Ok tt)
+      → ((x rest : List ℕ) → left ≡ Some (x ++ rest) → after ≡ Some rest → to ≡ at + length x) → Going p n seen v to (count + 1) after a c
+  going_on q v to s after c is read makes moves =
+      let r = read_of q after (Ok (next.Read s)) is read in
+      let m = made_of s v c (Ok tt) makes in
       let x = r.0 in
-      let short : length x ≤ 280 = spelled_length (step_of step) x r.2.spelled in
-      let there : q ≡ at + length x = omega (arith, r.4, g.place, few, short) in
-      let lines : step_lines (length g.steps) (run g.steps) (step_of step) ≡ output = ap (λ (n : ℕ). step_lines n (run g.steps) (step_of step)) (sym g.number) ∙ ap (λ (u : World). step_lines count u (step_of step)) (sym g.world) ∙ sym shown in
-      let next : Began journal (g.steps ++ step_of step ∷ []) (at + length x) r.1 (g.lines ++ step_lines (length g.steps) (run g.steps) (step_of step)) = one_more g.steps at g.rest g.lines (step_of step) x r.1 g.began (omega (arith, few, g.number)) r.2 (subst (λ (u : World). Possible u (step_of step)) g.world may) in
+      let there : to ≡ at + length x = moves x r.1 (g.is_left ∙ ap Some (r.2).parts) r.3 in
+      let follows : StepFollows p n g.steps g.rest s x r.1 m.0 = record { few = m.2.0; begins = r.2; possible = m.2.1; told = m.2.2 } in
       record {
-        steps = g.steps ++ step_of step ∷ [];
+        steps = g.steps ++ s ∷ [];
         rest = r.1;
-        lines = g.lines ++ output;
+        lines = g.lines ++ m.0;
         is_left = r.3;
-        began = subst (λ (n : ℕ). Began journal (g.steps ++ step_of step ∷ []) n r.1 (g.lines ++ output)) (sym there) (subst (λ (y : List ℕ). Began journal (g.steps ++ step_of step ∷ []) (at + length x) r.1 (g.lines ++ y)) lines next);
-        number = omega (arith, g.number, length-append g.steps (step_of step ∷ []));
-        world = is ∙ ap (λ (u : World). happens u (step_of step)) g.world ∙ sym (run_more start g.steps (step_of step));
-        written = Appends-trans a b c g.lines output g.written wrote;
-        place = omega (arith, there, g.place, short);
+        began = subst (λ (k : ℕ). Began p n seen (g.steps ++ s ∷ []) k r.1 (g.lines ++ m.0)) (sym there) (one_more g.steps at g.rest g.lines s x r.1 m.0 g.began follows);
+        number = omega (arith, g.number, length-append g.steps (s ∷ []));
+        stands = m.2.3;
+        written = Appends-trans a b c g.lines m.0 g.written m.1;
       }
 
+  -- ---- ends
+
+  nothing_next : (more : Bool) → Stopped p n seen more g.lines
+  nothing_next more = record { steps = g.steps; at = at; left = g.rest; lines = g.lines; next = []; prefix = []; rest = []; began = g.began; comes = nothing; split = refl; written = sym (append-nil g.lines) }
+
   -- no step was read
-  none_read : (q : ℕ) (after : Option (List ℕ)) (e : ReplayFault) → NextRead g.rest after at q (Err e) → ReplayedOn journal w a b (Err e)
-  none_read q after (NotYetBuilt p) (is, missing_step) = (g.lines, g.written, (g.steps, g.rest, subst (λ (n : ℕ). Began journal g.steps n g.rest g.lines) (sym is) g.began, g.world, missing_step))
-  none_read q after (NoPacket p k) read = absurd read
-  none_read q after (TooLong p) read = absurd read
-  none_read q after ReadFault read = (g.lines, g.written, (g.steps, at, g.rest, g.began, g.world))
-  none_read q after WriteFault read = absurd read
-  none_read q after Memory read = (g.lines, g.written, (g.steps, at, g.rest, g.lines, [], [], [], g.began, nothing, refl, sym (append-nil g.lines)))
+  none_read : (more : Bool) (after : Option (List ℕ)) (e : ReplayFault) → NextRead p g.rest after at (Err e) → EndsOn p n seen more w a b (Err e)
+  none_read more after (Wire q fault) (is, some, refused, long) = (
+    g.lines,
+    g.written,
+    record {
+      steps = g.steps;
+      ending = no_step at fault;
+      replays = no_step_follows at g.rest fault g.began (refused, inl some) (not_cut more at fault long);
+      answered = ap (λ (k : ℕ). Err (Wire k fault)) is;
+      stands = g.stands;
+    },
+  )
+  none_read more after (NotMade q fault) read = absurd read
+  none_read more after (TooLong q) read = absurd read
+  none_read more after ReadFault read = (g.lines, g.written, record { steps = g.steps; at = at; left = g.rest; began = g.began; stands = g.stands })
+  none_read more after WriteFault read = absurd read
+  none_read more after Memory read = (g.lines, g.written, nothing_next more)
 
-  pub not_read : (q : ℕ) (after : Option (List ℕ)) (e : ReplayFault) (r : Result ℕ ReplayFault) → IfSome left (λ x. NextRead x after at q (Err e)) → IsErrAnd r (λ z. z ≡ e) → ReplayedOn journal w a b r
-  not_read q after e (Ok n) read same = absurd same
-  not_read q after e (Err z) read same = subst (λ (y : ReplayFault). ReplayedOn journal w a b (Err y)) (sym same) (none_read q after e (going_read (λ x. NextRead x after at q (Err e)) journal w at count left a b g read))
+  pub not_read : (more : Bool) (q : ProfileView) (after : Option (List ℕ)) (e : ReplayFault) → q ≡ w.profile → IfSome left (λ x. NextRead q x after at (Err e)) → EndsOn p n seen more w a b (Err e)
+  not_read more q after e is read = none_read more after e (read_of q after (Err e) is read)
 
-  at_end : (q : ℕ) (after : Option (List ℕ)) → IfSome left (λ x. NextRead x after at q (Ok None)) → g.rest ≡ []
-  at_end q after read = (going_read (λ x. NextRead x after at q (Ok None)) journal w at count left a b g read).0
+  -- a step was not made, or its lines not written whole
+  prefix_next : (more : Bool) (s : Step) (x rest : List ℕ) (c : Option (List ℕ)) (output : List ℕ) → BeginsStep p g.rest s x rest → length g.steps < MAX_STEPS → IsPrefixOfLines p n g.steps s output → Stopped p n seen more (g.lines ++ output)
+  prefix_next more s x rest c output begins few h = record {
+    steps = g.steps;
+    at = at;
+    left = g.rest;
+    lines = g.lines;
+    next = h.lines;
+    prefix = output;
+    rest = h.rest;
+    began = g.began;
+    comes = a_step s x rest h.lines (record { few = few; begins = begins; possible = h.possible; told = h.told });
+    split = h.split;
+    written = refl;
+  }
 
-  -- what comes next: the closing lines at the journal's end, or the lines of a step that can be made
-  pub end_comes : (q : ℕ) (after : Option (List ℕ)) → IfSome left (λ x. NextRead x after at q (Ok None)) → Next g.steps g.rest (closing_lines w)
-  end_comes q after read = subst (λ (u : World). Next g.steps g.rest (closing_lines u)) (sym g.world) (the_end (at_end q after read))
+  -- nothing was written of it
+  stays : (output : List ℕ) → output ≡ [] → Began p n seen g.steps at g.rest (g.lines ++ output)
+  stays output none = subst (λ (y : List ℕ). Began p n seen g.steps at g.rest y) (sym (append-nil g.lines) ∙ ap (λ (y : List ℕ). g.lines ++ y) (sym none)) g.began
 
-  pub step_comes : (step : Step) (x rest : List ℕ) → BeginsStep g.rest step x rest → count < 100000 → Possible w step → Next g.steps g.rest (step_lines count w step)
-  step_comes step x rest begins few may =
-      let next : Next g.steps g.rest (step_lines (length g.steps) (run g.steps) step) = a_step step x rest (omega (arith, few, g.number)) begins (subst (λ (u : World). Possible u step) g.world may) in
-      subst (λ (u : World). Next g.steps g.rest (step_lines count u step)) (sym g.world) (subst (λ (n : ℕ). Next g.steps g.rest (step_lines n (run g.steps) step)) (sym g.number) next)
+  front_next : (more : Bool) (s : Step) (x rest : List ℕ) (output : List ℕ) → BeginsStep p g.rest s x rest → (output ≡ []) ⊎ ((length g.steps < MAX_STEPS) × IsPrefixOfLines p n g.steps s output) → Stopped p n seen more (g.lines ++ output)
+  front_next more s x rest output begins (inl none) = subst (λ (y : List ℕ). Stopped p n seen more y) (sym (append-nil g.lines) ∙ ap (λ (y : List ℕ). g.lines ++ y) (sym none)) (nothing_next more)
+  front_next more s x rest output begins (inr (few, h)) = prefix_next more s x rest None output begins few h
 
-  -- the closing lines were written
-  pub all_done : (q : ℕ) (after c : Option (List ℕ)) → IfSome left (λ x. NextRead x after at q (Ok None)) → Appends b c (closing_lines w) → ReplayedOn journal w a c (Ok count)
-  all_done q after c read wrote = (g.lines ++ closing_lines w, Appends-trans a b c g.lines (closing_lines w) g.written wrote, (g.steps, at, g.lines, subst (λ (x : List ℕ). Began journal g.steps at x g.lines) (at_end q after read) g.began, g.number, g.world, ap (λ (u : World). g.lines ++ closing_lines u) g.world))
-
-  stopped_at : (c : Option (List ℕ)) (next : List ℕ) → Next g.steps g.rest next → AppendsPrefix b c next → (output : List ℕ) × Appends a c output × Stopped journal output
-  stopped_at c next comes (front, rest, split, wrote) = (g.lines ++ front, Appends-trans a b c g.lines front g.written wrote, (g.steps, at, g.rest, g.lines, next, front, rest, g.began, comes, split, refl))
-
-  as_line : (v : World) (c : Option (List ℕ)) (e : LineFault) → (output : List ℕ) × Appends a c output × Stopped journal output → ReplayedOn journal v a c (Err (of_line e))
-  as_line v c line.WriteFault s = s
-  as_line v c line.Memory s = s
-
-  -- the closing lines were not written whole
-  pub not_closed : (q : ℕ) (after c : Option (List ℕ)) (e : LineFault) (r : Result ℕ ReplayFault) → IfSome left (λ x. NextRead x after at q (Ok None)) → AppendsPrefix b c (closing_lines w) → IsErrAnd r (λ z. z ≡ of_line e) → ReplayedOn journal w a c r
-  not_closed q after c e (Ok n) read wrote same = absurd same
-  not_closed q after c e (Err z) read wrote same =
-      subst (λ (y : ReplayFault). ReplayedOn journal w a c (Err y)) (sym same) (as_line w c e (stopped_at c (closing_lines w) (end_comes q after read) wrote))
-
-  -- a prefix of the step's lines, or nothing
-  step_front : (step : Step) (x rest : List ℕ) → BeginsStep g.rest step x rest → count < 100000 → (output : List ℕ) (c : Option (List ℕ)) → Appends b c output → FrontOfLines count w step output → (shown : List ℕ) × Appends a c shown × Stopped journal shown
-  step_front step x rest begins few output c wrote (inl is) = stopped_at c [] nothing (output, [], append-nil output ∙ is, wrote)
-  step_front step x rest begins few output c wrote (inr (may, more, split)) = stopped_at c (step_lines count w step) (step_comes step x rest begins few may) (output, more, split, wrote)
-
-  step_missing : (v : World) (step : Step) (x rest : List ℕ) → BeginsStep g.rest step x rest → (c : Option (List ℕ)) (e : ReplayFault) → Makes at count w step v b c (Err e) → ReplayedOn journal v a c (Err e)
-  step_missing v step x rest begins c (NotYetBuilt p) (output, wrote, made) = absurd made
-  step_missing v step x rest begins c (NoPacket p k) (output, wrote, (few, place, is, past, same, nothing_shown)) = (
+  none_made : (more : Bool) (v : Shown) (s : Step) (x rest : List ℕ) (c : Option (List ℕ)) (e : ReplayFault) → BeginsStep p g.rest s x rest → Makes p n g.steps at s v b c (Err e) → EndsOn p n seen more v a c (Err e)
+  none_made more v s x rest c (Wire q fault) begins (output, wrote, made) = absurd made
+  none_made more v s x rest c (NotMade q fault) begins (output, wrote, (few, cause, refused, is, same, stands, none)) = (
     g.lines ++ output,
     Appends-trans a b c g.lines output g.written wrote,
-    (
-      g.steps,
-      g.rest,
-      x,
-      rest,
-      subst (λ (n : ℕ). Began journal g.steps n g.rest (g.lines ++ output)) (sym place) (subst (λ (y : List ℕ). Began journal g.steps at g.rest y) (sym (append-nil g.lines) ∙ ap (λ (y : List ℕ). g.lines ++ y) (sym nothing_shown)) g.began),
-      same ∙ g.world,
-      omega (arith, few, g.number),
-      subst (λ (s : Step). BeginsStep g.rest s x rest) is begins,
-      subst (λ (u : World). length u.pool ≤ k) g.world past,
-    ),
+    record {
+      steps = g.steps;
+      ending = not_made at cause;
+      replays = not_possible at g.rest s x rest cause (stays output none) begins few refused refl;
+      answered = ap₂ (λ (k : ℕ) (f : StepFault). Err (NotMade k f)) is same;
+      stands = stands_then at cause p n v g.steps stands;
+    },
   )
-  step_missing v step x rest begins c (TooLong p) (output, wrote, (many, place, same, nothing_shown)) = (
+  none_made more v s x rest c (TooLong q) begins (output, wrote, (many, is, stands, none)) = (
     g.lines ++ output,
     Appends-trans a b c g.lines output g.written wrote,
-    (
-      g.steps,
-      g.rest,
-      step,
-      x,
-      rest,
-      subst (λ (n : ℕ). Began journal g.steps n g.rest (g.lines ++ output)) (sym place) (subst (λ (y : List ℕ). Began journal g.steps at g.rest y) (sym (append-nil g.lines) ∙ ap (λ (y : List ℕ). g.lines ++ y) (sym nothing_shown)) g.began),
-      same ∙ g.world,
-      omega (arith, many, g.number),
-      begins,
-    ),
+    record {
+      steps = g.steps;
+      ending = too_long at;
+      replays = one_too_many at g.rest s x rest (stays output none) begins many refl;
+      answered = ap (λ (k : ℕ). Err (TooLong k)) is;
+      stands = stands;
+    },
   )
-  step_missing v step x rest begins c ReadFault (output, wrote, made) = absurd made
-  step_missing v step x rest begins c WriteFault (output, wrote, (few, may, more, split)) = step_front step x rest begins few output c wrote (inr (may, more, split))
-  step_missing v step x rest begins c Memory (output, wrote, (few, front)) = step_front step x rest begins few output c wrote front
+  none_made more v s x rest c ReadFault begins (output, wrote, made) = absurd made
+  none_made more v s x rest c WriteFault begins (output, wrote, (few, h)) = (g.lines ++ output, Appends-trans a b c g.lines output g.written wrote, prefix_next more s x rest c output begins few h)
+  none_made more v s x rest c Memory begins (output, wrote, front) = (g.lines ++ output, Appends-trans a b c g.lines output g.written wrote, front_next more s x rest output begins front)
 
-  -- the next step was not made
-  pub step_not_made : (v : World) (q : ℕ) (step : DeclaredStep) (after c : Option (List ℕ)) (e : ReplayFault) (r : Result ℕ ReplayFault) → IfSome left (λ x. NextRead x after at q (Ok (Some step))) → Makes at count w (step_of step) v b c (Err e) → IsErrAnd r (λ z. z ≡ e) → ReplayedOn journal v a c r
-  step_not_made v q step after c e (Ok n) read made same = absurd same
-  step_not_made v q step after c e (Err z) read made same =
-      let x = going_read (λ x. NextRead x after at q (Ok (Some step))) journal w at count left a b g read in
-      subst (λ (y : ReplayFault). ReplayedOn journal v a c (Err y)) (sym same) (step_missing v (step_of step) x.0 x.1 x.2 c e made)
+  pub not_made_then : (more : Bool) (q : ProfileView) (v : Shown) (s : Step) (after c : Option (List ℕ)) (e : ReplayFault) → q ≡ w.profile → IfSome left (λ x. NextRead q x after at (Ok (next.Read s))) → MakesThen w count at s v b c (Err e) → EndsOn p n seen more v a c (Err e)
+  not_made_then more q v s after c e is read makes =
+      let r = read_of q after (Ok (next.Read s)) is read in
+      none_made more v s r.0 r.1 c e r.2 (made_of s v c (Err e) makes)
 
--- ---- what is told of a source and of a sink
+  -- a step whose lines are not written whole comes next
+  pub step_next : (q : ProfileView) (v : Shown) (s : Step) (after c : Option (List ℕ)) → q ≡ w.profile → IfSome left (λ x. NextRead q x after at (Ok (next.Read s))) → MakesThen w count at s v b c (Err WriteFault)
+      → (x : List ℕ) × (rest : List ℕ) × (lines : List ℕ) × StepFollows p n g.steps g.rest s x rest lines
+  step_next q v s after c is read makes =
+      let r = read_of q after (Ok (next.Read s)) is read in
+      let m = made_of s v c (Err WriteFault) makes in
+      (r.0, r.1, (m.2.1).lines, record { few = m.2.0; begins = r.2; possible = (m.2.1).possible; told = (m.2.1).told })
+
+-- ---- up to the end, or the limit
+
+module _ (p : ProfileView) (n : ℕ) (journal : List ℕ) (w : Shown) (at count : ℕ) (left a b : Option (List ℕ)) (g : Going p n (seen_of journal) w at count left a b) where
+  pub ended : (q : ProfileView) (after source : Option (List ℕ)) → q ≡ w.profile → IfSome left (λ x. NextRead q x after at (Ok next.End)) → (after ≡ Some [] → source ≡ Some (drop MAX_JOURNAL_BYTES journal))
+      → ComesOn p n journal w a b source (Ok (record { at = at; steps = count; cut = None }))
+  ended q after source is read behind =
+      let r = read_of p n (seen_of journal) w at count left a b g q after (Ok next.End) is read in
+      (g.lines, g.written, record { steps = g.steps; left = g.rest; began = g.began; count = g.number; stands = g.stands; cut = r.0; behind = behind r.1 })
+
+  pub cut_short : (q : ProfileView) (fault : WireFault) (after source : Option (List ℕ)) → q ≡ w.profile → IfSome left (λ x. NextRead q x after at (Ok (next.CutShort fault))) → (after ≡ Some [] → source ≡ Some (drop MAX_JOURNAL_BYTES journal))
+      → ComesOn p n journal w a b source (Ok (record { at = at; steps = count; cut = Some fault }))
+  cut_short q fault after source is read behind =
+      let r = read_of p n (seen_of journal) w at count left a b g q after (Ok (next.CutShort fault)) is read in
+      (g.lines, g.written, record { steps = g.steps; left = g.rest; began = g.began; count = g.number; stands = g.stands; cut = (r.0, r.1, r.2); behind = behind r.3 })
+
+-- ---- after that
+
+module _ (p : ProfileView) (n : ℕ) (journal : List ℕ) (w : Shown) (a b source : Option (List ℕ)) (reached : Reached) (c : ComesOn p n journal w a b source (Ok reached)) where
+  -- what is told of the source then
+  told_end : (E : Type 0) (after : Option (List ℕ)) (r : Result Bool E) → IfSome source (λ bytes. TakesEnd bytes after r) → TakesEnd (drop MAX_JOURNAL_BYTES journal) after r
+  told_end E after r took = subst (λ (o : Option (List ℕ)). IfSome o (λ bytes. TakesEnd bytes after r)) (c.2).behind took
+
+  pub end_not_read : ReplaysOn p n journal w a b (Err ReadFault)
+  end_not_read = (c.0, c.1, record { steps = (c.2).steps; at = reached.at; left = (c.2).left; began = (c.2).began; stands = (c.2).stands })
+
+  cut_too_long : (cut : Option WireFault) → IsCutOff p (c.2).left cut → goes_on journal ≡ true → Replays p n (seen_of journal) (goes_on journal) (c.2).steps c.0 (too_long reached.at)
+  cut_too_long None off goes = no_step_follows reached.at (c.2).left (wire.Refused 0 Truncated) (c.2).began (subst (λ (z : List ℕ). StepRefused p z (wire.Refused 0 Truncated)) (sym off) (empty_refused p), inr (true_is (goes_on journal) goes)) (is_cut (goes_on journal) reached.at (wire.Refused 0 Truncated) goes refl)
+  cut_too_long (Some fault) (some, refused, ends) goes = no_step_follows reached.at (c.2).left fault (c.2).began (refused, inl some) (is_cut (goes_on journal) reached.at fault goes ends)
+
+  pub goes_past_limit : (E : Type 0) (after : Option (List ℕ)) → IfSome source (λ bytes. TakesEnd {E = E} bytes after (Ok false)) → ReplaysOn p n journal w a b (Err (TooLong reached.at))
+  goes_past_limit E after took =
+      let t = told_end E after (Ok false) took in
+      (c.0, c.1, record { steps = (c.2).steps; ending = too_long reached.at; replays = cut_too_long reached.cut (c.2).cut (goes_past journal t.0 t.1 t.2); answered = refl; stands = (c.2).stands })
+
+  pub cut_at_end : (E : Type 0) (fault : WireFault) (after : Option (List ℕ)) → reached.cut ≡ Some fault → IfSome source (λ bytes. TakesEnd {E = E} bytes after (Ok true)) → ReplaysOn p n journal w a b (Err (Wire reached.at fault))
+  cut_at_end E fault after is took =
+      let t = told_end E after (Ok true) took in
+      let off : IsCutOff p (c.2).left (Some fault) = subst (IsCutOff p (c.2).left) is (c.2).cut in (
+        c.0,
+        c.1,
+        record {
+          steps = (c.2).steps;
+          ending = no_step reached.at fault;
+          replays = no_step_follows reached.at (c.2).left fault (c.2).began (off.1, inl off.0) (no_more (goes_on journal) reached.at fault (ends_there journal t.0));
+          answered = refl;
+          stands = (c.2).stands;
+        },
+      )
+
+  closing_is : end_lines w ≡ closing_lines (n_run n (c.2).steps)
+  closing_is = ends_are_told n (c.2).steps w ((c.2).stands).stands
+
+  -- the closing lines come next
+  pub end_next : (E : Type 0) (after : Option (List ℕ)) → reached.cut ≡ None → IfSome source (λ bytes. TakesEnd {E = E} bytes after (Ok true)) → Next p n (goes_on journal) (c.2).steps (c.2).left (end_lines w)
+  end_next E after is took =
+      let t = told_end E after (Ok true) took in
+      let off : (c.2).left ≡ [] = subst (IsCutOff p (c.2).left) is (c.2).cut in
+      subst (Next p n (goes_on journal) (c.2).steps (c.2).left) (sym closing_is) (the_end off (ends_there journal t.0))
+
+  pub all_done : (E : Type 0) (after d : Option (List ℕ)) → reached.cut ≡ None → IfSome source (λ bytes. TakesEnd {E = E} bytes after (Ok true)) → Appends b d (end_lines w) → ReplaysOn p n journal w a d (Ok reached.steps)
+  all_done E after d is took wrote =
+      let t = told_end E after (Ok true) took in
+      let off : (c.2).left ≡ [] = subst (IsCutOff p (c.2).left) is (c.2).cut in (
+        c.0 ++ end_lines w,
+        Appends-trans a b d c.0 (end_lines w) c.1 wrote,
+        record {
+          steps = (c.2).steps;
+          ending = whole (length (c.2).steps);
+          replays = at_its_end reached.at c.0 (subst (λ (z : List ℕ). Began p n (seen_of journal) (c.2).steps reached.at z c.0) off (c.2).began) (ends_there journal t.0) (ap (λ (z : List ℕ). c.0 ++ z) closing_is) refl;
+          answered = ap Ok (c.2).count;
+          stands = (c.2).stands;
+        },
+      )
+
+  of_line_fault : (d : Option (List ℕ)) (e : LineFault) → (output : List ℕ) × Appends a d output × Stopped p n (seen_of journal) (goes_on journal) output → ReplaysOn p n journal w a d (Err (of_line e))
+  of_line_fault d line.WriteFault s = s
+  of_line_fault d line.Memory s = s
+
+  pub not_closed : (E : Type 0) (after d : Option (List ℕ)) (e : LineFault) → reached.cut ≡ None → IfSome source (λ bytes. TakesEnd {E = E} bytes after (Ok true)) → AppendsPrefix b d (end_lines w) → ReplaysOn p n journal w a d (Err (of_line e))
+  not_closed E after d e is took (front, rest, split, wrote) = of_line_fault d e (
+    c.0 ++ front,
+    Appends-trans a b d c.0 front c.1 wrote,
+    record {
+      steps = (c.2).steps;
+      at = reached.at;
+      left = (c.2).left;
+      lines = c.0;
+      next = end_lines w;
+      prefix = front;
+      rest = rest;
+      began = (c.2).began;
+      comes = end_next E after is took;
+      split = split;
+      written = refl;
+    },
+  )
+
+-- ---- what is told of a source
 
 pub map_told : {P Q : List ℕ → Type 0} (o : Option (List ℕ)) → ((journal : List ℕ) → P journal → Q journal) → IfSome o P → IfSome o Q
 map_told None f h = tt
 map_told (Some journal) f h = f journal h
 
-pub first_told : (o a : Option (List ℕ)) (w : World) → w ≡ start → IfSome o (λ journal. Going journal w 0 0 o a a)
-first_told None a w is = tt
-first_told (Some journal) a w is = going_first journal w (Some journal) a is refl
+pub told_all : {P : List ℕ → Type 0} (o : Option (List ℕ)) → ((journal : List ℕ) → o ≡ Some journal → P journal) → IfSome o P
+told_all None f = tt
+told_all (Some journal) f = f journal refl
 
-module _ (o : Option (List ℕ)) (w : World) (at count : ℕ) (left a b : Option (List ℕ)) (g : IfSome o (λ journal. Going journal w at count left a b)) where
-  pub going_told : (v : World) (q : ℕ) (step : DeclaredStep) (after c : Option (List ℕ)) → IfSome left (λ x. NextRead x after at q (Ok (Some step))) → Makes at count w (step_of step) v b c (Ok tt) → IfSome o (λ journal. Going journal v q (count + 1) after a c)
-  going_told v q step after c read made = map_told o (λ journal h. going_on journal w at count left a b h v q step after c read made) g
+pub with_told : {P Q : List ℕ → Type 0} (o : Option (List ℕ)) → ((journal : List ℕ) → o ≡ Some journal → P journal → Q journal) → IfSome o P → IfSome o Q
+with_told None f h = tt
+with_told (Some journal) f h = f journal refl h
 
-  pub not_read_told : (q : ℕ) (after : Option (List ℕ)) (e : ReplayFault) (r : Result ℕ ReplayFault) → IfSome left (λ x. NextRead x after at q (Err e)) → IsErrAnd r (λ z. z ≡ e) → IfSome o (λ journal. ReplayedOn journal w a b r)
-  not_read_told q after e r read same = map_told o (λ journal h. not_read journal w at count left a b h q after e r read same) g
-
-  pub done_told : (q : ℕ) (after c : Option (List ℕ)) → IfSome left (λ x. NextRead x after at q (Ok None)) → Appends b c (closing_lines w) → IfSome o (λ journal. ReplayedOn journal w a c (Ok count))
-  done_told q after c read wrote = map_told o (λ journal h. all_done journal w at count left a b h q after c read wrote) g
-
-  pub not_closed_told : (q : ℕ) (after c : Option (List ℕ)) (e : LineFault) (r : Result ℕ ReplayFault) → IfSome left (λ x. NextRead x after at q (Ok None)) → AppendsPrefix b c (closing_lines w) → IsErrAnd r (λ z. z ≡ of_line e) → IfSome o (λ journal. ReplayedOn journal w a c r)
-  not_closed_told q after c e r read wrote same = map_told o (λ journal h. not_closed journal w at count left a b h q after c e r read wrote same) g
-
-  pub not_made_told : (v : World) (q : ℕ) (step : DeclaredStep) (after c : Option (List ℕ)) (e : ReplayFault) (r : Result ℕ ReplayFault) → IfSome left (λ x. NextRead x after at q (Ok (Some step))) → Makes at count w (step_of step) v b c (Err e) → IsErrAnd r (λ z. z ≡ e) → IfSome o (λ journal. ReplayedOn journal v a c r)
-  not_made_told v q step after c e r read made same = map_told o (λ journal h. step_not_made journal w at count left a b h v q step after c e r read made same) g
-
--- ---- a step counts for one number at most
-
-longer_posted : (known : Bool) (w : World) (id : ℤ) (body : List ℕ) → ending (posted known w id (added body)).box ≤ ending w.box + 1
-longer_posted true w id body = omega arith
-longer_posted false w id body = omega (arith, ending-append w.box (added body ∷ []))
-
-same_box : (w : World) (o : Option Push) → (heard w o).box ≡ w.box
-same_box w None = refl
-same_box w (Some p) = refl
-
-one_longer : (w : World) (s : Step) → ending (happens w s).box ≤ ending w.box + 1
-one_longer w (post id body) = longer_posted (is_known w.ids id) w id body
-one_longer w (hears k) = omega (arith, ap ending (same_box w (slice_get w.pool k)))
-
-pub made_few : (at count : ℕ) (w v : World) (s : Step) (b c : Option (List ℕ)) → Makes at count w s v b c (Ok tt) → count + 1 ≤ 100000
-made_few at count w v s b c (output, wrote, (few, may, is, shown)) = omega (arith, few)
-
-pub made_space : (at count : ℕ) (w v : World) (s : Step) (b c : Option (List ℕ)) → ending w.box ≤ count → Makes at count w s v b c (Ok tt) → ending v.box ≤ count + 1
-made_space at count w v s b c space (output, wrote, (few, may, is, shown)) = omega (arith, space, one_longer w s, ap (λ (u : World). ending u.box) is)
+pub same_fault : {T : Type 0} (e f : ReplayFault) (r : Result T ReplayFault) → IsErrAnd r (λ z. z ≡ e) → IsErrOf r f → e ≡ f
+same_fault e f (Ok x) is failed = absurd is
+same_fault e f (Err z) is failed = grind arith

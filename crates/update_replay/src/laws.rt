@@ -1,15 +1,16 @@
-//! Laws of replays.
-ghost use Rattle.std.specs.Prelude.{◌≡◌, ◌∷◌, ◌≤◌, ℕ, List, [], Some, slice_get};
-ghost use Rattle.box_events.specs.Boxes.{ending, Between, AreCounted};
-ghost use Rattle.pts_machine.specs.Fitting.{Fits};
-ghost use Rattle.update_replay.specs.Worlds.{Step, Push, run};
+//! Laws of the lines that are written of a world, each carried by a function that does nothing.
+ghost use Rattle.update_replay.specs.LineLaws.{EndsAreTold, StepsAreTold};
+ghost use Rattle.update_replay.specs.MadeLaws.{EachIsMade, MadeOffsetsAreLow, OneIsMade};
 
-/// What the client holds is what the server's box says, whatever was posted and heard.
-pub fn every_replay_fits()
-    ensures fits { (steps : List Step) → Fits (run steps).box (run steps).lane }
-    ensures stretch { (steps : List Step) → Between (run steps).box 0 (run steps).lane.at (run steps).lane.events }
-    ensures reach { (steps : List Step) → (run steps).lane.at ≤ ending (run steps).box }
-    ensures pool { (steps : List Step) (k : ℕ) (p : Push) → slice_get (run steps).pool k ≡ Some p → Between (run steps).box p.start p.end (p.event ∷ []) }
-    ensures counted { (steps : List Step) → AreCounted (run steps).box }
-    ensures restart { (steps : List Step) → (run steps).lane.restart ≡ 0 }
+/// What is written of a world after a possible step of a run, and at its end, is what the report of the run is to have, which is told by numbers, by the server's boxes, and by the bytes of what was sent.
+pub fn lines_are_told()
+    ensures steps { StepsAreTold }
+    ensures ends { EndsAreTold }
+{}
+
+/// Each number and count of steps has a made run, and one. Where its pool would be too full, that step's offset is 48 for each step at most.
+pub fn runs_are_made()
+    ensures each { EachIsMade }
+    ensures one { OneIsMade }
+    ensures low { MadeOffsetsAreLow }
 {}

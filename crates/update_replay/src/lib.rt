@@ -1,27 +1,28 @@
-//! Replays of journals: a server's box, the pushes that it sent, and a client that hears them.
+//! Replays of journals and made runs: what a replay writes of a world, and what a made run draws.
 #![tactic(auto)]
 
-mod journal;
-mod journal_laws;
+mod choosing;
+mod drawing;
+mod fault;
+mod generator;
 mod laws;
+mod limits;
 mod lines;
-mod outcome;
-mod packets;
-mod profile;
+mod made_fault;
+mod making;
+mod summary;
+mod wanted;
 mod replay;
-mod report;
-mod world;
+mod replay_laws;
 
-pub use journal::{JournalFault, Step, read_step};
-pub use journal_laws::{
-    each_journal_is_replayed, journals_are_read_in_one_way,
-    long_journals_are_replayed_by_their_fronts,
-};
-pub use laws::every_replay_fits;
-pub use lines::{LineFault, write_end, write_step};
-pub use outcome::Outcome;
-pub use packets::packet_of;
-pub use profile::PROFILE_TEXT;
-pub use replay::{ReplayFault, replay_steps};
-pub use report::{put_closing, put_outcome};
-pub use world::{StepFault, World};
+pub use choosing::make_step;
+pub use drawing::draw_post;
+pub use fault::{LineFault, ReplayFault};
+pub use generator::Generator;
+pub use laws::{lines_are_told, runs_are_made};
+pub use limits::{MAX_JOURNAL_BYTES, MAX_STEPS};
+pub use lines::{write_end, write_step};
+pub use made_fault::MadeFault;
+pub use making::{MAX_MADE_STEPS, made_run};
+pub use replay::replay_steps;
+pub use replay_laws::{each_journal_is_replayed, journals_are_replayed_in_one_way};

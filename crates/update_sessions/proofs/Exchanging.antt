@@ -1,7 +1,7 @@
 -- Exchanges, one after the other.
-use Rattle.std.proofs.Common.{◌≡◌, ℕ, List, [], ◌∷◌, ◌++◌, refl, sym, ap, ◌∙◌, subst, append_assoc, append-nil}
+use Rattle.std.proofs.Common.{◌≡◌, ℕ, ◌+◌, ◌≤◌, List, [], ◌∷◌, ◌++◌, length, length-append, refl, sym, ap, ◌∙◌, subst, append_assoc, append-nil, arith}
 use Rattle.update_sessions.specs.Packed.{Packed, PartlyPacked, Came}
-use Rattle.update_sessions.specs.Exchanges.{Side, TakesAll, after_all, sends_all, Exchanged, Cut, Broken, MaySend}
+use Rattle.update_sessions.specs.Exchanges.{Side, TakesAll, after_all, sends_all, Exchanged, Cut, Broken, MaySendFor}
 use Rattle.update_sessions.specs.Receiving.{ComesFirst}
 use Rattle.update_sessions.proofs.Packets.{packed_then, came_then}
 
@@ -76,8 +76,8 @@ module _ {S M N : Type 0} (side : Side S M N) where
   cut_none s t bytes same = record { left = bytes; came = refl; taken = tt; wrote = refl; ends = same }
 
   -- what may be written further
-  pub may_send_more : (s u : S) (bytes mid x y : List ℕ) (ms : List M) → Exchanged side s bytes mid x u ms → MaySend side u mid y → MaySend side s bytes (x ++ y)
-  may_send_more s u bytes mid x y ms p q = (ms ++ q.0, q.1, q.2, exchanged_then s u q.2 bytes mid q.1 x y ms q.0 p q.3)
+  pub may_send_more : (most n k : ℕ) (s u : S) (bytes mid x y : List ℕ) (ms : List M) → length ms ≡ n → n + k ≤ most → Exchanged side s bytes mid x u ms → MaySendFor side k u mid y → MaySendFor side most s bytes (x ++ y)
+  may_send_more most n k s u bytes mid x y ms len few p q = (ms ++ q.0, q.1, q.2, exchanged_then s u q.2 bytes mid q.1 x y ms q.0 p q.3, omega (arith, length-append ms q.0, len, few, q.4))
 
   -- what a side is after an exchange that broke off
   pub broken_ends : (s t : S) (bytes out : List ℕ) (ms : List M) → Broken side s bytes out t ms → t ≡ after_all side s ms

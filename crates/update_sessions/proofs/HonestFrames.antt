@@ -148,7 +148,7 @@ module _ (p : ProfileView) where
   first_never a x y c first F one packed wrote bytes before from to sound room failed =
       let never : IfSome (Some before) (λ before. IsTrue x.sound → length before + length first ≤ x.room → F → ⊥) = subst (λ (o : Option (List ℕ)). IfSome o (λ before. IsTrue x.sound → length before + length first ≤ x.room → F → ⊥)) to wrote.never in
       never (subst (λ (v : Bool). IsTrue v) one.sound sound)
-      (room first (record { first = first; more = []; asked = packed; parts = sym (append-nil first); then_asked = ([], bytes, begun c, exchanged_none (client_side p) (begun c) bytes) })) failed
+      (room first (record { first = first; more = []; asked = packed; parts = sym (append-nil first); then_asked = ([], bytes, begun c, exchanged_none (client_side p) (begun c) bytes, omega arith) })) failed
 
   pub begins_never : (a b : SourceState) (x y : SinkState) (c : ClientState) (first : List ℕ) (P F : Type 0) → Packed (SpellsCall p) (ticks (wakes c)).asks first → a.left ≡ b.left → Appends x.written y.written first → IsOne a x → IsOne b y → Wrote x y (length first) P
       → LinkNeverFails b y (MaySend (client_side p) (begun c)) F → LinkNeverFails a x (MayAsk p c) F

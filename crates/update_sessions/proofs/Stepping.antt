@@ -1,5 +1,5 @@
 -- Steps of an exchange over a link that may tell its bytes or not.
-use Rattle.std.proofs.Common.{◌≡◌, ◌⊎◌, inl, inr, Bool, ℕ, ◌+◌, ◌≤◌, List, [], ◌∷◌, ◌++◌, length, Option, Some, None, Result, Ok, Err, refl, sym, ap, ◌∙◌, subst, length-append, arith}
+use Rattle.std.proofs.Common.{◌≡◌, ◌⊎◌, inl, inr, Bool, ℕ, ◌+◌, ◌<◌, ◌≤◌, List, [], ◌∷◌, ◌++◌, length, Option, Some, None, Result, Ok, Err, refl, sym, ap, ◌∙◌, subst, length-append, arith}
 use Rattle.std.specs.Prelude.{IsSome, IsTrue, IfSome}
 use Rattle.std.specs.Io.KnownBytes.{Appends}
 use Rattle.std.proofs.KnownBytes.{Appends-nil, Appends-trans}
@@ -8,7 +8,7 @@ use Rattle.tl_base.specs.Writing.{AppendsPrefix}
 use Rattle.wire_checks.specs.declared.fault.WireFault.{WireFault}
 use Rattle.update_sessions.specs.Links.{OverLink, UsesLink, LinkNeverFails}
 use Rattle.update_sessions.specs.Packed.{Packed}
-use Rattle.update_sessions.specs.Exchanges.{Side, Exchanged, MaySend}
+use Rattle.update_sessions.specs.Exchanges.{Side, Exchanged, MaySendFor}
 use Rattle.update_sessions.specs.Receiving.{Receives}
 use Rattle.update_sessions.specs.inner.Steps.{SoFar, BreaksOff}
 use Rattle.update_sessions.proofs.Packets.{partly_of, partly_none}
@@ -92,14 +92,15 @@ module _ {S M N : Type 0} (side : Side S M N) where
   over_now s u n (Some bytes) None l1 w1 Q p f = tt
   over_now s u n (Some bytes) (Some before) l1 w1 Q (ms, left, x, wrote, is, ex, len) f = (x, wrote, f bytes left x ms ex len)
 
-  pub never_then : (s u : S) (n : ℕ) (a b : SourceState) (x y : SinkState) (P F : Type 0) → SoFar side s n a.left x.written b.left y.written u → UsesLink a b x y P → LinkNeverFails b y (MaySend side u) F
-      → LinkNeverFails a x (MaySend side s) F
-  never_then s u n a b x y P F so uses never bytes before from to sound room failed =
+  -- so many steps, and one after them
+  pub never_then : (most : ℕ) (s u : S) (n : ℕ) (a b : SourceState) (x y : SinkState) (P F : Type 0) → n < most → SoFar side s n a.left x.written b.left y.written u → UsesLink a b x y P → LinkNeverFails b y (MaySendFor side 1 u) F
+      → LinkNeverFails a x (MaySendFor side most s) F
+  never_then most s u n a b x y P F few so uses never bytes before from to sound room failed =
       let here : SoFar side s n (Some bytes) (Some before) b.left y.written u =
       subst (λ (o : Option (List ℕ)). SoFar side s n (Some bytes) o b.left y.written u) to (subst (λ (o : Option (List ℕ)). SoFar side s n o x.written b.left y.written u) from so) in
       let now : Appended before y.written here.2 = appended before y.written here.2 here.3 in
       never here.1 now.after here.4 now.told (uses.stays (some_of a.left bytes from) (some_of x.written before to) sound)
-      (λ more may. omega (arith, room (here.2 ++ more) (may_send_more side s u bytes here.1 here.2 more here.0 here.5 may), uses.room_kept, ap length now.is, length-append before here.2, length-append here.2 more))
+      (λ more may. omega (arith, room (here.2 ++ more) (may_send_more side most n 1 s u bytes here.1 here.2 more here.0 here.6 (omega (arith, few)) here.5 may), uses.room_kept, ap length now.is, length-append before here.2, length-append here.2 more))
       failed
 
   -- ---- one step: a message came, and what is sent for it is written at once
@@ -137,10 +138,10 @@ module _ {S M N : Type 0} (side : Side S M N) where
     )
 
     pub step_never : (a b : SourceState) (x y z : SinkState) (P F : Type 0) → IfSome a.left (λ bytes. Receives side.means Refused bytes b.left (Ok (Some m))) → UsesLink a b x y P → x.written ≡ y.written → Packed side.spells (side.sends s m) out → t ≡ side.next s m
-        → IsOne b y → Wrote y z (length out) F → LinkNeverFails a x (MaySend side s) F
+        → IsOne b y → Wrote y z (length out) F → LinkNeverFails a x (MaySendFor side 1 s) F
     step_never a b x y z P F r uses written packed is one wrote bytes before from to sound room failed =
         let came : Receives side.means Refused bytes b.left (Ok (Some m)) = subst (λ (o : Option (List ℕ)). IfSome o (λ bytes. Receives side.means Refused bytes b.left (Ok (Some m)))) from r in
         let told : y.written ≡ Some before = sym written ∙ to in
         let never : IfSome (Some before) (λ before. IsTrue y.sound → length before + length out ≤ y.room → F → ⊥) = subst (λ (o : Option (List ℕ)). IfSome o (λ before. IsTrue y.sound → length before + length out ≤ y.room → F → ⊥)) told wrote.never in
         never (subst (λ (v : Bool). IsTrue v) one.sound (uses.stays (some_of a.left bytes from) (some_of x.written before to) sound))
-        (omega (arith, room out (m ∷ [], came.0, t, exchanged_one side s t bytes came.0 out m came.1 takes packed is), uses.room_kept)) failed
+        (omega (arith, room out (m ∷ [], came.0, t, exchanged_one side s t bytes came.0 out m came.1 takes packed is, omega arith), uses.room_kept)) failed

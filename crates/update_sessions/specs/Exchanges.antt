@@ -57,6 +57,10 @@ pub record Broken {S M N : Type 0} (side : Side S M N) (s : S) (bytes out : List
   pub exchanged : Exchanged side s bytes rest wrote between first
   pub cut : Cut side between rest part t last
 
--- what may be written: all that is sent for messages that come first
+-- what may be written: all that is sent for messages that come first, so many at most
+abbrev pub MaySendFor : {S M N : Type 0} → Side S M N → ℕ → S → List ℕ → List ℕ → Type 0
+MaySendFor {S} {M} {N} side most s bytes out = (ms : List M) × (left : List ℕ) × (t : S) × Exchanged side s bytes left out t ms × (length ms ≤ most)
+
+-- likewise in a whole session, which ends after MAX_FRAMES messages
 abbrev pub MaySend : {S M N : Type 0} → Side S M N → S → List ℕ → List ℕ → Type 0
-MaySend {S} {M} {N} side s bytes out = (ms : List M) × (left : List ℕ) × (t : S) × Exchanged side s bytes left out t ms
+MaySend side s bytes out = MaySendFor side MAX_FRAMES s bytes out

@@ -3,7 +3,7 @@ ghost use Rattle.std.specs.Prelude.{◌≡◌, ◌≤◌, ◌+◌, ◌*◌, List
 ghost use Rattle.box_events.specs.declared.limits.TheConstants.{MAX_ASKS};
 ghost use Rattle.box_events.specs.declared.replies.Frame.{Frame};
 ghost use Rattle.box_client.specs.Asking.{is_one_asking};
-ghost use Rattle.update_sessions.specs.Exchanges.{MaySend};
+ghost use Rattle.update_sessions.specs.Exchanges.{MaySend, MaySendFor};
 ghost use Rattle.update_sessions.specs.Heard.{HearsOn, MayAsk};
 ghost use Rattle.update_sessions.specs.Hearing.{client_side};
 ghost use Rattle.update_sessions.specs.Honest.{HearsHonestly};
@@ -92,7 +92,7 @@ fn hear_next<L: Link>(
     ensures next { client.new.next ≤ client.old.next + MAX_ASKS }
     ensures used { UsesLink (L.Source.state link.old) (L.Source.state link.new) (L.Sink.state link.old) (L.Sink.state link.new) (IsErrOf result SessionFault.LinkFault) }
     ensures beside { L.beside link.new ≡ L.beside link.old }
-    ensures never { LinkNeverFails (L.Source.state link.old) (L.Sink.state link.old) (MaySend (client_side profile.now) client.old) (IsErrOf result SessionFault.LinkFault) }
+    ensures never { LinkNeverFails (L.Source.state link.old) (L.Sink.state link.old) (MaySendFor (client_side profile.now) 1 client.old) (IsErrOf result SessionFault.LinkFault) }
 {
     let Some(frame) = receive_frame(alloc, profile, link, packet)? else {
         return Err(SessionFault::Packet(PacketFault::Ended { had: 0 }));

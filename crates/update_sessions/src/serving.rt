@@ -2,7 +2,7 @@
 ghost use Rattle.std.specs.Prelude.{◌≡◌, ◌<◌, ◌^◌, ℕ, List, IsErrOf};
 ghost use Rattle.box_events.specs.declared.requests.Numbered.{Numbered};
 ghost use Rattle.box_server.specs.Servers.{dated_at};
-ghost use Rattle.update_sessions.specs.Exchanges.{MaySend};
+ghost use Rattle.update_sessions.specs.Exchanges.{MaySend, MaySendFor};
 ghost use Rattle.update_sessions.specs.Links.{LinkNeverFails, OverLink, UsesLink};
 ghost use Rattle.update_sessions.specs.Served.{Serves};
 ghost use Rattle.update_sessions.specs.Serving.{server_side};
@@ -53,7 +53,7 @@ fn serve_next<L: Link>(
     ensures serves { ServesNext profile.now server.old (L.Source.state link.old).left (L.Sink.state link.old).written (L.Source.state link.new).left (L.Sink.state link.new).written server.new result }
     ensures used { UsesLink (L.Source.state link.old) (L.Source.state link.new) (L.Sink.state link.old) (L.Sink.state link.new) (IsErrOf result SessionFault.LinkFault) }
     ensures beside { L.beside link.new ≡ L.beside link.old }
-    ensures never { LinkNeverFails (L.Source.state link.old) (L.Sink.state link.old) (MaySend (server_side profile.now) server.old) (IsErrOf result SessionFault.LinkFault) }
+    ensures never { LinkNeverFails (L.Source.state link.old) (L.Sink.state link.old) (MaySendFor (server_side profile.now) 1 server.old) (IsErrOf result SessionFault.LinkFault) }
 {
     let Some(call) = receive_call(alloc, profile, link, packet)? else {
         return Ok(false);

@@ -2,6 +2,6 @@ mod Stretching
 mod Telling
 pub mod OwnLines
 pub mod NextNumbers
-mod Drawing
-mod Dates
-mod Summing
+pub mod Drawing
+pub mod Dates
+pub mod Summing

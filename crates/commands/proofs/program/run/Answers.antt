@@ -2,7 +2,11 @@ use Rattle.std.proofs.Common.{arith, refl, sym, subst, ◌∙◌}
 use Rattle.tl_base.specs.Causes.{Rose}
 use Rattle.commands.specs.Requests.{request_text, FindsRequest}
 use Rattle.commands.proofs.Endings.{ends_well, ends_stopped, ends_usage, ends_memory, none_kept, done_kept, stopped_kept, memory_kept}
+use Rattle.commands.proofs.Ranges.{in_range}
 use Rattle.commands.proofs.program.run.Goals as goal
+
+pub answer-requires : goal.answer-requires
+answer-requires g c = in_range _ (request_text c.in-Ok-Some.request) (subst (FindsRequest _) c.in-Ok-Some.field-0-is c.in-Ok-Some.ensures)
 
 pub returns-in-Ok-None-clause-ends : goal.returns-in-Ok-None-clause-ends
 returns-in-Ok-None-clause-ends g c = ends_usage _ _ _ _ _ _ c.tell.result (subst (FindsRequest _) c.in-Ok-None.field-0-is c.in-Ok-None.ensures) c.tell.ensures.status c.tell.ensures.told c.tell.ensures.kept

@@ -1,46 +1,23 @@
-use Rattle.std.proofs.Common.{Ok, Err, refl}
-use Rattle.tl_base.specs.Causes.{Rose}
-use Rattle.command_base.specs.declared.status.Status.TheVariants.{Done}
-use Rattle.update_commands.proofs.Reports.{loaded_kept, written_kept, replay_told, not_loaded_told, stopped_faults, unloaded_faults, replayed_faults}
+use Rattle.std.proofs.Common.{arith, ap}
+use Rattle.update_commands.proofs.ProfiledFiles.{no_profile_works, no_schema_works, replay_faults, replay_kept, replay_works}
+use Rattle.command_base.proofs.StageFaults.{rose_kept}
 use Rattle.update_commands.proofs.replay.replay_journal.Goals as goal
 
-pub returns-in-Err-clause-works : goal.returns-in-Err-clause-works
-returns-in-Err-clause-works g c = not_loaded_told
-    (Rose (g.H.Host.state c.args.host.now).counts.writes (g.H.Host.state c.load_journal.new.host).counts.writes) (Rose (g.H.Host.state c.args.host.now).counts.links (g.H.Host.state c.load_journal.new.host).counts.links)
-    c.args.schema.now c.args.journal.now c.in-Err.fault c.load_stop.result _ _ c.load_stop.ensures.tells c.in-Err.ensures.loads
+pub returns-in_err-schema-clause-works : goal.returns-in_err-schema-clause-works
+returns-in_err-schema-clause-works g c = no_schema_works c.args.schema.now c.args.journal.now c.args.clients _ _ c.in_err-schema.field-0.0 c.from_residual.result _ _ c.in_err-schema.ensures.loads c.from_residual.ensures.1
 
-pub returns-in-Ok-write_replay-clause-works : goal.returns-in-Ok-write_replay-clause-works
-returns-in-Ok-write_replay-clause-works g c =
-    replay_told (Rose (g.H.Host.state c.args.host.now).counts.writes (g.H.Host.state c.write_replay.new.host).counts.writes) (Rose (g.H.Host.state c.args.host.now).counts.links (g.H.Host.state c.write_replay.new.host).counts.links)
-    c.args.schema.now c.args.journal.now c.in-Ok.bytes (Ok tt) (Ok Done) (g.H.Host.state c.args.host.now).view (g.H.Host.state c.load_journal.new.host).view (g.H.Host.state c.write_replay.new.host).view
-    (g.met.H.Host.are_bytes c.args.host.now) c.in-Ok-write_replay.ensures.no_read refl c.in-Ok.ensures.loads c.in-Ok-write_replay.ensures.writes
+pub returns-in_err-profile-clause-works : goal.returns-in_err-profile-clause-works
+returns-in_err-profile-clause-works g c =
+    no_profile_works c.args.schema.now c.args.journal.now c.args.clients _ _ c.in_ok-schema.schema c.in_err-profile.field-0.0 c.from_residual-in_err-profile.result _ _ c.in_ok-schema.ensures.loads c.in_err-profile.ensures c.from_residual-in_err-profile.ensures.1
 
-pub returns-in-Err-write_replay-clause-works : goal.returns-in-Err-write_replay-clause-works
-returns-in-Err-write_replay-clause-works g c =
-    replay_told (Rose (g.H.Host.state c.args.host.now).counts.writes (g.H.Host.state c.write_replay.new.host).counts.writes) (Rose (g.H.Host.state c.args.host.now).counts.links (g.H.Host.state c.write_replay.new.host).counts.links)
-    c.args.schema.now c.args.journal.now c.in-Ok.bytes (Err c.in-Err-write_replay.fault) (Err c.replay_stop.result) (g.H.Host.state c.args.host.now).view (g.H.Host.state c.load_journal.new.host).view (g.H.Host.state c.write_replay.new.host).view
-    (g.met.H.Host.are_bytes c.args.host.now) c.in-Err-write_replay.ensures.no_read c.replay_stop.ensures.tells c.in-Ok.ensures.loads c.in-Err-write_replay.ensures.writes
+pub returns-clause-works : goal.returns-clause-works
+returns-clause-works g c =
+    replay_works c.args.schema.now c.args.journal.now c.args.clients _ _ _ _ c.in_ok-schema.schema c.in_ok-profile.profile c.replay_file.result (g.H.Host.state c.args.host.now).view (g.H.Host.state c.load_schema.new.host).view (g.H.Host.state c.replay_file.new.host).view
+    (rose_kept _ _ _ (ap (λ k. k.writes) c.in_ok-schema.ensures.faults.others)) (rose_kept _ _ _ (ap (λ k. k.links) c.in_ok-schema.ensures.faults.others))
+    c.in_ok-profile.ensures c.in_ok-schema.ensures.loads c.replay_file.ensures.works
 
-pub returns-in-Err-clause-faults : goal.returns-in-Err-clause-faults
-returns-in-Err-clause-faults g c = unloaded_faults c.args.schema.now c.args.journal.now c.in-Err.fault c.load_stop.result _ _ c.load_stop.ensures.tells c.in-Err.ensures.faults
+pub returns-clause-kept : goal.returns-clause-kept
+returns-clause-kept g c = replay_kept c.args.schema.now c.args.journal.now c.args.clients c.in_ok-schema.schema c.in_ok-profile.profile _ _ _ c.in_ok-profile.ensures c.in_ok-schema.ensures.loads c.replay_file.ensures.kept
 
-pub returns-in-Ok-write_replay-clause-faults : goal.returns-in-Ok-write_replay-clause-faults
-returns-in-Ok-write_replay-clause-faults g c =
-    replayed_faults c.args.schema.now c.args.journal.now c.in-Ok.bytes (Ok tt) Done _ _ _ (g.met.H.Host.are_bytes c.args.host.now) c.in-Ok.ensures.loads c.in-Ok.ensures.faults c.in-Ok-write_replay.ensures.faults
-    (λ is. absurd cc) (λ is. absurd cc) (λ is. absurd cc) (λ is. absurd cc)
-
-pub returns-in-Err-write_replay-clause-faults : goal.returns-in-Err-write_replay-clause-faults
-returns-in-Err-write_replay-clause-faults g c =
-    stopped_faults c.args.schema.now c.args.journal.now c.in-Ok.bytes c.in-Err-write_replay.fault c.replay_stop.result _ _ _ (g.met.H.Host.are_bytes c.args.host.now) c.in-Ok.ensures.loads c.in-Ok.ensures.faults c.in-Err-write_replay.ensures.faults
-    c.in-Err-write_replay.ensures.no_read c.replay_stop.ensures.tells
-
-pub returns-in-Err-clause-kept : goal.returns-in-Err-clause-kept
-returns-in-Err-clause-kept g c = loaded_kept c.args.schema.now c.args.journal.now (Err c.in-Err.fault) _ _ c.in-Err.ensures.loads c.in-Err.ensures.unread
-
-pub returns-in-Ok-write_replay-clause-kept : goal.returns-in-Ok-write_replay-clause-kept
-returns-in-Ok-write_replay-clause-kept g c =
-    written_kept c.args.schema.now c.args.journal.now (Ok c.in-Ok.bytes) _ _ _ c.in-Ok.ensures.loads c.in-Ok.ensures.unread c.in-Ok-write_replay.ensures.kept c.in-Ok-write_replay.ensures.unread
-
-pub returns-in-Err-write_replay-clause-kept : goal.returns-in-Err-write_replay-clause-kept
-returns-in-Err-write_replay-clause-kept g c =
-    written_kept c.args.schema.now c.args.journal.now (Ok c.in-Ok.bytes) _ _ _ c.in-Ok.ensures.loads c.in-Ok.ensures.unread c.in-Err-write_replay.ensures.kept c.in-Err-write_replay.ensures.unread
+pub returns-clause-faults : goal.returns-clause-faults
+returns-clause-faults g c = replay_faults c.args.schema.now c.args.journal.now c.args.clients _ c.in_ok-schema.schema c.in_ok-profile.profile _ _ _ _ c.in_ok-profile.ensures c.in_ok-schema.ensures.faults c.in_ok-schema.ensures.loads c.replay_file.ensures.faults

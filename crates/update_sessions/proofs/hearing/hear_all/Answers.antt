@@ -2,6 +2,7 @@ use Rattle.std.proofs.Common.{arith, refl, rules, ◌∙◌, ◌+◌}
 use Rattle.std.proofs.lemmas.Result.{err_from_is_err_and}
 use Rattle.update_sessions.specs.declared.fault.SessionFault.TheVariants.{LinkFault}
 use Rattle.update_sessions.specs.Exchanges.{MaySend}
+use Rattle.update_sessions.specs.declared.fault.TheConstants.{MAX_FRAMES}
 use Rattle.update_sessions.specs.Hearing.{client_side}
 use Rattle.update_sessions.proofs.ClientSteps.{hears_stopped}
 use Rattle.update_sessions.proofs.LinkUses.{uses_as, uses_then}
@@ -24,7 +25,7 @@ returns-in_err-hear_next-clause-never g c =
     let side = client_side c.args.profile.now in
     let q = err_from_is_err_and c.from_residual.result c.from_residual.ensures.1 in
     never_as (from.state c.args.link.now) (to.state c.args.link.now) (MaySend side c.args.client.now) _ _
-    (never_then side c.args.client.now c.loop-frames.client c.loop-frames.frames (from.state c.args.link.now) (from.state c.loop-frames.link) (to.state c.args.link.now) (to.state c.loop-frames.link) _ _ c.loop-frames.invariant.so_far c.loop-frames.invariant.used
+    (never_then side MAX_FRAMES c.args.client.now c.loop-frames.client c.loop-frames.frames (from.state c.args.link.now) (from.state c.loop-frames.link) (to.state c.args.link.now) (to.state c.loop-frames.link) _ _ c.loop-frames-test.true c.loop-frames.invariant.so_far c.loop-frames.invariant.used
     c.hear_next.ensures.never)
     (λ e. failed_as c.from_residual.result c.hear_next.result q.0 c.in_err-hear_next.field-0.0 LinkFault q.1 q.2 c.in_err-hear_next.was e)
 

@@ -4,7 +4,7 @@ use Rattle.std.proofs.lemmas.Result.{err_from_is_err_and}
 use Rattle.tl_base.specs.Using.{Wrote}
 use Rattle.box_wire.specs.Framing.{WireRefused}
 use Rattle.box_wire.specs.Kinds.{frames}
-use Rattle.update_sessions.specs.Exchanges.{MaySend}
+use Rattle.update_sessions.specs.Exchanges.{MaySendFor}
 use Rattle.update_sessions.specs.Hearing.{client_side}
 use Rattle.update_sessions.proofs.LinkUses.{IsOne, uses_read}
 use Rattle.update_sessions.proofs.ClientSteps.{next_ok, next_refused, next_kept_off, next_cut, next_done, sent, takes, after}
@@ -93,7 +93,7 @@ returns-in_err-write_all-clause-never g c =
     let uses = uses_read a b x y _ c.receive_frame.ensures.used written room in
     let one : IsOne b y = record { faults = g.met.L.Link.one_count c.receive_frame.new.from; sound = g.met.L.Link.one_truth c.receive_frame.new.from } in
     let wrote = subst (λ (l : List ℕ). Wrote y (to.state c.write_all.new.to) (length l) (IsErr c.write_all.result)) c.as_slice.ensures.value c.write_all.ensures.used in
-    never_as a x (MaySend (client_side p) k) (IsErr c.write_all.result) _
+    never_as a x (MaySendFor (client_side p) 1 k) (IsErr c.write_all.result) _
     (step_never (client_side p) (WireRefused p frames) k e f out (takes p k d e f out c.requires.asking c.in_ok-hear_frame.ensures c.put_asks.ensures.ticks) a b x y (to.state c.write_all.new.to) _ (IsErr c.write_all.result) r uses written
     (sent p k d e f out c.requires.asking c.in_ok-hear_frame.ensures c.put_asks.ensures.ticks c.in_ok-put_asks.ensures.asks) (after p k d e f out c.requires.asking c.in_ok-hear_frame.ensures c.put_asks.ensures.ticks) one wrote)
     (λ e. rw c.in_err-write_all.was refl)

@@ -4,7 +4,7 @@ use Rattle.std.proofs.lemmas.Result.{err_from_is_err_and}
 use Rattle.tl_base.specs.Using.{Wrote}
 use Rattle.box_wire.specs.Framing.{WireRefused}
 use Rattle.box_wire.specs.Kinds.{calls}
-use Rattle.update_sessions.specs.Exchanges.{MaySend}
+use Rattle.update_sessions.specs.Exchanges.{MaySendFor}
 use Rattle.update_sessions.specs.Serving.{server_side}
 use Rattle.update_sessions.proofs.LinkUses.{IsOne, uses_read}
 use Rattle.update_sessions.proofs.ServerSteps.{next_kept, next_cut, next_done}
@@ -64,6 +64,6 @@ returns-in_err-write_all-clause-never g c =
     let uses = uses_read a b x y _ c.receive_call.ensures.used written room in
     let one : IsOne b y = record { faults = g.met.L.Link.one_count c.receive_call.new.from; sound = g.met.L.Link.one_truth c.receive_call.new.from } in
     let wrote = subst (λ (l : List ℕ). Wrote y (to.state c.write_all.new.to) (length l) (IsErr c.write_all.result)) c.as_slice.ensures.value c.write_all.ensures.used in
-    never_as a x (MaySend (server_side p) c.args.server.now) (IsErr c.write_all.result) _
+    never_as a x (MaySendFor (server_side p) 1 c.args.server.now) (IsErr c.write_all.result) _
     (step_never (server_side p) (WireRefused p calls) c.args.server.now c.answer_call.new.server c.in-Some.call c.answer_call.new.out tt a b x y (to.state c.write_all.new.to) _ (IsErr c.write_all.result) r uses written c.in_ok-answer_call.ensures.0 c.in_ok-answer_call.ensures.1 one wrote)
     (λ e. rw c.in_err-write_all.was refl)

@@ -3,6 +3,7 @@ use Rattle.std.proofs.lemmas.Result.{err_from_is_err_and}
 use Rattle.box_server.specs.Servers.{dated_at}
 use Rattle.update_sessions.specs.declared.fault.SessionFault.TheVariants.{LinkFault}
 use Rattle.update_sessions.specs.Exchanges.{MaySend}
+use Rattle.update_sessions.specs.declared.fault.TheConstants.{MAX_FRAMES}
 use Rattle.update_sessions.specs.Serving.{server_side}
 use Rattle.update_sessions.proofs.LinkUses.{uses_as, uses_then}
 use Rattle.update_sessions.proofs.ServerSteps.{next_true, serves_stopped}
@@ -25,7 +26,7 @@ returns-in_err-serve_next-clause-never g c =
     let s = dated_at c.args.server.now c.args.now in
     let q = err_from_is_err_and c.from_residual.result c.from_residual.ensures.1 in
     never_as (from.state c.args.link.now) (to.state c.args.link.now) (MaySend side s) _ _
-    (never_then side s c.loop-calls.server c.loop-calls.calls (from.state c.args.link.now) (from.state c.loop-calls.link) (to.state c.args.link.now) (to.state c.loop-calls.link) _ _ c.loop-calls.invariant.so_far c.loop-calls.invariant.used c.serve_next.ensures.never)
+    (never_then side MAX_FRAMES s c.loop-calls.server c.loop-calls.calls (from.state c.args.link.now) (from.state c.loop-calls.link) (to.state c.args.link.now) (to.state c.loop-calls.link) _ _ c.loop-calls-test.true c.loop-calls.invariant.so_far c.loop-calls.invariant.used c.serve_next.ensures.never)
     (λ e. failed_as c.from_residual.result c.serve_next.result q.0 c.in_err-serve_next.field-0.0 LinkFault q.1 q.2 c.in_err-serve_next.was e)
 
 pub loop-calls-preserved : goal.loop-calls-preserved

@@ -1,0 +1,150 @@
+-- A schema is a profile or lacks a form, and that in one way; so is a text.
+use Rattle.std.proofs.Common.{◌≡◌, ◌⊎◌, ℕ, List, [], ◌∷◌, length, codes, Option, Some, None, Result, Ok, Err, Vec, Global, refl, sym, ap, ap₂, ◌∙◌, subst, inl, inr}
+use Rattle.std.specs.Prelude.{IfOk, unwrap_or}
+use Rattle.std.specs.declared.alloc.AllocError.{AllocError}
+use Rattle.tl_schema.specs.Types.{Shape, boxed, no_shapes}
+use Rattle.tl_schema.specs.Schemas.{Declared}
+use Rattle.tl_schema.specs.CheckedPrograms.{IsSchema}
+use Rattle.tl_schema.specs.AskedTypes.{IsTypeText}
+use Rattle.tl_schema.proofs.OneType.{one_meaning}
+use Rattle.tl_names.specs.Places.{types_of}
+use Rattle.wire_forms.specs.Forms.{type_names}
+use Rattle.wire_profile.specs.Places.{ProfileView}
+use Rattle.wire_profile.specs.Profiles.{IsHead, AreHeads, IsProfile}
+use Rattle.wire_profile.specs.declared.fault.ProfileFault.{ProfileFault}
+use Rattle.wire_profile.specs.declared.fault.ProfileFault.TheVariants as profile
+use Rattle.wire_profile.specs.Faults.{FaultView, missing, differs, AnswersProfile, IsAnswer, IsFound, told_by, profile_answer, profile_fault, profile_of}
+use Rattle.wire_profile.specs.inner.Heads.{head_in}
+use Rattle.wire_profile.proofs.Found.{head_found}
+use Rattle.wire_profile.proofs.Passing.{is_profile}
+use Rattle.command_base.specs.Answer.{Answer, refused}
+use Rattle.command_base.specs.Jobs.{RefusedBy}
+use Rattle.command_base.specs.Loading.{Refuses}
+use Rattle.command_base.specs.declared.stop.Unmade.{Unmade}
+use Rattle.command_base.proofs.Loaded.{memory_refuses}
+use Rattle.schema_files.specs.Causes.{SchemaCause, TypeNameCause}
+use Rattle.schema_files.specs.Loaded.{IsSchemaText, SchemaRefused, TypeNameRefused}
+use Rattle.schema_files.specs.Lines.{schema_line}
+use Rattle.schema_files.proofs.OneSchemaText.{one_schema_text, never_schema, one_schema_cause, schema_or_refused}
+use Rattle.schema_files.proofs.OneTypeName.{never_type, type_or_refused}
+use Rattle.fault_lines.specs.Profiles.{profile_line}
+use Rattle.fault_lines.specs.Profiled.{TellsProfile, form_line, IsProfileText, OfProfileText, no_schema, no_profile, profiled, SchemasAreAnswered, SchemasHaveOneAnswer, AnswersAreProfiles}
+
+some_line : (a b : List ℕ) → Some a ≡ Some b → a ≡ b
+some_line a b e = cc
+
+-- ---- the numbers of types are one
+
+module _ (S : Declared) where
+  same_head : (h g : ℕ) → boxed h no_shapes ≡ boxed g no_shapes → h ≡ g
+  same_head h g e = cc
+
+  one_head : (name : List ℕ) (h g : ℕ) → IsHead S name h → IsHead S name g → h ≡ g
+  one_head name h g (inl is) (inl also) = same_head h g (one_meaning S.program name (boxed h no_shapes) (boxed g no_shapes) is also)
+  one_head name h g (inl is) (inr (end, none)) = absurd (none h is)
+  one_head name h g (inr (end, none)) (inl is) = absurd (none g is)
+  one_head name h g (inr (end, none)) (inr (also, nor)) = end ∙ sym also
+
+  one_heads : (names : List (List ℕ)) (hs gs : List ℕ) → AreHeads S names hs → AreHeads S names gs → hs ≡ gs
+  one_heads [] [] [] is also = refl
+  one_heads [] [] (g ∷ gs) is also = absurd also
+  one_heads [] (h ∷ hs) gs is also = absurd is
+  one_heads (name ∷ names) [] gs is also = absurd is
+  one_heads (name ∷ names) (h ∷ hs) [] is also = absurd also
+  one_heads (name ∷ names) (h ∷ hs) (g ∷ gs) is also = ap₂ (λ (k : ℕ) (ks : List ℕ). k ∷ ks) (one_head name h g is.0 also.0) (one_heads names hs gs is.1 also.1)
+
+  head_of : (name : List ℕ) → ((T : Shape) × IsTypeText S.program name T) ⊎ ((cause : TypeNameCause) × TypeNameRefused S name cause) → (h : ℕ) × IsHead S name h
+  head_of name (inl (T, is)) = (_, head_found S name T (head_in T) (unwrap_or (head_in T) (length (types_of S.program))) _ is (λ U also. one_meaning S.program name T U is also) refl refl refl)
+  head_of name (inr (cause, not)) = (length (types_of S.program), inr (refl, λ g is. never_type S name (boxed g no_shapes) cause is not))
+
+  heads_of : (names : List (List ℕ)) → (hs : List ℕ) × AreHeads S names hs
+  heads_of [] = ([], tt)
+  heads_of (name ∷ names) =
+      let first = head_of name (type_or_refused S name) in
+      let more = heads_of names in
+      (first.0 ∷ more.0, (first.1, more.1))
+
+-- ---- schemas
+
+pub each_schema : SchemasAreAnswered
+each_schema S good = let heads = heads_of S type_names in (profile_answer S heads.0, (heads.0, heads.1, refl))
+
+pub one_schema : SchemasHaveOneAnswer
+one_schema S a b (hs, are, is) (gs, also, at) = sym is ∙ ap (profile_answer S) (one_heads S type_names hs gs are also) ∙ at
+
+ok_is : (p q : ProfileView) (o : Option FaultView) → told_by q o ≡ Ok p → (q ≡ p) × (o ≡ None)
+ok_is p q None e = (cc, refl)
+ok_is p q (Some fault) e = absurd cc
+
+module _ (S : Declared) (heads : List ℕ) where
+  found : AreHeads S type_names heads → IsFound (profile_of S heads)
+  unfolding profile_of
+  found are = record { places = refl; heads = are }
+
+  own : IsSchema S → IsSchema (profile_of S heads).schema
+  unfolding profile_of
+  own good = good
+
+  own_schema : (profile_of S heads).schema ≡ S
+  unfolding profile_of
+  own_schema = refl
+
+  passed : (p : ProfileView) → profile_answer S heads ≡ Ok p → (profile_of S heads ≡ p) × (profile_fault (profile_of S heads) ≡ None)
+  unfolding profile_answer
+  passed p is = ok_is p (profile_of S heads) (profile_fault (profile_of S heads)) is
+
+pub are_profiles : AnswersAreProfiles
+are_profiles S p good (heads, are, is) =
+    let passes = passed S heads p is in
+    let whole = is_profile (profile_of S heads) (own S heads good) (found S heads are) passes.1 in
+    (subst IsProfile passes.0 whole, ap (λ (q : ProfileView). q.schema) (sym passes.0) ∙ own_schema S heads)
+
+-- ---- texts
+
+pub same_profile : (text : List ℕ) (p q : ProfileView) → IsProfileText text p → IsProfileText text q → p ≡ q
+same_profile text p q h k =
+    let one = one_schema h.schema (Ok p) (Ok q) h.is (subst (λ (S : Declared). IsAnswer S (Ok q)) (sym (one_schema_text text h.schema k.schema h.read k.read)) k.is) in
+    cc
+
+pub never_profile : (text : List ℕ) (p : ProfileView) (S : Declared) (fault : FaultView) → IsProfileText text p → IsSchemaText text S → IsAnswer S (Err fault) → ⊥
+never_profile text p S fault h read is =
+    let one = one_schema h.schema (Ok p) (Err fault) h.is (subst (λ (T : Declared). IsAnswer T (Err fault)) (sym (one_schema_text text h.schema S h.read read)) is) in
+    cc
+
+same_fault : (text : List ℕ) (S T : Declared) (a b : FaultView) → IsSchemaText text S → IsSchemaText text T → IsAnswer S (Err a) → IsAnswer T (Err b) → a ≡ b
+same_fault text S T a b h k is at =
+    let one = one_schema S (Err a) (Err b) is (subst (λ (U : Declared). IsAnswer U (Err b)) (sym (one_schema_text text S T h k)) at) in
+    cc
+
+pub one_text : (text : List ℕ) (Then : ProfileView → Answer → Type 0) → ((p : ProfileView) (a b : Answer) → IsProfileText text p → Then p a → Then p b → a ≡ b) → (a b : Answer) → OfProfileText text Then a → OfProfileText text Then b → a ≡ b
+one_text text Then one a b (no_schema c r is) (no_schema d k at) = is ∙ ap (λ (x : SchemaCause). refused (schema_line (codes "schema") x)) (one_schema_cause text c d r k) ∙ sym at
+one_text text Then one a b (no_schema c r is) (no_profile S f read lacks at) = absurd (never_schema text S c read r)
+one_text text Then one a b (no_schema c r is) (profiled p h then) = absurd (never_schema text h.schema c h.read r)
+one_text text Then one a b (no_profile S f read lacks is) (no_schema d k at) = absurd (never_schema text S d read k)
+one_text text Then one a b (no_profile S f read lacks is) (no_profile T g also misses at) = is ∙ ap (λ (x : FaultView). refused (form_line x)) (same_fault text S T f g read also lacks misses) ∙ sym at
+one_text text Then one a b (no_profile S f read lacks is) (profiled p h then) = absurd (never_profile text p S f h read lacks)
+one_text text Then one a b (profiled p h then) (no_schema d k at) = absurd (never_schema text h.schema d h.read k)
+one_text text Then one a b (profiled p h then) (no_profile S f read lacks at) = absurd (never_profile text p S f h read lacks)
+one_text text Then one a b (profiled p h then) (profiled q k next) = one p a b h then (subst (λ (x : ProfileView). Then x b) (sym (same_profile text p q h k)) next)
+
+module _ (text : List ℕ) (Then : ProfileView → Answer → Type 0) (each : (p : ProfileView) → IsProfile p → IsProfileText text p → (a : Answer) × Then p a) where
+  answered : (S : Declared) → IsSchemaText text S → (told : Result ProfileView FaultView) → IsAnswer S told → (a : Answer) × OfProfileText text Then a
+  answered S read (Ok p) is =
+      let h : IsProfileText text p = record { schema = S; read = read; is = is } in
+      let then = each p (are_profiles S p read.good is).0 h in
+      (then.0, profiled p h then.1)
+  answered S read (Err fault) is = (_, no_profile S fault read is refl)
+
+  pub each_text : (a : Answer) × OfProfileText text Then a
+  each_text = elim (schema_or_refused text) [
+    | inl (S, read) ↦ (let told = each_schema S read.good in answered S read told.0 told.1)
+    | inr (cause, r) ↦ (_, no_schema cause r refl)
+  ]
+
+-- ---- what is told of a schema that is none
+
+pub refused_profile : (S : Declared) (fault : ProfileFault) (line : Result (Vec ℕ Global) AllocError) (e : Unmade) → AnswersProfile S (Err fault) → IfOk line (λ l. profile_line fault ≡ Some l.items) → RefusedBy line e → Refuses (TellsProfile S) e
+refused_profile S fault (Err x) e answers tells is = memory_refuses (TellsProfile S) e is
+refused_profile S (profile.Missing name) (Ok line) e answers tells is = subst (Refuses (TellsProfile S)) (sym is) (missing name, answers, sym (some_line _ _ tells))
+refused_profile S (profile.Differs name) (Ok line) e answers tells is = subst (Refuses (TellsProfile S)) (sym is) (differs name, answers, sym (some_line _ _ tells))
+refused_profile S profile.Memory (Ok line) e answers tells is = absurd cc

@@ -1,0 +1,133 @@
+-- The line of what comes back.
+use Rattle.std.proofs.Common.{◌≡◌, ◌⊎◌, ℕ, ◌≤◌, List, [], ◌++◌, append-nil, length, Bool, true, false, true≢false, Some, None, Result, Ok, Err, Vec, Global, codes, refl, sym, ap, ap₂, ◌∙◌, subst, inl, inr}
+use Rattle.std.specs.Prelude.{◌<◌, ◌↔◌, IfOk, IsTrue, slice_get}
+use Rattle.std.proofs.lemmas.Option.{slice_get_within}
+use Rattle.std.specs.declared.alloc.AllocError.{AllocError}
+use Rattle.tl_schema.specs.Types.{Shape}
+use Rattle.tl_schema.specs.Schemas.{Declared, Declaration}
+use Rattle.tl_types.specs.Seen.{view}
+use Rattle.tl_types.specs.Values.{ValueView, depth}
+use Rattle.tl_types.specs.Spelling.{Spells}
+use Rattle.tl_types.specs.declared.value.Value.{Value}
+use Rattle.tl_types.specs.declared.value.TheConstants.{MAX_LEVELS}
+use Rattle.tl_decode.specs.Decoding.{GivesValue}
+use Rattle.tl_plan.specs.Plans.{PlanView}
+use Rattle.tl_plan.specs.PlanLaws.{IsInstance, IsPlanOf}
+use Rattle.box_events.specs.declared.replies.Frame.{Frame}
+use Rattle.wire_forms.specs.Forms.{constructs, forms}
+use Rattle.wire_forms.specs.declared.numbers.TheConstants.{FRAME_TYPE, PUSH}
+use Rattle.wire_checks.specs.declared.fault.WireFault.{WireFault}
+use Rattle.wire_checks.specs.declared.fault.WireFault.TheVariants as wire
+use Rattle.wire_profile.specs.Places.{ProfileView, cell_shape, number_at}
+use Rattle.wire_profile.specs.Profiles.{IsProfile, root_shapes}
+use Rattle.wire_profile.proofs.FormTable.{member_form}
+use Rattle.wire_profile.proofs.ProfileFacts.{is_member}
+use Rattle.box_wire.specs.Kinds.{frames}
+use Rattle.box_wire.specs.Framing.{SpellsWhole, WireRefused}
+use Rattle.update_sessions.specs.Packed.{MeansFrame}
+use Rattle.command_base.specs.Loading.{PeerAs, PeerBy}
+use Rattle.command_base.specs.declared.stop.Stop.{Stop}
+use Rattle.command_base.specs.declared.stop.Stop.TheVariants as stop
+use Rattle.schema_files.specs.Lines.{line_text}
+use Rattle.fault_lines.specs.Messages.{wire_line}
+use Rattle.session_commands.specs.Lines.{wrong_reply_line}
+use Rattle.session_commands.specs.Post.{shows, peer, IsReplyTo, OfBody, no_frame, another, reply}
+use Rattle.session_commands.specs.inner.Posting.{GivesLine, TellsNoFrame}
+
+none_some : {A : Type 0} (x : A) → None ≡ Some x → ⊥
+none_some x e = cc
+
+-- ---- what the other end did wrong
+
+pub wrong_gives : (p : ProfileView) (n : ℕ) (body : List ℕ) (f : Frame) (s : Stop) → MeansFrame p f body → (IsReplyTo n f → ⊥) → PeerAs wrong_reply_line s → GivesLine p n body (Err s)
+wrong_gives p n body f (stop.Peer line) means not tells = another f means not (ap peer tells)
+wrong_gives p n body f stop.Memory means not tells = tt
+wrong_gives p n body f (stop.Refused line) means not tells = tells
+wrong_gives p n body f stop.ReadFault means not tells = tells
+wrong_gives p n body f stop.WriteFault means not tells = tells
+wrong_gives p n body f stop.LinkFault means not tells = tells
+
+refused_gives : (p : ProfileView) (n : ℕ) (body : List ℕ) (fault : WireFault) (text : List ℕ) → (fault ≡ wire.Memory) ⊎ WireRefused p frames body fault → wire_line (codes "peer") fault ≡ Some text → OfBody p n body (peer text)
+refused_gives p n body fault text (inl memory) tells = absurd (none_some text (subst (λ (f : WireFault). wire_line (codes "peer") f ≡ Some text) memory tells))
+refused_gives p n body fault text (inr refused) tells = no_frame fault text refused tells refl
+
+pub fault_gives : (p : ProfileView) (n : ℕ) (body : List ℕ) (fault : WireFault) (s : Stop) → (fault ≡ wire.Memory) ⊎ WireRefused p frames body fault → TellsNoFrame fault s → GivesLine p n body (Err s)
+fault_gives p n body fault (stop.Peer line) told tells = refused_gives p n body fault line.items told tells
+fault_gives p n body fault stop.Memory told tells = tt
+fault_gives p n body fault (stop.Refused line) told tells = tells
+fault_gives p n body fault stop.ReadFault told tells = tells
+fault_gives p n body fault stop.WriteFault told tells = tells
+fault_gives p n body fault stop.LinkFault told tells = tells
+
+pub no_frame_told : (fault : WireFault) (line : Result (Vec ℕ Global) AllocError) (s : Stop) → IfOk line (λ l. wire_line (codes "peer") fault ≡ Some l.items) → PeerBy line s → TellsNoFrame fault s
+no_frame_told fault (Ok line) s tells is = subst (TellsNoFrame fault) (sym is) tells
+no_frame_told fault (Err e) s tells is = subst (TellsNoFrame fault) (sym is) tt
+
+pub wrong_told : (line : Result (Vec ℕ Global) AllocError) (s : Stop) → IfOk line (λ l. l.items ≡ wrong_reply_line) → PeerBy line s → PeerAs wrong_reply_line s
+wrong_told (Ok line) s tells is = subst (PeerAs wrong_reply_line) (sym is) tells
+wrong_told (Err e) s tells is = subst (PeerAs wrong_reply_line) (sym is) tt
+
+pub not_reply : (b : Bool) (P : Type 0) → (IsTrue b ↔ P) → b ≡ false → P → ⊥
+not_reply b P is none p = true≢false (sym (is.1 p) ∙ none)
+
+pub is_reply : (b : Bool) (P : Type 0) → (IsTrue b ↔ P) → b ≡ true → P
+is_reply b P is holds = is.0 holds
+
+-- ---- the reply
+
+-- the value that the frame's bytes spell
+pub frame_value : (p : ProfileView) (f : Frame) (body : List ℕ) → MeansFrame p f body → (v : ValueView) × SpellsWhole p frames v body
+frame_value p f body means = (means.1.v, means.1.spelled)
+
+pub reply_gives : (p : ProfileView) (n : ℕ) (body : List ℕ) (f : Frame) (line : Vec ℕ Global) → MeansFrame p f body → IsReplyTo n f
+    → ((v : ValueView) → SpellsWhole p frames v body → line.items ≡ line_text p.schema.decls (cell_shape p frames.cell) v) → GivesLine p n body (Ok line)
+reply_gives p n body f line means to is = reply f means.1.v means to means.1.spelled (ap shows (is means.1.v means.1.spelled))
+
+-- what a value's line is, from its parts
+pub line_is : (p : ProfileView) (S : Declared) (T : Shape) (v w : ValueView) (line : List ℕ) → line ≡ line_text S.decls T w → S ≡ p.schema → T ≡ cell_shape p frames.cell → w ≡ v → line ≡ line_text p.schema.decls (cell_shape p frames.cell) v
+line_is p S T v w line is same at told =
+    is ∙ ap (λ (X : Declared). line_text X.decls T w) same ∙ ap (λ (X : Shape). line_text p.schema.decls X w) at ∙ ap (λ (x : ValueView). line_text p.schema.decls (cell_shape p frames.cell) x) told
+
+-- ---- the type of frames
+
+made : constructs FRAME_TYPE PUSH ≡ true
+unfolding forms
+made = refl
+
+-- the declaration of a push
+record PushAt (p : ProfileView) : Type 0 where
+  d : Declaration
+  there : slice_get p.schema.decls (number_at p.places PUSH) ≡ Some d
+  head : d.head ≡ number_at p.heads FRAME_TYPE
+
+push_at : (p : ProfileView) → IsProfile p → PushAt p
+push_at p good = let f = member_form FRAME_TYPE PUSH made in let m = is_member p good FRAME_TYPE PUSH f.0 f.1 in record { d = m.0; there = m.1.there; head = m.1.head }
+
+some_is : {A : Type 0} (x y : A) → Some x ≡ Some y → x ≡ y
+some_is x y e = cc
+
+pub push_there : (p : ProfileView) → IsProfile p → (d : Declaration) × (slice_get p.schema.decls (number_at p.places PUSH) ≡ Some d)
+push_there p good = let h = push_at p good in (h.d, h.there)
+
+pub push_within : (p : ProfileView) → IsProfile p → (S : Declared) (k : ℕ) → S ≡ p.schema → k ≡ number_at p.places PUSH → k < length S.decls
+push_within p good S k same at =
+    let h = push_there p good in
+    slice_get_within S.decls k h.0 (ap₂ (λ (X : Declared) (i : ℕ). slice_get X.decls i) same at ∙ h.1)
+
+pub head_is : (p : ProfileView) → IsProfile p → (S : Declared) (k : ℕ) (d : Declaration) → S ≡ p.schema → k ≡ number_at p.places PUSH → slice_get S.decls k ≡ Some d → d.head ≡ number_at p.heads FRAME_TYPE
+head_is p good S k d same at there =
+    let h = push_at p good in
+    let here : slice_get p.schema.decls (number_at p.places PUSH) ≡ Some d = sym (ap₂ (λ (X : Declared) (i : ℕ). slice_get X.decls i) same at) ∙ there in
+    ap (λ (x : Declaration). x.head) (some_is d h.d (sym here ∙ h.there)) ∙ h.head
+
+-- ---- the value
+
+pub value_is : (S : Declared) (T : Shape) (v : ValueView) (frame given left : List ℕ) (at q : ℕ) (value : Value) → given ≡ frame
+    → ((w : ValueView) (x rest : List ℕ) → given ≡ x ++ rest → Spells S T w x → depth w ≤ MAX_LEVELS → GivesValue (Ok value) (Some left) at q w x rest) → Spells S T v frame → depth v ≤ MAX_LEVELS → view value ≡ v
+value_is S T v frame given left at q value same gives s deep = (gives v frame [] (same ∙ sym (append-nil frame)) s deep).0
+
+-- the root of a profile's plan for frames
+pub root_value : (p : ProfileView) (q : PlanView) → IsPlanOf p.schema (root_shapes p) q → (v : ValueView) (body : List ℕ) → SpellsWhole p frames v body → (value : Value)
+    → ((T : Shape) → IsInstance q 0 T → (w : ValueView) → Spells q.schema T w body → depth w ≤ MAX_LEVELS → view value ≡ w) → view value ≡ v
+root_value p q plan v body spells value gives =
+    gives (cell_shape p frames.cell) (plan.roots 0 (cell_shape p frames.cell) refl) v (subst (λ (S : Declared). Spells S (cell_shape p frames.cell) v body) (sym plan.schema) spells.0) spells.1

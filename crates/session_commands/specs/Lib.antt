@@ -1,0 +1,4 @@
+pub mod Linked
+pub mod Lines
+pub mod Post
+pub mod inner

@@ -1,0 +1,58 @@
+-- What a command does over a link of its host, and what it leaves. This project's own.
+use Rattle.std.specs.Prelude.{◌≡◌, ◌⊎◌, ℕ, ◌+◌, ◌≤◌, List, [], ◌∷◌, ◌++◌, length, get_or, drop, Option, Some, None}
+use Rattle.tl_base.specs.Outside.{View, left_of, with_left, with_slot, written_of, with_written}
+use Rattle.tl_base.specs.declared.host.Slot.TheVariants as slots
+use Rattle.tl_base.specs.declared.host.Out.TheVariants as outs
+use Rattle.command_base.specs.declared.status.Status.{Status}
+use Rattle.command_base.specs.declared.status.Status.TheVariants.{LinkFault}
+use Rattle.command_base.specs.Answer.{Answer, printed, link_fault_line}
+use Rattle.command_base.specs.Jobs.{Job}
+
+-- ---- answers
+
+-- what a run answers that a link's fault ends: the fault's line alone
+abbrev pub cut_off : Answer
+cut_off = printed LinkFault [] link_fault_line
+
+-- what a run answers that makes a link to an address, over which it sends this
+abbrev pub over_link : List ℕ → List ℕ → Status → List ℕ → List ℕ → Answer
+over_link address sent status output line = record { status = status; output = output; errors = line; state = None; taken = 1; links = sent ∷ []; moments = 0; address = Some address }
+
+-- a job that makes a link: a fault of that ends it before it has written anything
+abbrev pub linking_job : (View → Answer → Type 0) → (View → View → Type 0) → Job
+linking_job answers keeps = record { answers = answers; broken = λ v a. a ≡ cut_off; partial = λ v a. ⊥; in_pieces = ⊥; tells = ⊥; linked = Unit {0}; keeps = keeps }
+
+-- ---- the outside
+
+-- what the next link to come gives
+abbrev pub next_link : View → List ℕ
+next_link v = get_or v.links 0 []
+
+-- the view with these bytes left in the slot Link and written to the out Link
+abbrev pub with_link : List ℕ → List ℕ → View → View
+with_link left written v = with_left slots.Link left (with_written outs.Link written v)
+
+-- the view after a link was taken: this is left of what it gave, this was written to it, and the address is this
+abbrev pub used_link : Option (List ℕ) → List ℕ → List ℕ → View → View
+used_link address left out v =
+    record v { left = with_slot slots.Link left v.left; links = drop 1 v.links; written = record v.written { links = v.written.links ++ out ∷ [] }; address = address }
+
+-- P holds of what the link gives and of what is written to it now, and nothing changes but the link
+abbrev pub OverHost : (List ℕ → List ℕ → Type 0) → View → View → Type 0
+OverHost P v w = (out : List ℕ) × (w ≡ with_link (left_of slots.Link w) (written_of outs.Link v ++ out) v) × P (left_of slots.Link v) out
+
+-- the link has room for whatever may be written
+abbrev pub HasLinkRoom : (List ℕ → List ℕ → Type 0) → View → Type 0
+HasLinkRoom MayWrite v = (out : List ℕ) → MayWrite (left_of slots.Link v) out → length (written_of outs.Link v) + length out ≤ v.room
+
+-- ---- what is left as it was
+
+-- files, moments and the room are as before
+pub record KeepsFiles (v w : View) : Type 0 where
+  pub files : w.files ≡ v.files
+  pub moments : w.moments ≡ v.moments
+  pub room : w.room ≡ v.room
+
+-- links, those to come and those taken, and the address are as before, unless the work came to them
+abbrev pub LeavesLinks : Type 0 → View → View → Type 0
+LeavesLinks came v w = ((w.links ≡ v.links) × (w.written.links ≡ v.written.links) × (w.address ≡ v.address)) ⊎ came

@@ -1,0 +1,8 @@
+//! Laws of the definitions, each carried by a function that does nothing.
+ghost use Rattle.session_commands.specs.Post.{PostHasOneAnswer, PostsAreAnswered};
+
+/// Over a link that gives bytes, `post` has one answer at most, and one where files hold bytes and both are there.
+pub fn post_has_one_answer()
+    ensures one { PostHasOneAnswer }
+    ensures there { PostsAreAnswered }
+{}

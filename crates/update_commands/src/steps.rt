@@ -1,0 +1,28 @@
+//! Steps that aren't made in a world.
+ghost use Rattle.std.specs.Prelude.{◌≡◌, IfOk, Some, option_map, string_bytes};
+ghost use Rattle.update_commands.specs.Steps.{cause_of, cause_words, unmade_line};
+
+use command_base::placed_line;
+use std::alloc::{AllocError, Global};
+use update_world::StepFault;
+
+// The cause, and its value.
+fn cause_words(alloc: Global, fault: StepFault) -> Result<String, AllocError>
+    ensures { IfOk result (λ s. option_map cause_words (cause_of fault) ≡ Some (string_bytes s)) }
+{
+    match fault {
+        StepFault::NoClient { n } => format!(in alloc; "NoClient {n}"),
+        StepFault::NoPacket { n } => format!(in alloc; "NoPacket {n}"),
+        StepFault::WrongEnd { n } => format!(in alloc; "WrongEnd {n}"),
+        StepFault::PoolFull { bytes } => format!(in alloc; "PoolFull {bytes}"),
+        StepFault::Memory => Err(AllocError),
+    }
+}
+
+/// The line of a step that isn't made, at the offset where it begins in the journal.
+pub fn unmade_line(alloc: Global, at: u64, fault: StepFault) -> Result<Vec<u8>, AllocError>
+    ensures { IfOk result (λ line. unmade_line at fault ≡ Some line.items) }
+{
+    let why = cause_words(alloc, fault)?;
+    placed_line(alloc, "journal", at, why.as_str())
+}

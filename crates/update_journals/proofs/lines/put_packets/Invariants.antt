@@ -1,7 +1,0 @@
-use Rattle.std.proofs.Common.{◌≡◌, ◌++◌, take}
-use Rattle.world_reports.specs.StepLines.{packet_lines}
-use Rattle.update_journals.specs.WorldLines.{bytes_from}
-use Rattle.update_journals.proofs.lines.put_packets.Given as goal
-
-abbrev pub invariant-loop-packet : goal.invariant-loop-packet
-invariant-loop-packet l = l.lines.items ++ packet_lines l.packet (bytes_from l.packet l.world.pool) ≡ l.fn.lines.items ++ packet_lines l.first (bytes_from l.first l.world.pool)

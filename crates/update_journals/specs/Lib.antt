@@ -1,3 +1,0 @@
-pub mod WorldLines
-pub mod LineLaws
-pub mod Making

@@ -1,0 +1,43 @@
+-- How a replay ends by its journal alone, and as what it answers that. This project's own.
+use Rattle.std.specs.Prelude.{ℕ, Bool, true, false, ◌&&◌, cond, Result, Ok, Err}
+use Rattle.tl_types.specs.declared.cause.Cause.{Cause}
+use Rattle.tl_types.specs.declared.cause.Cause.TheVariants.{Truncated}
+use Rattle.wire_checks.specs.declared.fault.WireFault.{WireFault}
+use Rattle.wire_checks.specs.declared.fault.WireFault.TheVariants as wire
+use Rattle.box_world.specs.Possible.{StepCause, no_client, no_packet, wrong_end, pool_full}
+use Rattle.update_world.specs.declared.fault.StepFault.{StepFault}
+use Rattle.update_world.specs.declared.fault.StepFault.TheVariants as step
+use Rattle.update_replay.specs.declared.fault.ReplayFault.{ReplayFault}
+use Rattle.update_replay.specs.declared.fault.ReplayFault.TheVariants.{Wire, Step, TooLong}
+
+-- the journal's end after so many steps; bytes at an offset that are no step; a step there that isn't possible; or too many steps, or bytes
+pub data Ending : Type 0 where
+  whole : ℕ → Ending
+  no_step : ℕ → WireFault → Ending
+  not_made : ℕ → StepCause → Ending
+  too_long : ℕ → Ending
+
+-- the bytes end inside an item
+abbrev pub is_truncated : Cause → Bool
+is_truncated Truncated = true
+is_truncated cause = false
+
+abbrev pub is_cut_short : WireFault → Bool
+is_cut_short (wire.Refused place cause) = is_truncated cause
+is_cut_short fault = false
+
+-- A journal is looked at as if it ended at the limit: where it goes on, bytes that end too soon there are too many.
+abbrev pub of_refusal : Bool → ℕ → WireFault → Ending
+of_refusal goes_on at fault = cond (goes_on && is_cut_short fault) (too_long at) (no_step at fault)
+
+abbrev pub fault_of : StepCause → StepFault
+fault_of (no_client n) = step.NoClient n
+fault_of (no_packet n) = step.NoPacket n
+fault_of (wrong_end n) = step.WrongEnd n
+fault_of (pool_full bytes) = step.PoolFull bytes
+
+abbrev pub answer_of : Ending → Result ℕ ReplayFault
+answer_of (whole n) = Ok n
+answer_of (no_step at fault) = Err (Wire at fault)
+answer_of (not_made at cause) = Err (Step at (fault_of cause))
+answer_of (too_long at) = Err (TooLong at)

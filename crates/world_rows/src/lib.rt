@@ -1,0 +1,8 @@
+//! Rows of the calls of worlds and of replays.
+#![tactic(auto)]
+
+mod journals;
+mod rows;
+mod worlds;
+
+pub use rows::{Worlds, worlds_difference};
