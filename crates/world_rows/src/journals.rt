@@ -55,17 +55,17 @@ fn replayed(
     to: &mut MemSink,
 ) -> Result<String, RowFault> {
     let mut world = new_world(alloc, schema, clients)?;
-    let result = replay_steps(alloc, &mut world, from, to);
-    Ok(ending(alloc, &result, world.packets())?)
+    let ended = replay_steps(alloc, &mut world, from, to);
+    Ok(ending(alloc, &ended, world.packets())?)
 }
 
 // The words of such an end.
 fn ending(
     alloc: Global,
-    result: &Result<u32, ReplayFault>,
+    ended: &Result<u32, ReplayFault>,
     packets: u32,
 ) -> Result<String, AllocError> {
-    let mut text = text_of(alloc, result)?;
+    let mut text = text_of(alloc, ended)?;
     text.push_str(format!(in alloc; ", {packets} packets")?.as_str())?;
     Ok(text)
 }
