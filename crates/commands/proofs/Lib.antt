@@ -7,7 +7,6 @@ pub mod OperandsRead
 pub mod CommandsRead
 pub mod Found
 pub mod WordsRead
-pub mod NextBytes
 pub mod OneAnswer
 pub mod AnAnswer
 pub mod Endings

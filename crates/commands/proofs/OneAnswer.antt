@@ -9,9 +9,9 @@ use Rattle.codec_commands.proofs.OneDecode.{one_decode}
 use Rattle.codec_commands.proofs.OneEncode.{one_encode}
 use Rattle.layer_commands.proofs.OneLayers.{one_layers}
 use Rattle.session_commands.proofs.OnePost.{one_post}
+use Rattle.session_commands.proofs.Sent.{link_bytes}
 use Rattle.update_commands.proofs.OneMake.{one_make}
 use Rattle.update_commands.proofs.ProfiledFiles.{one_replay}
-use Rattle.commands.proofs.NextBytes.{next_bytes}
 use Rattle.commands.proofs.Rows.{one_request}
 
 one_to : (r : RequestText) (v : View) → ShowsBytes v → (a c : Answer) → AnswerTo r v a → AnswerTo r v c → a ≡ c
@@ -20,7 +20,7 @@ one_to (decode schema type input) v shows a c = one_decode v.files schema type i
 one_to (encode schema type input) v shows a c = one_encode v.files schema type input a c
 one_to (replay schema journal clients) v shows a c = one_replay v.files shows.files journal clients schema a c
 one_to (make schema number steps) v shows a c = one_make number steps v.files schema a c
-one_to (post schema address input) v shows a c = one_post v.files _ (next_bytes v shows) schema address input a c
+one_to (post schema address input) v shows a c = one_post v.files _ (link_bytes v shows) schema address input a c
 one_to (layers old new type) v shows a c = one_layers v.files old new type a c
 
 module _ (words : List (List ℕ)) (v : View) where
