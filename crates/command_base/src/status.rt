@@ -17,9 +17,9 @@ pub enum Status {
     WriteFault,
     /// 5: memory was refused.
     Memory,
-    /// 6: a link failed. No command answers this yet.
+    /// 6: a link failed, or none could be made.
     LinkFault,
-    /// 7: the other end sent what can't be taken. No command answers this yet.
+    /// 7: the other end of a link sent what can't be taken. A line on Errors says what.
     PeerFault,
 }
 
