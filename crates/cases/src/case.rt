@@ -224,7 +224,13 @@ fn put_traffic(
     let starts = numbers_text(alloc, &wanted.starts)?;
     let got_starts = numbers_text(alloc, &got.starts)?;
     put_difference(alloc, text, "addresses", &wanted.addresses, &got.addresses)?;
-    put_difference(alloc, text, "links", starts.as_bytes(), got_starts.as_bytes())?;
+    put_difference(
+        alloc,
+        text,
+        "links",
+        starts.as_bytes(),
+        got_starts.as_bytes(),
+    )?;
     put_difference(alloc, text, "sent", &wanted.sent, &got.sent)?;
     put_difference(alloc, text, "names of State", &wanted.created, &got.created)
 }

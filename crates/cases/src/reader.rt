@@ -239,8 +239,17 @@ impl Begun {
             "run" => self.run(place.file.as_str(), number, rest),
             "same" => self.want_as_before(),
             "same-as-first" => self.want_as(0),
-            "status" | "output" | "output-text" | "output-hex" | "errors" | "front" | "address"
-            | "sent" | "sent-more" | "state" | "state-hex" => self.want(word, rest),
+            "status"
+            | "output"
+            | "output-text"
+            | "output-hex"
+            | "errors"
+            | "front"
+            | "address"
+            | "sent"
+            | "sent-more"
+            | "state"
+            | "state-hex" => self.want(word, rest),
             _ => Err(CaseFault::NoWord),
         }
     }

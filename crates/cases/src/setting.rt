@@ -1,9 +1,7 @@
 //! What a run finds.
 use crate::ending::put_line;
 use crate::fault::CaseFault;
-use crate::words::{
-    Moment, bytes_of, cut_word, moments_of, number_of, numbered_call, numbers_of,
-};
+use crate::words::{Moment, bytes_of, cut_word, moments_of, number_of, numbered_call, numbers_of};
 use std::alloc::{AllocError, Global};
 use tl_base::{Bytes, HostCall, MemHost};
 use wire_profile::PROFILE_TEXT;
