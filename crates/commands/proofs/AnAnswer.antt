@@ -1,25 +1,27 @@
--- Words and files of bytes have an answer.
+-- Words have an answer over an outside that shows bytes.
 use Rattle.std.proofs.Common.{refl}
-use Rattle.tl_base.specs.Contents.{HoldBytes}
-use Rattle.tl_base.specs.Outside.{View}
+use Rattle.tl_base.specs.Outside.{View, ShowsBytes}
 use Rattle.command_base.specs.Answer.{Answer}
 use Rattle.codec_commands.proofs.EachAnswer.{each_check, each_decode, each_encode}
 use Rattle.layer_commands.proofs.EachLayers.{each_layers}
+use Rattle.session_commands.proofs.EachPost.{each_post}
+use Rattle.session_commands.proofs.Sent.{link_bytes}
 use Rattle.update_commands.proofs.OneMake.{each_make}
 use Rattle.update_commands.proofs.ProfiledFiles.{each_replay}
-use Rattle.commands.specs.Requests.{RequestText, check, decode, encode, replay, make, layers, HasFilesOf}
+use Rattle.commands.specs.Requests.{RequestText, check, decode, encode, replay, make, post, layers, HasFilesOf}
 use Rattle.commands.specs.Answers.{AnswerTo, no_request, requested, HasAnAnswer}
 
-each_to : (v : View) → HoldBytes v.files → (r : RequestText) → HasFilesOf v.files r → (a : Answer) × AnswerTo r v a
-each_to v good (check schema) there = each_check v.files schema there
-each_to v good (decode schema type input) there = each_decode v.files good schema type input there.0 there.1
-each_to v good (encode schema type input) there = each_encode v.files good schema type input there.0 there.1
-each_to v good (replay schema journal clients) there = each_replay v.files good journal clients schema there.0 there.1
-each_to v good (make schema number steps) there = each_make number steps v.files schema there.0 there.1
-each_to v good (layers old new type) there = each_layers v.files old new type there.0 there.1
+each_to : (v : View) → ShowsBytes v → (r : RequestText) → HasFilesOf v.files r → (a : Answer) × AnswerTo r v a
+each_to v shows (check schema) there = each_check v.files schema there
+each_to v shows (decode schema type input) there = each_decode v.files shows.files schema type input there.0 there.1
+each_to v shows (encode schema type input) there = each_encode v.files shows.files schema type input there.0 there.1
+each_to v shows (replay schema journal clients) there = each_replay v.files shows.files journal clients schema there.0 there.1
+each_to v shows (make schema number steps) there = each_make number steps v.files schema there.0 there.1
+each_to v shows (post schema address input) there = each_post v.files shows.files _ (link_bytes v shows) schema address input there.0 there.1
+each_to v shows (layers old new type) there = each_layers v.files old new type there.0 there.1
 
 pub an_answer : HasAnAnswer
-an_answer words v good = record {
+an_answer words v shows = record {
   of_none = λ asks. no_request asks refl;
-  of_request = λ r asks there. (let tells = each_to v good r there in (tells.0, requested r asks tells.1));
+  of_request = λ r asks there. (let tells = each_to v shows r there in (tells.0, requested r asks tells.1));
 }

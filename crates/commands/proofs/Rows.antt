@@ -5,14 +5,14 @@ use Rattle.std.proofs.lemmas.Bool.{cases_eq}
 use Rattle.commands.proofs.Decided.{Decided, decided_as, decided_and, decided_not, text_decided}
 use Rattle.commands.proofs.NumberWords.{number_decided}
 use Rattle.commands.specs.Numbers.{IsNumberWord, number_from}
-use Rattle.commands.specs.Requests.{RequestText, check, decode, encode, replay, make, layers, IsOperand, clients_range, run_range, steps_range, AsksFor, AsksNothing}
+use Rattle.commands.specs.Requests.{RequestText, check, decode, encode, replay, make, post, layers, IsOperand, clients_range, run_range, steps_range, AsksFor, AsksNothing}
 use Rattle.commands.specs.Answers.{Asks, nothing, something}
 
 -- ---- one request
 
 -- the request that words may ask for, by the first letter of the command
 abbrev of_letter : ℕ → List ℕ → List ℕ → List ℕ → RequestText
-of_letter letter a b c = if letter == 99 then check a else if letter == 100 then decode a b c else if letter == 101 then encode a b c else if letter == 108 then layers a b c else if letter == 109 then make a (number_from 0 b) (number_from 0 c) else replay a b (number_from 0 c)
+of_letter letter a b c = if letter == 99 then check a else if letter == 100 then decode a b c else if letter == 101 then encode a b c else if letter == 108 then layers a b c else if letter == 109 then make a (number_from 0 b) (number_from 0 c) else if letter == 112 then post a b c else replay a b (number_from 0 c)
 
 abbrev pub may_ask_for : List (List ℕ) → RequestText
 may_ask_for words = of_letter (get_or (get_or words 0 []) 0 0) (get_or words 1 []) (get_or words 2 []) (get_or words 3 [])
@@ -23,6 +23,7 @@ asked_is words (decode schema type input) asks = ap may_ask_for asks.0
 asked_is words (encode schema type input) asks = ap may_ask_for asks.0
 asked_is words (replay schema journal clients) (n, is, os, oj, number) = ap may_ask_for is ∙ ap (replay schema journal) (sym number.value)
 asked_is words (make schema number steps) (n, s, is, os, run, some) = ap may_ask_for is ∙ ap₂ (make schema) (sym run.value) (sym some.value)
+asked_is words (post schema address input) asks = ap may_ask_for asks.0
 asked_is words (layers old new type) asks = ap may_ask_for asks.0
 
 pub one_request : (words : List (List ℕ)) (r s : RequestText) → AsksFor words r → AsksFor words s → r ≡ s
@@ -82,6 +83,7 @@ asked_decided words (make schema number steps) =
     let s = get_or words 3 [] in
     decided_as (λ h. (n, s, h.0.0, h.0.1, h.1.0, h.1.1)) (λ asks. make_parts words schema number steps asks)
     (decided_and (decided_and (row_decided words (codes "make" ∷ schema ∷ n ∷ s ∷ [])) (operand_decided schema)) (decided_and (number_decided run_range n number) (number_decided steps_range s steps)))
+asked_decided words (post schema address input) = three_decided words (codes "post") schema address input
 asked_decided words (layers old new type) = three_decided words (codes "layers") old new type
 
 asks_from : (words : List (List ℕ)) → Decided (AsksFor words (may_ask_for words)) → Asks words

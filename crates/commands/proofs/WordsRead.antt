@@ -9,10 +9,10 @@ use Rattle.clap.specs.Words.{App, Text, Row, fault_of, subcommand_of, is_simple,
 use Rattle.clap.specs.declared.error.Error.{Error}
 use Rattle.clap.specs.declared.error.kind.ErrorKind.TheVariants.{OutOfMemory}
 use Rattle.commands.specs.Numbers.{number_from, is_number}
-use Rattle.commands.specs.Requests.{RequestText, check, decode, encode, replay, make, layers, IsOperand, clients_range, run_range, steps_range, AsksFor, AsksNothing, FindsRequest, request_text}
+use Rattle.commands.specs.Requests.{RequestText, check, decode, encode, replay, make, post, layers, IsOperand, clients_range, run_range, steps_range, AsksFor, AsksNothing, FindsRequest, request_text}
 use Rattle.commands.specs.declared.request.Request.{Request}
 use Rattle.commands.specs.CommandLine.{RowText, rows, table, request_in, replayed, drawn}
-use Rattle.commands.proofs.CommandsRead.{Enters, NoneOf, table_is_simple, table_is_free, check_enters, decode_enters, encode_enters, replay_enters, make_enters, layers_enters, no_words, no_command}
+use Rattle.commands.proofs.CommandsRead.{Enters, NoneOf, table_is_simple, table_is_free, check_enters, decode_enters, encode_enters, replay_enters, make_enters, post_enters, layers_enters, no_words, no_command}
 use Rattle.commands.proofs.NumberWords.{is_number_word, no_number_word, number_operand}
 use Rattle.commands.proofs.OperandsRead.{Operands, leaf, given, one_fits, one_read, one_only, three_fit, three_read, three_only}
 use Rattle.commands.proofs.Rows.{asks_nothing}
@@ -26,6 +26,7 @@ asked_operands words (encode schema type input) asks = subst Operands (sym asks.
 asked_operands words (replay schema journal clients) (n, is, os, oj, number) = subst Operands (sym is) (eqb-false 114 45 refl, (os, (oj, (number_operand clients_range n clients number, tt))))
 asked_operands words (make schema number steps) (n, s, is, os, run, some) =
     subst Operands (sym is) (eqb-false 109 45 refl, (os, (number_operand run_range n number run, (number_operand steps_range s steps some, tt))))
+asked_operands words (post schema address input) asks = subst Operands (sym asks.0) (eqb-false 112 45 refl, (asks.1, (asks.2, (asks.3, tt))))
 asked_operands words (layers old new type) asks = subst Operands (sym asks.0) (eqb-false 108 45 refl, (asks.1, (asks.2, (asks.3, tt))))
 
 module _ {A : Type 0} (f : A → Text) where
@@ -86,6 +87,8 @@ row_fits words (replay schema journal clients) (n, is, os, oj, number) =
     three_taken (codes "replay") (codes "SCHEMA") (codes "JOURNAL") (codes "CLIENTS") refl refl refl replay_enters words schema journal n is os oj (number_operand clients_range n clients number)
 row_fits words (make schema number steps) (n, s, is, os, run, some) =
     three_taken (codes "make") (codes "SCHEMA") (codes "NUMBER") (codes "STEPS") refl refl refl make_enters words schema n s is os (number_operand run_range n number run) (number_operand steps_range s steps some)
+row_fits words (post schema address input) asks =
+    three_taken (codes "post") (codes "SCHEMA") (codes "ADDRESS") (codes "INPUT") refl refl refl post_enters words schema address input asks.0 asks.1 asks.2 asks.3
 row_fits words (layers old new type) asks =
     three_taken (codes "layers") (codes "OLD") (codes "NEW") (codes "TYPE") refl refl refl layers_enters words old new type asks.0 asks.1 asks.2 asks.3
 
@@ -131,6 +134,9 @@ make_words s n k os false is d at =
 make_made : (rest : List Text) → Made (codes "make" ∷ rest)
 make_made = three_made (codes "make") (codes "SCHEMA") (codes "NUMBER") (codes "STEPS") refl refl refl make_enters (λ s n k os on ok. make_words s n k os (is_number run_range n) refl (is_number steps_range k) refl)
 
+post_made : (rest : List Text) → Made (codes "post" ∷ rest)
+post_made = three_made (codes "post") (codes "SCHEMA") (codes "ADDRESS") (codes "INPUT") refl refl refl post_enters (λ s a i os oa oi. (refl, os, oa, oi))
+
 layers_made : (rest : List Text) → Made (codes "layers" ∷ rest)
 layers_made = three_made (codes "layers") (codes "OLD") (codes "NEW") (codes "TYPE") refl refl refl layers_enters (λ s t i os ot oi. (refl, os, ot, oi))
 
@@ -140,7 +146,7 @@ EachMade [] = Unit {0}
 EachMade (r ∷ rs) = ((rest : List Text) → Made (r.0 ∷ rest)) × EachMade rs
 
 each_made : EachMade rows
-each_made = (check_made, (decode_made, (encode_made, (replay_made, (make_made, (layers_made, tt))))))
+each_made = (check_made, (decode_made, (encode_made, (replay_made, (make_made, (post_made, (layers_made, tt)))))))
 
 named : (command w : Text) (rest : List Text) → bytes_eq command w ≡ true → Made (command ∷ rest) → Made (w ∷ rest)
 named command w rest is = subst (λ (x : Text). Made (x ∷ rest)) ((bytes_eq-Decides command w).0 is)

@@ -1,6 +1,5 @@
 -- What the program answers: its status, what it writes, and what it leaves. This project's own.
 use Rattle.std.specs.Prelude.{◌≡◌, ℕ, List, codes}
-use Rattle.tl_base.specs.Contents.{HoldBytes}
 use Rattle.tl_base.specs.Outside.{View, ShowsBytes}
 use Rattle.command_base.specs.Answer.{Answer, misused}
 use Rattle.commands.specs.Requests.{RequestText, AsksFor, AsksNothing, HasFilesOf, job_of}
@@ -38,6 +37,6 @@ pub record AreAnswered (words : List (List ℕ)) (v : View) : Type 0 where
   pub of_none : AsksNothing words → Answers words v usage
   pub of_request : (r : RequestText) → AsksFor words r → HasFilesOf v.files r → Answered words v
 
--- words have an answer over an outside whose files hold bytes
+-- words have an answer over an outside that shows bytes
 abbrev pub HasAnAnswer : Type 0
-HasAnAnswer = (words : List (List ℕ)) (v : View) → HoldBytes v.files → AreAnswered words v
+HasAnAnswer = (words : List (List ℕ)) (v : View) → ShowsBytes v → AreAnswered words v

@@ -5,7 +5,7 @@ use Rattle.std.specs.List.{fold}
 use Rattle.std.specs.Str.{bytes_eq}
 use Rattle.clap.specs.Words.{App, Row, Rule, Text, first_of, new_app, new_rule, with_subcommand}
 use Rattle.commands.specs.Numbers.{number_of}
-use Rattle.commands.specs.Requests.{RequestText, check, decode, encode, replay, make, layers, clients_range, run_range, steps_range}
+use Rattle.commands.specs.Requests.{RequestText, check, decode, encode, replay, make, post, layers, clients_range, run_range, steps_range}
 use Rattle.commands.specs.declared.table.Row.{Row as TableRow}
 
 -- an operand, which has to be there
@@ -33,6 +33,7 @@ rows =
     ∷ (codes "encode", codes "SCHEMA" ∷ codes "TYPE" ∷ codes "INPUT" ∷ [])
     ∷ (codes "replay", codes "SCHEMA" ∷ codes "JOURNAL" ∷ codes "CLIENTS" ∷ [])
     ∷ (codes "make", codes "SCHEMA" ∷ codes "NUMBER" ∷ codes "STEPS" ∷ [])
+    ∷ (codes "post", codes "SCHEMA" ∷ codes "ADDRESS" ∷ codes "INPUT" ∷ [])
     ∷ (codes "layers", codes "OLD" ∷ codes "NEW" ∷ codes "TYPE" ∷ [])
     ∷ []
 
@@ -85,6 +86,9 @@ drawn _ _ _ = None
 abbrev pub make_of : (Text → Option Text) → Option RequestText
 make_of word = drawn (word (codes "SCHEMA")) (word (codes "NUMBER")) (word (codes "STEPS"))
 
+abbrev pub post_of : (Text → Option Text) → Option RequestText
+post_of word = typed post (word (codes "SCHEMA")) (word (codes "ADDRESS")) (word (codes "INPUT"))
+
 abbrev pub layers_of : (Text → Option Text) → Option RequestText
 layers_of word = typed layers (word (codes "OLD")) (word (codes "NEW")) (word (codes "TYPE"))
 
@@ -95,6 +99,7 @@ request_at command word =
     else if bytes_eq command (codes "encode") then encode_of word
     else if bytes_eq command (codes "replay") then replay_of word
     else if bytes_eq command (codes "make") then make_of word
+    else if bytes_eq command (codes "post") then post_of word
     else if bytes_eq command (codes "layers") then layers_of word
     else None
 

@@ -7,12 +7,13 @@ use Rattle.codec_commands.specs.Check.{check_job}
 use Rattle.codec_commands.specs.Decode.{decode_job}
 use Rattle.codec_commands.specs.Encode.{encode_job}
 use Rattle.layer_commands.specs.Layers.{layers_job}
+use Rattle.session_commands.specs.Post.{post_job}
 use Rattle.update_commands.specs.Make.{make_job}
 use Rattle.update_commands.specs.Replay.{replay_job}
 use Rattle.commands.specs.Numbers.{IsNumberWord}
 use Rattle.commands.specs.declared.number.Range.{Range}
 use Rattle.commands.specs.declared.request.Request.{Request}
-use Rattle.commands.specs.declared.request.Request.TheVariants.{Check, Decode, Encode, Layers, Make, Replay}
+use Rattle.commands.specs.declared.request.Request.TheVariants.{Check, Decode, Encode, Layers, Make, Post, Replay}
 
 -- what a run is asked for, each operand as its bytes or its number
 pub data RequestText : Type 0 where
@@ -21,6 +22,7 @@ pub data RequestText : Type 0 where
   encode : (schema type input : List ℕ) → RequestText
   replay : (schema journal : List ℕ) → (clients : ℕ) → RequestText
   make : (schema : List ℕ) → (number steps : ℕ) → RequestText
+  post : (schema address input : List ℕ) → RequestText
   layers : (old new type : List ℕ) → RequestText
 
 -- a word that may be an operand: it is not empty and does not begin with `-`
@@ -40,7 +42,7 @@ abbrev pub steps_range : Range
 steps_range = record { digits = 10; least = 1; most = 100000 }
 
 -- the words are the request's row: `check SCHEMA`, `decode SCHEMA TYPE INPUT`, `encode SCHEMA TYPE INPUT`, `replay SCHEMA JOURNAL CLIENTS`,
--- `make SCHEMA NUMBER STEPS`, `layers OLD NEW TYPE`
+-- `make SCHEMA NUMBER STEPS`, `post SCHEMA ADDRESS INPUT`, `layers OLD NEW TYPE`
 abbrev pub AsksFor : List (List ℕ) → RequestText → Type 0
 AsksFor words (check schema) = (words ≡ codes "check" ∷ schema ∷ []) × IsOperand schema
 AsksFor words (decode schema type input) = (words ≡ codes "decode" ∷ schema ∷ type ∷ input ∷ []) × IsOperand schema × IsOperand type × IsOperand input
@@ -48,6 +50,7 @@ AsksFor words (encode schema type input) = (words ≡ codes "encode" ∷ schema 
 AsksFor words (replay schema journal clients) = (n : List ℕ) × (words ≡ codes "replay" ∷ schema ∷ journal ∷ n ∷ []) × IsOperand schema × IsOperand journal × IsNumberWord clients_range n clients
 AsksFor words (make schema number steps) =
     (n s : List ℕ) × (words ≡ codes "make" ∷ schema ∷ n ∷ s ∷ []) × IsOperand schema × IsNumberWord run_range n number × IsNumberWord steps_range s steps
+AsksFor words (post schema address input) = (words ≡ codes "post" ∷ schema ∷ address ∷ input ∷ []) × IsOperand schema × IsOperand address × IsOperand input
 AsksFor words (layers old new type) = (words ≡ codes "layers" ∷ old ∷ new ∷ type ∷ []) × IsOperand old × IsOperand new × IsOperand type
 
 -- the words are those of no request
@@ -69,6 +72,7 @@ HasFilesOf files (decode schema type input) = IsFile files schema × IsFile file
 HasFilesOf files (encode schema type input) = IsFile files schema × IsFile files input
 HasFilesOf files (replay schema journal clients) = IsFile files schema × IsFile files journal
 HasFilesOf files (make schema number steps) = IsFile files schema
+HasFilesOf files (post schema address input) = IsFile files schema × IsFile files input
 HasFilesOf files (layers old new type) = IsFile files old × IsFile files new
 
 -- the job of a request
@@ -78,6 +82,7 @@ job_of (decode schema type input) = decode_job schema type input
 job_of (encode schema type input) = encode_job schema type input
 job_of (replay schema journal clients) = replay_job schema journal clients
 job_of (make schema number steps) = make_job schema number steps
+job_of (post schema address input) = post_job schema address input
 job_of (layers old new type) = layers_job old new type
 
 -- ---- the request of the program
@@ -88,6 +93,7 @@ request_text (Decode schema type input) = decode schema.now type.now input.now
 request_text (Encode schema type input) = encode schema.now type.now input.now
 request_text (Replay schema journal clients) = replay schema.now journal.now clients
 request_text (Make schema number steps) = make schema.now number steps
+request_text (Post schema address input) = post schema.now address.now input.now
 request_text (Layers old new type) = layers old.now new.now type.now
 
 -- its numbers are those that its row takes

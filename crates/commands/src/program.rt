@@ -12,6 +12,7 @@ use crate::request::{Request, request_of};
 use codec_commands::{check_schema, decode_input, encode_input};
 use command_base::{Status, Stop, report, tell};
 use layer_commands::compare_schemas;
+use session_commands::post_call;
 use std::alloc::Global;
 use tl_base::Host;
 use update_commands::{make_run, replay_journal};
@@ -67,6 +68,11 @@ fn answer<H: Host>(alloc: Global, host: &mut H, request: Request) -> Result<Stat
             number,
             steps,
         } => make_run(alloc, host, schema, number, steps),
+        Request::Post {
+            schema,
+            address,
+            input,
+        } => post_call(alloc, host, schema, address, input),
         Request::Layers { old, new, of } => compare_schemas(alloc, host, old, new, of),
     }
 }

@@ -4,7 +4,7 @@ ghost use Rattle.std.specs.List.{All};
 ghost use Rattle.clap.specs.Words.{first_value, found_of, subcommand_rows_of};
 ghost use Rattle.commands.specs.Numbers.{number_of};
 ghost use Rattle.commands.specs.Requests.{IsOperand, FindsRequest, clients_range, request_text, run_range, steps_range};
-ghost use Rattle.commands.specs.CommandLine.{check_of, decode_of, encode_of, layers_of, make_of, replay_of, request_in};
+ghost use Rattle.commands.specs.CommandLine.{check_of, decode_of, encode_of, layers_of, make_of, post_of, replay_of, request_in};
 
 use crate::number::{Range, number_in};
 use crate::table::table_of;
@@ -43,6 +43,12 @@ pub enum Request<'a> {
         number: u64,
         steps: u32,
     },
+    /// `post SCHEMA ADDRESS INPUT`
+    Post {
+        schema: &'a str,
+        address: &'a str,
+        input: &'a str,
+    },
     /// `layers OLD NEW TYPE`
     Layers {
         old: &'a str,
@@ -78,6 +84,7 @@ fn request_in<'a>(matches: &ArgMatches<'a>) -> Option<Request<'a>>
         "encode" => encode_of(operands),
         "replay" => replay_of(operands),
         "make" => make_of(operands),
+        "post" => post_of(operands),
         "layers" => layers_of(operands),
         _ => None,
     }
@@ -181,6 +188,20 @@ fn steps_in(word: &str) -> Option<u32>
         Some(steps) => Some(steps as u32),
         None => None,
     }
+}
+
+// The request of `post`.
+fn post_of<'a>(operands: &ArgMatches<'a>) -> Option<Request<'a>>
+    ensures { option_map request_text result ≡ post_of (first_value (found_of operands.now)) }
+{
+    let schema = operands.get_str("SCHEMA")?;
+    let address = operands.get_str("ADDRESS")?;
+    let input = operands.get_str("INPUT")?;
+    Some(Request::Post {
+        schema,
+        address,
+        input,
+    })
 }
 
 // The request of `layers`.

@@ -40,6 +40,10 @@ fn rows<'a>() -> &'a [Row<'a>]
             operands: &["SCHEMA", "NUMBER", "STEPS"],
         },
         Row {
+            command: "post",
+            operands: &["SCHEMA", "ADDRESS", "INPUT"],
+        },
+        Row {
             command: "layers",
             operands: &["OLD", "NEW", "TYPE"],
         },

@@ -22,6 +22,10 @@ pub returns-in-make : goal.returns-in-make
 returns-in-make c =
     found_as c.args.matches.now c.in_ok-command.operands.now c.in_ok-command.command.now (codes "make") _ c.in_ok-command.ensures.name c.in_ok-command.ensures.rows c.in-make.is c.make_of.ensures
 
+pub returns-in-post : goal.returns-in-post
+returns-in-post c =
+    found_as c.args.matches.now c.in_ok-command.operands.now c.in_ok-command.command.now (codes "post") _ c.in_ok-command.ensures.name c.in_ok-command.ensures.rows c.in-post.is c.post_of.ensures
+
 pub returns-in-layers : goal.returns-in-layers
 returns-in-layers c =
     found_as c.args.matches.now c.in_ok-command.operands.now c.in_ok-command.command.now (codes "layers") _ c.in_ok-command.ensures.name c.in_ok-command.ensures.rows c.in-layers.is c.layers_of.ensures
