@@ -1,6 +1,6 @@
 //! A host whose traffic is noted.
 use crate::traffic::Traffic;
-use std::alloc::{AllocError, Global};
+use std::alloc::Global;
 use tl_base::{Failed, Host, Out, Slot};
 
 /// A host, and the traffic of the calls that went well.
@@ -21,13 +21,6 @@ impl<H: Host> TracedHost<H> {
             is_whole: true,
         }
     }
-
-    // Keeps in mind that there was no memory to note a call.
-    fn noted(&mut self, noted: Result<(), AllocError>) {
-        if noted.is_err() {
-            self.is_whole = false;
-        }
-    }
 }
 
 impl<H: Host> Host for TracedHost<H> {
@@ -46,8 +39,7 @@ impl<H: Host> Host for TracedHost<H> {
     fn create(&mut self, out: Out, name: &str) -> Result<(), Failed> {
         let created = self.host.create(out, name);
         if created.is_ok() {
-            let noted = self.traffic.create(name);
-            self.noted(noted);
+            self.is_whole = self.traffic.create(name).is_ok() && self.is_whole;
         }
         created
     }
@@ -55,8 +47,7 @@ impl<H: Host> Host for TracedHost<H> {
     fn write(&mut self, out: Out, piece: &[u8]) -> Result<usize, Failed> {
         let count = self.host.write(out, piece)?;
         if out == Out::Link {
-            let noted = self.traffic.send(&piece[..count]);
-            self.noted(noted);
+            self.is_whole = self.traffic.send(&piece[..count]).is_ok() && self.is_whole;
         }
         Ok(count)
     }
@@ -64,8 +55,7 @@ impl<H: Host> Host for TracedHost<H> {
     fn listen(&mut self, address: &str) -> Result<(), Failed> {
         let listened = self.host.listen(address);
         if listened.is_ok() {
-            let noted = self.traffic.use_address(address);
-            self.noted(noted);
+            self.is_whole = self.traffic.use_address(address).is_ok() && self.is_whole;
         }
         listened
     }
@@ -73,8 +63,7 @@ impl<H: Host> Host for TracedHost<H> {
     fn connect(&mut self, address: &str) -> Result<(), Failed> {
         let connected = self.host.connect(address);
         if connected.is_ok() {
-            let noted = self.traffic.call(address);
-            self.noted(noted);
+            self.is_whole = self.traffic.call(address).is_ok() && self.is_whole;
         }
         connected
     }
@@ -82,8 +71,7 @@ impl<H: Host> Host for TracedHost<H> {
     fn accept(&mut self) -> Result<(), Failed> {
         let accepted = self.host.accept();
         if accepted.is_ok() {
-            let noted = self.traffic.take_link();
-            self.noted(noted);
+            self.is_whole = self.traffic.take_link().is_ok() && self.is_whole;
         }
         accepted
     }
