@@ -84,4 +84,5 @@ def main():
                 measure("made", count, [tlbox, "make", profile, "7", str(count)], 0, report)
 
 
-main()
+if __name__ == "__main__":
+    main()

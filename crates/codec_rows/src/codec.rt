@@ -1,6 +1,7 @@
 //! Rows of tokens, programs, schemas, types and values.
 use crate::entries::{found_told, text_entries_told, type_told};
 use crate::grammar::text_told;
+use crate::layers::lifted_told;
 use crate::plans::planned_told;
 use crate::schemas::schema_of;
 use crate::walks::walked_told;
@@ -56,6 +57,21 @@ fn made(
     String::from_str(alloc, "made")
 }
 
+// The answer of `lift` by an old schema, with the name of a new one, a type and the words of a value.
+fn lift_told(
+    alloc: Global,
+    schemas: &Schemas,
+    old: &Schema,
+    words: &[&str],
+) -> Result<String, AllocError> {
+    let (name, words) = first(words);
+    let (of, value) = first(words);
+    match schemas.get(name) {
+        Some(new) => lifted_told(alloc, old, new, of, value),
+        None => String::from_str(alloc, "no such schema"),
+    }
+}
+
 // The answer of a call by the schema of a name.
 fn named_told(
     alloc: Global,
@@ -65,7 +81,10 @@ fn named_told(
     text: &[u8],
 ) -> Result<String, AllocError> {
     match schemas.get(name) {
-        Some(schema) => schema_told(alloc, schema, call, text),
+        Some(schema) => match first(call) {
+            ("lift", words) => lift_told(alloc, schemas, schema, words),
+            _ => schema_told(alloc, schema, call, text),
+        },
         None => String::from_str(alloc, "no such schema"),
     }
 }

@@ -1,9 +1,10 @@
-//! Rows of the calls of tokens, programs, schemas, types and values.
+//! Rows of the calls of tokens, programs, schemas, types, values and layers.
 #![tactic(auto)]
 
 mod codec;
 mod entries;
 mod grammar;
+mod layers;
 mod plans;
 mod schemas;
 mod trees;

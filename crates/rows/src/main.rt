@@ -162,7 +162,12 @@ fn run_messages(rt: &HostRuntime, schema: &Schema, file: &str, text: &str) -> io
 
 // Looks at each row of a text, by a schema that is a profile.
 fn run_worlds(rt: &HostRuntime, schema: &Schema, file: &str, text: &str) -> io::Result<Counts> {
-    run_rows(rt, State::Worlds(Worlds::new(rt.alloc(), schema)), file, text)
+    run_rows(
+        rt,
+        State::Worlds(Worlds::new(rt.alloc(), schema)),
+        file,
+        text,
+    )
 }
 
 // Looks at each row of a text.

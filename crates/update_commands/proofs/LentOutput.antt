@@ -99,7 +99,7 @@ module _ (p : ProfileView) (n : ℕ) (journal : List ℕ) where
       let to : IsErrOf result replay.WriteFault → F = λ f. write_from r (subst (λ (z : Result (Unit {0}) ReplayFault). IsErrOf z replay.WriteFault) how f) in
       let of_these = of_new p n old begins (λ q c. NeverFull q c (seen_of read) (goes_on read) (out_written s a'.view) a'.sound (room_of a'.view) F) never in
       let of_journal : NeverFull p n (seen_of journal) (goes_on journal) (out_written s a'.view) a'.sound (room_of a'.view) F =
-          subst (λ (x : List ℕ). NeverFull p n (seen_of x) (goes_on x) (out_written s a'.view) a'.sound (room_of a'.view) F) same of_these in
+      subst (λ (x : List ℕ). NeverFull p n (seen_of x) (goes_on x) (out_written s a'.view) a'.sound (room_of a'.view) F) same of_these in
       let at_output : NeverFull p n (seen_of journal) (goes_on journal) (out_written Output a'.view) a'.sound (room_of a'.view) F = subst (λ (o : Out). NeverFull p n (seen_of journal) (goes_on journal) (out_written o a'.view) a'.sound (room_of a'.view) F) is of_journal in
       let at_host : NeverFull p n (seen_of journal) (goes_on journal) (out_written Output a.view) a.sound (room_of a.view) F = subst (λ (h : HostState). NeverFull p n (seen_of journal) (goes_on journal) (out_written Output h.view) h.sound (room_of h.view) F) ea at_output in
       record {

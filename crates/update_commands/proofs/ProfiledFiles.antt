@@ -56,9 +56,9 @@ module _ (files : Files) (good : HoldBytes files) (journal : List ℕ) (n : ℕ)
   pub each_replay : (schema : List ℕ) → IsFile files schema → IsFile files journal → (a : Answer) × ReplayAnswer files schema journal n a
   each_replay schema (text, has) (bytes, holds) =
       let told = each_text text (OfJournalFile files journal n)
-          (λ p is h. (let all = each_journal p n bytes is (seen_bytes bytes (file_bytes files journal bytes good holds)) in
-          let told = answered p n bytes all.0 all.1 all.2 all.3 in
-          (told.0, (bytes, holds, told.1)))) in
+      (λ p is h. (let all = each_journal p n bytes is (seen_bytes bytes (file_bytes files journal bytes good holds)) in
+      let told = answered p n bytes all.0 all.1 all.2 all.3 in
+      (told.0, (bytes, holds, told.1)))) in
       (told.0, (text, has, told.1))
 
 pub each_has_one : EachHasOneReplay

@@ -10,10 +10,10 @@ mod limits;
 mod lines;
 mod made_fault;
 mod making;
-mod summary;
-mod wanted;
 mod replay;
 mod replay_laws;
+mod summary;
+mod wanted;
 
 pub use choosing::make_step;
 pub use drawing::draw_post;

@@ -1,7 +1,5 @@
 //! Rows `journal NAME ..` of journals: `put TIMES DIGITS`, whose bytes come last, and of a replay by so many clients `replay CLIENTS READ WRITE`, of which
 //! the calls of these numbers fail, or `ends CLIENTS`.
-ghost use Rattle.update_replay.specs.Replays.{IsNew};
-
 use crate::worlds::new_world;
 use base_rows::text_of;
 use end_rows::{RowFault, Words};
@@ -9,7 +7,6 @@ use std::alloc::{AllocError, Global};
 use tl_base::{Bytes, MemSink, MemSource};
 use tl_schema::Schema;
 use update_replay::{ReplayFault, replay_steps};
-use update_world::World;
 
 // The bytes that digits are, so many times.
 fn put(alloc: Global, journal: &mut Bytes, words: &mut Words) -> Result<(), RowFault> {
@@ -44,18 +41,31 @@ fn source_of(
     Ok(MemSource::new(journal.copy()?, cuts, failed_reads))
 }
 
-// How a replay ends, and how many packets were sent then.
+// A sink with room for the lines of every replay in the rows.
+fn sink_of(alloc: Global, failed_writes: Vec<u64>) -> Result<MemSink, AllocError> {
+    MemSink::new(alloc, 8_000_000, failed_writes)
+}
+
+// How a replay of a new world ends, and how many packets were sent then.
 fn replayed(
     alloc: Global,
-    world: &mut World,
+    schema: &Schema,
+    clients: u32,
     from: &mut MemSource,
     to: &mut MemSink,
-) -> Result<String, RowFault>
-    requires { IsNew world.old }
-{
-    let result = replay_steps(alloc, world, from, to);
-    let mut text = text_of(alloc, &result)?;
-    let packets = world.packets();
+) -> Result<String, RowFault> {
+    let mut world = new_world(alloc, schema, clients)?;
+    let ended = replay_steps(alloc, &mut world, from, to);
+    Ok(ending(alloc, &ended, world.packets())?)
+}
+
+// The words of such an end.
+fn ending(
+    alloc: Global,
+    ended: &Result<u32, ReplayFault>,
+    packets: u32,
+) -> Result<String, AllocError> {
+    let mut text = text_of(alloc, ended)?;
     text.push_str(format!(in alloc; ", {packets} packets")?.as_str())?;
     Ok(text)
 }
@@ -76,10 +86,10 @@ fn replay(
     journal: &Bytes,
     words: &mut Words,
 ) -> Result<String, RowFault> {
-    let mut world = new_world(alloc, schema, words.number()?)?;
+    let clients = words.number()?;
     let mut from = source_of(alloc, journal, failing(alloc, words)?)?;
-    let mut to = MemSink::new(alloc, 8_000_000, failing(alloc, words)?)?;
-    let mut text = replayed(alloc, &mut world, &mut from, &mut to)?;
+    let mut to = sink_of(alloc, failing(alloc, words)?)?;
+    let mut text = replayed(alloc, schema, clients, &mut from, &mut to)?;
     text.push('|')?;
     put_lines(&mut text, to.as_slice())?;
     Ok(text)
@@ -92,10 +102,10 @@ fn ends(
     journal: &Bytes,
     words: &mut Words,
 ) -> Result<String, RowFault> {
-    let mut world = new_world(alloc, schema, words.number()?)?;
+    let clients = words.number()?;
     let mut from = source_of(alloc, journal, Vec::new(alloc))?;
-    let mut to = MemSink::new(alloc, 8_000_000, Vec::new(alloc))?;
-    replayed(alloc, &mut world, &mut from, &mut to)
+    let mut to = sink_of(alloc, Vec::new(alloc))?;
+    replayed(alloc, schema, clients, &mut from, &mut to)
 }
 
 /// What comes of a call over a journal.

@@ -17,11 +17,7 @@ use wire_profile::Profile;
 
 /// A world of so many clients, by a schema that is a profile.
 #[tactic(auto, using(crate::proofs::NewWorlds::is_new))]
-pub fn new_world<'s>(
-    alloc: Global,
-    schema: &'s Schema,
-    clients: u32,
-) -> Result<World<'s>, RowFault>
+pub fn new_world<'s>(alloc: Global, schema: &'s Schema, clients: u32) -> Result<World<'s>, RowFault>
     ensures { IfOk result IsNew }
 {
     if clients < 1 || 16 < clients {
