@@ -7,7 +7,7 @@ pub fn words_and_files_have_one_answer()
     ensures { HasOneAnswer }
 {}
 
-/// Words and files of bytes have an answer, where the files that the words name are there; and words ask for nothing or for a request.
+/// Words have an answer over an outside that shows bytes, where the files that they name are there; and words ask for nothing or for a request.
 pub fn words_and_files_have_an_answer()
     ensures answered { HasAnAnswer }
     ensures asked { (words : List (List ℕ)) → Asks words }

@@ -1,7 +1,7 @@
 use Rattle.std.proofs.Common.{arith, refl, sym, subst, ◌∙◌}
 use Rattle.tl_base.specs.Causes.{Rose}
 use Rattle.commands.specs.Requests.{request_text, FindsRequest}
-use Rattle.commands.proofs.Endings.{ends_well, ends_stopped, ends_usage, ends_memory, none_kept, done_kept, stopped_kept, memory_kept}
+use Rattle.commands.proofs.Endings.{ends_well, ends_stopped, ends_usage, ends_memory, none_kept, done_kept, stopped_kept, memory_kept, request_never}
 use Rattle.commands.proofs.Ranges.{in_range}
 use Rattle.commands.proofs.program.run.Goals as goal
 
@@ -38,6 +38,10 @@ returns-in-Err-answer-clause-ends g c =
 pub returns-in-Err-answer-clause-kept : goal.returns-in-Err-answer-clause-kept
 returns-in-Err-answer-clause-kept g c =
     stopped_kept _ (request_text c.in-Ok-Some.request) (subst (FindsRequest _) c.in-Ok-Some.field-0-is c.in-Ok-Some.ensures) _ _ _ c.in-Err-answer.ensures.kept c.report.ensures.kept
+
+pub returns-in-Err-answer-clause-sound : goal.returns-in-Err-answer-clause-sound
+returns-in-Err-answer-clause-sound g c =
+    request_never _ (request_text c.in-Ok-Some.request) (subst (FindsRequest _) c.in-Ok-Some.field-0-is c.in-Ok-Some.ensures) _ _ _ _ c.report.ensures.status c.in-Err-answer.ensures.faults.never
 
 pub returns-in-Err-clause-ends : goal.returns-in-Err-clause-ends
 returns-in-Err-clause-ends g c = ends_memory _ _ _ _ _ _ c.report-in-Err.result c.report-in-Err.ensures.status c.report-in-Err.ensures.told
