@@ -147,7 +147,7 @@ impl Case {
         }
         put_difference(alloc, &mut text, "Output", &self.wanted.output, &got.output)?;
         put_difference(alloc, &mut text, "Errors", &self.wanted.errors, &got.errors)?;
-        put_difference(alloc, &mut text, "State", &self.wanted.state, &got.state)?;
+        put_bytes_difference(alloc, &mut text, "State", &self.wanted.state, &got.state)?;
         put_traffic(alloc, &mut text, &self.wanted.traffic, &got.traffic)?;
         Ok(text)
     }
@@ -176,12 +176,18 @@ fn line_start(bytes: &[u8], at: usize) -> usize {
     start
 }
 
-// Some bytes from an index on, as they can be read: as a text where they are one, else as digits.
-fn shown(alloc: Global, bytes: &[u8], start: usize) -> Result<String, AllocError> {
+// Some bytes from an index on.
+fn bytes_from(alloc: Global, bytes: &[u8], start: usize) -> Result<Vec<u8>, AllocError> {
     let mut piece = Vec::new(alloc);
     for byte in bytes.iter().skip(start).take(SHOWN_BYTES) {
         piece.push(*byte)?;
     }
+    Ok(piece)
+}
+
+// Some bytes from an index on, as they can be read: as a text where they are one, else as digits.
+fn shown(alloc: Global, bytes: &[u8], start: usize) -> Result<String, AllocError> {
+    let piece = bytes_from(alloc, bytes, start)?;
     match std::str::from_utf8(&piece) {
         Ok(text) => format!(in alloc; "{text:?}"),
         Err(_) => hex::encode(alloc, &piece),
@@ -202,6 +208,23 @@ fn put_difference(
     let start = line_start(wanted, first_difference(wanted, got));
     let wanted = shown(alloc, wanted, start)?;
     let got = shown(alloc, got, start)?;
+    text.push_str(&format!(in alloc; "; {what} from byte {start} wanted {wanted}, got {got}")?)
+}
+
+// Likewise of bytes that are no text, from the first that differs.
+fn put_bytes_difference(
+    alloc: Global,
+    text: &mut String,
+    what: &str,
+    wanted: &[u8],
+    got: &[u8],
+) -> Result<(), AllocError> {
+    if wanted == got {
+        return Ok(());
+    }
+    let start = first_difference(wanted, got);
+    let wanted = hex::encode(alloc, &bytes_from(alloc, wanted, start)?)?;
+    let got = hex::encode(alloc, &bytes_from(alloc, got, start)?)?;
     text.push_str(&format!(in alloc; "; {what} from byte {start} wanted {wanted}, got {got}")?)
 }
 
@@ -227,10 +250,10 @@ fn put_traffic(
     put_difference(
         alloc,
         text,
-        "links",
+        "starts of links",
         starts.as_bytes(),
         got_starts.as_bytes(),
     )?;
-    put_difference(alloc, text, "sent", &wanted.sent, &got.sent)?;
+    put_bytes_difference(alloc, text, "sent", &wanted.sent, &got.sent)?;
     put_difference(alloc, text, "names of State", &wanted.created, &got.created)
 }
