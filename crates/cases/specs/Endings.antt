@@ -1,7 +1,12 @@
 -- How runs end, compared. This project's own.
 use Rattle.std.specs.Prelude.{◌≡◌}
 use Rattle.cases.specs.declared.ending.Ending.{Ending}
+use Rattle.cases.specs.declared.traffic.Traffic.{Traffic}
 
--- the same status, and the same bytes on each out
+-- the same addresses, the same bytes on as many links, and State created under the same names
+abbrev pub IsTraffic : Traffic → Traffic → Type 0
+IsTraffic s t = (s.addresses.items ≡ t.addresses.items) × (s.sent.items ≡ t.sent.items) × (s.starts.items ≡ t.starts.items) × (s.created.items ≡ t.created.items)
+
+-- the same status, the same bytes on each out and on State, and the same traffic
 abbrev pub EndsAs : Ending → Ending → Type 0
-EndsAs a b = (a.status ≡ b.status) × (a.output.items ≡ b.output.items) × (a.errors.items ≡ b.errors.items)
+EndsAs a b = (a.status ≡ b.status) × (a.output.items ≡ b.output.items) × (a.errors.items ≡ b.errors.items) × (a.state.items ≡ b.state.items) × IsTraffic a.traffic b.traffic

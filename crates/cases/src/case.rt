@@ -2,6 +2,7 @@
 use crate::ending::{Ending, put_line};
 use crate::fault::CaseFault;
 use crate::setting::Setting;
+use crate::traffic::Traffic;
 use crate::words::{bytes_of, cut_word, number_of, words_of};
 use std::alloc::{AllocError, Global};
 use tl_base::MemHost;
@@ -52,6 +53,21 @@ impl Case {
         Ok(())
     }
 
+    // One more link, to which these bytes are written.
+    fn want_link(&mut self, digits: &str) -> Result<(), CaseFault> {
+        self.wanted.traffic.take_link()?;
+        self.want_sent(digits)
+    }
+
+    // More bytes on the link that is wanted last.
+    fn want_sent(&mut self, digits: &str) -> Result<(), CaseFault> {
+        if self.wanted.traffic.starts.is_empty() {
+            return Err(CaseFault::NoLink);
+        }
+        let bytes = bytes_of(self.alloc, digits)?;
+        Ok(self.wanted.traffic.send(&bytes)?)
+    }
+
     /// Takes a line that says how the run is to end.
     pub fn take(&mut self, word: &str, rest: &str) -> Result<(), CaseFault> {
         match word {
@@ -62,6 +78,14 @@ impl Case {
             "output-hex" => {
                 let bytes = bytes_of(self.alloc, rest)?;
                 Ok(self.wanted.output.extend_from_slice(&bytes)?)
+            }
+            "address" => Ok(self.wanted.traffic.use_address(rest)?),
+            "sent" => self.want_link(rest),
+            "sent-more" => self.want_sent(rest),
+            "state" => Ok(self.wanted.traffic.create(rest)?),
+            "state-hex" => {
+                let bytes = bytes_of(self.alloc, rest)?;
+                Ok(self.wanted.state.extend_from_slice(&bytes)?)
             }
             "front" => {
                 self.wanted.keep_front(number_of(rest)? as usize);
@@ -123,6 +147,8 @@ impl Case {
         }
         put_difference(alloc, &mut text, "Output", &self.wanted.output, &got.output)?;
         put_difference(alloc, &mut text, "Errors", &self.wanted.errors, &got.errors)?;
+        put_bytes_difference(alloc, &mut text, "State", &self.wanted.state, &got.state)?;
+        put_traffic(alloc, &mut text, &self.wanted.traffic, &got.traffic)?;
         Ok(text)
     }
 }
@@ -150,23 +176,29 @@ fn line_start(bytes: &[u8], at: usize) -> usize {
     start
 }
 
-// Some bytes from an index on, as they can be read: as a text where they are one, else as digits.
-fn shown(alloc: Global, bytes: &[u8], start: usize) -> Result<String, AllocError> {
+// Some bytes from an index on.
+fn bytes_from(alloc: Global, bytes: &[u8], start: usize) -> Result<Vec<u8>, AllocError> {
     let mut piece = Vec::new(alloc);
     for byte in bytes.iter().skip(start).take(SHOWN_BYTES) {
         piece.push(*byte)?;
     }
+    Ok(piece)
+}
+
+// Some bytes from an index on, as they can be read: as a text where they are one, else as digits.
+fn shown(alloc: Global, bytes: &[u8], start: usize) -> Result<String, AllocError> {
+    let piece = bytes_from(alloc, bytes, start)?;
     match std::str::from_utf8(&piece) {
         Ok(text) => format!(in alloc; "{text:?}"),
         Err(_) => hex::encode(alloc, &piece),
     }
 }
 
-// Tells what an out was to have and what it got, from the line on in which they differ.
+// Tells what was to be there and what is, from the line on in which they differ.
 fn put_difference(
     alloc: Global,
     text: &mut String,
-    out: &str,
+    what: &str,
     wanted: &[u8],
     got: &[u8],
 ) -> Result<(), AllocError> {
@@ -176,5 +208,52 @@ fn put_difference(
     let start = line_start(wanted, first_difference(wanted, got));
     let wanted = shown(alloc, wanted, start)?;
     let got = shown(alloc, got, start)?;
-    text.push_str(&format!(in alloc; "; {out} from byte {start} wanted {wanted}, got {got}")?)
+    text.push_str(&format!(in alloc; "; {what} from byte {start} wanted {wanted}, got {got}")?)
+}
+
+// Likewise of bytes that are no text, from the first that differs.
+fn put_bytes_difference(
+    alloc: Global,
+    text: &mut String,
+    what: &str,
+    wanted: &[u8],
+    got: &[u8],
+) -> Result<(), AllocError> {
+    if wanted == got {
+        return Ok(());
+    }
+    let start = first_difference(wanted, got);
+    let wanted = hex::encode(alloc, &bytes_from(alloc, wanted, start)?)?;
+    let got = hex::encode(alloc, &bytes_from(alloc, got, start)?)?;
+    text.push_str(&format!(in alloc; "; {what} from byte {start} wanted {wanted}, got {got}")?)
+}
+
+// The numbers, with one space after each.
+fn numbers_text(alloc: Global, numbers: &[usize]) -> Result<String, AllocError> {
+    let mut text = String::new(alloc);
+    for number in numbers {
+        text.push_str(&format!(in alloc; "{number} ")?)?;
+    }
+    Ok(text)
+}
+
+// Tells where the links, the addresses and the names of State are others.
+fn put_traffic(
+    alloc: Global,
+    text: &mut String,
+    wanted: &Traffic,
+    got: &Traffic,
+) -> Result<(), AllocError> {
+    let starts = numbers_text(alloc, &wanted.starts)?;
+    let got_starts = numbers_text(alloc, &got.starts)?;
+    put_difference(alloc, text, "addresses", &wanted.addresses, &got.addresses)?;
+    put_difference(
+        alloc,
+        text,
+        "starts of links",
+        starts.as_bytes(),
+        got_starts.as_bytes(),
+    )?;
+    put_bytes_difference(alloc, text, "sent", &wanted.sent, &got.sent)?;
+    put_difference(alloc, text, "names of State", &wanted.created, &got.created)
 }

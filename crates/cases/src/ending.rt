@@ -3,6 +3,7 @@ ghost use Rattle.std.specs.Prelude.{◌≡◌, ◌↔◌, IfOk, IsTrue};
 ghost use Rattle.cases.specs.Endings.{EndsAs};
 
 use crate::fault::CaseFault;
+use crate::traffic::Traffic;
 use std::alloc::{AllocError, Global};
 
 /// How a run ends, and what it writes.
@@ -14,15 +15,20 @@ pub struct Ending {
     pub output: Vec<u8>,
     /// All bytes on Errors.
     pub errors: Vec<u8>,
+    /// All bytes on State.
+    pub state: Vec<u8>,
+    pub traffic: Traffic,
 }
 
 impl Ending {
-    /// The end of a run that writes nothing, with status 0.
+    /// The end of a run that writes nothing and takes no link, with status 0.
     pub fn new(alloc: Global) -> Ending {
         Ending {
             status: 0,
             output: Vec::new(alloc),
             errors: Vec::new(alloc),
+            state: Vec::new(alloc),
+            traffic: Traffic::none(alloc),
         }
     }
 
@@ -33,6 +39,8 @@ impl Ending {
         self.status == other.status
             && self.output.as_slice() == other.output.as_slice()
             && self.errors.as_slice() == other.errors.as_slice()
+            && self.state.as_slice() == other.state.as_slice()
+            && self.traffic.is_as(&other.traffic)
     }
 
     pub fn copy(&self) -> Result<Ending, AllocError>
@@ -42,10 +50,12 @@ impl Ending {
             status: self.status,
             output: self.output.clone()?,
             errors: self.errors.clone()?,
+            state: self.state.clone()?,
+            traffic: self.traffic.copy()?,
         })
     }
 
-    /// Keeps the first bytes, so many at most, of what is written on each out.
+    /// Keeps the first bytes, so many at most, of what is written on Output and on Errors.
     pub fn keep_front(&mut self, count: usize) {
         self.output.truncate(count);
         self.errors.truncate(count);

@@ -7,11 +7,14 @@ mod ending;
 mod fault;
 mod reader;
 mod setting;
+mod traced;
+mod traffic;
 mod words;
 
 use crate::case::Case;
 use crate::ending::Ending;
 use crate::reader::{BadLine, read_cases};
+use crate::traced::TracedHost;
 use commands::run;
 use std::alloc::{AllocError, Global};
 use std::process::ExitCode;
@@ -35,19 +38,33 @@ impl Counts {
 }
 
 // Runs the program, and tells its status.
-fn status_of(alloc: Global, words: &[String], host: &mut MemHost) -> u8 {
+fn status_of(alloc: Global, words: &[String], host: &mut TracedHost<MemHost>) -> u8 {
     run(alloc, words, host).code()
+}
+
+// How a run ended, and what it did.
+fn ending_over(
+    alloc: Global,
+    status: u8,
+    host: &TracedHost<MemHost>,
+) -> Result<Ending, AllocError> {
+    if !host.is_whole {
+        return Err(AllocError);
+    }
+    Ok(Ending {
+        status,
+        output: Vec::from_slice(alloc, host.host.written(Out::Output))?,
+        errors: Vec::from_slice(alloc, host.host.written(Out::Errors))?,
+        state: Vec::from_slice(alloc, host.host.written(Out::State))?,
+        traffic: host.traffic.copy()?,
+    })
 }
 
 // How a run ends.
 fn ending_of(alloc: Global, case: &Case) -> Result<Ending, AllocError> {
-    let mut host = case.host()?;
+    let mut host = TracedHost::new(alloc, case.host()?);
     let status = status_of(alloc, case.words(), &mut host);
-    Ok(Ending {
-        status,
-        output: Vec::from_slice(alloc, host.written(Out::Output))?,
-        errors: Vec::from_slice(alloc, host.written(Out::Errors))?,
-    })
+    ending_over(alloc, status, &host)
 }
 
 // Makes a run, and prints a line where it ends otherwise.

@@ -30,7 +30,7 @@ struct Begun {
     setting: Setting,
     // The line that says that the case goes both ways. 0: there is none.
     both_ways: u64,
-    // The line that says something of the next run's calls. 0: there is none.
+    // The line that says something of the next run alone. 0: there is none.
     unused: u64,
     runs: Vec<Case>,
 }
@@ -75,7 +75,7 @@ fn real_bytes(
     }
 }
 
-// A case that ends has a run, and no line about calls waits for one.
+// A case that ends has a run, and no line about the next run waits for one.
 fn check_closed(line: u64, runs: usize, unused: u64) -> Result<(), BadLine> {
     if runs == 0 {
         let fault = CaseFault::EmptyCase;
@@ -192,7 +192,7 @@ impl Begun {
         }
     }
 
-    // Notes that a line says something of the next run's calls.
+    // Notes that a line says something of the next run alone.
     fn call(&mut self, line: u64, word: &str, rest: &str) -> Result<(), CaseFault> {
         self.setting.take_call(word, rest)?;
         self.unused = line;
@@ -232,13 +232,24 @@ impl Begun {
                 self.both_ways = number;
                 Ok(())
             }
-            "reads-at-most" | "room" | "fails" => self.call(number, word, rest),
+            "is-profile" => self.setting.check_profile(rest),
+            "link" | "moments" | "reads-at-most" | "room" | "fails" => {
+                self.call(number, word, rest)
+            }
             "run" => self.run(place.file.as_str(), number, rest),
             "same" => self.want_as_before(),
             "same-as-first" => self.want_as(0),
-            "status" | "output" | "output-text" | "output-hex" | "errors" | "front" => {
-                self.want(word, rest)
-            }
+            "status"
+            | "output"
+            | "output-text"
+            | "output-hex"
+            | "errors"
+            | "front"
+            | "address"
+            | "sent"
+            | "sent-more"
+            | "state"
+            | "state-hex" => self.want(word, rest),
             _ => Err(CaseFault::NoWord),
         }
     }

@@ -1,9 +1,10 @@
 //! What a run finds.
 use crate::ending::put_line;
 use crate::fault::CaseFault;
-use crate::words::{bytes_of, cut_word, number_of, numbered_call, numbers_of};
+use crate::words::{Moment, bytes_of, cut_word, moments_of, number_of, numbered_call, numbers_of};
 use std::alloc::{AllocError, Global};
 use tl_base::{Bytes, HostCall, MemHost};
+use wire_profile::PROFILE_TEXT;
 
 // How many bytes each out takes, where no line says it.
 const ROOM: u32 = 16_777_216;
@@ -15,11 +16,16 @@ struct CaseFile {
     bytes: Vec<u8>,
 }
 
-/// The files that a run finds, and how its calls go.
+/// The files, links and moments that a run finds, and how its calls go.
 #[derive(Drop)]
 pub struct Setting {
     alloc: Global,
     files: Vec<CaseFile>,
+    // What each link to come gives.
+    links: Vec<Vec<u8>>,
+    moments: Vec<Moment>,
+    // What was begun last is a link.
+    in_link: bool,
     fails: Vec<(HostCall, u64)>,
     // How many bytes each read gives at most; the last holds for all further reads. None: as many as are asked for.
     most: Vec<u32>,
@@ -32,6 +38,14 @@ fn copy_files(alloc: Global, files: &[CaseFile]) -> Result<Vec<CaseFile>, AllocE
         let name = file.name.clone()?;
         let bytes = file.bytes.clone()?;
         copies.push(CaseFile { name, bytes })?;
+    }
+    Ok(copies)
+}
+
+fn copy_links(alloc: Global, links: &[Vec<u8>]) -> Result<Vec<Vec<u8>>, AllocError> {
+    let mut copies = Vec::new(alloc);
+    for link in links {
+        copies.push(link.clone()?)?;
     }
     Ok(copies)
 }
@@ -68,6 +82,27 @@ fn chop(bytes: &mut Vec<u8>, rest: &str) -> Result<(), CaseFault> {
     Ok(())
 }
 
+// Goes on with a file or a link as a line says.
+fn put_content(
+    alloc: Global,
+    bytes: &mut Vec<u8>,
+    word: &str,
+    rest: &str,
+) -> Result<(), CaseFault> {
+    match word {
+        "text" => Ok(bytes.extend_from_slice(rest.as_bytes())?),
+        "line" => Ok(put_line(bytes, rest)?),
+        "repeat" => put_often(bytes, rest),
+        "pad" => pad(alloc, bytes, rest),
+        "chop" => chop(bytes, rest),
+        "hex" => {
+            let more = bytes_of(alloc, rest)?;
+            Ok(bytes.extend_from_slice(&more)?)
+        }
+        _ => Err(CaseFault::NoWord),
+    }
+}
+
 // The index of the file with a name.
 fn index_of(files: &[CaseFile], name: &str) -> Option<usize> {
     for (index, file) in files.iter().enumerate() {
@@ -79,22 +114,28 @@ fn index_of(files: &[CaseFile], name: &str) -> Option<usize> {
 }
 
 impl Setting {
-    /// No file; no call fails or is cut.
+    /// No file, link or moment; no call fails or is cut.
     pub fn new(alloc: Global) -> Setting {
         Setting {
             alloc,
             files: Vec::new(alloc),
+            links: Vec::new(alloc),
+            moments: Vec::new(alloc),
+            in_link: false,
             fails: Vec::new(alloc),
             most: Vec::new(alloc),
             room: ROOM,
         }
     }
 
-    /// The same files and calls, for one run.
+    /// The same files, links, moments and calls, for one run.
     pub fn copy(&self) -> Result<Setting, AllocError> {
         Ok(Setting {
             alloc: self.alloc,
             files: copy_files(self.alloc, &self.files)?,
+            links: copy_links(self.alloc, &self.links)?,
+            moments: Vec::from_slice(self.alloc, &self.moments)?,
+            in_link: self.in_link,
             fails: Vec::from_slice(self.alloc, &self.fails)?,
             most: Vec::from_slice(self.alloc, &self.most)?,
             room: self.room,
@@ -105,8 +146,10 @@ impl Setting {
         self.alloc
     }
 
-    /// Lets the calls of the next run go well, over the same files.
+    /// Lets the calls of the next run go well, over the same files and no link.
     pub fn calm(&mut self) {
+        self.links.clear();
+        self.moments.clear();
         self.fails.clear();
         self.most.clear();
         self.room = ROOM;
@@ -117,6 +160,15 @@ impl Setting {
         self.files.retain(|file| file.name.as_str() != name);
         let name = String::from_str(self.alloc, name)?;
         self.files.push(CaseFile { name, bytes })?;
+        self.in_link = false;
+        Ok(())
+    }
+
+    // Begins a link to come, with these bytes.
+    fn begin_link(&mut self, digits: &str) -> Result<(), CaseFault> {
+        let bytes = bytes_of(self.alloc, digits)?;
+        self.links.push(bytes)?;
+        self.in_link = true;
         Ok(())
     }
 
@@ -127,29 +179,41 @@ impl Setting {
         Some(file.bytes.as_slice())
     }
 
-    /// Takes a line that says how the file that was begun last goes on.
-    pub fn take_content(&mut self, word: &str, rest: &str) -> Result<(), CaseFault> {
-        let alloc = self.alloc;
-        let Some(file) = self.files.last_mut() else {
-            return Err(CaseFault::NoFile);
+    /// Refuses a file that isn't the text that has the protocol's declarations.
+    pub fn check_profile(&self, name: &str) -> Result<(), CaseFault> {
+        let Some(bytes) = self.file(name) else {
+            return Err(CaseFault::NoName);
         };
-        match word {
-            "text" => Ok(file.bytes.extend_from_slice(rest.as_bytes())?),
-            "line" => Ok(put_line(&mut file.bytes, rest)?),
-            "repeat" => put_often(&mut file.bytes, rest),
-            "pad" => pad(alloc, &mut file.bytes, rest),
-            "chop" => chop(&mut file.bytes, rest),
-            "hex" => {
-                let bytes = bytes_of(alloc, rest)?;
-                Ok(file.bytes.extend_from_slice(&bytes)?)
-            }
-            _ => Err(CaseFault::NoWord),
+        if bytes == PROFILE_TEXT.as_bytes() {
+            Ok(())
+        } else {
+            Err(CaseFault::NoProfile)
         }
     }
 
-    /// Takes a line that says how calls of the next run go.
+    /// Takes a line that says how the file or link that was begun last goes on.
+    pub fn take_content(&mut self, word: &str, rest: &str) -> Result<(), CaseFault> {
+        let alloc = self.alloc;
+        if self.in_link {
+            return match self.links.last_mut() {
+                Some(bytes) => put_content(alloc, bytes, word, rest),
+                None => Err(CaseFault::NoFile),
+            };
+        }
+        match self.files.last_mut() {
+            Some(file) => put_content(alloc, &mut file.bytes, word, rest),
+            None => Err(CaseFault::NoFile),
+        }
+    }
+
+    /// Takes a line that says what the next run finds beside files, and how its calls go.
     pub fn take_call(&mut self, word: &str, rest: &str) -> Result<(), CaseFault> {
         match word {
+            "link" => self.begin_link(rest),
+            "moments" => {
+                self.moments = moments_of(self.alloc, rest)?;
+                Ok(())
+            }
             "fails" => Ok(self.fails.push(numbered_call(rest)?)?),
             "room" => {
                 self.room = number_of(rest)?;
@@ -172,10 +236,34 @@ impl Setting {
         most
     }
 
+    // The bytes of all links, and one more for the end of each.
+    fn linked(&self) -> usize {
+        let mut all = self.links.len();
+        for link in self.links.iter() {
+            all = all.saturating_add(link.len());
+        }
+        all
+    }
+
     fn put_files(&self, host: &mut MemHost) -> Result<(), AllocError> {
         for file in self.files.iter() {
             let bytes = Bytes::from_slice(self.alloc, &file.bytes)?;
             host.file(self.alloc, file.name.as_str(), bytes)?;
+        }
+        Ok(())
+    }
+
+    fn put_links(&self, host: &mut MemHost) -> Result<(), AllocError> {
+        for link in self.links.iter() {
+            let bytes = Bytes::from_slice(self.alloc, link)?;
+            host.link(self.alloc, bytes)?;
+        }
+        Ok(())
+    }
+
+    fn put_moments(&self, host: &mut MemHost) -> Result<(), AllocError> {
+        for moment in self.moments.iter() {
+            host.moment(moment.seconds)?;
         }
         Ok(())
     }
@@ -187,7 +275,7 @@ impl Setting {
         Ok(())
     }
 
-    // Says of each read of a file up to its end how many bytes it gives at most.
+    // Says of each read of a file or link up to its end how many bytes it gives at most.
     fn put_cuts(&self, host: &mut MemHost) -> Result<(), AllocError> {
         let Some(last) = self.most.last() else {
             return Ok(());
@@ -195,7 +283,7 @@ impl Setting {
         for most in self.most.iter() {
             host.cut(*most)?;
         }
-        for _ in 0..self.longest() {
+        for _ in 0..self.longest().max(self.linked()) {
             host.cut(*last)?;
         }
         Ok(())
@@ -205,6 +293,8 @@ impl Setting {
     pub fn host(&self) -> Result<MemHost, AllocError> {
         let mut host = MemHost::new(self.alloc, self.room)?;
         self.put_files(&mut host)?;
+        self.put_links(&mut host)?;
+        self.put_moments(&mut host)?;
         self.put_fails(&mut host)?;
         self.put_cuts(&mut host)?;
         Ok(host)

@@ -1,4 +1,6 @@
-//! The parts of a line: words, numbers, bytes, calls.
+//! The parts of a line: words, numbers, moments, bytes, calls.
+ghost use Rattle.std.specs.Prelude.{◌<◌, ◌^◌};
+
 use crate::fault::CaseFault;
 use std::alloc::{AllocError, Global};
 use tl_base::{HostCall, Out, Slot};
@@ -26,6 +28,32 @@ pub fn numbers_of(alloc: Global, text: &str) -> Result<Vec<u32>, CaseFault> {
         numbers.push(number_of(word)?)?;
     }
     Ok(numbers)
+}
+
+/// A moment that a host may tell.
+#[derive(Clone, Copy)]
+pub struct Moment {
+    pub seconds: u32,
+    ghost fits: { seconds < 2 ^ 31 },
+}
+
+// The moment that a text spells.
+fn moment_of(text: &str) -> Result<Moment, CaseFault> {
+    let seconds = number_of(text)?;
+    if seconds < 1 << 31 {
+        Ok(Moment { seconds })
+    } else {
+        Err(CaseFault::NoMoment)
+    }
+}
+
+/// The moments that a text spells, with one space between two.
+pub fn moments_of(alloc: Global, text: &str) -> Result<Vec<Moment>, CaseFault> {
+    let mut moments = Vec::new(alloc);
+    for word in text.split(' ') {
+        moments.push(moment_of(word)?)?;
+    }
+    Ok(moments)
 }
 
 /// The bytes of hexadecimal digits in groups, with one space between two.
@@ -118,8 +146,16 @@ fn call_of(text: &str) -> Result<HostCall, CaseFault> {
         "open" => Ok(HostCall::Open),
         "read schema" => Ok(HostCall::Read { slot: Slot::Schema }),
         "read input" => Ok(HostCall::Read { slot: Slot::Input }),
+        "read state" => Ok(HostCall::Read { slot: Slot::State }),
+        "read link" => Ok(HostCall::Read { slot: Slot::Link }),
+        "create" => Ok(HostCall::Create),
         "write output" => Ok(HostCall::Write { out: Out::Output }),
         "write errors" => Ok(HostCall::Write { out: Out::Errors }),
+        "write state" => Ok(HostCall::Write { out: Out::State }),
+        "write link" => Ok(HostCall::Write { out: Out::Link }),
+        "listen" => Ok(HostCall::Listen),
+        "connect" => Ok(HostCall::Connect),
+        "accept" => Ok(HostCall::Accept),
         _ => Err(CaseFault::NoCall),
     }
 }
