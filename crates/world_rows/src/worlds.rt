@@ -16,7 +16,6 @@ use update_world::{Outcome, StepFault, World};
 use wire_profile::Profile;
 
 /// A world of so many clients, by a schema that is a profile.
-#[tactic(auto, using(crate::proofs::NewWorlds::is_new))]
 pub fn new_world<'s>(alloc: Global, schema: &'s Schema, clients: u32) -> Result<World<'s>, RowFault>
     ensures { IfOk result IsNew }
 {
