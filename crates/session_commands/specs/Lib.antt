@@ -1,4 +1,5 @@
 pub mod Linked
 pub mod Lines
 pub mod Post
+pub mod Serve
 pub mod inner
