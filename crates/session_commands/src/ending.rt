@@ -56,19 +56,18 @@ pub fn tell_end<H: Host>(
 }
 
 // Tells of a session without a fault on Output.
-fn tell_frames<H: Host>(
-    alloc: Global,
-    host: &mut H,
-    session: u32,
-    frames: u64,
-) -> Result<(), Stop>
+fn tell_frames<H: Host>(alloc: Global, host: &mut H, session: u32, frames: u64) -> Result<(), Stop>
     ensures writes { Told (H.state host.old).view (H.state host.new).view (WritesLine (session_line session frames) result) }
     ensures stops { IsTellingStop result }
     ensures faults { MeetsFaults kinds.Writes (H.state host.old) (H.state host.new) (IsErrOf result Stop.WriteFault) (HasRoom outs.Output (length (session_line session frames))) }
 {
-    let line = session_line(alloc, session, frames)?;
-    write_out(host, Out::Output, &line)?;
-    Ok(())
+    match session_line(alloc, session, frames) {
+        Ok(line) => {
+            write_out(host, Out::Output, &line)?;
+            Ok(())
+        }
+        Err(_) => Err(Stop::Memory),
+    }
 }
 
 // The line of a session without a fault.

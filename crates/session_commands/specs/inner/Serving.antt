@@ -1,5 +1,5 @@
 -- What the parts of `serve` do. This project's own.
-use Rattle.std.specs.Prelude.{◌≡◌, ◌⊎◌, ℕ, ◌+◌, ◌<◌, ◌≤◌, List, [], ◌∷◌, ◌++◌, length, get_or, drop, Bool, true, false, Option, Some, None, Result, Ok, Err, IsErrOf, IsTrue, IsSome, IfSome}
+use Rattle.std.specs.Prelude.{◌≡◌, ◌⊎◌, ℕ, ◌+◌, ◌<◌, ◌≤◌, List, [], ◌∷◌, ◌++◌, length, get_or, drop, Bool, true, false, Option, Some, None, Result, Ok, Err, IsErrOf, IsTrue, IsSome, IfSome, OnOk}
 use Rattle.tl_base.specs.Calls.{link_taken}
 use Rattle.tl_base.specs.Causes.{Rose}
 use Rattle.tl_base.specs.Outside.{View, HostState, HasRoom, with_slot}
@@ -164,7 +164,7 @@ pub record MeetsNext (p : ProfileView) (k : ℕ) (s : ServerState) (before after
   pub write : IsErrOf result stop.WriteFault → Rose old.counts.writes new.counts.writes
   pub link : IsErrOf result stop.LinkFault → Rose old.counts.links new.counts.links
   pub torn : before.whole ≡ true → after.whole ≡ false → Rose old.counts.writes new.counts.writes
-  pub status : (after.status ≡ before.status) ⊎ IsSessionStatus (Rose old.counts.links new.counts.links) after.status
+  pub status : OnOk result ((after.status ≡ before.status) ⊎ IsSessionStatus (Rose old.counts.links new.counts.links) after.status)
   pub stops : MayStop result
   pub stays : IsSome old.view → IsTrue old.sound → IsTrue new.sound
   pub never : IfSome old.view (λ v. IsTrue old.sound → HasNextRoom p k s v → (IsErrOf result stop.WriteFault) ⊎ (IsErrOf result stop.LinkFault) → ⊥)

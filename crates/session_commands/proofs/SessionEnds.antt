@@ -1,0 +1,154 @@
+-- How the end of a session is told.
+use Rattle.std.proofs.Common.{◌≡◌, ◌⊎◌, ℕ, List, [], ◌++◌, append-nil, length, Bool, true, false, Option, Some, None, option_map, Result, Ok, Err, Vec, Global, codes, refl, sym, ap, ◌∙◌, subst, inl, inr}
+use Rattle.std.specs.Prelude.{IfOk, IsErrOf, IsErrAnd}
+use Rattle.std.specs.declared.alloc.AllocError.{AllocError}
+use Rattle.tl_base.specs.Calls.{Told}
+use Rattle.tl_base.specs.Hosted.{Puts}
+use Rattle.tl_base.specs.Outside.{View}
+use Rattle.tl_base.specs.declared.host.Out.TheVariants as outs
+use Rattle.tl_base.specs.declared.packet.PacketFault.{PacketFault}
+use Rattle.tl_base.specs.declared.packet.PacketFault.TheVariants as packets
+use Rattle.wire_checks.specs.declared.fault.WireFault.{WireFault}
+use Rattle.update_sessions.specs.declared.fault.SessionFault.{SessionFault}
+use Rattle.update_sessions.specs.declared.fault.SessionFault.TheVariants as fault
+use Rattle.command_base.specs.Answer.{link_fault_line}
+use Rattle.command_base.specs.Kept.{AddsPrefix}
+use Rattle.command_base.specs.Loading.{PeerAs, PeerBy}
+use Rattle.command_base.specs.declared.status.Status.{Status}
+use Rattle.command_base.specs.declared.status.Status.TheVariants as status
+use Rattle.command_base.specs.declared.stop.Stop.{Stop}
+use Rattle.command_base.specs.declared.stop.Stop.TheVariants as stop
+use Rattle.command_base.proofs.Views.{told_as}
+use Rattle.fault_lines.specs.Messages.{wire_line}
+use Rattle.fault_lines.specs.Packets.{TellsPacket}
+use Rattle.session_commands.specs.declared.ending.Tally.{Tally}
+use Rattle.session_commands.specs.Lines.{many_frames_line, session_line}
+use Rattle.session_commands.specs.Serve.{SessionEnd, served, peer_fault, link_fault, end_of, end_errors, end_output, end_status, first_fault}
+use Rattle.session_commands.specs.inner.Serving.{GoesOn, IsTellingStop, Tallies, TellsEnd, TellsFault, TellsLineOn, WritesLine, with_told}
+
+-- ---- the stop of a session's fault
+
+pub wire_told : (f : WireFault) (line : Result (Vec ℕ Global) AllocError) (s : Stop) → IfOk line (λ l. wire_line (codes "peer") f ≡ Some l.items) → PeerBy line s → TellsFault (fault.Wire f) s
+wire_told f (Ok line) s is by = subst (TellsFault (fault.Wire f)) (sym by) (ap (option_map (λ l. peer_fault l)) is)
+wire_told f (Err e) s is by = subst (TellsFault (fault.Wire f)) (sym by) tt
+
+pub many_told : (line : Result (Vec ℕ Global) AllocError) (s : Stop) → IfOk line (λ l. l.items ≡ many_frames_line) → PeerBy line s → TellsFault fault.TooManyFrames s
+many_told (Ok line) s is by = subst (TellsFault fault.TooManyFrames) (sym by) (ap (λ (l : List ℕ). Some (peer_fault l)) (sym is))
+many_told (Err e) s is by = subst (TellsFault fault.TooManyFrames) (sym by) tt
+
+pub length_told : (n : ℕ) (s : Stop) → TellsPacket (packets.BadLength n) s → TellsFault (fault.Packet (packets.BadLength n)) s
+length_told n (stop.Peer line) tells = ap (λ (l : List ℕ). Some (peer_fault l)) (sym tells)
+length_told n stop.Memory tells = tt
+length_told n (stop.Refused line) tells = absurd tells
+length_told n stop.ReadFault tells = absurd tells
+length_told n stop.WriteFault tells = absurd tells
+length_told n stop.LinkFault tells = absurd tells
+
+pub ended_told : (n : ℕ) (s : Stop) → TellsPacket (packets.Ended n) s → TellsFault (fault.Packet (packets.Ended n)) s
+ended_told n (stop.Peer line) tells = ap (λ (l : List ℕ). Some (peer_fault l)) (sym tells)
+ended_told n stop.Memory tells = tt
+ended_told n (stop.Refused line) tells = absurd tells
+ended_told n stop.ReadFault tells = absurd tells
+ended_told n stop.WriteFault tells = absurd tells
+ended_told n stop.LinkFault tells = absurd tells
+
+-- ---- a line on Output
+
+stop_is : (r : Result (Unit {0}) Stop) (e : Stop) → IsErrAnd r (λ z. z ≡ e) → r ≡ Err e
+stop_is (Ok tt) e is = absurd is
+stop_is (Err z) e is = ap Err is
+
+-- it was written
+pub line_written : (E : Type 0) (line : List ℕ) (v w : View) → Puts {E = E} outs.Output line (Ok tt) v w → WritesLine line (Ok tt) v w
+line_written E line v w put = put
+
+-- a prefix of it was
+pub line_cut : (E : Type 0) (e : E) (line : List ℕ) (r : Result (Unit {0}) Stop) (v w : View) → IsErrAnd r (λ z. z ≡ stop.WriteFault) → Puts {E = E} outs.Output line (Err e) v w → WritesLine line r v w
+line_cut E e line r v w is put = subst (λ (x : Result (Unit {0}) Stop). WritesLine line x v w) (sym (stop_is r stop.WriteFault is)) put
+
+pub cut_stops : (r : Result (Unit {0}) Stop) → IsErrAnd r (λ z. z ≡ stop.WriteFault) → IsTellingStop r
+cut_stops r is = subst IsTellingStop (sym (stop_is r stop.WriteFault is)) tt
+
+-- ---- the end of a session without a fault
+
+same_errors : (line : List ℕ) (v w : View) → w ≡ with_told line v.written.errors v → w ≡ with_told line w.written.errors v
+same_errors line v w is = is ∙ ap (λ (x : List ℕ). with_told line x v) (sym (ap (λ (x : View). x.written.errors) is))
+
+goes_none : (b : Bool) (old new : List ℕ) → new ≡ old → GoesOn b b old new []
+goes_none true old new is = is ∙ sym (append-nil old)
+goes_none false old new is = is
+
+module _ (k n : ℕ) (tally : Tally) where
+  frames_so : (r : Result (Unit {0}) Stop) (v w : View) → WritesLine (session_line k n) r v w → TellsEnd k (Ok n) tally tally r v w
+  frames_so (Ok tt) v w is = (served n, refl, same_errors (session_line k n) v w is, goes_none tally.whole v.written.errors w.written.errors (ap (λ (x : View). x.written.errors) is))
+  frames_so (Err stop.WriteFault) v w (prefix, rest, split, is) = (n, prefix, rest, refl, split, is)
+  frames_so (Err stop.Memory) v w is = is
+  frames_so (Err stop.LinkFault) v w is = is
+  frames_so (Err stop.ReadFault) v w is = is
+  frames_so (Err (stop.Refused line)) v w is = is
+  frames_so (Err (stop.Peer line)) v w is = is
+
+  pub frames_told : (r : Result (Unit {0}) Stop) (a b : Option View) → Told a b (WritesLine (session_line k n) r) → Told a b (TellsEnd k (Ok n) tally tally r)
+  frames_told r a b h = told_as a b (WritesLine (session_line k n) r) (TellsEnd k (Ok n) tally tally r) (frames_so r) h
+
+  first_done : (s : Status) → first_fault s status.Done ≡ s
+  first_done status.Done = refl
+  first_done status.Refused = refl
+  first_done status.Usage = refl
+  first_done status.ReadFault = refl
+  first_done status.WriteFault = refl
+  first_done status.Memory = refl
+  first_done status.LinkFault = refl
+  first_done status.PeerFault = refl
+
+  pub frames_tally : (r : Result (Unit {0}) Stop) → IsTellingStop r → Tallies (Ok n) tally tally r
+  frames_tally (Ok tt) stops = (served n, refl, sym (first_done tally.status))
+  frames_tally (Err stop.WriteFault) stops = (n, refl)
+  frames_tally (Err stop.Memory) stops = tt
+  frames_tally (Err stop.LinkFault) stops = stops
+  frames_tally (Err stop.ReadFault) stops = stops
+  frames_tally (Err (stop.Refused line)) stops = stops
+  frames_tally (Err (stop.Peer line)) stops = stops
+
+-- ---- the end of a session with one
+
+module _ (k : ℕ) (f : SessionFault) (e : SessionEnd) (is : end_of (Err f) ≡ Some e) (before after : Tally) where
+  pub fault_tally : after.status ≡ first_fault before.status (end_status e) → Tallies (Err f) before after (Ok tt)
+  fault_tally same = (e, is, same)
+
+  fault_so : end_output k e ≡ [] → (v w : View) → TellsLineOn before.whole after.whole (end_errors e) v w → TellsEnd k (Err f) before after (Ok tt) v w
+  fault_so none v w h = (e, is, h.view ∙ ap (λ (x : List ℕ). with_told x w.written.errors v) (sym none), h.lines)
+
+  pub fault_told : end_output k e ≡ [] → (a b : Option View) → Told a b (TellsLineOn before.whole after.whole (end_errors e)) → Told a b (TellsEnd k (Err f) before after (Ok tt))
+  fault_told none a b h = told_as a b (TellsLineOn before.whole after.whole (end_errors e)) (TellsEnd k (Err f) before after (Ok tt)) (fault_so none) h
+
+-- ---- a line on Errors
+
+same_output : (errors : List ℕ) (v w : View) → w ≡ with_told [] errors v → w ≡ with_told [] w.written.errors v
+same_output errors v w is = is ∙ ap (λ (x : List ℕ). with_told [] x v) (sym (ap (λ (x : View). x.written.errors) is))
+
+errors_so : (errors : List ℕ) (v : View) → with_told [] errors v ≡ record v { written = record v.written { errors = errors } }
+errors_so errors v = ap (λ (x : List ℕ). record v { written = record v.written { output = x; errors = errors } }) (append-nil v.written.output)
+
+written_so : (E : Type 0) (line : List ℕ) (v w : View) → Puts {E = E} outs.Errors line (Ok tt) v w → TellsLineOn true true line v w
+written_so E line v w put = record { view = same_output _ v w (put ∙ sym (errors_so (v.written.errors ++ line) v)); lines = ap (λ (x : View). x.written.errors) put }
+
+pub errors_written : (E : Type 0) (line : List ℕ) (before after : Bool) → before ≡ true → after ≡ true → (a b : Option View) → Told a b (Puts {E = E} outs.Errors line (Ok tt)) → Told a b (TellsLineOn before after line)
+errors_written E line before after x y a b h =
+    subst (λ (z : Bool). Told a b (TellsLineOn z after line)) (sym x) (subst (λ (z : Bool). Told a b (TellsLineOn true z line)) (sym y) (told_as a b (Puts {E = E} outs.Errors line (Ok tt)) (TellsLineOn true true line) (written_so E line) h))
+
+torn_so : (E : Type 0) (e : E) (line : List ℕ) (v w : View) → Puts {E = E} outs.Errors line (Err e) v w → TellsLineOn true false line v w
+torn_so E e line v w (prefix, rest, split, put) =
+    record { view = same_output _ v w (put ∙ sym (errors_so (v.written.errors ++ prefix) v)); lines = (prefix, rest, split, ap (λ (x : View). x.written.errors) put) }
+
+pub errors_torn : (E : Type 0) (e : E) (line : List ℕ) (before after : Bool) → before ≡ true → after ≡ false → (a b : Option View) → Told a b (Puts {E = E} outs.Errors line (Err e)) → Told a b (TellsLineOn before after line)
+errors_torn E e line before after x y a b h =
+    subst (λ (z : Bool). Told a b (TellsLineOn z after line)) (sym x) (subst (λ (z : Bool). Told a b (TellsLineOn true z line)) (sym y) (told_as a b (Puts {E = E} outs.Errors line (Err e)) (TellsLineOn true false line) (torn_so E e line) h))
+
+-- nothing is told any more
+still : (line : List ℕ) (v : View) → TellsLineOn false false line v v
+still line v = record { view = sym (errors_so v.written.errors v); lines = refl }
+
+pub errors_still : (line : List ℕ) (before after : Bool) → before ≡ false → after ≡ false → (a : Option View) → Told a a (TellsLineOn before after line)
+errors_still line before after x y None = tt
+errors_still line before after x y (Some v) = subst (λ (z : Bool). TellsLineOn z after line v v) (sym x) (subst (λ (z : Bool). TellsLineOn false z line v v) (sym y) (still line v))
