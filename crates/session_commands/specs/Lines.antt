@@ -20,10 +20,6 @@ wrong_reply_line = unplaced_line (codes "peer") (codes "WrongReply")
 abbrev pub long_call_line : ℕ → List ℕ
 long_call_line length = unplaced_line (codes "input") (codes "TooLong " ++ decimal length)
 
--- of a session of a server in which as many frames came as it takes
-abbrev pub many_frames_line : List ℕ
-many_frames_line = unplaced_line (codes "peer") (codes "TooManyFrames")
-
--- of a session that was served, by the number of its connection and of its frames
-abbrev pub session_line : ℕ → ℕ → List ℕ
-session_line session frames = (((codes "session " ++ decimal session) ++ codes " frames ") ++ decimal frames) ++ codes "\n"
+-- of a session that was served without a fault, by the number of its connection and of its frames
+abbrev pub served_line : ℕ → ℕ → List ℕ
+served_line session frames = (((codes "session " ++ decimal session) ++ codes " frames ") ++ decimal frames) ++ codes "\n"

@@ -13,11 +13,11 @@ use Rattle.command_base.specs.Answer.{Answer, link_fault_line}
 use Rattle.command_base.specs.Jobs.{Job}
 use Rattle.command_base.specs.declared.status.Status.{Status}
 use Rattle.command_base.specs.declared.status.Status.TheVariants.{Done, PeerFault, LinkFault}
-use Rattle.fault_lines.specs.Messages.{wire_line}
 use Rattle.fault_lines.specs.Profiled.{OfProfileText, HasProfile}
 use Rattle.session_commands.specs.Linked.{LeavesLinks}
-use Rattle.session_commands.specs.Lines.{packet_line, session_line, many_frames_line}
-use Rattle.session_commands.specs.Post.{IsFile, IsWordLong}
+use Rattle.session_commands.specs.Lines.{served_line}
+use Rattle.session_commands.specs.SessionEnds.{IsShort, session_line}
+use Rattle.session_commands.specs.Post.{IsFile}
 
 -- ---- one session
 
@@ -30,25 +30,20 @@ pub data SessionEnd : Type 0 where
 -- a session's end by what was answered of it; memory that ran out is none
 abbrev pub end_of : Result ℕ SessionFault → Option SessionEnd
 end_of (Ok n) = Some (served n)
-end_of (Err (fault.Packet f)) = option_map (λ line. peer_fault line) (packet_line f)
-end_of (Err (fault.Wire f)) = option_map (λ line. peer_fault line) (wire_line (codes "peer") f)
-end_of (Err (fault.Client f)) = None
-end_of (Err fault.TooManyFrames) = Some (peer_fault many_frames_line)
 end_of (Err fault.LinkFault) = Some link_fault
-end_of (Err fault.Memory) = None
+end_of (Err f) = option_map (λ line. peer_fault line) (session_line f)
 
 -- a length that no packet has is one of four bytes
-abbrev pub HasWordLong : Result ℕ SessionFault → Type 0
-HasWordLong (Ok n) = Unit {0}
-HasWordLong (Err (fault.Packet f)) = IsWordLong f
-HasWordLong (Err f) = Unit {0}
+abbrev pub IsShortEnd : Result ℕ SessionFault → Type 0
+IsShortEnd (Ok n) = Unit {0}
+IsShortEnd (Err f) = IsShort f
 
 -- a session at a moment over a link that gives these bytes: what was sent, the server after it, and how it ended
 pub record Session (p : ProfileView) (s : ServerState) (now : ℕ) (bytes out : List ℕ) (t : ServerState) (e : SessionEnd) : Type 0 where
   pub answer : Result ℕ SessionFault
   pub calls : List Numbered
   pub serves : Serves p (dated_at s now) bytes out t answer calls
-  pub word : HasWordLong answer
+  pub word : IsShortEnd answer
   pub ended : end_of answer ≡ Some e
 
 -- the session's link did not fail
@@ -64,7 +59,7 @@ IsAny e = Unit {0}
 
 -- on Output, by the number of its connection
 abbrev pub end_output : ℕ → SessionEnd → List ℕ
-end_output k (served n) = session_line k n
+end_output k (served n) = served_line k n
 end_output k (peer_fault line) = []
 end_output k link_fault = []
 

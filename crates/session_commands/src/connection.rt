@@ -13,7 +13,7 @@ ghost use Rattle.session_commands.specs.Linked.{HasLinkRoom, OverHost};
 ghost use Rattle.session_commands.specs.Serve.{KeepsServing};
 ghost use Rattle.session_commands.specs.inner.Serving.{MeetsNext, ServesNext, TakesNext};
 
-use crate::ending::{Tally, tell_end};
+use crate::telling::{Tally, tell_end};
 use box_server::Server;
 use command_base::Stop;
 use std::alloc::Global;

@@ -9,6 +9,7 @@ mod post;
 mod reply;
 mod sending;
 mod serve;
+mod telling;
 
 pub use laws::post_has_one_answer;
 pub use post::post_call;

@@ -9,7 +9,7 @@ ghost use Rattle.session_commands.specs.Serve.{KeepsServing, serve_job};
 ghost use Rattle.session_commands.specs.inner.Serving.{sessions_job};
 
 use crate::connection::serve_next;
-use crate::ending::Tally;
+use crate::telling::Tally;
 use box_server::Server;
 use command_base::{Status, Stop};
 use fault_lines::profile_of;

@@ -1,21 +1,19 @@
 //! How a session ended is told: a line on Output or on Errors.
-ghost use Rattle.std.specs.Prelude.{◌≡◌, Err, IfOk, IsErrOf, length, true, false};
+ghost use Rattle.std.specs.Prelude.{◌≡◌, IfOk, IsErrOf, length, true, false};
 ghost use Rattle.tl_base.specs.Calls.{Told};
 ghost use Rattle.tl_base.specs.Causes.{Rose};
 ghost use Rattle.tl_base.specs.Outside.{HasRoom};
 ghost use Rattle.tl_base.specs.Using.{MeetsFaults};
 ghost use Rattle.tl_base.specs.declared.counts.Kind.TheVariants as kinds;
 ghost use Rattle.tl_base.specs.declared.host.Out.TheVariants as outs;
-ghost use Rattle.update_sessions.specs.declared.fault.SessionFault.TheVariants.{Packet};
-ghost use Rattle.session_commands.specs.Lines.{session_line};
-ghost use Rattle.session_commands.specs.Post.{IsWordLong};
-ghost use Rattle.session_commands.specs.Serve.{HasWordLong, first_fault};
-ghost use Rattle.session_commands.specs.inner.Serving.{HasEndRoom, IsTellingStop, Tallies, TellsEnd, TellsFault, TellsLineOn, WritesLine};
+ghost use Rattle.session_commands.specs.Lines.{served_line};
+ghost use Rattle.session_commands.specs.Serve.{IsShortEnd, first_fault};
+ghost use Rattle.session_commands.specs.inner.Serving.{HasEndRoom, IsTellingStop, Tallies, TellsEnd, TellsLineOn, WritesLine};
 
-use command_base::{Status, Stop, unplaced_line};
-use fault_lines::{packet_stop, wire_line};
+use crate::ending::session_stop;
+use command_base::{Status, Stop};
 use std::alloc::{AllocError, Global};
-use tl_base::{Host, Out, PacketFault, write_out};
+use tl_base::{Host, Out, write_out};
 use update_sessions::SessionFault;
 
 /// What sessions came to so far: the status of the first fault, and whether each line stands whole on Errors.
@@ -33,7 +31,7 @@ pub fn tell_end<H: Host>(
     end: Result<u64, SessionFault>,
     tally: &mut Tally,
 ) -> Result<(), Stop>
-    ensures word { HasWordLong end }
+    ensures word { IsShortEnd end }
     ensures tallies { Tallies end tally.old tally.new result }
     ensures tells { Told (H.state host.old).view (H.state host.new).view (TellsEnd session end tally.old tally.new result) }
     ensures torn { tally.old.whole ≡ true → tally.new.whole ≡ false → Rose (H.state host.old).counts.writes (H.state host.new).counts.writes }
@@ -57,11 +55,11 @@ pub fn tell_end<H: Host>(
 
 // Tells of a session without a fault on Output.
 fn tell_frames<H: Host>(alloc: Global, host: &mut H, session: u32, frames: u64) -> Result<(), Stop>
-    ensures writes { Told (H.state host.old).view (H.state host.new).view (WritesLine (session_line session frames) result) }
+    ensures writes { Told (H.state host.old).view (H.state host.new).view (WritesLine (served_line session frames) result) }
     ensures stops { IsTellingStop result }
-    ensures faults { MeetsFaults kinds.Writes (H.state host.old) (H.state host.new) (IsErrOf result Stop.WriteFault) (HasRoom outs.Output (length (session_line session frames))) }
+    ensures faults { MeetsFaults kinds.Writes (H.state host.old) (H.state host.new) (IsErrOf result Stop.WriteFault) (HasRoom outs.Output (length (served_line session frames))) }
 {
-    match session_line(alloc, session, frames) {
+    match served_line(alloc, session, frames) {
         Ok(line) => {
             write_out(host, Out::Output, &line)?;
             Ok(())
@@ -71,8 +69,8 @@ fn tell_frames<H: Host>(alloc: Global, host: &mut H, session: u32, frames: u64) 
 }
 
 // The line of a session without a fault.
-fn session_line(alloc: Global, session: u32, frames: u64) -> Result<Vec<u8>, AllocError>
-    ensures { IfOk result (λ line. line.items ≡ session_line session frames) }
+fn served_line(alloc: Global, session: u32, frames: u64) -> Result<Vec<u8>, AllocError>
+    ensures { IfOk result (λ line. line.items ≡ served_line session frames) }
 {
     let line = format!(in alloc; "session {session} frames {frames}\n")?;
     Ok(line.into_bytes())
@@ -101,34 +99,5 @@ fn first_fault(before: Status, status: Status) -> Status
     match before {
         Status::Done => status,
         fault => fault,
-    }
-}
-
-// The stop of a session's fault.
-fn session_stop(alloc: Global, fault: SessionFault) -> Stop
-    ensures stop { TellsFault fault result }
-    ensures word { HasWordLong (Err fault) }
-{
-    match fault {
-        SessionFault::Packet(fault) => no_packet(alloc, fault),
-        SessionFault::Wire(fault) => Stop::of_peer(wire_line(alloc, "peer", fault)),
-        SessionFault::TooManyFrames => {
-            Stop::of_peer(unplaced_line(alloc, "peer", "TooManyFrames"))
-        }
-        SessionFault::LinkFault => Stop::LinkFault,
-        // A server has no client's faults.
-        SessionFault::Client(_) | SessionFault::Memory => Stop::Memory,
-    }
-}
-
-// The stop of bytes that begin with no packet; a session tells a failed read and out of memory by faults of its own.
-fn no_packet(alloc: Global, fault: PacketFault) -> Stop
-    ensures stop { TellsFault (Packet fault) result }
-    ensures word { IsWordLong fault }
-{
-    match fault {
-        PacketFault::BadLength { length } => packet_stop(alloc, PacketFault::BadLength { length }),
-        PacketFault::Ended { had } => packet_stop(alloc, PacketFault::Ended { had }),
-        PacketFault::ReadFault | PacketFault::Memory => Stop::Memory,
     }
 }

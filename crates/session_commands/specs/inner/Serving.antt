@@ -18,20 +18,13 @@ use Rattle.command_base.specs.declared.status.Status.{Status}
 use Rattle.command_base.specs.declared.status.Status.TheVariants.{Done, PeerFault, LinkFault}
 use Rattle.command_base.specs.declared.stop.Stop.{Stop}
 use Rattle.command_base.specs.declared.stop.Stop.TheVariants as stop
-use Rattle.session_commands.specs.declared.ending.Tally.{Tally}
+use Rattle.session_commands.specs.declared.telling.Tally.{Tally}
 use Rattle.session_commands.specs.Linked.{next_link}
-use Rattle.session_commands.specs.Lines.{session_line}
-use Rattle.session_commands.specs.Serve.{SessionEnd, served, peer_fault, link_fault, Session, IsWhole, IsAny, end_of, end_output, end_errors, end_status, first_fault, OfSessions}
+use Rattle.session_commands.specs.Lines.{served_line}
+use Rattle.session_commands.specs.Serve.{SessionEnd, served, Session, IsWhole, IsAny, end_of, end_output, end_errors, end_status, first_fault, OfSessions}
 use Rattle.session_commands.specs.inner.Posting.{keeps_all}
 
 -- ---- a session's end is told
-
--- the stop tells a session's fault, or that memory ran out
-abbrev pub TellsFault : SessionFault → Stop → Type 0
-TellsFault f (stop.Peer line) = end_of (Err f) ≡ Some (peer_fault line.items)
-TellsFault f stop.LinkFault = end_of (Err f) ≡ Some link_fault
-TellsFault f stop.Memory = Unit {0}
-TellsFault f s = ⊥
 
 -- What stands on Errors after one line more: the line, where all before it stand there whole, or a prefix of it where its writing failed; after that
 -- no more.
@@ -74,13 +67,13 @@ Tallies r before after (Err e) = ⊥
 -- the end of the session with the number k is told, or as much of it as was written
 abbrev pub TellsEnd : ℕ → Result ℕ SessionFault → Tally → Tally → Result (Unit {0}) Stop → View → View → Type 0
 TellsEnd k r before after (Ok u) v w = (e : SessionEnd) × (end_of r ≡ Some e) × (w ≡ with_told (end_output k e) w.written.errors v) × GoesOn before.whole after.whole v.written.errors w.written.errors (end_errors e)
-TellsEnd k r before after (Err stop.WriteFault) v w = (n : ℕ) × (prefix : List ℕ) × (rest : List ℕ) × (r ≡ Ok n) × (prefix ++ rest ≡ session_line k n) × (w ≡ with_told prefix v.written.errors v)
+TellsEnd k r before after (Err stop.WriteFault) v w = (n : ℕ) × (prefix : List ℕ) × (rest : List ℕ) × (r ≡ Ok n) × (prefix ++ rest ≡ served_line k n) × (w ≡ with_told prefix v.written.errors v)
 TellsEnd k r before after (Err stop.Memory) v w = w ≡ v
 TellsEnd k r before after (Err e) v w = ⊥
 
 -- there is room on Output for what is told there
 abbrev pub HasEndRoom : ℕ → Result ℕ SessionFault → View → Type 0
-HasEndRoom k (Ok n) v = HasRoom Output (length (session_line k n)) v
+HasEndRoom k (Ok n) v = HasRoom Output (length (served_line k n)) v
 HasEndRoom k (Err f) v = Unit {0}
 
 -- ---- a connection
@@ -131,7 +124,7 @@ pub record NextUntold (p : ProfileView) (k : ℕ) (s : ServerState) (v w : View)
   pub sent : List ℕ
   pub server : ServerState
   pub session : Session p s (next_moment v) (next_link v) sent server (served frames)
-  pub output : AddsPrefix v.written.output w.written.output (session_line k frames)
+  pub output : AddsPrefix v.written.output w.written.output (served_line k frames)
   pub errors : w.written.errors ≡ v.written.errors
 
 abbrev pub ServesNext : Type 0 → Type 0 → ProfileView → ℕ → ServerState → ServerState → Tally → Tally → Result (Unit {0}) Stop → View → View → Type 0
