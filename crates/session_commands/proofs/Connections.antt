@@ -23,11 +23,12 @@ use Rattle.command_base.specs.declared.stop.Stop.{Stop}
 use Rattle.command_base.specs.declared.stop.Stop.TheVariants as stop
 use Rattle.command_base.proofs.Faults.{NeverFails, fails_as, safe, stays_sound, then_fails}
 use Rattle.command_base.proofs.Views.{told_as, told_then}
-use Rattle.session_commands.specs.declared.ending.Tally.{Tally}
+use Rattle.session_commands.specs.declared.telling.Tally.{Tally}
 use Rattle.session_commands.specs.Linked.{HasLinkRoom, OverHost, next_link, with_link}
+use Rattle.fault_lines.specs.Answers.{answer_line}
 use Rattle.fault_lines.specs.Messages.{wire_line}
-use Rattle.session_commands.specs.Lines.{packet_line, session_line}
-use Rattle.session_commands.specs.Serve.{SessionEnd, served, peer_fault, link_fault, HasWordLong, IsWhole, KeepsServing, Session, end_errors, end_of, end_output, end_status, first_fault}
+use Rattle.session_commands.specs.Lines.{packet_line, served_line}
+use Rattle.session_commands.specs.Serve.{SessionEnd, served, peer_fault, link_fault, IsShortEnd, IsWhole, KeepsServing, Session, end_errors, end_of, end_output, end_status, first_fault}
 use Rattle.session_commands.specs.inner.Serving.{GoesOn, HasEndRoom, HasNextRoom, HasSessionRoom, IsSessionStatus, MayStop, MeetsNext, NextServed, NextUntold, ServesNext, TakesNext, Tallies, TellsEnd, next_moment, next_taken, session_view, with_told}
 use Rattle.session_commands.proofs.HostLinks.{link_used, none_written}
 use Rattle.session_commands.proofs.Sent.{told_with}
@@ -62,7 +63,7 @@ failed_end : (r : Result ℕ SessionFault) → end_of r ≡ Some link_fault → 
 failed_end (Ok n) is = absurd cc
 failed_end (Err (fault.Packet f)) is = absurd (packet_end (packet_line f) is)
 failed_end (Err (fault.Wire f)) is = absurd (packet_end (wire_line (codes "peer") f) is)
-failed_end (Err (fault.Client f)) is = absurd cc
+failed_end (Err (fault.Client f)) is = absurd (packet_end (answer_line f) is)
 failed_end (Err fault.TooManyFrames) is = absurd cc
 failed_end (Err fault.LinkFault) is = refl
 failed_end (Err fault.Memory) is = absurd cc
@@ -166,7 +167,7 @@ module _ (p : ProfileView) (s t : ServerState) (now : ℕ) (r : Result ℕ Sessi
 
   -- ---- its end is told
 
-  module _ (k : ℕ) (before after : Tally) (word : HasWordLong r) where
+  module _ (k : ℕ) (before after : Tally) (word : IsShortEnd r) where
     session_of : (v w : View) (e : SessionEnd) (h : Taken v w) → end_of r ≡ Some e → Session p s (next_moment v) (next_link v) h.out t e
     session_of v w e h is = record {
       answer = r;

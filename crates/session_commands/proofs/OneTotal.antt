@@ -11,7 +11,7 @@ use Rattle.command_base.specs.declared.status.Status.{Status}
 use Rattle.command_base.specs.declared.status.Status.TheVariants as status
 use Rattle.session_commands.specs.Serve.{SessionEnd, served, peer_fault, link_fault, Session, IsWhole, IsAny, end_output, end_status, first_fault, Total, Sessions, no_sessions, with_session}
 use Rattle.session_commands.specs.inner.Serving.{IsSessionStatus}
-use Rattle.session_commands.proofs.OneExchange.{one_session}
+use Rattle.session_commands.proofs.OneServed.{one_session}
 
 -- ---- bytes
 

@@ -1,56 +1,45 @@
--- How the end of a session is told.
+-- How the end of a session is told, from what its parts tell.
 use Rattle.std.proofs.Common.{◌≡◌, ◌⊎◌, ℕ, List, [], ◌++◌, append-nil, length, Bool, true, false, Option, Some, None, option_map, Result, Ok, Err, Vec, Global, codes, refl, sym, ap, ◌∙◌, subst, inl, inr}
 use Rattle.std.specs.Prelude.{IfOk, IsErrOf, IsErrAnd}
-use Rattle.std.specs.declared.alloc.AllocError.{AllocError}
 use Rattle.tl_base.specs.Calls.{Told}
 use Rattle.tl_base.specs.Hosted.{Puts}
 use Rattle.tl_base.specs.Outside.{View}
 use Rattle.tl_base.specs.declared.host.Out.TheVariants as outs
-use Rattle.tl_base.specs.declared.packet.PacketFault.{PacketFault}
-use Rattle.tl_base.specs.declared.packet.PacketFault.TheVariants as packets
-use Rattle.wire_checks.specs.declared.fault.WireFault.{WireFault}
 use Rattle.update_sessions.specs.declared.fault.SessionFault.{SessionFault}
 use Rattle.update_sessions.specs.declared.fault.SessionFault.TheVariants as fault
-use Rattle.command_base.specs.Answer.{link_fault_line}
-use Rattle.command_base.specs.Kept.{AddsPrefix}
-use Rattle.command_base.specs.Loading.{PeerAs, PeerBy}
 use Rattle.command_base.specs.declared.status.Status.{Status}
 use Rattle.command_base.specs.declared.status.Status.TheVariants as status
 use Rattle.command_base.specs.declared.stop.Stop.{Stop}
 use Rattle.command_base.specs.declared.stop.Stop.TheVariants as stop
 use Rattle.command_base.proofs.Views.{told_as}
 use Rattle.fault_lines.specs.Messages.{wire_line}
-use Rattle.fault_lines.specs.Packets.{TellsPacket}
-use Rattle.session_commands.specs.declared.ending.Tally.{Tally}
-use Rattle.session_commands.specs.Lines.{many_frames_line, session_line}
+use Rattle.fault_lines.specs.Answers.{answer_line}
+use Rattle.session_commands.specs.declared.telling.Tally.{Tally}
+use Rattle.session_commands.specs.Lines.{packet_line, served_line}
+use Rattle.session_commands.specs.SessionEnds.{TellsSession, many_frames_line}
 use Rattle.session_commands.specs.Serve.{SessionEnd, served, peer_fault, link_fault, end_of, end_errors, end_output, end_status, first_fault}
-use Rattle.session_commands.specs.inner.Serving.{GoesOn, IsTellingStop, Tallies, TellsEnd, TellsFault, TellsLineOn, WritesLine, with_told}
+use Rattle.session_commands.specs.inner.Serving.{GoesOn, IsTellingStop, Tallies, TellsEnd, TellsLineOn, WritesLine, with_told}
 
--- ---- the stop of a session's fault
+-- ---- the end that a stop tells
 
-pub wire_told : (f : WireFault) (line : Result (Vec ℕ Global) AllocError) (s : Stop) → IfOk line (λ l. wire_line (codes "peer") f ≡ Some l.items) → PeerBy line s → TellsFault (fault.Wire f) s
-wire_told f (Ok line) s is by = subst (TellsFault (fault.Wire f)) (sym by) (ap (option_map (λ l. peer_fault l)) is)
-wire_told f (Err e) s is by = subst (TellsFault (fault.Wire f)) (sym by) tt
+peer_so : (o : Option (List ℕ)) (line : List ℕ) → o ≡ Some line → option_map (λ l. peer_fault l) o ≡ Some (peer_fault line)
+peer_so o line is = ap (option_map (λ l. peer_fault l)) is
 
-pub many_told : (line : Result (Vec ℕ Global) AllocError) (s : Stop) → IfOk line (λ l. l.items ≡ many_frames_line) → PeerBy line s → TellsFault fault.TooManyFrames s
-many_told (Ok line) s is by = subst (TellsFault fault.TooManyFrames) (sym by) (ap (λ (l : List ℕ). Some (peer_fault l)) (sym is))
-many_told (Err e) s is by = subst (TellsFault fault.TooManyFrames) (sym by) tt
+pub peer_ends : (f : SessionFault) (line : Vec ℕ Global) → TellsSession f (stop.Peer line) → end_of (Err f) ≡ Some (peer_fault line.items)
+peer_ends (fault.Packet f) line tells = peer_so (packet_line f) line.items tells
+peer_ends (fault.Wire f) line tells = peer_so (wire_line (codes "peer") f) line.items tells
+peer_ends (fault.Client f) line tells = peer_so (answer_line f) line.items tells
+peer_ends fault.TooManyFrames line tells = peer_so (Some many_frames_line) line.items tells
+peer_ends fault.LinkFault line tells = absurd cc
+peer_ends fault.Memory line tells = absurd cc
 
-pub length_told : (n : ℕ) (s : Stop) → TellsPacket (packets.BadLength n) s → TellsFault (fault.Packet (packets.BadLength n)) s
-length_told n (stop.Peer line) tells = ap (λ (l : List ℕ). Some (peer_fault l)) (sym tells)
-length_told n stop.Memory tells = tt
-length_told n (stop.Refused line) tells = absurd tells
-length_told n stop.ReadFault tells = absurd tells
-length_told n stop.WriteFault tells = absurd tells
-length_told n stop.LinkFault tells = absurd tells
-
-pub ended_told : (n : ℕ) (s : Stop) → TellsPacket (packets.Ended n) s → TellsFault (fault.Packet (packets.Ended n)) s
-ended_told n (stop.Peer line) tells = ap (λ (l : List ℕ). Some (peer_fault l)) (sym tells)
-ended_told n stop.Memory tells = tt
-ended_told n (stop.Refused line) tells = absurd tells
-ended_told n stop.ReadFault tells = absurd tells
-ended_told n stop.WriteFault tells = absurd tells
-ended_told n stop.LinkFault tells = absurd tells
+pub link_ends : (f : SessionFault) → TellsSession f stop.LinkFault → end_of (Err f) ≡ Some link_fault
+link_ends (fault.Packet f) tells = absurd tells
+link_ends (fault.Wire f) tells = absurd tells
+link_ends (fault.Client f) tells = absurd tells
+link_ends fault.TooManyFrames tells = absurd tells
+link_ends fault.LinkFault tells = refl
+link_ends fault.Memory tells = absurd cc
 
 -- ---- a line on Output
 
@@ -79,8 +68,8 @@ goes_none true old new is = is ∙ sym (append-nil old)
 goes_none false old new is = is
 
 module _ (k n : ℕ) (tally : Tally) where
-  frames_so : (r : Result (Unit {0}) Stop) (v w : View) → WritesLine (session_line k n) r v w → TellsEnd k (Ok n) tally tally r v w
-  frames_so (Ok tt) v w is = (served n, refl, same_errors (session_line k n) v w is, goes_none tally.whole v.written.errors w.written.errors (ap (λ (x : View). x.written.errors) is))
+  frames_so : (r : Result (Unit {0}) Stop) (v w : View) → WritesLine (served_line k n) r v w → TellsEnd k (Ok n) tally tally r v w
+  frames_so (Ok tt) v w is = (served n, refl, same_errors (served_line k n) v w is, goes_none tally.whole v.written.errors w.written.errors (ap (λ (x : View). x.written.errors) is))
   frames_so (Err stop.WriteFault) v w (prefix, rest, split, is) = (n, prefix, rest, refl, split, is)
   frames_so (Err stop.Memory) v w is = is
   frames_so (Err stop.LinkFault) v w is = is
@@ -88,8 +77,8 @@ module _ (k n : ℕ) (tally : Tally) where
   frames_so (Err (stop.Refused line)) v w is = is
   frames_so (Err (stop.Peer line)) v w is = is
 
-  pub frames_told : (r : Result (Unit {0}) Stop) (a b : Option View) → Told a b (WritesLine (session_line k n) r) → Told a b (TellsEnd k (Ok n) tally tally r)
-  frames_told r a b h = told_as a b (WritesLine (session_line k n) r) (TellsEnd k (Ok n) tally tally r) (frames_so r) h
+  pub frames_told : (r : Result (Unit {0}) Stop) (a b : Option View) → Told a b (WritesLine (served_line k n) r) → Told a b (TellsEnd k (Ok n) tally tally r)
+  frames_told r a b h = told_as a b (WritesLine (served_line k n) r) (TellsEnd k (Ok n) tally tally r) (frames_so r) h
 
   first_done : (s : Status) → first_fault s status.Done ≡ s
   first_done status.Done = refl
