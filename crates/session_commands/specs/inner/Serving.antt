@@ -1,6 +1,6 @@
 -- What the parts of `serve` do. This project's own.
 use Rattle.std.specs.Prelude.{◌≡◌, ◌⊎◌, ℕ, ◌+◌, ◌<◌, ◌≤◌, List, [], ◌∷◌, ◌++◌, length, get_or, drop, Bool, true, false, Option, Some, None, Result, Ok, Err, IsErrOf, IsTrue, IsSome, IfSome, OnOk}
-use Rattle.tl_base.specs.Calls.{link_taken}
+use Rattle.tl_base.specs.Calls.{Told, link_taken}
 use Rattle.tl_base.specs.Causes.{Rose}
 use Rattle.tl_base.specs.Outside.{View, HostState, HasRoom, with_slot}
 use Rattle.tl_base.specs.declared.host.Out.TheVariants.{Output}
@@ -14,6 +14,7 @@ use Rattle.update_sessions.specs.Serving.{server_side}
 use Rattle.update_sessions.specs.declared.fault.SessionFault.{SessionFault}
 use Rattle.command_base.specs.Jobs.{Job}
 use Rattle.command_base.specs.Kept.{AddsPrefix, WritesNothing}
+use Rattle.command_base.specs.Sound.{Fits}
 use Rattle.command_base.specs.declared.status.Status.{Status}
 use Rattle.command_base.specs.declared.status.Status.TheVariants.{Done, PeerFault, LinkFault}
 use Rattle.command_base.specs.declared.stop.Stop.{Stop}
@@ -21,7 +22,7 @@ use Rattle.command_base.specs.declared.stop.Stop.TheVariants as stop
 use Rattle.session_commands.specs.declared.telling.Tally.{Tally}
 use Rattle.session_commands.specs.Linked.{next_link}
 use Rattle.session_commands.specs.Lines.{served_line}
-use Rattle.session_commands.specs.Serve.{SessionEnd, served, Session, IsWhole, IsAny, end_of, end_output, end_errors, end_status, first_fault, OfSessions}
+use Rattle.session_commands.specs.Serve.{SessionEnd, served, Session, IsWhole, IsAny, end_of, end_output, end_errors, end_status, first_fault, KeepsServing, OfSessions, Sessions, Total}
 use Rattle.session_commands.specs.inner.Posting.{keeps_all}
 
 -- ---- a session's end is told
@@ -175,3 +176,33 @@ sessions_job p address n = record {
   linked = Unit {0};
   keeps = keeps_all;
 }
+
+-- ---- sessions in turn
+
+-- the view after so many sessions: links and moments were taken, and this was sent, told on Output, and written to Errors
+abbrev pub total_view : ℕ → List ℕ → Total → List ℕ → View → View
+total_view k left r errors v =
+    record v { left = with_slot Link left v.left; links = drop k v.links; moments = drop k v.moments; written = record v.written { output = v.written.output ++ r.output; errors = errors; links = v.written.links ++ r.sent } }
+
+-- What the first k of n sessions did. The link of one failed only where the count of links' faults rose, and the outside wasn't sound or had no room
+-- for an answer.
+pub record ServedSo (link_rose sound : Type 0) (p : ProfileView) (n k : ℕ) (s : ServerState) (tally : Tally) (v w : View) : Type 0 where
+  pub total : Total
+  pub left : List ℕ
+  pub sessions : Sessions IsAny p v.links v.moments k total
+  pub whole : Sessions IsWhole p v.links v.moments k total ⊎ (link_rose × (sound → Fits (sessions_job p None n) v → ⊥))
+  pub server : s ≡ total.server
+  pub status : tally.status ≡ total.status
+  pub view : w ≡ total_view k left total w.written.errors v
+  pub lines : GoesOn true tally.whole v.written.errors w.written.errors total.errors
+
+-- likewise, and the counts of faults that they met
+pub record ServesOn (p : ProfileView) (n k : ℕ) (s : ServerState) (tally : Tally) (old new : HostState) : Type 0 where
+  pub served : Told old.view new.view (ServedSo (Rose old.counts.links new.counts.links) (IsTrue old.sound) p n k s tally)
+  pub kept : Told old.view new.view KeepsServing
+  pub reads : new.counts.reads ≡ old.counts.reads
+  pub writes_later : old.counts.writes ≤ new.counts.writes
+  pub links_later : old.counts.links ≤ new.counts.links
+  pub torn : tally.whole ≡ false → Rose old.counts.writes new.counts.writes
+  pub status : IsSessionStatus (Rose old.counts.links new.counts.links) tally.status
+  pub stays : IsSome old.view → IsTrue old.sound → IsTrue new.sound
