@@ -114,13 +114,13 @@ module _ (p : ProfileView) (s t : ServerState) (now : ℕ) (r : Result ℕ Sessi
   Calls bytes out = (calls : List Numbered) × Serves p (dated_at s now) bytes out t r calls
 
   -- a session was served: its view, and what it did over the bytes that the link gave
-  record Taken (v w : View) : Type 0 where
-    left : List ℕ
-    out : List ℕ
-    coming : 0 < length v.links
-    moment : now ≡ next_moment v
-    view : w ≡ session_view left out [] v.written.errors v
-    calls : Calls (next_link v) out
+  pub record Taken (v w : View) : Type 0 where
+    pub left : List ℕ
+    pub out : List ℕ
+    pub coming : 0 < length v.links
+    pub moment : now ≡ next_moment v
+    pub view : w ≡ session_view left out [] v.written.errors v
+    pub calls : Calls (next_link v) out
 
   session_so : (left out : List ℕ) (v : View) (w : View) → w ≡ record (record v { left = with_slot slots.Link left v.left; links = drop 1 v.links; written = record v.written { links = v.written.links ++ out ∷ [] }; address = v.address }) { moments = drop 1 v.moments }
       → w ≡ session_view left out [] v.written.errors v
@@ -141,7 +141,7 @@ module _ (p : ProfileView) (s t : ServerState) (now : ℕ) (r : Result ℕ Sessi
         calls = subst (λ (x : List ℕ). Calls x out) (sym given) h;
       }
 
-  pub session_taken : (E : Type 0) (a m b : Option View) → Told a m (TakesNext {E = E} (Ok now)) → Told m b (OverHost Calls) → Told a b Taken
+  session_taken : (E : Type 0) (a m b : Option View) → Told a m (TakesNext {E = E} (Ok now)) → Told m b (OverHost Calls) → Told a b Taken
   session_taken E a m b h k = told_then a m b (TakesNext {E = E} (Ok now)) (OverHost Calls) Taken (λ v u w x y. taken_so E v u w x y) h k
 
   -- the room for the session is what its link has

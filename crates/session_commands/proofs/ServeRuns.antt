@@ -58,10 +58,10 @@ lines_tell W false line v w torn h = inr (torn refl, h)
 -- ---- the session with the number k is the next
 
 at_zero : {A : Type 0} (l : List A) (k : ℕ) (d : A) → get_or (drop k l) 0 d ≡ get_or l k d
-at_zero l k d = get_or-drop k l 0 d ∙ ap (λ (i : ℕ). get_or l i d) (omega arith)
+at_zero l k d = let same : k + 0 ≡ k = omega arith in get_or-drop k l 0 d ∙ ap (λ (i : ℕ). get_or l i d) same
 
 one_more : {A : Type 0} (l : List A) (k : ℕ) → drop 1 (drop k l) ≡ drop (suc k) l
-one_more l k = drop-drop 1 k l ∙ ap (λ (i : ℕ). drop i l) (omega arith)
+one_more l k = let same : k + 1 ≡ suc k = omega arith in drop-drop 1 k l ∙ ap (λ (i : ℕ). drop i l) same
 
 -- ---- statuses
 
@@ -240,7 +240,7 @@ module _ (p : ProfileView) (good : IsProfile p) (n : ℕ) where
           lines = lines_on b.whole a.whole v.written.errors u.written.errors w.written.errors h.total.errors (end_errors g.ended) h.lines g.lines;
         }
 
-    served_told : (L N M S T : Type 0) → (L → N) → (M → N) → (x y z : Option View) → (IsSome x → S → T) → IfSome x ShowsBytes → Told x y (ServedSo L S p n k s b) → Told y z (NextServed M T p k s t b a) → Told x z (ServedSo N S p n (suc k) t a)
+    served_told : (L N M S T : Type 0) → (L → N) → (M → N) → (x y z : Option View) → (IsSome x → S → T) → IfSome x ShowsBytes → Told x y (ServedSo L S p n k s b) → Told y z (ServesNext M T p k s t b a (Ok tt)) → Told x z (ServedSo N S p n (suc k) t a)
     served_told L N M S T lift rose None None None stays shown h g = tt
     served_told L N M S T lift rose None None (Some w) stays shown h g = g
     served_told L N M S T lift rose None (Some u) z stays shown h g = absurd h

@@ -1,10 +1,7 @@
 -- How the end of a session is told, from what its parts tell.
 use Rattle.std.proofs.Common.{◌≡◌, ◌⊎◌, ℕ, List, [], ◌++◌, append-nil, length, Bool, true, false, Option, Some, None, option_map, Result, Ok, Err, Vec, Global, codes, refl, sym, ap, ◌∙◌, subst, inl, inr}
-use Rattle.std.specs.Prelude.{IfOk, IsErrOf, IsErrAnd}
 use Rattle.tl_base.specs.Calls.{Told}
-use Rattle.tl_base.specs.Hosted.{Puts}
 use Rattle.tl_base.specs.Outside.{View}
-use Rattle.tl_base.specs.declared.host.Out.TheVariants as outs
 use Rattle.update_sessions.specs.declared.fault.SessionFault.{SessionFault}
 use Rattle.update_sessions.specs.declared.fault.SessionFault.TheVariants as fault
 use Rattle.command_base.specs.declared.status.Status.{Status}
@@ -40,23 +37,6 @@ link_ends (fault.Client f) tells = absurd tells
 link_ends fault.TooManyFrames tells = absurd tells
 link_ends fault.LinkFault tells = refl
 link_ends fault.Memory tells = absurd cc
-
--- ---- a line on Output
-
-stop_is : (r : Result (Unit {0}) Stop) (e : Stop) → IsErrAnd r (λ z. z ≡ e) → r ≡ Err e
-stop_is (Ok tt) e is = absurd is
-stop_is (Err z) e is = ap Err is
-
--- it was written
-pub line_written : (E : Type 0) (line : List ℕ) (v w : View) → Puts {E = E} outs.Output line (Ok tt) v w → WritesLine line (Ok tt) v w
-line_written E line v w put = put
-
--- a prefix of it was
-pub line_cut : (E : Type 0) (e : E) (line : List ℕ) (r : Result (Unit {0}) Stop) (v w : View) → IsErrAnd r (λ z. z ≡ stop.WriteFault) → Puts {E = E} outs.Output line (Err e) v w → WritesLine line r v w
-line_cut E e line r v w is put = subst (λ (x : Result (Unit {0}) Stop). WritesLine line x v w) (sym (stop_is r stop.WriteFault is)) put
-
-pub cut_stops : (r : Result (Unit {0}) Stop) → IsErrAnd r (λ z. z ≡ stop.WriteFault) → IsTellingStop r
-cut_stops r is = subst IsTellingStop (sym (stop_is r stop.WriteFault is)) tt
 
 -- ---- the end of a session without a fault
 
@@ -110,34 +90,3 @@ module _ (k : ℕ) (f : SessionFault) (e : SessionEnd) (is : end_of (Err f) ≡ 
 
   pub fault_told : end_output k e ≡ [] → (a b : Option View) → Told a b (TellsLineOn before.whole after.whole (end_errors e)) → Told a b (TellsEnd k (Err f) before after (Ok tt))
   fault_told none a b h = told_as a b (TellsLineOn before.whole after.whole (end_errors e)) (TellsEnd k (Err f) before after (Ok tt)) (fault_so none) h
-
--- ---- a line on Errors
-
-same_output : (errors : List ℕ) (v w : View) → w ≡ with_told [] errors v → w ≡ with_told [] w.written.errors v
-same_output errors v w is = is ∙ ap (λ (x : List ℕ). with_told [] x v) (sym (ap (λ (x : View). x.written.errors) is))
-
-errors_so : (errors : List ℕ) (v : View) → with_told [] errors v ≡ record v { written = record v.written { errors = errors } }
-errors_so errors v = ap (λ (x : List ℕ). record v { written = record v.written { output = x; errors = errors } }) (append-nil v.written.output)
-
-written_so : (E : Type 0) (line : List ℕ) (v w : View) → Puts {E = E} outs.Errors line (Ok tt) v w → TellsLineOn true true line v w
-written_so E line v w put = record { view = same_output _ v w (put ∙ sym (errors_so (v.written.errors ++ line) v)); lines = ap (λ (x : View). x.written.errors) put }
-
-pub errors_written : (E : Type 0) (line : List ℕ) (before after : Bool) → before ≡ true → after ≡ true → (a b : Option View) → Told a b (Puts {E = E} outs.Errors line (Ok tt)) → Told a b (TellsLineOn before after line)
-errors_written E line before after x y a b h =
-    subst (λ (z : Bool). Told a b (TellsLineOn z after line)) (sym x) (subst (λ (z : Bool). Told a b (TellsLineOn true z line)) (sym y) (told_as a b (Puts {E = E} outs.Errors line (Ok tt)) (TellsLineOn true true line) (written_so E line) h))
-
-torn_so : (E : Type 0) (e : E) (line : List ℕ) (v w : View) → Puts {E = E} outs.Errors line (Err e) v w → TellsLineOn true false line v w
-torn_so E e line v w (prefix, rest, split, put) =
-    record { view = same_output _ v w (put ∙ sym (errors_so (v.written.errors ++ prefix) v)); lines = (prefix, rest, split, ap (λ (x : View). x.written.errors) put) }
-
-pub errors_torn : (E : Type 0) (e : E) (line : List ℕ) (before after : Bool) → before ≡ true → after ≡ false → (a b : Option View) → Told a b (Puts {E = E} outs.Errors line (Err e)) → Told a b (TellsLineOn before after line)
-errors_torn E e line before after x y a b h =
-    subst (λ (z : Bool). Told a b (TellsLineOn z after line)) (sym x) (subst (λ (z : Bool). Told a b (TellsLineOn true z line)) (sym y) (told_as a b (Puts {E = E} outs.Errors line (Err e)) (TellsLineOn true false line) (torn_so E e line) h))
-
--- nothing is told any more
-still : (line : List ℕ) (v : View) → TellsLineOn false false line v v
-still line v = record { view = sym (errors_so v.written.errors v); lines = refl }
-
-pub errors_still : (line : List ℕ) (before after : Bool) → before ≡ false → after ≡ false → (a : Option View) → Told a a (TellsLineOn before after line)
-errors_still line before after x y None = tt
-errors_still line before after x y (Some v) = subst (λ (z : Bool). TellsLineOn z after line v v) (sym x) (subst (λ (z : Bool). TellsLineOn false z line v v) (sym y) (still line v))
