@@ -3,10 +3,12 @@ use Rattle.std.proofs.Common.{◌≡◌, ◌≢◌, ◌⊎◌, ℕ, zero, suc, �
 use Rattle.std.specs.Prelude.{IfSome, IsErrOf, IsErrAnd}
 use Rattle.std.specs.List.{All}
 use Rattle.std.proofs.lemmas.List.{drop-drop, get_or-drop, length-drop}
-use Rattle.tl_base.specs.Calls.{Told}
+use Rattle.tl_base.specs.Calls.{Listens, Told}
 use Rattle.tl_base.specs.Causes.{Rose}
 use Rattle.tl_base.specs.Contents.{AreBytes}
 use Rattle.tl_base.specs.Outside.{View, HostState, HasRoom, ShowsBytes, with_slot}
+use Rattle.tl_base.specs.Using.{MeetsFaults}
+use Rattle.tl_base.specs.declared.counts.Kind.TheVariants as kinds
 use Rattle.tl_base.specs.declared.host.Out.TheVariants as outs
 use Rattle.tl_base.specs.declared.host.Slot.TheVariants as slots
 use Rattle.box_server.specs.Servers.{ServerState, dated_at, new_server}
@@ -31,6 +33,7 @@ use Rattle.session_commands.specs.Lines.{served_line}
 use Rattle.session_commands.specs.Serve.{SessionEnd, served, Session, IsAny, IsWhole, KeepsServing, OfSessions, Sessions, Total, end_errors, end_output, end_status, first_fault, no_sessions, total_answer, with_session}
 use Rattle.session_commands.specs.inner.Serving.{GoesOn, HasNextRoom, HasSessionRoom, IsSessionStatus, MayStop, MeetsNext, NextServed, NextUntold, ServedSo, ServesNext, ServesOn, next_moment, session_view, sessions_job, total_view}
 use Rattle.session_commands.proofs.Connections.{keeps_on, same_keeps}
+use Rattle.session_commands.proofs.LinkFaults.{link_faults}
 use Rattle.session_commands.proofs.OneServed.{one_session, session_sends}
 use Rattle.session_commands.proofs.OneTotal.{IsAmong, any_of, given_bytes, is_among, one_total, whole_status}
 use Rattle.session_commands.proofs.Sent.{told_with}
@@ -112,51 +115,86 @@ never_read stop.ReadFault h is = h
 never_read (stop.Refused line) h is = h
 never_read (stop.Peer line) h is = h
 
-module _ (p : ProfileView) (good : IsProfile p) (n : ℕ) where
+module _ (p : ProfileView) (good : IsProfile p) (address : List ℕ) (n : ℕ) where
   abbrev job : Job
-  job = sessions_job p None n
+  job = sessions_job p address n
 
   -- ---- before the first
 
-  pub none_so : (L S : Type 0) (s : ServerState) (tally : Tally) (v : View) → s ≡ new_server → tally.status ≡ status.Done → tally.whole ≡ true → ServedSo L S p n 0 s tally v v
-  none_so L S s tally v new done whole = record {
-    total = no_sessions;
-    left = v.left.link;
-    sessions = refl;
-    whole = inl refl;
-    server = new;
-    status = done;
-    view = sym (ap (λ (x : List ℕ). record v { written = record v.written { output = x; links = v.written.links ++ [] } }) (append-nil v.written.output) ∙ ap (λ (x : List (List ℕ)). record v { written = record v.written { links = x } }) (append-nil v.written.links));
-    lines = subst (λ (b : Bool). GoesOn true b v.written.errors v.written.errors []) (sym whole) (sym (append-nil v.written.errors));
+  listened_so : (E : Type 0) (L S : Type 0) (s : ServerState) (tally : Tally) (v u : View) → Listens {E = E} address (Ok tt) v u → s ≡ new_server → tally.status ≡ status.Done → tally.whole ≡ true → ServedSo L S p address n 0 s tally v u
+  listened_so E L S s tally v u is new done whole =
+      let make : List ℕ → List (List ℕ) → View = λ output sent. record v { address = Some address; written = record v.written { output = output; links = sent } } in
+      let there : make v.written.output v.written.links ≡ make (v.written.output ++ []) (v.written.links ++ []) =
+          sym (ap (λ (x : List ℕ). make x (v.written.links ++ [])) (append-nil v.written.output) ∙ ap (λ (x : List (List ℕ)). make v.written.output x) (append-nil v.written.links)) in
+      record {
+        total = no_sessions;
+        left = v.left.link;
+        sessions = refl;
+        whole = inl refl;
+        server = new;
+        status = done;
+        view = is ∙ there ∙ ap (λ (x : List ℕ). total_view address 0 v.left.link no_sessions x v) (sym (ap (λ (x : View). x.written.errors) is));
+        lines = subst (λ (b : Bool). GoesOn true b v.written.errors u.written.errors []) (sym whole) (ap (λ (x : View). x.written.errors) is ∙ sym (append-nil v.written.errors));
+      }
+
+  listened_keeps : (E : Type 0) (v u : View) → Listens {E = E} address (Ok tt) v u → KeepsServing v u
+  listened_keeps E v u is = record {
+    files = ap (λ (x : View). x.files) is;
+    room = ap (λ (x : View). x.room) is;
+    state = (ap (λ (x : View). x.written.state) is, ap (λ (x : View). x.state_name) is);
+    input = ap (λ (x : View). x.left.input) is;
   }
-
-  none_told : (L S : Type 0) (s : ServerState) (tally : Tally) (a : Option View) → s ≡ new_server → tally.status ≡ status.Done → tally.whole ≡ true → Told a a (ServedSo L S p n 0 s tally)
-  none_told L S s tally None new done whole = tt
-  none_told L S s tally (Some v) new done whole = none_so L S s tally v new done whole
-
-  kept_none : (a : Option View) → Told a a KeepsServing
-  kept_none None = tt
-  kept_none (Some v) = same_keeps v v refl
 
   not_torn : (b : Bool) (W : Type 0) → b ≡ true → b ≡ false → W
   not_torn b W is not = absurd cc
 
-  pub serves_none : (s : ServerState) (tally : Tally) (x : HostState) → s ≡ new_server → tally.status ≡ status.Done → tally.whole ≡ true → ServesOn p n 0 s tally x x
-  serves_none s tally x new done whole = record {
-    served = none_told (Rose x.counts.links x.counts.links) (IsTrue x.sound) s tally x.view new done whole;
-    kept = kept_none x.view;
-    reads = refl;
-    writes_later = omega arith;
-    links_later = omega arith;
-    torn = λ not. not_torn tally.whole (Rose x.counts.writes x.counts.writes) whole not;
-    status = subst (IsSessionStatus (Rose x.counts.links x.counts.links)) (sym done) tt;
-    stays = λ t sound. sound;
-  }
+  pub serves_none : (E F : Type 0) (P : View → Type 0) (s : ServerState) (tally : Tally) (x y : HostState) → Told x.view y.view (Listens {E = E} address (Ok tt)) → MeetsFaults kinds.Links x y F P → s ≡ new_server → tally.status ≡ status.Done → tally.whole ≡ true
+      → ServesOn p address n 0 s tally x y
+  serves_none E F P s tally x y listens met new done whole =
+      let writes_kept = ap (λ c. c.writes) met.others in
+      record {
+        served = told_as x.view y.view (Listens {E = E} address (Ok tt)) (ServedSo (Rose x.counts.links y.counts.links) (IsTrue x.sound) p address n 0 s tally) (λ v u is. listened_so E (Rose x.counts.links y.counts.links) (IsTrue x.sound) s tally v u is new done whole) listens;
+        kept = told_as x.view y.view (Listens {E = E} address (Ok tt)) KeepsServing (listened_keeps E) listens;
+        reads = ap (λ c. c.reads) met.others;
+        writes_later = omega (arith, writes_kept);
+        links_later = met.later;
+        torn = λ not. not_torn tally.whole (Rose x.counts.writes y.counts.writes) whole not;
+        status = subst (IsSessionStatus (Rose x.counts.links y.counts.links)) (sym done) tt;
+        stays = met.stays;
+      }
+
+  -- ---- no connections are taken
+
+  unlistened_so : (E W L : Type 0) (e : E) (v w : View) → Listens {E = E} address (Err e) v w → Works W L job (Err stop.LinkFault) v w
+  unlistened_so E W L e v w same = (
+    total_answer address 0 no_sessions,
+    inr (0, omega arith, (no_sessions, refl, refl)),
+    ([], [], refl, ap (λ (x : View). x.written.output) same ∙ sym (append-nil v.written.output)),
+    inl (ap (λ (x : View). x.written.errors) same),
+  )
+
+  pub unlistened_works : (E W L : Type 0) (e : E) (a b : Option View) → Told a b (Listens {E = E} address (Err e)) → Told a b (Works W L job (Err stop.LinkFault))
+  unlistened_works E W L e a b h = told_as a b (Listens {E = E} address (Err e)) (Works W L job (Err stop.LinkFault)) (unlistened_so E W L e) h
+
+  pub unlistened_kept : (E : Type 0) (e : E) (a b : Option View) → Told a b (Listens {E = E} address (Err e)) → Told a b KeepsServing
+  unlistened_kept E e a b h = told_as a b (Listens {E = E} address (Err e)) KeepsServing same_keeps h
+
+  name_room : (v : View) → Fits job v → length address ≤ v.room
+  name_room v fits = subst (λ (o : Option (List ℕ)). IfSome o (λ name. length name ≤ v.room)) (ap (λ (a : Answer). a.address) fits.1.2) fits.2.address
+
+  link_read : status.LinkFault ≢ status.ReadFault
+  link_read e = absurd cc
+
+  link_write : status.LinkFault ≢ status.WriteFault
+  link_write e = absurd cc
+
+  pub unlistened_faults : (F : Type 0) (x y : HostState) → MeetsFaults kinds.Links x y F (λ v. length address ≤ v.room) → F → MeetsFaultsOf job x y status.LinkFault
+  unlistened_faults F x y met failed = link_faults job x y status.LinkFault F (λ v. length address ≤ v.room) tt met name_room (λ e. failed) link_read link_write
 
   -- ---- what there is room for
 
   module _ (k : ℕ) (s : ServerState) (v u : View) (shown : ShowsBytes v) (total : Total) (left : List ℕ) (whole : Sessions IsWhole p v.links v.moments k total) (server : s ≡ total.server)
-      (view : u ≡ total_view k left total u.written.errors v) (less : k < n) (fits : Fits job v) where
+      (view : u ≡ total_view address k left total u.written.errors v) (less : k < n) (fits : Fits job v) where
     among : IsAmong p v.links v.moments k (length v.written.output) v.room
     among =
         let r = fits.1.0 in
@@ -197,8 +235,8 @@ module _ (p : ProfileView) (good : IsProfile p) (n : ℕ) where
   -- ---- one more
 
   module _ (k : ℕ) (less : k < n) (s t : ServerState) (b a : Tally) where
-    next_view : (left l0 out eo : List ℕ) (total : Total) (e : SessionEnd) (r : ServerState) (errors : List ℕ) (v u w : View) → eo ≡ end_output k e → w ≡ session_view left out eo errors u → u ≡ total_view k l0 total u.written.errors v
-        → w ≡ total_view (suc k) left (with_session k e out r total) errors v
+    next_view : (left l0 out eo : List ℕ) (total : Total) (e : SessionEnd) (r : ServerState) (errors : List ℕ) (v u w : View) → eo ≡ end_output k e → w ≡ session_view left out eo errors u → u ≡ total_view address k l0 total u.written.errors v
+        → w ≡ total_view address (suc k) left (with_session k e out r total) errors v
     next_view left l0 out eo total e r errors v u w same is at =
         let make : List (List ℕ) → List ℕ → List ℕ → List (List ℕ) → View = λ links moments output sent. record v { left = with_slot slots.Link left v.left; links = links; moments = moments; written = record v.written { output = output; errors = errors; links = sent } } in
         is ∙ ap (λ (x : View). session_view left out eo errors x) at
@@ -207,7 +245,7 @@ module _ (p : ProfileView) (good : IsProfile p) (n : ℕ) where
         ∙ ap (λ (l : List ℕ). make (drop (suc k) v.links) (drop (suc k) v.moments) l ((v.written.links ++ total.sent) ++ out ∷ [])) (append_assoc v.written.output total.output eo ∙ ap (λ (l : List ℕ). v.written.output ++ (total.output ++ l)) same)
         ∙ ap (λ (l : List (List ℕ)). make (drop (suc k) v.links) (drop (suc k) v.moments) (v.written.output ++ (total.output ++ end_output k e)) l) (append_assoc v.written.links total.sent (out ∷ []))
 
-    whole_on : (L N M S T : Type 0) → (L → N) → (M → N) → (S → T) → (v u w : View) → ShowsBytes v → (h : ServedSo L S p n k s b v u) (g : NextServed M T p k s t b a u w)
+    whole_on : (L N M S T : Type 0) → (L → N) → (M → N) → (S → T) → (v u w : View) → ShowsBytes v → (h : ServedSo L S p address n k s b v u) (g : NextServed M T p k s t b a u w)
         → Session p h.total.server (get_or v.moments k 0) (get_or v.links k []) g.sent t g.ended → Sessions IsWhole p v.links v.moments (suc k) (with_session k g.ended g.sent t h.total) ⊎ (N × (S → Fits job v → ⊥))
     whole_on L N M S T lift rose stays v u w shown h g session =
         elim h.whole as (λ z. Sessions IsWhole p v.links v.moments (suc k) (with_session k g.ended g.sent t h.total) ⊎ (N × (S → Fits job v → ⊥))) [
@@ -218,7 +256,7 @@ module _ (p : ProfileView) (good : IsProfile p) (n : ℕ) where
           | inr failed ↦ inr (lift failed.0, failed.1)
         ]
 
-    at_session : (out : List ℕ) (r : ServerState) (e : SessionEnd) (total : Total) (left : List ℕ) (v u : View) → s ≡ total.server → u ≡ total_view k left total u.written.errors v → Session p s (next_moment u) (next_link u) out r e
+    at_session : (out : List ℕ) (r : ServerState) (e : SessionEnd) (total : Total) (left : List ℕ) (v u : View) → s ≡ total.server → u ≡ total_view address k left total u.written.errors v → Session p s (next_moment u) (next_link u) out r e
         → Session p total.server (get_or v.moments k 0) (get_or v.links k []) out r e
     at_session out r e total left v u server view h =
         let moment : next_moment u ≡ get_or v.moments k 0 = ap (λ (x : View). next_moment x) view ∙ at_zero v.moments k 0 in
@@ -226,7 +264,7 @@ module _ (p : ProfileView) (good : IsProfile p) (n : ℕ) where
         subst (λ (z : ServerState). Session p z (get_or v.moments k 0) (get_or v.links k []) out r e) server
         (subst (λ (m : ℕ). Session p s m (get_or v.links k []) out r e) moment (subst (λ (l : List ℕ). Session p s (next_moment u) l out r e) link h))
 
-    served_on : (L N M S T : Type 0) → (L → N) → (M → N) → (S → T) → (v u w : View) → ServedSo L S p n k s b v u × ShowsBytes v → NextServed M T p k s t b a u w → ServedSo N S p n (suc k) t a v w
+    served_on : (L N M S T : Type 0) → (L → N) → (M → N) → (S → T) → (v u w : View) → ServedSo L S p address n k s b v u × ShowsBytes v → NextServed M T p k s t b a u w → ServedSo N S p address n (suc k) t a v w
     served_on L N M S T lift rose stays v u w (h, shown) g =
         let session = at_session g.sent t g.ended h.total h.left v u h.server h.view g.session in
         record {
@@ -240,7 +278,7 @@ module _ (p : ProfileView) (good : IsProfile p) (n : ℕ) where
           lines = lines_on b.whole a.whole v.written.errors u.written.errors w.written.errors h.total.errors (end_errors g.ended) h.lines g.lines;
         }
 
-    served_told : (L N M S T : Type 0) → (L → N) → (M → N) → (x y z : Option View) → (IsSome x → S → T) → IfSome x ShowsBytes → Told x y (ServedSo L S p n k s b) → Told y z (ServesNext M T p k s t b a (Ok tt)) → Told x z (ServedSo N S p n (suc k) t a)
+    served_told : (L N M S T : Type 0) → (L → N) → (M → N) → (x y z : Option View) → (IsSome x → S → T) → IfSome x ShowsBytes → Told x y (ServedSo L S p address n k s b) → Told y z (ServesNext M T p k s t b a (Ok tt)) → Told x z (ServedSo N S p address n (suc k) t a)
     served_told L N M S T lift rose None None None stays shown h g = tt
     served_told L N M S T lift rose None None (Some w) stays shown h g = g
     served_told L N M S T lift rose None (Some u) z stays shown h g = absurd h
@@ -256,8 +294,8 @@ module _ (p : ProfileView) (good : IsProfile p) (n : ℕ) where
     both_bools true d P Q W was is not = is refl not
     both_bools false d P Q W was is not = was refl
 
-    pub serves_on : (x y z : HostState) → IfSome x.view ShowsBytes → ServesOn p n k s b x y → Told y.view z.view (ServesNext (Rose y.counts.links z.counts.links) (IsTrue y.sound) p k s t b a (Ok tt)) → Told y.view z.view KeepsServing
-        → MeetsNext p k s b a (Ok tt) y z → ServesOn p n (suc k) t a x z
+    pub serves_on : (x y z : HostState) → IfSome x.view ShowsBytes → ServesOn p address n k s b x y → Told y.view z.view (ServesNext (Rose y.counts.links z.counts.links) (IsTrue y.sound) p k s t b a (Ok tt)) → Told y.view z.view KeepsServing
+        → MeetsNext p k s b a (Ok tt) y z → ServesOn p address n (suc k) t a x z
     serves_on x y z shown h told kept met = record {
       served = served_told (Rose x.counts.links y.counts.links) (Rose x.counts.links z.counts.links) (Rose y.counts.links z.counts.links) (IsTrue x.sound) (IsTrue y.sound) (λ r. omega (arith, r, met.links_later)) (λ r. omega (arith, r, h.links_later)) x.view y.view z.view h.stays shown h.served told;
       kept = told_then x.view y.view z.view KeepsServing KeepsServing KeepsServing keeps_on h.kept kept;
@@ -271,22 +309,22 @@ module _ (p : ProfileView) (good : IsProfile p) (n : ℕ) where
 
     -- ---- one stops the run
 
-    stopped_with : (L W : Type 0) (v u w : View) (e : Stop) → ServedSo L W p n k s b v u → WritesNothing u w → (x : Answer) × ((j : ℕ) × (j ≤ n) × OfSessions IsAny None j v.links v.moments p x) × AddsPrefix v.written.output w.written.output x.output × ToldSome job x v w
+    stopped_with : (L W : Type 0) (v u w : View) (e : Stop) → ServedSo L W p address n k s b v u → WritesNothing u w → (x : Answer) × ((j : ℕ) × (j ≤ n) × OfSessions IsAny address j v.links v.moments p x) × AddsPrefix v.written.output w.written.output x.output × ToldSome job x v w
     stopped_with L W v u w e h none = (
-      total_answer None k h.total,
+      total_answer address k h.total,
       (k, omega (arith, less), (h.total, h.sessions, refl)),
       (h.total.output, [], append-nil h.total.output, none.output ∙ ap (λ (x : View). x.written.output) h.view),
       inr (tt, subst (λ (l : List ℕ). AddsPrefix v.written.errors l h.total.errors) (sym none.errors) (lines_so b.whole v.written.errors u.written.errors h.total.errors h.lines)),
     )
 
-    untold_with : (L S : Type 0) (v u w : View) → ServedSo L S p n k s b v u → NextUntold p k s u w → (x : Answer) × ((j : ℕ) × (j ≤ n) × OfSessions IsAny None j v.links v.moments p x) × AddsPrefix v.written.output w.written.output x.output × ToldSome job x v w
+    untold_with : (L S : Type 0) (v u w : View) → ServedSo L S p address n k s b v u → NextUntold p k s u w → (x : Answer) × ((j : ℕ) × (j ≤ n) × OfSessions IsAny address j v.links v.moments p x) × AddsPrefix v.written.output w.written.output x.output × ToldSome job x v w
     untold_with L S v u w h g =
         let session = at_session g.sent g.server (served g.frames) h.total h.left v u h.server h.view g.session in
         let r = with_session k (served g.frames) g.sent g.server h.total in
         let prefix = g.output.0 in
         let rest = g.output.1 in
         (
-          total_answer None (suc k) r,
+          total_answer address (suc k) r,
           (suc k, omega (arith, less), (r, (h.total, served g.frames, g.sent, g.server, h.sessions, tt, session, refl), refl)),
           (
             h.total.output ++ prefix,
@@ -297,7 +335,7 @@ module _ (p : ProfileView) (good : IsProfile p) (n : ℕ) where
           inr (tt, prefix_on v.written.errors u.written.errors w.written.errors h.total.errors [] (lines_so b.whole v.written.errors u.written.errors h.total.errors h.lines) g.errors),
         )
 
-    stopped_so : (L S M T W N : Type 0) (e : Stop) (v u w : View) → ServedSo L S p n k s b v u → ServesNext M T p k s t b a (Err e) u w → Works W N job (Err e) v w
+    stopped_so : (L S M T W N : Type 0) (e : Stop) (v u w : View) → ServedSo L S p address n k s b v u → ServesNext M T p k s t b a (Err e) u w → Works W N job (Err e) v w
     stopped_so L S M T W N stop.LinkFault v u w h g = let x = stopped_with L S v u w stop.LinkFault h g in (x.0, inr x.1, x.2, x.3)
     stopped_so L S M T W N stop.Memory v u w h g = let x = stopped_with L S v u w stop.Memory h g in inr (tt, (x.0, inr x.1, x.2, x.3))
     stopped_so L S M T W N stop.WriteFault v u w h g = let x = untold_with L S v u w h g in (x.0, inr x.1, x.2, x.3)
@@ -305,29 +343,29 @@ module _ (p : ProfileView) (good : IsProfile p) (n : ℕ) where
     stopped_so L S M T W N (stop.Refused line) v u w h g = absurd g
     stopped_so L S M T W N (stop.Peer line) v u w h g = absurd g
 
-    pub stopped_works : (W N : Type 0) (e : Stop) (r : Result Status Stop) (x y : HostState) (c : Option View) (M T : Type 0) → IsErrAnd r (λ z. z ≡ e) → ServesOn p n k s b x y → Told y.view c (ServesNext M T p k s t b a (Err e)) → Told x.view c (Works W N job r)
+    pub stopped_works : (W N : Type 0) (e : Stop) (r : Result Status Stop) (x y : HostState) (c : Option View) (M T : Type 0) → IsErrAnd r (λ z. z ≡ e) → ServesOn p address n k s b x y → Told y.view c (ServesNext M T p k s t b a (Err e)) → Told x.view c (Works W N job r)
     stopped_works W N e (Ok s1) x y c M T is h g = absurd is
     stopped_works W N e (Err z) x y c M T is h g =
-        told_then x.view y.view c (ServedSo (Rose x.counts.links y.counts.links) (IsTrue x.sound) p n k s b) (ServesNext M T p k s t b a (Err e)) (Works W N job (Err z))
+        told_then x.view y.view c (ServedSo (Rose x.counts.links y.counts.links) (IsTrue x.sound) p address n k s b) (ServesNext M T p k s t b a (Err e)) (Works W N job (Err z))
         (λ v u w i j. subst (λ (q : Stop). Works W N job (Err q) v w) (sym is) (stopped_so (Rose x.counts.links y.counts.links) (IsTrue x.sound) M T W N e v u w i j)) h.served g
 
-    pub kept_then : (x y : HostState) (c : Option View) → ServesOn p n k s b x y → Told y.view c KeepsServing → Told x.view c KeepsServing
+    pub kept_then : (x y : HostState) (c : Option View) → ServesOn p address n k s b x y → Told y.view c KeepsServing → Told x.view c KeepsServing
     kept_then x y c h g = told_then x.view y.view c KeepsServing KeepsServing KeepsServing keeps_on h.kept g
 
     -- where it can't
-    room_so : (L S : Type 0) (v u : View) → ShowsBytes v → ServedSo L S p n k s b v u → S → Fits job v → HasNextRoom p k s u
+    room_so : (L S : Type 0) (v u : View) → ShowsBytes v → ServedSo L S p address n k s b v u → S → Fits job v → HasNextRoom p k s u
     room_so L S v u shown h sound fits =
         elim h.whole as (λ z. HasNextRoom p k s u) [
           | inl whole ↦ next_room k s v u shown h.total h.left whole h.server h.view less fits
           | inr failed ↦ absurd (failed.1 sound fits)
         ]
 
-    stop_never : (L S T F G : Type 0) (x y : Option View) → IfSome x ShowsBytes → (IsSome x → S → T) → (G → F) → Told x y (ServedSo L S p n k s b) → IfSome y (λ u. T → HasNextRoom p k s u → F → ⊥) → IfSome x (λ v. S → Fits job v → G → ⊥)
+    stop_never : (L S T F G : Type 0) (x y : Option View) → IfSome x ShowsBytes → (IsSome x → S → T) → (G → F) → Told x y (ServedSo L S p address n k s b) → IfSome y (λ u. T → HasNextRoom p k s u → F → ⊥) → IfSome x (λ v. S → Fits job v → G → ⊥)
     stop_never L S T F G None y shown stays to h never = tt
     stop_never L S T F G (Some v) None shown stays to h never = absurd h
     stop_never L S T F G (Some v) (Some u) shown stays to h never = λ sound fits failed. never (stays refl sound) (room_so L S v u shown h sound fits) (to failed)
 
-    pub stopped_faults : (e : Stop) (r : Result Status Stop) (x y z : HostState) → IsErrAnd r (λ q. q ≡ e) → IfSome x.view ShowsBytes → ServesOn p n k s b x y → MeetsNext p k s b a (Err e) y z → MeetsFaultsOf job x z (status_of r)
+    pub stopped_faults : (e : Stop) (r : Result Status Stop) (x y z : HostState) → IsErrAnd r (λ q. q ≡ e) → IfSome x.view ShowsBytes → ServesOn p address n k s b x y → MeetsNext p k s b a (Err e) y z → MeetsFaultsOf job x z (status_of r)
     stopped_faults e r x y z is shown h met =
         let at : status_of r ≡ stop_status e = err_status e r is in
         let wrote : status_of r ≡ status.WriteFault → IsErrOf {T = Unit {0}} (Err e) stop.WriteFault = λ f. may_write e met.stops (sym at ∙ f) in
@@ -349,16 +387,16 @@ module _ (p : ProfileView) (good : IsProfile p) (n : ℕ) where
   -- ---- all are served
 
   module _ (s : ServerState) (tally : Tally) where
-    all_may : (L S : Type 0) (v w : View) (h : ServedSo L S p n n s tally v w) → MayAnswer job L v (total_answer None n h.total)
+    all_may : (L S : Type 0) (v w : View) (h : ServedSo L S p address n n s tally v w) → MayAnswer job L v (total_answer address n h.total)
     all_may L S v w h =
-        elim h.whole as (λ z. MayAnswer job L v (total_answer None n h.total)) [
+        elim h.whole as (λ z. MayAnswer job L v (total_answer address n h.total)) [
           | inl whole ↦ inl (h.total, whole, refl)
           | inr failed ↦ inr (failed.0, (h.total, h.sessions, refl))
         ]
 
-    all_so : (L S W : Type 0) → (tally.whole ≡ false → W) → (v w : View) → ServedSo L S p n n s tally v w → Works W L job (Ok tally.status) v w
+    all_so : (L S W : Type 0) → (tally.whole ≡ false → W) → (v w : View) → ServedSo L S p address n n s tally v w → Works W L job (Ok tally.status) v w
     all_so L S W torn v w h = (
-      total_answer None n h.total,
+      total_answer address n h.total,
       all_may L S v w h,
       sym h.status,
       record {
@@ -376,15 +414,15 @@ module _ (p : ProfileView) (good : IsProfile p) (n : ℕ) where
       lines_tell W tally.whole h.total.errors v w torn h.lines,
     )
 
-    pub all_works : (x y : HostState) → ServesOn p n n s tally x y → Told x.view y.view (Works (Rose x.counts.writes y.counts.writes) (Rose x.counts.links y.counts.links) job (Ok tally.status))
+    pub all_works : (x y : HostState) → ServesOn p address n n s tally x y → Told x.view y.view (Works (Rose x.counts.writes y.counts.writes) (Rose x.counts.links y.counts.links) job (Ok tally.status))
     all_works x y h =
-        told_as x.view y.view (ServedSo (Rose x.counts.links y.counts.links) (IsTrue x.sound) p n n s tally) (Works (Rose x.counts.writes y.counts.writes) (Rose x.counts.links y.counts.links) job (Ok tally.status))
+        told_as x.view y.view (ServedSo (Rose x.counts.links y.counts.links) (IsTrue x.sound) p address n n s tally) (Works (Rose x.counts.writes y.counts.writes) (Rose x.counts.links y.counts.links) job (Ok tally.status))
         (all_so (Rose x.counts.links y.counts.links) (IsTrue x.sound) (Rose x.counts.writes y.counts.writes) h.torn) h.served
 
     fault_so : (L : Type 0) → IsSessionStatus L tally.status → IsFault tally.status → L
     fault_so L h f = elim f [ inl q ↦ absurd (status_read L tally.status h q) | inr other ↦ elim other [ inl q ↦ absurd (status_write L tally.status h q) | inr q ↦ status_link L tally.status h q ] ]
 
-    all_never : (L S : Type 0) (x y : Option View) → Told x y (ServedSo L S p n n s tally) → IfSome x (λ v. S → Fits job v → IsFault tally.status → ⊥)
+    all_never : (L S : Type 0) (x y : Option View) → Told x y (ServedSo L S p address n n s tally) → IfSome x (λ v. S → Fits job v → IsFault tally.status → ⊥)
     all_never L S None y h = tt
     all_never L S (Some v) None h = absurd h
     all_never L S (Some v) (Some w) h = λ sound fits failed.
@@ -393,7 +431,7 @@ module _ (p : ProfileView) (good : IsProfile p) (n : ℕ) where
           | inr broke ↦ broke.1 sound fits
         ]
 
-    pub all_faults : (x y : HostState) → ServesOn p n n s tally x y → MeetsFaultsOf job x y tally.status
+    pub all_faults : (x y : HostState) → ServesOn p address n n s tally x y → MeetsFaultsOf job x y tally.status
     all_faults x y h = record {
       reads_later = omega (arith, h.reads);
       writes_later = h.writes_later;

@@ -105,24 +105,24 @@ Sessions Is p given moments (suc k) r =
 
 -- ---- answers
 
--- what is answered by so many sessions, where this address is used
-abbrev pub total_answer : Option (List ℕ) → ℕ → Total → Answer
-total_answer address n r = record { status = r.status; output = r.output; errors = r.errors; state = None; taken = n; links = r.sent; moments = n; address = address }
+-- what is answered by so many sessions at an address
+abbrev pub total_answer : List ℕ → ℕ → Total → Answer
+total_answer address n r = record { status = r.status; output = r.output; errors = r.errors; state = None; taken = n; links = r.sent; moments = n; address = Some address }
 
-abbrev pub OfSessions : (SessionEnd → Type 0) → Option (List ℕ) → ℕ → List (List ℕ) → List ℕ → ProfileView → Answer → Type 0
+abbrev pub OfSessions : (SessionEnd → Type 0) → List ℕ → ℕ → List (List ℕ) → List ℕ → ProfileView → Answer → Type 0
 OfSessions Is address n given moments p a = (r : Total) × Sessions Is p given moments n r × (a ≡ total_answer address n r)
 
 -- serve's answer, over links that give these bytes at these moments, none of which fails
 abbrev pub ServeAnswer : Files → List (List ℕ) → List ℕ → List ℕ → List ℕ → ℕ → Answer → Type 0
-ServeAnswer files given moments schema address n a = (text : List ℕ) × HasFile files schema text × OfProfileText text (OfSessions IsWhole (Some address) n given moments) a
+ServeAnswer files given moments schema address n a = (text : List ℕ) × HasFile files schema text × OfProfileText text (OfSessions IsWhole address n given moments) a
 
 -- what is answered where links may fail
 abbrev pub ServeBroken : List ℕ → List ℕ → ℕ → View → Answer → Type 0
-ServeBroken schema address n v a = (h : HasProfile v.files schema) × OfSessions IsAny (Some address) n v.links v.moments h.p a
+ServeBroken schema address n v a = (h : HasProfile v.files schema) × OfSessions IsAny address n v.links v.moments h.p a
 
 -- what was told and was about to be told when a run stopped: that of the first sessions
 abbrev pub ServePart : List ℕ → List ℕ → ℕ → View → Answer → Type 0
-ServePart schema address n v a = (h : HasProfile v.files schema) × (k : ℕ) × (k ≤ n) × OfSessions IsAny (Some address) k v.links v.moments h.p a
+ServePart schema address n v a = (h : HasProfile v.files schema) × (k : ℕ) × (k ≤ n) × OfSessions IsAny address k v.links v.moments h.p a
 
 -- what is left by a run that serves
 pub record KeepsServing (v w : View) : Type 0 where

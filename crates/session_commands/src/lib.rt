@@ -9,8 +9,10 @@ mod post;
 mod reply;
 mod sending;
 mod serve;
+mod serve_laws;
 mod telling;
 
 pub use laws::post_has_one_answer;
 pub use post::post_call;
 pub use serve::serve_sessions;
+pub use serve_laws::serve_has_one_answer;

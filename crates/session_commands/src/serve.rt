@@ -1,7 +1,5 @@
 //! `serve`: schema and profile are loaded, and connections at an address are served in turn from one new server.
-ghost use Rattle.std.specs.Prelude.{None, Some};
 ghost use Rattle.tl_base.specs.Calls.{Told};
-ghost use Rattle.wire_profile.specs.Profiles.{IsProfile};
 ghost use Rattle.command_base.specs.Jobs.{WorksOver};
 ghost use Rattle.command_base.specs.Sound.{MeetsFaultsOf};
 ghost use Rattle.command_base.specs.Telling.{status_of};
@@ -32,41 +30,26 @@ pub fn serve_sessions<H: Host>(
 {
     let schema = load_schema(alloc, host, Slot::Schema, "schema", schema)?;
     let profile = profile_of(alloc, &schema)?;
-    serve_address(alloc, host, &profile, address, sessions)
+    serve_all(alloc, host, &profile, address, sessions)
 }
 
 // Likewise by a profile.
-fn serve_address<H: Host>(
+fn serve_all<H: Host>(
     alloc: Global,
     host: &mut H,
     profile: &Profile,
     address: &str,
     sessions: u32,
 ) -> Result<Status, Stop>
-    ensures works { WorksOver (sessions_job profile.now (Some address.now) sessions) (H.state host.old) (H.state host.new) result }
+    ensures works { WorksOver (sessions_job profile.now address.now sessions) (H.state host.old) (H.state host.new) result }
     ensures kept { Told (H.state host.old).view (H.state host.new).view KeepsServing }
-    ensures faults { MeetsFaultsOf (sessions_job profile.now (Some address.now) sessions) (H.state host.old) (H.state host.new) (status_of result) }
+    ensures faults { MeetsFaultsOf (sessions_job profile.now address.now sessions) (H.state host.old) (H.state host.new) (status_of result) }
 {
     // Read for the proof alone: that the profile is sound.
     let _schema = profile.schema();
-    match host.listen(address) {
-        Ok(()) => serve_all(alloc, host, profile, sessions),
-        Err(_) => Err(Stop::LinkFault),
+    if host.listen(address).is_err() {
+        return Err(Stop::LinkFault);
     }
-}
-
-// Serves so many connections.
-fn serve_all<H: Host>(
-    alloc: Global,
-    host: &mut H,
-    profile: &Profile,
-    sessions: u32,
-) -> Result<Status, Stop>
-    requires sound { IsProfile profile.now }
-    ensures works { WorksOver (sessions_job profile.now None sessions) (H.state host.old) (H.state host.new) result }
-    ensures kept { Told (H.state host.old).view (H.state host.new).view KeepsServing }
-    ensures faults { MeetsFaultsOf (sessions_job profile.now None sessions) (H.state host.old) (H.state host.new) (status_of result) }
-{
     let mut server = Server::new(alloc);
     let mut tally = Tally {
         status: Status::Done,

@@ -163,10 +163,10 @@ pub record MeetsNext (p : ProfileView) (k : ℕ) (s : ServerState) (before after
   pub stays : IsSome old.view → IsTrue old.sound → IsTrue new.sound
   pub never : IfSome old.view (λ v. IsTrue old.sound → HasNextRoom p k s v → (IsErrOf result stop.WriteFault) ⊎ (IsErrOf result stop.LinkFault) → ⊥)
 
--- ---- the parts as jobs; what they keep is told beside them
+-- ---- a part as a job; what it keeps is told beside it
 
--- so many sessions from a new server, after an address was used or where it is used yet
-abbrev pub sessions_job : ProfileView → Option (List ℕ) → ℕ → Job
+-- from where the profile is known
+abbrev pub sessions_job : ProfileView → List ℕ → ℕ → Job
 sessions_job p address n = record {
   answers = λ v a. OfSessions IsWhole address n v.links v.moments p a;
   broken = λ v a. OfSessions IsAny address n v.links v.moments p a;
@@ -179,26 +179,26 @@ sessions_job p address n = record {
 
 -- ---- sessions in turn
 
--- the view after so many sessions: links and moments were taken, and this was sent, told on Output, and written to Errors
-abbrev pub total_view : ℕ → List ℕ → Total → List ℕ → View → View
-total_view k left r errors v =
-    record v { left = with_slot Link left v.left; links = drop k v.links; moments = drop k v.moments; written = record v.written { output = v.written.output ++ r.output; errors = errors; links = v.written.links ++ r.sent } }
+-- the view after so many sessions at an address: links and moments were taken, and this was sent, told on Output, and written to Errors
+abbrev pub total_view : List ℕ → ℕ → List ℕ → Total → List ℕ → View → View
+total_view address k left r errors v =
+    record v { address = Some address; left = with_slot Link left v.left; links = drop k v.links; moments = drop k v.moments; written = record v.written { output = v.written.output ++ r.output; errors = errors; links = v.written.links ++ r.sent } }
 
 -- What the first k of n sessions did. The link of one failed only where the count of links' faults rose, and the outside wasn't sound or had no room
 -- for an answer.
-pub record ServedSo (link_rose sound : Type 0) (p : ProfileView) (n k : ℕ) (s : ServerState) (tally : Tally) (v w : View) : Type 0 where
+pub record ServedSo (link_rose sound : Type 0) (p : ProfileView) (address : List ℕ) (n k : ℕ) (s : ServerState) (tally : Tally) (v w : View) : Type 0 where
   pub total : Total
   pub left : List ℕ
   pub sessions : Sessions IsAny p v.links v.moments k total
-  pub whole : Sessions IsWhole p v.links v.moments k total ⊎ (link_rose × (sound → Fits (sessions_job p None n) v → ⊥))
+  pub whole : Sessions IsWhole p v.links v.moments k total ⊎ (link_rose × (sound → Fits (sessions_job p address n) v → ⊥))
   pub server : s ≡ total.server
   pub status : tally.status ≡ total.status
-  pub view : w ≡ total_view k left total w.written.errors v
+  pub view : w ≡ total_view address k left total w.written.errors v
   pub lines : GoesOn true tally.whole v.written.errors w.written.errors total.errors
 
 -- likewise, and the counts of faults that they met
-pub record ServesOn (p : ProfileView) (n k : ℕ) (s : ServerState) (tally : Tally) (old new : HostState) : Type 0 where
-  pub served : Told old.view new.view (ServedSo (Rose old.counts.links new.counts.links) (IsTrue old.sound) p n k s tally)
+pub record ServesOn (p : ProfileView) (address : List ℕ) (n k : ℕ) (s : ServerState) (tally : Tally) (old new : HostState) : Type 0 where
+  pub served : Told old.view new.view (ServedSo (Rose old.counts.links new.counts.links) (IsTrue old.sound) p address n k s tally)
   pub kept : Told old.view new.view KeepsServing
   pub reads : new.counts.reads ≡ old.counts.reads
   pub writes_later : old.counts.writes ≤ new.counts.writes
