@@ -36,9 +36,6 @@ use Rattle.session_commands.proofs.Sent.{told_with}
 some_is : (d e : SessionEnd) → Some d ≡ Some e → d ≡ e
 some_is d e is = cc
 
-never_write : {T : Type 0} → IsErrOf {T = T} (Err stop.LinkFault) stop.WriteFault → ⊥
-never_write is = cc
-
 -- ---- what serving keeps
 
 pub same_keeps : (v w : View) → w ≡ v → KeepsServing v w
@@ -222,43 +219,18 @@ module _ (p : ProfileView) (s t : ServerState) (now : ℕ) (r : Result ℕ Sessi
     next_so R S (Err (stop.Refused line)) v u w counts h never = absurd never
     next_so R S (Err (stop.Peer line)) v u w counts h never = absurd never
 
-    pub serves_next : (E : Type 0) (a m n b : Option View) (R S T : Type 0) (q : Result (Unit {0}) Stop) → (IsErrOf r fault.LinkFault → R) → (IsSome a → S → T) → Tallies r before after q
+    serves_so : (E : Type 0) (a m n b : Option View) (R S T : Type 0) (q : Result (Unit {0}) Stop) → (IsErrOf r fault.LinkFault → R) → (IsSome a → S → T) → Tallies r before after q
         → Told a m (TakesNext {E = E} (Ok now)) → IfSome m (λ u. T → HasLinkRoom (MaySend (server_side p) (dated_at s now)) u → IsErrOf r fault.LinkFault → ⊥) → Told m n (OverHost Calls) → Told n b (TellsEnd k r before after q)
         → Told a b (ServesNext R S p k s t before after q)
-    serves_next E a m n b R S T q rose stays counts takes never over tells =
+    serves_so E a m n b R S T q rose stays counts takes never over tells =
         told_then a n b (λ v u. Taken v u × Failed R S v) (TellsEnd k r before after q) (ServesNext R S p k s t before after q) (λ v u w x y. next_so R S q v u w counts x y)
         (told_with a n Taken (Failed R S) (session_taken E a m n takes over) (may_fail E a m R S T rose stays takes never)) tells
 
-    -- ---- what is kept
-
-    taken_keeps : (v u : View) → Taken v u → KeepsServing v u
-    taken_keeps v u h = record {
-      files = ap (λ (x : View). x.files) h.view;
-      room = ap (λ (x : View). x.room) h.view;
-      state = (ap (λ (x : View). x.written.state) h.view, ap (λ (x : View). x.state_name) h.view);
-      input = ap (λ (x : View). x.left.input) h.view;
-    }
-
-    told_keeps : (output errors : List ℕ) (v w : View) → w ≡ with_told output errors v → KeepsServing v w
-    told_keeps output errors v w is = record {
-      files = ap (λ (x : View). x.files) is;
-      room = ap (λ (x : View). x.room) is;
-      state = (ap (λ (x : View). x.written.state) is, ap (λ (x : View). x.state_name) is);
-      input = ap (λ (x : View). x.left.input) is;
-    }
-
-    end_keeps : (q : Result (Unit {0}) Stop) (v w : View) → TellsEnd k r before after q v w → KeepsServing v w
-    end_keeps (Ok tt) v w (e, is, view, lines) = told_keeps _ _ v w view
-    end_keeps (Err stop.WriteFault) v w (n, prefix, rest, is, split, view) = told_keeps _ _ v w view
-    end_keeps (Err stop.Memory) v w same = same_keeps v w same
-    end_keeps (Err stop.LinkFault) v w never = absurd never
-    end_keeps (Err stop.ReadFault) v w never = absurd never
-    end_keeps (Err (stop.Refused line)) v w never = absurd never
-    end_keeps (Err (stop.Peer line)) v w never = absurd never
-
-    pub next_kept : (E : Type 0) (a m n b : Option View) (q : Result (Unit {0}) Stop) → Told a m (TakesNext {E = E} (Ok now)) → Told m n (OverHost Calls) → Told n b (TellsEnd k r before after q) → Told a b KeepsServing
-    next_kept E a m n b q takes over tells =
-        told_then a n b Taken (TellsEnd k r before after q) KeepsServing (λ v u w x y. keeps_on v u w (taken_keeps v u x) (end_keeps q u w y)) (session_taken E a m n takes over) tells
+    pub next_served : (E F : Type 0) (x y z w : HostState) (q : Result (Unit {0}) Stop) → MeetsFaults kinds.Links x y F (λ v. 0 < length v.links) → Told x.view y.view (TakesNext {E = E} (Ok now))
+        → MeetsFaults kinds.Links y z (IsErrOf r fault.LinkFault) (HasLinkRoom (MaySend (server_side p) (dated_at s now))) → Told y.view z.view (OverHost Calls) → MeetsFaults kinds.Writes z w (IsErrOf q stop.WriteFault) (HasEndRoom k r)
+        → Told z.view w.view (TellsEnd k r before after q) → Tallies r before after q → Told x.view w.view (ServesNext (Rose x.counts.links w.counts.links) (IsTrue x.sound) p k s t before after q)
+    next_served E F x y z w q first takes second over third tells counts =
+        serves_so E x.view y.view z.view w.view (Rose x.counts.links w.counts.links) (IsTrue x.sound) (IsTrue y.sound) q (λ f. omega (arith, first.later, second.cause f, ap (λ c. c.links) third.others)) first.stays counts takes second.never over tells
 
     -- ---- where nothing can fail
 
@@ -312,35 +284,3 @@ module _ (p : ProfileView) (s t : ServerState) (now : ℕ) (r : Result ℕ Sessi
           stays = all.stays;
           never = all.never;
         }
-
--- ---- no link came
-
-module _ (p : ProfileView) (k : ℕ) (s : ServerState) (tally : Tally) where
-  none_so : (E : Type 0) (R S : Type 0) (e : E) (v w : View) → TakesNext {E = E} (Err e) v w → ServesNext R S p k s s tally tally (Err stop.LinkFault) v w
-  none_so E R S e v w same = record { output = ap (λ (x : View). x.written.output) same; errors = ap (λ (x : View). x.written.errors) same }
-
-  pub none_served : (E : Type 0) (R S : Type 0) (e : E) (a b : Option View) → Told a b (TakesNext {E = E} (Err e)) → Told a b (ServesNext R S p k s s tally tally (Err stop.LinkFault))
-  none_served E R S e a b h = told_as a b (TakesNext {E = E} (Err e)) (ServesNext R S p k s s tally tally (Err stop.LinkFault)) (none_so E R S e) h
-
-  not_both : (b : Bool) → b ≡ true → b ≡ false → ⊥
-  not_both b x y = absurd cc
-
-  pub none_faults : (F : Type 0) (x y : HostState) → MeetsFaults kinds.Links x y F (λ v. 0 < length v.links) → F → MeetsNext p k s tally tally (Err stop.LinkFault) x y
-  none_faults F x y met failed =
-      let writes_kept = ap (λ c. c.writes) met.others in
-      let all = fails_as x.view x.sound y.sound F (IsErrOf {T = Unit {0}} (Err stop.LinkFault) stop.WriteFault ⊎ IsErrOf {T = Unit {0}} (Err stop.LinkFault) stop.LinkFault) (λ v. 0 < length v.links) (HasNextRoom p k s) (safe met) (λ f. failed) (λ v room. room.coming) in
-      record {
-        reads = ap (λ c. c.reads) met.others;
-        writes_later = omega (arith, writes_kept);
-        links_later = met.later;
-        write = λ f. absurd (never_write f);
-        link = λ f. met.cause failed;
-        torn = λ was is. absurd (not_both tally.whole was is);
-        status = tt;
-        stops = tt;
-        stays = all.stays;
-        never = all.never;
-      }
-
-pub none_kept : (E : Type 0) (e : E) (a b : Option View) → Told a b (TakesNext {E = E} (Err e)) → Told a b KeepsServing
-none_kept E e a b h = told_as a b (TakesNext {E = E} (Err e)) KeepsServing same_keeps h

@@ -27,3 +27,4 @@ pub mod ServeRuns
 pub mod ServeParts
 pub mod ServeKept
 pub mod OneServe
+pub mod EachServe

@@ -1,5 +1,5 @@
 -- Sessions one after the other, and how a run of them ends.
-use Rattle.std.proofs.Common.{◌≡◌, ◌≢◌, ◌⊎◌, ℕ, zero, suc, ◌+◌, ◌-◌, ◌<◌, ◌≤◌, List, [], ◌∷◌, ◌++◌, append-nil, append_assoc, length, length-append, get_or, drop, Bool, true, false, Option, Some, None, Result, Ok, Err, IsSome, IsTrue, refl, sym, ap, ◌∙◌, subst, arith, inl, inr}
+use Rattle.std.proofs.Common.{◌≡◌, ◌≢◌, ◌⊎◌, ℕ, zero, suc, ◌+◌, ◌-◌, ◌<◌, ◌≤◌, List, [], ◌∷◌, ◌++◌, append-nil, append_assoc, length, length-append, get_or, drop, Bool, true, false, Option, Some, None, Result, Ok, Err, is_err, IsSome, IsTrue, refl, sym, ap, ◌∙◌, subst, arith, inl, inr}
 use Rattle.std.specs.Prelude.{IfSome, IsErrOf, IsErrAnd}
 use Rattle.std.specs.List.{All}
 use Rattle.std.proofs.lemmas.List.{drop-drop, get_or-drop, length-drop}
@@ -33,7 +33,6 @@ use Rattle.session_commands.specs.Lines.{served_line}
 use Rattle.session_commands.specs.Serve.{SessionEnd, served, Session, IsAny, IsWhole, KeepsServing, OfSessions, Sessions, Total, end_errors, end_output, end_status, first_fault, no_sessions, total_answer, with_session}
 use Rattle.session_commands.specs.inner.Serving.{GoesOn, HasNextRoom, HasSessionRoom, IsSessionStatus, MayStop, MeetsNext, NextServed, NextUntold, ServedSo, ServesNext, ServesOn, next_moment, session_view, sessions_job, total_view}
 use Rattle.session_commands.proofs.Connections.{keeps_on, same_keeps}
-use Rattle.session_commands.proofs.LinkFaults.{link_faults}
 use Rattle.session_commands.proofs.OneServed.{one_session, session_sends}
 use Rattle.session_commands.proofs.OneTotal.{IsAmong, any_of, given_bytes, is_among, one_total, whole_status}
 use Rattle.session_commands.proofs.Sent.{told_with}
@@ -137,6 +136,10 @@ module _ (p : ProfileView) (good : IsProfile p) (address : List ℕ) (n : ℕ) w
         lines = subst (λ (b : Bool). GoesOn true b v.written.errors u.written.errors []) (sym whole) (ap (λ (x : View). x.written.errors) is ∙ sym (append-nil v.written.errors));
       }
 
+  listened : (E : Type 0) (r : Result (Unit {0}) E) (a b : Option View) → is_err r ≡ false → Told a b (Listens address r) → Told a b (Listens {E = E} address (Ok tt))
+  listened E (Ok tt) a b passed h = h
+  listened E (Err e) a b passed h = absurd cc
+
   listened_keeps : (E : Type 0) (v u : View) → Listens {E = E} address (Ok tt) v u → KeepsServing v u
   listened_keeps E v u is = record {
     files = ap (λ (x : View). x.files) is;
@@ -148,9 +151,10 @@ module _ (p : ProfileView) (good : IsProfile p) (address : List ℕ) (n : ℕ) w
   not_torn : (b : Bool) (W : Type 0) → b ≡ true → b ≡ false → W
   not_torn b W is not = absurd cc
 
-  pub serves_none : (E F : Type 0) (P : View → Type 0) (s : ServerState) (tally : Tally) (x y : HostState) → Told x.view y.view (Listens {E = E} address (Ok tt)) → MeetsFaults kinds.Links x y F P → s ≡ new_server → tally.status ≡ status.Done → tally.whole ≡ true
+  pub serves_none : (E F : Type 0) (P : View → Type 0) (s : ServerState) (tally : Tally) (r : Result (Unit {0}) E) (x y : HostState) → is_err r ≡ false → Told x.view y.view (Listens address r) → MeetsFaults kinds.Links x y F P → s ≡ new_server → tally.status ≡ status.Done → tally.whole ≡ true
       → ServesOn p address n 0 s tally x y
-  serves_none E F P s tally x y listens met new done whole =
+  serves_none E F P s tally r x y passed told met new done whole =
+      let listens = listened E r x.view y.view passed told in
       let writes_kept = ap (λ c. c.writes) met.others in
       record {
         served = told_as x.view y.view (Listens {E = E} address (Ok tt)) (ServedSo (Rose x.counts.links y.counts.links) (IsTrue x.sound) p address n 0 s tally) (λ v u is. listened_so E (Rose x.counts.links y.counts.links) (IsTrue x.sound) s tally v u is new done whole) listens;
@@ -173,23 +177,9 @@ module _ (p : ProfileView) (good : IsProfile p) (address : List ℕ) (n : ℕ) w
     inl (ap (λ (x : View). x.written.errors) same),
   )
 
-  pub unlistened_works : (E W L : Type 0) (e : E) (a b : Option View) → Told a b (Listens {E = E} address (Err e)) → Told a b (Works W L job (Err stop.LinkFault))
-  unlistened_works E W L e a b h = told_as a b (Listens {E = E} address (Err e)) (Works W L job (Err stop.LinkFault)) (unlistened_so E W L e) h
-
-  pub unlistened_kept : (E : Type 0) (e : E) (a b : Option View) → Told a b (Listens {E = E} address (Err e)) → Told a b KeepsServing
-  unlistened_kept E e a b h = told_as a b (Listens {E = E} address (Err e)) KeepsServing same_keeps h
-
-  name_room : (v : View) → Fits job v → length address ≤ v.room
-  name_room v fits = subst (λ (o : Option (List ℕ)). IfSome o (λ name. length name ≤ v.room)) (ap (λ (a : Answer). a.address) fits.1.2) fits.2.address
-
-  link_read : status.LinkFault ≢ status.ReadFault
-  link_read e = absurd cc
-
-  link_write : status.LinkFault ≢ status.WriteFault
-  link_write e = absurd cc
-
-  pub unlistened_faults : (F : Type 0) (x y : HostState) → MeetsFaults kinds.Links x y F (λ v. length address ≤ v.room) → F → MeetsFaultsOf job x y status.LinkFault
-  unlistened_faults F x y met failed = link_faults job x y status.LinkFault F (λ v. length address ≤ v.room) tt met name_room (λ e. failed) link_read link_write
+  pub unlistened_works : (E W L : Type 0) (r : Result (Unit {0}) E) (a b : Option View) → is_err r ≡ true → Told a b (Listens address r) → Told a b (Works W L job (Err stop.LinkFault))
+  unlistened_works E W L (Ok tt) a b failed h = absurd cc
+  unlistened_works E W L (Err e) a b failed h = told_as a b (Listens {E = E} address (Err e)) (Works W L job (Err stop.LinkFault)) (unlistened_so E W L e) h
 
   -- ---- what there is room for
 
@@ -294,9 +284,9 @@ module _ (p : ProfileView) (good : IsProfile p) (address : List ℕ) (n : ℕ) w
     both_bools true d P Q W was is not = is refl not
     both_bools false d P Q W was is not = was refl
 
-    pub serves_on : (x y z : HostState) → IfSome x.view ShowsBytes → ServesOn p address n k s b x y → Told y.view z.view (ServesNext (Rose y.counts.links z.counts.links) (IsTrue y.sound) p k s t b a (Ok tt)) → Told y.view z.view KeepsServing
-        → MeetsNext p k s b a (Ok tt) y z → ServesOn p address n (suc k) t a x z
-    serves_on x y z shown h told kept met = record {
+    pub serves_on : (m : ℕ) (x y z : HostState) → m ≡ suc k → IfSome x.view ShowsBytes → ServesOn p address n k s b x y → Told y.view z.view (ServesNext (Rose y.counts.links z.counts.links) (IsTrue y.sound) p k s t b a (Ok tt)) → Told y.view z.view KeepsServing
+        → MeetsNext p k s b a (Ok tt) y z → ServesOn p address n m t a x z
+    serves_on m x y z is shown h told kept met = subst (λ (j : ℕ). ServesOn p address n j t a x z) (sym is) (record {
       served = served_told (Rose x.counts.links y.counts.links) (Rose x.counts.links z.counts.links) (Rose y.counts.links z.counts.links) (IsTrue x.sound) (IsTrue y.sound) (λ r. omega (arith, r, met.links_later)) (λ r. omega (arith, r, h.links_later)) x.view y.view z.view h.stays shown h.served told;
       kept = told_then x.view y.view z.view KeepsServing KeepsServing KeepsServing keeps_on h.kept kept;
       reads = met.reads ∙ h.reads;
@@ -305,7 +295,7 @@ module _ (p : ProfileView) (good : IsProfile p) (address : List ℕ) (n : ℕ) w
       torn = λ not. both_bools b.whole a.whole ⊥ ⊥ (Rose x.counts.writes z.counts.writes) (λ was. omega (arith, h.torn was, met.writes_later)) (λ was is. omega (arith, met.torn was is, h.writes_later)) not;
       status = status_on (Rose x.counts.links y.counts.links) (Rose x.counts.links z.counts.links) (Rose y.counts.links z.counts.links) (λ r. omega (arith, r, met.links_later)) (λ r. omega (arith, r, h.links_later)) h.status met.status;
       stays = stays_sound x.view y.view x.sound y.sound z.sound KeepsServing h.kept h.stays met.stays;
-    }
+    })
 
     -- ---- one stops the run
 
@@ -414,10 +404,17 @@ module _ (p : ProfileView) (good : IsProfile p) (address : List ℕ) (n : ℕ) w
       lines_tell W tally.whole h.total.errors v w torn h.lines,
     )
 
-    pub all_works : (x y : HostState) → ServesOn p address n n s tally x y → Told x.view y.view (Works (Rose x.counts.writes y.counts.writes) (Rose x.counts.links y.counts.links) job (Ok tally.status))
-    all_works x y h =
+    -- as many as are to be
+    all_of : (k : ℕ) (x y : HostState) → k ≡ n → ServesOn p address n k s tally x y → ServesOn p address n n s tally x y
+    all_of k x y is h = subst (λ (m : ℕ). ServesOn p address n m s tally x y) is h
+
+    all_told : (x y : HostState) → ServesOn p address n n s tally x y → Told x.view y.view (Works (Rose x.counts.writes y.counts.writes) (Rose x.counts.links y.counts.links) job (Ok tally.status))
+    all_told x y h =
         told_as x.view y.view (ServedSo (Rose x.counts.links y.counts.links) (IsTrue x.sound) p address n n s tally) (Works (Rose x.counts.writes y.counts.writes) (Rose x.counts.links y.counts.links) job (Ok tally.status))
         (all_so (Rose x.counts.links y.counts.links) (IsTrue x.sound) (Rose x.counts.writes y.counts.writes) h.torn) h.served
+
+    pub all_works : (k : ℕ) (x y : HostState) → k ≡ n → ServesOn p address n k s tally x y → Told x.view y.view (Works (Rose x.counts.writes y.counts.writes) (Rose x.counts.links y.counts.links) job (Ok tally.status))
+    all_works k x y is h = all_told x y (all_of k x y is h)
 
     fault_so : (L : Type 0) → IsSessionStatus L tally.status → IsFault tally.status → L
     fault_so L h f = elim f [ inl q ↦ absurd (status_read L tally.status h q) | inr other ↦ elim other [ inl q ↦ absurd (status_write L tally.status h q) | inr q ↦ status_link L tally.status h q ] ]
@@ -431,8 +428,8 @@ module _ (p : ProfileView) (good : IsProfile p) (address : List ℕ) (n : ℕ) w
           | inr broke ↦ broke.1 sound fits
         ]
 
-    pub all_faults : (x y : HostState) → ServesOn p address n n s tally x y → MeetsFaultsOf job x y tally.status
-    all_faults x y h = record {
+    faults_of : (x y : HostState) → ServesOn p address n n s tally x y → MeetsFaultsOf job x y tally.status
+    faults_of x y h = record {
       reads_later = omega (arith, h.reads);
       writes_later = h.writes_later;
       links_later = h.links_later;
@@ -443,3 +440,6 @@ module _ (p : ProfileView) (good : IsProfile p) (address : List ℕ) (n : ℕ) w
       stays = h.stays;
       never = all_never (Rose x.counts.links y.counts.links) (IsTrue x.sound) x.view y.view h.served;
     }
+
+    pub all_faults : (k : ℕ) (x y : HostState) → k ≡ n → ServesOn p address n k s tally x y → MeetsFaultsOf job x y tally.status
+    all_faults k x y is h = faults_of x y (all_of k x y is h)
