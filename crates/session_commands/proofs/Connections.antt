@@ -253,7 +253,7 @@ module _ (p : ProfileView) (s t : ServerState) (now : ℕ) (r : Result ℕ Sessi
     tally_stops (Ok tt) counts = tt
     tally_stops (Err stop.WriteFault) counts = tt
     tally_stops (Err stop.Memory) counts = tt
-    tally_stops (Err stop.LinkFault) counts = counts
+    tally_stops (Err stop.LinkFault) counts = tt
     tally_stops (Err stop.ReadFault) counts = counts
     tally_stops (Err (stop.Refused line)) counts = counts
     tally_stops (Err (stop.Peer line)) counts = counts

@@ -96,7 +96,7 @@ module _ (p : ProfileView) (good : IsProfile p) where
 
   closed : (s : ServerState) (bytes : List ℕ) → AreBytes bytes → (out : List ℕ) (t : ServerState) (r : Result ℕ SessionFault) (cs : List Numbered) (e : SessionEnd) → Serves p s bytes out t r cs → IsShortEnd r → end_of r ≡ Some e → IsWhole e → Closed s bytes out t r cs
   unfolding EndsWith
-  closed s bytes are out t (Ok n) cs e (ex, is, few) word at whole = closed_by s bytes are out t (Ok n) cs [] ex (omega (arith, few)) (refl, is, few)
+  closed s bytes are out t (Ok n) cs e (ex, is, few) word at whole = closed_by s bytes are out t (Ok n) cs [] ex (omega (arith, is, few)) (refl, is, omega (arith, is, few))
   closed s bytes are out t (Err (fault.Packet f)) cs e (left, ex, few, none) word at whole = closed_by s bytes are out t (Err (fault.Packet f)) cs left ex (omega (arith, few)) (none, word, few)
   closed s bytes are out t (Err (fault.Wire f)) cs e (left, ex, few, refused) word at whole = closed_by s bytes are out t (Err (fault.Wire f)) cs left ex (omega (arith, few)) (refused, few)
   closed s bytes are out t (Err (fault.Client f)) cs e serves word at whole = absurd serves
@@ -107,9 +107,9 @@ module _ (p : ProfileView) (good : IsProfile p) where
   -- ---- what is left tells how a session ends
 
   ends_empty : (left : List ℕ) (f : PacketFault) → left ≡ [] → NoPacket left f → IsWordLong f → ⊥
-  ends_empty left f none no word =
-      let at : packets.Ended 0 ≡ f = one_packet_fault left (packets.Ended 0) f (inl (none, refl)) (inr no) tt word in
-      let h : NoPacket left (packets.Ended 0) = subst (NoPacket left) (sym at) no in
+  ends_empty left f none lacks word =
+      let at : packets.Ended 0 ≡ f = one_packet_fault left (packets.Ended 0) f (inl (none, refl)) (inr lacks) tt word in
+      let h : NoPacket left (packets.Ended 0) = subst (NoPacket left) (sym at) lacks in
       omega (arith, h.1)
 
   one_result : (left : List ℕ) → AreBytes left → (n : ℕ) (r q : Result ℕ SessionFault) → EndsWith left n r → EndsWith left n q → r ≡ q

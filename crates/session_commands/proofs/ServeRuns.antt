@@ -17,7 +17,7 @@ use Rattle.wire_profile.specs.Profiles.{IsProfile}
 use Rattle.update_sessions.specs.Exchanges.{MaySend}
 use Rattle.update_sessions.specs.Serving.{server_side}
 use Rattle.command_base.specs.Answer.{Answer}
-use Rattle.command_base.specs.Jobs.{Job, GivesOutput, MayAnswer, ToldSome, Works}
+use Rattle.command_base.specs.Jobs.{Job, GivesOutput, MayAnswer, ToldSome, Works, WorksOver}
 use Rattle.command_base.specs.Kept.{AddsPrefix, WritesNothing}
 use Rattle.command_base.specs.Sound.{Fits, HasRoomFor, IsFault, MeetsFaultsOf}
 use Rattle.command_base.specs.Telling.{status_of, stop_status, Tells}
@@ -177,9 +177,12 @@ module _ (p : ProfileView) (good : IsProfile p) (address : List ℕ) (n : ℕ) w
     inl (ap (λ (x : View). x.written.errors) same),
   )
 
-  pub unlistened_works : (E W L : Type 0) (r : Result (Unit {0}) E) (a b : Option View) → is_err r ≡ true → Told a b (Listens address r) → Told a b (Works W L job (Err stop.LinkFault))
-  unlistened_works E W L (Ok tt) a b failed h = absurd cc
-  unlistened_works E W L (Err e) a b failed h = told_as a b (Listens {E = E} address (Err e)) (Works W L job (Err stop.LinkFault)) (unlistened_so E W L e) h
+  unlistened_told : (E W L : Type 0) (r : Result (Unit {0}) E) (a b : Option View) → is_err r ≡ true → Told a b (Listens address r) → Told a b (Works W L job (Err stop.LinkFault))
+  unlistened_told E W L (Ok tt) a b failed h = absurd cc
+  unlistened_told E W L (Err e) a b failed h = told_as a b (Listens {E = E} address (Err e)) (Works W L job (Err stop.LinkFault)) (unlistened_so E W L e) h
+
+  pub unlistened_works : (E : Type 0) (r : Result (Unit {0}) E) (x y : HostState) → is_err r ≡ true → Told x.view y.view (Listens address r) → WorksOver job x y (Err stop.LinkFault)
+  unlistened_works E r x y failed h = unlistened_told E (Rose x.counts.writes y.counts.writes) (Rose x.counts.links y.counts.links) r x.view y.view failed h
 
   -- ---- what there is room for
 
@@ -228,7 +231,7 @@ module _ (p : ProfileView) (good : IsProfile p) (address : List ℕ) (n : ℕ) w
     next_view : (left l0 out eo : List ℕ) (total : Total) (e : SessionEnd) (r : ServerState) (errors : List ℕ) (v u w : View) → eo ≡ end_output k e → w ≡ session_view left out eo errors u → u ≡ total_view address k l0 total u.written.errors v
         → w ≡ total_view address (suc k) left (with_session k e out r total) errors v
     next_view left l0 out eo total e r errors v u w same is at =
-        let make : List (List ℕ) → List ℕ → List ℕ → List (List ℕ) → View = λ links moments output sent. record v { left = with_slot slots.Link left v.left; links = links; moments = moments; written = record v.written { output = output; errors = errors; links = sent } } in
+        let make : List (List ℕ) → List ℕ → List ℕ → List (List ℕ) → View = λ links moments output sent. record v { address = Some address; left = with_slot slots.Link left v.left; links = links; moments = moments; written = record v.written { output = output; errors = errors; links = sent } } in
         is ∙ ap (λ (x : View). session_view left out eo errors x) at
         ∙ ap (λ (l : List (List ℕ)). make l (drop 1 (drop k v.moments)) ((v.written.output ++ total.output) ++ eo) ((v.written.links ++ total.sent) ++ out ∷ [])) (one_more v.links k)
         ∙ ap (λ (l : List ℕ). make (drop (suc k) v.links) l ((v.written.output ++ total.output) ++ eo) ((v.written.links ++ total.sent) ++ out ∷ [])) (one_more v.moments k)
@@ -333,14 +336,14 @@ module _ (p : ProfileView) (good : IsProfile p) (address : List ℕ) (n : ℕ) w
     stopped_so L S M T W N (stop.Refused line) v u w h g = absurd g
     stopped_so L S M T W N (stop.Peer line) v u w h g = absurd g
 
-    pub stopped_works : (W N : Type 0) (e : Stop) (r : Result Status Stop) (x y : HostState) (c : Option View) (M T : Type 0) → IsErrAnd r (λ z. z ≡ e) → ServesOn p address n k s b x y → Told y.view c (ServesNext M T p k s t b a (Err e)) → Told x.view c (Works W N job r)
-    stopped_works W N e (Ok s1) x y c M T is h g = absurd is
-    stopped_works W N e (Err z) x y c M T is h g =
-        told_then x.view y.view c (ServedSo (Rose x.counts.links y.counts.links) (IsTrue x.sound) p address n k s b) (ServesNext M T p k s t b a (Err e)) (Works W N job (Err z))
-        (λ v u w i j. subst (λ (q : Stop). Works W N job (Err q) v w) (sym is) (stopped_so (Rose x.counts.links y.counts.links) (IsTrue x.sound) M T W N e v u w i j)) h.served g
-
-    pub kept_then : (x y : HostState) (c : Option View) → ServesOn p address n k s b x y → Told y.view c KeepsServing → Told x.view c KeepsServing
-    kept_then x y c h g = told_then x.view y.view c KeepsServing KeepsServing KeepsServing keeps_on h.kept g
+    pub stopped_works : (e : Stop) (r : Result Status Stop) (x y z : HostState) (M T : Type 0) → IsErrAnd r (λ q. q ≡ e) → ServesOn p address n k s b x y → Told y.view z.view (ServesNext M T p k s t b a (Err e)) → WorksOver job x z r
+    stopped_works e (Ok done) x y z M T is h g = absurd is
+    stopped_works e (Err q) x y z M T is h g =
+        let W = Rose x.counts.writes z.counts.writes in
+        let N = Rose x.counts.links z.counts.links in
+        let L = Rose x.counts.links y.counts.links in
+        told_then x.view y.view z.view (ServedSo L (IsTrue x.sound) p address n k s b) (ServesNext M T p k s t b a (Err e)) (Works W N job (Err q))
+        (λ v u w i j. subst (λ (f : Stop). Works W N job (Err f) v w) (sym is) (stopped_so L (IsTrue x.sound) M T W N e v u w i j)) h.served g
 
     -- where it can't
     room_so : (L S : Type 0) (v u : View) → ShowsBytes v → ServedSo L S p address n k s b v u → S → Fits job v → HasNextRoom p k s u

@@ -6,7 +6,7 @@ use Rattle.session_commands.proofs.serve.serve_all.Goals as goal
 pub returns-then-is_err-clause-works : goal.returns-then-is_err-clause-works
 returns-then-is_err-clause-works g c =
     let failed : is_err c.listen.result ≡ true = sym c.is_err.ensures.value ∙ c.if-is_err.true in
-    unlistened_works c.args.profile.now c.schema-schema.ensures.sound c.args.address.now c.args.sessions Failed _ _ c.listen.result _ _ failed c.listen.ensures.view
+    unlistened_works c.args.profile.now c.schema-schema.ensures.sound c.args.address.now c.args.sessions Failed c.listen.result (g.H.Host.state c.args.host.now) (g.H.Host.state c.listen.new.self) failed c.listen.ensures.view
 
 pub loop-session-init : goal.loop-session-init
 loop-session-init g c =
@@ -15,8 +15,8 @@ loop-session-init g c =
 
 pub returns-in_err-serve_next-clause-works : goal.returns-in_err-serve_next-clause-works
 returns-in_err-serve_next-clause-works g c =
-    stopped_works c.args.profile.now c.schema-schema.ensures.sound c.args.address.now c.args.sessions c.loop-session.session c.loop-session-test.true c.loop-session.server c.serve_next.new.server c.loop-session.tally c.serve_next.new.tally _ _
-    c.in_err-serve_next.field-0.0 c.from_residual.result _ _ _ _ _ c.from_residual.ensures.1 c.loop-session.invariant c.in_err-serve_next.ensures.serves
+    stopped_works c.args.profile.now c.schema-schema.ensures.sound c.args.address.now c.args.sessions c.loop-session.session c.loop-session-test.true c.loop-session.server c.serve_next.new.server c.loop-session.tally c.serve_next.new.tally
+    c.in_err-serve_next.field-0.0 c.from_residual.result (g.H.Host.state c.args.host.now) (g.H.Host.state c.loop-session.host) (g.H.Host.state c.serve_next.new.host) _ _ c.from_residual.ensures.1 c.loop-session.invariant c.in_err-serve_next.ensures.serves
 
 pub returns-in_err-serve_next-clause-faults : goal.returns-in_err-serve_next-clause-faults
 returns-in_err-serve_next-clause-faults g c =
