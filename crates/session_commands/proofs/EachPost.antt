@@ -65,19 +65,19 @@ packet_length n =
     ]
 
 -- a packet comes first
-record BeginsPacket (bytes : List ℕ) : Type 0 where
-  body : List ℕ
-  rest : List ℕ
-  fits : IsPacketLength (length body)
-  parts : bytes ≡ packet body ++ rest
+pub record BeginsPacket (bytes : List ℕ) : Type 0 where
+  pub body : List ℕ
+  pub rest : List ℕ
+  pub fits : IsPacketLength (length body)
+  pub parts : bytes ≡ packet body ++ rest
 
 -- no packet comes, which has a line
-record BeginsNone (bytes : List ℕ) : Type 0 where
-  fault : PacketFault
-  line : List ℕ
-  none : NoFrame bytes fault
-  few : IsWordLong fault
-  tells : packet_line fault ≡ Some line
+pub record BeginsNone (bytes : List ℕ) : Type 0 where
+  pub fault : PacketFault
+  pub line : List ℕ
+  pub none : NoFrame bytes fault
+  pub few : IsWordLong fault
+  pub tells : packet_line fault ≡ Some line
 
 cut_short : (bytes : List ℕ) → length bytes < 4 → BeginsNone bytes
 cut_short [] less = record { fault = packets.Ended 0; line = _; none = inl (refl, refl); few = tt; tells = refl }
@@ -109,7 +109,7 @@ module _ (bytes : List ℕ) (n : ℕ) (rest : List ℕ) (few : n < 2 ^ 32) (is :
         | inr bad ↦ inr (record { fault = packets.BadLength n; line = _; none = inr (rest, is, bad); few = few; tells = refl })
       ]
 
-begins_so : (bytes : List ℕ) → BeginsWord bytes → BeginsPacket bytes ⊎ BeginsNone bytes
+pub begins_so : (bytes : List ℕ) → BeginsWord bytes → BeginsPacket bytes ⊎ BeginsNone bytes
 begins_so bytes (short less) = inr (cut_short bytes less)
 begins_so bytes (whole n rest few is are) = begins_either bytes n rest few is
 
@@ -117,10 +117,10 @@ begins_so bytes (whole n rest few is are) = begins_either bytes n rest few is
 
 module _ (p : ProfileView) (good : IsProfile p) where
   module _ {M : Type 0} (kind : Kind) (formed : IsFormed p.schema (cell_shape p kind.cell)) (tree : M → ValueView) (inside : ValueView → M) (Is : M → Type 0) (laws : KindLaws kind tree inside Is) (bytes : List ℕ) where
-    abbrev IsMeant : Type 0
+    abbrev pub IsMeant : Type 0
     IsMeant = (m : M) × Is m × Means p kind (tree m) bytes
 
-    abbrev IsRefused : Type 0
+    abbrev pub IsRefused : Type 0
     IsRefused = (fault : WireFault) × WireRefused p kind bytes fault
 
     by_cause : (v : ValueView) → SpellsWhole p kind v bytes → (o : Option WireFault) → kind.cause (owned p v) ≡ o → IsMeant ⊎ IsRefused
@@ -133,7 +133,7 @@ module _ (p : ProfileView) (good : IsProfile p) where
     by_rest v x [] split spells deep = by_cause v (subst (Spells p.schema (cell_shape p kind.cell) v) (sym (split ∙ append-nil x)) spells, deep) _ refl
     by_rest v x (b ∷ rest) split spells deep = inr (wire.Trailing (moved 0 (length x)), framing.goes_on v x (b ∷ rest) (spells, deep) split (omega arith) refl)
 
-    each_message : AreBytes bytes → IsMeant ⊎ IsRefused
+    pub each_message : AreBytes bytes → IsMeant ⊎ IsRefused
     each_message are = elim (exactly_one p.schema good.schema MAX_LEVELS (cell_shape p kind.cell) bytes formed are).either [
       | inl (v, x, (rest, split, spells, deep)) ↦ by_rest v x rest split spells deep
       | inr (offset, cause, r) ↦ inr (wire.Refused (moved 0 offset) cause, framing.no_value offset cause r refl)

@@ -18,3 +18,13 @@ pub mod Calls
 pub mod Replies
 pub mod PostEnds
 pub mod PostKept
+pub mod OneExchange
+pub mod OneServed
+pub mod OneTotal
+pub mod ToldEnds
+pub mod Connections
+pub mod ServeRuns
+pub mod ServeParts
+pub mod ServeKept
+pub mod OneServe
+pub mod EachServe

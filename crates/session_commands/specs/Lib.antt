@@ -1,4 +1,6 @@
 pub mod Linked
 pub mod Lines
+pub mod SessionEnds
 pub mod Post
+pub mod Serve
 pub mod inner
