@@ -18,3 +18,4 @@ pub mod Calls
 pub mod Replies
 pub mod PostEnds
 pub mod PostKept
+pub mod OneExchange

@@ -1,4 +1,5 @@
 pub mod Linked
 pub mod Lines
 pub mod Post
+pub mod SessionEnds
 pub mod inner

@@ -1,6 +1,7 @@
 //! The commands over a link: `post`, which sends one call and prints its reply.
 #![tactic(auto)]
 
+mod ending;
 mod exchange;
 mod laws;
 mod post;

@@ -1,0 +1,50 @@
+-- What is told of a session that fails. This project's own.
+use Rattle.std.specs.Prelude.{◌≡◌, List, Option, Some, None, codes}
+use Rattle.update_sessions.specs.declared.fault.SessionFault.{SessionFault}
+use Rattle.update_sessions.specs.declared.fault.SessionFault.TheVariants as session
+use Rattle.command_base.specs.Answer.{unplaced_line}
+use Rattle.command_base.specs.declared.stop.Stop.{Stop}
+use Rattle.command_base.specs.declared.stop.Stop.TheVariants as stop
+use Rattle.fault_lines.specs.Answers.{answer_line}
+use Rattle.fault_lines.specs.Messages.{wire_line}
+use Rattle.session_commands.specs.Lines.{packet_line}
+use Rattle.session_commands.specs.Post.{IsWordLong}
+
+abbrev pub many_frames_line : List ℕ
+many_frames_line = unplaced_line (codes "peer") (codes "TooManyFrames")
+
+-- of what the other end did wrong; a fault of the link and out of memory have none
+abbrev pub session_line : SessionFault → Option (List ℕ)
+session_line (session.Packet fault) = packet_line fault
+session_line (session.Wire fault) = wire_line (codes "peer") fault
+session_line (session.Client fault) = answer_line fault
+session_line session.TooManyFrames = Some many_frames_line
+session_line session.LinkFault = None
+session_line session.Memory = None
+
+-- a length that no packet has is one of four bytes
+abbrev pub IsShort : SessionFault → Type 0
+IsShort (session.Packet fault) = IsWordLong fault
+IsShort (session.Wire fault) = Unit {0}
+IsShort (session.Client fault) = Unit {0}
+IsShort session.TooManyFrames = Unit {0}
+IsShort session.LinkFault = Unit {0}
+IsShort session.Memory = Unit {0}
+
+-- the other end's fault with this line, or out of memory
+abbrev pub PeerWith : Option (List ℕ) → Stop → Type 0
+PeerWith line (stop.Peer told) = line ≡ Some told.items
+PeerWith line (stop.Refused told) = ⊥
+PeerWith line stop.ReadFault = ⊥
+PeerWith line stop.WriteFault = ⊥
+PeerWith line stop.LinkFault = ⊥
+PeerWith line stop.Memory = Unit {0}
+
+-- the stop of a session that fails
+abbrev pub TellsSession : SessionFault → Stop → Type 0
+TellsSession (session.Packet fault) s = PeerWith (packet_line fault) s
+TellsSession (session.Wire fault) s = PeerWith (wire_line (codes "peer") fault) s
+TellsSession (session.Client fault) s = PeerWith (answer_line fault) s
+TellsSession session.TooManyFrames s = PeerWith (Some many_frames_line) s
+TellsSession session.LinkFault s = s ≡ stop.LinkFault
+TellsSession session.Memory s = s ≡ stop.Memory

@@ -1,0 +1,45 @@
+//! How a session that fails ends a run.
+ghost use Rattle.session_commands.specs.Post.{IsWordLong};
+ghost use Rattle.session_commands.specs.SessionEnds.{IsShort, PeerWith, TellsSession, many_frames_line};
+ghost use Rattle.session_commands.specs.Lines.{packet_line};
+ghost use Rattle.command_base.specs.Loading.{PeerAs};
+
+use command_base::{Stop, unplaced_line};
+use fault_lines::{answer_line, packet_stop, wire_line};
+use std::alloc::Global;
+use tl_base::PacketFault;
+use update_sessions::SessionFault;
+
+/// The stop of a run whose session failed: the other end's fault, or the link's.
+pub fn session_stop(alloc: Global, fault: SessionFault) -> Stop
+    ensures stop { TellsSession fault result }
+    ensures word { IsShort fault }
+{
+    match fault {
+        SessionFault::Packet(fault) => packet_failed(alloc, fault),
+        SessionFault::Wire(fault) => Stop::of_peer(wire_line(alloc, "peer", fault)),
+        SessionFault::Client(fault) => Stop::of_peer(answer_line(alloc, fault)),
+        SessionFault::TooManyFrames => many_frames(alloc),
+        SessionFault::LinkFault => Stop::LinkFault,
+        SessionFault::Memory => Stop::Memory,
+    }
+}
+
+// The stop of a session whose next bytes are no packet. A session's fault is no failed read.
+fn packet_failed(alloc: Global, fault: PacketFault) -> Stop
+    ensures stop { PeerWith (packet_line fault) result }
+    ensures word { IsWordLong fault }
+{
+    match fault {
+        PacketFault::BadLength { length } => packet_stop(alloc, PacketFault::BadLength { length }),
+        PacketFault::Ended { had } => packet_stop(alloc, PacketFault::Ended { had }),
+        PacketFault::ReadFault | PacketFault::Memory => Stop::Memory,
+    }
+}
+
+// The stop of a session of too many frames.
+fn many_frames(alloc: Global) -> Stop
+    ensures { PeerAs many_frames_line result }
+{
+    Stop::of_peer(unplaced_line(alloc, "peer", "TooManyFrames"))
+}
