@@ -2,4 +2,5 @@ pub mod Linked
 pub mod Lines
 pub mod Post
 pub mod SessionEnds
+pub mod Client
 pub mod inner
