@@ -1,6 +1,6 @@
 -- What `client` answers: the client of a state file is brought up to date, saved and told; or where and why schema, profile, state or channels are refused, or
 -- what the other end of the link does wrong. This project's own.
-use Rattle.std.specs.Prelude.{◌≡◌, ◌⊎◌, ℕ, ◌<◌, ◌≤◌, ℤ, List, [], ◌∷◌, ◌++◌, length, ltb, cond, codes, Option, Some, None, option_and_then, Ok, Err}
+use Rattle.std.specs.Prelude.{◌≡◌, ℕ, ◌<◌, ◌≤◌, ℤ, List, [], ◌∷◌, ◌++◌, length, ltb, cond, codes, Option, Some, None, option_and_then, Ok, Err}
 use Rattle.tl_base.specs.Contents.{AreBytes, Files, HoldBytes}
 use Rattle.tl_base.specs.Outside.{View, HasFile}
 use Rattle.box_events.specs.declared.limits.TheConstants.{MAX_CHANNELS}
@@ -23,13 +23,13 @@ use Rattle.update_sessions.specs.Honest.{HearsHonestly}
 use Rattle.update_sessions.specs.declared.fault.SessionFault.{SessionFault}
 use Rattle.command_base.specs.Answer.{Answer, refused, unplaced_line}
 use Rattle.command_base.specs.Jobs.{Job}
-use Rattle.command_base.specs.declared.status.Status.TheVariants.{Done, PeerFault}
+use Rattle.command_base.specs.declared.status.Status.TheVariants.{PeerFault}
 use Rattle.fault_lines.specs.Messages.{wire_line}
 use Rattle.fault_lines.specs.Profiled.{OfProfileText}
 use Rattle.fault_lines.specs.SavedClients.{load_line}
 use Rattle.session_commands.specs.declared.state.TheConstants.{MAX_STATE_BYTES}
-use Rattle.session_commands.specs.Linked.{over_link, linking_job, next_link, KeepsFiles, LeavesLinks}
-use Rattle.session_commands.specs.Post.{IsFile, ReachesLink}
+use Rattle.session_commands.specs.Linked.{over_link, saves_after, linking_job, next_link, KeepsFiles, LeavesLinks, LeavesState}
+use Rattle.session_commands.specs.Post.{ReachesLink}
 use Rattle.session_commands.specs.SessionEnds.{IsShort, session_line}
 
 -- ---- the state file
@@ -75,10 +75,6 @@ many_channels_line = unplaced_line (codes "words") (codes "TooMany")
 abbrev pub client_line : ClientState → List ℕ
 client_line c = codes "client " ++ client_positions (client_numbers c) ++ codes "\n"
 
--- an answer that makes a link to an address, over which it sends this, and then creates State under a name with these bytes
-abbrev pub saves_after : List ℕ → List ℕ → List ℕ → List ℕ → List ℕ → Answer
-saves_after address sent name saved output = record (over_link address sent Done output []) { state = Some (name, saved) }
-
 -- The server is asked for all that is new over a link that gives these bytes, and the client after that is saved and told; or the other end does something
 -- wrong, and nothing is saved. The session is one that `HearsHonestly`: over an honest server's frames what is saved has that server's boxes.
 pub data OfSession (p : ProfileView) (address name : List ℕ) (c : ClientState) (given : List ℕ) (a : Answer) : Type 0 where
@@ -104,15 +100,6 @@ abbrev pub ClientAnswer : Files → List ℕ → List ℕ → List ℕ → List 
 ClientAnswer files given schema address name channels a = (text : List ℕ) × HasFile files schema text × OfProfileText text (OfStateFile address name channels files given) a
 
 -- ---- what is left
-
--- State was created under this name, and has a prefix of these bytes
-abbrev pub BeginsState : Option (List ℕ × List ℕ) → View → Type 0
-BeginsState None w = ⊥
-BeginsState (Some s) w = (w.state_name ≡ Some s.0) × (rest : List ℕ) × (w.written.state ++ rest ≡ s.1)
-
--- State and its name are as before; or it was created for an answer, and has a prefix of what that writes there
-abbrev pub LeavesState : (Answer → Type 0) → View → View → Type 0
-LeavesState Answers v w = ((w.written.state ≡ v.written.state) × (w.state_name ≡ v.state_name)) ⊎ ((a : Answer) × Answers a × BeginsState a.state w)
 
 -- What `client` leaves: files, moments and Input; State, where the session doesn't end well; and links, where the work doesn't come to them
 pub record ClientKeeps (schema address name : List ℕ) (channels : List ℤ) (v w : View) : Type 0 where

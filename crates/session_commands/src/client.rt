@@ -5,8 +5,9 @@ ghost use Rattle.wire_profile.specs.Profiles.{IsProfile};
 ghost use Rattle.command_base.specs.Jobs.{WorksOver};
 ghost use Rattle.command_base.specs.Sound.{MeetsFaultsOf};
 ghost use Rattle.command_base.specs.Telling.{status_of};
-ghost use Rattle.session_commands.specs.Client.{client_job};
-ghost use Rattle.session_commands.specs.inner.Recovering.{KeepsClient, KeepsStateFile, session_job, state_job};
+ghost use Rattle.session_commands.specs.Client.{OfSession, client_job};
+ghost use Rattle.session_commands.specs.inner.Calling.{KeepsClient};
+ghost use Rattle.session_commands.specs.inner.Recovering.{KeepsStateFile, session_job, state_job};
 
 use crate::channels::watch_all;
 use crate::leaving::{leave, leaving_of};
@@ -70,7 +71,7 @@ fn recover<H: Host>(
     requires sound { IsProfile profile.now }
     requires next { client.next ≤ 2000000000 }
     ensures works { WorksOver (session_job profile.now address.now state.now client) (H.state host.old) (H.state host.new) result }
-    ensures kept { Told (H.state host.old).view (H.state host.new).view (KeepsClient profile.now address.now state.now client) }
+    ensures kept { Told (H.state host.old).view (H.state host.new).view (KeepsClient (OfSession profile.now address.now state.now client)) }
     ensures faults { MeetsFaultsOf (session_job profile.now address.now state.now client) (H.state host.old) (H.state host.new) (status_of result) }
 {
     call_server(alloc, host, profile, address, &mut client)?;

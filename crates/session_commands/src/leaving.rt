@@ -8,7 +8,8 @@ ghost use Rattle.box_wire.specs.Framing.{Framed};
 ghost use Rattle.box_wire.specs.Kinds.{saved_clients};
 ghost use Rattle.wire_values.specs.SavedClients.{saved_tree};
 ghost use Rattle.session_commands.specs.Client.{client_line};
-ghost use Rattle.session_commands.specs.inner.Recovering.{HasBothRoom, HasStateRoom, LeavesOf, WritesBoth, WritesState};
+ghost use Rattle.session_commands.specs.inner.Recovering.{LeavesOf};
+ghost use Rattle.session_commands.specs.inner.StateFiles.{HasBothRoom, HasStateRoom, WritesBoth, WritesState};
 
 use box_client::Client;
 use box_wire::spell_saved;

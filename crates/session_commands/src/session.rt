@@ -7,7 +7,8 @@ ghost use Rattle.update_sessions.specs.Heard.{MayAsk};
 ghost use Rattle.update_sessions.specs.Links.{LinkNeverFails, OverLink, UsesLink};
 ghost use Rattle.session_commands.specs.Linked.{HasLinkRoom, OverHost};
 ghost use Rattle.session_commands.specs.inner.Posting.{LinkStops};
-ghost use Rattle.session_commands.specs.inner.Recovering.{CallsServer, Converses, HasRoomToAsk};
+ghost use Rattle.session_commands.specs.inner.Calling.{HasRoomToSend};
+ghost use Rattle.session_commands.specs.inner.Recovering.{CallsServer, Converses};
 
 use crate::ending::session_stop;
 use box_client::Client;
@@ -28,7 +29,7 @@ pub fn call_server<H: Host>(
     requires next { client.old.next ≤ 2000000000 }
     ensures calls { Told (H.state host.old).view (H.state host.new).view (CallsServer profile.now address.now client.old client.new result) }
     ensures stops { LinkStops result }
-    ensures faults { MeetsFaults kinds.Links (H.state host.old) (H.state host.new) (IsErrOf result Stop.LinkFault) (HasRoomToAsk profile.now address.now client.old) }
+    ensures faults { MeetsFaults kinds.Links (H.state host.old) (H.state host.new) (IsErrOf result Stop.LinkFault) (HasRoomToSend address.now (MayAsk profile.now client.old)) }
 {
     match host.connect(address) {
         Ok(()) => converse(alloc, host, profile, client),
