@@ -26,6 +26,14 @@ err_is x y e = cc
 never_ok : {E : Type 0} (x : E) → ◌≡◌ {A = Result (Unit {0}) E} (Ok tt) (Err x) → ⊥
 never_ok x e = cc
 
+-- an answer asks for one link to the address, over which it sends as much as may be sent
+pub record IsCall (address : List ℕ) (MaySend : List ℕ → List ℕ → Type 0) (given : List ℕ) (a : Answer) : Type 0 where
+  pub taken : a.taken ≡ 1
+  pub named : a.address ≡ Some address
+  pub sent : List ℕ
+  pub links : a.links ≡ sent ∷ []
+  pub most : (other : List ℕ) → MaySend given other → length other ≤ length sent
+
 -- Of: what is answered over a link that gives this. Does: what a call over it does, by what it gives and what was sent.
 module _ (address name : List ℕ) (Of : List ℕ → Answer → Type 0) (Does : Result (Unit {0}) Stop → List ℕ → List ℕ → Type 0)
     (stops : (e : Stop) (given sent : List ℕ) → Does (Err e) given sent → LinkStops (Err e))
@@ -216,15 +224,7 @@ module _ (address name : List ℕ) (Of : List ℕ → Answer → Type 0) (Does :
 
   -- ---- where nothing can fail
 
-  -- an answer asks for one link to the address, over which it sends as much as may be sent
-  pub record IsCall (MaySend : List ℕ → List ℕ → Type 0) (given : List ℕ) (a : Answer) : Type 0 where
-    pub taken : a.taken ≡ 1
-    pub named : a.address ≡ Some address
-    pub sent : List ℕ
-    pub links : a.links ≡ sent ∷ []
-    pub most : (other : List ℕ) → MaySend given other → length other ≤ length sent
-
-  pub fits_asks : (MaySend : List ℕ → List ℕ → Type 0) → ((given : List ℕ) (a : Answer) → AreBytes given → Of given a → IsCall MaySend given a) → (v : View) → AreBytes (next_link v) → Fits recovering v → HasRoomToSend address MaySend v
+  pub fits_asks : (MaySend : List ℕ → List ℕ → Type 0) → ((given : List ℕ) (a : Answer) → AreBytes given → Of given a → IsCall address MaySend given a) → (v : View) → AreBytes (next_link v) → Fits recovering v → HasRoomToSend address MaySend v
   fits_asks MaySend shape v are (a, of, room) =
       let call = shape (next_link v) a are of in
       let named : IfSome (Some address) (λ n. length n ≤ v.room) = subst (λ (x : Option (List ℕ)). IfSome x (λ n. length n ≤ v.room)) call.named room.address in
