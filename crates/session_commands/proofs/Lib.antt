@@ -19,3 +19,14 @@ pub mod Replies
 pub mod PostEnds
 pub mod PostKept
 pub mod OneExchange
+pub mod StateFiles
+pub mod ServerCalls
+pub mod Recovered
+pub mod OneSession
+pub mod OneState
+pub mod SessionAnswers
+pub mod SlotStages
+pub mod StateParts
+pub mod ClientParts
+pub mod OneRecovery
+pub mod ClientKept
