@@ -30,3 +30,6 @@ pub mod StateParts
 pub mod ClientParts
 pub mod OneRecovery
 pub mod ClientKept
+pub mod Endings
+pub mod StateBytes
+pub mod WatchedChannels

@@ -1,8 +1,8 @@
 -- Calls over a link that is made to an address, from what is done over the link.
-use Rattle.std.proofs.Common.{◌≡◌, ℕ, ◌+◌, ◌<◌, ◌≤◌, List, length, Option, Some, Result, Ok, Err, refl, sym, ap, ◌∙◌, subst, arith, inl, inr}
+use Rattle.std.proofs.Common.{◌≡◌, ℕ, ◌+◌, ◌<◌, ◌≤◌, List, length, Option, Some, None, Result, Ok, Err, refl, sym, ap, ◌∙◌, subst, arith, inl, inr}
 use Rattle.tl_base.specs.Outside.{View, HostState, left_of, written_of}
 use Rattle.tl_base.specs.Calls.{Told, Connects}
-use Rattle.tl_base.specs.Using.{MeetsFaults}
+use Rattle.tl_base.specs.Using.{MeetsFaults, SourceState, SinkState}
 use Rattle.tl_base.specs.declared.counts.Kind.TheVariants as kinds
 use Rattle.tl_base.specs.declared.host.Out.TheVariants as outs
 use Rattle.tl_base.specs.declared.host.Slot.TheVariants as slots
@@ -10,6 +10,7 @@ use Rattle.command_base.specs.declared.stop.Stop.{Stop}
 use Rattle.command_base.specs.declared.stop.Stop.TheVariants as stop
 use Rattle.command_base.proofs.Faults.{safe, fails_as, then_fails}
 use Rattle.command_base.proofs.Views.{told_as, told_then}
+use Rattle.update_sessions.specs.Links.{LinkNeverFails, OverLink}
 use Rattle.session_commands.specs.Linked.{next_link, OverHost, HasLinkRoom}
 use Rattle.session_commands.specs.inner.Calling.{CallsOver, HasRoomToSend}
 use Rattle.session_commands.proofs.HostLinks.{none_written, link_used}
@@ -51,3 +52,14 @@ module _ (E : Type 0) (address : List ℕ) (Does : List ℕ → List ℕ → Typ
   not_called_faults x y F G to met =
       let n = fails_as x.view x.sound y.sound G F (λ v. (0 < length v.links) × (length address ≤ v.room)) (HasRoomToSend address Does) (safe met) to (λ v room. (room.coming, room.name)) in
       record { later = met.later; cause = λ f. met.cause (to f); others = met.others; stays = met.stays; never = n.never }
+
+-- ---- over a link
+
+-- what holds of what a link gives and of what was written tells more
+pub over_as : (left before after : Option (List ℕ)) (P Q : List ℕ → List ℕ → Type 0) → ((bytes out : List ℕ) → P bytes out → Q bytes out) → OverLink left before after P → OverLink left before after Q
+over_as None before after P Q f h = tt
+over_as (Some bytes) None after P Q f h = tt
+over_as (Some bytes) (Some before) after P Q f (out, appends, h) = (out, appends, f bytes out h)
+
+pub never_as : (a : SourceState) (x : SinkState) (May : List ℕ → List ℕ → Type 0) (F G : Type 0) → LinkNeverFails a x May F → (G → F) → LinkNeverFails a x May G
+never_as a x May F G h f bytes before left written sound room failed = h bytes before left written sound room (f failed)

@@ -1,5 +1,5 @@
 -- What is told of a session that fails. This project's own.
-use Rattle.std.specs.Prelude.{◌≡◌, List, Option, Some, None, codes}
+use Rattle.std.specs.Prelude.{◌≡◌, ℕ, List, Option, Some, None, codes}
 use Rattle.update_sessions.specs.declared.fault.SessionFault.{SessionFault}
 use Rattle.update_sessions.specs.declared.fault.SessionFault.TheVariants as session
 use Rattle.command_base.specs.Answer.{unplaced_line}
