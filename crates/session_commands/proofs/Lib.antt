@@ -33,3 +33,4 @@ pub mod ClientKept
 pub mod Endings
 pub mod StateBytes
 pub mod WatchedChannels
+pub mod ShownFaults

@@ -1,5 +1,6 @@
 -- What is answered to a client by its session is one.
 use Rattle.std.proofs.Common.{◌≡◌, ℕ, ◌≤◌, List, [], ◌∷◌, length, Option, Some, None, Result, Ok, Err, Vec, Global, refl, sym, ap, ◌∙◌, subst}
+use Rattle.std.specs.Prelude.{IsErrOf}
 use Rattle.tl_base.specs.Contents.{AreBytes}
 use Rattle.tl_encode.proofs.OneSpelling.{one_spelling}
 use Rattle.box_client.specs.Saving.{saved_of}
@@ -89,6 +90,9 @@ peer_linked line s h is = subst (PeerWith line) is h
 memory_linked : stop.Memory ≡ stop.LinkFault → ⊥
 memory_linked e = cc
 
+stop_is : (T : Type 0) (s : Stop) → IsErrOf {T = T} (Err s) stop.LinkFault → s ≡ stop.LinkFault
+stop_is T s e = cc
+
 -- the link failed where its session says so
 pub session_failed : (fault : SessionFault) (s : Stop) → TellsSession fault s → s ≡ stop.LinkFault → fault ≡ session.LinkFault
 session_failed (session.Packet f) s tells is = absurd (peer_linked _ s tells is)
@@ -97,6 +101,10 @@ session_failed (session.Client f) s tells is = absurd (peer_linked _ s tells is)
 session_failed session.TooManyFrames s tells is = absurd (peer_linked _ s tells is)
 session_failed session.LinkFault s tells is = refl
 session_failed session.Memory s tells is = absurd (memory_linked (sym tells ∙ is))
+
+-- likewise as what is answered
+pub failed_session : {T U : Type 0} (r : Result U SessionFault) (fault : SessionFault) (s : Stop) → r ≡ Err fault → TellsSession fault s → IsErrOf {T = T} (Err s) stop.LinkFault → r ≡ Err session.LinkFault
+failed_session {T} {U} r fault s is tells failed = is ∙ ap (λ (f : SessionFault). Err f) (session_failed fault s tells (stop_is T s failed))
 
 -- ---- answers
 
