@@ -14,5 +14,5 @@ mod session;
 mod state;
 
 pub use client::recover_client;
-pub use laws::post_has_one_answer;
+pub use laws::{client_has_one_answer, post_has_one_answer};
 pub use post::post_call;
