@@ -5,7 +5,7 @@ use Rattle.command_base.specs.Kept.{LeavesInput, OnlyErrors}
 use Rattle.session_commands.specs.Linked.{KeepsFiles, LeavesLinks}
 use Rattle.session_commands.specs.Post.{PostKeeps}
 
-files_errors : (v w : View) → OnlyErrors v w → KeepsFiles v w
+pub files_errors : (v w : View) → OnlyErrors v w → KeepsFiles v w
 files_errors v w e = record { files = ap (λ (x : View). x.files) e; moments = ap (λ (x : View). x.moments) e; room = ap (λ (x : View). x.room) e }
 
 pub files_then : (v u w : View) → KeepsFiles v u → KeepsFiles u w → KeepsFiles v w
@@ -15,7 +15,7 @@ input_then : (came : Type 0) (v u w : View) → LeavesInput came v u → OnlyErr
 input_then came v u w (inl same) e = inl (ap (λ (x : View). x.left.input) e ∙ same)
 input_then came v u w (inr c) e = inr c
 
-links_then : (came : Type 0) (v u w : View) → LeavesLinks came v u → OnlyErrors u w → LeavesLinks came v w
+pub links_then : (came : Type 0) (v u w : View) → LeavesLinks came v u → OnlyErrors u w → LeavesLinks came v w
 links_then came v u w (inl same) e = inl (ap (λ (x : View). x.links) e ∙ same.0, ap (λ (x : View). x.written.links) e ∙ same.1, ap (λ (x : View). x.address) e ∙ same.2)
 links_then came v u w (inr c) e = inr c
 

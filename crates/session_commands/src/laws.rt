@@ -1,8 +1,14 @@
 //! Laws of the definitions, each carried by a function that does nothing.
+ghost use Rattle.session_commands.specs.Client.{ClientHasOneAnswer};
 ghost use Rattle.session_commands.specs.Post.{PostHasOneAnswer, PostsAreAnswered};
 
 /// Over a link that gives bytes, `post` has one answer at most, and one where files hold bytes and both are there.
 pub fn post_has_one_answer()
     ensures one { PostHasOneAnswer }
     ensures there { PostsAreAnswered }
+{}
+
+/// Over a link that gives bytes, and of files that hold bytes, `client` has one answer at most.
+pub fn client_has_one_answer()
+    ensures one { ClientHasOneAnswer }
 {}

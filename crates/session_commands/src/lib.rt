@@ -1,18 +1,25 @@
-//! The commands over a link: `post`, which sends one call and prints its reply, and `serve`, which serves connections from one new server.
+//! The commands over a link: `post`, which sends one call and prints its reply, `serve`, which serves connections from one new server, and `client`, which
+//! brings a saved client up to date.
 #![tactic(auto)]
 
+mod channels;
+mod client;
 mod connection;
 mod ending;
 mod exchange;
 mod laws;
+mod leaving;
 mod post;
 mod reply;
 mod sending;
 mod serve;
 mod serve_laws;
+mod session;
+mod state;
 mod telling;
 
-pub use laws::post_has_one_answer;
+pub use client::recover_client;
+pub use laws::{client_has_one_answer, post_has_one_answer};
 pub use post::post_call;
 pub use serve::serve_sessions;
 pub use serve_laws::serve_has_one_answer;

@@ -1,0 +1,128 @@
+-- What `client` makes of its schema, and then of the profile that this is.
+use Rattle.std.proofs.Common.{◌≡◌, ℕ, ℤ, List, Option, Result, Ok, Err, codes, sym, ap, ◌∙◌, subst, inl, inr}
+use Rattle.std.specs.Prelude.{IsErrAnd}
+use Rattle.tl_base.specs.Contents.{Files}
+use Rattle.tl_base.specs.Outside.{View, HasFile, IsThere}
+use Rattle.tl_base.specs.Calls.{Told}
+use Rattle.tl_base.specs.Hosted.{OnlySlot}
+use Rattle.tl_base.specs.declared.host.Slot.TheVariants as slots
+use Rattle.tl_schema.specs.Schemas.{Declared}
+use Rattle.wire_profile.specs.Places.{ProfileView}
+use Rattle.wire_profile.specs.Faults.{IsAnswer}
+use Rattle.command_base.specs.declared.status.Status.{Status}
+use Rattle.command_base.specs.declared.stop.Stop.{Stop}
+use Rattle.command_base.specs.declared.stop.Unmade.{Unmade}
+use Rattle.command_base.specs.declared.stop.Unmade.TheVariants as unmade
+use Rattle.command_base.specs.Answer.{Answer, refused}
+use Rattle.command_base.specs.Jobs.{Job, MakesOutput, of_fault, of_unmade, Works}
+use Rattle.command_base.specs.Loading.{Refuses}
+use Rattle.command_base.specs.Sound.{Answered, Fits, HasRoomFor}
+use Rattle.command_base.proofs.Rests.{only_schema}
+use Rattle.command_base.proofs.SameFiles.{same_file}
+use Rattle.command_base.proofs.Stages.{Before, before, Carries, refuses_so, unmade_works}
+use Rattle.command_base.proofs.Views.{told_as, told_then}
+use Rattle.schema_files.specs.Loaded.{IsSchemaText}
+use Rattle.schema_files.specs.Parts.{LoadsSchema}
+use Rattle.fault_lines.specs.Profiled.{TellsProfile, IsProfileText, OfProfileText, no_schema, no_profile, profiled, HasProfile}
+use Rattle.session_commands.specs.Client.{OfStateFile, ClientAnswer, ClientKeeps, client_job}
+use Rattle.session_commands.specs.Linked.{next_link, LeavesState, LeavesLinks}
+use Rattle.session_commands.specs.Post.{ReachesLink}
+use Rattle.session_commands.specs.inner.Recovering.{state_job, KeepsStateFile}
+use Rattle.session_commands.proofs.PostParts.{profile_tells}
+
+module _ (schema address name : List ℕ) (channels : List ℤ) where
+  abbrev pub LoadsFirst : Result Declared Unmade → View → View → Type 0
+  LoadsFirst r v w = LoadsSchema slots.Schema (codes "schema") schema r v w
+
+  abbrev job : Job
+  job = client_job schema address name channels
+
+  -- ---- the schema is refused
+
+  schema_stops : (e : Unmade) (v w : View) → LoadsFirst (Err e) v w → MakesOutput job (of_fault e) v w
+  schema_stops (unmade.Refused line) v w ((text, has, (cause, h, is)), only) = ((text, has, no_schema cause h (ap refused is)), only_schema v w only)
+  schema_stops unmade.ReadFault v w only = only_schema v w only
+  schema_stops unmade.Memory v w only = only_schema v w only
+
+  pub no_schema_works : (W L : Type 0) (e : Unmade) (r : Result Status Stop) (a b : Option View) → Told a b (LoadsFirst (Err e)) → IsErrAnd r (λ z. z ≡ of_unmade e) → Told a b (Works W L job r)
+  no_schema_works W L e r a b h is = told_as a b (LoadsFirst (Err e)) (Works W L job r) (λ v w l. unmade_works W L job e r v w (schema_stops e v w l) is) h
+
+  -- ---- the schema is no profile
+
+  pub no_profile_works : (W L : Type 0) (S : Declared) (e : Unmade) (r : Result Status Stop) (a b : Option View) → Told a b (LoadsFirst (Ok S)) → Refuses (TellsProfile S) e → IsErrAnd r (λ z. z ≡ of_unmade e) → Told a b (Works W L job r)
+  no_profile_works W L S e r a b loaded tells is =
+      told_as a b (LoadsFirst (Ok S)) (Works W L job r) (λ v w l. unmade_works W L job e r v w
+      (refuses_so job (TellsProfile S) e v w (λ line (fault, lacks, says). (l.0.0, l.0.1, no_profile S fault l.0.2 lacks (ap refused says))) tells (only_schema v w l.1)) is) loaded
+
+  -- ---- the profile is known
+
+  module _ (S : Declared) (p : ProfileView) (is : IsAnswer S (Ok p)) where
+    abbrev part : Job
+    part = state_job p address name channels
+
+    text_is : (text : List ℕ) → IsSchemaText text S → IsProfileText text p
+    text_is text read = record { schema = S; read = read; is = is }
+
+    profile_answers : (v u : View) → LoadsFirst (Ok S) v u → (a : Answer) → OfStateFile address name channels u.files (next_link u) p a → ClientAnswer v.files (next_link v) schema address name channels a
+    profile_answers v u ((text, has, read), only) a h =
+        let at_files = subst (λ (fs : Files). OfStateFile address name channels fs (next_link u) p a) (ap (λ (x : View). x.files) only) h in
+        (text, has, profiled p (text_is text read) (subst (λ (g : List ℕ). OfStateFile address name channels v.files g p a) (ap next_link only) at_files))
+
+    pub profile_carries : (v u : View) → LoadsFirst (Ok S) v u → Before v u × Carries part job v u
+    profile_carries v u loaded = (before v u (only_schema v u loaded.1), record { answers = profile_answers v u loaded; broken = λ a cut. cut; partial = λ a part. part; pieces = λ e. e; tells = λ e. e })
+
+    same_room : (v u : View) (a : Answer) → OnlySlot slots.Schema v u → HasRoomFor a v → HasRoomFor a u
+    same_room v u a only room = subst (λ (z : View). HasRoomFor a z) (sym only) (record { output = room.output; state = room.state; links = room.links; coming = room.coming; address = room.address })
+
+    pub profile_fits : (v u : View) → LoadsFirst (Ok S) v u → Fits job v → Fits part u
+    profile_fits v u ((text, has, read), only) (a, (more, also, h), room) =
+        let here = subst (λ (x : List ℕ). OfProfileText x (OfStateFile address name channels v.files (next_link v)) a) (same_file v.files schema more text also has) h in
+        let answer = profile_tells text p (OfStateFile address name channels v.files (next_link v)) a (text_is text read) here in
+        let at_files = subst (λ (fs : Files). OfStateFile address name channels fs (next_link v) p a) (sym (ap (λ (x : View). x.files) only)) answer in
+        (a, subst (λ (g : List ℕ). OfStateFile address name channels u.files g p a) (sym (ap next_link only)) at_files, same_room v u a only room)
+
+    -- ---- what is kept
+
+    profile_left : (v u w : View) → LoadsFirst (Ok S) v u → LeavesState (OfStateFile address name channels u.files (next_link u) p) u w → LeavesState (ClientAnswer v.files (next_link v) schema address name channels) v w
+    profile_left v u w l (inl same) = inl (same.0 ∙ ap (λ (x : View). x.written.state) l.1, same.1 ∙ ap (λ (x : View). x.state_name) l.1)
+    profile_left v u w l (inr (a, of, begun)) = inr (a, profile_answers v u l a of, begun)
+
+    links_left : (v u w : View) → LoadsFirst (Ok S) v u → HasProfile v.files schema → LeavesLinks (IsThere name u) u w → LeavesLinks (ReachesLink v.files schema name) v w
+    links_left v u w l profile (inl same) = inl (same.0 ∙ ap (λ (x : View). x.links) l.1, same.1 ∙ ap (λ (x : View). x.written.links) l.1, same.2 ∙ ap (λ (x : View). x.address) l.1)
+    links_left v u w l profile (inr there) = inr (record { profile = profile; bytes = there.0; there = subst (λ (fs : Files). HasFile fs name there.0) (ap (λ (x : View). x.files) l.1) there.1 })
+
+    then_keeps : (v u w : View) → LoadsFirst (Ok S) v u → KeepsStateFile p address name channels u w → ClientKeeps schema address name channels v w
+    then_keeps v u w l k = record {
+      rest = record {
+        files = k.rest.files ∙ ap (λ (x : View). x.files) l.1;
+        moments = k.rest.moments ∙ ap (λ (x : View). x.moments) l.1;
+        room = k.rest.room ∙ ap (λ (x : View). x.room) l.1;
+      };
+      input = k.input ∙ ap (λ (x : View). x.left.input) l.1;
+      state = profile_left v u w l k.state;
+      links = links_left v u w l (record { text = l.0.0; p = p; there = l.0.1; is = text_is l.0.0 l.0.2 }) k.links;
+    }
+
+    pub state_kept : (a m b : Option View) → Told a m (LoadsFirst (Ok S)) → Told m b (KeepsStateFile p address name channels) → Told a b (ClientKeeps schema address name channels)
+    state_kept a m b h k = told_then a m b (LoadsFirst (Ok S)) (KeepsStateFile p address name channels) (ClientKeeps schema address name channels) (λ v u w l g. then_keeps v u w l g) h k
+
+  -- an answer names the schema's file
+  pub schema_there : (v : View) → Answered job v → IsThere schema v
+  schema_there v (a, (text, has, h)) = (text, has)
+
+  schema_keeps : (v w : View) → OnlySlot slots.Schema v w → ClientKeeps schema address name channels v w
+  schema_keeps v w e = record {
+    rest = record { files = ap (λ (x : View). x.files) e; moments = ap (λ (x : View). x.moments) e; room = ap (λ (x : View). x.room) e };
+    input = ap (λ (x : View). x.left.input) e;
+    state = inl (ap (λ (x : View). x.written.state) e, ap (λ (x : View). x.state_name) e);
+    links = inl (ap (λ (x : View). x.links) e, ap (λ (x : View). x.written.links) e, ap (λ (x : View). x.address) e);
+  }
+
+  only_of : (r : Result Declared Unmade) (v w : View) → LoadsFirst r v w → OnlySlot slots.Schema v w
+  only_of (Ok x) v w h = h.1
+  only_of (Err (unmade.Refused line)) v w h = h.1
+  only_of (Err unmade.ReadFault) v w h = h
+  only_of (Err unmade.Memory) v w h = h
+
+  pub schema_kept : (r : Result Declared Unmade) (a b : Option View) → Told a b (LoadsFirst r) → Told a b (ClientKeeps schema address name channels)
+  schema_kept r a b = told_as a b (LoadsFirst r) (ClientKeeps schema address name channels) (λ v w l. schema_keeps v w (only_of r v w l))

@@ -1,0 +1,77 @@
+-- What is made of a state's bytes.
+use Rattle.std.proofs.Common.{◌≡◌, ◌⊎◌, ℕ, ◌<◌, ◌≤◌, List, [], ◌∷◌, ◌++◌, length, length-append, Some, None, Result, Ok, Err, Vec, Global, refl, sym, ap, subst, inl, inr, codes, arith}
+use Rattle.std.specs.Prelude.{IfOk, IsErrAnd}
+use Rattle.std.specs.declared.alloc.AllocError.{AllocError}
+use Rattle.box_events.specs.declared.saved.Saved.{Saved}
+use Rattle.box_client.specs.declared.fault.LoadFault.{LoadFault}
+use Rattle.box_client.specs.Loads.{IsCauseOf, IsLoadedAs}
+use Rattle.box_client.specs.States.{ClientState, new_client}
+use Rattle.wire_checks.specs.declared.fault.WireFault.{WireFault}
+use Rattle.wire_checks.specs.declared.fault.WireFault.TheVariants as wire
+use Rattle.wire_profile.specs.Places.{ProfileView}
+use Rattle.wire_values.specs.Carried.{IsSaved}
+use Rattle.wire_values.specs.SavedClients.{saved_tree}
+use Rattle.box_wire.specs.Framing.{Means, WireRefused}
+use Rattle.box_wire.specs.Kinds.{saved_clients}
+use Rattle.command_base.specs.Jobs.{RefusedBy}
+use Rattle.command_base.specs.Loading.{Gives, Refuses, RefusesAs}
+use Rattle.command_base.specs.declared.stop.Unmade.{Unmade}
+use Rattle.command_base.specs.declared.stop.Unmade.TheVariants as unmade
+use Rattle.command_base.proofs.Loaded.{memory_refuses, refuses_as}
+use Rattle.fault_lines.specs.Messages.{wire_line}
+use Rattle.fault_lines.specs.SavedClients.{load_line}
+use Rattle.session_commands.specs.Client.{HasClient, begins, loads, TellsNoClient, too_long, no_saved, not_loaded, long_state_line}
+use Rattle.session_commands.specs.inner.Recovering.{ReadsSaved, TellsNoSaved, LoadsClient, TellsNotLoaded}
+use Rattle.session_commands.specs.declared.state.TheConstants.{MAX_STATE_BYTES}
+
+none_some : {A : Type 0} (x : A) → None ≡ Some x → ⊥
+none_some x e = cc
+
+-- ---- bytes that are no saved client
+
+told_line : (p : ProfileView) (b line : List ℕ) (fault : WireFault) → (fault ≡ wire.Memory) ⊎ WireRefused p saved_clients b fault → wire_line (codes "state") fault ≡ Some line → TellsNoSaved p b line
+told_line p b line fault (inl memory) tells = absurd (none_some line (subst (λ (f : WireFault). wire_line (codes "state") f ≡ Some line) memory tells))
+told_line p b line fault (inr refused) tells = (fault, refused, tells)
+
+pub no_saved_told : (p : ProfileView) (b : List ℕ) (fault : WireFault) (line : Result (Vec ℕ Global) AllocError) (u : Unmade) → (fault ≡ wire.Memory) ⊎ WireRefused p saved_clients b fault → IfOk line (λ l. wire_line (codes "state") fault ≡ Some l.items)
+    → RefusedBy line u → Refuses (TellsNoSaved p b) u
+no_saved_told p b fault (Ok line) u told tells is = subst (Refuses (TellsNoSaved p b)) (sym is) (told_line p b line.items fault told tells)
+no_saved_told p b fault (Err e) u told tells is = memory_refuses (TellsNoSaved p b) u is
+
+-- ---- what was saved isn't loaded
+
+pub not_loaded_told : (s : Saved) (fault : LoadFault) (line : Result (Vec ℕ Global) AllocError) (u : Unmade) → IsCauseOf s fault → IfOk line (λ l. load_line fault ≡ Some l.items) → RefusedBy line u → Refuses (TellsNotLoaded s) u
+not_loaded_told s fault (Ok line) u cause tells is = subst (Refuses (TellsNotLoaded s)) (sym is) (fault, cause, tells)
+not_loaded_told s fault (Err e) u cause tells is = memory_refuses (TellsNotLoaded s) u is
+
+-- ---- the bytes
+
+empty_is : (bytes : List ℕ) → length bytes ≡ 0 → bytes ≡ []
+empty_is [] e = refl
+empty_is (b ∷ bytes) e = absurd (omega (arith, e))
+
+pub empty_client : (p : ProfileView) (bytes : List ℕ) (c : ClientState) → length bytes ≡ 0 → c ≡ new_client → HasClient p bytes c
+empty_client p bytes c none is = begins (empty_is bytes none) is
+
+pub long_client : (p : ProfileView) (bytes : List ℕ) (e : Unmade) → MAX_STATE_BYTES < length bytes → RefusesAs long_state_line e → Gives (HasClient p) (TellsNoClient p) bytes (Err e)
+long_client p bytes e long tells = refuses_as (λ told. told ≡ long_state_line) (TellsNoClient p bytes) e (λ line is. too_long long is) tells
+
+module _ (p : ProfileView) (bytes : List ℕ) (some : 0 < length bytes) (few : length bytes ≤ MAX_STATE_BYTES) where
+  pub saved_refused : (e : Unmade) (r : Result ClientState Unmade) → ReadsSaved p bytes (Err e) → IsErrAnd r (λ z. z ≡ e) → Gives (HasClient p) (TellsNoClient p) bytes r
+  saved_refused e (Ok c) h is = absurd is
+  saved_refused e (Err z) h is = subst (λ (u : Unmade). Refuses (TellsNoClient p bytes) u) (sym is) (refuses_as (TellsNoSaved p bytes) (TellsNoClient p bytes) e (λ line t. no_saved t.0 some few t.1 t.2) h)
+
+  pub client_given : (s : Saved) (r : Result ClientState Unmade) → ReadsSaved p bytes (Ok s) → LoadsClient s r → Gives (HasClient p) (TellsNoClient p) bytes r
+  client_given s (Ok c) h l = loads s (record { some = some; few = few; is = h.0; means = h.1 }) l
+  client_given s (Err e) h l = refuses_as (TellsNotLoaded s) (TellsNoClient p bytes) e (λ line t. not_loaded s t.0 (record { some = some; few = few; is = h.0; means = h.1 }) t.1 t.2) l
+
+long_still : (p : ProfileView) (bytes read rest : List ℕ) → bytes ≡ read ++ rest → MAX_STATE_BYTES < length read → (line : List ℕ) → TellsNoClient p read line → TellsNoClient p bytes line
+long_still p bytes read rest e long line (too_long more is) = too_long (omega (arith, ap (λ (l : List ℕ). length l) e, length-append read rest, long)) is
+long_still p bytes read rest e long line (no_saved fault some few r tells) = absurd (omega (arith, few, long))
+long_still p bytes read rest e long line (not_loaded s fault h is tells) = absurd (omega (arith, h.few, long))
+
+-- a state that is too long is so however it goes on
+pub stays_long : (p : ProfileView) (bytes read rest : List ℕ) (r : Result ClientState Unmade) → bytes ≡ read ++ rest → MAX_STATE_BYTES < length read → Gives (HasClient p) (TellsNoClient p) read r → Gives (HasClient p) (TellsNoClient p) bytes r
+stays_long p bytes read rest (Ok c) e long (begins none is) = absurd (omega (arith, ap (λ (l : List ℕ). length l) none, long))
+stays_long p bytes read rest (Ok c) e long (loads s h l) = absurd (omega (arith, h.few, long))
+stays_long p bytes read rest (Err u) e long tells = refuses_as (TellsNoClient p read) (TellsNoClient p bytes) u (long_still p bytes read rest e long) tells
