@@ -9,11 +9,11 @@ use Rattle.commands.specs.Numbers.{IsDigit, IsNumberWord, FindsNumber, number_fr
 use Rattle.commands.specs.Requests.{IsOperand}
 use Rattle.commands.proofs.Decided.{Decided}
 
-both : (a b : Bool) → (a && b) ≡ true → (a ≡ true) × (b ≡ true)
+pub both : (a b : Bool) → (a && b) ≡ true → (a ≡ true) × (b ≡ true)
 both true b e = (refl, e)
 both false b e = absurd (true≢false (sym e))
 
-both_true : (a b : Bool) → a ≡ true → b ≡ true → (a && b) ≡ true
+pub both_true : (a b : Bool) → a ≡ true → b ≡ true → (a && b) ≡ true
 both_true true b e f = f
 both_true false b e f = absurd (true≢false (sym e))
 

@@ -1,7 +1,7 @@
 use Rattle.std.proofs.Common.{◌∙◌, rules, map, string_bytes}
 use Rattle.clap.specs.Words.{app_of, subcommand_rows_of}
 use Rattle.commands.proofs.WordsRead.{none_asked, refused_asked, found_asked, operands_from}
-use Rattle.commands.proofs.request.request_of.Goals as goal
+use Rattle.commands.proofs.request.fixed_request.Goals as goal
 
 pub returns-then-not-are_operands : goal.returns-then-not-are_operands
 returns-then-not-are_operands c = none_asked string_bytes c.args.words.now (search rules)
@@ -13,5 +13,5 @@ returns-in-Ok c =
 
 pub returns : goal.returns
 returns c =
-    refused_asked (map string_bytes c.args.words.now) (app_of c.in_ok-table_of.field-0) c.in-Err.fault c.in_ok-table_of.ensures c.in-Err.ensures.kinds
+    refused_asked (map string_bytes c.args.words.now) (app_of c.in_ok-table_of.field-0) c.in-Err.fault c.requires c.in_ok-table_of.ensures c.in-Err.ensures.kinds
     (λ memory. c.in_default.not-OutOfMemory (c.kind.ensures ∙ memory))
