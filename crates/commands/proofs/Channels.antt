@@ -1,5 +1,6 @@
 -- The words after those that clap reads, and the channels that they are.
-use Rattle.std.proofs.Common.{◌≡◌, ◌∙◌, ◌<◌, ◌++◌, ℕ, zero, suc, ℤ, pos, negsuc, List, [], ◌∷◌, Bool, true, false, ◌&&◌, length, map, get_or, refl, sym, ap, ap₂, subst, arith, Option, Some, None, option_map, inl, inr, true≢false}
+use Rattle.std.proofs.Common.{◌≡◌, ◌∙◌, ◌<◌, ◌+◌, ◌++◌, ℕ, zero, suc, ℤ, pos, negsuc, List, [], ◌∷◌, Bool, true, false, ◌&&◌, length, map, take, get_or, refl, sym, ap, ap₂, subst, arith, Option, Some, None, option_map, inl, inr, true≢false}
+use Rattle.std.proofs.lemmas.List.{length-map, map_more, map_push, get_or-map}
 use Rattle.commands.specs.Numbers.{IsNumberWord, number_from, number_of, is_number}
 use Rattle.commands.specs.Requests.{IsChannelWord, AreChannels, channel_range}
 use Rattle.commands.specs.CommandLine.{are_channels, channel_of, channels_of}
@@ -69,5 +70,25 @@ no_channels (w ∷ ws) (suc i) d lt is = rw (no_channels ws i d (omega arith) is
 pub channels_found : (ws : List Text) (ids : List ℤ) → are_channels ws ≡ true → ids ≡ map channel_of ws → Some ids ≡ channels_of ws
 channels_found ws ids e is = rw e (ap Some is)
 
-pub channels_none : (ws : List Text) → are_channels ws ≡ false → None {A = List ℤ} ≡ channels_of ws
+channels_none : (ws : List Text) → are_channels ws ≡ false → channels_of ws ≡ None
 channels_none ws e = rw e refl
+
+-- the word at i
+module _ {A : Type 0} (f : A → Text) (xs : List A) (i : ℕ) (d : A) (lt : i < length xs) where
+  pub more_channels : (ids new : List ℤ) (id : ℤ) → Some id ≡ option_map pos (number_of channel_range (f (get_or xs i d)))
+      → (are_channels (map f (take i xs)) ≡ true) × (ids ≡ map channel_of (map f (take i xs))) → new ≡ ids ++ id ∷ []
+      → (are_channels (map f (take (i + 1) xs)) ≡ true) × (new ≡ map channel_of (map f (take (i + 1) xs)))
+  more_channels ids new id found (each, are) pushed =
+      let w = f (get_or xs i d) in
+      let one = found_channel w id (is_number channel_range w) refl found in
+      let words : map f (take (i + 1) xs) ≡ map f (take i xs) ++ w ∷ [] = map_more f xs i d lt in
+      (
+        ap are_channels words ∙ one_more_channel (map f (take i xs)) w each one.0,
+        pushed ∙ ap₂ (λ (x : List ℤ) (y : ℤ). x ++ y ∷ []) are one.1 ∙ sym (map_push channel_of (map f (take i xs)) w) ∙ ap (map channel_of) (sym words),
+      )
+
+  pub never_channels : None ≡ option_map pos (number_of channel_range (f (get_or xs i d))) → None ≡ channels_of (map f xs)
+  never_channels none =
+      let w = f (get_or xs i d) in
+      sym (channels_none (map f xs) (no_channels (map f xs) i (f d) (subst (λ (n : ℕ). i < n) (sym (length-map f xs)) lt)
+          (ap (is_number channel_range) (get_or-map f xs i d (f d) lt) ∙ found_none w (is_number channel_range w) refl none)))

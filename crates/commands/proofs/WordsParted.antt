@@ -21,9 +21,9 @@ only_client : (P : RequestText → Type 0) (words : Words) (r : RequestText) →
 only_client P words (check schema) begins asks each = another words _ refl asks.0 begins
 only_client P words (decode schema type input) begins asks each = another words _ refl asks.0 begins
 only_client P words (encode schema type input) begins asks each = another words _ refl asks.0 begins
-only_client P words (replay schema journal clients) begins (n, is, rest) each = another words _ refl is begins
-only_client P words (make schema number steps) begins (n, s, is, rest) each = another words _ refl is begins
-only_client P words (serve schema address sessions) begins (n, is, rest) each = another words _ refl is begins
+only_client P words (replay schema journal clients) begins asks each = another words _ refl asks.1 begins
+only_client P words (make schema number steps) begins asks each = another words _ refl asks.2 begins
+only_client P words (serve schema address sessions) begins asks each = another words _ refl asks.1 begins
 only_client P words (post schema address input) begins asks each = another words _ refl asks.0 begins
 only_client P words (client schema address state channels) begins asks each = each schema address state channels asks
 only_client P words (layers old new type) begins asks each = another words _ refl asks.0 begins
@@ -37,7 +37,7 @@ kept ws words (replay schema journal clients) not asks = refl
 kept ws words (make schema number steps) not asks = refl
 kept ws words (serve schema address sessions) not asks = refl
 kept ws words (post schema address input) not asks = refl
-kept ws words (client schema address state channels) not (more, is, rest) = absurd (true≢false (sym (ap begins_client is) ∙ not))
+kept ws words (client schema address state channels) not asks = absurd (true≢false (sym (ap begins_client asks.1) ∙ not))
 kept ws words (layers old new type) not asks = refl
 
 -- ---- the words' parts
@@ -99,8 +99,7 @@ finds_all words fixed more r o is after asks gives =
 
 none_fixed : (words : Words) (b : Bool) → begins_client words ≡ b → AsksNothing (fixed_words words) → AsksNothing words
 none_fixed words false is none = subst AsksNothing (fixed_same words is) none
-none_fixed words true is none r asks =
-    only_client (λ (s : RequestText). ⊥) words r is asks
+none_fixed words true is none = λ r asks. only_client (λ (s : RequestText). ⊥) words r is asks
     (λ schema address state channels also. subst AsksNothing (fixed_four words is) none (client schema address state []) ([], ap (take 4) also.1, also.2, also.3, also.4, tt))
 
 pub finds_none : (words fixed : Words) → fixed ≡ fixed_words words → AsksNothing fixed → AsksNothing words
