@@ -90,5 +90,5 @@ module _ {A : Type 0} (f : A → Text) (xs : List A) (i : ℕ) (d : A) (lt : i <
   pub never_channels : None ≡ option_map pos (number_of channel_range (f (get_or xs i d))) → None ≡ channels_of (map f xs)
   never_channels none =
       let w = f (get_or xs i d) in
-      sym (channels_none (map f xs) (no_channels (map f xs) i (f d) (subst (λ (n : ℕ). i < n) (sym (length-map f xs)) lt)
+      sym (channels_none (map f xs) (no_channels (map f xs) i (f d) (subst (λ (n : ℕ). i < n) (sym (length-map xs f)) lt)
           (ap (is_number channel_range) (get_or-map f xs i d (f d) lt) ∙ found_none w (is_number channel_range w) refl none)))

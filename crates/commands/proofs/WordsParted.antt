@@ -1,5 +1,6 @@
 -- What the words ask for, from what those that clap reads ask for and from the words after them.
-use Rattle.std.proofs.Common.{◌≡◌, ◌∙◌, ◌++◌, ℕ, ℤ, List, [], ◌∷◌, Bool, true, false, take, drop, map, refl, sym, ap, ap₂, subst, Option, Some, None, option_map, codes, true≢false}
+use Rattle.std.proofs.Common.{◌≡◌, ◌∙◌, ◌++◌, ℕ, ℤ, List, [], ◌∷◌, Bool, true, false, take, drop, map, refl, sym, ap, ap₂, subst, Option, Some, None, Result, Ok, Err, option_map, codes, true≢false}
+use Rattle.std.specs.Prelude.{IfOk}
 use Rattle.std.proofs.lemmas.List.{take-append-drop, drop-take}
 use Rattle.commands.specs.Requests.{RequestText, check, decode, encode, replay, make, serve, post, client, layers, AsksFor, AsksNothing, FindsRequest, IsOperand, request_text}
 use Rattle.commands.specs.declared.request.Request.{Request}
@@ -92,10 +93,15 @@ makes words r true is asks =
     rw (more_four words is) (only_client (λ (s : RequestText). Makes words (with_channels (drop 4 words) s)) (take 4 words) r (four_begin words is) (subst (λ (ws : Words). AsksFor ws r) (fixed_four words is) asks)
         (λ schema address state channels also. client_makes words schema address state channels also (are_channels (drop 4 words)) refl))
 
-pub finds_all : (words fixed more : Words) (r : RequestText) (o : Option Request) → fixed ≡ fixed_words words → more ≡ more_words words → AsksFor fixed r → option_map request_text o ≡ with_channels more r → FindsRequest words o
-finds_all words fixed more r o is after asks gives =
-    finds words o (subst (Makes words) (sym (gives ∙ ap (λ (ws : Words). with_channels ws r) after))
-        (makes words r (begins_client words) refl (subst (λ (ws : Words). AsksFor ws r) is asks)))
+module _ (words fixed more : Words) (is : fixed ≡ fixed_words words) (after : more ≡ more_words words) where
+  finds_all : (r : RequestText) (o : Option Request) → AsksFor fixed r → option_map request_text o ≡ with_channels more r → FindsRequest words o
+  finds_all r o asks gives =
+      finds words o (subst (Makes words) (sym (gives ∙ ap (λ (ws : Words). with_channels ws r) after))
+          (makes words r (begins_client words) refl (subst (λ (ws : Words). AsksFor ws r) is asks)))
+
+  pub finds_if_ok : {E : Type 0} (r : RequestText) (o : Result (Option Request) E) → AsksFor fixed r → IfOk o (λ q. option_map request_text q ≡ with_channels more r) → IfOk o (FindsRequest words)
+  finds_if_ok r (Ok o) asks gives = finds_all r o asks gives
+  finds_if_ok r (Err e) asks gives = tt
 
 none_fixed : (words : Words) (b : Bool) → begins_client words ≡ b → AsksNothing (fixed_words words) → AsksNothing words
 none_fixed words false is none = subst AsksNothing (fixed_same words is) none
