@@ -1,7 +1,7 @@
 -- The words after those that clap reads, and the channels that they are.
-use Rattle.std.proofs.Common.{◌≡◌, ◌∙◌, ◌<◌, ◌+◌, ◌++◌, ℕ, zero, suc, ℤ, pos, negsuc, List, [], ◌∷◌, Bool, true, false, ◌&&◌, length, map, take, get_or, refl, sym, ap, ap₂, subst, arith, Option, Some, None, option_map, inl, inr, true≢false}
+use Rattle.std.proofs.Common.{◌≡◌, ◌∙◌, ◌<◌, ◌+◌, ◌++◌, ℕ, zero, suc, ℤ, pos, negsuc, List, [], ◌∷◌, Bool, true, false, ◌&&◌, length, map, take, get_or, refl, sym, ap, ap₂, subst, arith, Some, None, option_map, inl, inr}
 use Rattle.std.proofs.lemmas.List.{length-map, map_more, map_push, get_or-map}
-use Rattle.commands.specs.Numbers.{IsNumberWord, number_from, number_of, is_number}
+use Rattle.commands.specs.Numbers.{IsNumberWord, number_of, is_number}
 use Rattle.commands.specs.Requests.{IsChannelWord, AreChannels, channel_range}
 use Rattle.commands.specs.CommandLine.{are_channels, channel_of, channels_of}
 use Rattle.commands.proofs.Decided.{Decided, decided_and}
@@ -81,8 +81,7 @@ module _ {A : Type 0} (f : A → Text) (xs : List A) (i : ℕ) (d : A) (lt : i <
   more_channels ids new id found (each, are) pushed =
       let w = f (get_or xs i d) in
       let one = found_channel w id (is_number channel_range w) refl found in
-      let words : map f (take (i + 1) xs) ≡ map f (take i xs) ++ w ∷ [] = map_more f xs i d lt in
-      (
+      let words : map f (take (i + 1) xs) ≡ map f (take i xs) ++ w ∷ [] = map_more f xs i d lt in (
         ap are_channels words ∙ one_more_channel (map f (take i xs)) w each one.0,
         pushed ∙ ap₂ (λ (x : List ℤ) (y : ℤ). x ++ y ∷ []) are one.1 ∙ sym (map_push channel_of (map f (take i xs)) w) ∙ ap (map channel_of) (sym words),
       )
@@ -91,4 +90,4 @@ module _ {A : Type 0} (f : A → Text) (xs : List A) (i : ℕ) (d : A) (lt : i <
   never_channels none =
       let w = f (get_or xs i d) in
       sym (channels_none (map f xs) (no_channels (map f xs) i (f d) (subst (λ (n : ℕ). i < n) (sym (length-map xs f)) lt)
-          (ap (is_number channel_range) (get_or-map f xs i d (f d) lt) ∙ found_none w (is_number channel_range w) refl none)))
+      (ap (is_number channel_range) (get_or-map f xs i d (f d) lt) ∙ found_none w (is_number channel_range w) refl none)))

@@ -113,7 +113,7 @@ asked_decided words (client schema address state channels) =
     let more = drop 4 words in
     decided_as (λ h. (more, h.0.0, h.0.1, h.1.0.0, h.1.0.1, h.1.1)) (λ asks. client_parts words schema address state channels asks)
     (decided_and (decided_and (row_decided words (codes "client" ∷ schema ∷ address ∷ state ∷ more)) (operand_decided schema))
-        (decided_and (decided_and (operand_decided address) (operand_decided state)) (channels_decided more channels)))
+    (decided_and (decided_and (operand_decided address) (operand_decided state)) (channels_decided more channels)))
 asked_decided words (layers old new type) = three_decided words (codes "layers") old new type
 
 asks_from : (words : List (List ℕ)) → Decided (AsksFor words (may_ask_for words)) → Asks words

@@ -1,8 +1,8 @@
 -- What the words ask for, from what those that clap reads ask for and from the words after them.
-use Rattle.std.proofs.Common.{◌≡◌, ◌∙◌, ◌++◌, ℕ, ℤ, List, [], ◌∷◌, Bool, true, false, take, drop, map, refl, sym, ap, ap₂, subst, Option, Some, None, Result, Ok, Err, option_map, codes, true≢false}
+use Rattle.std.proofs.Common.{◌≡◌, ◌∙◌, ◌++◌, ℕ, ℤ, List, [], ◌∷◌, Bool, true, false, take, drop, map, refl, sym, ap, ap₂, subst, Option, Some, Result, Ok, Err, option_map, codes, true≢false}
 use Rattle.std.specs.Prelude.{IfOk}
 use Rattle.std.proofs.lemmas.List.{take-append-drop, drop-take}
-use Rattle.commands.specs.Requests.{RequestText, check, decode, encode, replay, make, serve, post, client, layers, AsksFor, AsksNothing, FindsRequest, IsOperand, request_text}
+use Rattle.commands.specs.Requests.{RequestText, check, decode, encode, replay, make, serve, post, client, layers, AsksFor, AsksNothing, FindsRequest, request_text}
 use Rattle.commands.specs.declared.request.Request.{Request}
 use Rattle.commands.specs.CommandLine.{begins_client, fixed_words, more_words, are_channels, channel_of, with_channels}
 use Rattle.commands.proofs.Channels.{all_channels, channels_there}
@@ -80,7 +80,7 @@ module _ (words : Words) (schema address state : List ℕ) (channels : List ℤ)
   client_makes true e = rw e (drop 4 words, words_are, asks.2, asks.3, asks.4, channels_there (drop 4 words) e)
   client_makes false e =
       rw e (asks_nothing words (client schema address state (map channel_of (drop 4 words))) (ap may_ask_for words_are)
-          (λ also. true≢false (sym (all_channels also.0 _ also.5) ∙ ap are_channels (sym (ap (drop 4) also.1)) ∙ e)))
+      (λ also. true≢false (sym (all_channels also.0 _ also.5) ∙ ap are_channels (sym (ap (drop 4) also.1)) ∙ e)))
 
 -- ---- what is found
 
@@ -91,13 +91,13 @@ makes : (words : Words) (r : RequestText) (b : Bool) → begins_client words ≡
 makes words r false is asks = rw (more_none words is) (makes_same words r is (subst (λ (ws : Words). AsksFor ws r) (fixed_same words is) asks))
 makes words r true is asks =
     rw (more_four words is) (only_client (λ (s : RequestText). Makes words (with_channels (drop 4 words) s)) (take 4 words) r (four_begin words is) (subst (λ (ws : Words). AsksFor ws r) (fixed_four words is) asks)
-        (λ schema address state channels also. client_makes words schema address state channels also (are_channels (drop 4 words)) refl))
+    (λ schema address state channels also. client_makes words schema address state channels also (are_channels (drop 4 words)) refl))
 
 module _ (words fixed more : Words) (is : fixed ≡ fixed_words words) (after : more ≡ more_words words) where
   finds_all : (r : RequestText) (o : Option Request) → AsksFor fixed r → option_map request_text o ≡ with_channels more r → FindsRequest words o
   finds_all r o asks gives =
       finds words o (subst (Makes words) (sym (gives ∙ ap (λ (ws : Words). with_channels ws r) after))
-          (makes words r (begins_client words) refl (subst (λ (ws : Words). AsksFor ws r) is asks)))
+      (makes words r (begins_client words) refl (subst (λ (ws : Words). AsksFor ws r) is asks)))
 
   pub finds_if_ok : {E : Type 0} (r : RequestText) (o : Result (Option Request) E) → AsksFor fixed r → IfOk o (λ q. option_map request_text q ≡ with_channels more r) → IfOk o (FindsRequest words)
   finds_if_ok r (Ok o) asks gives = finds_all r o asks gives

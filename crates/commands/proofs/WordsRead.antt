@@ -1,5 +1,5 @@
 -- Words that clap takes are a row, and words that it refuses are none.
-use Rattle.std.proofs.Common.{◌≡◌, ◌∙◌, ℕ, zero, suc, ℤ, pos, negsuc, List, [], ◌∷◌, Bool, true, false, get_or, length, map, refl, sym, ap, subst, arith, Option, Some, None, option_map, codes, true≢false, inl, inr}
+use Rattle.std.proofs.Common.{◌≡◌, ◌∙◌, zero, suc, ℤ, pos, negsuc, List, [], ◌∷◌, Bool, true, false, get_or, map, refl, sym, ap, subst, arith, Option, Some, None, option_map, codes, inl, inr}
 use Rattle.std.specs.List.{All}
 use Rattle.std.specs.Str.{bytes_eq}
 use Rattle.std.proofs.lemmas.Bool.{eqb-false}

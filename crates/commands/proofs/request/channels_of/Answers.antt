@@ -1,4 +1,4 @@
-use Rattle.std.proofs.Common.{◌≡◌, ◌∙◌, ◌++◌, ap, rules, List, [], ◌∷◌, ℕ, get_or, option_map, pos, string_bytes}
+use Rattle.std.proofs.Common.{◌≡◌, ◌∙◌, ap, rules, List, ℕ, get_or, option_map, pos, string_bytes}
 use Rattle.commands.specs.Numbers.{number_of}
 use Rattle.commands.specs.Requests.{channel_range}
 use Rattle.commands.proofs.Channels.{more_channels, never_channels}
