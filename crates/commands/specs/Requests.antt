@@ -7,7 +7,9 @@ use Rattle.codec_commands.specs.Check.{check_job}
 use Rattle.codec_commands.specs.Decode.{decode_job}
 use Rattle.codec_commands.specs.Encode.{encode_job}
 use Rattle.layer_commands.specs.Layers.{layers_job}
+use Rattle.session_commands.specs.Client.{client_job}
 use Rattle.session_commands.specs.Post.{post_job}
+use Rattle.session_commands.specs.Serve.{serve_job}
 use Rattle.update_commands.specs.Make.{make_job}
 use Rattle.update_commands.specs.Replay.{replay_job}
 use Rattle.commands.specs.Numbers.{IsNumberWord}
@@ -109,7 +111,9 @@ job_of (decode schema type input) = decode_job schema type input
 job_of (encode schema type input) = encode_job schema type input
 job_of (replay schema journal clients) = replay_job schema journal clients
 job_of (make schema number steps) = make_job schema number steps
+job_of (serve schema address sessions) = serve_job schema address sessions
 job_of (post schema address input) = post_job schema address input
+job_of (client schema address state channels) = client_job schema address state channels
 job_of (layers old new type) = layers_job old new type
 
 -- ---- the request of the program
