@@ -5,10 +5,11 @@ use Rattle.command_base.specs.Answer.{Answer}
 use Rattle.codec_commands.proofs.EachAnswer.{each_check, each_decode, each_encode}
 use Rattle.layer_commands.proofs.EachLayers.{each_layers}
 use Rattle.session_commands.proofs.EachPost.{each_post}
+use Rattle.session_commands.proofs.EachServe.{each_serve}
 use Rattle.session_commands.proofs.Sent.{link_bytes}
 use Rattle.update_commands.proofs.OneMake.{each_make}
 use Rattle.update_commands.proofs.ProfiledFiles.{each_replay}
-use Rattle.commands.specs.Requests.{RequestText, check, decode, encode, replay, make, post, layers, HasFilesOf}
+use Rattle.commands.specs.Requests.{RequestText, check, decode, encode, replay, make, serve, post, client, layers, HasFilesOf}
 use Rattle.commands.specs.Answers.{AnswerTo, no_request, requested, HasAnAnswer}
 
 each_to : (v : View) → ShowsBytes v → (r : RequestText) → HasFilesOf v.files r → (a : Answer) × AnswerTo r v a
@@ -17,7 +18,9 @@ each_to v shows (decode schema type input) there = each_decode v.files shows.fil
 each_to v shows (encode schema type input) there = each_encode v.files shows.files schema type input there.0 there.1
 each_to v shows (replay schema journal clients) there = each_replay v.files shows.files journal clients schema there.0 there.1
 each_to v shows (make schema number steps) there = each_make number steps v.files schema there.0 there.1
+each_to v shows (serve schema address sessions) there = each_serve v.files shows.files v.links shows.links v.moments ? schema address sessions there
 each_to v shows (post schema address input) there = each_post v.files shows.files _ (link_bytes v shows) schema address input there.0 there.1
+each_to v shows (client schema address state channels) there = ?
 each_to v shows (layers old new type) there = each_layers v.files old new type there.0 there.1
 
 pub an_answer : HasAnAnswer

@@ -90,9 +90,17 @@ pub make_enters : (rest : List Text) → Enters (codes "make") (leaf (codes "mak
 unfolding clap_on_literals
 make_enters = enters (codes "make") _ refl refl refl
 
+pub serve_enters : (rest : List Text) → Enters (codes "serve") (leaf (codes "serve") (codes "SCHEMA" ∷ codes "ADDRESS" ∷ codes "SESSIONS" ∷ [])) rest
+unfolding clap_on_literals
+serve_enters = enters (codes "serve") _ refl refl refl
+
 pub post_enters : (rest : List Text) → Enters (codes "post") (leaf (codes "post") (codes "SCHEMA" ∷ codes "ADDRESS" ∷ codes "INPUT" ∷ [])) rest
 unfolding clap_on_literals
 post_enters = enters (codes "post") _ refl refl refl
+
+pub client_enters : (rest : List Text) → Enters (codes "client") (leaf (codes "client") (codes "SCHEMA" ∷ codes "ADDRESS" ∷ codes "STATE" ∷ [])) rest
+unfolding clap_on_literals
+client_enters = enters (codes "client") _ refl refl refl
 
 pub layers_enters : (rest : List Text) → Enters (codes "layers") (leaf (codes "layers") (codes "OLD" ∷ codes "NEW" ∷ codes "TYPE" ∷ [])) rest
 unfolding clap_on_literals
@@ -114,7 +122,7 @@ NoneOf (r ∷ rs) w = (bytes_eq r.0 w ≡ false) × NoneOf rs w
 
 stray : (x : ℕ) (xs : Text) → eqb x 45 ≡ false → NoneOf rows (x ∷ xs) → turn_fault top names start (x ∷ xs) ≡ UnknownArgument ∷ InvalidSubcommand ∷ []
 unfolding clap_on_literals
-stray x xs e other = simp (e, other.0, other.1.0, other.1.1.0, other.1.1.1.0, other.1.1.1.1.0, other.1.1.1.1.1.0, other.1.1.1.1.1.1.0)
+stray x xs e other = simp (e, other.0, other.1.0, other.1.1.0, other.1.1.1.0, other.1.1.1.1.0, other.1.1.1.1.1.0, other.1.1.1.1.1.1.0, other.1.1.1.1.1.1.1.0, other.1.1.1.1.1.1.1.1.0)
 
 pub no_command : (w : Text) (rest : List Text) → IsOperand w → NoneOf rows w → fault_of table (w ∷ rest) ≡ [] → ⊥
 unfolding walk_fault

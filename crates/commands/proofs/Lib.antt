@@ -1,5 +1,6 @@
 pub mod Decided
 pub mod NumberWords
+pub mod Channels
 pub mod Rows
 pub mod Ranges
 pub mod RowsTold
@@ -7,6 +8,7 @@ pub mod OperandsRead
 pub mod CommandsRead
 pub mod Found
 pub mod WordsRead
+pub mod WordsParted
 pub mod OneAnswer
 pub mod AnAnswer
 pub mod Endings

@@ -2,13 +2,15 @@
 use Rattle.std.proofs.Common.{◌≡◌, List, ℕ, sym, ◌∙◌, subst}
 use Rattle.tl_base.specs.Outside.{View, ShowsBytes}
 use Rattle.command_base.specs.Answer.{Answer}
-use Rattle.commands.specs.Requests.{RequestText, check, decode, encode, replay, make, post, layers, AsksFor, AsksNothing}
+use Rattle.commands.specs.Requests.{RequestText, check, decode, encode, replay, make, serve, post, client, layers, AsksFor, AsksNothing}
 use Rattle.commands.specs.Answers.{usage, AnswerTo, Answers, no_request, requested, HasOneAnswer}
 use Rattle.codec_commands.proofs.OneCheck.{one_check}
 use Rattle.codec_commands.proofs.OneDecode.{one_decode}
 use Rattle.codec_commands.proofs.OneEncode.{one_encode}
 use Rattle.layer_commands.proofs.OneLayers.{one_layers}
 use Rattle.session_commands.proofs.OnePost.{one_post}
+use Rattle.session_commands.proofs.OneRecovery.{one_recovery}
+use Rattle.session_commands.proofs.OneServe.{one_serve}
 use Rattle.session_commands.proofs.Sent.{link_bytes}
 use Rattle.update_commands.proofs.OneMake.{one_make}
 use Rattle.update_commands.proofs.ProfiledFiles.{one_replay}
@@ -20,7 +22,9 @@ one_to (decode schema type input) v shows a c = one_decode v.files schema type i
 one_to (encode schema type input) v shows a c = one_encode v.files schema type input a c
 one_to (replay schema journal clients) v shows a c = one_replay v.files shows.files journal clients schema a c
 one_to (make schema number steps) v shows a c = one_make number steps v.files schema a c
+one_to (serve schema address sessions) v shows a c = one_serve v.files v.links shows.links v.moments schema address sessions a c
 one_to (post schema address input) v shows a c = one_post v.files _ (link_bytes v shows) schema address input a c
+one_to (client schema address state channels) v shows a c = one_recovery v.files shows.files _ (link_bytes v shows) schema address state channels a c
 one_to (layers old new type) v shows a c = one_layers v.files old new type a c
 
 module _ (words : List (List ℕ)) (v : View) where

@@ -3,7 +3,6 @@ use Rattle.std.proofs.Common.{◌≡◌, ◌∙◌, ◌<◌, ◌+◌, refl, ℕ,
 use Rattle.std.specs.Borrow.{Bor}
 use Rattle.std.proofs.lemmas.List.{map-append, take_more}
 use Rattle.clap.specs.Words.{App, Rule, Text, new_app, with_rule, with_subcommand}
-use Rattle.std.specs.List.{fold}
 use Rattle.commands.specs.declared.table.Row.{Row}
 use Rattle.commands.specs.CommandLine.{RowText, operand, program, row, row_text, with_row, with_rows}
 

@@ -1,5 +1,5 @@
 -- Words that clap takes are a row, and words that it refuses are none.
-use Rattle.std.proofs.Common.{◌≡◌, ◌∙◌, ℕ, zero, suc, List, [], ◌∷◌, Bool, true, false, get_or, length, map, refl, sym, ap, subst, arith, Option, Some, None, option_map, codes, true≢false, inl, inr}
+use Rattle.std.proofs.Common.{◌≡◌, ◌∙◌, zero, suc, ℤ, pos, negsuc, List, [], ◌∷◌, Bool, true, false, get_or, map, refl, sym, ap, subst, arith, Option, Some, None, option_map, codes, inl, inr}
 use Rattle.std.specs.List.{All}
 use Rattle.std.specs.Str.{bytes_eq}
 use Rattle.std.proofs.lemmas.Bool.{eqb-false}
@@ -9,15 +9,21 @@ use Rattle.clap.specs.Words.{App, Text, Row, fault_of, subcommand_of, is_simple,
 use Rattle.clap.specs.declared.error.Error.{Error}
 use Rattle.clap.specs.declared.error.kind.ErrorKind.TheVariants.{OutOfMemory}
 use Rattle.commands.specs.Numbers.{number_from, is_number}
-use Rattle.commands.specs.Requests.{RequestText, check, decode, encode, replay, make, post, layers, IsOperand, clients_range, run_range, steps_range, AsksFor, AsksNothing, FindsRequest, request_text}
+use Rattle.commands.specs.Requests.{RequestText, check, decode, encode, replay, make, serve, post, client, layers, IsOperand, AreChannels, clients_range, run_range, channel_range, sessions_range, steps_range, AsksFor, AsksNothing, FindsRequest, request_text}
 use Rattle.commands.specs.declared.request.Request.{Request}
-use Rattle.commands.specs.CommandLine.{RowText, rows, table, request_in, replayed, drawn}
-use Rattle.commands.proofs.CommandsRead.{Enters, NoneOf, table_is_simple, table_is_free, check_enters, decode_enters, encode_enters, replay_enters, make_enters, post_enters, layers_enters, no_words, no_command}
+use Rattle.commands.specs.CommandLine.{RowText, rows, table, request_in, replayed, drawn, served, more_words}
+use Rattle.commands.proofs.CommandsRead.{Enters, NoneOf, table_is_simple, table_is_free, check_enters, decode_enters, encode_enters, replay_enters, make_enters, serve_enters, post_enters, client_enters, layers_enters, no_words, no_command}
 use Rattle.commands.proofs.NumberWords.{is_number_word, no_number_word, number_operand}
 use Rattle.commands.proofs.OperandsRead.{Operands, leaf, given, one_fits, one_read, one_only, three_fit, three_read, three_only}
 use Rattle.commands.proofs.Rows.{asks_nothing}
 
 -- ---- operands
+
+channels_operands : (ws : List Text) (ids : List ℤ) → AreChannels ws ids → Operands ws
+channels_operands [] ids h = tt
+channels_operands (w ∷ ws) [] h = absurd h
+channels_operands (w ∷ ws) (pos id ∷ ids) h = (number_operand channel_range w id h.0, channels_operands ws ids h.1)
+channels_operands (w ∷ ws) (negsuc k ∷ ids) h = absurd h.0
 
 asked_operands : (words : List Text) (r : RequestText) → AsksFor words r → Operands words
 asked_operands words (check schema) asks = subst Operands (sym asks.0) (eqb-false 99 45 refl, (asks.1, tt))
@@ -26,7 +32,9 @@ asked_operands words (encode schema type input) asks = subst Operands (sym asks.
 asked_operands words (replay schema journal clients) (n, is, os, oj, number) = subst Operands (sym is) (eqb-false 114 45 refl, (os, (oj, (number_operand clients_range n clients number, tt))))
 asked_operands words (make schema number steps) (n, s, is, os, run, some) =
     subst Operands (sym is) (eqb-false 109 45 refl, (os, (number_operand run_range n number run, (number_operand steps_range s steps some, tt))))
+asked_operands words (serve schema address sessions) (n, is, os, oa, number) = subst Operands (sym is) (eqb-false 115 45 refl, (os, (oa, (number_operand sessions_range n sessions number, tt))))
 asked_operands words (post schema address input) asks = subst Operands (sym asks.0) (eqb-false 112 45 refl, (asks.1, (asks.2, (asks.3, tt))))
+asked_operands words (client schema address state channels) (more, is, os, oa, ot, each) = subst Operands (sym is) (eqb-false 99 45 refl, (os, (oa, (ot, channels_operands more channels each))))
 asked_operands words (layers old new type) asks = subst Operands (sym asks.0) (eqb-false 108 45 refl, (asks.1, (asks.2, (asks.3, tt))))
 
 module _ {A : Type 0} (f : A → Text) where
@@ -45,7 +53,7 @@ module _ {A : Type 0} (f : A → Text) where
 
 -- ---- words that are taken make what is found in them
 
-abbrev Makes : List Text → Option RequestText → Type 0
+abbrev pub Makes : List Text → Option RequestText → Type 0
 Makes words (Some r) = AsksFor words r
 Makes words None = AsksNothing words
 
@@ -77,19 +85,28 @@ module _ (command a b c : Text) (ab : bytes_eq a b ≡ false) (ac : bytes_eq a c
 
 -- ---- words of a row are taken
 
-row_fits : (words : List Text) (r : RequestText) → AsksFor words r → fault_of table words ≡ []
-row_fits words (check schema) asks = one_taken (codes "check") (codes "SCHEMA") check_enters words schema asks.0 asks.1
-row_fits words (decode schema type input) asks =
+-- a client without channels
+client_alone : (words more : List Text) (schema address state : Text) → more_words words ≡ [] → words ≡ codes "client" ∷ schema ∷ address ∷ state ∷ more → words ≡ codes "client" ∷ schema ∷ address ∷ state ∷ []
+client_alone words more schema address state all is = is ∙ ap (λ (ws : List Text). codes "client" ∷ schema ∷ address ∷ state ∷ ws) (sym (ap more_words is) ∙ all)
+
+-- the words are those that clap reads
+row_fits : (words : List Text) (r : RequestText) → more_words words ≡ [] → AsksFor words r → fault_of table words ≡ []
+row_fits words (check schema) all asks = one_taken (codes "check") (codes "SCHEMA") check_enters words schema asks.0 asks.1
+row_fits words (decode schema type input) all asks =
     three_taken (codes "decode") (codes "SCHEMA") (codes "TYPE") (codes "INPUT") refl refl refl decode_enters words schema type input asks.0 asks.1 asks.2 asks.3
-row_fits words (encode schema type input) asks =
+row_fits words (encode schema type input) all asks =
     three_taken (codes "encode") (codes "SCHEMA") (codes "TYPE") (codes "INPUT") refl refl refl encode_enters words schema type input asks.0 asks.1 asks.2 asks.3
-row_fits words (replay schema journal clients) (n, is, os, oj, number) =
+row_fits words (replay schema journal clients) all (n, is, os, oj, number) =
     three_taken (codes "replay") (codes "SCHEMA") (codes "JOURNAL") (codes "CLIENTS") refl refl refl replay_enters words schema journal n is os oj (number_operand clients_range n clients number)
-row_fits words (make schema number steps) (n, s, is, os, run, some) =
+row_fits words (make schema number steps) all (n, s, is, os, run, some) =
     three_taken (codes "make") (codes "SCHEMA") (codes "NUMBER") (codes "STEPS") refl refl refl make_enters words schema n s is os (number_operand run_range n number run) (number_operand steps_range s steps some)
-row_fits words (post schema address input) asks =
+row_fits words (serve schema address sessions) all (n, is, os, oa, number) =
+    three_taken (codes "serve") (codes "SCHEMA") (codes "ADDRESS") (codes "SESSIONS") refl refl refl serve_enters words schema address n is os oa (number_operand sessions_range n sessions number)
+row_fits words (post schema address input) all asks =
     three_taken (codes "post") (codes "SCHEMA") (codes "ADDRESS") (codes "INPUT") refl refl refl post_enters words schema address input asks.0 asks.1 asks.2 asks.3
-row_fits words (layers old new type) asks =
+row_fits words (client schema address state channels) all (more, is, os, oa, ot, each) =
+    three_taken (codes "client") (codes "SCHEMA") (codes "ADDRESS") (codes "STATE") refl refl refl client_enters words schema address state (client_alone words more schema address state all is) os oa ot
+row_fits words (layers old new type) all asks =
     three_taken (codes "layers") (codes "OLD") (codes "NEW") (codes "TYPE") refl refl refl layers_enters words old new type asks.0 asks.1 asks.2 asks.3
 
 -- so words that are refused, and not for memory, are no row
@@ -99,9 +116,9 @@ refused words e has never none = elim (subst (λ kinds. HasKind kinds e) none ha
   | inr among ↦ among
 ]
 
-pub refused_asked : (words : List Text) (a : App) (e : Error) → a ≡ table → (is_simple_and_free a ≡ true → HasKind (fault_of a words) e) → (kind_of e ≡ OutOfMemory → ⊥) → AsksNothing words
-refused_asked words a e is kinds never r asks =
-    refused words e (subst (λ (b : App). HasKind (fault_of b words) e) is (kinds (ap is_simple_and_free is ∙ table_is_free))) never (row_fits words r asks)
+pub refused_asked : (words : List Text) (a : App) (e : Error) → more_words words ≡ [] → a ≡ table → (is_simple_and_free a ≡ true → HasKind (fault_of a words) e) → (kind_of e ≡ OutOfMemory → ⊥) → AsksNothing words
+refused_asked words a e all is kinds never r asks =
+    refused words e (subst (λ (b : App). HasKind (fault_of b words) e) is (kinds (ap is_simple_and_free is ∙ table_is_free))) never (row_fits words r all asks)
 
 -- ---- by the command
 
@@ -134,8 +151,20 @@ make_words s n k os false is d at =
 make_made : (rest : List Text) → Made (codes "make" ∷ rest)
 make_made = three_made (codes "make") (codes "SCHEMA") (codes "NUMBER") (codes "STEPS") refl refl refl make_enters (λ s n k os on ok. make_words s n k os (is_number run_range n) refl (is_number steps_range k) refl)
 
+-- of a number of sessions, or of none
+serve_words : (s a n : Text) → IsOperand s → IsOperand a → (b : Bool) → is_number sessions_range n ≡ b → Makes (codes "serve" ∷ s ∷ a ∷ n ∷ []) (served (Some s) (Some a) (Some n))
+serve_words s a n os oa true is = rw is (n, refl, os, oa, (is_number_word sessions_range n).0 is)
+serve_words s a n os oa false is =
+    rw is (asks_nothing (codes "serve" ∷ s ∷ a ∷ n ∷ []) (serve s a (number_from 0 n)) refl (λ asks. no_number_word sessions_range n asks.0 (number_from 0 n) is (ap (λ (ws : List Text). get_or ws 3 []) asks.1) asks.4))
+
+serve_made : (rest : List Text) → Made (codes "serve" ∷ rest)
+serve_made = three_made (codes "serve") (codes "SCHEMA") (codes "ADDRESS") (codes "SESSIONS") refl refl refl serve_enters (λ s a n os oa on. serve_words s a n os oa (is_number sessions_range n) refl)
+
 post_made : (rest : List Text) → Made (codes "post" ∷ rest)
 post_made = three_made (codes "post") (codes "SCHEMA") (codes "ADDRESS") (codes "INPUT") refl refl refl post_enters (λ s a i os oa oi. (refl, os, oa, oi))
+
+client_made : (rest : List Text) → Made (codes "client" ∷ rest)
+client_made = three_made (codes "client") (codes "SCHEMA") (codes "ADDRESS") (codes "STATE") refl refl refl client_enters (λ s a t os oa ot. ([], refl, os, oa, ot, tt))
 
 layers_made : (rest : List Text) → Made (codes "layers" ∷ rest)
 layers_made = three_made (codes "layers") (codes "OLD") (codes "NEW") (codes "TYPE") refl refl refl layers_enters (λ s t i os ot oi. (refl, os, ot, oi))
@@ -146,7 +175,7 @@ EachMade [] = Unit {0}
 EachMade (r ∷ rs) = ((rest : List Text) → Made (r.0 ∷ rest)) × EachMade rs
 
 each_made : EachMade rows
-each_made = (check_made, (decode_made, (encode_made, (replay_made, (make_made, (post_made, (layers_made, tt)))))))
+each_made = (check_made, (decode_made, (encode_made, (replay_made, (make_made, (serve_made, (post_made, (client_made, (layers_made, tt)))))))))
 
 named : (command w : Text) (rest : List Text) → bytes_eq command w ≡ true → Made (command ∷ rest) → Made (w ∷ rest)
 named command w rest is = subst (λ (x : Text). Made (x ∷ rest)) ((bytes_eq-Decides command w).0 is)
@@ -163,7 +192,7 @@ made : (words : List Text) → Made words
 made [] = λ o none. absurd (no_words none)
 made (w ∷ rest) = by_rows rows w rest each_made (λ other o none. absurd (no_command w rest o.0 other none))
 
-finds : (words : List Text) (o : Option Request) → Makes words (option_map request_text o) → FindsRequest words o
+pub finds : (words : List Text) (o : Option Request) → Makes words (option_map request_text o) → FindsRequest words o
 finds words None h = h
 finds words (Some r) h = h
 

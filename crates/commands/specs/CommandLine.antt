@@ -1,11 +1,11 @@
 -- The rows as `clap` is told them, and the request that is made of what it finds: how words are read. What they ask for stands in Requests.antt,
 -- which cites nothing of this. This project's own.
-use Rattle.std.specs.Prelude.{true, ℕ, List, [], ◌∷◌, map, Option, Some, None, option_map, option_and_then, codes, if◌then◌else◌}
+use Rattle.std.specs.Prelude.{Bool, true, false, ◌&&◌, ℕ, ℤ, pos, List, [], ◌∷◌, map, take, drop, Option, Some, None, option_map, option_and_then, codes, if◌then◌else◌}
 use Rattle.std.specs.List.{fold}
 use Rattle.std.specs.Str.{bytes_eq}
 use Rattle.clap.specs.Words.{App, Row, Rule, Text, first_of, new_app, new_rule, with_subcommand}
-use Rattle.commands.specs.Numbers.{number_of}
-use Rattle.commands.specs.Requests.{RequestText, check, decode, encode, replay, make, post, layers, clients_range, run_range, steps_range}
+use Rattle.commands.specs.Numbers.{number_from, number_of, is_number}
+use Rattle.commands.specs.Requests.{RequestText, check, decode, encode, replay, make, serve, post, client, layers, channel_range, clients_range, run_range, sessions_range, steps_range}
 use Rattle.commands.specs.declared.table.Row.{Row as TableRow}
 
 -- an operand, which has to be there
@@ -26,6 +26,7 @@ program =
 abbrev pub RowText : Type 0
 RowText = Text × List Text
 
+-- the rows, each as far as clap reads it
 abbrev pub rows : List RowText
 rows =
     (codes "check", codes "SCHEMA" ∷ [])
@@ -33,7 +34,9 @@ rows =
     ∷ (codes "encode", codes "SCHEMA" ∷ codes "TYPE" ∷ codes "INPUT" ∷ [])
     ∷ (codes "replay", codes "SCHEMA" ∷ codes "JOURNAL" ∷ codes "CLIENTS" ∷ [])
     ∷ (codes "make", codes "SCHEMA" ∷ codes "NUMBER" ∷ codes "STEPS" ∷ [])
+    ∷ (codes "serve", codes "SCHEMA" ∷ codes "ADDRESS" ∷ codes "SESSIONS" ∷ [])
     ∷ (codes "post", codes "SCHEMA" ∷ codes "ADDRESS" ∷ codes "INPUT" ∷ [])
+    ∷ (codes "client", codes "SCHEMA" ∷ codes "ADDRESS" ∷ codes "STATE" ∷ [])
     ∷ (codes "layers", codes "OLD" ∷ codes "NEW" ∷ codes "TYPE" ∷ [])
     ∷ []
 
@@ -86,8 +89,20 @@ drawn _ _ _ = None
 abbrev pub make_of : (Text → Option Text) → Option RequestText
 make_of word = drawn (word (codes "SCHEMA")) (word (codes "NUMBER")) (word (codes "STEPS"))
 
+-- some sessions
+abbrev pub served : Option Text → Option Text → Option Text → Option RequestText
+served (Some schema) (Some address) (Some sessions) = option_map (serve schema address) (number_of sessions_range sessions)
+served _ _ _ = None
+
+abbrev pub serve_of : (Text → Option Text) → Option RequestText
+serve_of word = served (word (codes "SCHEMA")) (word (codes "ADDRESS")) (word (codes "SESSIONS"))
+
 abbrev pub post_of : (Text → Option Text) → Option RequestText
 post_of word = typed post (word (codes "SCHEMA")) (word (codes "ADDRESS")) (word (codes "INPUT"))
+
+-- without channels
+abbrev pub client_of : (Text → Option Text) → Option RequestText
+client_of word = typed (λ schema address state. client schema address state []) (word (codes "SCHEMA")) (word (codes "ADDRESS")) (word (codes "STATE"))
 
 abbrev pub layers_of : (Text → Option Text) → Option RequestText
 layers_of word = typed layers (word (codes "OLD")) (word (codes "NEW")) (word (codes "TYPE"))
@@ -99,10 +114,42 @@ request_at command word =
     else if bytes_eq command (codes "encode") then encode_of word
     else if bytes_eq command (codes "replay") then replay_of word
     else if bytes_eq command (codes "make") then make_of word
+    else if bytes_eq command (codes "serve") then serve_of word
     else if bytes_eq command (codes "post") then post_of word
+    else if bytes_eq command (codes "client") then client_of word
     else if bytes_eq command (codes "layers") then layers_of word
     else None
 
 -- the request of the command that clap found, and of what it found for each operand
 abbrev pub request_in : Option (Text × List Row) → Option RequestText
 request_in = option_and_then (λ p. request_at p.0 (λ operand. first_of operand p.1))
+
+-- ---- the words after those that clap reads: a client's channels
+
+abbrev pub begins_client : List Text → Bool
+begins_client [] = false
+begins_client (w ∷ ws) = bytes_eq w (codes "client")
+
+-- the words that clap reads
+abbrev pub fixed_words : List Text → List Text
+fixed_words ws = if begins_client ws then take 4 ws else ws
+
+abbrev pub more_words : List Text → List Text
+more_words ws = if begins_client ws then drop 4 ws else []
+
+abbrev pub are_channels : List Text → Bool
+are_channels [] = true
+are_channels (w ∷ ws) = is_number channel_range w && are_channels ws
+
+-- the channel that a word is, if it is one
+abbrev pub channel_of : Text → ℤ
+channel_of w = pos (number_from 0 w)
+
+-- the channels that words are, if each is one
+abbrev pub channels_of : List Text → Option (List ℤ)
+channels_of ws = if are_channels ws then Some (map channel_of ws) else None
+
+-- the request with the channels of further words, if it is a client's
+abbrev pub with_channels : List Text → RequestText → Option RequestText
+with_channels ws (client schema address state channels) = option_map (client schema address state) (channels_of ws)
+with_channels ws r = Some r

@@ -1,5 +1,5 @@
 -- The table of requests: what words ask for, which files that takes, and the job that is done. This project's own.
-use Rattle.std.specs.Prelude.{◌≡◌, ◌≢◌, ◌≤◌, ℕ, List, [], ◌∷◌, Option, Some, None, codes}
+use Rattle.std.specs.Prelude.{◌≡◌, ◌≢◌, ◌≤◌, ℕ, ℤ, pos, negsuc, List, [], ◌∷◌, Option, Some, None, codes}
 use Rattle.tl_base.specs.Contents.{Files}
 use Rattle.tl_base.specs.Outside.{HasFile}
 use Rattle.command_base.specs.Jobs.{Job}
@@ -7,13 +7,15 @@ use Rattle.codec_commands.specs.Check.{check_job}
 use Rattle.codec_commands.specs.Decode.{decode_job}
 use Rattle.codec_commands.specs.Encode.{encode_job}
 use Rattle.layer_commands.specs.Layers.{layers_job}
+use Rattle.session_commands.specs.Client.{client_job}
 use Rattle.session_commands.specs.Post.{post_job}
+use Rattle.session_commands.specs.Serve.{serve_job}
 use Rattle.update_commands.specs.Make.{make_job}
 use Rattle.update_commands.specs.Replay.{replay_job}
 use Rattle.commands.specs.Numbers.{IsNumberWord}
 use Rattle.commands.specs.declared.number.Range.{Range}
 use Rattle.commands.specs.declared.request.Request.{Request}
-use Rattle.commands.specs.declared.request.Request.TheVariants.{Check, Decode, Encode, Layers, Make, Post, Replay}
+use Rattle.commands.specs.declared.request.Request.TheVariants.{Check, Client, Decode, Encode, Layers, Make, Post, Replay, Serve}
 
 -- what a run is asked for, each operand as its bytes or its number
 pub data RequestText : Type 0 where
@@ -22,7 +24,9 @@ pub data RequestText : Type 0 where
   encode : (schema type input : List ℕ) → RequestText
   replay : (schema journal : List ℕ) → (clients : ℕ) → RequestText
   make : (schema : List ℕ) → (number steps : ℕ) → RequestText
+  serve : (schema address : List ℕ) → (sessions : ℕ) → RequestText
   post : (schema address input : List ℕ) → RequestText
+  client : (schema address state : List ℕ) → (channels : List ℤ) → RequestText
   layers : (old new type : List ℕ) → RequestText
 
 -- a word that may be an operand: it is not empty and does not begin with `-`
@@ -41,8 +45,27 @@ run_range = record { digits = 10; least = 0; most = 9999999999 }
 abbrev pub steps_range : Range
 steps_range = record { digits = 10; least = 1; most = 100000 }
 
+-- how many sessions a server has
+abbrev pub sessions_range : Range
+sessions_range = record { digits = 10; least = 1; most = 1000000 }
+
+-- the ids of channels in words
+abbrev pub channel_range : Range
+channel_range = record { digits = 19; least = 0; most = 9223372036854775807 }
+
+-- the word is a channel: no negative one is a word
+abbrev pub IsChannelWord : List ℕ → ℤ → Type 0
+IsChannelWord word (pos id) = IsNumberWord channel_range word id
+IsChannelWord word (negsuc k) = ⊥
+
+-- each word is its channel
+abbrev pub AreChannels : List (List ℕ) → List ℤ → Type 0
+AreChannels [] [] = Unit {0}
+AreChannels (w ∷ ws) (id ∷ ids) = IsChannelWord w id × AreChannels ws ids
+AreChannels _ _ = ⊥
+
 -- the words are the request's row: `check SCHEMA`, `decode SCHEMA TYPE INPUT`, `encode SCHEMA TYPE INPUT`, `replay SCHEMA JOURNAL CLIENTS`,
--- `make SCHEMA NUMBER STEPS`, `post SCHEMA ADDRESS INPUT`, `layers OLD NEW TYPE`
+-- `make SCHEMA NUMBER STEPS`, `serve SCHEMA ADDRESS SESSIONS`, `post SCHEMA ADDRESS INPUT`, `client SCHEMA ADDRESS STATE [CHANNEL ..]`, `layers OLD NEW TYPE`
 abbrev pub AsksFor : List (List ℕ) → RequestText → Type 0
 AsksFor words (check schema) = (words ≡ codes "check" ∷ schema ∷ []) × IsOperand schema
 AsksFor words (decode schema type input) = (words ≡ codes "decode" ∷ schema ∷ type ∷ input ∷ []) × IsOperand schema × IsOperand type × IsOperand input
@@ -50,7 +73,11 @@ AsksFor words (encode schema type input) = (words ≡ codes "encode" ∷ schema 
 AsksFor words (replay schema journal clients) = (n : List ℕ) × (words ≡ codes "replay" ∷ schema ∷ journal ∷ n ∷ []) × IsOperand schema × IsOperand journal × IsNumberWord clients_range n clients
 AsksFor words (make schema number steps) =
     (n s : List ℕ) × (words ≡ codes "make" ∷ schema ∷ n ∷ s ∷ []) × IsOperand schema × IsNumberWord run_range n number × IsNumberWord steps_range s steps
+AsksFor words (serve schema address sessions) =
+    (n : List ℕ) × (words ≡ codes "serve" ∷ schema ∷ address ∷ n ∷ []) × IsOperand schema × IsOperand address × IsNumberWord sessions_range n sessions
 AsksFor words (post schema address input) = (words ≡ codes "post" ∷ schema ∷ address ∷ input ∷ []) × IsOperand schema × IsOperand address × IsOperand input
+AsksFor words (client schema address state channels) =
+    (more : List (List ℕ)) × (words ≡ codes "client" ∷ schema ∷ address ∷ state ∷ more) × IsOperand schema × IsOperand address × IsOperand state × AreChannels more channels
 AsksFor words (layers old new type) = (words ≡ codes "layers" ∷ old ∷ new ∷ type ∷ []) × IsOperand old × IsOperand new × IsOperand type
 
 -- the words are those of no request
@@ -72,7 +99,9 @@ HasFilesOf files (decode schema type input) = IsFile files schema × IsFile file
 HasFilesOf files (encode schema type input) = IsFile files schema × IsFile files input
 HasFilesOf files (replay schema journal clients) = IsFile files schema × IsFile files journal
 HasFilesOf files (make schema number steps) = IsFile files schema
+HasFilesOf files (serve schema address sessions) = IsFile files schema
 HasFilesOf files (post schema address input) = IsFile files schema × IsFile files input
+HasFilesOf files (client schema address state channels) = IsFile files schema × IsFile files state
 HasFilesOf files (layers old new type) = IsFile files old × IsFile files new
 
 -- the job of a request
@@ -82,7 +111,9 @@ job_of (decode schema type input) = decode_job schema type input
 job_of (encode schema type input) = encode_job schema type input
 job_of (replay schema journal clients) = replay_job schema journal clients
 job_of (make schema number steps) = make_job schema number steps
+job_of (serve schema address sessions) = serve_job schema address sessions
 job_of (post schema address input) = post_job schema address input
+job_of (client schema address state channels) = client_job schema address state channels
 job_of (layers old new type) = layers_job old new type
 
 -- ---- the request of the program
@@ -93,13 +124,16 @@ request_text (Decode schema type input) = decode schema.now type.now input.now
 request_text (Encode schema type input) = encode schema.now type.now input.now
 request_text (Replay schema journal clients) = replay schema.now journal.now clients
 request_text (Make schema number steps) = make schema.now number steps
+request_text (Serve schema address sessions) = serve schema.now address.now sessions
 request_text (Post schema address input) = post schema.now address.now input.now
+request_text (Client schema address state channels) = client schema.now address.now state.now channels.items
 request_text (Layers old new type) = layers old.now new.now type.now
 
 -- its numbers are those that its row takes
 abbrev pub IsInRange : RequestText → Type 0
 IsInRange (replay schema journal clients) = (1 ≤ clients) × (clients ≤ 16)
 IsInRange (make schema number steps) = (1 ≤ steps) × (steps ≤ 100000)
+IsInRange (serve schema address sessions) = (1 ≤ sessions) × (sessions ≤ 1000000)
 IsInRange r = Unit {0}
 
 -- the request that the words ask for, or none where they ask for none

@@ -12,7 +12,7 @@ use crate::request::{Request, request_of};
 use codec_commands::{check_schema, decode_input, encode_input};
 use command_base::{Status, Stop, report, tell};
 use layer_commands::compare_schemas;
-use session_commands::post_call;
+use session_commands::{post_call, recover_client, serve_sessions};
 use std::alloc::Global;
 use tl_base::Host;
 use update_commands::{make_run, replay_journal};
@@ -69,11 +69,22 @@ fn answer<H: Host>(alloc: Global, host: &mut H, request: Request) -> Result<Stat
             number,
             steps,
         } => make_run(alloc, host, schema, number, steps),
+        Request::Serve {
+            schema,
+            address,
+            sessions,
+        } => serve_sessions(alloc, host, schema, address, sessions),
         Request::Post {
             schema,
             address,
             input,
         } => post_call(alloc, host, schema, address, input),
+        Request::Client {
+            schema,
+            address,
+            state,
+            channels,
+        } => recover_client(alloc, host, schema, address, state, channels.as_slice()),
         Request::Layers { old, new, of } => compare_schemas(alloc, host, old, new, of),
     }
 }

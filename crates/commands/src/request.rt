@@ -1,10 +1,10 @@
 //! What the words that the program is started with ask for.
-ghost use Rattle.std.specs.Prelude.{IfOk, IsTrue, ◌≡◌, ◌↔◌, map, option_map, string_bytes};
+ghost use Rattle.std.specs.Prelude.{IfOk, IsTrue, ◌≡◌, ◌↔◌, [], map, option_map, pos, string_bytes};
 ghost use Rattle.std.specs.List.{All};
 ghost use Rattle.clap.specs.Words.{first_value, found_of, subcommand_rows_of};
 ghost use Rattle.commands.specs.Numbers.{number_of};
-ghost use Rattle.commands.specs.Requests.{IsOperand, FindsRequest, clients_range, request_text, run_range, steps_range};
-ghost use Rattle.commands.specs.CommandLine.{check_of, decode_of, encode_of, layers_of, make_of, post_of, replay_of, request_in};
+ghost use Rattle.commands.specs.Requests.{IsOperand, FindsRequest, channel_range, clients_range, request_text, run_range, sessions_range, steps_range};
+ghost use Rattle.commands.specs.CommandLine.{begins_client, channels_of, check_of, client_of, decode_of, encode_of, fixed_words, layers_of, make_of, more_words, post_of, replay_of, request_in, serve_of, with_channels};
 
 use crate::number::{Range, number_in};
 use crate::table::table_of;
@@ -13,7 +13,7 @@ use clap::error::ErrorKind;
 use std::alloc::{AllocError, Global};
 
 /// A request: a command and its operands.
-#[derive(Clone, Copy)]
+#[derive(Drop)]
 pub enum Request<'a> {
     /// `check SCHEMA`
     Check {
@@ -43,11 +43,24 @@ pub enum Request<'a> {
         number: u64,
         steps: u32,
     },
+    /// `serve SCHEMA ADDRESS SESSIONS`
+    Serve {
+        schema: &'a str,
+        address: &'a str,
+        sessions: u32,
+    },
     /// `post SCHEMA ADDRESS INPUT`
     Post {
         schema: &'a str,
         address: &'a str,
         input: &'a str,
+    },
+    /// `client SCHEMA ADDRESS STATE [CHANNEL ..]`
+    Client {
+        schema: &'a str,
+        address: &'a str,
+        state: &'a str,
+        channels: Vec<i64>,
     },
     /// `layers OLD NEW TYPE`
     Layers {
@@ -57,15 +70,50 @@ pub enum Request<'a> {
     },
 }
 
-/// The request that the words ask for. No word of any row is empty or begins with `-`: `clap`, which reads the rest, sees none such.
+/// The request that the words ask for. `clap` reads rows of a fixed length: the channels of a client are read here.
 pub fn request_of(alloc: Global, words: &[String]) -> Result<Option<Request<'_>>, AllocError>
+    ensures { IfOk result (FindsRequest (map string_bytes words.now)) }
+{
+    let (fixed, more) = parts_of(words);
+    match fixed_request(alloc, fixed)? {
+        Some(request) => with_channels(alloc, more, request),
+        None => Ok(None),
+    }
+}
+
+// The words that `clap` reads, and those after them: the words of a client's channels.
+fn parts_of(words: &[String]) -> (&[String], &[String])
+    ensures fixed { map string_bytes result.0.now ≡ fixed_words (map string_bytes words.now) }
+    ensures more { map string_bytes result.1.now ≡ more_words (map string_bytes words.now) }
+{
+    let fixed = if begins_client(words) {
+        words.len().min(4)
+    } else {
+        words.len()
+    };
+    words.split_at(fixed)
+}
+
+// Whether the command is `client`.
+fn begins_client(words: &[String]) -> bool
+    ensures { result ≡ begins_client (map string_bytes words.now) }
+{
+    match words {
+        [] => false,
+        [command, ..] => command.as_str() == "client",
+    }
+}
+
+// The request of words that `clap` reads, a client without channels. No word of any row is empty or begins with `-`: `clap` sees none such.
+fn fixed_request(alloc: Global, words: &[String]) -> Result<Option<Request<'_>>, AllocError>
+    requires { more_words (map string_bytes words.now) ≡ [] }
     ensures { IfOk result (FindsRequest (map string_bytes words.now)) }
 {
     if !are_operands(words) {
         return Ok(None);
     }
     match table_of(alloc)?.try_get_matches_from(words) {
-        Ok(matches) => Ok(request_in(&matches)),
+        Ok(matches) => Ok(request_in(alloc, &matches)),
         Err(fault) => match fault.kind() {
             ErrorKind::OutOfMemory => Err(AllocError),
             _ => Ok(None),
@@ -73,8 +121,64 @@ pub fn request_of(alloc: Global, words: &[String]) -> Result<Option<Request<'_>>
     }
 }
 
+// The request with the channels that further words are, if it is a client's.
+fn with_channels<'a>(
+    alloc: Global,
+    words: &[String],
+    request: Request<'a>,
+) -> Result<Option<Request<'a>>, AllocError>
+    ensures { IfOk result (λ r. option_map request_text r ≡ with_channels (map string_bytes words.now) (request_text request.entry)) }
+{
+    match request {
+        Request::Client {
+            schema,
+            address,
+            state,
+            ..
+        } => match channels_of(alloc, words)? {
+            Some(channels) => Ok(Some(Request::Client {
+                schema,
+                address,
+                state,
+                channels,
+            })),
+            None => Ok(None),
+        },
+        request => Ok(Some(request)),
+    }
+}
+
+// The channels that words are, where each word is one.
+fn channels_of(alloc: Global, words: &[String]) -> Result<Option<Vec<i64>>, AllocError>
+    ensures { IfOk result (λ r. option_map (λ v. v.items) r ≡ channels_of (map string_bytes words.now)) }
+{
+    let mut channels = Vec::new(alloc);
+    for word in words {
+        let Some(channel) = channel_in(word.as_str()) else {
+            return Ok(None);
+        };
+        channels.push(channel)?;
+    }
+    Ok(Some(channels))
+}
+
+// The channel that a word is.
+fn channel_in(word: &str) -> Option<i64>
+    ensures { result ≡ option_map pos (number_of channel_range word.now) }
+{
+    let range = Range {
+        digits: 19,
+        least: 0,
+        most: 9_223_372_036_854_775_807,
+    };
+    match number_in(range, word) {
+        Some(channel) => Some(channel as i64),
+        None => None,
+    }
+}
+
 // The request of the row that was found.
-fn request_in<'a>(matches: &ArgMatches<'a>) -> Option<Request<'a>>
+fn request_in<'a>(alloc: Global, matches: &ArgMatches<'a>) -> Option<Request<'a>>
     ensures { option_map request_text result ≡ request_in (subcommand_rows_of matches.now) }
 {
     let (command, operands) = matches.subcommand()?;
@@ -84,7 +188,9 @@ fn request_in<'a>(matches: &ArgMatches<'a>) -> Option<Request<'a>>
         "encode" => encode_of(operands),
         "replay" => replay_of(operands),
         "make" => make_of(operands),
+        "serve" => serve_of(operands),
         "post" => post_of(operands),
+        "client" => client_of(alloc, operands),
         "layers" => layers_of(operands),
         _ => None,
     }
@@ -190,6 +296,35 @@ fn steps_in(word: &str) -> Option<u32>
     }
 }
 
+// The request of `serve`.
+fn serve_of<'a>(operands: &ArgMatches<'a>) -> Option<Request<'a>>
+    ensures { option_map request_text result ≡ serve_of (first_value (found_of operands.now)) }
+{
+    let schema = operands.get_str("SCHEMA")?;
+    let address = operands.get_str("ADDRESS")?;
+    let sessions = sessions_in(operands.get_str("SESSIONS")?)?;
+    Some(Request::Serve {
+        schema,
+        address,
+        sessions,
+    })
+}
+
+// The number of sessions that a word is.
+fn sessions_in(word: &str) -> Option<u32>
+    ensures { result ≡ number_of sessions_range word.now }
+{
+    let range = Range {
+        digits: 10,
+        least: 1,
+        most: 1_000_000,
+    };
+    match number_in(range, word) {
+        Some(sessions) => Some(sessions as u32),
+        None => None,
+    }
+}
+
 // The request of `post`.
 fn post_of<'a>(operands: &ArgMatches<'a>) -> Option<Request<'a>>
     ensures { option_map request_text result ≡ post_of (first_value (found_of operands.now)) }
@@ -201,6 +336,22 @@ fn post_of<'a>(operands: &ArgMatches<'a>) -> Option<Request<'a>>
         schema,
         address,
         input,
+    })
+}
+
+// The request of `client`, without channels.
+fn client_of<'a>(alloc: Global, operands: &ArgMatches<'a>) -> Option<Request<'a>>
+    ensures { option_map request_text result ≡ client_of (first_value (found_of operands.now)) }
+{
+    let schema = operands.get_str("SCHEMA")?;
+    let address = operands.get_str("ADDRESS")?;
+    let state = operands.get_str("STATE")?;
+    let channels = Vec::new(alloc);
+    Some(Request::Client {
+        schema,
+        address,
+        state,
+        channels,
     })
 }
 

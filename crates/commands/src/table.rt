@@ -14,7 +14,7 @@ pub struct Row<'a> {
     pub operands: &'a [&'a str],
 }
 
-// The rows in the order of the usage.
+// The rows in the order of the usage, each as far as `clap` reads it: all words of a row but the channels of `client`.
 fn rows<'a>() -> &'a [Row<'a>]
     ensures { map row_text result.now ≡ rows }
 {
@@ -40,8 +40,16 @@ fn rows<'a>() -> &'a [Row<'a>]
             operands: &["SCHEMA", "NUMBER", "STEPS"],
         },
         Row {
+            command: "serve",
+            operands: &["SCHEMA", "ADDRESS", "SESSIONS"],
+        },
+        Row {
             command: "post",
             operands: &["SCHEMA", "ADDRESS", "INPUT"],
+        },
+        Row {
+            command: "client",
+            operands: &["SCHEMA", "ADDRESS", "STATE"],
         },
         Row {
             command: "layers",

@@ -22,9 +22,17 @@ pub returns-in-make : goal.returns-in-make
 returns-in-make c =
     found_as c.args.matches.now c.in_ok-command.operands.now c.in_ok-command.command.now (codes "make") _ c.in_ok-command.ensures.name c.in_ok-command.ensures.rows c.in-make.is c.make_of.ensures
 
+pub returns-in-serve : goal.returns-in-serve
+returns-in-serve c =
+    found_as c.args.matches.now c.in_ok-command.operands.now c.in_ok-command.command.now (codes "serve") _ c.in_ok-command.ensures.name c.in_ok-command.ensures.rows c.in-serve.is c.serve_of.ensures
+
 pub returns-in-post : goal.returns-in-post
 returns-in-post c =
     found_as c.args.matches.now c.in_ok-command.operands.now c.in_ok-command.command.now (codes "post") _ c.in_ok-command.ensures.name c.in_ok-command.ensures.rows c.in-post.is c.post_of.ensures
+
+pub returns-in-client : goal.returns-in-client
+returns-in-client c =
+    found_as c.args.matches.now c.in_ok-command.operands.now c.in_ok-command.command.now (codes "client") _ c.in_ok-command.ensures.name c.in_ok-command.ensures.rows c.in-client.is c.client_of.ensures
 
 pub returns-in-layers : goal.returns-in-layers
 returns-in-layers c =

@@ -1,17 +1,13 @@
-use Rattle.std.proofs.Common.{◌∙◌, rules, map, string_bytes}
-use Rattle.clap.specs.Words.{app_of, subcommand_rows_of}
-use Rattle.commands.proofs.WordsRead.{none_asked, refused_asked, found_asked, operands_from}
+use Rattle.std.proofs.Common.{map, string_bytes, subst}
+use Rattle.commands.specs.Requests.{FindsRequest, request_text}
+use Rattle.commands.proofs.WordsParted.{finds_if_ok, finds_none}
 use Rattle.commands.proofs.request.request_of.Goals as goal
 
-pub returns-then-not-are_operands : goal.returns-then-not-are_operands
-returns-then-not-are_operands c = none_asked string_bytes c.args.words.now (search rules)
+pub returns-in-Some : goal.returns-in-Some
+returns-in-Some c =
+    let parts = c.parts_of.ensures in
+    finds_if_ok (map string_bytes c.args.words.now) _ _ parts.fixed parts.more (request_text c.in-Some.request) c.with_channels.result
+    (subst (FindsRequest (map string_bytes c.parts_of.result.0.now)) c.in-Some.is c.in_ok-request.ensures) c.with_channels.ensures
 
-pub returns-in-Ok : goal.returns-in-Ok
-returns-in-Ok c =
-    found_asked (map string_bytes c.args.words.now) (app_of c.in_ok-table_of.field-0) (subcommand_rows_of c.in-Ok.matches) _ c.in_ok-table_of.ensures
-    (operands_from string_bytes c.args.words.now (search rules)) c.in-Ok.ensures.kinds (λ simple. (c.in-Ok.ensures.matches simple).1) c.request_in.ensures
-
-pub returns : goal.returns
-returns c =
-    refused_asked (map string_bytes c.args.words.now) (app_of c.in_ok-table_of.field-0) c.in-Err.fault c.in_ok-table_of.ensures c.in-Err.ensures.kinds
-    (λ memory. c.in_default.not-OutOfMemory (c.kind.ensures ∙ memory))
+pub returns-in-None : goal.returns-in-None
+returns-in-None c = finds_none (map string_bytes c.args.words.now) _ c.parts_of.ensures.fixed (subst (FindsRequest (map string_bytes c.parts_of.result.0.now)) c.in-None.is c.in_ok-request.ensures)
