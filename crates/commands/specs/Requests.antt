@@ -1,5 +1,6 @@
 -- The table of requests: what words ask for, which files that takes, and the job that is done. This project's own.
-use Rattle.std.specs.Prelude.{◌≡◌, ◌≢◌, ◌≤◌, ℕ, ℤ, pos, negsuc, List, [], ◌∷◌, Option, Some, None, codes}
+use Rattle.std.specs.Prelude.{◌≡◌, ◌≢◌, ◌<◌, ◌≤◌, ◌^◌, ℕ, ℤ, pos, negsuc, List, [], ◌∷◌, Option, Some, None, codes}
+use Rattle.std.specs.List.{AllByRecursion}
 use Rattle.tl_base.specs.Contents.{Files}
 use Rattle.tl_base.specs.Outside.{HasFile}
 use Rattle.command_base.specs.Jobs.{Job}
@@ -103,6 +104,15 @@ HasFilesOf files (serve schema address sessions) = IsFile files schema
 HasFilesOf files (post schema address input) = IsFile files schema × IsFile files input
 HasFilesOf files (client schema address state channels) = IsFile files schema × IsFile files state
 HasFilesOf files (layers old new type) = IsFile files old × IsFile files new
+
+-- moments have 31 bits, as each host's have
+abbrev pub AreMoments : List ℕ → Type 0
+AreMoments moments = AllByRecursion (λ moment. moment < 2 ^ 31) moments
+
+-- the moments to come are such, where the request takes any
+abbrev pub HasMomentsOf : List ℕ → RequestText → Type 0
+HasMomentsOf moments (serve schema address sessions) = AreMoments moments
+HasMomentsOf moments r = Unit {0}
 
 -- the job of a request
 abbrev pub job_of : RequestText → Job

@@ -7,7 +7,8 @@ pub fn words_and_files_have_one_answer()
     ensures { HasOneAnswer }
 {}
 
-/// Words have an answer over an outside that shows bytes, where the files that they name are there; and words ask for nothing or for a request.
+/// Words have an answer over an outside that shows bytes, where the files that they name are there and moments have 31 bits, as each host's have; and
+/// words ask for nothing or for a request.
 pub fn words_and_files_have_an_answer()
     ensures answered { HasAnAnswer }
     ensures asked { (words : List (List ℕ)) → Asks words }
