@@ -1,5 +1,5 @@
 -- Words have an answer over an outside that shows bytes.
-use Rattle.std.proofs.Common.{refl, absurd}
+use Rattle.std.proofs.Common.{refl}
 use Rattle.tl_base.specs.Outside.{View, ShowsBytes}
 use Rattle.command_base.specs.Answer.{Answer}
 use Rattle.codec_commands.proofs.EachAnswer.{each_check, each_decode, each_encode}
