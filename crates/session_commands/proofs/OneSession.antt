@@ -151,7 +151,7 @@ module _ (p : ProfileView) (good : IsProfile p) where
   heard_on c bytes out d (Ok n) fs last are whole (left, e, calm, is, most, none) = ends_by c bytes left out d fs (Ok n) are e (calm, is) (λ m same. omega (arith, ok_is n m same, most))
   heard_on c bytes out d (Err (Packet fault)) fs last are whole (left, still, short, none) = ends_by c bytes left out d fs (Err (Packet fault)) are still.exchanged (still.asking, still.few, short, whole) (no_count (Packet fault))
   heard_on c bytes out d (Err (Wire fault)) fs last are whole (left, still, refused, none) = ends_by c bytes left out d fs (Err (Wire fault)) are still.exchanged (still.asking, still.few, refused) (no_count (Wire fault))
-  heard_on c bytes out d (Err (Client fault)) fs last are whole (left, f, still, refused, is) = ends_by c bytes left out d fs (Err (Client fault)) are still.exchanged (still.asking, still.few, (f, refused)) (no_count (Client fault))
+  heard_on c bytes out d (Err (Client fault)) fs last are whole (left, f, still, refused, is) = ends_by c bytes left out d fs (Err (Client fault)) are still.exchanged (still.asking, still.few, f, refused) (no_count (Client fault))
   heard_on c bytes out d (Err TooManyFrames) fs last are whole (left, e, asks, is, none) = ends_by c bytes left out d fs (Err TooManyFrames) are e (asks, is) (no_count TooManyFrames)
   heard_on c bytes out d (Err LinkFault) fs last are whole h = absurd whole
   heard_on c bytes out d (Err Memory) fs last are whole h = absurd whole
