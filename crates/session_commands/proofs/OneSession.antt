@@ -98,7 +98,7 @@ module _ (p : ProfileView) (good : IsProfile p) where
   EndsSo left d k (Err Memory) = ⊥
 
   not_asking : (d : ClientState) → is_one_asking d ≡ false → is_one_asking d ≡ true → ⊥
-  not_asking d no yes = true≢false (sym yes ∙ no)
+  not_asking d calm asks = true≢false (sym asks ∙ calm)
 
   wire_stops : (left rest : List ℕ) (m : Frame) (fault : WireFault) → AreBytes left → RefusedPacket (WireRefused p frames) left fault → ComesFirst (MeansFrame p) m left rest → ⊥
   wire_stops left rest m fault are r c =
@@ -114,7 +114,7 @@ module _ (p : ProfileView) (good : IsProfile p) where
   stops_so left d k (Ok n) are h m rest less c t = not_asking d h.0 t.asking
   stops_so left d k (Err (Packet fault)) are (asks, few, none, word) m rest less c t = never_packet left c.body rest fault none word c.fits c.parts
   stops_so left d k (Err (Wire fault)) are (asks, few, refused) m rest less c t = wire_stops left rest m fault are refused c
-  stops_so left d k (Err (Client fault)) are (asks, few, (f, refused)) m rest less c t = client_stops left rest d m f fault are refused c t.clear
+  stops_so left d k (Err (Client fault)) are (asks, few, f, refused) m rest less c t = client_stops left rest d m f fault are refused c t.clear
   stops_so left d k (Err TooManyFrames) are (asks, most) m rest less c t = omega (arith, most, less)
   stops_so left d k (Err LinkFault) are h m rest less c t = h
   stops_so left d k (Err Memory) are h m rest less c t = h
@@ -148,10 +148,10 @@ module _ (p : ProfileView) (good : IsProfile p) where
   ok_is m n e = cc
 
   heard_on : (c : ClientState) (bytes out : List ℕ) (d : ClientState) (r : Result ℕ SessionFault) (fs last : List Frame) → AreBytes bytes → IsWhole r → HearsOn p c bytes out d r fs last → EndsAt c bytes out d fs r
-  heard_on c bytes out d (Ok n) fs last are whole (left, e, no, is, most, none) = ends_by c bytes left out d fs (Ok n) are e (no, is) (λ m same. omega (arith, ok_is n m same, most))
-  heard_on c bytes out d (Err (Packet fault)) fs last are whole (left, still, no, none) = ends_by c bytes left out d fs (Err (Packet fault)) are still.exchanged (still.asking, still.few, no, whole) (no_count (Packet fault))
+  heard_on c bytes out d (Ok n) fs last are whole (left, e, calm, is, most, none) = ends_by c bytes left out d fs (Ok n) are e (calm, is) (λ m same. omega (arith, ok_is n m same, most))
+  heard_on c bytes out d (Err (Packet fault)) fs last are whole (left, still, short, none) = ends_by c bytes left out d fs (Err (Packet fault)) are still.exchanged (still.asking, still.few, short, whole) (no_count (Packet fault))
   heard_on c bytes out d (Err (Wire fault)) fs last are whole (left, still, refused, none) = ends_by c bytes left out d fs (Err (Wire fault)) are still.exchanged (still.asking, still.few, refused) (no_count (Wire fault))
-  heard_on c bytes out d (Err (Client fault)) fs last are whole (left, f, still, refused, is) = ends_by c bytes left out d fs (Err (Client fault)) are still.exchanged (still.asking, still.few, (f, refused)) (no_count (Client fault))
+  heard_on c bytes out d (Err (Client fault)) fs last are whole (left, f, still, refused, is) = ends_by c bytes left out d fs (Err (Client fault)) are still.exchanged (still.asking, still.few, f, refused) (no_count (Client fault))
   heard_on c bytes out d (Err TooManyFrames) fs last are whole (left, e, asks, is, none) = ends_by c bytes left out d fs (Err TooManyFrames) are e (asks, is) (no_count TooManyFrames)
   heard_on c bytes out d (Err LinkFault) fs last are whole h = absurd whole
   heard_on c bytes out d (Err Memory) fs last are whole h = absurd whole
@@ -166,7 +166,7 @@ module _ (p : ProfileView) (good : IsProfile p) where
     ends : EndsAt (begun c) bytes more d frames r
 
   heard : (c : ClientState) (bytes out : List ℕ) (d : ClientState) (r : Result ℕ SessionFault) (fs last : List Frame) → AreBytes bytes → IsWhole r → Hears p c bytes out d r fs last → WholeSession c bytes out d r
-  heard c bytes out d r fs last are whole (broke_off broken part is none no) = absurd (not_broken r whole broken)
+  heard c bytes out d r fs last are whole (broke_off broken part is none empty) = absurd (not_broken r whole broken)
   heard c bytes out d r fs last are whole (asked first more packed parts on) = record { frames = fs; first = first; more = more; asked = packed; parts = parts; ends = heard_on (begun c) bytes more d r fs last are whole on }
 
   same_asked : (c : ClientState) (x y : List ℕ) → Packed (SpellsCall p) (ticks (wakes c)).asks x → Packed (SpellsCall p) (ticks (wakes c)).asks y → x ≡ y

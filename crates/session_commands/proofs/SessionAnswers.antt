@@ -58,7 +58,7 @@ module _ (p : ProfileView) (c d : ClientState) (given sent : List ℕ) where
   peer_converses fault (stop.Refused line) h short tells = tells
   peer_converses fault stop.ReadFault h short tells = tells
   peer_converses fault stop.WriteFault h short tells = tells
-  peer_converses fault stop.LinkFault h short tells = tells
+  peer_converses fault stop.LinkFault h short tells = absurd tells
 
   pub told_converses : (fault : SessionFault) (s : Stop) → HearsHonestly p c given sent d (Err fault) → IsShort fault → TellsSession fault s → Converses p c given sent d (Err s)
   told_converses (session.Packet f) s h short tells = peer_converses (session.Packet f) s h short tells
@@ -104,7 +104,7 @@ session_failed session.Memory s tells is = absurd (memory_linked (sym tells ∙ 
 
 -- likewise as what is answered
 pub failed_session : {T U : Type 0} (r : Result U SessionFault) (fault : SessionFault) (s : Stop) → r ≡ Err fault → TellsSession fault s → IsErrOf {T = T} (Err s) stop.LinkFault → r ≡ Err session.LinkFault
-failed_session {T} {U} r fault s is tells failed = is ∙ ap (λ (f : SessionFault). Err f) (session_failed fault s tells (stop_is T s failed))
+failed_session {T} {U} r fault s is tells broke = is ∙ ap (λ (f : SessionFault). Err f) (session_failed fault s tells (stop_is T s broke))
 
 -- ---- answers
 

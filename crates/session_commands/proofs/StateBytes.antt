@@ -1,11 +1,14 @@
 -- What is made of a state's bytes.
-use Rattle.std.proofs.Common.{◌≡◌, ◌⊎◌, ℕ, ◌<◌, ◌≤◌, List, [], ◌∷◌, ◌++◌, length, length-append, Some, None, Result, Ok, Err, Vec, Global, refl, sym, ap, subst, inl, inr, codes, arith}
+use Rattle.std.proofs.Common.{◌≡◌, ◌⊎◌, ℕ, ◌<◌, ◌≤◌, List, [], ◌∷◌, ◌++◌, length, length-append, Some, None, Bool, true, false, true≢false, ◌==◌, Result, Ok, Err, Vec, Global, sym, ap, ◌∙◌, subst, inl, inr, codes, arith}
+use Rattle.std.proofs.lemmas.Bool.{cases_lt}
 use Rattle.std.specs.Prelude.{IfOk, IsErrAnd}
 use Rattle.std.specs.declared.alloc.AllocError.{AllocError}
 use Rattle.box_events.specs.declared.saved.Saved.{Saved}
 use Rattle.box_client.specs.declared.fault.LoadFault.{LoadFault}
 use Rattle.box_client.specs.Loads.{IsCauseOf, IsLoadedAs}
-use Rattle.box_client.specs.States.{ClientState, new_client}
+use Rattle.box_client.specs.Saving.{bad_next}
+use Rattle.box_client.specs.States.{ClientState}
+use Rattle.box_client.proofs.Loadings.{next_is_bad}
 use Rattle.wire_checks.specs.declared.fault.WireFault.{WireFault}
 use Rattle.wire_checks.specs.declared.fault.WireFault.TheVariants as wire
 use Rattle.wire_profile.specs.Places.{ProfileView}
@@ -14,13 +17,13 @@ use Rattle.wire_values.specs.SavedClients.{saved_tree}
 use Rattle.box_wire.specs.Framing.{Means, WireRefused}
 use Rattle.box_wire.specs.Kinds.{saved_clients}
 use Rattle.command_base.specs.Jobs.{RefusedBy}
-use Rattle.command_base.specs.Loading.{Gives, Refuses, RefusesAs}
+use Rattle.command_base.specs.Loading.{Gives, Refuses}
 use Rattle.command_base.specs.declared.stop.Unmade.{Unmade}
 use Rattle.command_base.specs.declared.stop.Unmade.TheVariants as unmade
 use Rattle.command_base.proofs.Loaded.{memory_refuses, refuses_as}
 use Rattle.fault_lines.specs.Messages.{wire_line}
 use Rattle.fault_lines.specs.SavedClients.{load_line}
-use Rattle.session_commands.specs.Client.{HasClient, begins, loads, TellsNoClient, too_long, no_saved, not_loaded, long_state_line}
+use Rattle.session_commands.specs.Client.{HasClient, begins, loads, TellsNoClient, too_long, no_saved, not_loaded}
 use Rattle.session_commands.specs.inner.Recovering.{ReadsSaved, TellsNoSaved, LoadsClient, TellsNotLoaded}
 use Rattle.session_commands.specs.declared.state.TheConstants.{MAX_STATE_BYTES}
 
@@ -44,17 +47,18 @@ pub not_loaded_told : (s : Saved) (fault : LoadFault) (line : Result (Vec ℕ Gl
 not_loaded_told s fault (Ok line) u cause tells is = subst (Refuses (TellsNotLoaded s)) (sym is) (fault, cause, tells)
 not_loaded_told s fault (Err e) u cause tells is = memory_refuses (TellsNotLoaded s) u is
 
+-- a client that is loaded has a number for its next request that leaves room for others
+pub next_low : (s : Saved) (c : ClientState) → IsLoadedAs s c → c.next ≤ 2000000000
+next_low s c h = elim (cases_lt 2000000000 s.next) [
+  | inl many ↦ absurd (none_some (bad_next s.next) (sym h.cause ∙ next_is_bad s (inr ((λ z. omega (arith, z, many)), many))))
+  | inr few ↦ omega (arith, few, ap (λ (x : ClientState). x.next) h.client)
+]
+
 -- ---- the bytes
 
-empty_is : (bytes : List ℕ) → length bytes ≡ 0 → bytes ≡ []
-empty_is [] e = refl
-empty_is (b ∷ bytes) e = absurd (omega (arith, e))
-
-pub empty_client : (p : ProfileView) (bytes : List ℕ) (c : ClientState) → length bytes ≡ 0 → c ≡ new_client → HasClient p bytes c
-empty_client p bytes c none is = begins (empty_is bytes none) is
-
-pub long_client : (p : ProfileView) (bytes : List ℕ) (e : Unmade) → MAX_STATE_BYTES < length bytes → RefusesAs long_state_line e → Gives (HasClient p) (TellsNoClient p) bytes (Err e)
-long_client p bytes e long tells = refuses_as (λ told. told ≡ long_state_line) (TellsNoClient p bytes) e (λ line is. too_long long is) tells
+pub some_bytes : (bytes : List ℕ) (none : Bool) → none ≡ (length bytes == 0) → none ≡ false → 0 < length bytes
+some_bytes [] none is e = absurd (true≢false (sym is ∙ e))
+some_bytes (b ∷ bytes) none is e = omega arith
 
 module _ (p : ProfileView) (bytes : List ℕ) (some : 0 < length bytes) (few : length bytes ≤ MAX_STATE_BYTES) where
   pub saved_refused : (e : Unmade) (r : Result ClientState Unmade) → ReadsSaved p bytes (Err e) → IsErrAnd r (λ z. z ≡ e) → Gives (HasClient p) (TellsNoClient p) bytes r

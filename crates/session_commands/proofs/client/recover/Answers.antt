@@ -7,7 +7,7 @@ use Rattle.command_base.specs.Telling.{status_of}
 use Rattle.session_commands.specs.Client.{OfSession}
 use Rattle.session_commands.specs.inner.Recovering.{CallsServer, Converses, session_job}
 use Rattle.session_commands.proofs.LinkFaults.{link_faults, link_write_faults}
-use Rattle.session_commands.proofs.PostEnds.{done_link, done_read, err_so, stops_link, stops_read, stops_write, write_no_link, write_no_read}
+use Rattle.session_commands.proofs.PostEnds.{done_link, done_read, done_write, err_so, stops_link, stops_read, stops_write, write_no_link, write_no_read}
 use Rattle.session_commands.proofs.Recovered.{call_kept, fits_asks, fits_both, no_memory, no_session, not_saved, save_kept, saved}
 use Rattle.session_commands.proofs.Sent.{link_bytes, told_with}
 use Rattle.session_commands.proofs.SessionAnswers.{does_peers, does_saves, does_stops, saves_one, session_call}
@@ -31,7 +31,7 @@ returns-in-Err-clause-works g c =
     let n = c.args.state.now in
     let b = c.args.client in
     let d = c.call_server.new.client in
-    no_memory a n (OfSession p a n b) (λ r given sent. Converses p b given sent d r) (does_stops p a n b d) (does_peers p a n b d) _ _ _ _ c.in_ok-call_server.ensures.calls
+    no_memory a n (OfSession p a n b) (λ r given sent. Converses p b given sent d r) (does_stops p a n b d) (does_peers p a n b d) ⊥ _ _ _ c.in_ok-call_server.ensures.calls
 
 pub returns-in_err-leave-clause-works : goal.returns-in_err-leave-clause-works
 returns-in_err-leave-clause-works g c =
@@ -151,4 +151,4 @@ returns-clause-faults g c =
     (told_with _ _ (CallsServer p a b d (Ok tt)) ShowsBytes c.in_ok-call_server.ensures.calls (g.met.H.Host.are_bytes c.args.host.now)) c.in_ok-leave.ensures.faults
     (λ v u q fits. fits_both a n (OfSession p a n b) (λ s given sent. Converses p b given sent d s) (does_stops p a n b d) (does_peers p a n b d) l.state l.line.items (λ given sent x are h of. saves_one p c.requires.sound a n b d l c.in-Ok.ensures given sent x are h of) v u q.0
     (link_bytes v q.1) fits)
-    (λ k. absurd cc) done_read done_link
+    (λ k. absurd (done_write k)) done_read done_link

@@ -1,4 +1,5 @@
 use Rattle.update_sessions.proofs.LinkUses.{uses_as}
+use Rattle.update_sessions.specs.Heard.{MayAsk}
 use Rattle.session_commands.proofs.ServerCalls.{never_as, over_as}
 use Rattle.session_commands.proofs.SessionAnswers.{failed_session, session_stops, told_converses}
 use Rattle.session_commands.proofs.session.converse_over.Goals as goal
@@ -17,4 +18,4 @@ pub returns-in-Err-clause-stops : goal.returns-in-Err-clause-stops
 returns-in-Err-clause-stops g c = session_stops c.in-Err.fault c.session_stop.result c.session_stop.ensures.stop
 
 pub returns-in-Err-clause-never : goal.returns-in-Err-clause-never
-returns-in-Err-clause-never g c = never_as _ _ _ _ _ c.client_session.ensures.never (λ f. failed_session c.client_session.result c.in-Err.fault c.session_stop.result c.in-Err.is c.session_stop.ensures.stop f)
+returns-in-Err-clause-never g c = never_as (g.L.Source.state c.args.link.now) (g.L.Sink.state c.args.link.now) (MayAsk c.args.profile.now c.args.client.now) _ _ c.client_session.ensures.never (λ f. failed_session c.client_session.result c.in-Err.fault c.session_stop.result c.in-Err.is c.session_stop.ensures.stop f)
