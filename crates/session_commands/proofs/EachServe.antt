@@ -87,7 +87,7 @@ posted_fit : (s : ServerState) (n : ℕ) (random_id : ℤ) (posts : List Post) �
     → AllByRecursion FitsFrame (posted_frames n (answer_by s random_id posts o k))
 posted_fit s n random_id posts h word all (Some receipt) at k is = ((word, h.fits.receipts random_id receipt at), tt)
 posted_fit s n random_id posts h word all None at (Some f) is = (refusals_have n f word, tt)
-posted_fit s n random_id posts h word all None at None is = ((word, receipt_fits (posted s random_id posts) (posted_sound s random_id posts h.sound is)), pushes_have s posts h.sound all is, tt)
+posted_fit s n random_id posts h word all None at None is = ((word, receipt_fits (posted s random_id posts) (posted_sound s random_id posts h.sound is)), (pushes_have s posts h.sound all is, tt))
 
 sent_fit : (s : ServerState) (n : ℕ) (r : Request) → IsGood s → IsWord n → FitsRequest r → AllByRecursion FitsFrame (sent_for s n r)
 sent_fit s n request.State h word fits = (answers_have s n request.State h.fits h.sound word, tt)
@@ -206,31 +206,31 @@ module _ (p : ProfileView) (good : IsProfile p) where
             whole = tt;
             stays = stays;
           }
-        | none less f line no word tells ↦ record {
+        | none less f line lacks word tells ↦ record {
             out = sent.0;
             server = t;
             ended = peer_fault line;
-            session = record { answer = Err (fault.Packet f); calls = row.came_calls; serves = (row.left, ex, less, no); word = word; ended = ap (option_map (λ l. peer_fault l)) tells };
+            session = record { answer = Err (fault.Packet f); calls = row.came_calls; serves = (row.left, ex, less, lacks); word = word; ended = ap (option_map (λ l. peer_fault l)) tells };
             whole = tt;
             stays = stays;
           }
-        | refused less f line no tells ↦ record {
+        | refused less f line lacks tells ↦ record {
             out = sent.0;
             server = t;
             ended = peer_fault line;
-            session = record { answer = Err (fault.Wire f); calls = row.came_calls; serves = (row.left, ex, less, no); word = tt; ended = ap (option_map (λ l. peer_fault l)) tells };
+            session = record { answer = Err (fault.Wire f); calls = row.came_calls; serves = (row.left, ex, less, lacks); word = tt; ended = ap (option_map (λ l. peer_fault l)) tells };
             whole = tt;
             stays = stays;
           }
       ]
 
   module _ (given : List (List ℕ)) (all : ListsOfBytes given) (moments : List ℕ) (few : (k : ℕ) → get_or moments k 0 < 2 ^ 31) where
-    record Total_so (k : ℕ) : Type 0 where
+    record HasTotal (k : ℕ) : Type 0 where
       total : Total
       sessions : Sessions IsWhole p given moments k total
       stays : IsGood total.server
 
-    each_total : (k : ℕ) → Total_so k
+    each_total : (k : ℕ) → HasTotal k
     each_total zero = record { total = no_sessions; sessions = refl; stays = good_new }
     each_total (suc k) =
         let h = each_total k in

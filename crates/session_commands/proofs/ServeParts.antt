@@ -85,10 +85,10 @@ module _ (schema address : List ℕ) (n : ℕ) where
     profile_answers v u ((text, has, read), only) a h = (text, has, profiled p (text_is text read) (before_it IsWhole n v u only a h))
 
     profile_broken : (v u : View) → LoadsFirst (Ok S) v u → (a : Answer) → part.broken u a → job.broken v a
-    profile_broken v u loaded a h = (profile_is v u loaded, before_it IsAny n v u loaded.1 a h)
+    profile_broken v u ((text, has, read), only) a h = (record { text = text; p = p; there = has; is = text_is text read }, before_it IsAny n v u only a h)
 
     profile_partial : (v u : View) → LoadsFirst (Ok S) v u → (a : Answer) → part.partial u a → job.partial v a
-    profile_partial v u loaded a (k, few, h) = (profile_is v u loaded, k, few, before_it IsAny k v u loaded.1 a h)
+    profile_partial v u ((text, has, read), only) a (k, few, h) = (record { text = text; p = p; there = has; is = text_is text read }, k, few, before_it IsAny k v u only a h)
 
     pub profile_carries : (v u : View) → LoadsFirst (Ok S) v u → Before v u × Carries part job v u
     profile_carries v u loaded =

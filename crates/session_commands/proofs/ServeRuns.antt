@@ -336,14 +336,15 @@ module _ (p : ProfileView) (good : IsProfile p) (address : List ℕ) (n : ℕ) w
     stopped_so L S M T W N (stop.Refused line) v u w h g = absurd g
     stopped_so L S M T W N (stop.Peer line) v u w h g = absurd g
 
-    pub stopped_works : (e : Stop) (r : Result Status Stop) (x y z : HostState) (M T : Type 0) → IsErrAnd r (λ q. q ≡ e) → ServesOn p address n k s b x y → Told y.view z.view (ServesNext M T p k s t b a (Err e)) → WorksOver job x z r
-    stopped_works e (Ok done) x y z M T is h g = absurd is
-    stopped_works e (Err q) x y z M T is h g =
+    pub stopped_works : (e : Stop) (r : Result Status Stop) (x y z : HostState) → IsErrAnd r (λ q. q ≡ e) → ServesOn p address n k s b x y → Told y.view z.view (ServesNext (Rose y.counts.links z.counts.links) (IsTrue y.sound) p k s t b a (Err e)) → WorksOver job x z r
+    stopped_works e (Ok done) x y z is h g = absurd is
+    stopped_works e (Err q) x y z is h g =
+        let M = Rose y.counts.links z.counts.links in
         let W = Rose x.counts.writes z.counts.writes in
         let N = Rose x.counts.links z.counts.links in
         let L = Rose x.counts.links y.counts.links in
-        told_then x.view y.view z.view (ServedSo L (IsTrue x.sound) p address n k s b) (ServesNext M T p k s t b a (Err e)) (Works W N job (Err q))
-        (λ v u w i j. subst (λ (f : Stop). Works W N job (Err f) v w) (sym is) (stopped_so L (IsTrue x.sound) M T W N e v u w i j)) h.served g
+        told_then x.view y.view z.view (ServedSo L (IsTrue x.sound) p address n k s b) (ServesNext M (IsTrue y.sound) p k s t b a (Err e)) (Works W N job (Err q))
+        (λ v u w i j. subst (λ (f : Stop). Works W N job (Err f) v w) (sym is) (stopped_so L (IsTrue x.sound) M (IsTrue y.sound) W N e v u w i j)) h.served g
 
     -- where it can't
     room_so : (L S : Type 0) (v u : View) → ShowsBytes v → ServedSo L S p address n k s b v u → S → Fits job v → HasNextRoom p k s u

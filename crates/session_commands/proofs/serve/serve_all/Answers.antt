@@ -16,7 +16,7 @@ loop-session-init g c =
 pub returns-in_err-serve_next-clause-works : goal.returns-in_err-serve_next-clause-works
 returns-in_err-serve_next-clause-works g c =
     stopped_works c.args.profile.now c.schema-schema.ensures.sound c.args.address.now c.args.sessions c.loop-session.session c.loop-session-test.true c.loop-session.server c.serve_next.new.server c.loop-session.tally c.serve_next.new.tally
-    c.in_err-serve_next.field-0.0 c.from_residual.result (g.H.Host.state c.args.host.now) (g.H.Host.state c.loop-session.host) (g.H.Host.state c.serve_next.new.host) _ _ c.from_residual.ensures.1 c.loop-session.invariant c.in_err-serve_next.ensures.serves
+    c.in_err-serve_next.field-0.0 c.from_residual.result (g.H.Host.state c.args.host.now) (g.H.Host.state c.loop-session.host) (g.H.Host.state c.serve_next.new.host) c.from_residual.ensures.1 c.loop-session.invariant c.in_err-serve_next.ensures.serves
 
 pub returns-in_err-serve_next-clause-faults : goal.returns-in_err-serve_next-clause-faults
 returns-in_err-serve_next-clause-faults g c =
