@@ -8,7 +8,7 @@ pub fn words_and_files_have_one_answer()
 {}
 
 /// Words have an answer over an outside that shows bytes, where the files that they name are there and moments have 31 bits, as each host's have; and
-/// words ask for nothing or for a request.
+/// words ask for nothing or for a request. Of `client` the first isn't claimed.
 pub fn words_and_files_have_an_answer()
     ensures answered { HasAnAnswer }
     ensures asked { (words : List (List ℕ)) → Asks words }

@@ -25,8 +25,8 @@ const USAGE: &[u8] =
 pub fn run<H: Host>(alloc: Global, words: &[String], host: &mut H) -> Status
     // Status, Output, Errors and what is left are those of the answer; or the status is a fault's whose count rose, or memory's.
     ensures ends { EndsOver (map string_bytes words.now) (H.state host.old) (H.state host.new) result }
-    // What the request's job keeps is kept: files, State and moments; what is left of Input, until the work comes to it; links and the address, where the
-    // job uses none, and else until the work comes to them.
+    // What the request's job keeps is kept: files; State, but of a client that is saved; what is left of Input, until the work comes to it; links, the
+    // address and moments, where the job uses none, and else until the work comes to them.
     ensures kept { Told (H.state host.old).view (H.state host.new).view (Keeps (map string_bytes words.now)) }
     // A fault's status comes only of a request, and where its count rose, told or not. Where there is no request nothing is read.
     ensures read { result ≡ Status.ReadFault → AskForOne (map string_bytes words.now) × Rose (H.state host.old).counts.reads (H.state host.new).counts.reads }

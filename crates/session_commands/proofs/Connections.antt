@@ -148,7 +148,7 @@ module _ (p : ProfileView) (s t : ServerState) (now : ℕ) (r : Result ℕ Sessi
       let linked : u ≡ record (link_taken base) { address = base.address } = is in
       let given : next_link v ≡ left_of slots.Link u = sym (ap (λ (x : View). x.left.link) is) in
       let here : MaySend (server_side p) (dated_at s (next_moment v)) (next_link v) out =
-          subst (λ (n : ℕ). MaySend (server_side p) (dated_at s n) (next_link v) out) at (subst (λ (x : List ℕ). MaySend (server_side p) (dated_at s now) x out) (sym given) may) in
+      subst (λ (n : ℕ). MaySend (server_side p) (dated_at s n) (next_link v) out) at (subst (λ (x : List ℕ). MaySend (server_side p) (dated_at s now) x out) (sym given) may) in
       omega (arith, room out here, ap length (none_written base.address base u linked), ap (λ (x : View). x.room) is)
 
   -- a link that failed: the count rose, and the outside wasn't sound or had no room
@@ -271,7 +271,7 @@ module _ (p : ProfileView) (s t : ServerState) (now : ℕ) (r : Result ℕ Sessi
         let stays = stays_sound x.view y.view x.sound y.sound z.sound (TakesNext {E = E} (Ok now)) takes first.stays second.stays in
         let both = then_fails x.view z.view x.sound z.sound w.sound (IsErrOf q stop.WriteFault) (HasNextRoom p k s) (HasEndRoom k r) Taken (session_taken E x.view y.view z.view takes over) stays (safe third) (λ v u h room. end_room v u h room r refl) in
         let all = fails_as x.view x.sound w.sound (IsErrOf q stop.WriteFault) (IsErrOf q stop.WriteFault ⊎ IsErrOf q stop.LinkFault) (HasNextRoom p k s) (HasNextRoom p k s) both
-            (λ f. elim f [ inl written ↦ written | inr linked ↦ absurd (tally_links q counts linked) ]) (λ v room. room) in
+        (λ f. elim f [ inl written ↦ written | inr linked ↦ absurd (tally_links q counts linked) ]) (λ v room. room) in
         record {
           reads = reads_kept;
           writes_later = omega (arith, writes_kept, third.later);

@@ -191,37 +191,37 @@ module _ (p : ProfileView) (good : IsProfile p) where
       let ex : Exchanged (server_side p) d bytes row.left sent.0 t row.came_calls = record { came = row.came; taken = all_taken d row.came_calls; wrote = sent.1; ends = refl } in
       elim row.ends as (λ z. Serving s now bytes) [
         | full is ↦ record {
-            out = sent.0;
-            server = t;
-            ended = peer_fault many_frames_line;
-            session = record { answer = Err fault.TooManyFrames; calls = row.came_calls; serves = (row.left, ex, is); word = tt; ended = refl };
-            whole = tt;
-            stays = stays;
-          }
+          out = sent.0;
+          server = t;
+          ended = peer_fault many_frames_line;
+          session = record { answer = Err fault.TooManyFrames; calls = row.came_calls; serves = (row.left, ex, is); word = tt; ended = refl };
+          whole = tt;
+          stays = stays;
+        }
         | empty less is ↦ record {
-            out = sent.0;
-            server = t;
-            ended = served (length row.came_calls);
-            session = record { answer = Ok (length row.came_calls); calls = row.came_calls; serves = (subst (λ (l : List ℕ). Exchanged (server_side p) d bytes l sent.0 t row.came_calls) is ex, refl, less); word = tt; ended = refl };
-            whole = tt;
-            stays = stays;
-          }
+          out = sent.0;
+          server = t;
+          ended = served (length row.came_calls);
+          session = record { answer = Ok (length row.came_calls); calls = row.came_calls; serves = (subst (λ (l : List ℕ). Exchanged (server_side p) d bytes l sent.0 t row.came_calls) is ex, refl, less); word = tt; ended = refl };
+          whole = tt;
+          stays = stays;
+        }
         | none less f line lacks word tells ↦ record {
-            out = sent.0;
-            server = t;
-            ended = peer_fault line;
-            session = record { answer = Err (fault.Packet f); calls = row.came_calls; serves = (row.left, ex, less, lacks); word = word; ended = ap (option_map (λ l. peer_fault l)) tells };
-            whole = tt;
-            stays = stays;
-          }
+          out = sent.0;
+          server = t;
+          ended = peer_fault line;
+          session = record { answer = Err (fault.Packet f); calls = row.came_calls; serves = (row.left, ex, less, lacks); word = word; ended = ap (option_map (λ l. peer_fault l)) tells };
+          whole = tt;
+          stays = stays;
+        }
         | refused less f line lacks tells ↦ record {
-            out = sent.0;
-            server = t;
-            ended = peer_fault line;
-            session = record { answer = Err (fault.Wire f); calls = row.came_calls; serves = (row.left, ex, less, lacks); word = tt; ended = ap (option_map (λ l. peer_fault l)) tells };
-            whole = tt;
-            stays = stays;
-          }
+          out = sent.0;
+          server = t;
+          ended = peer_fault line;
+          session = record { answer = Err (fault.Wire f); calls = row.came_calls; serves = (row.left, ex, less, lacks); word = tt; ended = ap (option_map (λ l. peer_fault l)) tells };
+          whole = tt;
+          stays = stays;
+        }
       ]
 
   module _ (given : List (List ℕ)) (all : ListsOfBytes given) (moments : List ℕ) (few : (k : ℕ) → get_or moments k 0 < 2 ^ 31) where
@@ -250,5 +250,5 @@ few_moments (m ∷ ms) all (suc k) = few_moments ms all.1 k
 pub each_serve : ServesAreAnswered
 each_serve files hold given bytes moments few schema address n (text, has) =
     let told = each_text text (OfSessions IsWhole address n given moments) (λ p good h.
-        (let t = each_total p good given bytes moments (few_moments moments few) n in (total_answer address n t.total, (t.total, t.sessions, refl)))) in
+    (let t = each_total p good given bytes moments (few_moments moments few) n in (total_answer address n t.total, (t.total, t.sessions, refl)))) in
     (told.0, (text, has, told.1))

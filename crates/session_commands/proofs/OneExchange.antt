@@ -169,8 +169,8 @@ module _ {S M N : Type 0} (side : Side S M N) where
     sends_most s bytes left out sent t ms are e (ns, after, u, f, few) =
         elim (goes_on ms ns s bytes left out after sent t u are e.exchanged f) [
           | inl g ↦
-            (let last = no_more s bytes left out t ms after g.rest u g.more e (subst (λ (l : List M). length l ≤ MAX_FRAMES) g.all few) g.then_on in
-            omega (arith, ap (λ (l : List ℕ). length l) g.wrote, length-append out g.rest, ap (λ (l : List ℕ). length l) last.nothing))
+              (let last = no_more s bytes left out t ms after g.rest u g.more e (subst (λ (l : List M). length l ≤ MAX_FRAMES) g.all few) g.then_on in
+              omega (arith, ap (λ (l : List ℕ). length l) g.wrote, length-append out g.rest, ap (λ (l : List ℕ). length l) last.nothing))
           | inr g ↦ omega (arith, ap (λ (l : List ℕ). length l) g.wrote, length-append sent g.rest)
         ]
 

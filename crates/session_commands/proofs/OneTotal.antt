@@ -74,16 +74,16 @@ module _ (p : ProfileView) (given : List (List ℕ)) (moments : List ℕ) where
       let written = ap (λ (x : Total). length x.output) is in
       elim (eq-or-lt_of_le {n = k} {m = n} (omega (arith, less))) as (λ z. IsAmong k before room) [
         | inl same ↦ subst (λ (z : ℕ). IsAmong z before room) (sym same) (record {
-            total = q;
-            ended = e;
-            sent = out;
-            server = t;
-            sessions = h;
-            whole = whole;
-            session = session;
-            link = last_of (λ b. length b ≤ room) q.sent out links;
-            output = omega (arith, output, written, length-append q.output (end_output n e));
-          })
+          total = q;
+          ended = e;
+          sent = out;
+          server = t;
+          sessions = h;
+          whole = whole;
+          session = session;
+          link = last_of (λ b. length b ≤ room) q.sent out links;
+          output = omega (arith, output, written, length-append q.output (end_output n e));
+        })
         | inr earlier ↦ is_among n q before room h (first_of (λ b. length b ≤ room) q.sent out links) (omega (arith, output, written, length-append q.output (end_output n e))) k earlier
       ]
 

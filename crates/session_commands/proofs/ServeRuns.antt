@@ -124,7 +124,7 @@ module _ (p : ProfileView) (good : IsProfile p) (address : List ℕ) (n : ℕ) w
   listened_so E L S s tally v u is new done whole =
       let make : List ℕ → List (List ℕ) → View = λ output sent. record v { address = Some address; written = record v.written { output = output; links = sent } } in
       let there : make v.written.output v.written.links ≡ make (v.written.output ++ []) (v.written.links ++ []) =
-          sym (ap (λ (x : List ℕ). make x (v.written.links ++ [])) (append-nil v.written.output) ∙ ap (λ (x : List (List ℕ)). make v.written.output x) (append-nil v.written.links)) in
+      sym (ap (λ (x : List ℕ). make x (v.written.links ++ [])) (append-nil v.written.output) ∙ ap (λ (x : List (List ℕ)). make v.written.output x) (append-nil v.written.links)) in
       record {
         total = no_sessions;
         left = v.left.link;
@@ -212,8 +212,8 @@ module _ (p : ProfileView) (good : IsProfile p) (address : List ℕ) (n : ℕ) w
         let moment : next_moment u ≡ get_or v.moments k 0 = ap (λ (x : View). next_moment x) view ∙ at_zero v.moments k 0 in
         let link : next_link u ≡ get_or v.links k [] = ap (λ (x : View). next_link x) view ∙ at_zero v.links k [] in
         let here : MaySend (server_side p) (dated_at among.total.server (get_or v.moments k 0)) (get_or v.links k []) out =
-            subst (λ (z : ServerState). MaySend (server_side p) (dated_at z (get_or v.moments k 0)) (get_or v.links k []) out) (server ∙ ap (λ (x : Total). x.server) same_total)
-            (subst (λ (m : ℕ). MaySend (server_side p) (dated_at s m) (get_or v.links k []) out) moment (subst (λ (l : List ℕ). MaySend (server_side p) (dated_at s (next_moment u)) l out) link may)) in
+        subst (λ (z : ServerState). MaySend (server_side p) (dated_at z (get_or v.moments k 0)) (get_or v.links k []) out) (server ∙ ap (λ (x : Total). x.server) same_total)
+        (subst (λ (m : ℕ). MaySend (server_side p) (dated_at s m) (get_or v.links k []) out) moment (subst (λ (l : List ℕ). MaySend (server_side p) (dated_at s (next_moment u)) l out) link may)) in
         omega (arith, session_sends p good among.total.server (get_or v.moments k 0) (get_or v.links k []) (given_bytes v.links shown.links k) among.sent among.server among.ended among.session among.whole out here, among.link, ap (λ (x : View). x.room) view)
 
     next_room : HasNextRoom p k s u
@@ -243,9 +243,9 @@ module _ (p : ProfileView) (good : IsProfile p) (address : List ℕ) (n : ℕ) w
     whole_on L N M S T lift rose stays v u w shown h g session =
         elim h.whole as (λ z. Sessions IsWhole p v.links v.moments (suc k) (with_session k g.ended g.sent t h.total) ⊎ (N × (S → Fits job v → ⊥))) [
           | inl whole ↦ elim g.whole as (λ z. Sessions IsWhole p v.links v.moments (suc k) (with_session k g.ended g.sent t h.total) ⊎ (N × (S → Fits job v → ⊥))) [
-              | inl ends ↦ inl (h.total, g.ended, g.sent, t, whole, ends, session, refl)
-              | inr failed ↦ inr (rose failed.0, λ sound fits. failed.1 (stays sound) (session_room k s v u shown h.total h.left whole h.server h.view less fits))
-            ]
+            | inl ends ↦ inl (h.total, g.ended, g.sent, t, whole, ends, session, refl)
+            | inr failed ↦ inr (rose failed.0, λ sound fits. failed.1 (stays sound) (session_room k s v u shown h.total h.left whole h.server h.view less fits))
+          ]
           | inr failed ↦ inr (lift failed.0, failed.1)
         ]
 
@@ -315,8 +315,7 @@ module _ (p : ProfileView) (good : IsProfile p) (address : List ℕ) (n : ℕ) w
         let session = at_session g.sent g.server (served g.frames) h.total h.left v u h.server h.view g.session in
         let r = with_session k (served g.frames) g.sent g.server h.total in
         let prefix = g.output.0 in
-        let rest = g.output.1 in
-        (
+        let rest = g.output.1 in (
           total_answer address (suc k) r,
           (suc k, omega (arith, less), (r, (h.total, served g.frames, g.sent, g.server, h.sessions, tt, session, refl), refl)),
           (

@@ -1,7 +1,7 @@
 -- Channels that are watched one after the other.
 use Rattle.std.proofs.Common.{◌≡◌, ℕ, ℤ, ◌+◌, ◌<◌, List, [], ◌∷◌, length, drop, get_or, Option, Some, None, option_and_then, Result, Ok, Err, refl, sym, ap, ◌∙◌, subst}
 use Rattle.std.specs.Prelude.{slice_get, IsErrAnd}
-use Rattle.std.proofs.lemmas.List.{drop_at}
+use Rattle.std.proofs.lemmas.List.{drop_more}
 use Rattle.std.proofs.lemmas.Option.{slice_get_within, get_or_from_slice_get}
 use Rattle.box_client.specs.States.{ClientState}
 use Rattle.command_base.specs.Loading.{Refuses}
@@ -11,7 +11,7 @@ use Rattle.session_commands.specs.Client.{many_channels_line, watch_all, watch_o
 use Rattle.session_commands.specs.inner.Recovering.{Watches}
 
 rest_is : (ids : List ℤ) (i : ℕ) (id : ℤ) → slice_get ids i ≡ Some id → drop i ids ≡ id ∷ drop (i + 1) ids
-rest_is ids i id at = drop_at ids i id (slice_get_within ids i id at) ∙ ap (λ (x : ℤ). x ∷ drop (i + 1) ids) (get_or_from_slice_get ids i id id at)
+rest_is ids i id at = drop_more ids i id (slice_get_within ids i id at) ∙ ap (λ (x : ℤ). x ∷ drop (i + 1) ids) (get_or_from_slice_get ids i id id at)
 
 -- one more is watched
 pub watched_more : (ids : List ℤ) (i : ℕ) (id : ℤ) (c d e : ClientState) → slice_get ids i ≡ Some id → watch_all (drop i ids) d ≡ watch_all ids c → watch_one d id ≡ Some e → watch_all (drop (i + 1) ids) e ≡ watch_all ids c

@@ -48,3 +48,7 @@ returns-in-Err-clause-ends g c = ends_memory _ _ _ _ _ _ c.report-in-Err.result 
 
 pub returns-in-Err-clause-kept : goal.returns-in-Err-clause-kept
 returns-in-Err-clause-kept g c = memory_kept _ _ _ c.report-in-Err.ensures.kept
+
+pub returns-in-Ok-clause-sound : goal.returns-in-Ok-clause-sound
+returns-in-Ok-clause-sound g c =
+    request_never _ (request_text c.in-Ok-Some.request) (subst (FindsRequest _) c.in-Ok-Some.field-0-is c.in-Ok-Some.ensures) _ _ _ _ refl c.in-Ok.ensures.faults.never
