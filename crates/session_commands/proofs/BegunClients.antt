@@ -1,6 +1,6 @@
 -- A client that a session begins with, new or loaded of what was saved, and the channels that it watches too.
-use Rattle.std.specs.Prelude.{leb, ltb, ◌&&◌, ◌||◌, eqb}
-use Rattle.std.proofs.Common.{◌≡◌, ◌⊎◌, inl, inr, ℕ, suc, ◌+◌, ◌<◌, ◌≤◌, ◌^◌, ℤ, List, [], ◌∷◌, ◌++◌, length, length-append, map as each, cond, Bool, true, false, Option, Some, None, option_and_then, refl, sym, ap, ◌∙◌, subst, arith}
+use Rattle.std.specs.Prelude.{leb, ltb, ◌||◌}
+use Rattle.std.proofs.Common.{◌≡◌, ℕ, ◌+◌, ◌<◌, ◌≤◌, ℤ, List, [], ◌∷◌, ◌++◌, length, length-append, map as each, cond, Bool, true, false, Option, Some, None, option_and_then, refl, ap, ◌∙◌, arith}
 use Rattle.std.specs.Cmp.Lexicographic.{slice_cmp}
 use Rattle.std.specs.FinMap.{len, len-empty}
 use Rattle.std.specs.List.{All, AllByRecursion, sum_by}
@@ -20,11 +20,10 @@ use Rattle.box_events.specs.declared.saved.SavedLane.{SavedLane}
 use Rattle.pts_machine.specs.Steps.{loaded, new_lane}
 use Rattle.pts_machine.proofs.Kept.{sound_loaded}
 use Rattle.seq_machine.specs.Rows.{values_of}
-use Rattle.seq_machine.proofs.RowSteps.{len_values, values_none}
+use Rattle.seq_machine.proofs.RowSteps.{len_values}
 use Rattle.seq_machine.proofs.StateSteps as soundness
-use Rattle.channel_box.specs.States.{ChannelState, is_in}
+use Rattle.channel_box.specs.States.{is_in}
 use Rattle.channel_box.specs.Steps.{channel_of, is_watched}
-use Rattle.box_client.specs.Loads.{IsLoadedAs}
 use Rattle.box_client.specs.Ranges.{AreChannelsInRange}
 use Rattle.box_client.specs.Saving.{LoadCause, bad_next, channel_loaded, client_loaded, is_even, is_next, is_surplus, load_cause, or_channels, or_lane, or_settings, surplus_after, uneven_channel, uneven_lane, unsorted}
 use Rattle.box_client.specs.States.{ClientState, new_client}
@@ -42,7 +41,6 @@ use Rattle.box_wire.specs.Framing.{Means}
 use Rattle.box_wire.proofs.SavedLaws.{saved_laws}
 use Rattle.frame_sizes.proofs.MessagesFit.{saved_in_fits}
 use Rattle.frame_sizes.proofs.SpelledMessages.{meant_fit}
-use Rattle.server_frames.specs.Dated.{IsDatedClient}
 use Rattle.server_frames.specs.Spelled.{FitsChannel}
 use Rattle.server_frames.proofs.DatedClients.{clients_stay_dated}
 use Rattle.server_frames.proofs.FittingClients.{clients_keep, held_empty, new_all}
@@ -51,7 +49,7 @@ use Rattle.server_frames.proofs.ReadClients.{clients_taken}
 use Rattle.server_frames.proofs.ReadDates.{clients_dated}
 use Rattle.session_commands.specs.Client.{watch_all, watch_one}
 use Rattle.session_commands.proofs.GoingClients.{IsGoing}
-use Rattle.session_commands.proofs.LowClients.{Counts, LowChannel, LowClient, LowLane, add_low, lane_new}
+use Rattle.session_commands.proofs.LowClients.{Counts, LowChannel, LowLane, add_low, lane_new}
 
 -- ---- a new client
 

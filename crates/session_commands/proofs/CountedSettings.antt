@@ -1,8 +1,8 @@
 -- No more settings are brought than bytes, by a frame and by a saved client.
 use Rattle.std.specs.Prelude.{nat_le, if◌then◌else◌, IsTrue}
-use Rattle.std.proofs.Common.{◌≡◌, ℕ, zero, suc, ◌+◌, ◌<◌, ◌≤◌, List, [], ◌∷◌, ◌++◌, length, length-append, replicate, Bool, true, false, refl, sym, ap, ◌∙◌, subst, arith}
+use Rattle.std.proofs.Common.{◌≡◌, ℕ, zero, suc, ◌+◌, ◌<◌, ◌≤◌, List, [], ◌∷◌, ◌++◌, length, length-append, replicate, Bool, true, false, refl, sym, ap, arith}
 use Rattle.tl_types.specs.Texts.{missing, text_bytes, text_head, three_bytes}
-use Rattle.tl_types.specs.Values.{ValueView, int, long, nat, opaque, text, truth, absent, list, node, call, ValueViews, no_values, value, count}
+use Rattle.tl_types.specs.Values.{ValueView, text, ValueViews, no_values, value, count}
 use Rattle.box_events.specs.declared.replies.Frame.{Frame}
 use Rattle.box_events.specs.declared.saved.Saved.{Saved}
 use Rattle.wire_forms.specs.declared.form.Cell.{Cell}
@@ -10,7 +10,7 @@ use Rattle.wire_forms.specs.declared.form.Cell.TheVariants.{Whole, Body, Bodies,
 use Rattle.wire_forms.specs.declared.numbers.TheConstants.{CHANNEL, CLIENT_TYPE, DIFFERENCE_TYPE, FRAME_TYPE, LANE, SETTING, STATE_TYPE, UPDATE_TYPE}
 use Rattle.wire_forms.specs.Forms.{forms, constructs, cells_of}
 use Rattle.wire_forms.specs.IsOf.{AreOf, EachOf, IsOf}
-use Rattle.wire_forms.specs.Parts.{at, each, entry_of, first, parts_of, rest}
+use Rattle.wire_forms.specs.Parts.{at, each, entry_of, first, parts_of}
 use Rattle.wire_forms.proofs.Cells.{bare_are, field_at, many_are}
 use Rattle.wire_forms.proofs.Records.{by_member, length_each, opened, opened_bare}
 use Rattle.wire_profile.specs.Places.{ProfileView}

@@ -1,10 +1,10 @@
 -- Each `client` whose files are there has an answer.
-use Rattle.std.proofs.Common.{◌≡◌, ◌⊎◌, ℕ, zero, suc, ℤ, ◌+◌, ◌<◌, ◌≤◌, ◌^◌, List, [], ◌∷◌, ◌++◌, length, length-append, Bool, true, false, Option, Some, None, Result, Ok, Err, refl, sym, ap, ◌∙◌, subst, codes, inl, inr, arith}
+use Rattle.std.proofs.Common.{◌≡◌, ◌⊎◌, ℕ, zero, suc, ℤ, ◌+◌, ◌<◌, ◌≤◌, ◌^◌, List, [], ◌∷◌, ◌++◌, length, length-append, Bool, true, false, Option, Some, None, Result, Ok, Err, refl, ap, codes, inl, inr, arith}
 use Rattle.std.specs.List.{All, AllByRecursion}
 use Rattle.std.proofs.lemmas.Bool.{cases_lt}
 use Rattle.std.proofs.lemmas.List.Elements.{All-head, All-tail}
 use Rattle.tl_base.specs.Contents.{AreBytes, Files, HoldBytes}
-use Rattle.tl_base.specs.Packets.{IsPacketLength, packet}
+use Rattle.tl_base.specs.Packets.{packet}
 use Rattle.tl_base.specs.declared.packet.PacketFault.{PacketFault}
 use Rattle.tl_types.proofs.Numbers.{begins_word}
 use Rattle.difference.specs.Weaves.{overlaps, uneven}
@@ -13,7 +13,6 @@ use Rattle.box_events.specs.declared.replies.Frame.{Frame}
 use Rattle.box_events.specs.declared.requests.Numbered.{Numbered}
 use Rattle.box_events.specs.declared.saved.Saved.{Saved}
 use Rattle.box_client.specs.Asking.{is_one_asking, ticks, wakes}
-use Rattle.box_client.specs.Loads.{IsCauseOf}
 use Rattle.box_client.specs.Replies.{Cause, no_list, peer_error, seq_back, wrong_kind}
 use Rattle.box_client.specs.Saving.{LoadCause, bad_channels, bad_lane, bad_next, bad_settings, client_loaded, load_cause, saved_of}
 use Rattle.box_client.specs.States.{ClientState, new_client}
@@ -33,7 +32,7 @@ use Rattle.wire_values.specs.SavedClients.{saved_in, saved_tree}
 use Rattle.wire_values.proofs.CallsAndValues.{call_fits}
 use Rattle.wire_values.proofs.SavedValues.{saved_fits}
 use Rattle.box_wire.specs.Kinds.{calls, frames, saved_clients}
-use Rattle.box_wire.specs.Framing.{Framed, WireRefused}
+use Rattle.box_wire.specs.Framing.{WireRefused}
 use Rattle.box_wire.proofs.CallLaws.{call_laws}
 use Rattle.box_wire.proofs.FrameLaws.{frame_formed, frame_laws}
 use Rattle.box_wire.proofs.ReadBack.{are_spelled}
@@ -42,7 +41,7 @@ use Rattle.update_sessions.specs.declared.fault.SessionFault.{SessionFault}
 use Rattle.update_sessions.specs.declared.fault.SessionFault.TheVariants as fault
 use Rattle.update_sessions.specs.declared.fault.TheConstants.{MAX_FRAMES}
 use Rattle.update_sessions.specs.Exchanges.{Exchanged}
-use Rattle.update_sessions.specs.Heard.{Hears, HearsOn, NoFrame, RefusedFrame, StillAsks, asked}
+use Rattle.update_sessions.specs.Heard.{HearsOn, NoFrame, RefusedFrame, StillAsks, asked}
 use Rattle.update_sessions.specs.Hearing.{IsFaultOf, IsTaken, cause_of, client_side, hears}
 use Rattle.update_sessions.specs.Honest.{HearsHonestly}
 use Rattle.update_sessions.specs.Packed.{MeansFrame, Packed, SpellsCall}
@@ -53,7 +52,7 @@ use Rattle.command_base.specs.Answer.{Answer, refused}
 use Rattle.command_base.proofs.SameFiles.{file_bytes}
 use Rattle.fault_lines.specs.Answers.{answer_line}
 use Rattle.fault_lines.specs.Messages.{wire_line}
-use Rattle.fault_lines.proofs.Profiled.{are_profiles, each_text}
+use Rattle.fault_lines.proofs.Profiled.{each_text}
 use Rattle.session_commands.specs.declared.state.TheConstants.{MAX_STATE_BYTES}
 use Rattle.session_commands.specs.Lines.{packet_line}
 use Rattle.session_commands.specs.Post.{IsFile, IsWordLong}
@@ -62,7 +61,7 @@ use Rattle.session_commands.specs.Client.{ClientsAreAnswered, HasClient, HasSave
 use Rattle.session_commands.proofs.BegunClients.{Watched, each_watched, going_loaded, going_new}
 use Rattle.session_commands.proofs.BegunClients as begun_clients
 use Rattle.session_commands.proofs.CountedSettings.{frame_brings, saved_brings}
-use Rattle.session_commands.proofs.EachPost.{BeginsNone, BeginsPacket, begins_so, each_message}
+use Rattle.session_commands.proofs.EachPost.{begins_so, each_message}
 use Rattle.session_commands.proofs.GoingClients.{IsGoing, asks_fit, brought_by, going_hears, going_ticks, going_wakes, heard_of, saved_fit}
 use Rattle.session_commands.proofs.OneExchange.{rest_bytes}
 use Rattle.session_commands.proofs.OneReply.{body_bytes}
@@ -162,7 +161,7 @@ module _ (p : ProfileView) (good : IsProfile p) where
     out = first ++ h.out;
     client_after = h.client_after;
     exchanged = exchanged_then (client_side p) c (ticks (hears c f)).client h.client_after bytes rest h.left first h.out (f ∷ []) h.taken_frames
-    (exchanged_one (client_side p) c (ticks (hears c f)).client bytes rest first f comes takes packed refl) h.exchanged;
+        (exchanged_one (client_side p) c (ticks (hears c f)).client bytes rest first f comes takes packed refl) h.exchanged;
     ends = one_on h.left h.client_after n (length h.taken_frames) h.ends;
     ticks_many = h.ticks_many;
     settings_many = h.settings_many;

@@ -1,34 +1,28 @@
 -- A client that goes on: what it asks has a spelling, and so has what it saves.
-use Rattle.std.specs.Prelude.{ltb, pos}
-use Rattle.std.proofs.Common.{◌≡◌, ℕ, suc, ◌+◌, ◌*◌, ◌<◌, ◌≤◌, ◌^◌, ℤ, List, [], ◌∷◌, ◌++◌, length, cond, Bool, true, false, Option, Some, None, option_and_then, refl, sym, ap, ◌∙◌, subst, arith}
-use Rattle.std.specs.FinMap.{len}
+use Rattle.std.specs.Prelude.{pos}
+use Rattle.std.proofs.Common.{◌≡◌, ℕ, suc, ◌+◌, ◌*◌, ◌<◌, ◌≤◌, ◌^◌, List, [], ◌∷◌, length, cond, Bool, true, false, refl, sym, subst, arith}
 use Rattle.std.specs.Int.{w32}
-use Rattle.std.specs.List.{All, AllByRecursion}
-use Rattle.std.proofs.lemmas.Bool.Decides.{nat_tests}
+use Rattle.std.specs.List.{All}
 use Rattle.std.proofs.lemmas.Int.{to_z_pos}
-use Rattle.std.proofs.lemmas.List.Elements.{All-nil, All-cons, All-head, All-tail, All-push}
-use Rattle.box_events.specs.Events.{EventView, count_of}
-use Rattle.box_events.specs.declared.limits.TheConstants.{MAX_CHANNELS, MAX_END}
+use Rattle.std.proofs.lemmas.List.Elements.{All-nil, All-cons, All-head, All-tail}
+use Rattle.box_events.specs.Events.{EventView}
 use Rattle.box_events.specs.declared.replies.Frame.{Frame}
 use Rattle.box_events.specs.declared.replies.Frame.TheVariants.{Push, Reply}
 use Rattle.box_events.specs.declared.replies.Reply.{Reply as SomeReply}
-use Rattle.box_events.specs.declared.requests.Numbered.{Numbered}
-use Rattle.box_events.specs.declared.requests.Request.TheVariants.{Difference, Channel}
 use Rattle.pts_machine.specs.States.{LaneState}
-use Rattle.pts_machine.specs.Steps.{new_lane}
 use Rattle.channel_box.specs.States.{ChannelState}
 use Rattle.channel_box.specs.Steps as boxes
 use Rattle.box_client.specs.Asking.{channels_ticked, difference_of, group_asks, group_is_due, ticks, wakes}
 use Rattle.box_client.specs.Replies.{Outcome, becomes, ignored, refuses, replied}
 use Rattle.box_client.specs.Saving.{saved_of}
-use Rattle.box_client.specs.States.{ClientState, new_client}
+use Rattle.box_client.specs.States.{ClientState}
 use Rattle.box_client.proofs.GivenOnce.{next_past, pushed_next}
 use Rattle.box_world.specs.Worlds.{after_reply}
-use Rattle.wire_forms.specs.IsOf.{IsInt, IsLong, IsText}
+use Rattle.wire_forms.specs.IsOf.{IsInt}
 use Rattle.wire_profile.specs.Places.{ProfileView}
 use Rattle.wire_profile.specs.Profiles.{IsProfile}
 use Rattle.wire_values.specs.Carried.{FitsCall, FitsSaved}
-use Rattle.wire_values.specs.CarriedFrames.{FitsEvent, FitsFrame, IsFrame, IsWord}
+use Rattle.wire_values.specs.CarriedFrames.{FitsFrame, IsFrame}
 use Rattle.wire_values.specs.Frames.{frame_in, frame_tree}
 use Rattle.box_wire.specs.Kinds.{frames}
 use Rattle.box_wire.proofs.FrameLaws.{frame_laws}
@@ -38,14 +32,14 @@ use Rattle.server_frames.specs.Dated.{IsDatedClient, IsDatedFrame}
 use Rattle.server_frames.specs.Fitting.{IsHearable}
 use Rattle.server_frames.specs.Spelled.{FitsChannel, FitsClient, IsNarrow, IsNarrowLane}
 use Rattle.server_frames.proofs.DatedClients.{clients_stay_dated}
-use Rattle.server_frames.proofs.FittingClients.{clients_keep, new_all}
+use Rattle.server_frames.proofs.FittingClients.{clients_keep}
 use Rattle.server_frames.proofs.FittingSaved.{clients_are_saved}
 use Rattle.server_frames.proofs.ReadDates.{frames_dated}
 use Rattle.server_frames.proofs.ReadFrames.{frames_taken}
 use Rattle.update_sessions.specs.Hearing.{hears}
 use Rattle.update_sessions.specs.Packed.{MeansFrame}
 use Rattle.update_sessions.proofs.ClientSteps.{hears_next}
-use Rattle.session_commands.proofs.LowClients.{LowChannel, LowClient, LowLane, add_low, few_events, lane_new, push_low, reply_low, settings_of, tick_low, wake_low}
+use Rattle.session_commands.proofs.LowClients.{LowChannel, LowClient, LowLane, few_events, push_low, reply_low, settings_of, tick_low, wake_low}
 
 -- ---- frames
 

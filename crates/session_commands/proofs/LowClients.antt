@@ -1,15 +1,15 @@
 -- A client's numbers and lists stay within limits as it goes on.
 use Rattle.std.specs.Prelude.{ltb, is_some, ◌&&◌, zero, suc}
-use Rattle.std.proofs.Common.{◌≡◌, ◌⊎◌, inl, inr, ℕ, ◌+◌, ◌-◌, ◌<◌, ◌≤◌, ◌^◌, ℤ, List, [], ◌∷◌, ◌++◌, length, map as each, cond, Bool, true, false, Option, Some, None, Result, Ok, Err, refl, sym, ap, ◌∙◌, subst, arith}
+use Rattle.std.proofs.Common.{◌≡◌, ◌⊎◌, inl, inr, ℕ, ◌+◌, ◌-◌, ◌<◌, ◌≤◌, List, [], ◌∷◌, ◌++◌, length, map as each, cond, Bool, true, false, Option, Some, None, Result, Ok, Err, refl, sym, ap, subst, arith}
 use Rattle.std.specs.List.{All, sum_by}
-use Rattle.std.specs.FinMap.{len, get}
+use Rattle.std.specs.FinMap.{len}
 use Rattle.std.proofs.lemmas.Bool.Decides.{nat_tests}
 use Rattle.std.proofs.lemmas.List.{length-append, length-map}
 use Rattle.std.proofs.lemmas.List.Sums.{sum_by-cons}
 use Rattle.std.proofs.lemmas.List.Elements.{All-nil, All-cons, All-head, All-tail, All-push}
 use Rattle.gap_buffer.specs.Holding.{Items}
 use Rattle.box_events.specs.Events.{EventView, added, count_of}
-use Rattle.box_events.specs.Boxes.{AreCounted, ending}
+use Rattle.box_events.specs.Boxes.{AreCounted}
 use Rattle.box_events.specs.SettingLists.{Values}
 use Rattle.box_events.specs.declared.limits.TheConstants.{MAX_CHANNELS, MAX_END}
 use Rattle.box_events.specs.declared.settings.Setting.{Setting}
@@ -28,12 +28,10 @@ use Rattle.pts_machine.specs.Steps.{asked, extend, hear, new_lane, restart_at, s
 use Rattle.pts_machine.specs.declared.mode.Mode.TheVariants.{Live}
 use Rattle.pts_machine.specs.declared.seen.Seen.{Seen}
 use Rattle.pts_machine.specs.declared.seen.Seen.TheVariants.{Applied, Already, Held, Dropped}
-use Rattle.pts_machine.proofs.Ends.{look, none_at, some_at, reach_limit, reach_sum, reach_up}
-use Rattle.pts_machine.proofs.Kept.{after_of, hears, sound_asked, sound_extend, sound_hear, sound_new, sound_restart}
-use Rattle.pts_machine.proofs.Links.{reach_ends}
+use Rattle.pts_machine.proofs.Ends.{look, none_at, some_at, reach_limit, reach_sum}
+use Rattle.pts_machine.proofs.Kept.{hears, sound_asked, sound_extend, sound_hear, sound_new, sound_restart}
 use Rattle.seq_machine.specs.Packs.{Pack, pack_of, puts, puts_all, size}
 use Rattle.seq_machine.specs.States.{IsSoundState, SettingsState, applied, hear_pack, lane_of, overlaid}
-use Rattle.seq_machine.specs.States as settings
 use Rattle.seq_machine.proofs.StateSteps as soundness
 use Rattle.seq_machine.proofs.Stores.{len_puts}
 use Rattle.difference.specs.Laws.{AreCountedOthers}
