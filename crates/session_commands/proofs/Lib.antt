@@ -43,3 +43,8 @@ pub mod Endings
 pub mod StateBytes
 pub mod WatchedChannels
 pub mod ShownFaults
+pub mod LowClients
+pub mod GoingClients
+pub mod CountedSettings
+pub mod BegunClients
+pub mod EachClient

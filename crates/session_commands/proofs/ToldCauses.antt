@@ -1,4 +1,4 @@
--- Each cause for which bytes are no frame or no call has a line.
+-- Each cause for which bytes are no frame, no call or no saved client has a line.
 use Rattle.std.proofs.Common.{◌≡◌, ℕ, List, Option, Some, None, Bool, true, false, option_map, refl, sym, ap, subst}
 use Rattle.std.specs.Prelude.{if◌then◌else◌, ◌==◌, ◌-◌, ◌+◌, ◌^◌}
 use Rattle.tl_types.specs.Values.{ValueView, list, node, call, ValueViews, no_values, value, count}
@@ -8,15 +8,15 @@ use Rattle.wire_forms.specs.declared.numbers.TheConstants.{UPDATE_NEW_MESSAGE, U
 use Rattle.box_events.specs.declared.limits.TheConstants.{MAX_END}
 use Rattle.wire_checks.specs.Causes.{broken, first_broken, first_among}
 use Rattle.wire_checks.specs.Ranges.{before, unless, bad_number, bad_end, bad_date, bad_seq, bad_count, not_one, not_of_ids, bad_ids, are_few, is_between, is_count, small}
-use Rattle.wire_checks.specs.Rules.{number_fault, update_fault, count_fault, end_fault, date_fault, setting_fault, seq_fault, not_served}
+use Rattle.wire_checks.specs.Rules.{is_known, version_fault, number_fault, update_fault, count_fault, end_fault, date_fault, setting_fault, seq_fault, not_served}
 use Rattle.wire_checks.specs.Updates.{bad_pack, is_other, is_pack, settings, unordered, wrong_among, wrong_update}
 use Rattle.wire_checks.specs.declared.rule.Rule.{Rule}
-use Rattle.wire_checks.specs.declared.rule.Rule.TheVariants.{Number, Update, Count, End, Date, Setting, Seq}
+use Rattle.wire_checks.specs.declared.rule.Rule.TheVariants.{Version, Number, Update, Count, End, Date, Setting, Seq}
 use Rattle.wire_checks.specs.declared.fault.WireFault.{WireFault}
 use Rattle.wire_checks.specs.declared.fault.WireFault.TheVariants as wire
 use Rattle.wire_profile.specs.Places.{ProfileView}
 use Rattle.wire_profile.specs.SpelledForms.{owned}
-use Rattle.box_wire.specs.Kinds.{Kind, calls, frames}
+use Rattle.box_wire.specs.Kinds.{Kind, calls, frames, saved_clients}
 use Rattle.box_wire.specs.Framing.{WireRefused, no_value, goes_on, no_message}
 use Rattle.fault_lines.specs.Messages.{line_at, wire_line, wire_place, wire_words}
 
@@ -82,6 +82,9 @@ wrong_told b place (value v vs) = told_before (told_unless (is_other b (entry_of
 
 others_told : (b : Bool) (others : ValueView) → IsTold (wrong_update b others)
 others_told b others = wrong_told b 0 (parts_of others)
+
+versions_told : (k : ℕ) (vs : ValueViews) → IsTold (version_fault k vs)
+versions_told k vs = told_if (k == CLIENT) (told_unless (is_known (word_of (at 0 vs)) vs) (wire.BadVersion (int_of (at 0 vs))) tt) no_cause
 
 numbers_told : (k : ℕ) (vs : ValueViews) → IsTold (number_fault k vs)
 numbers_told k vs =
@@ -151,6 +154,11 @@ served_told v = told_before (told_unless (entry_of v == INVOKE) (wire.NotServed 
 
 pub call_told : (v : ValueView) → IsTold (calls.cause v)
 call_told v = told_before (served_told v) (told_before (first_told Number numbers_told v) (told_before (first_told Date dates_told v) no_cause))
+
+pub saved_told : (v : ValueView) → IsTold (saved_clients.cause v)
+saved_told v =
+    told_before (first_told Version versions_told v) (told_before (first_told Number numbers_told v) (told_before (first_told Count counts_told v) (told_before (first_told End ends_told v)
+    (told_before (first_told Date dates_told v) (told_before (first_told Seq seqs_told v) no_cause)))))
 
 -- ---- lines
 

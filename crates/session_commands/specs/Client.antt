@@ -1,6 +1,7 @@
 -- What `client` answers: the client of a state file is brought up to date, saved and told; or where and why schema, profile, state or channels are refused, or
 -- what the other end of the link does wrong. This project's own.
-use Rattle.std.specs.Prelude.{◌≡◌, ℕ, ◌<◌, ◌≤◌, ℤ, List, [], ◌∷◌, ◌++◌, length, ltb, cond, codes, Option, Some, None, option_and_then, Ok, Err}
+use Rattle.std.specs.Prelude.{◌≡◌, ℕ, ◌<◌, ◌≤◌, ◌^◌, ℤ, List, [], ◌∷◌, ◌++◌, length, ltb, cond, codes, Option, Some, None, option_and_then, Ok, Err}
+use Rattle.std.specs.List.{AllByRecursion}
 use Rattle.tl_base.specs.Contents.{AreBytes, Files, HoldBytes}
 use Rattle.tl_base.specs.Outside.{View, HasFile}
 use Rattle.box_events.specs.declared.limits.TheConstants.{MAX_CHANNELS}
@@ -13,6 +14,7 @@ use Rattle.box_client.specs.Numbers.{client_numbers}
 use Rattle.box_client.specs.Saving.{saved_of}
 use Rattle.box_client.specs.States.{ClientState, new_client}
 use Rattle.wire_checks.specs.declared.fault.WireFault.{WireFault}
+use Rattle.wire_forms.specs.IsOf.{IsLong}
 use Rattle.wire_profile.specs.Places.{ProfileView}
 use Rattle.wire_values.specs.Carried.{IsSaved}
 use Rattle.wire_values.specs.SavedClients.{saved_tree}
@@ -29,7 +31,7 @@ use Rattle.fault_lines.specs.Profiled.{OfProfileText}
 use Rattle.fault_lines.specs.SavedClients.{load_line}
 use Rattle.session_commands.specs.declared.state.TheConstants.{MAX_STATE_BYTES}
 use Rattle.session_commands.specs.Linked.{over_link, saves_after, linking_job, next_link, KeepsFiles, LeavesLinks, LeavesState}
-use Rattle.session_commands.specs.Post.{ReachesLink}
+use Rattle.session_commands.specs.Post.{IsFile, ReachesLink}
 use Rattle.session_commands.specs.SessionEnds.{IsShort, session_line}
 
 -- ---- the state file
@@ -119,3 +121,10 @@ abbrev pub ClientHasOneAnswer : Type 0
 ClientHasOneAnswer =
     (files : Files) → HoldBytes files → (given : List ℕ) → AreBytes given → (schema address name : List ℕ) (channels : List ℤ) (a b : Answer)
     → ClientAnswer files given schema address name channels a → ClientAnswer files given schema address name channels b → a ≡ b
+
+-- Where files hold bytes, those of schema and state are there, and ids have 64 bits, there is one over a link that gives fewer than 2^30 bytes: over one that
+-- gives more, answers may bring more keys than a saved client can have.
+abbrev pub ClientsAreAnswered : Type 0
+ClientsAreAnswered =
+    (files : Files) → HoldBytes files → (given : List ℕ) → AreBytes given → length given < 2 ^ 30 → (schema address name : List ℕ) (channels : List ℤ) → AllByRecursion IsLong channels → IsFile files schema → IsFile files name
+    → (a : Answer) × ClientAnswer files given schema address name channels a
