@@ -1,6 +1,10 @@
 -- The words after those that clap reads, and the channels that they are.
 use Rattle.std.proofs.Common.{◌≡◌, ◌∙◌, ◌<◌, ◌+◌, ◌++◌, ℕ, zero, suc, ℤ, pos, negsuc, List, [], ◌∷◌, Bool, true, false, ◌&&◌, length, map, take, get_or, refl, sym, ap, ap₂, subst, arith, Some, None, option_map, inl, inr}
+use Rattle.std.specs.Int.{w64}
+use Rattle.std.specs.List.{AllByRecursion}
+use Rattle.std.proofs.lemmas.Int.{to_z_pos}
 use Rattle.std.proofs.lemmas.List.{length-map, map_more, map_push, get_or-map}
+use Rattle.wire_forms.specs.IsOf.{IsLong}
 use Rattle.commands.specs.Numbers.{IsNumberWord, number_of, is_number}
 use Rattle.commands.specs.Requests.{IsChannelWord, AreChannels, channel_range}
 use Rattle.commands.specs.CommandLine.{are_channels, channel_of, channels_of}
@@ -18,6 +22,17 @@ channels_are [] (id ∷ ids) h = absurd h
 channels_are (w ∷ ws) [] h = absurd h
 channels_are (w ∷ ws) (pos id ∷ ids) h = ap₂ (λ (x : ℤ) (xs : List ℤ). x ∷ xs) (ap pos (sym h.0.value)) (channels_are ws ids h.1)
 channels_are (w ∷ ws) (negsuc k ∷ ids) h = absurd h.0
+
+-- an id that is a word has 64 bits
+long_id : (w : Text) (id : ℤ) → IsChannelWord w id → IsLong id
+long_id w (pos n) h = (n, omega (arith, h.most), sym (to_z_pos w64 n (omega (arith, h.most))))
+long_id w (negsuc k) h = absurd h
+
+pub are_long : (ws : List Text) (ids : List ℤ) → AreChannels ws ids → AllByRecursion IsLong ids
+are_long [] [] h = tt
+are_long [] (id ∷ ids) h = absurd h
+are_long (w ∷ ws) [] h = absurd h
+are_long (w ∷ ws) (id ∷ ids) h = (long_id w id h.0, are_long ws ids h.1)
 
 pub all_channels : (ws : List Text) (ids : List ℤ) → AreChannels ws ids → are_channels ws ≡ true
 all_channels [] ids h = refl

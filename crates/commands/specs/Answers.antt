@@ -2,7 +2,7 @@
 use Rattle.std.specs.Prelude.{◌≡◌, ℕ, List, codes}
 use Rattle.tl_base.specs.Outside.{View, ShowsBytes}
 use Rattle.command_base.specs.Answer.{Answer, misused}
-use Rattle.commands.specs.Requests.{RequestText, client, AsksFor, AsksNothing, HasFilesOf, HasMomentsOf, job_of}
+use Rattle.commands.specs.Requests.{RequestText, AsksFor, AsksNothing, HasFilesOf, HasComingOf, job_of}
 
 abbrev pub usage_line : List ℕ
 usage_line = codes "usage: tlbox check SCHEMA, decode SCHEMA TYPE INPUT, encode SCHEMA TYPE INPUT, replay SCHEMA JOURNAL CLIENTS, make SCHEMA NUMBER STEPS, serve SCHEMA ADDRESS SESSIONS, post SCHEMA ADDRESS INPUT, client SCHEMA ADDRESS STATE [CHANNEL ..], layers OLD NEW TYPE\n"
@@ -32,16 +32,11 @@ pub data Asks (words : List (List ℕ)) : Type 0 where
 abbrev pub Answered : List (List ℕ) → View → Type 0
 Answered words v = (a : Answer) × Answers words v a
 
--- the requests of which that is claimed: each but `client`
-abbrev pub IsClaimed : RequestText → Type 0
-IsClaimed (client schema address state channels) = ⊥
-IsClaimed r = Unit {0}
-
--- Words of no request have the answer `usage`. Those of a request have an answer where the files that it names are there, and the moments that it takes
--- are moments.
+-- Words of no request have the answer `usage`. Those of a request have an answer where the files that it names are there, and what is to come is as it
+-- takes it.
 pub record AreAnswered (words : List (List ℕ)) (v : View) : Type 0 where
   pub of_none : AsksNothing words → Answers words v usage
-  pub of_request : (r : RequestText) → AsksFor words r → IsClaimed r → HasFilesOf v.files r → HasMomentsOf v.moments r → Answered words v
+  pub of_request : (r : RequestText) → AsksFor words r → HasFilesOf v.files r → HasComingOf v r → Answered words v
 
 -- words have an answer over an outside that shows bytes
 abbrev pub HasAnAnswer : Type 0

@@ -1,14 +1,15 @@
 -- The table of requests: what words ask for, which files that takes, and the job that is done. This project's own.
-use Rattle.std.specs.Prelude.{◌≡◌, ◌≢◌, ◌<◌, ◌≤◌, ◌^◌, ℕ, ℤ, pos, negsuc, List, [], ◌∷◌, Option, Some, None, codes}
+use Rattle.std.specs.Prelude.{◌≡◌, ◌≢◌, ◌<◌, ◌≤◌, ◌^◌, ℕ, ℤ, pos, negsuc, List, [], ◌∷◌, Option, Some, None, codes, length}
 use Rattle.std.specs.List.{AllByRecursion}
 use Rattle.tl_base.specs.Contents.{Files}
-use Rattle.tl_base.specs.Outside.{HasFile}
+use Rattle.tl_base.specs.Outside.{View, HasFile}
 use Rattle.command_base.specs.Jobs.{Job}
 use Rattle.codec_commands.specs.Check.{check_job}
 use Rattle.codec_commands.specs.Decode.{decode_job}
 use Rattle.codec_commands.specs.Encode.{encode_job}
 use Rattle.layer_commands.specs.Layers.{layers_job}
 use Rattle.session_commands.specs.Client.{client_job}
+use Rattle.session_commands.specs.Linked.{next_link}
 use Rattle.session_commands.specs.Post.{post_job}
 use Rattle.session_commands.specs.Serve.{serve_job}
 use Rattle.update_commands.specs.Make.{make_job}
@@ -109,10 +110,11 @@ HasFilesOf files (layers old new type) = IsFile files old × IsFile files new
 abbrev pub AreMoments : List ℕ → Type 0
 AreMoments moments = AllByRecursion (λ moment. moment < 2 ^ 31) moments
 
--- the moments to come are such, where the request takes any
-abbrev pub HasMomentsOf : List ℕ → RequestText → Type 0
-HasMomentsOf moments (serve schema address sessions) = AreMoments moments
-HasMomentsOf moments r = Unit {0}
+-- what is to come is as the request takes it: for sessions such moments, and for a client fewer than 2^30 bytes from its link
+abbrev pub HasComingOf : View → RequestText → Type 0
+HasComingOf v (serve schema address sessions) = AreMoments v.moments
+HasComingOf v (client schema address state channels) = length (next_link v) < 2 ^ 30
+HasComingOf v r = Unit {0}
 
 -- the job of a request
 abbrev pub job_of : RequestText → Job
