@@ -23,7 +23,7 @@ each_to words v shows (make schema number steps) asks there coming = each_make n
 each_to words v shows (serve schema address sessions) asks there coming = each_serve v.files shows.files v.links shows.links v.moments coming schema address sessions there
 each_to words v shows (post schema address input) asks there coming = each_post v.files shows.files _ (link_bytes v shows) schema address input there.0 there.1
 each_to words v shows (client schema address state channels) asks there coming =
-    each_client v.files shows.files _ (link_bytes v shows) coming schema address state channels (are_long asks.0 channels asks.1.1.1.1.1) there.0 there.1
+    each_client v.files shows.files _ (link_bytes v shows) coming schema address state channels (are_long asks.0 channels asks.5) there.0 there.1
 each_to words v shows (layers old new type) asks there coming = each_layers v.files old new type there.0 there.1
 
 pub an_answer : HasAnAnswer
