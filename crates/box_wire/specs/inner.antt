@@ -1,4 +1,3 @@
 -- What inner clauses cite; a reader of the contracts needs none of it.
-pub mod Slices
 pub mod Wholes
 pub mod Steps

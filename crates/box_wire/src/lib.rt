@@ -6,7 +6,6 @@ mod fault;
 mod frames;
 mod laws;
 mod saved;
-mod slices;
 mod steps;
 mod wholes;
 

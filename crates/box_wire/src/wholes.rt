@@ -9,10 +9,9 @@ ghost use Rattle.box_wire.specs.Answers.{GivesSpelling};
 ghost use Rattle.box_wire.specs.inner.Wholes.{EndsWith, IsSpelling, ReadsWhole, as_wire_fault};
 
 use crate::fault::SpellFault;
-use crate::slices::SliceSource;
 use box_events::MAX_FRAME_BYTES;
 use std::alloc::{AllocError, Global};
-use tl_base::Bytes;
+use tl_base::{Bytes, SliceSource};
 use tl_decode::{DecodeFault, decode, decode_walk};
 use tl_encode::{spell, spelling_of};
 use tl_plan::Plan;

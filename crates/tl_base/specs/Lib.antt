@@ -13,6 +13,7 @@ pub mod Numbers
 pub mod Packets
 pub mod Cuts
 pub mod Scripts
+pub mod Slices
 pub mod Memory
 pub mod MemoryContents
 pub mod MemoryBounds

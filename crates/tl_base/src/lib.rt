@@ -20,6 +20,7 @@ mod numbers;
 mod packet;
 mod pieces;
 mod sink;
+mod slices;
 mod source;
 
 pub use bytes::Bytes;
@@ -40,4 +41,5 @@ pub use numbers::{
 };
 pub use packet::{PACKET_BYTES, PacketFault, read_packet, write_packet};
 pub use sink::{Sink, WriteFault, write_all};
+pub use slices::SliceSource;
 pub use source::{Source, TakeFault, TextFault, take_bytes, take_end, take_text, take_word};

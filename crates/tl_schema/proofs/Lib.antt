@@ -53,3 +53,4 @@ pub mod Members
 pub mod FormedTypes
 pub mod FieldsFormed
 pub mod AskedFormed
+pub mod ResultsFormed

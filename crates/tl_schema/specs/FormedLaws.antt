@@ -1,10 +1,10 @@
 -- What holds of formed types. This project's own.
 use Rattle.std.specs.Prelude.{◌≡◌, ℕ}
 use Rattle.tl_schema.specs.Types.{Shape, Shapes}
-use Rattle.tl_schema.specs.Schemas.{Declared}
+use Rattle.tl_schema.specs.Schemas.{Declaration, Declared}
 use Rattle.tl_schema.specs.CheckedPrograms.{IsSchema}
 use Rattle.tl_schema.specs.Closing.{closed, list_of_shapes}
-use Rattle.tl_schema.specs.Formed.{IsFormedOver, AreArguments, IsEmpty, count_of, HasFormedFields}
+use Rattle.tl_schema.specs.Formed.{IsFormedOver, AreArguments, IsEmpty, IsFunction, count_of, HasFormedFields}
 
 -- in a schema each field of each declaration is formed, built-in types' lines aside
 abbrev pub FieldsAreFormed : Type 0
@@ -17,3 +17,7 @@ pub record ClosesFormed (schema : Declared) (n m : ℕ) (args : Shapes) (s : Sha
 
 abbrev pub ClosingKeepsFormed : Type 0
 ClosingKeepsFormed = (schema : Declared) (n m : ℕ) (args : Shapes) (s : Shape) → count_of args ≡ n → AreArguments schema m args → IsFormedOver schema n s → ClosesFormed schema n m args s
+
+-- in a schema the result of each function is formed over its variables
+abbrev pub ResultsAreFormed : Type 0
+ResultsAreFormed = (schema : Declared) → IsSchema schema → (i : ℕ) (d : Declaration) → IsFunction schema i d → IsFormedOver schema d.vars d.result

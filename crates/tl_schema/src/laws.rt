@@ -1,7 +1,7 @@
 //! Laws of the definitions, each carried by a function that does nothing.
 ghost use Rattle.std.specs.Prelude.{ℕ, List};
 ghost use Rattle.tl_combinators.specs.Program.{DeclText};
-ghost use Rattle.tl_schema.specs.FormedLaws.{ClosingKeepsFormed, FieldsAreFormed};
+ghost use Rattle.tl_schema.specs.FormedLaws.{ClosingKeepsFormed, FieldsAreFormed, ResultsAreFormed};
 ghost use Rattle.tl_schema.specs.Meanings.{IsSmall};
 ghost use Rattle.tl_schema.specs.OneAnswer.{IsOneSchemaOrRefused, IsOneTypeOrRefused, NumbersFit};
 
@@ -23,4 +23,9 @@ pub fn fields_are_formed()
 /// A formed type stays formed where formed arguments stand in place of its variables, and one that takes bytes takes bytes.
 pub fn closing_keeps_formed()
     ensures { ClosingKeepsFormed }
+{}
+
+/// In a schema the result of each function is formed over its variables.
+pub fn results_are_formed()
+    ensures { ResultsAreFormed }
 {}

@@ -25,7 +25,7 @@ pub use checks::check;
 pub use fault::{CheckCause, CheckFault, TypeCause, TypeFault};
 pub use laws::{
     closing_keeps_formed, each_program_is_a_schema_or_refused, each_text_is_a_type_or_refused,
-    fields_are_formed,
+    fields_are_formed, results_are_formed,
 };
 pub use schema::{Entry, Schema, SchemaField, TypeRef};
 pub use types::type_of;

@@ -1,14 +1,16 @@
 //! Declarations and types of a schema.
-ghost use Rattle.std.specs.Prelude.{◌≡◌, ◌<◌, length, map, slice_get, Some};
+ghost use Rattle.std.specs.Prelude.{◌≡◌, ◌↔◌, ◌<◌, IsTrue, length, map, slice_get, Some};
 ghost use Rattle.tl_schema.specs.Seen.{declaration};
 ghost use Rattle.tl_names.specs.inner.BareSteps.{MarksEmpty};
 ghost use Rattle.tl_schema.specs.CheckedPrograms.{Finds, FindsNumber, IsSchema};
+ghost use Rattle.tl_names.specs.BareFields.{TakesNone};
 ghost use Rattle.tl_names.specs.Places.{types_of};
 ghost use Rattle.tl_schema.specs.inner.SchemaParts.{IsSound};
 
 use std::collections::BTreeMap;
 use std::marker::Model;
 use tl_base::Bytes;
+use tl_graph::is_marked;
 use tl_names::{Index, Names};
 
 /// A type. From "TL language" (core.telegram.org/mtproto/TL): its boxed and bare types.
@@ -157,6 +159,13 @@ impl Schema {
         ensures { FindsNumber self.now.program number result }
     {
         self.numbers.get(&number).copied()
+    }
+
+    /// Whether the declaration at an index is a constructor that takes no bytes.
+    pub fn takes_none(&self, i: u32) -> bool
+        ensures { IsTrue result ↔ TakesNone self.now.program i }
+    {
+        is_marked(&self.marks, i)
     }
 
     /// The constructors and the types of its program, by name.

@@ -1,11 +1,12 @@
 //! A source of bytes that lie in memory.
 ghost use Rattle.std.specs.Prelude.{◌≡◌, ◌<◌, [], ◌++◌, drop, take, length, min};
-ghost use Rattle.box_wire.specs.inner.Slices.{IsEnd};
 ghost use Rattle.tl_base.specs.Contents.{AreBytes};
+ghost use Rattle.tl_base.specs.Slices.{IsEnd};
 
-use tl_base::{Failed, Source};
+use crate::fault::Failed;
+use crate::source::Source;
 
-/// Bytes that are lent, and how many of them were taken.
+/// Bytes that are lent, and how many of them were taken. Each read gives what fits, and none fails.
 #[derive(Drop)]
 pub struct SliceSource<'a> {
     bytes: &'a [u8],
@@ -14,6 +15,7 @@ pub struct SliceSource<'a> {
 }
 
 impl<'a> SliceSource<'a> {
+    /// The bytes as a source, none of them taken.
     pub fn new(bytes: &'a [u8]) -> SliceSource<'a>
         ensures bytes { result.bytes.now ≡ bytes.now }
         ensures at { result.at ≡ 0 }
@@ -30,8 +32,8 @@ impl<'a> SliceSource<'a> {
 }
 
 impl<'a> Source for SliceSource<'a> {
-    ghost use Rattle.box_wire.specs.inner.Slices.{slice_state};
     ghost use Rattle.tl_base.specs.MemoryLaws.{rest_bytes};
+    ghost use Rattle.tl_base.specs.Slices.{slice_state};
 
     ghost state = { λ s. slice_state s.at s.bytes.now };
 
