@@ -72,7 +72,8 @@ module _ (job : Job) where
   works W L (refused_by line) (Err stop.LinkFault) v u w h none = absurd none
   works W L (refused_by line) (Err (stop.Peer told)) v u w h none = absurd none
   works W L (refused_by line) (Err stop.Memory) v u w h none = absurd none
-  works W L unread (Err e) v u w only (is, same) = subst (λ (y : Stop). Works W L job (Err y) v w) (sym is) (wrote_nothing v w (then_same v u w only same))
+  works W L unread (Err e) v u w only (is, same) =
+      subst (λ (y : Stop). Works W L job (Err y) v w) (sym is) (inl (wrote_nothing v w (then_same v u w only same)))
   works W L no_memory (Err e) v u w only (is, same) =
       subst (λ (y : Stop). Works W L job (Err y) v w) (sym is) (inl (wrote_nothing v w (then_same v u w only same)))
 

@@ -44,6 +44,7 @@ pub record Carries (j k : Job) (v u : View) : Type 0 where
   pub broken : (a : Answer) → j.broken u a → k.broken v a
   pub partial : (a : Answer) → j.partial u a → k.partial v a
   pub pieces : j.in_pieces → k.in_pieces
+  pub reads_on : j.reads_on → k.reads_on
   pub tells : j.tells → k.tells
 
 module _ (W V L M : Type 0) (write : V → W) (link : M → L) (j k : Job) (v u : View) (first : Before v u) (to : Carries j k v u) where
@@ -83,7 +84,8 @@ module _ (W V L M : Type 0) (write : V → W) (link : M → L) (j k : Job) (v u 
   works_after (Ok s) w (a, answers, is, output, tells) = (a, may a answers, is, gives a w output, told a.errors w tells)
   works_after (Err (stop.Refused line)) w h = ends status.Refused line.items w h
   works_after (Err (stop.Peer line)) w h = ends status.PeerFault line.items w h
-  works_after (Err stop.ReadFault) w h = nothing w h
+  works_after (Err stop.ReadFault) w (inl none) = inl (nothing w none)
+  works_after (Err stop.ReadFault) w (inr (reads, h)) = inr (to.reads_on reads, some w h)
   works_after (Err stop.WriteFault) w h = some w h
   works_after (Err stop.LinkFault) w h = some w h
   works_after (Err stop.Memory) w (inl none) = inl (nothing w none)
@@ -110,7 +112,7 @@ module _ (W L : Type 0) (job : Job) where
         only.errors,
         inl only.output,
       )
-  unmade_works unmade.ReadFault (Err z) v w only is = subst (λ (y : Stop). Works W L job (Err y) v w) (sym is) (wrote_nothing v w only)
+  unmade_works unmade.ReadFault (Err z) v w only is = subst (λ (y : Stop). Works W L job (Err y) v w) (sym is) (inl (wrote_nothing v w only))
   unmade_works unmade.Memory (Err z) v w only is = subst (λ (y : Stop). Works W L job (Err y) v w) (sym is) (inl (wrote_nothing v w only))
 
 -- a refusal after calls that only read

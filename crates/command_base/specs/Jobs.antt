@@ -17,20 +17,21 @@ use Rattle.command_base.specs.Kept.{WritesNothing, OnlyReads, AddsPrefix, Leaves
 use Rattle.command_base.specs.Telling.{Tells}
 
 -- A job: what is answered over an outside; what may be answered there where a link failed that others follow; what its first parts gave, where its
--- work may stop between them, before there is an answer; whether its work writes its Output in pieces and may stop between them, tells lines on Errors
--- as it goes, and uses links; and what it leaves as it was.
+-- work may stop between them, before there is an answer; whether its work writes its Output in pieces and may stop between them, reads on between these
+-- pieces, tells lines on Errors as it goes, and uses links; and what it leaves as it was.
 pub record Job : Type 1 where
   pub answers : View → Answer → Type 0
   pub broken : View → Answer → Type 0
   pub partial : View → Answer → Type 0
   pub in_pieces : Type 0
+  pub reads_on : Type 0
   pub tells : Type 0
   pub linked : Type 0
   pub keeps : View → View → Type 0
 
 -- a job that reads, and then writes its Output or is refused; whether it writes in pieces
 abbrev pub unlinked_job : (View → Answer → Type 0) → Type 0 → (View → View → Type 0) → Job
-unlinked_job answers in_pieces keeps = record { answers = answers; broken = λ v a. ⊥; partial = λ v a. ⊥; in_pieces = in_pieces; tells = ⊥; linked = ⊥; keeps = keeps }
+unlinked_job answers in_pieces keeps = record { answers = answers; broken = λ v a. ⊥; partial = λ v a. ⊥; in_pieces = in_pieces; reads_on = ⊥; tells = ⊥; linked = ⊥; keeps = keeps }
 
 -- ---- work
 
@@ -65,7 +66,7 @@ abbrev pub Works : Type 0 → Type 0 → Job → Result Status Stop → View →
 Works write_rose link_rose job (Ok status) v w = (a : Answer) × MayAnswer job link_rose v a × (a.status ≡ status) × GivesOutput a v w × Tells write_rose a.errors v w
 Works write_rose link_rose job (Err (stop.Refused line)) v w = EndsBy job status.Refused line.items v w
 Works write_rose link_rose job (Err (stop.Peer line)) v w = EndsBy job status.PeerFault line.items v w
-Works write_rose link_rose job (Err stop.ReadFault) v w = WritesNothing v w
+Works write_rose link_rose job (Err stop.ReadFault) v w = WritesNothing v w ⊎ (job.reads_on × WritesSomeOf job link_rose v w)
 Works write_rose link_rose job (Err stop.WriteFault) v w = WritesSomeOf job link_rose v w
 Works write_rose link_rose job (Err stop.LinkFault) v w = WritesSomeOf job link_rose v w
 Works write_rose link_rose job (Err stop.Memory) v w = WritesNothing v w ⊎ (job.in_pieces × WritesSomeOf job link_rose v w)

@@ -19,7 +19,7 @@ use Rattle.session_commands.proofs.PostKept.{post_errors, post_then}
 use Rattle.session_commands.proofs.ServeKept.{serve_errors, serve_then}
 use Rattle.commands.specs.Requests.{RequestText, check, decode, encode, replay, make, serve, post, client, layers, AsksFor, AsksNothing, job_of}
 use Rattle.commands.specs.Answers.{usage, usage_line, no_request, requested}
-use Rattle.commands.specs.Runs.{MayAnswer, StopsAfter, Ends, answered, read_failed, write_failed, link_failed, out_of_memory, out_of_memory_later, Keeps, LeavesLinks, AnswerFits}
+use Rattle.commands.specs.Runs.{MayAnswer, StopsAfter, Ends, answered, read_failed, read_failed_later, write_failed, link_failed, out_of_memory, out_of_memory_later, Keeps, LeavesLinks, AnswerFits}
 use Rattle.commands.proofs.OneAnswer.{answer_to}
 use Rattle.commands.proofs.Rows.{one_request}
 
@@ -69,8 +69,9 @@ module _ (words : List (List ℕ)) (r : RequestText) (asks : AsksFor words r) wh
       unfolding stopped_after
       ended (stop.Refused line) k is read write link v u w h told rest = ended_by status.Refused k line.items v u w is h told rest
       ended (stop.Peer line) k is read write link v u w h told rest = ended_by status.PeerFault k line.items v u w is h told rest
-      ended stop.ReadFault k is read write link v u w none (same, told) rest =
+      ended stop.ReadFault k is read write link v u w (inl none) (same, told) rest =
           read_failed (r, asks) (read is) is (same ∙ none.output) (tells_on T read_fault_line v u w none.errors told_write told)
+      ended stop.ReadFault k is read write link v u w (inr (reads, some)) told rest = read_failed_later (read is) is (stopped_after read_fault_line v u w some told) reads
       ended stop.WriteFault k is read write link v u w some told rest = write_failed (write is) is (stopped_after write_fault_line v u w some told)
       ended stop.LinkFault k is read write link v u w some told rest = link_failed (link is) is (stopped_after link_fault_line v u w some told)
       ended stop.Memory k is read write link v u w (inl none) (same, told) rest =

@@ -27,11 +27,12 @@ pub record StopsAfter (words : List (List ℕ)) (write_rose link_rose : Type 0) 
   pub told : TellsLine write_rose line stopped w
 
 -- A run ends with its answer; or, where the words ask for a request, with a fault whose count rose; or out of memory. What it wrote until then is
--- none of its Output, or a prefix, the latter out of memory only in a job that writes in pieces.
+-- none of its Output, or a prefix: out of memory only in a job that writes in pieces, after a failed read only in one that reads on between these.
 pub data Ends (words : List (List ℕ)) (read_rose write_rose link_rose : Type 0) (status : Status) (v w : View) : Type 0 where
   answered : (a : Answer) → MayAnswer words link_rose v a → status ≡ a.status → w.written.output ≡ v.written.output ++ a.output → Leaves a v w → Tells write_rose a.errors v w
       → Ends words read_rose write_rose link_rose status v w
   read_failed : AskForOne words → read_rose → status ≡ ReadFault → w.written.output ≡ v.written.output → Tells write_rose read_fault_line v w → Ends words read_rose write_rose link_rose status v w
+  read_failed_later : read_rose → status ≡ ReadFault → (s : StopsAfter words write_rose link_rose read_fault_line v w) → (job_of s.request).reads_on → Ends words read_rose write_rose link_rose status v w
   write_failed : write_rose → status ≡ WriteFault → StopsAfter words write_rose link_rose write_fault_line v w → Ends words read_rose write_rose link_rose status v w
   link_failed : link_rose → status ≡ LinkFault → StopsAfter words write_rose link_rose link_fault_line v w → Ends words read_rose write_rose link_rose status v w
   out_of_memory : status ≡ Memory → w.written.output ≡ v.written.output → Tells write_rose memory_line v w → Ends words read_rose write_rose link_rose status v w

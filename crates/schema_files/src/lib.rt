@@ -12,6 +12,6 @@ mod type_word;
 pub use json_input::{JSON_BYTES, load_json};
 pub use lines::cause_text;
 pub use schema_text::load_schema;
-pub use shown::value_line;
+pub use shown::{printed_line, value_line};
 pub use type_plan::plan_of;
 pub use type_word::type_named;

@@ -6,10 +6,24 @@ ghost use Rattle.schema_files.specs.Lines.{line_text};
 
 use std::alloc::{AllocError, Global};
 use tl_schema::{Schema, TypeRef};
-use tl_show::show_text;
+use tl_show::JsonPrinter;
 use tl_types::Value;
 
-/// The line of a value of a type: its JSON, and a line feed.
+/// The line of a value of a type by the printer of its schema: its JSON, and a line feed.
+pub fn printed_line(
+    alloc: Global,
+    printer: &JsonPrinter<'_>,
+    of: &TypeRef,
+    value: &Value,
+) -> Result<Vec<u8>, AllocError>
+    ensures { IfOk result (λ line. line.items ≡ line_text printer.now.schema.now.decls (shape of.now) (view value.now)) }
+{
+    let mut line = printer.text(alloc, of, value)?;
+    line.push(b'\n')?;
+    Ok(line)
+}
+
+/// The line of one value of a type, likewise.
 pub fn value_line(
     alloc: Global,
     schema: &Schema,
@@ -18,7 +32,6 @@ pub fn value_line(
 ) -> Result<Vec<u8>, AllocError>
     ensures { IfOk result (λ line. line.items ≡ line_text schema.now.decls (shape of.now) (view value.now)) }
 {
-    let mut line = show_text(alloc, schema, of, value)?;
-    line.push(b'\n')?;
-    Ok(line)
+    let printer = JsonPrinter::new(alloc, schema)?;
+    printed_line(alloc, &printer, of, value)
 }

@@ -121,7 +121,7 @@ module _ (p : ProfileView) (good : IsProfile p) (address input : List ℕ) where
         (bytes, has, json_of (view x) k.0 is k.1 m.are (sent m.call m.means m.fits.1 (subst (λ (n : ℕ). OfSent p n address k.0 (next_link v) a) (sym m.number) here)))
 
     pub sent_carries : (v u : View) → Loaded (Ok x) v u → Before v u × Carries part job v u
-    sent_carries v u loaded = (before v u (only_input v u loaded.1), record { answers = sent_answers v u loaded; broken = λ a is. is; partial = λ a part. part; pieces = λ e. e; tells = λ e. e })
+    sent_carries v u loaded = (before v u (only_input v u loaded.1), record { answers = sent_answers v u loaded; broken = λ a is. is; partial = λ a part. part; pieces = λ e. e; reads_on = λ e. e; tells = λ e. e })
 
     -- room for the answer is room for it after the input was read
     pub same_room : (v u : View) (a : Answer) → OnlySlot Input v u → HasRoomFor a v → HasRoomFor a u

@@ -86,7 +86,7 @@ module _ (schema address input : List ℕ) where
         (text, has, profiled p (text_is text read) (subst (λ (g : List ℕ). OfInput address input v.files g p a) (ap next_link only) at_files))
 
     pub profile_carries : (v u : View) → LoadsFirst (Ok S) v u → Before v u × Carries part job v u
-    profile_carries v u loaded = (before v u (only_schema v u loaded.1), record { answers = profile_answers v u loaded; broken = λ a cut. cut; partial = λ a part. part; pieces = λ e. e; tells = λ e. e })
+    profile_carries v u loaded = (before v u (only_schema v u loaded.1), record { answers = profile_answers v u loaded; broken = λ a cut. cut; partial = λ a part. part; pieces = λ e. e; reads_on = λ e. e; tells = λ e. e })
 
     same_room : (v u : View) (a : Answer) → OnlySlot slots.Schema v u → HasRoomFor a v → HasRoomFor a u
     same_room v u a only room = subst (λ (z : View). HasRoomFor a z) (sym only) (record { output = room.output; state = room.state; links = room.links; coming = room.coming; address = room.address })

@@ -92,7 +92,7 @@ module _ (schema address : List ℕ) (n : ℕ) where
 
     pub profile_carries : (v u : View) → LoadsFirst (Ok S) v u → Before v u × Carries part job v u
     profile_carries v u loaded =
-        (before v u (only_schema v u loaded.1), record { answers = profile_answers v u loaded; broken = profile_broken v u loaded; partial = profile_partial v u loaded; pieces = λ e. e; tells = λ e. e })
+        (before v u (only_schema v u loaded.1), record { answers = profile_answers v u loaded; broken = profile_broken v u loaded; partial = profile_partial v u loaded; pieces = λ e. e; reads_on = λ e. e; tells = λ e. e })
 
     same_room : (v u : View) (a : Answer) → OnlySlot slots.Schema v u → HasRoomFor a v → HasRoomFor a u
     same_room v u a only room = subst (λ (z : View). HasRoomFor a z) (sym only) (record { output = room.output; state = room.state; links = room.links; coming = room.coming; address = room.address })

@@ -62,5 +62,5 @@ module _ (W L : Type 0) (job : Job) where
         ap (λ (x : View). x.written.errors) only,
         inl (ap (λ (x : View). x.written.output) only),
       )
-  slot_stops unmade.ReadFault (Err z) v w answer only is = subst (λ (y : Stop). Works W L job (Err y) v w) (sym is) (nothing_written v w only)
+  slot_stops unmade.ReadFault (Err z) v w answer only is = subst (λ (y : Stop). Works W L job (Err y) v w) (sym is) (inl (nothing_written v w only))
   slot_stops unmade.Memory (Err z) v w answer only is = subst (λ (y : Stop). Works W L job (Err y) v w) (sym is) (inl (nothing_written v w only))

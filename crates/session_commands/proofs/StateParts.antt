@@ -87,7 +87,7 @@ module _ (p : ProfileView) (address name : List ℕ) (channels : List ℤ) where
     session_answers v u ((bytes, has, client), only) a h = (bytes, has, watches c d client watched (subst (λ (g : List ℕ). OfSession p address name d g a) (ap next_link only) h))
 
     pub session_carries : (v u : View) → LoadsFirst (Ok c) v u → Before v u × Carries part job v u
-    session_carries v u l = (before_slot v u (only_of (Ok c) v u l), record { answers = session_answers v u l; broken = λ a cut. cut; partial = λ a part. part; pieces = λ e. e; tells = λ e. e })
+    session_carries v u l = (before_slot v u (only_of (Ok c) v u l), record { answers = session_answers v u l; broken = λ a cut. cut; partial = λ a part. part; pieces = λ e. e; reads_on = λ e. e; tells = λ e. e })
 
     same_room : (v u : View) (a : Answer) → OnlySlot slots.State v u → HasRoomFor a v → HasRoomFor a u
     same_room v u a only room = subst (λ (z : View). HasRoomFor a z) (sym only) (record { output = room.output; state = room.state; links = room.links; coming = room.coming; address = room.address })

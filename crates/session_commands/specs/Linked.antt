@@ -24,7 +24,7 @@ saves_after address sent name bytes output = record (over_link address sent Done
 
 -- a job that makes a link: a fault of that ends it before it has written anything
 abbrev pub linking_job : (View → Answer → Type 0) → (View → View → Type 0) → Job
-linking_job answers keeps = record { answers = answers; broken = λ v a. a ≡ cut_off; partial = λ v a. ⊥; in_pieces = ⊥; tells = ⊥; linked = Unit {0}; keeps = keeps }
+linking_job answers keeps = record { answers = answers; broken = λ v a. a ≡ cut_off; partial = λ v a. ⊥; in_pieces = ⊥; reads_on = ⊥; tells = ⊥; linked = Unit {0}; keeps = keeps }
 
 -- ---- the outside
 

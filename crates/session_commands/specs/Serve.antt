@@ -144,6 +144,7 @@ serve_job schema address n = record {
   broken = ServeBroken schema address n;
   partial = ServePart schema address n;
   in_pieces = Unit {0};
+  reads_on = ⊥;
   tells = Unit {0};
   linked = Unit {0};
   keeps = ServeKeeps schema;

@@ -1,6 +1,6 @@
 -- The text of what was written, and of what is shown.
-use Rattle.std.proofs.Common.{◌≡◌, ℕ, List, [], ◌++◌, Vec, Global, Result, Ok, Err, false, ap, subst, ◌∙◌}
-use Rattle.std.specs.Prelude.{IfOk}
+use Rattle.std.proofs.Common.{◌≡◌, ℕ, List, [], ◌++◌, Vec, Global, Option, Some, None, Result, Ok, Err, false, ap, ◌∙◌}
+use Rattle.std.specs.Prelude.{IfOk, IfSome}
 use Rattle.std.specs.declared.alloc.AllocError.{AllocError}
 use Rattle.json.specs.Print.{print}
 use Rattle.json.specs.Tree.{json_tokens}
@@ -9,11 +9,11 @@ use Rattle.serde_json.proofs.Texts.{print-outline}
 use Rattle.serde_json.specs.Data.{Data}
 use Rattle.serde_json.specs.Written.{compact_text, has_float, outline}
 use Rattle.tl_schema.specs.Types.{Shape}
-use Rattle.tl_schema.specs.Schemas.{Declaration}
+use Rattle.tl_schema.specs.Schemas.{Declaration, Declared}
 use Rattle.tl_types.specs.Values.{ValueView}
 use Rattle.tl_show.specs.Shown.{shown}
 use Rattle.tl_show.specs.inner.Forms.{AreForms, FormView, written}
-use Rattle.tl_show.specs.inner.Lines.{Appended}
+use Rattle.tl_show.specs.inner.Lines.{Appended, PrintAsShown}
 use Rattle.tl_show.proofs.FormedRecords.{as_shown}
 use Rattle.tl_show.proofs.NoFloats.{no_float}
 
@@ -27,9 +27,15 @@ pub text_of_tokens : (d : Data) (old new : Written) (text : List ℕ) → old.be
     → text ≡ new.before ++ print new.tokens → text ≡ compact_text d
 text_of_tokens d old new text first none added is = is ∙ rw (added.before, added.tokens, first, none) (print-outline d)
 
-pub text_as_shown : (line : Line) (ds : List Declaration) (fs : List FormView) (T : Shape) (v : ValueView) → AreForms ds fs
-    → IsText line (written fs T v) → IsText line (shown ds T v)
-text_as_shown line ds fs T v are text = let P : Data → Type 0 = λ d. IsText line d in subst P (as_shown ds fs are T v) text
+-- the forms of a schema's declarations write what is shown
+pub print_as_shown : {X : Type 0} (schema : Declared) (see : X → List FormView) (found : Option X) → IfSome found (λ x. AreForms schema.decls (see x)) → IfSome found (λ x. PrintAsShown schema (see x))
+print_as_shown schema see None are = tt
+print_as_shown schema see (Some x) are = λ T v. ap compact_text (as_shown schema.decls (see x) are T v)
+
+pub text_as_shown : (line : Line) (schema : Declared) (fs : List FormView) (T : Shape) (v : ValueView) → PrintAsShown schema fs
+    → IsText line (written fs T v) → IsText line (shown schema.decls T v)
+text_as_shown (Ok b) schema fs T v same text = text ∙ same T v
+text_as_shown (Err e) schema fs T v same text = tt
 
 pub text_of_shown : (line : Line) (ds : List Declaration) (T : Shape) (v : ValueView) (d : Data) → d ≡ shown ds T v
     → IfOk line (λ b. has_float d ≡ false → b.items ≡ compact_text d) → IsText line (shown ds T v)

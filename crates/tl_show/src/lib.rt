@@ -20,6 +20,6 @@ mod writing;
 pub use fault::{FormCause, JsonFault, TextReadFault};
 pub use from_text::read_text;
 pub use laws::{each_text_tells, each_value_reads_back};
-pub use line::show_text;
+pub use line::{JsonPrinter, show_text};
 pub use reading::read;
 pub use tree::show;

@@ -89,6 +89,7 @@ module _ (s j : List ℕ) (n : ℕ) where
     broken = λ a h. absurd h;
     partial = λ a h. absurd h;
     pieces = λ x. x;
+    reads_on = λ x. x;
     tells = λ x. absurd x;
   }
 

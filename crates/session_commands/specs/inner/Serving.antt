@@ -172,6 +172,7 @@ sessions_job p address n = record {
   broken = λ v a. OfSessions IsAny address n v.links v.moments p a;
   partial = λ v a. (k : ℕ) × (k ≤ n) × OfSessions IsAny address k v.links v.moments p a;
   in_pieces = Unit {0};
+  reads_on = ⊥;
   tells = Unit {0};
   linked = Unit {0};
   keeps = keeps_all;

@@ -5,7 +5,12 @@ use Rattle.json.specs.Token.{Token, key}
 use Rattle.json.specs.Tree.{json_tokens, members_tokens}
 use Rattle.json.specs.Written.{Written}
 use Rattle.serde_json.specs.Data.{Data, Members}
-use Rattle.serde_json.specs.Written.{outline, members_outline}
+use Rattle.serde_json.specs.Written.{compact_text, outline, members_outline}
+use Rattle.tl_schema.specs.Types.{Shape}
+use Rattle.tl_schema.specs.Schemas.{Declared}
+use Rattle.tl_types.specs.Values.{ValueView}
+use Rattle.tl_show.specs.Shown.{shown}
+use Rattle.tl_show.specs.inner.Forms.{FormView, written}
 
 -- these tokens were appended
 pub record Appended (old new : Written) (ts : List Token) : Type 0 where
@@ -25,3 +30,7 @@ member_tokens k (Some d) = key k ∷ json_tokens (outline d)
 
 abbrev pub WritesMember : {E : Type 0} → Result (Unit {0}) E → Written → Written → List ℕ → Option Data → Type 0
 WritesMember r old new k d = OnOk r (Appended old new (member_tokens k d))
+
+-- what is written by these forms is the text of what is shown
+abbrev pub PrintAsShown : Declared → List FormView → Type 0
+PrintAsShown schema fs = (T : Shape) (v : ValueView) → compact_text (written fs T v) ≡ compact_text (shown schema.decls T v)
