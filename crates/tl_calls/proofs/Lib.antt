@@ -1,0 +1,15 @@
+pub mod Sent
+pub mod Once
+pub mod Answered
+pub mod OneLog
+pub mod Stands
+pub mod Refusals
+pub mod Entries
+pub mod Sending
+pub mod Answers
+pub mod Judged
+pub mod ResultSteps
+pub mod Agreed
+pub mod WholeAnswers
+pub mod Called
+pub mod CalledResults

@@ -1,0 +1,51 @@
+use Rattle.tl_schema.proofs.ResultsFormed.{results_are_formed}
+use Rattle.std.proofs.Common.{Some, Ok, ap, sym, ◌∙◌, subst}
+use Rattle.std.specs.Option.{option_map, option_copied}
+use Rattle.tl_types.specs.Seen.{view}
+use Rattle.tl_calls.specs.Calling.{Answers, AreOpenIn, CallsView, IsCalls, LogsCame, open_at, without_call}
+use Rattle.tl_calls.specs.Seen.{calls_of}
+use Rattle.tl_calls.proofs.Entries.{lookup_seen}
+use Rattle.tl_calls.proofs.Answers.{none_answers, none_logs, has_result, fault_answers, fault_logs, value_answers, value_logs, closed_view, closed_fitting, closed_is_calls}
+use Rattle.tl_calls.proofs.Answered.{answered_in_formed}
+use Rattle.tl_calls.proofs.calls.Calls.answer.Goals as goal
+
+pub returns-in_default-clause-answers : goal.returns-in_default-clause-answers
+returns-in_default-clause-answers c = none_answers c.args.schema.now c.args.self.now c.args.number c.args.bytes.now
+    (sym (ap (option_map view) c.get.ensures.value ∙ sym (lookup_seen c.args.number c.self.inside.calls.entries) ∙ ap (λ (s : CallsView). open_at s c.args.number) c.self.view_is) ∙ ap (λ r. option_map view (option_copied r)) c.in_default.is)
+
+pub returns-in_default-clause-logs : goal.returns-in_default-clause-logs
+returns-in_default-clause-logs c = none_logs c.args.schema.now c.args.self.now c.args.number c.args.bytes.now
+    (sym (ap (option_map view) c.get.ensures.value ∙ sym (lookup_seen c.args.number c.self.inside.calls.entries) ∙ ap (λ (s : CallsView). open_at s c.args.number) c.self.view_is) ∙ ap (λ r. option_map view (option_copied r)) c.in_default.is)
+
+pub answer_value-requires : goal.answer_value-requires
+answer_value-requires c = record {
+  result = has_result c.args.schema.now c.args.self.now c.args.number c.args.bytes.now (view c.in-Some.call.now)
+      (sym (ap (option_map view) c.get.ensures.value ∙ sym (lookup_seen c.args.number c.self.inside.calls.entries) ∙ ap (λ (s : CallsView). open_at s c.args.number) c.self.view_is) ∙ ap (λ r. option_map view (option_copied r)) c.in-Some.is) c.requires.fitting;
+}
+
+pub returns-in-Err-clause-answers : goal.returns-in-Err-clause-answers
+returns-in-Err-clause-answers c = fault_answers c.args.schema.now c.args.self.now c.args.number c.args.bytes.now (view c.in-Some.call.now)
+    (sym (ap (option_map view) c.get.ensures.value ∙ sym (lookup_seen c.args.number c.self.inside.calls.entries) ∙ ap (λ (s : CallsView). open_at s c.args.number) c.self.view_is) ∙ ap (λ r. option_map view (option_copied r)) c.in-Some.is) c.in-Err.fault c.in-Err.ensures.whole
+
+pub returns-in-Err-clause-logs : goal.returns-in-Err-clause-logs
+returns-in-Err-clause-logs c = fault_logs c.args.schema.now c.args.self.now c.args.number c.args.bytes.now (view c.in-Some.call.now)
+    (sym (ap (option_map view) c.get.ensures.value ∙ sym (lookup_seen c.args.number c.self.inside.calls.entries) ∙ ap (λ (s : CallsView). open_at s c.args.number) c.self.view_is) ∙ ap (λ r. option_map view (option_copied r)) c.in-Some.is)
+    (answered_in_formed results_are_formed) c.count-count.ensures.sound c.requires.fitting c.in-Err.ensures.bytes c.in-Err.fault c.in-Err.ensures.whole
+
+pub invariant_of-self : goal.invariant_of-self
+invariant_of-self c =
+    subst IsCalls (sym (closed_view c.self.inside.next c.self.inside.calls.entries c.remove.new.self.entries c.args.number c.remove.ensures.entries))
+    (closed_is_calls (calls_of c.self.inside.next c.self.inside.calls.entries) c.args.number c.self.invariant)
+
+pub returns-clause-answers : goal.returns-clause-answers
+returns-clause-answers c =
+    subst (λ (t : CallsView). Answers c.args.schema.now c.args.self.now t c.args.number c.args.bytes.now (Ok (Some c.in-Ok.value))) (sym (closed_view c.self.inside.next c.self.inside.calls.entries c.remove.new.self.entries c.args.number c.remove.ensures.entries ∙ ap (without_call c.args.number) c.self.view_is))
+    (value_answers c.args.schema.now c.args.self.now c.args.number c.args.bytes.now (view c.in-Some.call.now) (sym (ap (option_map view) c.get.ensures.value ∙ sym (lookup_seen c.args.number c.self.inside.calls.entries) ∙ ap (λ (s : CallsView). open_at s c.args.number) c.self.view_is) ∙ ap (λ r. option_map view (option_copied r)) c.in-Some.is) c.in-Ok.value c.in-Ok.ensures.whole)
+
+pub returns-clause-fitting : goal.returns-clause-fitting
+returns-clause-fitting c = subst (AreOpenIn c.args.schema.now) (sym (closed_view c.self.inside.next c.self.inside.calls.entries c.remove.new.self.entries c.args.number c.remove.ensures.entries ∙ ap (without_call c.args.number) c.self.view_is)) (closed_fitting c.args.schema.now c.args.self.now c.args.number c.requires.fitting)
+
+pub returns-clause-logs : goal.returns-clause-logs
+returns-clause-logs c =
+    subst (λ (t : CallsView). LogsCame c.args.schema.now c.args.self.now t c.args.number c.args.bytes.now (Ok (Some c.in-Ok.value))) (sym (closed_view c.self.inside.next c.self.inside.calls.entries c.remove.new.self.entries c.args.number c.remove.ensures.entries ∙ ap (without_call c.args.number) c.self.view_is))
+    (value_logs c.args.schema.now c.args.self.now c.args.number c.args.bytes.now (view c.in-Some.call.now) (sym (ap (option_map view) c.get.ensures.value ∙ sym (lookup_seen c.args.number c.self.inside.calls.entries) ∙ ap (λ (s : CallsView). open_at s c.args.number) c.self.view_is) ∙ ap (λ r. option_map view (option_copied r)) c.in-Some.is) c.in-Ok.value c.in-Ok.ensures.whole)

@@ -1,0 +1,5 @@
+-- What inner clauses cite; a reader of the contracts needs none of it.
+pub mod Judging
+pub mod Making
+pub mod Answering
+pub mod ValueCodes

@@ -1,0 +1,82 @@
+//! Why a call has no result, why it isn't sent, and why an answer is none.
+use std::alloc::AllocError;
+use thiserror::Error;
+use tl_types::Cause;
+
+/// Why a call's result is no type that is answered in.
+#[derive(Clone, Copy, Debug, PartialEq, Eq, Error)]
+pub enum ResultCause {
+    /// It has more than 16 levels.
+    #[error("a result deeper than 16 levels")]
+    TypeTooDeep,
+    /// An argument in it is a bare constructor that takes no bytes.
+    #[error("a result with an argument that takes no bytes")]
+    EmptyElement,
+}
+
+/// Why no result is made.
+#[derive(Clone, Copy, Debug, PartialEq, Eq, Error)]
+pub enum ResultFault {
+    #[error("{0}")]
+    Refused(ResultCause),
+    #[error("out of memory")]
+    Memory,
+}
+
+/// Why a call is not sent.
+#[derive(Clone, Copy, Debug, PartialEq, Eq, Error)]
+pub enum SendFault {
+    /// 1,024 calls are open.
+    #[error("1,024 calls are open")]
+    Full,
+    #[error("{0}")]
+    Result(ResultCause),
+    #[error("out of memory")]
+    Memory,
+}
+
+/// Why the bytes are no answer to their call, which stays open.
+#[derive(Clone, Copy, Debug, PartialEq, Eq, Error)]
+pub enum AnswerFault {
+    /// They begin no spelling of a value of the call's result: the item at this offset is none, for this cause.
+    #[error("refused at byte {place}: {cause}")]
+    Refused { place: u64, cause: Cause },
+    /// They go on at this offset, after a spelling.
+    #[error("more bytes from byte {place} on")]
+    Trailing { place: u64 },
+    #[error("out of memory")]
+    Memory,
+}
+
+impl From<AllocError> for ResultFault {
+    ghost use Rattle.std.specs.Prelude.{◌≡◌};
+    ghost use Rattle.tl_calls.specs.declared.fault.ResultFault.TheVariants.{Memory};
+
+    ghost from_gives = { λ _ e. e ≡ Memory };
+
+    fn from(_e: AllocError) -> ResultFault {
+        ResultFault::Memory
+    }
+}
+
+impl From<AllocError> for SendFault {
+    ghost use Rattle.std.specs.Prelude.{◌≡◌};
+    ghost use Rattle.tl_calls.specs.declared.fault.SendFault.TheVariants.{Memory};
+
+    ghost from_gives = { λ _ e. e ≡ Memory };
+
+    fn from(_e: AllocError) -> SendFault {
+        SendFault::Memory
+    }
+}
+
+impl From<AllocError> for AnswerFault {
+    ghost use Rattle.std.specs.Prelude.{◌≡◌};
+    ghost use Rattle.tl_calls.specs.declared.fault.AnswerFault.TheVariants.{Memory};
+
+    ghost from_gives = { λ _ e. e ≡ Memory };
+
+    fn from(_e: AllocError) -> AnswerFault {
+        AnswerFault::Memory
+    }
+}
