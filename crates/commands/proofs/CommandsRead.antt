@@ -106,6 +106,10 @@ pub layers_enters : (rest : List Text) → Enters (codes "layers") (leaf (codes 
 unfolding clap_on_literals
 layers_enters = enters (codes "layers") _ refl refl refl
 
+pub calls_enters : (rest : List Text) → Enters (codes "calls") (leaf (codes "calls") (codes "SCHEMA" ∷ codes "INPUT" ∷ [])) rest
+unfolding clap_on_literals
+calls_enters = enters (codes "calls") _ refl refl refl
+
 -- ---- words of no command
 
 missing : fault_of table [] ≡ MissingSubcommand ∷ []
@@ -122,7 +126,7 @@ NoneOf (r ∷ rs) w = (bytes_eq r.0 w ≡ false) × NoneOf rs w
 
 stray : (x : ℕ) (xs : Text) → eqb x 45 ≡ false → NoneOf rows (x ∷ xs) → turn_fault top names start (x ∷ xs) ≡ UnknownArgument ∷ InvalidSubcommand ∷ []
 unfolding clap_on_literals
-stray x xs e other = simp (e, other.0, other.1.0, other.1.1.0, other.1.1.1.0, other.1.1.1.1.0, other.1.1.1.1.1.0, other.1.1.1.1.1.1.0, other.1.1.1.1.1.1.1.0, other.1.1.1.1.1.1.1.1.0)
+stray x xs e other = simp (e, other.0, other.1.0, other.1.1.0, other.1.1.1.0, other.1.1.1.1.0, other.1.1.1.1.1.0, other.1.1.1.1.1.1.0, other.1.1.1.1.1.1.1.0, other.1.1.1.1.1.1.1.1.0, other.1.1.1.1.1.1.1.1.1.0)
 
 pub no_command : (w : Text) (rest : List Text) → IsOperand w → NoneOf rows w → fault_of table (w ∷ rest) ≡ [] → ⊥
 unfolding walk_fault

@@ -17,7 +17,7 @@ use Rattle.command_base.proofs.Views.{told_as, told_both, told_then}
 use Rattle.session_commands.proofs.ClientKept.{client_errors, client_then}
 use Rattle.session_commands.proofs.PostKept.{post_errors, post_then}
 use Rattle.session_commands.proofs.ServeKept.{serve_errors, serve_then}
-use Rattle.commands.specs.Requests.{RequestText, check, decode, encode, replay, make, serve, post, client, layers, AsksFor, AsksNothing, job_of}
+use Rattle.commands.specs.Requests.{RequestText, check, decode, encode, replay, make, serve, post, client, layers, calls, AsksFor, AsksNothing, job_of}
 use Rattle.commands.specs.Answers.{usage, usage_line, no_request, requested}
 use Rattle.commands.specs.Runs.{MayAnswer, StopsAfter, Ends, answered, read_failed, read_failed_later, write_failed, link_failed, out_of_memory, out_of_memory_later, Keeps, LeavesLinks, AnswerFits}
 use Rattle.commands.proofs.OneAnswer.{answer_to}
@@ -107,6 +107,7 @@ rest_keeps (serve schema address sessions) v w = serve_errors schema v w
 rest_keeps (post schema address input) v w = post_errors schema input v w
 rest_keeps (client schema address state channels) v w = client_errors schema address state channels v w
 rest_keeps (layers old new type) v w = errors_unread _ v w
+rest_keeps (calls schema input) v w = errors_unread _ v w
 
 pub memory_kept : (words : List (List ℕ)) (a b : Option View) → Told a b OnlyErrors → Told a b (Keeps words)
 memory_kept words a b = told_as a b OnlyErrors (Keeps words) (λ v w rest. record { of_none = λ asks. rest; of_request = λ r asks. rest_keeps r v w rest })
@@ -129,6 +130,7 @@ module _ (words : List (List ℕ)) (r : RequestText) (asks : AsksFor words r) wh
   kept_then (post schema address input) v u w = post_then schema input v u w
   kept_then (client schema address state channels) v u w = client_then schema address state channels v u w
   kept_then (layers old new type) v u w = unread_then _ v u w
+  kept_then (calls schema input) v u w = unread_then _ v u w
 
   pub done_kept : (a b : Option View) → Told a b (job_of r).keeps → Told a b (Keeps words)
   done_kept a b = told_as a b (job_of r).keeps (Keeps words) job_kept

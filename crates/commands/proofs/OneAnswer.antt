@@ -1,9 +1,10 @@
--- Words have one answer at most over an outside that shows bytes.
+-- Words have one answer at most.
 use Rattle.std.proofs.Common.{◌≡◌, List, ℕ, sym, ◌∙◌, subst}
-use Rattle.tl_base.specs.Outside.{View, ShowsBytes}
+use Rattle.tl_base.specs.Outside.{View}
 use Rattle.command_base.specs.Answer.{Answer}
-use Rattle.commands.specs.Requests.{RequestText, check, decode, encode, replay, make, serve, post, client, layers, AsksFor, AsksNothing}
+use Rattle.commands.specs.Requests.{RequestText, check, decode, encode, replay, make, serve, post, client, layers, calls, AsksFor, AsksNothing, ShowsBytesFor}
 use Rattle.commands.specs.Answers.{usage, AnswerTo, Answers, no_request, requested, HasOneAnswer}
+use Rattle.call_commands.proofs.OneCalls.{one_calls}
 use Rattle.codec_commands.proofs.OneCheck.{one_check}
 use Rattle.codec_commands.proofs.OneDecode.{one_decode}
 use Rattle.codec_commands.proofs.OneEncode.{one_encode}
@@ -16,16 +17,17 @@ use Rattle.update_commands.proofs.OneMake.{one_make}
 use Rattle.update_commands.proofs.ProfiledFiles.{one_replay}
 use Rattle.commands.proofs.Rows.{one_request}
 
-one_to : (r : RequestText) (v : View) → ShowsBytes v → (a c : Answer) → AnswerTo r v a → AnswerTo r v c → a ≡ c
+one_to : (r : RequestText) (v : View) → ShowsBytesFor v r → (a c : Answer) → AnswerTo r v a → AnswerTo r v c → a ≡ c
 one_to (check schema) v shows a c = one_check v.files schema a c
 one_to (decode schema type input) v shows a c = one_decode v.files schema type input a c
 one_to (encode schema type input) v shows a c = one_encode v.files schema type input a c
-one_to (replay schema journal clients) v shows a c = one_replay v.files shows.files journal clients schema a c
+one_to (replay schema journal clients) v shows a c = one_replay v.files shows journal clients schema a c
 one_to (make schema number steps) v shows a c = one_make number steps v.files schema a c
 one_to (serve schema address sessions) v shows a c = one_serve v.files v.links shows.links v.moments schema address sessions a c
 one_to (post schema address input) v shows a c = one_post v.files _ (link_bytes v shows) schema address input a c
 one_to (client schema address state channels) v shows a c = one_recovery v.files shows.files _ (link_bytes v shows) schema address state channels a c
 one_to (layers old new type) v shows a c = one_layers v.files old new type a c
+one_to (calls schema input) v shows a c = one_calls v.files shows schema input a c
 
 module _ (words : List (List ℕ)) (v : View) where
   -- the answer to words that ask for this
@@ -39,4 +41,4 @@ module _ (words : List (List ℕ)) (v : View) where
 
 pub one_answer : HasOneAnswer
 one_answer words v shows a c (no_request none is) k = is ∙ sym (unasked words v c none k)
-one_answer words v shows a c (requested r asks h) k = one_to r v shows a c h (answer_to words v r c asks k)
+one_answer words v shows a c (requested r asks h) k = one_to r v (shows r asks) a c h (answer_to words v r c asks k)

@@ -74,6 +74,48 @@ module _ (command a : Text) where
   one_only P ((x ∷ xs) ∷ [] ∷ rest) o none p = absurd o.1.0
   one_only P ((x ∷ xs) ∷ (y ∷ ys) ∷ rest) o none p = never _ _ (two_unknown x y xs ys rest (ne_eqb x 45 o.0) (ne_eqb y 45 o.1.0)) (first_none _ _ none)
 
+-- ---- a row of two operands
+
+module _ (command a b : Text) (ab : bytes_eq a b ≡ false) where
+  abbrev two : Shape
+  two = leaf command (a ∷ b ∷ [])
+
+  pub two_fit : (s t : Text) → IsOperand s → IsOperand t → faults two (s ∷ t ∷ []) ≡ []
+  unfolding clap_on_literals
+  two_fit [] t os ot = absurd os
+  two_fit (x ∷ xs) [] os ot = absurd ot
+  two_fit (x ∷ xs) (y ∷ ys) os ot = simp (ne_eqb x 45 os, ne_eqb y 45 ot, ab, same a, same b)
+
+  pub two_read : (s t : Text) → IsOperand s → IsOperand t → rows_at two (s ∷ t ∷ []) ≡ (command, given a s ∷ given b t ∷ [])
+  unfolding clap_on_literals
+  two_read [] t os ot = absurd os
+  two_read (x ∷ xs) [] os ot = absurd ot
+  two_read (x ∷ xs) (y ∷ ys) os ot = simp (ne_eqb x 45 os, ne_eqb y 45 ot, ab, same a, same b)
+
+  both_missing : faults two [] ≡ MissingRequiredArgument ∷ []
+  unfolding clap_on_literals
+  both_missing = refl
+
+  second_missing : (x : ℕ) (xs : Text) → eqb x 45 ≡ false → faults two ((x ∷ xs) ∷ []) ≡ MissingRequiredArgument ∷ []
+  unfolding clap_on_literals
+  second_missing x xs e = simp (e, ab, same a)
+
+  three_unknown : (x y z : ℕ) (xs ys zs : Text) (rest : List Text) → eqb x 45 ≡ false → eqb y 45 ≡ false → eqb z 45 ≡ false
+      → walk_fault two [] (walk_from nothing_held) ((x ∷ xs) ∷ (y ∷ ys) ∷ (z ∷ zs) ∷ rest) ≡ UnknownArgument ∷ []
+  unfolding clap_on_literals
+  three_unknown x y z xs ys zs rest e f g = simp (e, f, g, ab, same a)
+
+  -- words that are taken are two operands
+  pub two_only : (P : List Text → Type 0) (words : List Text) → Operands words → faults two words ≡ [] → ((s t : Text) → IsOperand s → IsOperand t → P (s ∷ t ∷ [])) → P words
+  two_only P [] o none p = never _ _ both_missing none
+  two_only P ([] ∷ rest) o none p = absurd o.0
+  two_only P ((x ∷ xs) ∷ []) o none p = never _ _ (second_missing x xs (ne_eqb x 45 o.0)) none
+  two_only P ((x ∷ xs) ∷ t ∷ []) o none p = p (x ∷ xs) t o.0 o.1.0
+  two_only P ((x ∷ xs) ∷ [] ∷ u ∷ rest) o none p = absurd o.1.0
+  two_only P ((x ∷ xs) ∷ (y ∷ ys) ∷ [] ∷ rest) o none p = absurd o.1.1.0
+  two_only P ((x ∷ xs) ∷ (y ∷ ys) ∷ (z ∷ zs) ∷ rest) o none p =
+      never _ _ (three_unknown x y z xs ys zs rest (ne_eqb x 45 o.0) (ne_eqb y 45 o.1.0) (ne_eqb z 45 o.1.1.0)) (first_none _ _ none)
+
 -- ---- a row of three operands
 
 module _ (command a b c : Text) (ab : bytes_eq a b ≡ false) (ac : bytes_eq a c ≡ false) (bc : bytes_eq b c ≡ false) where

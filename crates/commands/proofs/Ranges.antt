@@ -1,6 +1,6 @@
 -- The numbers of a request are those that its row takes.
 use Rattle.std.proofs.Common.{List, ℕ}
-use Rattle.commands.specs.Requests.{RequestText, check, decode, encode, replay, make, serve, post, client, layers, AsksFor, IsInRange}
+use Rattle.commands.specs.Requests.{RequestText, check, decode, encode, replay, make, serve, post, client, layers, calls, AsksFor, IsInRange}
 
 pub in_range : (words : List (List ℕ)) (r : RequestText) → AsksFor words r → IsInRange r
 in_range words (check schema) asks = tt
@@ -12,3 +12,4 @@ in_range words (serve schema address sessions) (n, is, os, oa, number) = (number
 in_range words (post schema address input) asks = tt
 in_range words (client schema address state channels) asks = tt
 in_range words (layers old new type) asks = tt
+in_range words (calls schema input) asks = tt

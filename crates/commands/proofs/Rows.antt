@@ -6,7 +6,7 @@ use Rattle.commands.proofs.Decided.{Decided, decided_as, decided_and, decided_no
 use Rattle.commands.proofs.NumberWords.{number_decided}
 use Rattle.commands.proofs.Channels.{channels_are, channels_decided}
 use Rattle.commands.specs.Numbers.{IsNumberWord, number_from}
-use Rattle.commands.specs.Requests.{RequestText, check, decode, encode, replay, make, serve, post, client, layers, IsOperand, AreChannels, clients_range, run_range, sessions_range, steps_range, AsksFor, AsksNothing}
+use Rattle.commands.specs.Requests.{RequestText, check, decode, encode, replay, make, serve, post, client, layers, calls, IsOperand, AreChannels, clients_range, run_range, sessions_range, steps_range, AsksFor, AsksNothing}
 use Rattle.commands.specs.CommandLine.{channel_of}
 use Rattle.commands.specs.declared.number.Range.{Range}
 use Rattle.commands.specs.Answers.{Asks, nothing, something}
@@ -16,7 +16,7 @@ use Rattle.commands.specs.Answers.{Asks, nothing, something}
 -- the request that words may ask for, by the first two letters of the command
 abbrev of_letters : ℕ → ℕ → List ℕ → List ℕ → List ℕ → List (List ℕ) → RequestText
 of_letters letter second a b c more =
-    if letter == 99 then (if second == 108 then client a b c (map channel_of more) else check a)
+    if letter == 99 then (if second == 108 then client a b c (map channel_of more) else if second == 97 then calls a b else check a)
     else if letter == 100 then decode a b c
     else if letter == 101 then encode a b c
     else if letter == 108 then layers a b c
@@ -38,6 +38,7 @@ asked_is words (serve schema address sessions) (n, is, os, oa, number) = ap may_
 asked_is words (post schema address input) asks = ap may_ask_for asks.0
 asked_is words (client schema address state channels) (more, is, os, oa, ot, each) = ap may_ask_for is ∙ ap (client schema address state) (channels_are more channels each)
 asked_is words (layers old new type) asks = ap may_ask_for asks.0
+asked_is words (calls schema input) asks = ap may_ask_for asks.0
 
 pub one_request : (words : List (List ℕ)) (r s : RequestText) → AsksFor words r → AsksFor words s → r ≡ s
 one_request words r s p q = sym (asked_is words r p) ∙ asked_is words s q
@@ -67,6 +68,10 @@ row_decided (x ∷ xs) (y ∷ ys) = rows x y xs ys (text_decided x y) (row_decid
 three_decided : (words : List (List ℕ)) (command schema type input : List ℕ) → Decided ((words ≡ command ∷ schema ∷ type ∷ input ∷ []) × IsOperand schema × IsOperand type × IsOperand input)
 three_decided words command schema type input = decided_as (λ h. (h.0.0, h.0.1, h.1.0, h.1.1)) (λ h. ((h.0, h.1), (h.2, h.3)))
     (decided_and (decided_and (row_decided words (command ∷ schema ∷ type ∷ input ∷ [])) (operand_decided schema)) (decided_and (operand_decided type) (operand_decided input)))
+
+-- of a command with two operands
+two_decided : (words : List (List ℕ)) (command schema input : List ℕ) → Decided ((words ≡ command ∷ schema ∷ input ∷ []) × IsOperand schema × IsOperand input)
+two_decided words command schema input = decided_as (λ h. (h.0.0, h.0.1, h.1)) (λ h. ((h.0, h.1), h.2)) (decided_and (decided_and (row_decided words (command ∷ schema ∷ input ∷ [])) (operand_decided schema)) (operand_decided input))
 
 -- of a command with two operands and a number
 module _ (words : List (List ℕ)) (command schema other : List ℕ) (range : Range) (n : ℕ) where
@@ -115,6 +120,7 @@ asked_decided words (client schema address state channels) =
     (decided_and (decided_and (row_decided words (codes "client" ∷ schema ∷ address ∷ state ∷ more)) (operand_decided schema))
     (decided_and (decided_and (operand_decided address) (operand_decided state)) (channels_decided more channels)))
 asked_decided words (layers old new type) = three_decided words (codes "layers") old new type
+asked_decided words (calls schema input) = two_decided words (codes "calls") schema input
 
 asks_from : (words : List (List ℕ)) → Decided (AsksFor words (may_ask_for words)) → Asks words
 asks_from words (inl asks) = something (may_ask_for words) asks

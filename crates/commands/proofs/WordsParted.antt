@@ -2,7 +2,7 @@
 use Rattle.std.proofs.Common.{◌≡◌, ◌∙◌, ◌++◌, ℕ, ℤ, List, [], ◌∷◌, Bool, true, false, take, drop, map, refl, sym, ap, ap₂, subst, Option, Some, Result, Ok, Err, option_map, codes, true≢false}
 use Rattle.std.specs.Prelude.{IfOk}
 use Rattle.std.proofs.lemmas.List.{take-append-drop, drop-take}
-use Rattle.commands.specs.Requests.{RequestText, check, decode, encode, replay, make, serve, post, client, layers, AsksFor, AsksNothing, FindsRequest, request_text}
+use Rattle.commands.specs.Requests.{RequestText, check, decode, encode, replay, make, serve, post, client, layers, calls, AsksFor, AsksNothing, FindsRequest, request_text}
 use Rattle.commands.specs.declared.request.Request.{Request}
 use Rattle.commands.specs.CommandLine.{begins_client, fixed_words, more_words, are_channels, channel_of, with_channels}
 use Rattle.commands.proofs.Channels.{all_channels, channels_there}
@@ -28,6 +28,7 @@ only_client P words (serve schema address sessions) begins asks each = another w
 only_client P words (post schema address input) begins asks each = another words _ refl asks.0 begins
 only_client P words (client schema address state channels) begins asks each = each schema address state channels asks
 only_client P words (layers old new type) begins asks each = another words _ refl asks.0 begins
+only_client P words (calls schema input) begins asks each = another words _ refl asks.0 begins
 
 -- a request of another command has no channels
 kept : (ws words : Words) (r : RequestText) → begins_client words ≡ false → AsksFor words r → with_channels ws r ≡ Some r
@@ -40,6 +41,7 @@ kept ws words (serve schema address sessions) not asks = refl
 kept ws words (post schema address input) not asks = refl
 kept ws words (client schema address state channels) not asks = absurd (true≢false (sym (ap begins_client asks.1) ∙ not))
 kept ws words (layers old new type) not asks = refl
+kept ws words (calls schema input) not asks = refl
 
 -- ---- the words' parts
 

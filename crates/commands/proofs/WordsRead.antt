@@ -9,12 +9,12 @@ use Rattle.clap.specs.Words.{App, Text, Row, fault_of, subcommand_of, is_simple,
 use Rattle.clap.specs.declared.error.Error.{Error}
 use Rattle.clap.specs.declared.error.kind.ErrorKind.TheVariants.{OutOfMemory}
 use Rattle.commands.specs.Numbers.{number_from, is_number}
-use Rattle.commands.specs.Requests.{RequestText, check, decode, encode, replay, make, serve, post, client, layers, IsOperand, AreChannels, clients_range, run_range, channel_range, sessions_range, steps_range, AsksFor, AsksNothing, FindsRequest, request_text}
+use Rattle.commands.specs.Requests.{RequestText, check, decode, encode, replay, make, serve, post, client, layers, calls, IsOperand, AreChannels, clients_range, run_range, channel_range, sessions_range, steps_range, AsksFor, AsksNothing, FindsRequest, request_text}
 use Rattle.commands.specs.declared.request.Request.{Request}
 use Rattle.commands.specs.CommandLine.{RowText, rows, table, request_in, replayed, drawn, served, more_words}
-use Rattle.commands.proofs.CommandsRead.{Enters, NoneOf, table_is_simple, table_is_free, check_enters, decode_enters, encode_enters, replay_enters, make_enters, serve_enters, post_enters, client_enters, layers_enters, no_words, no_command}
+use Rattle.commands.proofs.CommandsRead.{Enters, NoneOf, table_is_simple, table_is_free, check_enters, decode_enters, encode_enters, replay_enters, make_enters, serve_enters, post_enters, client_enters, layers_enters, calls_enters, no_words, no_command}
 use Rattle.commands.proofs.NumberWords.{is_number_word, no_number_word, number_operand}
-use Rattle.commands.proofs.OperandsRead.{Operands, leaf, given, one_fits, one_read, one_only, three_fit, three_read, three_only}
+use Rattle.commands.proofs.OperandsRead.{Operands, leaf, given, one_fits, one_read, one_only, two_fit, two_read, two_only, three_fit, three_read, three_only}
 use Rattle.commands.proofs.Rows.{asks_nothing}
 
 -- ---- operands
@@ -36,6 +36,7 @@ asked_operands words (serve schema address sessions) (n, is, os, oa, number) = s
 asked_operands words (post schema address input) asks = subst Operands (sym asks.0) (eqb-false 112 45 refl, (asks.1, (asks.2, (asks.3, tt))))
 asked_operands words (client schema address state channels) (more, is, os, oa, ot, each) = subst Operands (sym is) (eqb-false 99 45 refl, (os, (oa, (ot, channels_operands more channels each))))
 asked_operands words (layers old new type) asks = subst Operands (sym asks.0) (eqb-false 108 45 refl, (asks.1, (asks.2, (asks.3, tt))))
+asked_operands words (calls schema input) asks = subst Operands (sym asks.0) (eqb-false 99 45 refl, (asks.1, (asks.2, tt)))
 
 module _ {A : Type 0} (f : A → Text) where
   pub operands_from : (xs : List A) → All (λ w. IsOperand (f w)) xs → Operands (map f xs)
@@ -73,6 +74,16 @@ module _ (command a : Text) (goes : (rest : List Text) → Enters command (leaf 
       one_only command a (λ rest. MakesOf (command ∷ rest) (subcommand_of table (command ∷ rest))) rest o.1 (sym (goes rest).fault ∙ none)
       (λ s os. subst (MakesOf (command ∷ s ∷ [])) (sym ((goes (s ∷ [])).found ∙ ap Some (one_read command a s os))) (makes s os))
 
+-- a command of two operands
+module _ (command a b : Text) (ab : bytes_eq a b ≡ false) (goes : (rest : List Text) → Enters command (leaf command (a ∷ b ∷ [])) rest) where
+  two_taken : (words : List Text) (s t : Text) → words ≡ command ∷ s ∷ t ∷ [] → IsOperand s → IsOperand t → fault_of table words ≡ []
+  two_taken words s t is os ot = ap (fault_of table) is ∙ (goes (s ∷ t ∷ [])).fault ∙ two_fit command a b ab s t os ot
+
+  two_made : ((s t : Text) → IsOperand s → IsOperand t → MakesOf (command ∷ s ∷ t ∷ []) (Some (command, given a s ∷ given b t ∷ []))) → (rest : List Text) → Made (command ∷ rest)
+  two_made makes rest o none =
+      two_only command a b ab (λ rest. MakesOf (command ∷ rest) (subcommand_of table (command ∷ rest))) rest o.1 (sym (goes rest).fault ∙ none)
+      (λ s t os ot. subst (MakesOf (command ∷ s ∷ t ∷ [])) (sym ((goes (s ∷ t ∷ [])).found ∙ ap Some (two_read command a b ab s t os ot))) (makes s t os ot))
+
 -- a command of three operands
 module _ (command a b c : Text) (ab : bytes_eq a b ≡ false) (ac : bytes_eq a c ≡ false) (bc : bytes_eq b c ≡ false) (goes : (rest : List Text) → Enters command (leaf command (a ∷ b ∷ c ∷ [])) rest) where
   three_taken : (words : List Text) (s t u : Text) → words ≡ command ∷ s ∷ t ∷ u ∷ [] → IsOperand s → IsOperand t → IsOperand u → fault_of table words ≡ []
@@ -108,6 +119,7 @@ row_fits words (client schema address state channels) all (more, is, os, oa, ot,
     three_taken (codes "client") (codes "SCHEMA") (codes "ADDRESS") (codes "STATE") refl refl refl client_enters words schema address state (client_alone words more schema address state all is) os oa ot
 row_fits words (layers old new type) all asks =
     three_taken (codes "layers") (codes "OLD") (codes "NEW") (codes "TYPE") refl refl refl layers_enters words old new type asks.0 asks.1 asks.2 asks.3
+row_fits words (calls schema input) all asks = two_taken (codes "calls") (codes "SCHEMA") (codes "INPUT") refl calls_enters words schema input asks.0 asks.1 asks.2
 
 -- so words that are refused, and not for memory, are no row
 refused : (words : List Text) (e : Error) → HasKind (fault_of table words) e → (kind_of e ≡ OutOfMemory → ⊥) → fault_of table words ≡ [] → ⊥
@@ -169,13 +181,16 @@ client_made = three_made (codes "client") (codes "SCHEMA") (codes "ADDRESS") (co
 layers_made : (rest : List Text) → Made (codes "layers" ∷ rest)
 layers_made = three_made (codes "layers") (codes "OLD") (codes "NEW") (codes "TYPE") refl refl refl layers_enters (λ s t i os ot oi. (refl, os, ot, oi))
 
+calls_made : (rest : List Text) → Made (codes "calls" ∷ rest)
+calls_made = two_made (codes "calls") (codes "SCHEMA") (codes "INPUT") refl calls_enters (λ s i os oi. (refl, os, oi))
+
 -- words that begin with these rows' commands
 abbrev EachMade : List RowText → Type 0
 EachMade [] = Unit {0}
 EachMade (r ∷ rs) = ((rest : List Text) → Made (r.0 ∷ rest)) × EachMade rs
 
 each_made : EachMade rows
-each_made = (check_made, (decode_made, (encode_made, (replay_made, (make_made, (serve_made, (post_made, (client_made, (layers_made, tt)))))))))
+each_made = (check_made, (decode_made, (encode_made, (replay_made, (make_made, (serve_made, (post_made, (client_made, (layers_made, (calls_made, tt))))))))))
 
 named : (command w : Text) (rest : List Text) → bytes_eq command w ≡ true → Made (command ∷ rest) → Made (w ∷ rest)
 named command w rest is = subst (λ (x : Text). Made (x ∷ rest)) ((bytes_eq-Decides command w).0 is)

@@ -1,11 +1,12 @@
 -- What the program answers: its status, what it writes, and what it leaves. This project's own.
 use Rattle.std.specs.Prelude.{◌≡◌, ℕ, List, codes}
-use Rattle.tl_base.specs.Outside.{View, ShowsBytes}
+use Rattle.tl_base.specs.Contents.{HoldBytes}
+use Rattle.tl_base.specs.Outside.{View}
 use Rattle.command_base.specs.Answer.{Answer, misused}
-use Rattle.commands.specs.Requests.{RequestText, AsksFor, AsksNothing, HasFilesOf, HasComingOf, job_of}
+use Rattle.commands.specs.Requests.{RequestText, AsksFor, AsksNothing, HasFilesOf, HasComingOf, ShowsBytesFor, job_of}
 
 abbrev pub usage_line : List ℕ
-usage_line = codes "usage: tlbox check SCHEMA, decode SCHEMA TYPE INPUT, encode SCHEMA TYPE INPUT, replay SCHEMA JOURNAL CLIENTS, make SCHEMA NUMBER STEPS, serve SCHEMA ADDRESS SESSIONS, post SCHEMA ADDRESS INPUT, client SCHEMA ADDRESS STATE [CHANNEL ..], layers OLD NEW TYPE\n"
+usage_line = codes "usage: tlbox check SCHEMA, decode SCHEMA TYPE INPUT, encode SCHEMA TYPE INPUT, replay SCHEMA JOURNAL CLIENTS, make SCHEMA NUMBER STEPS, serve SCHEMA ADDRESS SESSIONS, post SCHEMA ADDRESS INPUT, client SCHEMA ADDRESS STATE [CHANNEL ..], layers OLD NEW TYPE, calls SCHEMA INPUT\n"
 
 abbrev pub usage : Answer
 usage = misused usage_line
@@ -19,9 +20,13 @@ pub data Answers (words : List (List ℕ)) (v : View) (a : Answer) : Type 0 wher
   no_request : AsksNothing words → a ≡ usage → Answers words v a
   requested : (r : RequestText) → AsksFor words r → AnswerTo r v a → Answers words v a
 
--- words have one answer at most over an outside that shows bytes
+-- the outside shows bytes as far as the words ask for what rests on that
+abbrev pub ShowsBytesAsked : List (List ℕ) → View → Type 0
+ShowsBytesAsked words v = (r : RequestText) → AsksFor words r → ShowsBytesFor v r
+
+-- words have one answer at most
 abbrev pub HasOneAnswer : Type 0
-HasOneAnswer = (words : List (List ℕ)) (v : View) → ShowsBytes v → (a b : Answer) → Answers words v a → Answers words v b → a ≡ b
+HasOneAnswer = (words : List (List ℕ)) (v : View) → ShowsBytesAsked words v → (a b : Answer) → Answers words v a → Answers words v b → a ≡ b
 
 -- words ask for nothing, or for a request
 pub data Asks (words : List (List ℕ)) : Type 0 where
@@ -33,11 +38,11 @@ abbrev pub Answered : List (List ℕ) → View → Type 0
 Answered words v = (a : Answer) × Answers words v a
 
 -- Words of no request have the answer `usage`. Those of a request have an answer where the files that it names are there, and what is to come is as it
--- takes it.
+-- takes it, in bytes.
 pub record AreAnswered (words : List (List ℕ)) (v : View) : Type 0 where
   pub of_none : AsksNothing words → Answers words v usage
-  pub of_request : (r : RequestText) → AsksFor words r → HasFilesOf v.files r → HasComingOf v r → Answered words v
+  pub of_request : (r : RequestText) → AsksFor words r → HasFilesOf v.files r → ShowsBytesFor v r → HasComingOf v r → Answered words v
 
--- words have an answer over an outside that shows bytes
+-- words have an answer over an outside whose files hold bytes
 abbrev pub HasAnAnswer : Type 0
-HasAnAnswer = (words : List (List ℕ)) (v : View) → ShowsBytes v → AreAnswered words v
+HasAnAnswer = (words : List (List ℕ)) (v : View) → HoldBytes v.files → AreAnswered words v

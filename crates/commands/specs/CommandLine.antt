@@ -5,7 +5,7 @@ use Rattle.std.specs.List.{fold}
 use Rattle.std.specs.Str.{bytes_eq}
 use Rattle.clap.specs.Words.{App, Row, Rule, Text, first_of, new_app, new_rule, with_subcommand}
 use Rattle.commands.specs.Numbers.{number_from, number_of, is_number}
-use Rattle.commands.specs.Requests.{RequestText, check, decode, encode, replay, make, serve, post, client, layers, channel_range, clients_range, run_range, sessions_range, steps_range}
+use Rattle.commands.specs.Requests.{RequestText, check, decode, encode, replay, make, serve, post, client, layers, calls, channel_range, clients_range, run_range, sessions_range, steps_range}
 use Rattle.commands.specs.declared.table.Row.{Row as TableRow}
 
 -- an operand, which has to be there
@@ -38,6 +38,7 @@ rows =
     ∷ (codes "post", codes "SCHEMA" ∷ codes "ADDRESS" ∷ codes "INPUT" ∷ [])
     ∷ (codes "client", codes "SCHEMA" ∷ codes "ADDRESS" ∷ codes "STATE" ∷ [])
     ∷ (codes "layers", codes "OLD" ∷ codes "NEW" ∷ codes "TYPE" ∷ [])
+    ∷ (codes "calls", codes "SCHEMA" ∷ codes "INPUT" ∷ [])
     ∷ []
 
 abbrev pub with_row : App → RowText → App
@@ -107,6 +108,14 @@ client_of word = typed (λ schema address state. client schema address state [])
 abbrev pub layers_of : (Text → Option Text) → Option RequestText
 layers_of word = typed layers (word (codes "OLD")) (word (codes "NEW")) (word (codes "TYPE"))
 
+-- what is asked of two operands
+abbrev pub paired : (Text → Text → RequestText) → Option Text → Option Text → Option RequestText
+paired asks (Some a) (Some b) = Some (asks a b)
+paired asks _ _ = None
+
+abbrev pub calls_of : (Text → Option Text) → Option RequestText
+calls_of word = paired calls (word (codes "SCHEMA")) (word (codes "INPUT"))
+
 abbrev pub request_at : Text → (Text → Option Text) → Option RequestText
 request_at command word =
     if bytes_eq command (codes "check") then check_of word
@@ -118,6 +127,7 @@ request_at command word =
     else if bytes_eq command (codes "post") then post_of word
     else if bytes_eq command (codes "client") then client_of word
     else if bytes_eq command (codes "layers") then layers_of word
+    else if bytes_eq command (codes "calls") then calls_of word
     else None
 
 -- the request of the command that clap found, and of what it found for each operand

@@ -1,8 +1,9 @@
 -- The table of requests: what words ask for, which files that takes, and the job that is done. This project's own.
 use Rattle.std.specs.Prelude.{◌≡◌, ◌≢◌, ◌<◌, ◌≤◌, ◌^◌, ℕ, ℤ, pos, negsuc, List, [], ◌∷◌, Option, Some, None, codes, length}
 use Rattle.std.specs.List.{AllByRecursion}
-use Rattle.tl_base.specs.Contents.{Files}
-use Rattle.tl_base.specs.Outside.{View, HasFile}
+use Rattle.tl_base.specs.Contents.{Files, HoldBytes}
+use Rattle.tl_base.specs.Outside.{View, HasFile, ShowsBytes}
+use Rattle.call_commands.specs.Calls.{calls_job}
 use Rattle.command_base.specs.Jobs.{Job}
 use Rattle.codec_commands.specs.Check.{check_job}
 use Rattle.codec_commands.specs.Decode.{decode_job}
@@ -17,7 +18,7 @@ use Rattle.update_commands.specs.Replay.{replay_job}
 use Rattle.commands.specs.Numbers.{IsNumberWord}
 use Rattle.commands.specs.declared.number.Range.{Range}
 use Rattle.commands.specs.declared.request.Request.{Request}
-use Rattle.commands.specs.declared.request.Request.TheVariants.{Check, Client, Decode, Encode, Layers, Make, Post, Replay, Serve}
+use Rattle.commands.specs.declared.request.Request.TheVariants.{Calls, Check, Client, Decode, Encode, Layers, Make, Post, Replay, Serve}
 
 -- what a run is asked for, each operand as its bytes or its number
 pub data RequestText : Type 0 where
@@ -30,6 +31,7 @@ pub data RequestText : Type 0 where
   post : (schema address input : List ℕ) → RequestText
   client : (schema address state : List ℕ) → (channels : List ℤ) → RequestText
   layers : (old new type : List ℕ) → RequestText
+  calls : (schema input : List ℕ) → RequestText
 
 -- a word that may be an operand: it is not empty and does not begin with `-`
 abbrev pub IsOperand : List ℕ → Type 0
@@ -67,7 +69,8 @@ AreChannels (w ∷ ws) (id ∷ ids) = IsChannelWord w id × AreChannels ws ids
 AreChannels _ _ = ⊥
 
 -- the words are the request's row: `check SCHEMA`, `decode SCHEMA TYPE INPUT`, `encode SCHEMA TYPE INPUT`, `replay SCHEMA JOURNAL CLIENTS`,
--- `make SCHEMA NUMBER STEPS`, `serve SCHEMA ADDRESS SESSIONS`, `post SCHEMA ADDRESS INPUT`, `client SCHEMA ADDRESS STATE [CHANNEL ..]`, `layers OLD NEW TYPE`
+-- `make SCHEMA NUMBER STEPS`, `serve SCHEMA ADDRESS SESSIONS`, `post SCHEMA ADDRESS INPUT`, `client SCHEMA ADDRESS STATE [CHANNEL ..]`, `layers OLD NEW TYPE`,
+-- `calls SCHEMA INPUT`
 abbrev pub AsksFor : List (List ℕ) → RequestText → Type 0
 AsksFor words (check schema) = (words ≡ codes "check" ∷ schema ∷ []) × IsOperand schema
 AsksFor words (decode schema type input) = (words ≡ codes "decode" ∷ schema ∷ type ∷ input ∷ []) × IsOperand schema × IsOperand type × IsOperand input
@@ -81,6 +84,7 @@ AsksFor words (post schema address input) = (words ≡ codes "post" ∷ schema �
 AsksFor words (client schema address state channels) =
     (more : List (List ℕ)) × (words ≡ codes "client" ∷ schema ∷ address ∷ state ∷ more) × IsOperand schema × IsOperand address × IsOperand state × AreChannels more channels
 AsksFor words (layers old new type) = (words ≡ codes "layers" ∷ old ∷ new ∷ type ∷ []) × IsOperand old × IsOperand new × IsOperand type
+AsksFor words (calls schema input) = (words ≡ codes "calls" ∷ schema ∷ input ∷ []) × IsOperand schema × IsOperand input
 
 -- the words are those of no request
 abbrev pub AsksNothing : List (List ℕ) → Type 0
@@ -105,10 +109,20 @@ HasFilesOf files (serve schema address sessions) = IsFile files schema
 HasFilesOf files (post schema address input) = IsFile files schema × IsFile files input
 HasFilesOf files (client schema address state channels) = IsFile files schema × IsFile files state
 HasFilesOf files (layers old new type) = IsFile files old × IsFile files new
+HasFilesOf files (calls schema input) = IsFile files schema × IsFile files input
 
 -- moments have 31 bits, as each host's have
 abbrev pub AreMoments : List ℕ → Type 0
 AreMoments moments = AllByRecursion (λ moment. moment < 2 ^ 31) moments
+
+-- what has to be bytes, for the request to have one answer: files of which one item after another is read, and of requests over links all that is shown
+abbrev pub ShowsBytesFor : View → RequestText → Type 0
+ShowsBytesFor v (replay schema journal clients) = HoldBytes v.files
+ShowsBytesFor v (serve schema address sessions) = ShowsBytes v
+ShowsBytesFor v (post schema address input) = ShowsBytes v
+ShowsBytesFor v (client schema address state channels) = ShowsBytes v
+ShowsBytesFor v (calls schema input) = HoldBytes v.files
+ShowsBytesFor v r = Unit {0}
 
 -- what is to come is as the request takes it: for sessions such moments, and for a client fewer than 2^30 bytes from its link
 abbrev pub HasComingOf : View → RequestText → Type 0
@@ -127,6 +141,7 @@ job_of (serve schema address sessions) = serve_job schema address sessions
 job_of (post schema address input) = post_job schema address input
 job_of (client schema address state channels) = client_job schema address state channels
 job_of (layers old new type) = layers_job old new type
+job_of (calls schema input) = calls_job schema input
 
 -- ---- the request of the program
 
@@ -140,6 +155,7 @@ request_text (Serve schema address sessions) = serve schema.now address.now sess
 request_text (Post schema address input) = post schema.now address.now input.now
 request_text (Client schema address state channels) = client schema.now address.now state.now channels.items
 request_text (Layers old new type) = layers old.now new.now type.now
+request_text (Calls schema input) = calls schema.now input.now
 
 -- its numbers are those that its row takes
 abbrev pub IsInRange : RequestText → Type 0

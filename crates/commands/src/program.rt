@@ -9,6 +9,7 @@ ghost use Rattle.commands.specs.Requests.{AskForOne, AsksNothing, IsInRange, job
 ghost use Rattle.commands.specs.Runs.{AnswerFits, EndsOver, Keeps, LeavesLinks};
 
 use crate::request::{Request, request_of};
+use call_commands::tell_calls;
 use codec_commands::{check_schema, decode_input, encode_input};
 use command_base::{Status, Stop, report, tell};
 use layer_commands::compare_schemas;
@@ -19,7 +20,7 @@ use update_commands::{make_run, replay_journal};
 
 /// What is told where the words are no row.
 const USAGE: &[u8] =
-    b"usage: tlbox check SCHEMA, decode SCHEMA TYPE INPUT, encode SCHEMA TYPE INPUT, replay SCHEMA JOURNAL CLIENTS, make SCHEMA NUMBER STEPS, serve SCHEMA ADDRESS SESSIONS, post SCHEMA ADDRESS INPUT, client SCHEMA ADDRESS STATE [CHANNEL ..], layers OLD NEW TYPE\n";
+    b"usage: tlbox check SCHEMA, decode SCHEMA TYPE INPUT, encode SCHEMA TYPE INPUT, replay SCHEMA JOURNAL CLIENTS, make SCHEMA NUMBER STEPS, serve SCHEMA ADDRESS SESSIONS, post SCHEMA ADDRESS INPUT, client SCHEMA ADDRESS STATE [CHANNEL ..], layers OLD NEW TYPE, calls SCHEMA INPUT\n";
 
 /// Runs the program over an outside: the words without the program's name, and the status that it ends with.
 pub fn run<H: Host>(alloc: Global, words: &[String], host: &mut H) -> Status
@@ -86,5 +87,6 @@ fn answer<H: Host>(alloc: Global, host: &mut H, request: Request) -> Result<Stat
             channels,
         } => recover_client(alloc, host, schema, address, state, channels.as_slice()),
         Request::Layers { old, new, of } => compare_schemas(alloc, host, old, new, of),
+        Request::Calls { schema, input } => tell_calls(alloc, host, schema, input),
     }
 }

@@ -4,7 +4,7 @@ ghost use Rattle.std.specs.List.{All};
 ghost use Rattle.clap.specs.Words.{first_value, found_of, subcommand_rows_of};
 ghost use Rattle.commands.specs.Numbers.{number_of};
 ghost use Rattle.commands.specs.Requests.{IsOperand, FindsRequest, channel_range, clients_range, request_text, run_range, sessions_range, steps_range};
-ghost use Rattle.commands.specs.CommandLine.{begins_client, channels_of, check_of, client_of, decode_of, encode_of, fixed_words, layers_of, make_of, more_words, post_of, replay_of, request_in, serve_of, with_channels};
+ghost use Rattle.commands.specs.CommandLine.{begins_client, calls_of, channels_of, check_of, client_of, decode_of, encode_of, fixed_words, layers_of, make_of, more_words, post_of, replay_of, request_in, serve_of, with_channels};
 
 use crate::number::{Range, number_in};
 use crate::table::table_of;
@@ -67,6 +67,11 @@ pub enum Request<'a> {
         old: &'a str,
         new: &'a str,
         of: &'a str,
+    },
+    /// `calls SCHEMA INPUT`
+    Calls {
+        schema: &'a str,
+        input: &'a str,
     },
 }
 
@@ -192,6 +197,7 @@ fn request_in<'a>(alloc: Global, matches: &ArgMatches<'a>) -> Option<Request<'a>
         "post" => post_of(operands),
         "client" => client_of(alloc, operands),
         "layers" => layers_of(operands),
+        "calls" => calls_of(operands),
         _ => None,
     }
 }
@@ -363,6 +369,15 @@ fn layers_of<'a>(operands: &ArgMatches<'a>) -> Option<Request<'a>>
     let new = operands.get_str("NEW")?;
     let of = operands.get_str("TYPE")?;
     Some(Request::Layers { old, new, of })
+}
+
+// The request of `calls`.
+fn calls_of<'a>(operands: &ArgMatches<'a>) -> Option<Request<'a>>
+    ensures { option_map request_text result ≡ calls_of (first_value (found_of operands.now)) }
+{
+    let schema = operands.get_str("SCHEMA")?;
+    let input = operands.get_str("INPUT")?;
+    Some(Request::Calls { schema, input })
 }
 
 // Whether each word may be an operand.

@@ -55,6 +55,10 @@ fn rows<'a>() -> &'a [Row<'a>]
             command: "layers",
             operands: &["OLD", "NEW", "TYPE"],
         },
+        Row {
+            command: "calls",
+            operands: &["SCHEMA", "INPUT"],
+        },
     ]
 }
 

@@ -37,3 +37,7 @@ returns-in-client c =
 pub returns-in-layers : goal.returns-in-layers
 returns-in-layers c =
     found_as c.args.matches.now c.in_ok-command.operands.now c.in_ok-command.command.now (codes "layers") _ c.in_ok-command.ensures.name c.in_ok-command.ensures.rows c.in-layers.is c.layers_of.ensures
+
+pub returns-in-calls : goal.returns-in-calls
+returns-in-calls c =
+    found_as c.args.matches.now c.in_ok-command.operands.now c.in_ok-command.command.now (codes "calls") _ c.in_ok-command.ensures.name c.in_ok-command.ensures.rows c.in-calls.is c.calls_of.ensures

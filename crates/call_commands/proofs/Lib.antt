@@ -1,0 +1,17 @@
+pub mod Logged
+pub mod Framed
+pub mod Wholes
+pub mod ResultCauses
+pub mod OnePacket
+pub mod OneFile
+pub mod EachFile
+pub mod OneCalls
+pub mod EachCalls
+pub mod Offsets
+pub mod ToldFaults
+pub mod ToldEvents
+pub mod NextPackets
+pub mod Turns
+pub mod ToldPackets
+pub mod ToldFiles
+pub mod LoadedFiles

@@ -1,0 +1,4 @@
+pub mod CallReports
+pub mod Calls
+pub mod Answering
+pub mod inner

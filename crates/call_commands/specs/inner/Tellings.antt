@@ -1,0 +1,50 @@
+-- The line that each fault of a packet is told by; out of memory has none. This project's own.
+use Rattle.std.specs.Prelude.{◌≡◌, ℕ, ◌+◌, ◌<◌, ◌^◌, List, ◌++◌, codes, decimal}
+use Rattle.tl_base.specs.declared.packet.PacketFault.{PacketFault}
+use Rattle.tl_base.specs.declared.packet.PacketFault.TheVariants as packet
+use Rattle.tl_calls.specs.declared.fault.AnswerFault.{AnswerFault}
+use Rattle.tl_calls.specs.declared.fault.AnswerFault.TheVariants as answer
+use Rattle.tl_calls.specs.declared.fault.SendFault.{SendFault}
+use Rattle.tl_calls.specs.declared.fault.SendFault.TheVariants as send
+use Rattle.command_base.specs.declared.stop.Unmade.{Unmade}
+use Rattle.command_base.specs.declared.stop.Unmade.TheVariants as unmade
+use Rattle.command_base.specs.Loading.{RefusesAs}
+use Rattle.schema_files.specs.Lines.{cause_text, input_line}
+use Rattle.call_commands.specs.CallReports.{result_cause_name}
+
+-- ---- lines
+
+-- a word, a number, and the line of a value
+abbrev pub numbered_line : List ℕ → ℕ → List ℕ → List ℕ
+numbered_line what n line = (((what ++ codes " ") ++ decimal n) ++ codes " ") ++ line
+
+-- a refusal of the packet at this offset, for a cause with a number
+abbrev pub counted_line : ℕ → List ℕ → ℕ → List ℕ
+counted_line at cause n = input_line at (cause ++ (codes " " ++ decimal n))
+
+-- ---- faults
+
+-- what is at this offset is no packet; a length is a word
+abbrev pub TellsUnpacked : ℕ → PacketFault → Unmade → Type 0
+TellsUnpacked at (packet.BadLength n) u = (n < 2 ^ 32) × RefusesAs (counted_line at (codes "BadLength") n) u
+TellsUnpacked at (packet.Ended had) u = RefusesAs (counted_line at (codes "Ended") had) u
+TellsUnpacked at packet.ReadFault u = u ≡ unmade.ReadFault
+TellsUnpacked at packet.Memory u = u ≡ unmade.Memory
+
+-- the offset at which bytes are refused
+abbrev pub offset_in : AnswerFault → ℕ
+offset_in (answer.Refused place cause) = place
+offset_in (answer.Trailing place) = place
+offset_in answer.Memory = 0
+
+-- bytes after the first word of the packet at this offset are no value
+abbrev pub TellsUnread : ℕ → AnswerFault → Unmade → Type 0
+TellsUnread at (answer.Refused place cause) u = RefusesAs (input_line (at + (8 + place)) (cause_text cause)) u
+TellsUnread at (answer.Trailing place) u = RefusesAs (input_line (at + (8 + place)) (codes "Trailing")) u
+TellsUnread at answer.Memory u = u ≡ unmade.Memory
+
+-- the call of the packet at this offset is not sent
+abbrev pub TellsUnsent : ℕ → SendFault → Unmade → Type 0
+TellsUnsent at send.Full u = RefusesAs (input_line at (codes "Full")) u
+TellsUnsent at (send.Result cause) u = RefusesAs (input_line at (result_cause_name cause)) u
+TellsUnsent at send.Memory u = u ≡ unmade.Memory
