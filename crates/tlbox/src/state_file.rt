@@ -103,10 +103,13 @@ fn place_of(rt: &HostRuntime, name: &str) -> io::Result<Option<Place>> {
                 permissions: Some(found.permissions()),
             }))
         }
+        // A file that may be there isn't written in place: it would be lost where that fails.
+        Err(fault) if fault.kind() != ErrorKind::NotFound => Err(fault),
         Err(_) if is_nothing(rt, name) => Ok(Some(Place {
             name: String::from_str(rt.alloc(), name)?,
             permissions: None,
         })),
+        // A link to nothing, or a pipe under another name.
         Err(_) => Ok(None),
     }
 }
