@@ -1,0 +1,2 @@
+-- What inner clauses cite; a reader of the contracts needs none of it.
+pub mod Loading
