@@ -1,12 +1,8 @@
 -- Calls of keepers, one after another.
-use Rattle.std.specs.Prelude.{⊤}
-use Rattle.std.proofs.Common.{◌≡◌, ℕ, ℤ, ◌+◌, ◌-◌, ◌≤◌, ◌<◌, List, [], ◌∷◌, ◌++◌, Bool, true, false, IsTrue, Option, Some, None, IsSome, IfSome, length, refl, sym, ap, ◌∙◌, subst, arith, rules, min}
-use Rattle.tl_base.specs.Causes.{Rose}
+use Rattle.std.proofs.Common.{◌≡◌, ℕ, ℤ, ◌+◌, ◌-◌, ◌≤◌, ◌<◌, List, [], ◌∷◌, ◌++◌, Bool, true, false, IsTrue, Option, Some, None, IfSome, length, refl, sym, ap, ◌∙◌, subst, arith}
 use Rattle.box_store.specs.declared.entry.Entry.{Entry}
 use Rattle.std.specs.FinMap as map
 use Rattle.std.proofs.lemmas.List.{length-append}
-use Rattle.tl_base.specs.Cuts.{is_among}
-use Rattle.std.proofs.Common.{◌==◌}
 use Rattle.std.proofs.Common.{◌^◌, is_some, Result, Ok, Err, inl, inr, true≢false}
 use Rattle.box_events.specs.declared.positions.Receipt.{Receipt}
 use Rattle.box_events.specs.declared.requests.Post.{Post}

@@ -1,11 +1,11 @@
 -- Entries loaded one by one.
-use Rattle.std.proofs.Common.{◌≡◌, ℕ, ◌+◌, ◌<◌, List, [], ◌∷◌, ◌++◌, Bool, true, false, ◌&&◌, Option, Some, None, IfSome, Result, Ok, Err, length, take, get_or, refl, sym, ap, ◌∙◌, subst, arith}
+use Rattle.std.proofs.Common.{◌≡◌, ℕ, ◌+◌, ◌<◌, List, [], ◌∷◌, ◌++◌, Bool, true, false, ◌&&◌, Option, Some, None, IfSome, length, take, get_or, sym, ap, ◌∙◌, subst, arith}
 use Rattle.std.proofs.lemmas.List.{take_more}
 use Rattle.box_server.specs.Servers.{ServerState, new_server}
 use Rattle.box_store.specs.declared.entry.Entry.{Entry}
 use Rattle.box_store.specs.Keeping.{IsEntry}
 use Rattle.box_store.specs.inner.Loading.{Loaded, Accepted}
-use Rattle.box_store.specs.Rebuilding.{are_right, are_right_from, is_accepted, rebuilt, with_entry, IsBad}
+use Rattle.box_store.specs.Rebuilding.{are_right, is_accepted, rebuilt, with_entry, IsBad}
 use Rattle.box_store.proofs.Rebuilt.{rebuilt_more, right_more, wrong_more}
 
 next_of : (es : List Entry) (n : ℕ) (e : Entry) → n < length es → e ≡ get_or es n e → take (n + 1) es ≡ take n es ++ e ∷ []

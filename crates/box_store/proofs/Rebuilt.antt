@@ -1,12 +1,11 @@
 -- Lists of entries, one more at their end, and their servers.
-use Rattle.std.proofs.Common.{◌≡◌, ℕ, ℤ, ◌+◌, ◌^◌, ◌<◌, ◌≤◌, List, [], ◌∷◌, ◌++◌, Bool, true, false, ◌&&◌, Option, Some, None, Err, leb, ltb, length, map as each, cond, max, refl, sym, ap, ◌∙◌, subst, append-nil, arith}
+use Rattle.std.proofs.Common.{◌≡◌, ℕ, ℤ, ◌+◌, ◌^◌, ◌<◌, ◌≤◌, List, [], ◌∷◌, ◌++◌, Bool, true, false, ◌&&◌, Option, Some, None, Err, leb, ltb, map as each, cond, max, refl, sym, ap, ◌∙◌, subst, append-nil, arith}
 use Rattle.std.proofs.lemmas.Bool.Decides.{nat_tests}
-use Rattle.std.specs.Ordering.{int_cmp}
 use Rattle.std.specs.FinMap as map
 use Rattle.box_events.specs.declared.positions.Receipt.{Receipt}
 use Rattle.box_events.specs.declared.requests.Post.{Post}
 use Rattle.box_server.specs.declared.fault.PostFault.{PostFault}
-use Rattle.box_server.specs.Servers.{ServerState, Receipts, new_server, dated_at}
+use Rattle.box_server.specs.Servers.{ServerState, new_server, dated_at}
 use Rattle.box_server.specs.Posting.{posted, receipt_of, applied_all, cut}
 use Rattle.box_server.specs.Entries.{entries_of}
 use Rattle.std.proofs.lemmas.Cmp.{int_cmp_total, eq_by_cmp_equiv}

@@ -1,5 +1,5 @@
 //! Keepers of entries.
-ghost use Rattle.std.specs.Prelude.{◌≡◌, ◌<◌, ℕ, [], ◌∷◌, IfSome, IfOk, OnOk, OnErr, IsErr, IsErrOf, length, ⊤};
+ghost use Rattle.std.specs.Prelude.{◌≡◌, ◌<◌, [], ◌∷◌, IfSome, IfOk, OnOk, OnErr, IsErr, IsErrOf, length, ⊤};
 ghost use Rattle.box_store.specs.Keeping.{KeeperState, Keeps, IsEntry, with_more, FewEntries};
 
 use crate::entry::Entry;

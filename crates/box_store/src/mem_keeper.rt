@@ -1,5 +1,5 @@
 //! A keeper in memory.
-ghost use Rattle.std.specs.Prelude.{◌≡◌, ◌<◌, ◌≤◌, ◌^◌, [], ◌∷◌, get_or, IfOk, IfSome, IsErr, IsErrOf, OnOk, OnErr, length, vec_capacity, true, false, ⊤};
+ghost use Rattle.std.specs.Prelude.{◌≡◌, ◌<◌, ◌≤◌, ◌^◌, [], ◌∷◌, get_or, IfOk, IsErr, IsErrOf, OnOk, OnErr, length, vec_capacity, ⊤};
 ghost use Rattle.tl_base.specs.Causes.{count_after};
 ghost use Rattle.box_store.specs.Keeping.{Keeps, with_more};
 
@@ -24,7 +24,7 @@ pub struct MemKeeper {
 }
 
 impl MemKeeper {
-    ghost use Rattle.box_store.specs.Memory.{keeper_entries, keeper_room, keeper_faults, IsUncalled, is_failing, CountsCall, keeper_state};
+    ghost use Rattle.box_store.specs.Memory.{keeper_entries, keeper_room, keeper_faults, IsUncalled, CountsCall, FailsByNumber, keeper_state};
 
     /// Takes memory for `room` entries. Call number k, from 0 over all calls, fails exactly where k is in `fails`, or where it is an `add` and there
     /// are `room` entries.
@@ -52,8 +52,7 @@ impl MemKeeper {
 
     // Counts a call. It fails where its number is one that fails.
     fn begin(&mut self) -> Result<(), Failed>
-        ensures ok { OnOk result (is_failing self.old ≡ false) }
-        ensures err { OnErr result (is_failing self.old ≡ true) }
+        ensures number { FailsByNumber self.old result }
         ensures entries { self.new.entries ≡ self.old.entries }
         ensures room { self.new.room ≡ self.old.room }
         ensures counts { CountsCall self.old self.new }
@@ -71,7 +70,7 @@ impl MemKeeper {
 }
 
 impl Keeper for MemKeeper {
-    ghost use Rattle.box_store.specs.Memory.{keeper_state, keeper_entries, keeper_faults, is_failing, CountsCall, AddsByNumber};
+    ghost use Rattle.box_store.specs.Memory.{keeper_state, keeper_entries, keeper_faults, CountsCall, FailsByNumber, GetsByNumber, AddsByNumber};
     ghost use Rattle.box_store.specs.MemoryLaws.{few_entries};
 
     ghost state = { keeper_state };
@@ -82,7 +81,7 @@ impl Keeper for MemKeeper {
         ensures count { IfOk result (λ n. n ≡ length (keeper_entries self.old)) }
         ensures entries { (keeper_state self.new).entries ≡ (keeper_state self.old).entries }
         ensures used { Keeps (keeper_state self.old) (keeper_state self.new) (IsErr result) (λ _. ⊤) }
-        ensures number { OnErr result (is_failing self.old ≡ true) }
+        ensures number { FailsByNumber self.old result }
         ensures counts { CountsCall self.old self.new }
         ensures exact { keeper_faults self.new ≡ count_after (keeper_faults self.old) result }
     {
@@ -97,6 +96,7 @@ impl Keeper for MemKeeper {
         ensures entry { IfOk result (λ e. e ≡ get_or (keeper_entries self.old) n e) }
         ensures entries { (keeper_state self.new).entries ≡ (keeper_state self.old).entries }
         ensures used { Keeps (keeper_state self.old) (keeper_state self.new) (IsErrOf result GetFault.Failed) (λ _. ⊤) }
+        ensures number { GetsByNumber self.old self.new result }
         ensures counts { CountsCall self.old self.new }
     {
         match self.begin() {
@@ -104,7 +104,10 @@ impl Keeper for MemKeeper {
             Err(_) => return Err(GetFault::Failed),
         }
         let alloc = *self.entries.allocator();
-        Ok(copy_entry(alloc, &self.entries[n as usize])?)
+        match copy_entry(alloc, &self.entries[n as usize]) {
+            Ok(entry) => Ok(entry),
+            Err(_) => Err(GetFault::Memory),
+        }
     }
 
     fn add(&mut self, entry: Entry) -> Result<(), Failed>

@@ -1,8 +1,9 @@
 //! A server beside the keeper of its posts.
-ghost use Rattle.std.specs.Prelude.{◌≡◌, ◌<◌, ◌≤◌, ◌^◌, ◌++◌, Ok, Err, IfOk, IfErr, IfSome, IsErr, length, ⊤};
+ghost use Rattle.std.specs.Prelude.{◌≡◌, ◌<◌, ◌≤◌, ◌^◌, ◌++◌, Ok, Err, IfSome, length, ⊤};
 ghost use Rattle.box_server.specs.Servers.{dated_at};
 ghost use Rattle.box_store.specs.Keeping.{Keeps, with_more};
 ghost use Rattle.box_store.specs.Rebuilding.{kept_of};
+ghost use Rattle.box_store.specs.Storing.{Tells};
 ghost use Rattle.box_store.specs.Answering.{Opens, opened_keeper, IsOpenFailed, TakesPosts, IsPostFailed, kept_keeper, kept_after};
 
 use crate::entry::{Entry, Posts};
@@ -96,14 +97,16 @@ impl<K: Keeper> Stored<K> {
 
     /// The server.
     pub fn server(&self) -> &Server
-        ensures { result.now ≡ self.now.server }
+        ensures server { result.now ≡ self.now.server }
+        ensures rebuilt { Tells (K.state self.now.keeper).entries self.now.server }
     {
         &self.server
     }
 
     /// The keeper alone.
     pub fn into_keeper(self) -> K
-        ensures { result ≡ self.keeper }
+        ensures keeper { result ≡ self.keeper }
+        ensures rebuilt { Tells (K.state self.keeper).entries self.server }
     {
         self.keeper
     }

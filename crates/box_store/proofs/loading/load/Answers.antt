@@ -1,4 +1,4 @@
-use Rattle.std.proofs.Common.{rules, arith}
+use Rattle.std.proofs.Common.{rules}
 use Rattle.box_store.proofs.Loads.{next_at, bad_at}
 use Rattle.box_store.proofs.loading.load.Goals as goal
 

@@ -1,5 +1,5 @@
 use Rattle.std.specs.Prelude.{⊤}
-use Rattle.std.proofs.Common.{◌≡◌, ◌-◌, ◌≤◌, true, IfSome}
+use Rattle.std.proofs.Common.{◌≡◌, ◌-◌, ◌≤◌, IfSome}
 use Rattle.box_store.specs.Keeping.{Keeps}
 use Rattle.box_store.specs.inner.Loading.{Loaded}
 use Rattle.box_store.proofs.loading.load.Given as goal

@@ -1,4 +1,4 @@
-use Rattle.std.proofs.Common.{rules, sym, ap, ◌∙◌, not, refl, true, subst, length, ◌≡◌, ◌++◌, ◌≤◌}
+use Rattle.std.proofs.Common.{rules, ap, ◌∙◌, not, refl, true, subst, length, ◌≡◌, ◌++◌, ◌≤◌}
 use Rattle.box_store.specs.Keeping.{Keeps}
 use Rattle.box_store.specs.Rebuilding.{is_new, kept_of}
 use Rattle.box_store.specs.Storing.{StoredView}
