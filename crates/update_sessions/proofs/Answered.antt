@@ -1,5 +1,5 @@
 -- What is sent for a call.
-use Rattle.std.proofs.Common.{◌≡◌, ◌≢◌, inl, inr, ℕ, ℤ, pos, ◌≤◌, List, [], ◌∷◌, ◌++◌, Option, Some, None, Result, Ok, Err, refl, sym, ap, ◌∙◌, subst, arith}
+use Rattle.std.proofs.Common.{◌≡◌, ◌≢◌, ℕ, ℤ, pos, ◌≤◌, List, [], ◌∷◌, ◌++◌, Option, Some, None, Result, Ok, Err, refl, sym, ap, ◌∙◌, subst, arith}
 use Rattle.std.specs.Prelude.{OnOk, IfSome}
 use Rattle.std.specs.FinMap as map
 use Rattle.std.specs.declared.alloc.AllocError.{AllocError}
@@ -17,20 +17,28 @@ use Rattle.box_events.specs.declared.updates.Push.{Push}
 use Rattle.box_server.specs.Answers.{IsAnswered, answer}
 use Rattle.box_server.specs.FaultNames.{name_of}
 use Rattle.box_server.specs.Posting.{push_of}
-use Rattle.box_server.specs.Receiving.{Receives, answer_by, after_post, post_answer}
+use Rattle.box_server.specs.Receiving.{answer_by, post_answer}
 use Rattle.box_server.specs.Refusing.{post_cause}
 use Rattle.box_server.specs.Servers.{ServerState}
 use Rattle.box_server.specs.Sound.{IsSound}
 use Rattle.box_server.specs.declared.fault.PostFault.{PostFault}
-use Rattle.box_server.specs.declared.fault.PostFault.TheVariants as fault
 use Rattle.box_server.specs.declared.posted.Posted.{Posted}
+use Rattle.box_store.specs.declared.entry.Entry.{Entry}
+use Rattle.box_store.specs.Keeping.{with_more}
+use Rattle.box_store.specs.Rebuilding.{kept_of}
+use Rattle.box_store.specs.Storing.{Takes}
+use Rattle.box_store.proofs.Rebuilt.{refused_adds_nothing}
 use Rattle.wire_profile.specs.Places.{ProfileView}
 use Rattle.frame_sizes.specs.Sizes.{frame_size}
 use Rattle.server_frames.proofs.AnswersBelow.{answers_below}
-use Rattle.server_frames.proofs.PushesBelow.{pushes_below, receipts_below}
+use Rattle.server_frames.proofs.PushesBelow.{pushes_below, receipts_below, refusals_below}
+use Rattle.update_sessions.specs.Kept.{kept_for}
 use Rattle.update_sessions.specs.Packed.{Packed, SpellsFrame}
 use Rattle.update_sessions.specs.Serving.{after_request, push_frames, posted_frames, sent_for}
-use Rattle.update_sessions.specs.inner.Steps.{AnswersCall, AnswersPost, Puts}
+use Rattle.update_sessions.specs.declared.answering.Sent.{Sent}
+use Rattle.update_sessions.specs.inner.Steps.{Puts}
+use Rattle.update_sessions.specs.inner.StoreSteps.{AreShort, Sends, Took, frames_in, if_any}
+use Rattle.update_sessions.proofs.Entries.{more_none}
 use Rattle.update_sessions.proofs.Packets.{packed_then, packed_one}
 
 -- ---- requests but for posts
@@ -61,25 +69,20 @@ packed_first p f old new none (b, s, is) = subst (Packed (SpellsFrame p) (f ∷ 
 pub packed_second : (p : ProfileView) (fs : List Frame) (f : Frame) (old new : List ℕ) → Packed (SpellsFrame p) fs old → Puts (SpellsFrame p f) old new → Packed (SpellsFrame p) (fs ++ f ∷ []) new
 packed_second p fs f old new packed (b, s, is) = subst (Packed (SpellsFrame p) (fs ++ f ∷ [])) (sym is) (packed_then (SpellsFrame p) fs (f ∷ []) old (packet b) packed (packed_one (SpellsFrame p) f b s))
 
-pub first_by : (p : ProfileView) (f : Frame) (fs : List Frame) (old new : List ℕ) (r : Result (Unit {0}) AllocError) → old ≡ [] → fs ≡ f ∷ [] → OnOk r (Puts (SpellsFrame p f) old new) → OnOk r (Packed (SpellsFrame p) fs new)
-first_by p f fs old new (Ok u) none is h = subst (λ (l : List Frame). Packed (SpellsFrame p) l new) (sym is) (packed_first p f old new none h)
-first_by p f fs old new (Err e) none is h = tt
+pub both_by : (p : ProfileView) (f g : Frame) (old mid new : List ℕ) (r : Result (Unit {0}) AllocError) → old ≡ [] → Puts (SpellsFrame p f) old mid → OnOk r (Puts (SpellsFrame p g) mid new) → OnOk r (Packed (SpellsFrame p) (f ∷ g ∷ []) new)
+both_by p f g old mid new (Ok u) none first h = packed_second p (f ∷ []) g mid new (packed_first p f old mid none first) h
+both_by p f g old mid new (Err e) none first h = tt
 
-pub second_by : (p : ProfileView) (f g : Frame) (old mid new : List ℕ) (r : Result (Unit {0}) AllocError) → old ≡ [] → Puts (SpellsFrame p f) old mid → OnOk r (Puts (SpellsFrame p g) mid new) → OnOk r (Packed (SpellsFrame p) (f ∷ g ∷ []) new)
-second_by p f g old mid new (Ok u) none first h = packed_second p (f ∷ []) g mid new (packed_first p f old mid none first) h
-second_by p f g old mid new (Err e) none first h = tt
+-- what is sent, with a push and without one
+pub sent_both : (p : ProfileView) (x : Sent) (g : Frame) (old mid new : List ℕ) (r : Result (Unit {0}) AllocError) → x.push ≡ Some g → old ≡ [] → Puts (SpellsFrame p x.reply) old mid → OnOk r (Puts (SpellsFrame p g) mid new) → OnOk r (Packed (SpellsFrame p) (frames_in x) new)
+sent_both p x g old mid new r is none first h =
+    subst (λ (o : Option Frame). OnOk r (Packed (SpellsFrame p) (x.reply ∷ if_any o) new)) (sym is) (both_by p x.reply g old mid new r none first h)
 
-pub receipt_short : (n : ℕ) (receipt : Receipt) → frame_size (Reply n (ReceiptReply receipt)) ≤ MAX_FRAME_BYTES
-receipt_short n receipt = let size = receipts_below n receipt in omega (arith, size)
+pub sent_alone : (p : ProfileView) (x : Sent) (old new : List ℕ) → x.push ≡ None → old ≡ [] → Puts (SpellsFrame p x.reply) old new → Packed (SpellsFrame p) (frames_in x) new
+sent_alone p x old new is none first = subst (λ (o : Option Frame). Packed (SpellsFrame p) (x.reply ∷ if_any o) new) (sym is) (packed_first p x.reply old new none first)
 
--- a receipt with its push, and one without
-pub posted_some : (p : ProfileView) (n : ℕ) (q : Posted) (push : Push) (new : List ℕ) (r : Result (Unit {0}) AllocError) → q.push ≡ Some push → OnOk r (Packed (SpellsFrame p) (Reply n (ReceiptReply q.receipt) ∷ PushFrame push ∷ []) new)
-    → OnOk r (Packed (SpellsFrame p) (posted_frames n (Ok q)) new)
-posted_some p n q push new r is h = subst (λ (o : Option Push). OnOk r (Packed (SpellsFrame p) (Reply n (ReceiptReply q.receipt) ∷ push_frames o) new)) (sym is) h
-
-pub posted_none : (p : ProfileView) (n : ℕ) (q : Posted) (old new : List ℕ) (r : Result (Unit {0}) AllocError) → q.push ≡ None → old ≡ [] → OnOk r (Puts (SpellsFrame p (Reply n (ReceiptReply q.receipt))) old new)
-    → OnOk r (Packed (SpellsFrame p) (posted_frames n (Ok q)) new)
-posted_none p n q old new r is none h = first_by p (Reply n (ReceiptReply q.receipt)) (posted_frames n (Ok q)) old new r none (ap (λ (o : Option Push). Reply n (ReceiptReply q.receipt) ∷ push_frames o) is) h
+pub push_fits : (x : Sent) (g : Frame) → x.push ≡ Some g → AreShort x → frame_size g ≤ MAX_FRAME_BYTES
+push_fits x g is short = subst (λ (o : Option Frame). IfSome o (λ f. frame_size f ≤ MAX_FRAME_BYTES)) is short.push
 
 -- an answer is short, and so is what is sent
 pub answer_short : (s : ServerState) (n : ℕ) (r : Request) (reply : SomeReply) → IsSound s → reply ≡ answer s r → frame_size (Reply n reply) ≤ MAX_FRAME_BYTES
@@ -91,16 +94,33 @@ answer_sent s n r reply h is = sent_answer s n r h ∙ ap (λ (v : SomeReply). R
 pub refusal_sent : (n : ℕ) (f : PostFault) (text : List ℕ) → text ≡ name_of f → posted_frames n (Err f) ≡ Reply n (Error (pos 400) text) ∷ []
 refusal_sent n f text is = ap (λ (l : List ℕ). Reply n (Error (pos 400) l) ∷ []) (sym is)
 
-pub answers_by : (p : ProfileView) (s : ServerState) (n : ℕ) (r : Request) (out : List ℕ) (result : Result (Unit {0}) AllocError) → IsAnswered r → OnOk result (Packed (SpellsFrame p) (sent_for s n r) out) → AnswersCall p s n r out result s
-answers_by p s n r out (Ok u) h packed = (packed, sym (after_answer s r h))
-answers_by p s n r out (Err e) h packed = inl refl
+-- a reply alone
+pub sends_reply : (s : ServerState) (n : ℕ) (r : Request) (reply : SomeReply) → IsSound s → IsAnswered r → reply ≡ answer s r → Sends (record { reply = Reply n reply; push = None }) (sent_for s n r)
+sends_reply s n r reply sound h is = record { frames = sym (answer_sent s n r reply h is); short = record { reply = answer_short s n r reply sound is; push = tt } }
+
+pub sends_refusal : (n : ℕ) (f : PostFault) (text : List ℕ) → text ≡ name_of f → Sends (record { reply = Reply n (Error (pos 400) text); push = None }) (posted_frames n (Err f))
+sends_refusal n f text is =
+    record {
+      frames = sym (refusal_sent n f text is);
+      short = record { reply = subst (λ (l : List ℕ). frame_size (Reply n (Error (pos 400) l)) ≤ MAX_FRAME_BYTES) (sym is) (let size = refusals_below n f in omega (arith, size)); push = tt };
+    }
+
+-- a receipt with its push, and one without
+receipt_short : (n : ℕ) (receipt : Receipt) → frame_size (Reply n (ReceiptReply receipt)) ≤ MAX_FRAME_BYTES
+receipt_short n receipt = let size = receipts_below n receipt in omega (arith, size)
+
+pub sends_push : (n : ℕ) (q : Posted) (push : Push) → q.push ≡ Some push → IfSome q.push (λ push. frame_size (PushFrame push) ≤ MAX_FRAME_BYTES)
+    → Sends (record { reply = Reply n (ReceiptReply q.receipt); push = Some (PushFrame push) }) (posted_frames n (Ok q))
+sends_push n q push is short =
+    record {
+      frames = ap (λ (o : Option Push). Reply n (ReceiptReply q.receipt) ∷ push_frames o) (sym is);
+      short = record { reply = receipt_short n q.receipt; push = subst (λ (o : Option Push). IfSome o (λ push. frame_size (PushFrame push) ≤ MAX_FRAME_BYTES)) is short };
+    }
+
+pub sends_receipt : (n : ℕ) (q : Posted) → q.push ≡ None → Sends (record { reply = Reply n (ReceiptReply q.receipt); push = None }) (posted_frames n (Ok q))
+sends_receipt n q is = record { frames = ap (λ (o : Option Push). Reply n (ReceiptReply q.receipt) ∷ push_frames o) (sym is); short = record { reply = receipt_short n q.receipt; push = tt } }
 
 -- ---- posts
-
--- what is answered to a post is no want of memory: that isn't among its causes
-pub post_is : (s t : ServerState) (random_id : ℤ) (posts : List Post) (result : Result Posted PostFault) → result ≢ Err fault.Memory → Receives s random_id posts result t → (result ≡ post_answer s random_id posts) × (t ≡ after_post s random_id posts)
-post_is s t random_id posts result never (inl h) = absurd (never h.0)
-post_is s t random_id posts result never (inr h) = h
 
 push_in : Result Posted PostFault → Option Push
 push_in (Ok q) = q.push
@@ -118,25 +138,30 @@ short_by s random_id posts None None q is sound e =
     let some : q.push ≡ Some (push_of s posts) = ap push_in e in
     subst (λ (o : Option Push). IfSome o (λ push. frame_size (PushFrame push) ≤ MAX_FRAME_BYTES)) (sym some) (pushes_below s posts sound is).limit
 
-pub push_short : (s t : ServerState) (random_id : ℤ) (posts : List Post) (q : Posted) → IsSound s → Receives s random_id posts (Ok q) t → IfSome q.push (λ push. frame_size (PushFrame push) ≤ MAX_FRAME_BYTES)
-push_short s t random_id posts q sound r =
-    let is = post_is s t random_id posts (Ok q) (λ e. let no : ⊥ = cc in no) r in
-    short_by s random_id posts (map.get s.receipts random_id) (post_cause s posts) q refl sound is.0
+pub push_short : (s : ServerState) (random_id : ℤ) (posts : List Post) (q : Posted) → IsSound s → Ok q ≡ post_answer s random_id posts → IfSome q.push (λ push. frame_size (PushFrame push) ≤ MAX_FRAME_BYTES)
+push_short s random_id posts q sound is = short_by s random_id posts (map.get s.receipts random_id) (post_cause s posts) q refl sound is
 
--- the frames of what was answered, and the server after it
-pub post_done : (p : ProfileView) (s t : ServerState) (n : ℕ) (random_id : ℤ) (posts : List Post) (a : Result Posted PostFault) (out : List ℕ) (result : Result (Unit {0}) AllocError) → a ≢ Err fault.Memory → Receives s random_id posts a t
-    → OnOk result (Packed (SpellsFrame p) (posted_frames n a) out) → AnswersPost p s n random_id posts out result t
-post_done p s t n random_id posts a out (Ok u) never r packed =
-    let is = post_is s t random_id posts a never r in
-    (subst (λ (o : Result Posted PostFault). Packed (SpellsFrame p) (posted_frames n o) out) is.0 packed, is.1)
-post_done p s t n random_id posts a out (Err e) never r packed = inr (post_is s t random_id posts a never r).1
+-- ---- what a store takes
 
-pub post_kept : (p : ProfileView) (s t : ServerState) (n : ℕ) (random_id : ℤ) (posts : List Post) (out : List ℕ) (e : AllocError) → Receives s random_id posts (Err fault.Memory) t → AnswersPost p s n random_id posts out (Err e) t
-post_kept p s t n random_id posts out e (inl h) = inl h.1
-post_kept p s t n random_id posts out e (inr h) = inr h.1
+kept_answer : (s : ServerState) (r : Request) → IsAnswered r → kept_for s r ≡ []
+kept_answer s request.State h = refl
+kept_answer s (request.Difference pts qts date) h = refl
+kept_answer s (request.Channel id pts) h = refl
+kept_answer s (request.Post random_id posts) h = absurd h
 
--- a post as a call
-pub call_by : (p : ProfileView) (s t : ServerState) (n : ℕ) (random_id : ℤ) (posts : List Post) (out : List ℕ) (result : Result (Unit {0}) AllocError) → AnswersPost p s n random_id posts out result t
-    → AnswersCall p s n (request.Post random_id posts) out result t
-call_by p s t n random_id posts out (Ok u) h = h
-call_by p s t n random_id posts out (Err e) h = h
+pub took_answer : (s : ServerState) (n : ℕ) (r : Request) (x : Sent) (e0 e1 : Option (List Entry)) → IsAnswered r → Sends x (sent_for s n r) → e1 ≡ e0 → Took s n r e0 e1 s x
+took_answer s n r x e0 e1 h sends same =
+    record { sends = sends; server = sym (after_answer s r h); appended = same ∙ more_none e0 ∙ ap (λ (l : List Entry). with_more l e0) (sym (kept_answer s r h)) }
+
+pub took_posted : (s t : ServerState) (n : ℕ) (id : ℤ) (posts : List Post) (q : Posted) (x : Sent) (e0 e1 : Option (List Entry)) → Takes s id posts q t → e1 ≡ with_more (kept_of s id posts) e0 → Sends x (posted_frames n (Ok q)) → Took s n (request.Post id posts) e0 e1 t x
+took_posted s t n id posts q x e0 e1 takes more sends = record { sends = subst (λ (a : Result Posted PostFault). Sends x (posted_frames n a)) takes.answer sends; server = takes.server; appended = more }
+
+pub took_refused : (s t : ServerState) (n : ℕ) (id : ℤ) (posts : List Post) (f : PostFault) (x : Sent) (e0 e1 : Option (List Entry)) → Err f ≡ post_answer s id posts → t ≡ s → e1 ≡ with_more [] e0 → Sends x (posted_frames n (Err f))
+    → Took s n (request.Post id posts) e0 e1 t x
+took_refused s t n id posts f x e0 e1 is same more sends =
+    let none = refused_adds_nothing s id posts f is in
+    record {
+      sends = subst (λ (a : Result Posted PostFault). Sends x (posted_frames n a)) is sends;
+      server = same ∙ sym none.1;
+      appended = more ∙ ap (λ (l : List Entry). with_more l e0) (sym none.0);
+    }

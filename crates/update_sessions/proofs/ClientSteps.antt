@@ -33,9 +33,9 @@ use Rattle.update_sessions.specs.Hearing.{IsTaken, cause_in, client_side, hears}
 use Rattle.update_sessions.specs.Links.{OverLink}
 use Rattle.update_sessions.specs.Packed.{MeansFrame, Packed, SpellsCall}
 use Rattle.update_sessions.specs.Receiving.{Receives, ComesFirst}
-use Rattle.update_sessions.specs.inner.Steps.{HearsFrame, SoFar, HearsNone, HearsNext, Unmoved}
+use Rattle.update_sessions.specs.inner.Steps.{HearsFrame, BreaksOff, SoMany, HearsNone, HearsNext, Unmoved}
 use Rattle.update_sessions.proofs.Exchanging.{cut_none, exchanged_still}
-use Rattle.update_sessions.proofs.Stepping.{over_same, over_then, over_now, step_done, step_cut, step_kept}
+use Rattle.update_sessions.proofs.Stepping.{over_as, over_same, over_then, over_now, step_done, step_cut, step_kept}
 
 -- ---- a frame
 
@@ -82,8 +82,8 @@ module _ (p : ProfileView) where
   none_by c bytes after (Wire f) h = ((refl, refl), h)
   none_by c bytes after (Client f) h = absurd h
   none_by c bytes after TooManyFrames h = h
-  none_by c bytes after LinkFault h = ([], omega arith, cut_none (client_side p) c c bytes refl)
-  none_by c bytes after Memory h = ([], omega arith, cut_none (client_side p) c c bytes refl)
+  none_by c bytes after LinkFault h = ([], (omega arith, cut_none (client_side p) c c bytes refl))
+  none_by c bytes after Memory h = ([], (omega arith, cut_none (client_side p) c c bytes refl))
 
   if_none : (c : ClientState) (l0 l1 : Option (List ℕ)) (fault : SessionFault) → IfSome l0 (λ bytes. Receives (MeansFrame p) (WireRefused p frames) bytes l1 (Err fault)) → IfSome l0 (λ bytes. HearsNone p c bytes [] c fault)
   if_none c None l1 fault h = tt
@@ -106,7 +106,7 @@ module _ (p : ProfileView) where
   refused_one c d f client.WrongKind bytes rest comes h = (f, (refl, h.3), record { rest = rest; comes = comes; cause = h.0; refuses = h.1; is = h.2 })
   refused_one c d f (client.Weave fault) bytes rest comes h = (f, (refl, h.3), record { rest = rest; comes = comes; cause = h.0; refuses = h.1; is = h.2 })
   refused_one c d f (client.SeqBack at seq) bytes rest comes h = (f, (refl, h.3), record { rest = rest; comes = comes; cause = h.0; refuses = h.1; is = h.2 })
-  refused_one c d f client.Memory bytes rest comes h = ([], omega arith, cut_none (client_side p) c d bytes h)
+  refused_one c d f client.Memory bytes rest comes h = ([], (omega arith, cut_none (client_side p) c d bytes h))
 
   if_refused : (c d : ClientState) (f : Frame) (fault : ClientFault) (l0 l1 : Option (List ℕ)) → IfSome l0 (λ bytes. Receives (MeansFrame p) (WireRefused p frames) bytes l1 (Ok (Some f))) → HearsFrame c f (Err fault) d
       → IfSome l0 (λ bytes. HearsNone p c bytes [] d (of_client fault))
@@ -133,17 +133,17 @@ module _ (p : ProfileView) where
 
     -- memory ran out
     pub next_kept_off : (l0 w0 l1 w1 : Option (List ℕ)) → IfSome l0 (λ bytes. Receives (MeansFrame p) (WireRefused p frames) bytes l1 (Ok (Some f))) → w0 ≡ w1 → HearsNext p c l0 w0 l1 w1 e (Err Memory)
-    next_kept_off l0 w0 l1 w1 r w = step_kept (client_side p) (WireRefused p frames) c e f out takes l0 w0 l1 w1 r w (inr ends)
+    next_kept_off l0 w0 l1 w1 r w = over_as l0 w0 w1 (λ bytes y. BreaksOff (client_side p) c bytes y e (f ∷ [])) (λ bytes y. (fs : List Frame) × BreaksOff (client_side p) c bytes y e fs) (λ bytes y h. (f ∷ [], h)) (step_kept (client_side p) (WireRefused p frames) c e f out takes l0 w0 l1 w1 r w ends)
 
     -- the link failed
     pub next_cut : (l0 w0 l1 w1 l2 w2 : Option (List ℕ)) → IfSome l0 (λ bytes. Receives (MeansFrame p) (WireRefused p frames) bytes l1 (Ok (Some f))) → w0 ≡ w1 → Packed (SpellsCall p) (ticks d).asks out → AppendsPrefix w1 w2 out
         → HearsNext p c l0 w0 l2 w2 e (Err LinkFault)
-    next_cut l0 w0 l1 w1 l2 w2 r w packed wrote = step_cut (client_side p) (WireRefused p frames) c e f out takes l0 w0 l1 w1 w2 r w (sent packed) ends wrote
+    next_cut l0 w0 l1 w1 l2 w2 r w packed wrote = over_as l0 w0 w2 (λ bytes y. BreaksOff (client_side p) c bytes y e (f ∷ [])) (λ bytes y. (fs : List Frame) × BreaksOff (client_side p) c bytes y e fs) (λ bytes y h. (f ∷ [], h)) (step_cut (client_side p) (WireRefused p frames) c e f out takes l0 w0 l1 w1 w2 r w (sent packed) ends wrote)
 
     -- all was written
     pub next_done : (l0 w0 l1 w1 l2 w2 : Option (List ℕ)) → IfSome l0 (λ bytes. Receives (MeansFrame p) (WireRefused p frames) bytes l1 (Ok (Some f))) → w0 ≡ w1 → Packed (SpellsCall p) (ticks d).asks out → l1 ≡ l2 → Appends w1 w2 out
         → HearsNext p c l0 w0 l2 w2 e (Ok tt)
-    next_done l0 w0 l1 w1 l2 w2 r w packed l wrote = step_done (client_side p) (WireRefused p frames) c e f out takes l0 w0 l1 w1 l2 w2 r w (sent packed) ends l wrote
+    next_done l0 w0 l1 w1 l2 w2 r w packed l wrote = (f ∷ [], refl, step_done (client_side p) (WireRefused p frames) c e f out takes l0 w0 l1 w1 l2 w2 r w (sent packed) ends l wrote)
 
   -- ---- how a session ends
 
@@ -163,23 +163,23 @@ module _ (p : ProfileView) where
       (fs, h.0 ∷ [], (mid, h.0, still c u d n bytes mid x y fs lt asking ex len h.1, subst (λ (s : ClientState). RefusedFrame p s mid h.0 f) (sym h.1.1) h.2, refl))
   stopped c u d n bytes mid x y fs TooManyFrames lt asking ex len h = absurd h
   stopped c u d n bytes mid x y fs LinkFault lt asking ex len h =
-      (fs ++ h.0, [], (record { first = fs; last = h.0; all = refl; few = omega (arith, len, lt); one = h.1; between = u; rest = mid; wrote = x; part = y; out_is = refl; exchanged = ex; cut = h.2 }, refl))
+      (fs ++ h.0, [], (record { first = fs; last = h.0; all = refl; few = omega (arith, len, lt); one = h.1.0; between = u; rest = mid; wrote = x; part = y; out_is = refl; exchanged = ex; cut = h.1.1 }, refl))
   stopped c u d n bytes mid x y fs Memory lt asking ex len h =
-      (fs ++ h.0, [], (record { first = fs; last = h.0; all = refl; few = omega (arith, len, lt); one = h.1; between = u; rest = mid; wrote = x; part = y; out_is = refl; exchanged = ex; cut = h.2 }, refl))
+      (fs ++ h.0, [], (record { first = fs; last = h.0; all = refl; few = omega (arith, len, lt); one = h.1.0; between = u; rest = mid; wrote = x; part = y; out_is = refl; exchanged = ex; cut = h.1.1 }, refl))
 
-  pub hears_stopped : (c u d : ClientState) (n : ℕ) (l0 w0 l1 w1 l2 w2 : Option (List ℕ)) (fault : SessionFault) → n < MAX_FRAMES → is_one_asking u ≡ true → SoFar (client_side p) c n l0 w0 l1 w1 u → HearsNext p u l1 w1 l2 w2 d (Err fault)
+  pub hears_stopped : (c u d : ClientState) (n : ℕ) (l0 w0 l1 w1 l2 w2 : Option (List ℕ)) (fault : SessionFault) → n < MAX_FRAMES → is_one_asking u ≡ true → SoMany (client_side p) c n l0 w0 l1 w1 u → HearsNext p u l1 w1 l2 w2 d (Err fault)
       → OverLink l0 w0 w2 (λ bytes out. (frames : List Frame) × (last : List Frame) × HearsOn p c bytes out d (Err fault) frames last)
   hears_stopped c u d n l0 w0 l1 w1 l2 w2 fault lt asking so step =
-      over_then (client_side p) c u n l0 w0 l1 w1 w2 (λ bytes out. HearsNone p u bytes out d fault) (λ bytes out. (frames : List Frame) × (last : List Frame) × HearsOn p c bytes out d (Err fault) frames last) so step
-      (λ bytes mid x y fs ex len h. stopped c u d n bytes mid x y fs fault lt asking ex len h)
+      over_then (client_side p) c u so.0 l0 w0 l1 w1 w2 (λ bytes out. HearsNone p u bytes out d fault) (λ bytes out. (frames : List Frame) × (last : List Frame) × HearsOn p c bytes out d (Err fault) frames last) so.2 step
+      (λ bytes mid x y ex h. stopped c u d n bytes mid x y so.0 fault lt asking ex so.1 h)
 
-  pub hears_done : (c d : ClientState) (n : ℕ) (l0 w0 l1 w1 : Option (List ℕ)) → n ≤ MAX_FRAMES → is_one_asking d ≡ false → SoFar (client_side p) c n l0 w0 l1 w1 d
+  pub hears_done : (c d : ClientState) (n : ℕ) (l0 w0 l1 w1 : Option (List ℕ)) → n ≤ MAX_FRAMES → is_one_asking d ≡ false → SoMany (client_side p) c n l0 w0 l1 w1 d
       → OverLink l0 w0 w1 (λ bytes out. (frames : List Frame) × (last : List Frame) × HearsOn p c bytes out d (Ok n) frames last)
   hears_done c d n l0 w0 l1 w1 le asks so =
-      over_now (client_side p) c d n l0 w0 l1 w1 (λ bytes out. (frames : List Frame) × (last : List Frame) × HearsOn p c bytes out d (Ok n) frames last) so (λ bytes mid x fs ex len. (fs, [], (mid, ex, asks, sym len, le, refl)))
+      over_now (client_side p) c d so.0 l0 w0 l1 w1 (λ bytes out. (frames : List Frame) × (last : List Frame) × HearsOn p c bytes out d (Ok n) frames last) so.2 (λ bytes mid x ex. (so.0, [], (mid, ex, asks, sym so.1, le, refl)))
 
-  pub hears_full : (c d : ClientState) (n : ℕ) (l0 w0 l1 w1 : Option (List ℕ)) → n ≡ MAX_FRAMES → is_one_asking d ≡ true → SoFar (client_side p) c n l0 w0 l1 w1 d
+  pub hears_full : (c d : ClientState) (n : ℕ) (l0 w0 l1 w1 : Option (List ℕ)) → n ≡ MAX_FRAMES → is_one_asking d ≡ true → SoMany (client_side p) c n l0 w0 l1 w1 d
       → OverLink l0 w0 w1 (λ bytes out. (frames : List Frame) × (last : List Frame) × HearsOn p c bytes out d (Err TooManyFrames) frames last)
   hears_full c d n l0 w0 l1 w1 is asks so =
-      over_now (client_side p) c d n l0 w0 l1 w1 (λ bytes out. (frames : List Frame) × (last : List Frame) × HearsOn p c bytes out d (Err TooManyFrames) frames last) so
-      (λ bytes mid x fs ex len. (fs, [], (mid, ex, asks, len ∙ is, refl)))
+      over_now (client_side p) c d so.0 l0 w0 l1 w1 (λ bytes out. (frames : List Frame) × (last : List Frame) × HearsOn p c bytes out d (Err TooManyFrames) frames last) so.2
+      (λ bytes mid x ex. (so.0, [], (mid, ex, asks, so.1 ∙ is, refl)))

@@ -10,7 +10,7 @@ module _ {S M N : Type 0} (side : Side S M N) where
   takes_then s [] ns p q = q
   takes_then s (m ∷ ms) ns p q = (p.0, takes_then (side.next s m) ms ns p.1 q)
 
-  after_then : (s : S) (ms ns : List M) → after_all side s (ms ++ ns) ≡ after_all side (after_all side s ms) ns
+  pub after_then : (s : S) (ms ns : List M) → after_all side s (ms ++ ns) ≡ after_all side (after_all side s ms) ns
   after_then s [] ns = refl
   after_then s (m ∷ ms) ns = after_then (side.next s m) ms ns
 

@@ -4,7 +4,11 @@ pub mod Exchanging
 pub mod Stepping
 pub mod Sizes
 pub mod Received
+pub mod Entries
 pub mod Answered
 pub mod ServerSteps
+pub mod Untaken
+pub mod KeepsRoom
+pub mod KeptCalls
 pub mod ClientSteps
 pub mod HonestFrames

@@ -5,7 +5,10 @@ pub mod Faults
 pub mod Receiving
 pub mod Serving
 pub mod Served
+pub mod Kept
+pub mod StoreEnds
 pub mod Hearing
 pub mod Heard
 pub mod Honest
+pub mod Laws
 pub mod inner

@@ -1,101 +1,97 @@
-//! What a server sends for a call, as packets in a buffer.
-ghost use Rattle.std.specs.Prelude.{◌≡◌, ◌≤◌, [], ◌∷◌, IfSome, OnOk};
+//! What is sent for a call, and the store after it.
+ghost use Rattle.std.specs.Prelude.{◌≤◌, ◌++◌, Ok, Err, IfOk, IfSome, OnOk, length};
 ghost use Rattle.frame_sizes.specs.Sizes.{frame_size};
 ghost use Rattle.box_events.specs.declared.limits.TheConstants.{MAX_FRAME_BYTES};
 ghost use Rattle.box_events.specs.declared.replies.Frame.TheVariants.{Push as PushFrame};
+ghost use Rattle.box_events.specs.declared.requests.Request.TheVariants.{Post as PostRequest};
 ghost use Rattle.box_server.specs.Answers.{IsAnswered};
-ghost use Rattle.box_server.specs.Sound.{IsSound};
+ghost use Rattle.box_store.specs.Keeping.{Keeps};
+ghost use Rattle.box_store.specs.Rebuilding.{kept_of};
+ghost use Rattle.update_sessions.specs.Kept.{kept_for};
 ghost use Rattle.update_sessions.specs.Packed.{Packed, SpellsFrame};
 ghost use Rattle.update_sessions.specs.Serving.{posted_frames, sent_for};
-ghost use Rattle.update_sessions.specs.inner.Steps.{AnswersCall, AnswersPost};
+ghost use Rattle.update_sessions.specs.StoreEnds.{IsKeeperFailed, end_of, session_keeper};
+ghost use Rattle.update_sessions.specs.inner.StoreSteps.{AreShort, Sends, TakesCall, frames_in};
 
 use crate::packing::put_frame;
-use box_events::{Frame, Numbered, Post, Reply, Request};
+use crate::storing::StoreSession;
+use box_events::{Frame, Numbered, Reply, Request};
 use box_server::{PostFault, Posted, Server};
-use std::alloc::{AllocError, Global};
+use box_store::{Keeper, Posts, StoreRefusal, Stored};
+use std::alloc::Global;
 use tl_base::{Bytes, Memory};
 use wire_profile::Profile;
 
-/// Puts all that is sent for a call in place of what stands in `out`, and takes its posts. Where memory runs out they may be taken or not.
-pub fn answer_call(
+/// What is sent for a call: a reply, and then the push of a new post.
+#[derive(Drop)]
+pub struct Sent {
+    reply: Frame,
+    push: Option<Frame>,
+}
+
+/// Takes a call. Nothing is taken where memory runs out or the keeper fails.
+pub fn take_call<K: Keeper>(
     alloc: Global,
-    profile: &Profile,
-    server: &mut Server,
+    store: Stored<K>,
     call: Numbered,
-    out: &mut Bytes,
-) -> Result<(), Memory>
-    ensures { AnswersCall profile.now server.old call.number call.request out.new result server.new }
+) -> Result<(Stored<K>, Sent), StoreSession<K>>
+    ensures takes { TakesCall store.server call.number call.request (K.state store.keeper).entries (K.state (session_keeper result)).entries (end_of result) }
+    ensures kept { Keeps (K.state store.keeper) (K.state (session_keeper result)) (IsKeeperFailed (end_of result)) (λ es. length (es ++ kept_for store.server call.request) ≤ (K.state store.keeper).room) }
 {
-    out.clear();
-    // Read for the proof alone: that the server is sound.
-    let _state = server.state();
     let Numbered { number, request } = call;
     match request {
-        Request::Post { random_id, posts } => {
-            put_post(
-                alloc,
-                profile,
-                server,
-                number,
-                random_id,
-                posts.as_slice(),
-                out,
-            )
-        }
-        request => put_answer(alloc, profile, server, number, &request, out),
+        Request::Post { random_id, posts } => take_post(alloc, store, number, random_id, posts),
+        request => match answer(alloc, store.server(), number, &request) {
+            Ok(sent) => Ok((store, sent)),
+            Err(_) => Err(StoreSession::Memory { store }),
+        },
     }
 }
 
-// Appends the answer to a request.
-fn put_answer(
+// Takes posts.
+fn take_post<K: Keeper>(
     alloc: Global,
-    profile: &Profile,
-    server: &Server,
-    number: u32,
-    request: &Request,
-    out: &mut Bytes,
-) -> Result<(), Memory>
-    requires sound { IsSound server.now }
-    requires answered { IsAnswered request.now }
-    requires empty { out.old ≡ [] }
-    ensures { OnOk result (Packed (SpellsFrame profile.now) (sent_for server.now number request.now) out.new) }
-{
-    let reply = server.answer(alloc, request)?;
-    put_frame(alloc, profile, &Frame::Reply { number, reply }, out)
-}
-
-// Takes posts, and appends what is sent for them.
-fn put_post(
-    alloc: Global,
-    profile: &Profile,
-    server: &mut Server,
+    store: Stored<K>,
     number: u32,
     random_id: i64,
-    posts: &[Post],
-    out: &mut Bytes,
-) -> Result<(), Memory>
-    requires sound { IsSound server.old }
-    requires empty { out.old ≡ [] }
-    ensures { AnswersPost profile.now server.old number random_id posts.now out.new result server.new }
+    posts: Posts,
+) -> Result<(Stored<K>, Sent), StoreSession<K>>
+    ensures takes { TakesCall store.server number (PostRequest random_id posts) (K.state store.keeper).entries (K.state (session_keeper result)).entries (end_of result) }
+    ensures kept { Keeps (K.state store.keeper) (K.state (session_keeper result)) (IsKeeperFailed (end_of result)) (λ es. length (es ++ kept_of store.server random_id posts) ≤ (K.state store.keeper).room) }
 {
-    match server.post(random_id, posts) {
-        Ok(posted) => put_posted(alloc, profile, number, posted, out),
-        Err(PostFault::Memory) => Err(AllocError),
-        Err(fault) => put_refusal(alloc, profile, number, fault, out),
+    // Read for the proof alone: that the server is sound.
+    let _state = store.server().state();
+    match store.post(random_id, posts) {
+        Ok((store, posted)) => Ok((store, receipt(number, posted))),
+        Err(StoreRefusal::Refused { store, fault }) => match refusal(alloc, number, fault) {
+            Ok(sent) => Ok((store, sent)),
+            Err(_) => Err(StoreSession::Memory { store }),
+        },
+        Err(StoreRefusal::Failed { keeper }) => Err(StoreSession::Failed { keeper }),
+        Err(StoreRefusal::Memory { store }) => Err(StoreSession::Memory { store }),
     }
 }
 
-// Appends the receipt of posts, and then their push.
-fn put_posted(
-    alloc: Global,
-    profile: &Profile,
-    number: u32,
-    posted: Posted,
-    out: &mut Bytes,
-) -> Result<(), Memory>
-    requires short { IfSome posted.push (λ push. frame_size (PushFrame push) ≤ MAX_FRAME_BYTES) }
-    requires empty { out.old ≡ [] }
-    ensures { OnOk result (Packed (SpellsFrame profile.now) (posted_frames number (Ok posted)) out.new) }
+// The answer to a request but for posts.
+fn answer(alloc: Global, server: &Server, number: u32, request: &Request) -> Result<Sent, Memory>
+    requires { IsAnswered request.now }
+    ensures { IfOk result (λ x. Sends x (sent_for server.now number request.now)) }
+{
+    // Read for the proof alone: that the server is sound.
+    let _state = server.state();
+    Ok(Sent {
+        reply: Frame::Reply {
+            number,
+            reply: server.answer(alloc, request)?,
+        },
+        push: None,
+    })
+}
+
+// The receipt of posts, and their push.
+fn receipt(number: u32, posted: Posted) -> Sent
+    requires { IfSome posted.push (λ push. frame_size (PushFrame push) ≤ MAX_FRAME_BYTES) }
+    ensures { Sends result (posted_frames number (Ok posted)) }
 {
     let Posted { receipt, push } = posted;
     let reply = Frame::Reply {
@@ -103,42 +99,44 @@ fn put_posted(
         reply: Reply::Receipt(receipt),
     };
     match push {
-        Some(push) => put_both(alloc, profile, &reply, &Frame::Push(push), out),
-        None => put_frame(alloc, profile, &reply, out),
+        Some(push) => Sent {
+            reply,
+            push: Some(Frame::Push(push)),
+        },
+        None => Sent { reply, push: None },
     }
 }
 
-// Appends two frames.
-fn put_both(
-    alloc: Global,
-    profile: &Profile,
-    first: &Frame,
-    second: &Frame,
-    out: &mut Bytes,
-) -> Result<(), Memory>
-    requires first { frame_size first.now ≤ MAX_FRAME_BYTES }
-    requires second { frame_size second.now ≤ MAX_FRAME_BYTES }
-    requires empty { out.old ≡ [] }
-    ensures { OnOk result (Packed (SpellsFrame profile.now) (first.now ∷ second.now ∷ []) out.new) }
+// The refusal of posts by its name.
+fn refusal(alloc: Global, number: u32, fault: PostFault) -> Result<Sent, Memory>
+    ensures { IfOk result (λ x. Sends x (posted_frames number (Err fault))) }
 {
-    put_frame(alloc, profile, first, out)?;
-    put_frame(alloc, profile, second, out)
+    Ok(Sent {
+        reply: Frame::Reply {
+            number,
+            reply: Reply::Error {
+                code: 400,
+                text: Bytes::from_slice(alloc, fault.name().as_bytes())?,
+            },
+        },
+        push: None,
+    })
 }
 
-// Appends the refusal of posts by its name.
-fn put_refusal(
+/// Puts the packets of what is sent in place of what stands in `out`.
+pub fn put_sent(
     alloc: Global,
     profile: &Profile,
-    number: u32,
-    fault: PostFault,
+    sent: &Sent,
     out: &mut Bytes,
 ) -> Result<(), Memory>
-    requires { out.old ≡ [] }
-    ensures { OnOk result (Packed (SpellsFrame profile.now) (posted_frames number (Err fault)) out.new) }
+    requires { AreShort sent.now }
+    ensures { OnOk result (Packed (SpellsFrame profile.now) (frames_in sent.now) out.new) }
 {
-    let reply = Reply::Error {
-        code: 400,
-        text: Bytes::from_slice(alloc, fault.name().as_bytes())?,
-    };
-    put_frame(alloc, profile, &Frame::Reply { number, reply }, out)
+    out.clear();
+    put_frame(alloc, profile, &sent.reply, out)?;
+    match &sent.push {
+        Some(push) => put_frame(alloc, profile, push, out),
+        None => Ok(()),
+    }
 }

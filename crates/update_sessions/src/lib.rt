@@ -5,10 +5,14 @@ mod answering;
 mod asking;
 mod fault;
 mod hearing;
+mod laws;
 mod packing;
 mod receiving;
 mod serving;
+mod storing;
 
 pub use fault::{MAX_FRAMES, SessionFault};
 pub use hearing::client_session;
+pub use laws::sessions_are_kept;
 pub use serving::serve_session;
+pub use storing::{StoreSession, store_session};

@@ -1,19 +1,19 @@
 //! Sessions of a server.
-ghost use Rattle.std.specs.Prelude.{◌≡◌, ◌<◌, ◌^◌, ℕ, List, IsErrOf};
+ghost use Rattle.std.specs.Prelude.{◌≡◌, ◌<◌, ◌^◌, List, IsErrOf};
 ghost use Rattle.box_events.specs.declared.requests.Numbered.{Numbered};
 ghost use Rattle.box_server.specs.Servers.{dated_at};
-ghost use Rattle.update_sessions.specs.Exchanges.{MaySend, MaySendFor};
+ghost use Rattle.update_sessions.specs.Exchanges.{MaySend};
 ghost use Rattle.update_sessions.specs.Links.{LinkNeverFails, OverLink, UsesLink};
 ghost use Rattle.update_sessions.specs.Served.{Serves};
 ghost use Rattle.update_sessions.specs.Serving.{server_side};
-ghost use Rattle.update_sessions.specs.inner.Steps.{ServesNext};
 
-use crate::answering::answer_call;
-use crate::fault::{MAX_FRAMES, SessionFault};
-use crate::receiving::receive_call;
+use crate::fault::SessionFault;
+use crate::storing::{StoreSession, store_session};
 use box_server::Server;
+use box_store::Stored;
 use std::alloc::Global;
-use tl_base::{Bytes, Link, write_all};
+use std::mem::replace;
+use tl_base::Link;
 use wire_profile::Profile;
 
 /// Answers each call of a link to its end, and says how many there were. The clock shows `now`, in seconds. The receipt of a post goes out with its push, in one write.
@@ -30,35 +30,20 @@ pub fn serve_session<L: Link>(
     ensures beside { L.beside link.new ≡ L.beside link.old }
     ensures never { LinkNeverFails (L.Source.state link.old) (L.Sink.state link.old) (MaySend (server_side profile.now) (dated_at server.old now)) (IsErrOf result SessionFault.LinkFault) }
 {
-    server.set_date(now);
-    let mut packet = Bytes::new(alloc);
-    let mut out = Bytes::new(alloc);
-    for calls in 0..MAX_FRAMES {
-        if !serve_next(alloc, profile, server, link, &mut packet, &mut out)? {
-            return Ok(calls);
+    let store = Stored::over(replace(server, Server::new(alloc)));
+    match store_session(alloc, profile, store, link, now) {
+        Ok((store, calls)) => {
+            *server = store.into_server();
+            Ok(calls)
         }
+        Err(StoreSession::Session { store, fault }) => {
+            *server = store.into_server();
+            Err(fault)
+        }
+        Err(StoreSession::Memory { store }) => {
+            *server = store.into_server();
+            Err(SessionFault::Memory)
+        }
+        Err(StoreSession::Failed { .. }) => unreachable!(),
     }
-    Err(SessionFault::TooManyFrames)
-}
-
-// Answers the next call. False: the link has ended.
-fn serve_next<L: Link>(
-    alloc: Global,
-    profile: &Profile,
-    server: &mut Server,
-    link: &mut L,
-    packet: &mut Bytes,
-    out: &mut Bytes,
-) -> Result<bool, SessionFault>
-    ensures serves { ServesNext profile.now server.old (L.Source.state link.old).left (L.Sink.state link.old).written (L.Source.state link.new).left (L.Sink.state link.new).written server.new result }
-    ensures used { UsesLink (L.Source.state link.old) (L.Source.state link.new) (L.Sink.state link.old) (L.Sink.state link.new) (IsErrOf result SessionFault.LinkFault) }
-    ensures beside { L.beside link.new ≡ L.beside link.old }
-    ensures never { LinkNeverFails (L.Source.state link.old) (L.Sink.state link.old) (MaySendFor (server_side profile.now) 1 server.old) (IsErrOf result SessionFault.LinkFault) }
-{
-    let Some(call) = receive_call(alloc, profile, link, packet)? else {
-        return Ok(false);
-    };
-    answer_call(alloc, profile, server, call, out)?;
-    write_all(link, out.as_slice())?;
-    Ok(true)
 }

@@ -7,9 +7,18 @@ use Rattle.box_wire.specs.Kinds.{frames}
 use Rattle.update_sessions.specs.Exchanges.{MaySendFor}
 use Rattle.update_sessions.specs.Hearing.{client_side}
 use Rattle.update_sessions.proofs.LinkUses.{IsOne, uses_read}
-use Rattle.update_sessions.proofs.ClientSteps.{next_ok, next_refused, next_kept_off, next_cut, next_done, sent, takes, after}
+use Rattle.update_sessions.proofs.ClientSteps.{next_none, next_ok, next_refused, next_kept_off, next_cut, next_done, sent, takes, after}
 use Rattle.update_sessions.proofs.Stepping.{never_as, step_never}
 use Rattle.update_sessions.proofs.hearing.hear_next.Goals as goal
+
+pub returns-in_err-frame-clause-hears : goal.returns-in_err-frame-clause-hears
+returns-in_err-frame-clause-hears g c =
+    let from = g.L.Source in
+    let to = g.L.Sink in
+    let written = g.met.L.Link.reading_keeps_written c.args.link.now c.receive_frame.new.from (sym c.receive_frame.ensures.used.kept) in
+    let q = err_from_is_err_and c.from_residual.result c.from_residual.ensures.1 in
+    rw (q.1, q.2) (next_none c.args.profile.now c.args.client.now (from.state c.args.link.now).left (to.state c.args.link.now).written (from.state c.receive_frame.new.from).left (to.state c.receive_frame.new.from).written c.in_err-frame.field-0.0
+    c.in_err-frame.ensures.receives written)
 
 pub returns-in_err-hear_frame-clause-hears : goal.returns-in_err-hear_frame-clause-hears
 returns-in_err-hear_frame-clause-hears g c =
