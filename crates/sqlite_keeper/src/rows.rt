@@ -1,0 +1,156 @@
+//! Posts as rows.
+use box_events::{Ids, Post};
+use sqlite::{Alter, Connection, Error, Statement, params};
+use std::alloc::{AllocError, Global};
+use tl_base::{Bytes, bytes_of_i32, i32_of};
+
+/// A row of the table of posts, its number aside.
+#[derive(Drop)]
+pub struct PostRow {
+    pub kind: i64,
+    pub number: i64,
+    pub body: Vec<u8>,
+    pub more: Vec<u8>,
+}
+
+// The id of a read mark: all bytes are its own.
+fn id_of(bytes: &[u8]) -> Option<i32> {
+    if bytes.len() != 4 {
+        return None;
+    }
+    Some(i32_of([bytes[0], bytes[1], bytes[2], bytes[3]]))
+}
+
+// Ids of four bytes each, the lowest first; none where some bytes are left.
+fn ids_of(alloc: Global, bytes: &[u8]) -> Result<Option<Ids>, AllocError> {
+    let mut ids = Ids::new(alloc);
+    let mut at = 0usize;
+    while at < bytes.len() {
+        if bytes.len() - at < 4 {
+            return Ok(None);
+        }
+        ids.push(i32_of([bytes[at], bytes[at + 1], bytes[at + 2], bytes[at + 3]]))?;
+        at += 4;
+    }
+    Ok(Some(ids))
+}
+
+fn bytes_of(alloc: Global, ids: &Ids) -> Result<Vec<u8>, AllocError> {
+    let mut bytes = Vec::with_capacity(alloc, ids.as_slice().len().saturating_mul(4))?;
+    for id in ids.as_slice() {
+        bytes.extend_from_slice(&bytes_of_i32(*id))?;
+    }
+    Ok(bytes)
+}
+
+/// The post of a row; none where it is no post's.
+pub fn post_of(alloc: Global, row: PostRow) -> Result<Option<Post>, AllocError> {
+    let PostRow {
+        kind,
+        number,
+        body,
+        more,
+    } = row;
+    Ok(match kind {
+        0 => Some(Post::Message {
+            body: Bytes::from_vec(body),
+        }),
+        1 => Some(Post::Edit {
+            body: Bytes::from_vec(body),
+        }),
+        2 => match ids_of(alloc, body.as_slice())? {
+            Some(ids) => Some(Post::Delete { ids }),
+            None => None,
+        },
+        3 => Some(Post::Secret {
+            body: Bytes::from_vec(body),
+        }),
+        4 => Some(Post::ChannelMessage {
+            id: number,
+            body: Bytes::from_vec(body),
+        }),
+        5 => Some(Post::ChannelEdit {
+            id: number,
+            body: Bytes::from_vec(body),
+        }),
+        6 => match ids_of(alloc, body.as_slice())? {
+            Some(ids) => Some(Post::ChannelDelete { id: number, ids }),
+            None => None,
+        },
+        7 => Some(Post::Setting {
+            key: Bytes::from_vec(more),
+            value: Bytes::from_vec(body),
+        }),
+        8 => match id_of(body.as_slice()) {
+            Some(max_id) => Some(Post::Read { max_id }),
+            None => None,
+        },
+        9 => match id_of(body.as_slice()) {
+            Some(max_id) => Some(Post::ChannelRead { id: number, max_id }),
+            None => None,
+        },
+        _ => None,
+    })
+}
+
+fn row<S: Alter>(
+    conn: &mut Connection<S>,
+    add: &Statement,
+    id: i64,
+    kind: i64,
+    number: i64,
+    body: &[u8],
+    more: &[u8],
+) -> Result<(), Error> {
+    add.execute(conn, params![id, kind, number, body, more])?;
+    Ok(())
+}
+
+/// Adds the row of a post.
+pub fn put_row<S: Alter>(
+    alloc: Global,
+    conn: &mut Connection<S>,
+    add: &Statement,
+    id: i64,
+    post: &Post,
+) -> Result<(), Error> {
+    match post {
+        Post::Message { body } => row(conn, add, id, 0, 0, body.as_slice(), &[]),
+        Post::Edit { body } => row(conn, add, id, 1, 0, body.as_slice(), &[]),
+        Post::Delete { ids } => row(conn, add, id, 2, 0, bytes_of(alloc, ids)?.as_slice(), &[]),
+        Post::Secret { body } => row(conn, add, id, 3, 0, body.as_slice(), &[]),
+        Post::ChannelMessage { id: channel, body } => row(
+            conn,
+            add,
+            id,
+            4,
+            *channel,
+            body.as_slice(),
+            &[],
+        ),
+        Post::ChannelEdit { id: channel, body } => row(
+            conn,
+            add,
+            id,
+            5,
+            *channel,
+            body.as_slice(),
+            &[],
+        ),
+        Post::ChannelDelete { id: channel, ids } => row(
+            conn,
+            add,
+            id,
+            6,
+            *channel,
+            bytes_of(alloc, ids)?.as_slice(),
+            &[],
+        ),
+        Post::Setting { key, value } => row(conn, add, id, 7, 0, value.as_slice(), key.as_slice()),
+        Post::Read { max_id } => row(conn, add, id, 8, 0, &bytes_of_i32(*max_id), &[]),
+        Post::ChannelRead {
+            id: channel,
+            max_id,
+        } => row(conn, add, id, 9, *channel, &bytes_of_i32(*max_id), &[]),
+    }
+}
