@@ -1,47 +1,44 @@
 //! Rows of bytes, numbers, sources, sinks and hosts.
-use crate::asked::{Asked, asked_of, first};
-use crate::hosts::host_told;
-use crate::lists::list_told;
-use crate::numbers::number_told;
-use crate::row::{otherwise, parted, unread};
-use crate::sinks::sink_told;
-use crate::sources::source_told;
+use crate::hosts::host_call;
+use crate::lists::list_call;
+use crate::named::Named;
+use crate::numbers::number_call;
+use crate::row::{Row, Rows, difference};
+use crate::sinks::sink_call;
+use crate::sources::source_call;
 use std::alloc::{AllocError, Global};
-use std::collections::BTreeMap;
 use tl_base::{Bytes, MemHost, MemSink, MemSource};
 
 /// What the rows of a file name.
 #[derive(Drop)]
 pub struct Base {
-    lists: BTreeMap<String, Bytes>,
-    sources: BTreeMap<String, MemSource>,
-    sinks: BTreeMap<String, MemSink>,
-    hosts: BTreeMap<String, MemHost>,
+    lists: Named<Bytes>,
+    sources: Named<MemSource>,
+    sinks: Named<MemSink>,
+    hosts: Named<MemHost>,
 }
 
 impl Base {
     /// Nothing is named.
     pub fn new(alloc: Global) -> Base {
         Base {
-            lists: BTreeMap::new(alloc),
-            sources: BTreeMap::new(alloc),
-            sinks: BTreeMap::new(alloc),
-            hosts: BTreeMap::new(alloc),
+            lists: Named::new(alloc),
+            sources: Named::new(alloc),
+            sinks: Named::new(alloc),
+            hosts: Named::new(alloc),
         }
     }
 }
 
-// The answer of the call that a row says.
-fn told(alloc: Global, base: &mut Base, asked: &Asked) -> Result<String, AllocError> {
-    let text = asked.text();
-    let (kind, words) = first(asked.words.as_slice());
-    let (name, call) = first(words);
-    match kind {
-        "list" => list_told(alloc, &mut base.lists, name, call, text),
-        "source" => source_told(alloc, &mut base.sources, name, call, text),
-        "sink" => sink_told(alloc, &mut base.sinks, name, call, text),
-        "host" => host_told(alloc, &mut base.hosts, name, call, text),
-        _ => number_told(alloc, asked.words.as_slice(), text),
+impl Rows for Base {
+    fn call(&mut self, row: &mut Row) {
+        match row.word() {
+            "list" => list_call(&mut self.lists, row),
+            "source" => source_call(&mut self.sources, row),
+            "sink" => sink_call(&mut self.sinks, row),
+            "host" => host_call(&mut self.hosts, row),
+            call => number_call(call, row),
+        }
     }
 }
 
@@ -51,9 +48,5 @@ pub fn base_difference(
     base: &mut Base,
     row: &str,
 ) -> Result<Option<String>, AllocError> {
-    let Some((asked, wanted)) = parted(row) else {
-        return unread(alloc, row, "a row without an answer");
-    };
-    let told = told(alloc, base, &asked_of(alloc, asked)?)?;
-    otherwise(alloc, asked, told.as_str(), wanted)
+    difference(alloc, base, row)
 }

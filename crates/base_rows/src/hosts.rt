@@ -1,9 +1,9 @@
 //! Rows `host NAME CALL` of the host in memory.
-use crate::asked::{first, quoted};
-use crate::sinks::all_told;
-use crate::sources::{end_told, rest_told, word_told};
+use crate::named::Named;
+use crate::row::Row;
+use crate::sinks::all;
+use crate::sources::{end, rest, tell_read, word};
 use std::alloc::{AllocError, Global};
-use std::collections::BTreeMap;
 use tl_base::{Bytes, Failed, Host, HostCall, LinkOf, MemHost, Out, SinkOf, Slot, SourceOf};
 
 const KINDS: [HostCall; 13] = [
@@ -42,14 +42,16 @@ fn out_of(word: &str) -> Option<Out> {
     }
 }
 
-fn kind_of(words: &[&str]) -> Option<HostCall> {
-    let (kind, words) = first(words);
-    let (of, _) = first(words);
-    match kind {
+fn kind_of(row: &mut Row) -> Option<HostCall> {
+    match row.word() {
         "open" => Some(HostCall::Open),
-        "read" => Some(HostCall::Read { slot: slot_of(of)? }),
+        "read" => Some(HostCall::Read {
+            slot: slot_of(row.word())?,
+        }),
         "create" => Some(HostCall::Create),
-        "write" => Some(HostCall::Write { out: out_of(of)? }),
+        "write" => Some(HostCall::Write {
+            out: out_of(row.word())?,
+        }),
         "listen" => Some(HostCall::Listen),
         "connect" => Some(HostCall::Connect),
         "accept" => Some(HostCall::Accept),
@@ -71,152 +73,126 @@ fn prepared(alloc: Global) -> Result<MemHost, AllocError> {
     Ok(host)
 }
 
-// Cuts a read at so many bytes.
-fn tell_cut(host: &mut MemHost, most: &str) -> Result<bool, AllocError> {
-    let Ok(most) = most.parse::<u32>() else {
-        return Ok(false);
+// A moment comes.
+fn moment(host: &mut MemHost, row: &mut Row) -> Result<(), AllocError> {
+    let now = row.number();
+    if now < 0x8000_0000 {
+        return host.moment(now);
+    }
+    Ok(())
+}
+
+// A call of a kind fails, by its number from 0.
+fn fail(host: &mut MemHost, row: &mut Row) -> Result<(), AllocError> {
+    let number = row.number();
+    match kind_of(row) {
+        Some(kind) => host.fail(kind, number as u64),
+        None => Ok(row.unknown()),
+    }
+}
+
+// A file with the row's text.
+fn file(host: &mut MemHost, row: &mut Row) -> Result<(), AllocError> {
+    let name = row.word();
+    host.file(row.alloc(), name, Bytes::from_vec(row.bytes()))
+}
+
+// A link to come with the row's text.
+fn to_come(host: &mut MemHost, row: &mut Row) -> Result<(), AllocError> {
+    host.link(row.alloc(), Bytes::from_vec(row.bytes()))
+}
+
+// Tells a host what it is to find or do.
+fn tell(host: &mut MemHost, call: &str, row: &mut Row) {
+    let told = match call {
+        "to-come" => to_come(host, row),
+        "file" => file(host, row),
+        "cut" => host.cut(row.number()),
+        "moment" => moment(host, row),
+        "fail" => fail(host, row),
+        _ => Ok(row.unknown()),
     };
-    host.cut(most)?;
-    Ok(true)
-}
-
-// Has a moment come.
-fn tell_moment(host: &mut MemHost, now: &str) -> Result<bool, AllocError> {
-    match now.parse::<u32>() {
-        Ok(now) if now < 0x8000_0000 => {
-            host.moment(now)?;
-            Ok(true)
-        }
-        _ => Ok(false),
-    }
-}
-
-// Has a call of a kind fail, by its number from 0.
-fn tell_fail(host: &mut MemHost, number: &str, kind: &[&str]) -> Result<bool, AllocError> {
-    let (Ok(number), Some(kind)) = (number.parse::<u64>(), kind_of(kind)) else {
-        return Ok(false);
-    };
-    host.fail(kind, number)?;
-    Ok(true)
-}
-
-// Adds a file, or a link to come where it has no name.
-fn tell_bytes(
-    alloc: Global,
-    host: &mut MemHost,
-    name: Option<&str>,
-    text: &[u8],
-) -> Result<bool, AllocError> {
-    let bytes = Bytes::from_slice(alloc, text)?;
-    match name {
-        Some(name) => host.file(alloc, name, bytes)?,
-        None => host.link(alloc, bytes)?,
-    }
-    Ok(true)
-}
-
-// Tells a host what it is to find or do; whether the words say that.
-fn tells(
-    alloc: Global,
-    host: &mut MemHost,
-    call: &[&str],
-    text: &[u8],
-) -> Result<bool, AllocError> {
-    let (call, words) = first(call);
-    let (word, kind) = first(words);
-    match call {
-        "to-come" => tell_bytes(alloc, host, None, text),
-        "file" => tell_bytes(alloc, host, Some(word), text),
-        "cut" => tell_cut(host, word),
-        "moment" => tell_moment(host, word),
-        "fail" => tell_fail(host, word, kind),
-        _ => Ok(false),
-    }
+    row.done("told", told);
 }
 
 // ---- calls
 
-fn unit_told(alloc: Global, came: Result<(), Failed>) -> Result<String, AllocError> {
-    match came {
-        Ok(()) => String::from_str(alloc, "done"),
-        Err(fault) => format!(in alloc; "{fault:?}"),
-    }
+fn open(host: &mut MemHost, slot: Slot, row: &mut Row) {
+    let opened = host.open_slot(slot, row.word());
+    row.done("done", opened);
 }
 
 // How many bytes a read into four gave, and what the four are then.
-fn read_told(alloc: Global, host: &mut MemHost, slot: Slot) -> Result<String, AllocError> {
+fn read(host: &mut MemHost, slot: Slot, row: &mut Row) {
     let mut four = [0u8; 4];
-    match host.read(slot, &mut four) {
-        Ok(count) => {
-            let four = quoted(alloc, &four)?;
-            format!(in alloc; "{count} {four}")
-        }
-        Err(fault) => format!(in alloc; "{fault:?}"),
+    let came = host.read(slot, &mut four);
+    tell_read(came, &four, row);
+}
+
+// Makes a call of a slot.
+fn call_slot(host: &mut MemHost, slot: Slot, row: &mut Row) {
+    match row.word() {
+        "open" => open(host, slot, row),
+        "read" => read(host, slot, row),
+        "end" => end(&mut SourceOf::new(host, slot), row),
+        "rest" => rest(&mut SourceOf::new(host, slot), row),
+        _ => row.unknown(),
     }
 }
 
-fn write_told(
-    alloc: Global,
-    host: &mut MemHost,
-    out: Out,
-    piece: &[u8],
-) -> Result<String, AllocError> {
-    match host.write(out, piece) {
-        Ok(count) => format!(in alloc; "{count}"),
-        Err(fault) => format!(in alloc; "{fault:?}"),
+fn create(host: &mut MemHost, out: Out, row: &mut Row) {
+    let created = host.create(out, row.word());
+    row.done("done", created);
+}
+
+fn write(host: &mut MemHost, out: Out, row: &mut Row) {
+    let piece = row.bytes();
+    row.show_came(host.write(out, piece.as_slice()));
+}
+
+// Makes a call of an out.
+fn call_out(host: &mut MemHost, out: Out, row: &mut Row) {
+    match row.word() {
+        "create" => create(host, out, row),
+        "write" => write(host, out, row),
+        "all" => all(&mut SinkOf::new(host, out), row),
+        "written" => row.quote(host.written(out)),
+        _ => row.unknown(),
     }
 }
 
-// The answer of a call of a slot.
-fn slot_told(
-    alloc: Global,
-    host: &mut MemHost,
-    slot: Slot,
-    call: &[&str],
-) -> Result<String, AllocError> {
-    let (call, words) = first(call);
-    let (word, _) = first(words);
-    match call {
-        "open" => unit_told(alloc, host.open_slot(slot, word)),
-        "read" => read_told(alloc, host, slot),
-        "end" => end_told(alloc, &mut SourceOf::new(host, slot)),
-        "rest" => rest_told(alloc, &mut SourceOf::new(host, slot), word),
-        _ => String::from_str(alloc, "an unknown call"),
+// Makes a call of the present link.
+fn call_link(host: &mut MemHost, row: &mut Row) {
+    match row.word() {
+        "word" => word(&mut LinkOf::new(host), row),
+        "end" => end(&mut LinkOf::new(host), row),
+        "all" => all(&mut LinkOf::new(host), row),
+        _ => row.unknown(),
     }
 }
 
-// The answer of a call of an out.
-fn out_told(
-    alloc: Global,
-    host: &mut MemHost,
-    out: Out,
-    call: &[&str],
-    text: &[u8],
-) -> Result<String, AllocError> {
-    let (call, words) = first(call);
-    match call {
-        "create" => unit_told(alloc, host.create(out, first(words).0)),
-        "write" => write_told(alloc, host, out, text),
-        "all" => all_told(alloc, &mut SinkOf::new(host, out), text),
-        "written" => quoted(alloc, host.written(out)),
-        _ => String::from_str(alloc, "an unknown call"),
+fn from(host: &mut MemHost, row: &mut Row) {
+    match slot_of(row.word()) {
+        Some(slot) => call_slot(host, slot, row),
+        None => row.unknown(),
     }
 }
 
-// The answer of a call of the present link.
-fn link_told(
-    alloc: Global,
-    host: &mut MemHost,
-    call: &[&str],
-    text: &[u8],
-) -> Result<String, AllocError> {
-    let (call, _) = first(call);
-    match call {
-        "word" => word_told(alloc, &mut LinkOf::new(host)),
-        "end" => end_told(alloc, &mut LinkOf::new(host)),
-        "all" => all_told(alloc, &mut LinkOf::new(host), text),
-        _ => String::from_str(alloc, "an unknown call"),
+fn to(host: &mut MemHost, row: &mut Row) {
+    match out_of(row.word()) {
+        Some(out) => call_out(host, out, row),
+        None => row.unknown(),
     }
+}
+
+fn listen(host: &mut MemHost, row: &mut Row) {
+    let came = host.listen(row.word());
+    row.done("done", came);
+}
+
+fn connect(host: &mut MemHost, row: &mut Row) {
+    let came = host.connect(row.word());
+    row.done("done", came);
 }
 
 // ---- which calls fail
@@ -234,102 +210,73 @@ fn fails(host: &mut MemHost, kind: HostCall) -> bool {
     }
 }
 
-// Those that fail of three calls of each kind, which are numbered from 0.
-fn failing_told(alloc: Global, host: &mut MemHost) -> Result<String, AllocError> {
-    let mut text = String::from_str(alloc, "failing:")?;
-    for kind in KINDS {
-        for number in 0..3u8 {
-            if fails(host, kind) {
-                text.push_str(format!(in alloc; " {kind:?} {number}")?.as_str())?;
-            }
+// Those that fail of three calls of a kind, which are numbered from 0.
+fn tell_failing(host: &mut MemHost, kind: HostCall, row: &mut Row) {
+    for number in 0..3u8 {
+        if fails(host, kind) {
+            row.put(" ");
+            row.show(&kind);
+            row.put(" ");
+            row.show(&number);
         }
     }
-    Ok(text)
 }
 
-fn now_told(alloc: Global, host: &mut MemHost) -> Result<String, AllocError> {
-    let now = host.now();
-    format!(in alloc; "{now}")
+// The same of each kind.
+fn failing(host: &mut MemHost, row: &mut Row) {
+    row.put("failing:");
+    for kind in KINDS {
+        tell_failing(host, kind, row);
+    }
 }
 
-fn answered(
-    alloc: Global,
-    host: &mut MemHost,
-    call: &[&str],
-    text: &[u8],
-) -> Result<String, AllocError> {
-    let (call, words) = first(call);
-    let (word, call_of) = first(words);
+fn call(host: &mut MemHost, call: &str, row: &mut Row) {
     match call {
-        "listen" => unit_told(alloc, host.listen(word)),
-        "connect" => unit_told(alloc, host.connect(word)),
-        "accept" => unit_told(alloc, host.accept()),
-        "now" => now_told(alloc, host),
-        "three-of-each" => failing_told(alloc, host),
-        "link" => link_told(alloc, host, words, text),
-        "from" => match slot_of(word) {
-            Some(slot) => slot_told(alloc, host, slot, call_of),
-            None => String::from_str(alloc, "no such slot"),
-        },
-        "to" => match out_of(word) {
-            Some(out) => out_told(alloc, host, out, call_of, text),
-            None => String::from_str(alloc, "no such out"),
-        },
-        _ => String::from_str(alloc, "an unknown call"),
+        "listen" => listen(host, row),
+        "connect" => connect(host, row),
+        "accept" => row.done("done", host.accept()),
+        "now" => row.show(&host.now()),
+        "three-of-each" => failing(host, row),
+        "link" => call_link(host, row),
+        "from" => from(host, row),
+        "to" => to(host, row),
+        call => tell(host, call, row),
     }
 }
 
 // ---- named hosts
 
-// The host that the words make; None where they make none.
-fn made(alloc: Global, call: &[&str]) -> Result<Option<MemHost>, AllocError> {
-    let (call, words) = first(call);
-    match call {
-        "room" => match first(words).0.parse::<u32>() {
-            Ok(room) => Ok(Some(MemHost::new(alloc, room)?)),
-            Err(_) => Ok(None),
-        },
-        "prepared" => Ok(Some(prepared(alloc)?)),
-        _ => Ok(None),
+fn make(hosts: &mut Named<MemHost>, name: &str, made: Result<MemHost, AllocError>, row: &mut Row) {
+    let _ = hosts.take(name);
+    match made {
+        Ok(host) => {
+            row.put("made");
+            hosts.keep(row, name, host);
+        }
+        Err(_) => row.short(),
     }
 }
 
-fn put(
-    alloc: Global,
-    hosts: &mut BTreeMap<String, MemHost>,
-    name: &str,
-    host: MemHost,
-) -> Result<String, AllocError> {
-    hosts.insert(String::from_str(alloc, name)?, host)?;
-    String::from_str(alloc, "made")
+fn call_named(hosts: &mut Named<MemHost>, name: &str, word: &str, row: &mut Row) {
+    match hosts.take(name) {
+        Some(mut host) => {
+            call(&mut host, word, row);
+            hosts.keep(row, name, host);
+        }
+        None => row.unknown(),
+    }
 }
 
-// The answer of a call of a host, or that it was told something.
-fn told_or_answered(
-    alloc: Global,
-    host: &mut MemHost,
-    call: &[&str],
-    text: &[u8],
-) -> Result<String, AllocError> {
-    if tells(alloc, host, call, text)? {
-        return String::from_str(alloc, "told");
-    }
-    answered(alloc, host, call, text)
-}
-
-/// The answer of a call of the host with this name.
-pub fn host_told(
-    alloc: Global,
-    hosts: &mut BTreeMap<String, MemHost>,
-    name: &str,
-    call: &[&str],
-    text: &[u8],
-) -> Result<String, AllocError> {
-    if let Some(host) = made(alloc, call)? {
-        return put(alloc, hosts, name, host);
-    }
-    match hosts.get_mut(name) {
-        Some(host) => told_or_answered(alloc, host, call, text),
-        None => String::from_str(alloc, "no such host"),
+/// Makes a call of the host with the next word's name.
+pub fn host_call(hosts: &mut Named<MemHost>, row: &mut Row) {
+    let name = row.word();
+    let alloc = row.alloc();
+    match row.word() {
+        "room" => {
+            let room = row.number();
+            make(hosts, name, MemHost::new(alloc, room), row)
+        }
+        "prepared" => make(hosts, name, prepared(alloc), row),
+        word => call_named(hosts, name, word, row),
     }
 }

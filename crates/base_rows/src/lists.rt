@@ -1,61 +1,42 @@
 //! Rows `list NAME CALL`.
-use crate::asked::{first, quoted};
-use std::alloc::{AllocError, Global};
-use std::collections::BTreeMap;
+use crate::named::Named;
+use crate::row::Row;
+use std::alloc::AllocError;
 use tl_base::Bytes;
 
-// The list after a call.
-fn list_after(
-    alloc: Global,
-    list: &mut Bytes,
-    call: &str,
-    text: &[u8],
-) -> Result<String, AllocError> {
-    match call {
-        "push" => {
-            for byte in text {
-                list.push(*byte)?;
-            }
-            quoted(alloc, list.as_slice())
-        }
-        "append" => {
-            list.append(text)?;
-            quoted(alloc, list.as_slice())
-        }
-        "copy" => quoted(alloc, list.copy()?.as_slice()),
-        _ => String::from_str(alloc, "an unknown call"),
+// Each byte is pushed.
+fn push(list: &mut Bytes, bytes: &[u8]) -> Result<(), AllocError> {
+    for byte in bytes {
+        list.push(*byte)?;
+    }
+    Ok(())
+}
+
+// A list in the place of another.
+fn set(list: &mut Bytes, made: Result<Bytes, AllocError>) -> Result<(), AllocError> {
+    *list = made?;
+    Ok(())
+}
+
+// Makes a call of a list. After `copy` it is its own copy.
+fn call(list: &mut Bytes, row: &mut Row) -> Result<(), AllocError> {
+    let bytes = row.bytes();
+    match row.word() {
+        "new" => set(list, Ok(Bytes::new(row.alloc()))),
+        "of" => set(list, Bytes::from_slice(row.alloc(), bytes.as_slice())),
+        "copy" => set(list, list.copy()),
+        "push" => push(list, bytes.as_slice()),
+        "append" => list.append(bytes.as_slice()),
+        _ => Ok(row.unknown()),
     }
 }
 
-// Names a list.
-fn put(
-    alloc: Global,
-    lists: &mut BTreeMap<String, Bytes>,
-    name: &str,
-    list: Bytes,
-) -> Result<String, AllocError> {
-    let told = quoted(alloc, list.as_slice())?;
-    lists.insert(String::from_str(alloc, name)?, list)?;
-    Ok(told)
-}
-
-/// The answer of a call of the list with this name.
-pub fn list_told(
-    alloc: Global,
-    lists: &mut BTreeMap<String, Bytes>,
-    name: &str,
-    call: &[&str],
-    text: &[u8],
-) -> Result<String, AllocError> {
-    let (call, _) = first(call);
-    if call == "of" {
-        return put(alloc, lists, name, Bytes::from_slice(alloc, text)?);
-    }
-    if call == "new" {
-        return put(alloc, lists, name, Bytes::new(alloc));
-    }
-    match lists.get_mut(name) {
-        Some(list) => list_after(alloc, list, call, text),
-        None => String::from_str(alloc, "no such list"),
-    }
+/// Makes a call of the list with the next word's name, and tells the list then.
+pub fn list_call(lists: &mut Named<Bytes>, row: &mut Row) {
+    let name = row.word();
+    let mut list = lists.take_or(name, Bytes::new(row.alloc()));
+    let made = call(&mut list, row);
+    row.done("", made);
+    row.quote(list.as_slice());
+    lists.keep(row, name, list);
 }

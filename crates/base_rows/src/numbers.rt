@@ -1,81 +1,73 @@
 //! Rows of numbers as text, numbers in bytes, and sums of texts.
-use crate::asked::quoted;
-use std::alloc::{AllocError, Global};
+use crate::row::Row;
 use tl_base::{bytes_of_i64, bytes_of_u32, i32_of, i64_of, u32_of, u64_of};
 use tl_numbers::{crc32, print_hex, read_hex};
 
+// The digits of a number.
+fn hex(row: &mut Row, number: u64, is_long: bool) {
+    let text = if is_long {
+        format!(in row.alloc(); "{number:016x}")
+    } else {
+        format!(in row.alloc(); "{number:08x}")
+    };
+    row.put_made(text);
+}
+
 // The number in four bytes.
-fn four_told(alloc: Global, call: &str, bytes: [u8; 4]) -> Result<String, AllocError> {
+fn of_four(call: &str, bytes: [u8; 4], row: &mut Row) {
     match call {
-        "u32_of" => {
-            let number = u32_of(bytes);
-            format!(in alloc; "{number:08x}")
-        }
-        "i32_of" => {
-            let number = i32_of(bytes);
-            format!(in alloc; "{number}")
-        }
-        _ => String::from_str(alloc, "an unknown call"),
+        "u32_of" => hex(row, u32_of(bytes) as u64, false),
+        "i32_of" => row.show(&i32_of(bytes)),
+        _ => row.unknown(),
     }
 }
 
 // The number in eight bytes.
-fn eight_told(alloc: Global, call: &str, bytes: [u8; 8]) -> Result<String, AllocError> {
+fn of_eight(call: &str, bytes: [u8; 8], row: &mut Row) {
     match call {
-        "u64_of" => {
-            let number = u64_of(bytes);
-            format!(in alloc; "{number:016x}")
-        }
-        "i64_of" => {
-            let number = i64_of(bytes);
-            format!(in alloc; "{number}")
-        }
-        _ => String::from_str(alloc, "an unknown call"),
+        "u64_of" => hex(row, u64_of(bytes), true),
+        "i64_of" => row.show(&i64_of(bytes)),
+        _ => row.unknown(),
     }
 }
 
-// The bytes or the digits of a number.
-fn bytes_told(alloc: Global, call: &str, number: &str) -> Result<String, AllocError> {
-    let Ok(number) = number.parse::<i64>() else {
-        return String::from_str(alloc, "no number");
-    };
-    if call == "bytes_of_i64" {
-        return quoted(alloc, &bytes_of_i64(number));
-    }
-    let Ok(number) = u32::try_from(number) else {
-        return String::from_str(alloc, "no number of 32 bits");
-    };
-    match call {
-        "bytes_of_u32" => quoted(alloc, &bytes_of_u32(number)),
-        "print_hex" => quoted(alloc, &print_hex(number)),
-        _ => String::from_str(alloc, "an unknown call"),
+// The number in a text.
+fn of_bytes(call: &str, row: &mut Row) {
+    let bytes = row.bytes();
+    match bytes.as_slice() {
+        [a, b, c, d] => of_four(call, [*a, *b, *c, *d], row),
+        [a, b, c, d, e, f, g, h] => of_eight(call, [*a, *b, *c, *d, *e, *f, *g, *h], row),
+        _ => row.unknown(),
     }
 }
 
-// What a text is.
-fn text_told(alloc: Global, call: &str, text: &[u8]) -> Result<String, AllocError> {
-    match (call, text) {
-        ("read_hex", text) => {
-            let number = read_hex(text);
-            format!(in alloc; "{number:?}")
-        }
-        ("crc32", text) => {
-            let sum = crc32(text);
-            format!(in alloc; "{sum:08x}")
-        }
-        (call, [a, b, c, d]) => four_told(alloc, call, [*a, *b, *c, *d]),
-        (call, [a, b, c, d, e, f, g, h]) => {
-            eight_told(alloc, call, [*a, *b, *c, *d, *e, *f, *g, *h])
-        }
-        _ => String::from_str(alloc, "an unknown call"),
+// The bytes or the digits of a number of 32 bits.
+fn of_number(call: &str, row: &mut Row) {
+    let number = row.long();
+    match (call, u32::try_from(number)) {
+        ("bytes_of_u32", Ok(number)) => row.quote(&bytes_of_u32(number)),
+        ("print_hex", Ok(number)) => row.quote(&print_hex(number)),
+        ("bytes_of_i64", _) => row.quote(&bytes_of_i64(number)),
+        _ => row.unknown(),
     }
 }
 
-/// The answer of a call of a number or a text.
-pub fn number_told(alloc: Global, call: &[&str], text: &[u8]) -> Result<String, AllocError> {
+fn read(row: &mut Row) {
+    let text = row.bytes();
+    row.show(&read_hex(text.as_slice()));
+}
+
+fn sum(row: &mut Row) {
+    let text = row.bytes();
+    hex(row, crc32(text.as_slice()) as u64, false);
+}
+
+/// Makes a call of a number or a text.
+pub fn number_call(call: &str, row: &mut Row) {
     match call {
-        [call, number] => bytes_told(alloc, call, number),
-        [call] => text_told(alloc, call, text),
-        _ => String::from_str(alloc, "an unknown call"),
+        "read_hex" => read(row),
+        "crc32" => sum(row),
+        "bytes_of_u32" | "bytes_of_i64" | "print_hex" => of_number(call, row),
+        _ => of_bytes(call, row),
     }
 }

@@ -1,75 +1,70 @@
 //! Rows `sink NAME CALL`.
-use crate::asked::{first, quoted};
+use crate::named::Named;
+use crate::row::Row;
 use crate::sources::fails_of;
-use std::alloc::{AllocError, Global};
-use std::collections::BTreeMap;
+use std::alloc::AllocError;
 use tl_base::{MemSink, Sink, write_all, write_packet};
 
-/// Writes a piece to any sink, and tells whether all of it was written.
-pub fn all_told<K: Sink>(alloc: Global, to: &mut K, piece: &[u8]) -> Result<String, AllocError> {
-    match write_all(to, piece) {
-        Ok(()) => String::from_str(alloc, "written"),
-        Err(fault) => format!(in alloc; "{fault:?}"),
+/// Writes the row's text to any sink, and tells whether all of it was written.
+pub fn all<K: Sink>(to: &mut K, row: &mut Row) {
+    let piece = row.bytes();
+    row.done("written", write_all(to, piece.as_slice()));
+}
+
+// Writes a text of four bytes as a packet.
+fn packet(to: &mut MemSink, row: &mut Row) {
+    let piece = row.bytes();
+    match piece.as_slice() {
+        [a, b, c, d] => row.done("written", write_packet(to, &[*a, *b, *c, *d])),
+        _ => row.unknown(),
     }
 }
 
-// Writes a piece of four bytes as a packet.
-fn packet_told(alloc: Global, to: &mut MemSink, piece: &[u8]) -> Result<String, AllocError> {
-    let [a, b, c, d] = piece else {
-        return String::from_str(alloc, "no four bytes");
-    };
-    match write_packet(to, &[*a, *b, *c, *d]) {
-        Ok(()) => String::from_str(alloc, "written"),
-        Err(fault) => format!(in alloc; "{fault:?}"),
+// Makes a call, and tells what the sink has then.
+fn call(to: &mut MemSink, call: &str, row: &mut Row) {
+    match call {
+        "write" => all(to, row),
+        "packet" => packet(to, row),
+        _ => row.unknown(),
+    }
+    row.put(" ");
+    row.quote(to.as_slice());
+}
+
+// A sink by `ROOM fails FAILS`: with so much room, and the numbers of its failing writes.
+fn made(row: &mut Row) -> Result<MemSink, AllocError> {
+    let room = row.number();
+    let _ = row.word();
+    let fails = fails_of(row.alloc(), row.word())?;
+    MemSink::new(row.alloc(), room, fails)
+}
+
+fn make(sinks: &mut Named<MemSink>, name: &str, row: &mut Row) {
+    let _ = sinks.take(name);
+    match made(row) {
+        Ok(sink) => {
+            row.put("made");
+            sinks.keep(row, name, sink);
+        }
+        Err(_) => row.short(),
     }
 }
 
-// The answer of a call, and what the sink has then.
-fn answered(
-    alloc: Global,
-    to: &mut MemSink,
-    call: &[&str],
-    text: &[u8],
-) -> Result<String, AllocError> {
-    let (call, _) = first(call);
-    let told = match call {
-        "write" => all_told(alloc, to, text)?,
-        "packet" => packet_told(alloc, to, text)?,
-        _ => String::from_str(alloc, "an unknown call")?,
-    };
-    let has = quoted(alloc, to.as_slice())?;
-    format!(in alloc; "{told} {has}")
-}
-
-// Names a sink with so much room, whose writes with some numbers fail.
-fn put(
-    alloc: Global,
-    sinks: &mut BTreeMap<String, MemSink>,
-    name: &str,
-    room: u32,
-    fails: &str,
-) -> Result<String, AllocError> {
-    let sink = MemSink::new(alloc, room, fails_of(alloc, fails)?)?;
-    sinks.insert(String::from_str(alloc, name)?, sink)?;
-    String::from_str(alloc, "made")
-}
-
-/// The answer of a call of the sink with this name.
-pub fn sink_told(
-    alloc: Global,
-    sinks: &mut BTreeMap<String, MemSink>,
-    name: &str,
-    call: &[&str],
-    text: &[u8],
-) -> Result<String, AllocError> {
-    if let [_, room, _, fails] = call {
-        return match room.parse::<u32>() {
-            Ok(room) => put(alloc, sinks, name, room, fails),
-            Err(_) => String::from_str(alloc, "no room"),
-        };
+fn call_named(sinks: &mut Named<MemSink>, name: &str, word: &str, row: &mut Row) {
+    match sinks.take(name) {
+        Some(mut sink) => {
+            call(&mut sink, word, row);
+            sinks.keep(row, name, sink);
+        }
+        None => row.unknown(),
     }
-    match sinks.get_mut(name) {
-        Some(sink) => answered(alloc, sink, call, text),
-        None => String::from_str(alloc, "no such sink"),
+}
+
+/// Makes a call of the sink with the next word's name.
+pub fn sink_call(sinks: &mut Named<MemSink>, row: &mut Row) {
+    let name = row.word();
+    match row.word() {
+        "room" => make(sinks, name, row),
+        word => call_named(sinks, name, word, row),
     }
 }

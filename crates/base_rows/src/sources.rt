@@ -1,95 +1,93 @@
-//! Rows `source NAME CALL`, and what any source answers, told as text.
-use crate::asked::{first, quoted};
+//! Rows `source NAME CALL`, and what any source answers.
+use crate::named::Named;
+use crate::row::Row;
 use std::alloc::{AllocError, Global};
-use std::collections::BTreeMap;
 use tl_base::{
-    Bytes, Limited, MemSource, Source, read_packet, take_bytes, take_end, take_text, take_word,
+    Bytes, Failed, Limited, MemSource, Source, TakeFault, read_packet, take_bytes, take_end,
+    take_text, take_word,
 };
 
-// How many bytes a read into four gave, and what the four are then.
-fn read_told<S: Source>(alloc: Global, from: &mut S) -> Result<String, AllocError> {
+/// How many bytes a read into four gave, and what the four are then.
+pub fn tell_read(came: Result<usize, Failed>, four: &[u8; 4], row: &mut Row) {
+    let is_read = came.is_ok();
+    row.show_came(came);
+    if is_read {
+        row.put(" ");
+        row.quote(four);
+    }
+}
+
+fn read<S: Source>(from: &mut S, row: &mut Row) {
     let mut four = [0u8; 4];
-    match from.read(&mut four) {
-        Ok(count) => {
-            let four = quoted(alloc, &four)?;
-            format!(in alloc; "{count} {four}")
-        }
-        Err(fault) => format!(in alloc; "{fault:?}"),
+    let came = from.read(&mut four);
+    tell_read(came, &four, row);
+}
+
+// Bytes that were taken, or the fault that came.
+fn tell_taken(came: Result<(), TakeFault>, bytes: &[u8], row: &mut Row) {
+    match came {
+        Ok(()) => row.quote(bytes),
+        Err(fault) => row.show(&fault),
     }
 }
 
 // The next three bytes.
-fn three_told<S: Source>(alloc: Global, from: &mut S) -> Result<String, AllocError> {
+fn three<S: Source>(from: &mut S, row: &mut Row) {
     let mut three = [0u8; 3];
-    match take_bytes(from, &mut three) {
-        Ok(()) => quoted(alloc, &three),
-        Err(fault) => format!(in alloc; "{fault:?}"),
-    }
+    let came = take_bytes(from, &mut three);
+    tell_taken(came, &three, row);
 }
 
 /// The next four bytes.
-pub fn word_told<S: Source>(alloc: Global, from: &mut S) -> Result<String, AllocError> {
+pub fn word<S: Source>(from: &mut S, row: &mut Row) {
     match take_word(from) {
-        Ok(word) => quoted(alloc, &word),
-        Err(fault) => format!(in alloc; "{fault:?}"),
+        Ok(word) => row.quote(&word),
+        Err(fault) => row.show(&fault),
     }
 }
 
 /// Whether the source ends here.
-pub fn end_told<S: Source>(alloc: Global, from: &mut S) -> Result<String, AllocError> {
-    match take_end(from) {
-        Ok(is_end) => format!(in alloc; "{is_end}"),
-        Err(fault) => format!(in alloc; "{fault:?}"),
-    }
+pub fn end<S: Source>(from: &mut S, row: &mut Row) {
+    row.show_came(take_end(from));
 }
 
 /// The rest of the source, or one byte more than the limit.
-pub fn rest_told<S: Source>(
-    alloc: Global,
-    from: &mut S,
-    limit: &str,
-) -> Result<String, AllocError> {
-    let Ok(limit) = limit.parse::<u32>() else {
-        return String::from_str(alloc, "no limit");
-    };
-    match take_text(alloc, from, limit) {
-        Ok(text) => quoted(alloc, text.as_slice()),
-        Err(fault) => format!(in alloc; "{fault:?}"),
+pub fn rest<S: Source>(from: &mut S, row: &mut Row) {
+    let limit = row.number();
+    match take_text(row.alloc(), from, limit) {
+        Ok(text) => row.quote(text.as_slice()),
+        Err(fault) => row.show(&fault),
+    }
+}
+
+// What stands in the place of a packet before it is read.
+fn before(row: &mut Row) -> Bytes {
+    match Bytes::from_slice(row.alloc(), b"before") {
+        Ok(bytes) => bytes,
+        Err(_) => {
+            row.short();
+            Bytes::new(row.alloc())
+        }
     }
 }
 
 // What comes of the next packet, and the packet. What stood in its place before is gone.
-fn packet_told<S: Source>(alloc: Global, from: &mut S) -> Result<String, AllocError> {
-    let mut into = Bytes::from_slice(alloc, b"before")?;
+fn packet<S: Source>(from: &mut S, row: &mut Row) {
+    let mut into = before(row);
     let came = read_packet(from, &mut into);
-    let packet = quoted(alloc, into.as_slice())?;
-    match came {
-        Ok(came) => format!(in alloc; "{came} {packet}"),
-        Err(fault) => format!(in alloc; "{fault:?} {packet}"),
-    }
+    row.show_came(came);
+    row.put(" ");
+    row.quote(into.as_slice());
 }
 
 // Three bytes and a word of a source that is limited to four bytes, and how many were taken.
-fn limited_told<S: Source>(alloc: Global, from: &mut S) -> Result<String, AllocError> {
+fn limited<S: Source>(from: &mut S, row: &mut Row) {
     let mut limited = Limited::new(from, 4);
-    let three = three_told(alloc, &mut limited)?;
-    let word = word_told(alloc, &mut limited)?;
-    let taken = limited.taken();
-    format!(in alloc; "{three} {word} {taken}")
-}
-
-fn answered<S: Source>(alloc: Global, from: &mut S, call: &[&str]) -> Result<String, AllocError> {
-    let (call, words) = first(call);
-    match call {
-        "read" => read_told(alloc, from),
-        "three" => three_told(alloc, from),
-        "word" => word_told(alloc, from),
-        "end" => end_told(alloc, from),
-        "rest" => rest_told(alloc, from, first(words).0),
-        "packet" => packet_told(alloc, from),
-        "limited" => limited_told(alloc, from),
-        _ => String::from_str(alloc, "an unknown call"),
-    }
+    three(&mut limited, row);
+    row.put(" ");
+    word(&mut limited, row);
+    row.put(" ");
+    row.show(&limited.taken());
 }
 
 // ---- named sources
@@ -116,35 +114,44 @@ pub fn fails_of(alloc: Global, words: &str) -> Result<Vec<u64>, AllocError> {
     Ok(numbers)
 }
 
-fn put(
-    alloc: Global,
-    sources: &mut BTreeMap<String, MemSource>,
-    name: &str,
-    source: MemSource,
-) -> Result<String, AllocError> {
-    sources.insert(String::from_str(alloc, name)?, source)?;
-    String::from_str(alloc, "made")
+// A source of the row's text, by `CUTS fails FAILS`, the numbers of its cuts and of its failing reads.
+fn made(row: &mut Row) -> Result<MemSource, AllocError> {
+    let cuts = cuts_of(row.alloc(), row.word())?;
+    let _ = row.word();
+    let fails = fails_of(row.alloc(), row.word())?;
+    Ok(MemSource::new(Bytes::from_vec(row.bytes()), cuts, fails))
 }
 
-// A source of the bytes, with its cuts and its failing reads.
-fn made(alloc: Global, text: &[u8], cuts: &str, fails: &str) -> Result<MemSource, AllocError> {
-    let bytes = Bytes::from_slice(alloc, text)?;
-    Ok(MemSource::new(bytes, cuts_of(alloc, cuts)?, fails_of(alloc, fails)?))
+fn make(from: &mut MemSource, row: &mut Row) {
+    match made(row) {
+        Ok(source) => {
+            *from = source;
+            row.put("made");
+        }
+        Err(_) => row.short(),
+    }
 }
 
-/// The answer of a call of the source with this name.
-pub fn source_told(
-    alloc: Global,
-    sources: &mut BTreeMap<String, MemSource>,
-    name: &str,
-    call: &[&str],
-    text: &[u8],
-) -> Result<String, AllocError> {
-    if let [_, cuts, _, fails] = call {
-        return put(alloc, sources, name, made(alloc, text, cuts, fails)?);
+fn call(from: &mut MemSource, row: &mut Row) {
+    match row.word() {
+        "cuts" => make(from, row),
+        "read" => read(from, row),
+        "three" => three(from, row),
+        "word" => word(from, row),
+        "end" => end(from, row),
+        "rest" => rest(from, row),
+        "packet" => packet(from, row),
+        "limited" => limited(from, row),
+        _ => row.unknown(),
     }
-    match sources.get_mut(name) {
-        Some(source) => answered(alloc, source, call),
-        None => String::from_str(alloc, "no such source"),
-    }
+}
+
+/// Makes a call of the source with the next word's name.
+pub fn source_call(sources: &mut Named<MemSource>, row: &mut Row) {
+    let name = row.word();
+    let alloc = row.alloc();
+    let none = MemSource::new(Bytes::new(alloc), Vec::new(alloc), Vec::new(alloc));
+    let mut source = sources.take_or(name, none);
+    call(&mut source, row);
+    sources.keep(row, name, source);
 }

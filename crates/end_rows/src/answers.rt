@@ -1,115 +1,133 @@
 //! What a server answers, as text.
 use crate::events::put_event;
-use crate::words::{RowFault, put_quoted};
+use crate::words::put_quoted;
+use base_rows::Row;
 use box_events::{ChannelReply, ListOf, Push, Receipt, Reply, Setting, State, Update};
 use box_server::Posted;
-use std::alloc::{AllocError, Global};
 use tl_base::Bytes;
 
-fn put_numbered(alloc: Global, text: &mut String, kind: &str, number: u32) -> Result<(), RowFault> {
-    text.push_str(format!(in alloc; " {kind} {number} ")?.as_str())?;
-    Ok(())
+fn tell_setting(setting: &Setting, row: &mut Row) {
+    row.put(" setting ");
+    put_quoted(row, setting.key.as_slice());
+    row.put(" ");
+    put_quoted(row, setting.value.as_slice());
 }
 
-fn put_setting(text: &mut String, setting: &Setting) -> Result<(), RowFault> {
-    text.push_str(" setting ")?;
-    put_quoted(text, setting.key.as_slice())?;
-    text.push(' ')?;
-    put_quoted(text, setting.value.as_slice())
-}
-
-fn put_update(alloc: Global, text: &mut String, update: &Update) -> Result<(), RowFault> {
+fn tell_update(update: &Update, row: &mut Row) {
     match update {
         Update::Common { event, pts } => {
-            put_numbered(alloc, text, "common", *pts)?;
-            put_event(alloc, text, event)
+            row.fill(" common # ", &[*pts as i64]);
+            put_event(row, event);
         }
         Update::Secret { body, qts } => {
-            put_numbered(alloc, text, "secret", *qts)?;
-            put_quoted(text, body.as_slice())
+            row.fill(" secret # ", &[*qts as i64]);
+            put_quoted(row, body.as_slice());
         }
-        Update::Setting { setting } => put_setting(text, setting),
+        Update::Setting { setting } => tell_setting(setting, row),
         Update::Channel { id, event, pts } => {
-            text.push_str(format!(in alloc; " channel {id} {pts} ")?.as_str())?;
-            put_event(alloc, text, event)
+            row.fill(" channel # # ", &[*id, *pts as i64]);
+            put_event(row, event);
         }
-        Update::ChannelTooLong { id } => {
-            text.push_str(format!(in alloc; " channel {id} too long")?.as_str())?;
-            Ok(())
-        }
+        Update::ChannelTooLong { id } => row.fill(" channel # too long", &[*id]),
     }
 }
 
-fn push_text(alloc: Global, push: &Push) -> Result<String, RowFault> {
-    let Push::Container {
-        updates,
-        date,
-        seq_start,
-        seq,
-    } = push
-    else {
-        return Ok(String::from_str(alloc, "too long")?);
-    };
-    let mut text = format!(in alloc; "push at {date} of {seq_start} to {seq}:")?;
+fn tell_updates(updates: &ListOf<Update>, row: &mut Row) {
     for update in updates.as_slice() {
-        put_update(alloc, &mut text, update)?;
+        tell_update(update, row);
     }
-    Ok(text)
 }
 
-// Numbers with spaces between.
-fn numbers_text(alloc: Global, numbers: &[u32]) -> Result<String, AllocError> {
-    let mut text = String::new(alloc);
-    for (i, number) in numbers.iter().enumerate() {
-        if i > 0 {
-            text.push(' ')?;
+fn tell_push(push: &Push, row: &mut Row) {
+    match push {
+        Push::Container {
+            updates,
+            date,
+            seq_start,
+            seq,
+        } => {
+            let numbers = [*date as i64, *seq_start as i64, *seq as i64];
+            row.fill("push at # of # to #:", &numbers);
+            tell_updates(updates, row);
         }
-        text.push_str(format!(in alloc; "{number}")?.as_str())?;
+        Push::TooLong => row.put("too long"),
     }
-    Ok(text)
 }
 
 /// The receipt, and the push or that there is none.
-pub fn posted_text(alloc: Global, posted: &Posted) -> Result<String, RowFault> {
+pub fn tell_posted(posted: &Posted, row: &mut Row) {
     let Receipt {
         pts,
         qts,
         date,
         seq,
     } = posted.receipt;
-    let mut text = numbers_text(alloc, &[pts, qts, date, seq])?;
-    text.push_str(", ")?;
+    row.fill(
+        "# # # #, ",
+        &[pts as i64, qts as i64, date as i64, seq as i64],
+    );
     match &posted.push {
-        Some(push) => text.push_str(push_text(alloc, push)?.as_str())?,
-        None => text.push_str("no push")?,
+        Some(push) => tell_push(push, row),
+        None => row.put("no push"),
     }
-    Ok(text)
+}
+
+/// Where a server is: its pts, qts, date and seq.
+pub fn tell_state(state: State, row: &mut Row) {
+    let State {
+        pts,
+        qts,
+        date,
+        seq,
+    } = state;
+    row.fill(
+        "# # # #",
+        &[pts as i64, qts as i64, date as i64, seq as i64],
+    );
 }
 
 // ---- answers by numbers
 
-fn channel_counts(alloc: Global, reply: &ChannelReply) -> Result<String, RowFault> {
+// Numbers in a text, and whether the answer is the last.
+fn tell_part(template: &str, numbers: &[i64], last: bool, row: &mut Row) {
+    row.fill(template, numbers);
+    row.show(&last);
+}
+
+// How many of a list come, and the words after that.
+fn tell_count(count: usize, words: &str, row: &mut Row) {
+    row.show(&count);
+    row.put(words);
+}
+
+// How many news and others come with a part, where it ends, and whether it is the last.
+fn tell_lengths(news: usize, others: usize, pts: u32, last: bool, row: &mut Row) {
+    tell_count(news, " news and ", row);
+    tell_count(others, " others to ", row);
+    tell_part("#, ", &[pts as i64], last, row);
+}
+
+fn tell_channel(reply: &ChannelReply, row: &mut Row) {
     match reply {
-        ChannelReply::Empty { pts, last } => Ok(format!(in alloc; "nothing at {pts}, {last}")?),
+        ChannelReply::Empty { pts, last } => {
+            tell_part("nothing at #, ", &[*pts as i64], *last, row)
+        }
         ChannelReply::Part {
             pts,
             news,
             others,
             last,
-        } => Ok(format!(in alloc;
-            "{} news and {} others to {pts}, {last}",
-            news.len(),
-            others.len()
-        )?),
-        ChannelReply::TooLong { pts, recent, last } => Ok(format!(in alloc;
-            "too long, {} recent at {pts}, {last}",
-            recent.len()
-        )?),
+        } => tell_lengths(news.len(), others.len(), *pts, *last, row),
+        ChannelReply::TooLong { pts, recent, last } => {
+            row.put("too long, ");
+            tell_count(recent.len(), " recent at ", row);
+            tell_part("#, ", &[*pts as i64], *last, row)
+        }
     }
 }
 
 /// How much comes with an answer, and whether it is all.
-pub fn reply_counts(alloc: Global, reply: &Reply) -> Result<String, RowFault> {
+pub fn tell_counts(reply: &Reply, row: &mut Row) {
     match reply {
         Reply::Difference {
             news,
@@ -117,56 +135,32 @@ pub fn reply_counts(alloc: Global, reply: &Reply) -> Result<String, RowFault> {
             state,
             last,
             ..
-        } => Ok(format!(in alloc;
-            "{} news and {} others to {}, {last}",
-            news.len(),
-            others.len(),
-            state.pts
-        )?),
-        Reply::Channel(reply) => channel_counts(alloc, reply),
-        Reply::Empty { .. } => Ok(String::from_str(alloc, "nothing")?),
-        Reply::Error { code, .. } => Ok(format!(in alloc; "error {code}")?),
-        Reply::State(_) | Reply::Receipt(_) => Ok(String::from_str(alloc, "another")?),
+        } => tell_lengths(news.len(), others.len(), state.pts, *last, row),
+        Reply::Channel(reply) => tell_channel(reply, row),
+        Reply::Empty { .. } => row.put("nothing"),
+        Reply::Error { code, .. } => row.fill("error #", &[*code as i64]),
+        Reply::State(_) | Reply::Receipt(_) => row.put("another"),
     }
 }
 
 // ---- answers whole
 
-fn bodies_text(alloc: Global, bodies: &ListOf<Bytes>) -> Result<String, RowFault> {
-    let mut text = String::new(alloc);
+fn tell_bodies(bodies: &ListOf<Bytes>, row: &mut Row) {
     for body in bodies.as_slice() {
-        text.push(' ')?;
-        put_quoted(&mut text, body.as_slice())?;
+        row.put(" ");
+        put_quoted(row, body.as_slice());
     }
-    Ok(text)
 }
 
-fn difference_text(
-    alloc: Global,
-    news: &ListOf<Bytes>,
-    secrets: &ListOf<Bytes>,
-    counts: (usize, usize),
-    state: &State,
-    last: bool,
-) -> Result<String, RowFault> {
-    let news = bodies_text(alloc, news)?;
-    let secrets = bodies_text(alloc, secrets)?;
-    let (others, settings) = counts;
-    let at = numbers_text(alloc, &[state.pts, state.qts, state.date, state.seq])?;
-    let mut text = format!(in alloc; "news{news}, secrets{secrets}, ")?;
-    text.push_str(&format!(in alloc; "{others} others, {settings} settings, ")?)?;
-    text.push_str(&format!(in alloc; "at {at}, {last}")?)?;
-    Ok(text)
-}
-
-fn error_text(alloc: Global, code: i32, message: &Bytes) -> Result<String, RowFault> {
-    let mut text = format!(in alloc; "error {code} ")?;
-    put_quoted(&mut text, message.as_slice())?;
-    Ok(text)
+fn tell_lists(news: &ListOf<Bytes>, secrets: &ListOf<Bytes>, row: &mut Row) {
+    row.put("news");
+    tell_bodies(news, row);
+    row.put(", secrets");
+    tell_bodies(secrets, row);
 }
 
 /// An answer as text.
-pub fn reply_text(alloc: Global, reply: &Reply) -> Result<String, RowFault> {
+pub fn tell_reply(reply: &Reply, row: &mut Row) {
     match reply {
         Reply::Difference {
             news,
@@ -175,17 +169,20 @@ pub fn reply_text(alloc: Global, reply: &Reply) -> Result<String, RowFault> {
             settings,
             state,
             last,
-        } => difference_text(
-            alloc,
-            news,
-            secrets,
-            (others.len(), settings.len()),
-            state,
-            *last,
-        ),
-        Reply::Channel(reply) => channel_counts(alloc, reply),
-        Reply::Empty { date, seq } => Ok(format!(in alloc; "nothing at {date} {seq}")?),
-        Reply::Error { code, text } => error_text(alloc, *code, text),
-        Reply::State(_) | Reply::Receipt(_) => Ok(String::from_str(alloc, "another")?),
+        } => {
+            tell_lists(news, secrets, row);
+            row.put(", ");
+            tell_count(others.len(), " others, ", row);
+            tell_count(settings.len(), " settings, at ", row);
+            tell_state(*state, row);
+            tell_part(", ", &[], *last, row)
+        }
+        Reply::Channel(reply) => tell_channel(reply, row),
+        Reply::Empty { date, seq } => { row.fill("nothing at # #", &[*date as i64, *seq as i64]) }
+        Reply::Error { code, text } => {
+            row.fill("error # ", &[*code as i64]);
+            put_quoted(row, text.as_slice());
+        }
+        Reply::State(_) | Reply::Receipt(_) => row.put("another"),
     }
 }

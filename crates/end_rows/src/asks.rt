@@ -1,93 +1,89 @@
 //! Rows `asks NAME ..` of requests that are due.
-use crate::words::{RowFault, Words};
+use base_rows::Row;
 use box_events::{Asks, Numbered, Request};
-use std::alloc::Global;
 
-fn put_difference(asks: &mut Asks, words: &mut Words) -> Result<(), RowFault> {
-    let number = words.number()?;
-    let (pts, qts, date) = (words.signed()?, words.signed()?, words.number()?);
+fn put_difference(asks: &mut Asks, row: &mut Row) {
+    let number = row.number();
+    let pts = row.signed();
+    let qts = row.signed();
+    let date = row.number();
     if asks.len() >= 65 {
-        return Err(RowFault::Unknown);
+        return row.unknown();
     }
     let request = Request::Difference { pts, qts, date };
     asks.put(Numbered { number, request });
-    Ok(())
 }
 
-fn put_channel(asks: &mut Asks, words: &mut Words) -> Result<(), RowFault> {
-    let number = words.number()?;
-    let (id, pts) = (words.long()?, words.signed()?);
+fn put_channel(asks: &mut Asks, row: &mut Row) {
+    let number = row.number();
+    let id = row.long();
+    let pts = row.signed();
     if asks.len() >= 65 {
-        return Err(RowFault::Unknown);
+        return row.unknown();
     }
     let request = Request::Channel { id, pts };
     asks.put(Numbered { number, request });
-    Ok(())
 }
 
-fn put(asks: &mut Asks, kind: &str, words: &mut Words) -> Result<(), RowFault> {
-    match kind {
-        "difference" => put_difference(asks, words),
-        "channel" => put_channel(asks, words),
-        _ => Err(RowFault::Unknown),
+fn put(asks: &mut Asks, row: &mut Row) {
+    match row.word() {
+        "difference" => put_difference(asks, row),
+        "channel" => put_channel(asks, row),
+        _ => row.unknown(),
+    }
+}
+
+// The requests that the other words say are put.
+fn put_all(asks: &mut Asks, row: &mut Row) {
+    for _ in 0..row.most() {
+        if row.is_empty() {
+            return;
+        }
+        put(asks, row);
     }
 }
 
 // A request's number, and what it asks for.
-fn ask_text(alloc: Global, ask: &Numbered) -> Result<String, RowFault> {
-    let number = ask.number;
+fn tell_ask(ask: &Numbered, row: &mut Row) {
+    let number = ask.number as i64;
     match ask.request {
         Request::Difference { pts, qts, date } => {
-            Ok(format!(in alloc; "difference {number} {pts} {qts} {date}")?)
+            row.fill(
+                "difference # # # #",
+                &[number, pts as i64, qts as i64, date as i64],
+            )
         }
-        Request::Channel { id, pts } => Ok(format!(in alloc; "channel {number} {id} {pts}")?),
-        Request::State | Request::Post { .. } => Ok(format!(in alloc; "another")?),
+        Request::Channel { id, pts } => row.fill("channel # # #", &[number, id, pts as i64]),
+        Request::State | Request::Post { .. } => row.put("another"),
     }
 }
 
 /// Requests in their order, with a full stop after the last.
-pub fn asks_text(alloc: Global, asks: &Asks) -> Result<String, RowFault> {
-    let mut text = String::new(alloc);
+pub fn tell_asks(asks: &Asks, row: &mut Row) {
     for i in 0..asks.len() {
-        text.push_str(ask_text(alloc, &asks.get(i))?.as_str())?;
-        text.push(' ')?;
+        tell_ask(&asks.get(i), row);
+        row.put(" ");
     }
-    text.push('.')?;
-    Ok(text)
+    row.put(".");
 }
 
-// The requests that the other words say are put.
-fn put_all(asks: &mut Asks, words: &mut Words) -> Result<(), RowFault> {
-    for _ in 0..words.most() {
-        match words.next() {
-            Some(kind) => put(asks, kind, words)?,
-            None => return Ok(()),
-        }
-    }
-    Ok(())
-}
-
-fn get(alloc: Global, asks: &Asks, i: u32) -> Result<String, RowFault> {
+fn get(asks: &Asks, row: &mut Row) {
+    let i = row.number();
     if i >= asks.len() {
-        return Err(RowFault::Unknown);
+        return row.unknown();
     }
-    ask_text(alloc, &asks.get(i))
+    tell_ask(&asks.get(i), row);
 }
 
-fn count(alloc: Global, asks: &Asks) -> Result<String, RowFault> {
-    let number = asks.len();
-    Ok(format!(in alloc; "{number}")?)
-}
-
-/// What comes of a call of requests.
-pub fn asks_told(alloc: Global, asks: &mut Asks, words: &mut Words) -> Result<String, RowFault> {
-    match words.word()? {
-        "put" => put_all(asks, words)?,
+/// Makes a call of requests, and tells what it answers, or else how many they are then.
+pub fn asks_call(asks: &mut Asks, row: &mut Row) {
+    match row.word() {
+        "put" => put_all(asks, row),
         "clear" => asks.clear(),
         "count" => {}
-        "all" => return asks_text(alloc, asks),
-        "get" => return get(alloc, asks, words.number()?),
-        _ => return Err(RowFault::Unknown),
+        "all" => return tell_asks(asks, row),
+        "get" => return get(asks, row),
+        _ => row.unknown(),
     }
-    count(alloc, asks)
+    row.show(&asks.len());
 }

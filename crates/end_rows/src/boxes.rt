@@ -1,122 +1,128 @@
 //! Rows `box NAME ..` of event boxes.
-use crate::events::{event_of, events_text, next_event};
-use crate::words::{RowFault, Words};
-use box_events::{BoxFault, Event, EventBox};
-use std::alloc::Global;
-use std::slice::from_ref;
+use crate::events::{next_event, put_event, put_events};
+use base_rows::Row;
+use box_events::{Event, EventBox};
 
 // Where the box ends after an event, or why it isn't appended.
-fn appended(alloc: Global, events: &mut EventBox, event: Event) -> Result<String, RowFault> {
+fn append_event(events: &mut EventBox, event: Event, row: &mut Row) {
     match events.append(event) {
-        Ok(()) => Ok(format!(in alloc; "{}", events.end())?),
-        Err(BoxFault::Memory) => Err(RowFault::Memory),
-        Err(fault) => Ok(format!(in alloc; "{fault:?}")?),
+        Ok(()) => row.show(&events.end()),
+        Err(fault) => row.show(&fault),
     }
 }
 
-fn append(alloc: Global, events: &mut EventBox, words: &mut Words) -> Result<String, RowFault> {
-    let event = next_event(alloc, words)?;
-    appended(alloc, events, event)
+fn append(events: &mut EventBox, row: &mut Row) {
+    let event = next_event(row);
+    append_event(events, event, row);
 }
 
-// An event is appended so many times.
-fn fill(alloc: Global, events: &mut EventBox, words: &mut Words) -> Result<String, RowFault> {
-    let count = words.number()?;
-    let kind = words.word()?;
-    let event = event_of(alloc, kind, words)?;
-    let mut told = String::new(alloc);
+fn append_copy(events: &mut EventBox, event: &Event, row: &mut Row) {
+    match event.copy() {
+        Ok(event) => append_event(events, event, row),
+        Err(_) => row.short(),
+    }
+}
+
+// An event is appended so many times; what comes of the last is told.
+fn fill(events: &mut EventBox, row: &mut Row) {
+    let count = row.number();
+    let event = next_event(row);
     for _ in 0..count {
-        told = appended(alloc, events, event.copy()?)?;
+        row.clear();
+        append_copy(events, &event, row);
     }
-    Ok(told)
 }
 
-// The read marks from one number to another are appended.
-fn marks(alloc: Global, events: &mut EventBox, words: &mut Words) -> Result<String, RowFault> {
-    let (from, to) = (words.signed()?, words.signed()?);
-    let mut told = String::new(alloc);
+// The read marks from one number to another are appended; what comes of the last is told.
+fn marks(events: &mut EventBox, row: &mut Row) {
+    let from = row.signed();
+    let to = row.signed();
     for max_id in from..to {
-        told = appended(alloc, events, Event::read(max_id))?;
+        row.clear();
+        append_event(events, Event::read(max_id), row);
     }
-    Ok(told)
 }
 
 // Which numbers from one to another are boundaries.
-fn boundaries(alloc: Global, events: &EventBox, words: &mut Words) -> Result<String, RowFault> {
-    let (from, to) = (words.number()?, words.number()?);
-    let mut text = String::new(alloc);
+fn boundaries(events: &EventBox, row: &mut Row) {
+    let from = row.number();
+    let to = row.number();
     for at in from..to {
         if events.at_boundary(at) {
-            text.push_str(format!(in alloc; "{at} ")?.as_str())?;
+            row.fill("# ", &[at as i64]);
         }
     }
-    text.push('.')?;
-    Ok(text)
+    row.put(".");
 }
 
-fn event_at(alloc: Global, events: &EventBox, words: &mut Words) -> Result<String, RowFault> {
-    match events.event_at(words.number()?) {
-        Some(event) => events_text(alloc, from_ref(event)),
-        None => Ok(String::from_str(alloc, "none")?),
+fn event_at(events: &EventBox, row: &mut Row) {
+    match events.event_at(row.number()) {
+        Some(event) => put_event(row, event),
+        None => row.put("none"),
     }
 }
 
-fn part(events: &EventBox, from: u32, to: u32) -> Result<Vec<Event>, RowFault> {
+// The events from one number to another, which are boundaries.
+fn part(events: &EventBox, row: &mut Row) -> Vec<Event> {
+    let from = row.number();
+    let to = row.number();
     if from > to || !events.at_boundary(from) || !events.at_boundary(to) {
-        return Err(RowFault::Unknown);
+        row.unknown();
+        return Vec::new(row.alloc());
     }
-    Ok(events.between(from, to)?)
+    match events.between(from, to) {
+        Ok(part) => part,
+        Err(_) => {
+            row.short();
+            Vec::new(row.alloc())
+        }
+    }
 }
 
-fn between(alloc: Global, events: &EventBox, words: &mut Words) -> Result<String, RowFault> {
-    let (from, to) = (words.number()?, words.number()?);
-    events_text(alloc, part(events, from, to)?.as_slice())
+fn between(events: &EventBox, row: &mut Row) {
+    let part = part(events, row);
+    put_events(row, part.as_slice());
 }
 
-// How many events there are from one number to another.
-fn count(alloc: Global, events: &EventBox, words: &mut Words) -> Result<String, RowFault> {
-    let (from, to) = (words.number()?, words.number()?);
-    let count = part(events, from, to)?.len();
-    Ok(format!(in alloc; "{count}")?)
+fn count(events: &EventBox, row: &mut Row) {
+    let part = part(events, row);
+    row.show(&part.len());
 }
 
-fn keep(alloc: Global, events: &mut EventBox, words: &mut Words) -> Result<String, RowFault> {
-    let number = words.number()?;
+fn keep(events: &mut EventBox, row: &mut Row) {
+    let number = row.number();
     if number == 0 {
-        return Err(RowFault::Unknown);
+        return row.unknown();
     }
     events.keep_last(number);
-    state(alloc, events)
+    tell(events, row);
 }
 
-fn reserve(alloc: Global, events: &mut EventBox, words: &mut Words) -> Result<String, RowFault> {
-    events.reserve(words.number()?)?;
-    state(alloc, events)
+fn reserve(events: &mut EventBox, row: &mut Row) {
+    let reserved = events.reserve(row.number());
+    row.done("", reserved);
+    tell(events, row);
 }
 
 // Where the box begins and ends, and how many events it has.
-fn state(alloc: Global, events: &EventBox) -> Result<String, RowFault> {
+fn tell(events: &EventBox, row: &mut Row) {
     let (first, end, len) = (events.first(), events.end(), events.len());
-    Ok(format!(in alloc; "{first}..{end}, {len} events")?)
+    row.fill("#..#, # events", &[first as i64, end as i64, len as i64]);
 }
 
-/// What comes of a call of a box.
-pub fn box_told(
-    alloc: Global,
-    events: &mut EventBox,
-    words: &mut Words,
-) -> Result<String, RowFault> {
-    match words.word()? {
-        "append" => append(alloc, events, words),
-        "fill" => fill(alloc, events, words),
-        "marks" => marks(alloc, events, words),
-        "boundaries" => boundaries(alloc, events, words),
-        "at" => event_at(alloc, events, words),
-        "between" => between(alloc, events, words),
-        "count" => count(alloc, events, words),
-        "keep" => keep(alloc, events, words),
-        "reserve" => reserve(alloc, events, words),
-        "state" => state(alloc, events),
-        _ => Err(RowFault::Unknown),
+/// Makes a call of a box.
+pub fn box_call(events: &mut EventBox, row: &mut Row) {
+    match row.word() {
+        "append" => append(events, row),
+        "fill" => fill(events, row),
+        "marks" => marks(events, row),
+        "boundaries" => boundaries(events, row),
+        "at" => event_at(events, row),
+        "between" => between(events, row),
+        "count" => count(events, row),
+        "keep" => keep(events, row),
+        "reserve" => reserve(events, row),
+        "state" => tell(events, row),
+        _ => row.unknown(),
     }
 }

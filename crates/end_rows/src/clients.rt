@@ -1,112 +1,105 @@
 //! Rows `client NAME ..` of clients.
-use crate::asks::asks_text;
+use crate::asks::tell_asks;
 use crate::pushes::hear_push;
 use crate::replies::hear_reply;
-use crate::words::{RowFault, Words};
+use base_rows::Row;
 use box_client::Client;
 use box_events::{Asks, Event, EventKind};
-use channel_box::WatchFault;
 use pts_machine::Lane;
 use seq_machine::Settings;
-use std::alloc::Global;
 
-fn watch(alloc: Global, client: &mut Client, id: i64) -> Result<String, RowFault> {
-    match client.watch(alloc, id) {
-        Ok(()) => Ok(String::from_str(alloc, "watched")?),
-        Err(WatchFault::Memory) => Err(RowFault::Memory),
-        Err(fault) => Ok(format!(in alloc; "{fault:?}")?),
-    }
+fn watch(client: &mut Client, row: &mut Row) {
+    let watched = client.watch(row.alloc(), row.long());
+    row.done("watched", watched);
 }
 
 // What a client asks.
-fn tick(alloc: Global, client: &mut Client) -> Result<String, RowFault> {
+fn tick(client: &mut Client, row: &mut Row) {
     if client.next() > 1_000_000 {
-        return Err(RowFault::Unknown);
+        return row.unknown();
     }
     let mut asks = Asks::new();
     client.tick(&mut asks);
-    asks_text(alloc, &asks)
+    tell_asks(&asks, row);
 }
 
 // Saves a client, and loads it again.
-fn load_again(alloc: Global, client: &mut Client) -> Result<String, RowFault> {
-    let saved = client.save(alloc)?;
-    match Client::load(alloc, saved) {
+fn load_again(client: &mut Client, row: &mut Row) {
+    let Ok(saved) = client.save(row.alloc()) else {
+        return row.short();
+    };
+    match Client::load(row.alloc(), saved) {
         Ok(loaded) => {
             *client = loaded;
-            Ok(String::from_str(alloc, "loaded")?)
+            row.put("loaded");
         }
-        Err(fault) => Ok(format!(in alloc; "{fault:?}")?),
+        Err(fault) => row.show(&fault),
     }
 }
 
 // Whether an answer is waited for, and the number of the next request.
-fn asking(alloc: Global, client: &Client) -> Result<String, RowFault> {
-    let (asking, next) = (client.asking(), client.next());
-    Ok(format!(in alloc; "{asking}, next {next}")?)
+fn asking(client: &Client, row: &mut Row) {
+    row.show(&client.asking());
+    row.fill(", next #", &[client.next() as i64]);
 }
 
 // ---- how a client is
 
-// From where to where a lane has events, how many items it holds, and the events' bodies; a * stands before an edit.
-fn lane_text(alloc: Global, lane: &Lane<Event>) -> Result<String, RowFault> {
-    let (restart, at, held) = (lane.restart(), lane.at(), lane.held());
-    let mut text = format!(in alloc; "{restart}..{at}+{held} ")?;
-    for event in lane.events() {
-        if event.kind() == EventKind::Edit {
-            text.push('*')?;
-        }
-        for byte in event.body() {
-            text.push(*byte as char)?;
-        }
+// The body of an event, with a * before that of an edit.
+fn tell_body(event: &Event, row: &mut Row) {
+    if event.kind() == EventKind::Edit {
+        row.put("*");
     }
-    Ok(text)
+    row.letters(event.body());
+}
+
+// From where to where a lane has events, how many items it holds, and the events' bodies.
+fn tell_lane(lane: &Lane<Event>, row: &mut Row) {
+    let (restart, at, held) = (lane.restart(), lane.at(), lane.held());
+    row.fill("#..#+# ", &[restart as i64, at as i64, held as i64]);
+    for event in lane.events() {
+        tell_body(event, row);
+    }
 }
 
 // The seq, the date, how many packs are held, and each key.
-fn settings_text(alloc: Global, settings: &Settings) -> Result<String, RowFault> {
+fn tell_settings(settings: &Settings, row: &mut Row) {
     let (at, date, held) = (settings.at(), settings.date(), settings.held());
-    let mut text = format!(in alloc; "{at}@{date}+{held} ")?;
+    row.fill("#@#+# ", &[at as i64, date as i64, held as i64]);
     for setting in settings.all() {
-        for byte in setting.key.as_slice() {
-            text.push(*byte as char)?;
-        }
+        row.letters(setting.key.as_slice());
     }
-    Ok(text)
 }
 
 // The lane of channel 5.
-fn channel_text(alloc: Global, client: &Client) -> Result<String, RowFault> {
-    match client.channels().lane(5) {
-        Some(lane) => lane_text(alloc, lane),
-        None => Ok(String::new(alloc)),
+fn tell_channel(client: &Client, row: &mut Row) {
+    if let Some(lane) = client.channels().lane(5) {
+        tell_lane(lane, row);
     }
 }
 
 // The number of the next request, the common lane, the secret one, the settings, and the lane of channel 5.
-fn state(alloc: Global, client: &Client) -> Result<String, RowFault> {
-    let common = lane_text(alloc, client.common())?;
-    let secret = lane_text(alloc, client.secret())?;
-    let settings = settings_text(alloc, client.settings())?;
-    let channel = channel_text(alloc, client)?;
-    let next = client.next();
-    Ok(format!(in alloc; "next {next}, {common}, {secret}, {settings}, {channel}")?)
+fn tell(client: &Client, row: &mut Row) {
+    row.fill("next #, ", &[client.next() as i64]);
+    tell_lane(client.common(), row);
+    row.put(", ");
+    tell_lane(client.secret(), row);
+    row.put(", ");
+    tell_settings(client.settings(), row);
+    row.put(", ");
+    tell_channel(client, row);
 }
 
-/// What comes of a call of a client.
-pub fn client_told(
-    alloc: Global,
-    client: &mut Client,
-    words: &mut Words,
-) -> Result<String, RowFault> {
-    match words.word()? {
-        "watch" => watch(alloc, client, words.long()?),
-        "push" => hear_push(alloc, client, words),
-        "reply" => hear_reply(alloc, client, words),
-        "tick" => tick(alloc, client),
-        "load" => load_again(alloc, client),
-        "asking" => asking(alloc, client),
-        "state" => state(alloc, client),
-        _ => Err(RowFault::Unknown),
+/// Makes a call of a client.
+pub fn client_call(client: &mut Client, row: &mut Row) {
+    match row.word() {
+        "watch" => watch(client, row),
+        "push" => hear_push(client, row),
+        "reply" => hear_reply(client, row),
+        "tick" => tick(client, row),
+        "load" => load_again(client, row),
+        "asking" => asking(client, row),
+        "state" => tell(client, row),
+        _ => row.unknown(),
     }
 }

@@ -4,37 +4,44 @@ ghost use Rattle.std.specs.List.{sum_by};
 ghost use Rattle.box_events.specs.Events.{count_of};
 ghost use Rattle.box_events.specs.Boxes.{ending};
 
-use crate::words::{RowFault, Words, put_quoted};
+use crate::words::{RowFault, ids, put_quoted, text};
+use base_rows::Row;
 use box_events::{Event, EventKind, Ids, Placed};
-use std::alloc::Global;
+use std::alloc::{AllocError, Global};
 
-fn delete(ids: Ids) -> Result<Event, RowFault> {
+// An event in the place of one that no words say.
+fn unknown(row: &mut Row) -> Event {
+    row.unknown();
+    Event::read(0)
+}
+
+fn delete(ids: Ids, row: &mut Row) -> Event {
     let count = ids.as_slice().len();
     if count == 0 || count > 4_096 {
-        return Err(RowFault::Unknown);
+        return unknown(row);
     }
-    Ok(Event::delete(ids))
+    Event::delete(ids)
 }
 
 /// The event of a kind that the next word says.
-pub fn event_of(alloc: Global, kind: &str, words: &mut Words) -> Result<Event, RowFault> {
+pub fn event_of(kind: &str, row: &mut Row) -> Event {
     match kind {
-        "message" => Ok(Event::new_message(words.text(alloc)?)),
-        "edit" => Ok(Event::edit(words.text(alloc)?)),
-        "delete" => delete(words.ids(alloc)?),
-        "read" => Ok(Event::read(words.signed()?)),
-        _ => Err(RowFault::Unknown),
+        "message" => Event::new_message(text(row)),
+        "edit" => Event::edit(text(row)),
+        "delete" => delete(ids(row), row),
+        "read" => Event::read(row.signed()),
+        _ => unknown(row),
     }
 }
 
 /// The event that the next words say.
-pub fn next_event(alloc: Global, words: &mut Words) -> Result<Event, RowFault> {
-    let kind = words.word()?;
-    event_of(alloc, kind, words)
+pub fn next_event(row: &mut Row) -> Event {
+    let kind = row.word();
+    event_of(kind, row)
 }
 
 #[tactic(auto, using(crate::proofs::EventLists::ending_pushed, std::proofs::lemmas::List::Sums::sum_by_push))]
-fn push(events: &mut Vec<Event>, event: Event) -> Result<(), RowFault>
+fn push(events: &mut Vec<Event>, event: Event) -> Result<(), AllocError>
     ensures len { OnOk result (vec_len events.new ≤ vec_len events.old + 1) }
     ensures sum { OnOk result (sum_by count_of events.new.items ≤ sum_by count_of events.old.items + 4096) }
     ensures ending { OnOk result (ending events.new.items ≤ ending events.old.items + 4096) }
@@ -45,17 +52,17 @@ fn push(events: &mut Vec<Event>, event: Event) -> Result<(), RowFault>
 }
 
 /// The events that the other words say: at most 100.
-pub fn events_of(alloc: Global, words: &mut Words) -> Result<Vec<Event>, RowFault>
+pub fn events_of(row: &mut Row) -> Result<Vec<Event>, AllocError>
     ensures few { IfOk result (λ events. vec_len events ≤ 100) }
     ensures sum { IfOk result (λ events. sum_by count_of events.items ≤ 409600) }
     ensures ending { IfOk result (λ events. ending events.items ≤ 409600) }
 {
-    let mut events = Vec::new(alloc);
+    let mut events = Vec::new(row.alloc());
     for number in 0..100u32 {
-        if words.is_empty() {
+        if row.is_empty() {
             break;
         }
-        push(&mut events, next_event(alloc, words)?)?;
+        push(&mut events, next_event(row))?;
     }
     Ok(events)
 }
@@ -71,52 +78,51 @@ fn kind_word(kind: EventKind) -> &'static str {
 }
 
 // What stands after an event's kind.
-fn put_content(alloc: Global, text: &mut String, event: &Event) -> Result<(), RowFault> {
+fn put_content(row: &mut Row, event: &Event) {
     match event.kind() {
-        EventKind::New | EventKind::Edit => put_quoted(text, event.body()),
-        EventKind::Delete => put_ids(alloc, text, event.ids()),
-        EventKind::Read { max_id } => put_number(alloc, text, max_id as i64),
+        EventKind::New | EventKind::Edit => put_quoted(row, event.body()),
+        EventKind::Delete => put_ids(row, event.ids()),
+        EventKind::Read { max_id } => row.show(&max_id),
     }
-}
-
-fn put_number(alloc: Global, text: &mut String, number: i64) -> Result<(), RowFault> {
-    text.push_str(format!(in alloc; "{number}")?.as_str())?;
-    Ok(())
 }
 
 // Ids with commas between.
-fn put_ids(alloc: Global, text: &mut String, ids: &[i32]) -> Result<(), RowFault> {
+fn put_ids(row: &mut Row, ids: &[i32]) {
     for (i, id) in ids.iter().enumerate() {
         if i > 0 {
-            text.push(',')?;
+            row.put(",");
         }
-        put_number(alloc, text, *id as i64)?;
+        row.show(id);
     }
-    Ok(())
 }
 
 /// An event as its words.
-pub fn put_event(alloc: Global, text: &mut String, event: &Event) -> Result<(), RowFault> {
-    text.push_str(kind_word(event.kind()))?;
-    put_content(alloc, text, event)
+pub fn put_event(row: &mut Row, event: &Event) {
+    row.put(kind_word(event.kind()));
+    put_content(row, event);
 }
 
 /// An event as its words, with the number at which it ends after its kind.
-pub fn put_placed(alloc: Global, text: &mut String, placed: &Placed) -> Result<(), RowFault> {
-    text.push_str(kind_word(placed.event.kind()))?;
-    put_number(alloc, text, placed.pts as i64)?;
-    text.push(' ')?;
-    put_content(alloc, text, &placed.event)
+pub fn put_placed(row: &mut Row, placed: &Placed) {
+    row.put(kind_word(placed.event.kind()));
+    row.show(&placed.pts);
+    row.put(" ");
+    put_content(row, &placed.event);
 }
 
 /// Events as their words.
-pub fn events_text(alloc: Global, events: &[Event]) -> Result<String, RowFault> {
-    let mut text = String::new(alloc);
+pub fn put_events(row: &mut Row, events: &[Event]) {
     for (i, event) in events.iter().enumerate() {
         if i > 0 {
-            text.push(' ')?;
+            row.put(" ");
         }
-        put_event(alloc, &mut text, event)?;
+        put_event(row, event);
     }
-    Ok(text)
+}
+
+/// The same as a text.
+pub fn events_text(alloc: Global, events: &[Event]) -> Result<String, RowFault> {
+    let mut row = Row::new(alloc, "", "");
+    put_events(&mut row, events);
+    Ok(row.into_told()?)
 }

@@ -1,7 +1,7 @@
 //! Rows `gap NAME ..` of gaps, whose items are numbers. A held item ends at the number after its start.
-use crate::words::{RowFault, Words};
+use crate::words::RowFault;
+use base_rows::Row;
 use gap_buffer::{Gap, Held};
-use std::alloc::Global;
 
 fn hold(gap: &mut Gap<u32>, start: u32, item: u32) -> Result<Held<u32>, RowFault> {
     if start > 1_000_000 {
@@ -11,59 +11,58 @@ fn hold(gap: &mut Gap<u32>, start: u32, item: u32) -> Result<Held<u32>, RowFault
     Ok(gap.hold(start, start + 1, item))
 }
 
-fn held(alloc: Global, gap: &mut Gap<u32>, words: &mut Words) -> Result<String, RowFault> {
-    let (start, item) = (words.number()?, words.number()?);
-    let held = hold(gap, start, item)?;
-    Ok(format!(in alloc; "{held:?}")?)
+fn held(gap: &mut Gap<u32>, row: &mut Row) {
+    let start = row.number();
+    let item = row.number();
+    row.show_came(hold(gap, start, item));
 }
 
 // Holds each start from one number to another, with itself as its item.
-fn fill(alloc: Global, gap: &mut Gap<u32>, words: &mut Words) -> Result<String, RowFault> {
-    let (from, to) = (words.number()?, words.number()?);
+fn fill(gap: &mut Gap<u32>, row: &mut Row) {
+    let from = row.number();
+    let to = row.number();
     for start in from..to {
-        let held = hold(gap, start, start)?;
-        if held != Held::Kept {
-            return Ok(format!(in alloc; "{held:?} at {start}")?);
+        match hold(gap, start, start) {
+            Ok(Held::Kept) => {}
+            came => {
+                row.show_came(came);
+                return row.fill(" at #", &[start as i64]);
+            }
         }
     }
-    Ok(String::from_str(alloc, "Kept")?)
+    row.put("Kept");
 }
 
-fn drop_to(alloc: Global, gap: &mut Gap<u32>, at: u32) -> Result<String, RowFault> {
-    let dropped = gap.drop_to(at);
-    Ok(format!(in alloc; "{dropped}")?)
+fn take(gap: &mut Gap<u32>, row: &mut Row) {
+    let taken = gap.take(row.number());
+    row.show(&taken);
 }
 
-fn clear(alloc: Global, gap: &mut Gap<u32>) -> Result<String, RowFault> {
+fn take_below(gap: &mut Gap<u32>, row: &mut Row) {
+    let taken = gap.take_below(row.number());
+    row.show(&taken);
+}
+
+fn drop_to(gap: &mut Gap<u32>, row: &mut Row) {
+    let dropped = gap.drop_to(row.number());
+    row.show(&dropped);
+}
+
+fn clear(gap: &mut Gap<u32>, row: &mut Row) {
     gap.clear();
-    Ok(String::from_str(alloc, "cleared")?)
+    row.put("cleared");
 }
 
-fn taken(alloc: Global, taken: Option<(u32, u32)>) -> Result<String, RowFault> {
-    Ok(format!(in alloc; "{taken:?}")?)
-}
-
-fn called(
-    alloc: Global,
-    gap: &mut Gap<u32>,
-    verb: &str,
-    words: &mut Words,
-) -> Result<String, RowFault> {
-    match verb {
-        "hold" => held(alloc, gap, words),
-        "fill" => fill(alloc, gap, words),
-        "take" => taken(alloc, gap.take(words.number()?)),
-        "below" => taken(alloc, gap.take_below(words.number()?)),
-        "drop" => drop_to(alloc, gap, words.number()?),
-        "clear" => clear(alloc, gap),
-        _ => Err(RowFault::Unknown),
+/// Makes a call of a gap, and tells how many items it holds then.
+pub fn gap_call(gap: &mut Gap<u32>, row: &mut Row) {
+    match row.word() {
+        "hold" => held(gap, row),
+        "fill" => fill(gap, row),
+        "take" => take(gap, row),
+        "below" => take_below(gap, row),
+        "drop" => drop_to(gap, row),
+        "clear" => clear(gap, row),
+        _ => row.unknown(),
     }
-}
-
-/// What comes of a call of a gap, and how many items it holds then.
-pub fn gap_told(alloc: Global, gap: &mut Gap<u32>, words: &mut Words) -> Result<String, RowFault> {
-    let verb = words.word()?;
-    let told = called(alloc, gap, verb, words)?;
-    let number = gap.len();
-    Ok(format!(in alloc; "{told}, {number} held")?)
+    row.fill(", # held", &[gap.len() as i64]);
 }

@@ -1,9 +1,9 @@
 //! Rows `lane NAME ..` of lanes.
-use crate::events::{events_of, events_text, next_event};
-use crate::words::{RowFault, Words};
+use crate::events::{events_of, next_event, put_events};
+use crate::words::RowFault;
+use base_rows::Row;
 use box_events::Event;
 use pts_machine::{Lane, Seen};
-use std::alloc::Global;
 
 fn push(lane: &mut Lane<Event>, start: u32, event: Event) -> Result<Seen, RowFault> {
     if start > 990_000 {
@@ -14,32 +14,35 @@ fn push(lane: &mut Lane<Event>, start: u32, event: Event) -> Result<Seen, RowFau
     Ok(lane.push(start, end, event))
 }
 
-fn pushed(alloc: Global, lane: &mut Lane<Event>, words: &mut Words) -> Result<String, RowFault> {
-    let start = words.number()?;
-    let seen = push(lane, start, next_event(alloc, words)?)?;
-    Ok(format!(in alloc; "{seen:?}")?)
+fn push_copy(lane: &mut Lane<Event>, start: u32, event: &Event) -> Result<Seen, RowFault> {
+    push(lane, start, event.copy()?)
+}
+
+fn pushed(lane: &mut Lane<Event>, row: &mut Row) {
+    let start = row.number();
+    let event = next_event(row);
+    row.show_came(push(lane, start, event));
 }
 
 // An event comes from each start from one number to another, and is held.
-fn fill(alloc: Global, lane: &mut Lane<Event>, words: &mut Words) -> Result<String, RowFault> {
-    let (from, to) = (words.number()?, words.number()?);
-    let event = next_event(alloc, words)?;
+fn fill(lane: &mut Lane<Event>, row: &mut Row) {
+    let from = row.number();
+    let to = row.number();
+    let event = next_event(row);
     for start in from..to {
-        let seen = push(lane, start, event.copy()?)?;
-        if seen != Seen::Held {
-            return Ok(format!(in alloc; "{seen:?} at {start}")?);
+        match push_copy(lane, start, &event) {
+            Ok(Seen::Held) => {}
+            came => {
+                row.show_came(came);
+                return row.fill(" at #", &[start as i64]);
+            }
         }
     }
-    Ok(String::from_str(alloc, "Held")?)
+    row.put("Held");
 }
 
-fn extend(
-    alloc: Global,
-    lane: &mut Lane<Event>,
-    words: &mut Words,
-    last: bool,
-) -> Result<(), RowFault> {
-    let events = events_of(alloc, words)?;
+fn extend(lane: &mut Lane<Event>, row: &mut Row, last: bool) -> Result<(), RowFault> {
+    let events = events_of(row)?;
     lane.reserve(100)?;
     if lane.at() > 500_000 {
         return Err(RowFault::Unknown);
@@ -48,13 +51,13 @@ fn extend(
     Ok(())
 }
 
-fn load(alloc: Global, lane: &mut Lane<Event>, words: &mut Words) -> Result<(), RowFault> {
-    let restart = words.number()?;
-    let events = events_of(alloc, words)?;
+fn load(lane: &mut Lane<Event>, row: &mut Row) -> Result<(), RowFault> {
+    let restart = row.number();
+    let events = events_of(row)?;
     if restart > 500_000 {
         return Err(RowFault::Unknown);
     }
-    *lane = Lane::load(alloc, restart, events);
+    *lane = Lane::load(row.alloc(), restart, events);
     Ok(())
 }
 
@@ -67,44 +70,40 @@ fn restart_at(lane: &mut Lane<Event>, at: u32) -> Result<(), RowFault> {
 }
 
 // The mode, from where to where the lane has events, how many they are, and how many items are held.
-fn state(alloc: Global, lane: &Lane<Event>) -> Result<String, RowFault> {
-    let (mode, restart, at) = (lane.mode(), lane.restart(), lane.at());
-    let (events, held) = (lane.events().len(), lane.held());
-    Ok(format!(in alloc; "{mode:?} {restart}..{at}, {events} events, {held} held")?)
+fn tell(lane: &Lane<Event>, row: &mut Row) {
+    let (restart, at) = (lane.restart() as i64, lane.at() as i64);
+    let (events, held) = (lane.events().len() as i64, lane.held() as i64);
+    row.show(&lane.mode());
+    row.fill(" #..#, # events, # held", &[restart, at, events, held]);
 }
 
 // A step that is answered by nothing.
-fn step(
-    alloc: Global,
-    lane: &mut Lane<Event>,
-    verb: &str,
-    words: &mut Words,
-) -> Result<(), RowFault> {
+fn step(lane: &mut Lane<Event>, verb: &str, row: &mut Row) -> Result<(), RowFault> {
     match verb {
-        "part" => extend(alloc, lane, words, false),
-        "last" => extend(alloc, lane, words, true),
-        "load" => load(alloc, lane, words),
-        "restart" => restart_at(lane, words.number()?),
-        "ask" => Ok(lane.ask(words.number()?)),
+        "part" => extend(lane, row, false),
+        "last" => extend(lane, row, true),
+        "load" => load(lane, row),
+        "restart" => restart_at(lane, row.number()),
+        "ask" => Ok(lane.ask(row.number())),
         "forget" => Ok(lane.forget()),
         "state" => Ok(()),
         _ => Err(RowFault::Unknown),
     }
 }
 
-/// What comes of a call of a lane: what it answers, or else how the lane is then.
-pub fn lane_told(
-    alloc: Global,
-    lane: &mut Lane<Event>,
-    words: &mut Words,
-) -> Result<String, RowFault> {
-    match words.word()? {
-        "push" => pushed(alloc, lane, words),
-        "fill" => fill(alloc, lane, words),
-        "events" => events_text(alloc, lane.events()),
-        verb => {
-            step(alloc, lane, verb, words)?;
-            state(alloc, lane)
-        }
+// Makes a step, and tells how the lane is then.
+fn step_told(lane: &mut Lane<Event>, verb: &str, row: &mut Row) {
+    let made = step(lane, verb, row);
+    row.done("", made);
+    tell(lane, row);
+}
+
+/// Makes a call of a lane, and tells what it answers, or else how the lane is then.
+pub fn lane_call(lane: &mut Lane<Event>, row: &mut Row) {
+    match row.word() {
+        "push" => pushed(lane, row),
+        "fill" => fill(lane, row),
+        "events" => put_events(row, lane.events()),
+        verb => step_told(lane, verb, row),
     }
 }

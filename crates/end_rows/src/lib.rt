@@ -9,7 +9,6 @@ mod ends;
 mod events;
 mod gaps;
 mod lanes;
-mod named;
 mod others;
 mod posts;
 mod pushes;
@@ -19,7 +18,7 @@ mod settings;
 mod weaves;
 mod words;
 
+pub use base_rows::Named;
 pub use ends::{Ends, ends_difference};
 pub use events::events_text;
-pub use named::Named;
 pub use words::{RowFault, Words};

@@ -5,9 +5,9 @@ ghost use Rattle.difference.specs.Refusal.{AreOthers};
 ghost use Rattle.difference.specs.Laws.{AreCountedOthers};
 
 use crate::events::event_of;
-use crate::words::{RowFault, Words};
+use crate::words::RowFault;
+use base_rows::Row;
 use box_events::{Event, EventKind, ListOf, Placed};
-use std::alloc::Global;
 
 fn is_message(event: &Event) -> bool
     ensures { result ≡ is_new event.now }
@@ -30,24 +30,24 @@ fn push(others: &mut ListOf<Placed>, event: Event, pts: u32) -> Result<(), RowFa
     Ok(())
 }
 
-fn next_placed(alloc: Global, words: &mut Words) -> Result<Placed, RowFault> {
-    let kind = words.word()?;
-    let pts = words.number()?;
-    let event = event_of(alloc, kind, words)?;
-    Ok(Placed { event, pts })
+fn next_placed(row: &mut Row) -> Placed {
+    let kind = row.word();
+    let pts = row.number();
+    let event = event_of(kind, row);
+    Placed { event, pts }
 }
 
 /// The other events that the other words say.
-pub fn others_of(alloc: Global, words: &mut Words) -> Result<ListOf<Placed>, RowFault>
+pub fn others_of(row: &mut Row) -> Result<ListOf<Placed>, RowFault>
     ensures others { IfOk result AreOthers }
     ensures counted { IfOk result AreCountedOthers }
 {
-    let mut others = ListOf::new(alloc);
-    for _ in 0..words.most() {
-        if words.is_empty() {
+    let mut others = ListOf::new(row.alloc());
+    for _ in 0..row.most() {
+        if row.is_empty() {
             break;
         }
-        let placed = next_placed(alloc, words)?;
+        let placed = next_placed(row);
         push(&mut others, placed.event, placed.pts)?;
     }
     Ok(others)

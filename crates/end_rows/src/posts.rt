@@ -1,58 +1,54 @@
 //! Posts as words: `message 'a'`, `edit 'a'`, `delete 7`, `read 5`, `secret 'a'`, `setting 'k' 'v'`, `in 5 message 'a'` of channel 5;
 //! `keys 9` are nine settings of a key each, `channels 9` a message in each of nine channels.
-use crate::words::{RowFault, Words};
+use crate::words::{ids, setting, text};
+use base_rows::Row;
 use box_events::{Post, Setting};
 use std::alloc::{AllocError, Global};
 use tl_base::Bytes;
 
-fn setting(alloc: Global, words: &mut Words) -> Result<Post, RowFault> {
-    let Setting { key, value } = words.setting(alloc)?;
-    Ok(Post::Setting { key, value })
+// A post in the place of one that no words say.
+fn unknown(row: &mut Row) -> Post {
+    row.unknown();
+    Post::Read { max_id: 0 }
 }
 
-fn in_channel(alloc: Global, words: &mut Words) -> Result<Post, RowFault> {
-    let id = words.long()?;
-    match words.word()? {
-        "message" => Ok(Post::ChannelMessage {
+fn post_setting(row: &mut Row) -> Post {
+    let Setting { key, value } = setting(row);
+    Post::Setting { key, value }
+}
+
+fn in_channel(row: &mut Row) -> Post {
+    let id = row.long();
+    match row.word() {
+        "message" => Post::ChannelMessage {
             id,
-            body: words.text(alloc)?,
-        }),
-        "edit" => Ok(Post::ChannelEdit {
+            body: text(row),
+        },
+        "edit" => Post::ChannelEdit {
             id,
-            body: words.text(alloc)?,
-        }),
-        "delete" => Ok(Post::ChannelDelete {
+            body: text(row),
+        },
+        "delete" => Post::ChannelDelete { id, ids: ids(row) },
+        "read" => Post::ChannelRead {
             id,
-            ids: words.ids(alloc)?,
-        }),
-        "read" => Ok(Post::ChannelRead {
-            id,
-            max_id: words.signed()?,
-        }),
-        _ => Err(RowFault::Unknown),
+            max_id: row.signed(),
+        },
+        _ => unknown(row),
     }
 }
 
-fn post_of(alloc: Global, kind: &str, words: &mut Words) -> Result<Post, RowFault> {
+fn post_of(kind: &str, row: &mut Row) -> Post {
     match kind {
-        "message" => Ok(Post::Message {
-            body: words.text(alloc)?,
-        }),
-        "edit" => Ok(Post::Edit {
-            body: words.text(alloc)?,
-        }),
-        "delete" => Ok(Post::Delete {
-            ids: words.ids(alloc)?,
-        }),
-        "read" => Ok(Post::Read {
-            max_id: words.signed()?,
-        }),
-        "secret" => Ok(Post::Secret {
-            body: words.text(alloc)?,
-        }),
-        "setting" => setting(alloc, words),
-        "in" => in_channel(alloc, words),
-        _ => Err(RowFault::Unknown),
+        "message" => Post::Message { body: text(row) },
+        "edit" => Post::Edit { body: text(row) },
+        "delete" => Post::Delete { ids: ids(row) },
+        "read" => Post::Read {
+            max_id: row.signed(),
+        },
+        "secret" => Post::Secret { body: text(row) },
+        "setting" => post_setting(row),
+        "in" => in_channel(row),
+        _ => unknown(row),
     }
 }
 
@@ -76,35 +72,36 @@ fn put_channels(alloc: Global, posts: &mut Vec<Post>, count: u32) -> Result<(), 
     Ok(())
 }
 
-fn put_next(
-    alloc: Global,
-    posts: &mut Vec<Post>,
-    kind: &str,
-    words: &mut Words,
-) -> Result<(), RowFault> {
-    match kind {
-        "keys" => put_keys(alloc, posts, words.number()?)?,
-        "channels" => put_channels(alloc, posts, words.number()?)?,
-        _ => posts.push(post_of(alloc, kind, words)?)?,
-    }
+fn put(posts: &mut Vec<Post>, post: Post) -> Result<(), AllocError> {
+    posts.push(post)?;
     Ok(())
 }
 
-fn put_all(alloc: Global, posts: &mut Vec<Post>, mut words: Words) -> Result<(), RowFault> {
-    for _ in 0..words.most() {
-        match words.next() {
-            Some(kind) => put_next(alloc, posts, kind, &mut words)?,
-            None => return Ok(()),
-        }
+fn put_next(posts: &mut Vec<Post>, row: &mut Row) -> Result<(), AllocError> {
+    match row.word() {
+        "keys" => put_keys(row.alloc(), posts, row.number()),
+        "channels" => put_channels(row.alloc(), posts, row.number()),
+        kind => put(posts, post_of(kind, row)),
     }
-    Ok(())
+}
+
+fn put_all(posts: &mut Vec<Post>, row: &mut Row) {
+    for _ in 0..row.most() {
+        if row.is_empty() {
+            return;
+        }
+        let put = put_next(posts, row);
+        row.done("", put);
+    }
 }
 
 /// The posts that the other words say, so many times.
-pub fn posts_of(alloc: Global, times: u32, words: Words) -> Result<Vec<Post>, RowFault> {
-    let mut posts = Vec::new(alloc);
+pub fn posts_of(times: u32, row: &mut Row) -> Vec<Post> {
+    let words = row.rest();
+    let mut posts = Vec::new(row.alloc());
     for _ in 0..times {
-        put_all(alloc, &mut posts, words)?;
+        row.read_again(words);
+        put_all(&mut posts, row);
     }
-    Ok(posts)
+    posts
 }

@@ -5,14 +5,14 @@ ghost use Rattle.box_client.specs.Pushes.{settings_in};
 ghost use Rattle.box_client.specs.Ranges.{IsUpdateInRange};
 
 use crate::events::next_event;
-use crate::words::{RowFault, Words};
+use crate::words::{setting, text};
+use base_rows::Row;
 use box_client::Client;
-use box_events::{Event, ListOf, Push, Setting, Update};
-use std::alloc::Global;
-use tl_base::Bytes;
+use box_events::{ListOf, Push, Update};
+use std::alloc::{AllocError, Global};
 
 // A push comes with one update.
-fn hear_one(alloc: Global, client: &mut Client, update: Update) -> Result<(), RowFault>
+fn hear_one(alloc: Global, client: &mut Client, update: Update) -> Result<(), AllocError>
     requires range { IsUpdateInRange update }
     requires other { settings_in (update ∷ []) ≡ [] }
 {
@@ -24,48 +24,48 @@ fn hear_one(alloc: Global, client: &mut Client, update: Update) -> Result<(), Ro
         seq_start: 0,
         seq: 0,
     };
-    client.hear_push(alloc, push)?;
-    Ok(())
+    client.hear_push(alloc, push)
 }
 
-fn hear_common(alloc: Global, client: &mut Client, pts: u32, event: Event) -> Result<(), RowFault> {
+fn hear_common(client: &mut Client, row: &mut Row) {
+    let pts = row.number();
+    let event = next_event(row);
     if pts < event.count() || pts > 1_000_000 {
-        return Err(RowFault::Unknown);
+        return row.unknown();
     }
-    hear_one(alloc, client, Update::Common { event, pts })
+    let heard = hear_one(row.alloc(), client, Update::Common { event, pts });
+    row.done("heard", heard);
 }
 
-fn hear_secret(alloc: Global, client: &mut Client, qts: u32, body: Bytes) -> Result<(), RowFault> {
+fn hear_secret(client: &mut Client, row: &mut Row) {
+    let qts = row.number();
+    let body = text(row);
     if qts < 1 || qts > 1_000_000 {
-        return Err(RowFault::Unknown);
+        return row.unknown();
     }
-    hear_one(alloc, client, Update::Secret { body, qts })
+    let heard = hear_one(row.alloc(), client, Update::Secret { body, qts });
+    row.done("heard", heard);
 }
 
-fn hear_channel(
-    alloc: Global,
-    client: &mut Client,
-    id: i64,
-    pts: u32,
-    event: Event,
-) -> Result<(), RowFault> {
+fn hear_channel(client: &mut Client, row: &mut Row) {
+    let id = row.long();
+    let pts = row.number();
+    let event = next_event(row);
     if pts < event.count() || pts > 1_000_000 {
-        return Err(RowFault::Unknown);
+        return row.unknown();
     }
-    hear_one(alloc, client, Update::Channel { id, event, pts })
+    let heard = hear_one(row.alloc(), client, Update::Channel { id, event, pts });
+    row.done("heard", heard);
 }
 
 // A push comes with one setting, dated by its seq.
-fn hear_setting(
-    alloc: Global,
-    client: &mut Client,
-    seq: u32,
-    setting: Setting,
-) -> Result<(), RowFault> {
+fn hear_setting(client: &mut Client, row: &mut Row) -> Result<(), AllocError> {
+    let seq = row.number();
+    let setting = setting(row);
     if seq < 1 || seq > 1_000_000 {
-        return Err(RowFault::Unknown);
+        return Ok(row.unknown());
     }
-    let mut updates = ListOf::new(alloc);
+    let mut updates = ListOf::new(row.alloc());
     updates.push(Update::Setting { setting })?;
     let push = Push::Container {
         updates,
@@ -73,45 +73,27 @@ fn hear_setting(
         seq_start: seq,
         seq,
     };
-    client.hear_push(alloc, push)?;
-    Ok(())
+    client.hear_push(row.alloc(), push)
 }
 
-fn hear_too_long(alloc: Global, client: &mut Client) -> Result<(), RowFault> {
-    client.hear_push(alloc, Push::TooLong)?;
-    Ok(())
+fn hear_one_setting(client: &mut Client, row: &mut Row) {
+    let heard = hear_setting(client, row);
+    row.done("heard", heard);
 }
 
-fn hear(alloc: Global, client: &mut Client, kind: &str, words: &mut Words) -> Result<(), RowFault> {
-    match kind {
-        "common" => {
-            let pts = words.number()?;
-            hear_common(alloc, client, pts, next_event(alloc, words)?)
-        }
-        "secret" => {
-            let qts = words.number()?;
-            hear_secret(alloc, client, qts, words.text(alloc)?)
-        }
-        "channel" => {
-            let (id, pts) = (words.long()?, words.number()?);
-            hear_channel(alloc, client, id, pts, next_event(alloc, words)?)
-        }
-        "setting" => {
-            let seq = words.number()?;
-            hear_setting(alloc, client, seq, words.setting(alloc)?)
-        }
-        "tooLong" => hear_too_long(alloc, client),
-        _ => Err(RowFault::Unknown),
-    }
+fn hear_too_long(client: &mut Client, row: &mut Row) {
+    let heard = client.hear_push(row.alloc(), Push::TooLong);
+    row.done("heard", heard);
 }
 
 /// A push comes.
-pub fn hear_push(
-    alloc: Global,
-    client: &mut Client,
-    words: &mut Words,
-) -> Result<String, RowFault> {
-    let kind = words.word()?;
-    hear(alloc, client, kind, words)?;
-    Ok(String::from_str(alloc, "heard")?)
+pub fn hear_push(client: &mut Client, row: &mut Row) {
+    match row.word() {
+        "common" => hear_common(client, row),
+        "secret" => hear_secret(client, row),
+        "channel" => hear_channel(client, row),
+        "setting" => hear_one_setting(client, row),
+        "tooLong" => hear_too_long(client, row),
+        _ => row.unknown(),
+    }
 }

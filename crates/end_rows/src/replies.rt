@@ -4,39 +4,42 @@ ghost use Rattle.std.specs.Prelude.{◌≤◌, IfOk};
 ghost use Rattle.box_client.specs.Ranges.{IsReplyInRange};
 
 use crate::others::others_of;
-use crate::words::{RowFault, Words};
-use box_client::{Client, ClientFault};
+use crate::words::{RowFault, setting, texts};
+use base_rows::Row;
+use box_client::Client;
 use box_events::{ChannelReply, ListOf, Reply, Setting, State};
-use std::alloc::Global;
 
 // So many settings as the first word says.
-fn settings_of(alloc: Global, words: &mut Words) -> Result<ListOf<Setting>, RowFault> {
-    let mut settings = ListOf::new(alloc);
-    for _ in 0..words.number()? {
-        settings.push(words.setting(alloc)?)?;
+fn settings_of(row: &mut Row) -> ListOf<Setting> {
+    let mut settings = ListOf::new(row.alloc());
+    for _ in 0..row.number() {
+        let pushed = settings.push(setting(row));
+        row.done("", pushed);
     }
-    Ok(settings)
+    settings
 }
 
-fn state(words: &mut Words) -> Result<State, RowFault> {
-    let (pts, qts) = (words.number()?, words.number()?);
-    let (date, seq) = (words.number()?, words.number()?);
-    Ok(State {
+fn state(row: &mut Row) -> State {
+    let pts = row.number();
+    let qts = row.number();
+    let date = row.number();
+    let seq = row.number();
+    State {
         pts,
         qts,
         date,
         seq,
-    })
+    }
 }
 
-fn difference(alloc: Global, words: &mut Words, last: bool) -> Result<Reply, RowFault>
+fn difference(row: &mut Row, last: bool) -> Result<Reply, RowFault>
     ensures { IfOk result IsReplyInRange }
 {
-    let state = state(words)?;
-    let news = words.texts(alloc)?;
-    let secrets = words.texts(alloc)?;
-    let settings = settings_of(alloc, words)?;
-    let others = others_of(alloc, words)?;
+    let state = state(row);
+    let news = texts(row);
+    let secrets = texts(row);
+    let settings = settings_of(row);
+    let others = others_of(row)?;
     if state.pts > 1_000_000
         || state.qts > 1_000_000
         || news.len() > 1_000
@@ -55,12 +58,12 @@ fn difference(alloc: Global, words: &mut Words, last: bool) -> Result<Reply, Row
 }
 
 // The last part of a channel.
-fn channel(alloc: Global, words: &mut Words) -> Result<Reply, RowFault>
+fn channel(row: &mut Row) -> Result<Reply, RowFault>
     ensures { IfOk result IsReplyInRange }
 {
-    let pts = words.number()?;
-    let news = words.texts(alloc)?;
-    let others = others_of(alloc, words)?;
+    let pts = row.number();
+    let news = texts(row);
+    let others = others_of(row)?;
     if pts > 1_000_000 || news.len() > 1_000 {
         return Err(RowFault::Unknown);
     }
@@ -72,36 +75,34 @@ fn channel(alloc: Global, words: &mut Words) -> Result<Reply, RowFault>
     }))
 }
 
-fn empty(words: &mut Words) -> Result<Reply, RowFault>
+fn empty(row: &mut Row) -> Result<Reply, RowFault>
     ensures { IfOk result IsReplyInRange }
 {
-    let (date, seq) = (words.number()?, words.number()?);
+    let date = row.number();
+    let seq = row.number();
     Ok(Reply::Empty { date, seq })
 }
 
-fn reply(alloc: Global, words: &mut Words) -> Result<Reply, RowFault>
+fn reply(row: &mut Row) -> Result<Reply, RowFault>
     ensures { IfOk result IsReplyInRange }
 {
-    match words.word()? {
-        "slice" => difference(alloc, words, false),
-        "last" => difference(alloc, words, true),
-        "channel" => channel(alloc, words),
-        "empty" => empty(words),
+    match row.word() {
+        "slice" => difference(row, false),
+        "last" => difference(row, true),
+        "channel" => channel(row),
+        "empty" => empty(row),
         _ => Err(RowFault::Unknown),
     }
 }
 
 /// A reply comes.
-pub fn hear_reply(
-    alloc: Global,
-    client: &mut Client,
-    words: &mut Words,
-) -> Result<String, RowFault> {
-    let number = words.number()?;
-    let reply = reply(alloc, words)?;
-    match client.hear_reply(alloc, number, reply) {
-        Ok(told) => Ok(format!(in alloc; "{told:?}")?),
-        Err(ClientFault::Memory) => Err(RowFault::Memory),
-        Err(fault) => Ok(format!(in alloc; "{fault:?}")?),
+pub fn hear_reply(client: &mut Client, row: &mut Row) {
+    let number = row.number();
+    match reply(row) {
+        Ok(reply) => {
+            let heard = client.hear_reply(row.alloc(), number, reply);
+            row.show_came(heard);
+        }
+        Err(fault) => row.show(&fault),
     }
 }

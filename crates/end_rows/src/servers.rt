@@ -1,104 +1,109 @@
 //! Rows `server NAME ..` of servers.
-ghost use Rattle.std.specs.Prelude.{IfOk};
 ghost use Rattle.box_server.specs.Answers.{IsAnswered};
 
-use crate::answers::{posted_text, reply_counts, reply_text};
+use crate::answers::{tell_counts, tell_posted, tell_reply, tell_state};
 use crate::posts::posts_of;
-use crate::words::{RowFault, Words};
-use box_events::{Post, Reply, Request, State};
+use base_rows::Row;
+use box_events::{Reply, Request};
 use box_server::{PostFault, Posted, Server};
-use std::alloc::Global;
+use std::alloc::AllocError;
 
-fn set_date(server: &mut Server, date: u32) -> Result<(), RowFault> {
+fn set_date(server: &mut Server, row: &mut Row) {
+    let date = row.number();
     if date > 1_000_000 {
-        return Err(RowFault::Unknown);
+        return row.unknown();
     }
     server.set_date(date);
-    Ok(())
+    tell_state(server.state(), row);
 }
 
-/// Where a server is: its pts, qts, date and seq.
-pub fn state_text(alloc: Global, state: State) -> Result<String, RowFault> {
-    let State {
-        pts,
-        qts,
-        date,
-        seq,
-    } = state;
-    Ok(format!(in alloc; "{pts} {qts} {date} {seq}")?)
-}
-
-fn state(alloc: Global, server: &Server) -> Result<String, RowFault> {
-    state_text(alloc, server.state())
-}
-
-fn made(server: &mut Server, random_id: i64, posts: &[Post]) -> Result<Posted, PostFault> {
-    server.post(random_id, posts)
+// Posts the other words, so many times in one call.
+fn made(
+    server: &mut Server,
+    random_id: i64,
+    times: u32,
+    row: &mut Row,
+) -> Result<Posted, PostFault> {
+    let posts = posts_of(times, row);
+    server.post(random_id, posts.as_slice())
 }
 
 // Why posts are refused, or what the server answers to them.
-fn post(alloc: Global, server: &mut Server, words: &mut Words) -> Result<String, RowFault> {
-    let random_id = words.long()?;
-    let posts = posts_of(alloc, 1, *words)?;
-    match made(server, random_id, posts.as_slice()) {
-        Ok(posted) => posted_text(alloc, &posted),
-        Err(PostFault::Memory) => Err(RowFault::Memory),
-        Err(fault) => Ok(format!(in alloc; "{fault:?}")?),
+fn post(server: &mut Server, row: &mut Row) {
+    let random_id = row.long();
+    match made(server, random_id, 1, row) {
+        Ok(posted) => tell_posted(&posted, row),
+        Err(fault) => row.show(&fault),
     }
 }
 
 // Why posts are refused, or that they are taken, and where the server is then.
-fn try_post(alloc: Global, server: &mut Server, words: &mut Words) -> Result<String, RowFault> {
-    let random_id = words.long()?;
-    let times = words.number()?;
-    let posts = posts_of(alloc, times, *words)?;
-    let state = match made(server, random_id, posts.as_slice()) {
-        Ok(_) => String::from_str(alloc, "taken")?,
-        Err(PostFault::Memory) => return Err(RowFault::Memory),
-        Err(fault) => format!(in alloc; "{fault:?}")?,
-    };
-    let at = state_text(alloc, server.state())?;
-    Ok(format!(in alloc; "{state}, {at}")?)
+fn try_post(server: &mut Server, row: &mut Row) {
+    let random_id = row.long();
+    let times = row.number();
+    match made(server, random_id, times, row) {
+        Ok(_) => row.put("taken"),
+        Err(fault) => row.show(&fault),
+    }
+    row.put(", ");
+    tell_state(server.state(), row);
 }
 
-fn request(kind: &str, words: &mut Words) -> Result<Request, RowFault>
-    ensures { IfOk result IsAnswered }
+fn difference(row: &mut Row) -> Request
+    ensures { IsAnswered result }
 {
-    match kind {
-        "difference" => {
-            let (pts, qts, date) = (words.signed()?, words.signed()?, words.number()?);
-            Ok(Request::Difference { pts, qts, date })
-        }
-        "channel" => {
-            let (id, pts) = (words.long()?, words.signed()?);
-            Ok(Request::Channel { id, pts })
-        }
-        _ => Err(RowFault::Unknown),
+    let pts = row.signed();
+    let qts = row.signed();
+    let date = row.number();
+    Request::Difference { pts, qts, date }
+}
+
+fn channel(row: &mut Row) -> Request
+    ensures { IsAnswered result }
+{
+    let id = row.long();
+    let pts = row.signed();
+    Request::Channel { id, pts }
+}
+
+fn request(row: &mut Row) -> Request
+    ensures { IsAnswered result }
+{
+    if row.word() == "difference" {
+        difference(row)
+    } else {
+        channel(row)
     }
 }
 
-fn answer(alloc: Global, server: &Server, words: &mut Words) -> Result<Reply, RowFault> {
-    let kind = words.word()?;
-    let request = request(kind, words)?;
-    Ok(server.answer(alloc, &request)?)
+fn answer(server: &Server, row: &mut Row) -> Result<Reply, AllocError> {
+    let request = request(row);
+    server.answer(row.alloc(), &request)
 }
 
-/// What comes of a call of a server.
-pub fn server_told(
-    alloc: Global,
-    server: &mut Server,
-    words: &mut Words,
-) -> Result<String, RowFault> {
-    match words.word()? {
-        "post" => post(alloc, server, words),
-        "try" => try_post(alloc, server, words),
-        "answer" => reply_text(alloc, &answer(alloc, server, words)?),
-        "count" => reply_counts(alloc, &answer(alloc, server, words)?),
-        "date" => {
-            set_date(server, words.number()?)?;
-            state(alloc, server)
-        }
-        "state" => state(alloc, server),
-        _ => Err(RowFault::Unknown),
+fn tell_answer(server: &Server, row: &mut Row) {
+    match answer(server, row) {
+        Ok(reply) => tell_reply(&reply, row),
+        Err(_) => row.short(),
+    }
+}
+
+fn count_answer(server: &Server, row: &mut Row) {
+    match answer(server, row) {
+        Ok(reply) => tell_counts(&reply, row),
+        Err(_) => row.short(),
+    }
+}
+
+/// Makes a call of a server.
+pub fn server_call(server: &mut Server, row: &mut Row) {
+    match row.word() {
+        "post" => post(server, row),
+        "try" => try_post(server, row),
+        "answer" => tell_answer(server, row),
+        "count" => count_answer(server, row),
+        "date" => set_date(server, row),
+        "state" => tell_state(server.state(), row),
+        _ => row.unknown(),
     }
 }

@@ -1,18 +1,19 @@
 //! Rows `settings NAME ..` of settings at a seq.
-use crate::words::{RowFault, Words, put_quoted};
+use crate::words::{RowFault, put_quoted, setting, text};
+use base_rows::Row;
 use box_events::Setting;
 use pts_machine::Seen;
 use seq_machine::Settings;
 use std::alloc::Global;
 
 // The settings that the other words say.
-fn pack_of(alloc: Global, words: &mut Words) -> Result<Vec<Setting>, RowFault> {
-    let mut pack = Vec::new(alloc);
-    for _ in 0..words.most() {
-        if words.is_empty() {
+fn pack_of(row: &mut Row) -> Result<Vec<Setting>, RowFault> {
+    let mut pack = Vec::new(row.alloc());
+    for _ in 0..row.most() {
+        if row.is_empty() {
             break;
         }
-        pack.push(words.setting(alloc)?)?;
+        pack.push(setting(row))?;
     }
     Ok(pack)
 }
@@ -33,28 +34,48 @@ fn push(
     Ok(settings.push_pack(seq_start, seq, date, pack))
 }
 
-fn pushed(alloc: Global, settings: &mut Settings, words: &mut Words) -> Result<String, RowFault> {
-    let (seq_start, date) = (words.number()?, words.number()?);
-    let seen = push(settings, seq_start, date, pack_of(alloc, words)?)?;
-    Ok(format!(in alloc; "{seen:?}")?)
+fn push_all(settings: &mut Settings, row: &mut Row) -> Result<Seen, RowFault> {
+    let seq_start = row.number();
+    let date = row.number();
+    push(settings, seq_start, date, pack_of(row)?)
 }
 
-// A pack of one setting comes from each seq from one number to another, dated by it, and is held.
-fn fill(alloc: Global, settings: &mut Settings, words: &mut Words) -> Result<String, RowFault> {
-    let (from, to) = (words.number()?, words.number()?);
-    let one = words.setting(alloc)?;
+fn pushed(settings: &mut Settings, row: &mut Row) {
+    let seen = push_all(settings, row);
+    row.show_came(seen);
+}
+
+// A pack of one setting comes, dated by its seq.
+fn push_one(
+    alloc: Global,
+    settings: &mut Settings,
+    seq: u32,
+    one: &Setting,
+) -> Result<Seen, RowFault> {
+    push(settings, seq, seq, vec![in alloc; one.copy()?]?)
+}
+
+// Such a pack comes from each seq from one number to another, and is held.
+fn fill(settings: &mut Settings, row: &mut Row) {
+    let from = row.number();
+    let to = row.number();
+    let one = setting(row);
     for seq in from..to {
-        let seen = push(settings, seq, seq, vec![in alloc; one.copy()?]?)?;
-        if seen != Seen::Held {
-            return Ok(format!(in alloc; "{seen:?} at {seq}")?);
+        match push_one(row.alloc(), settings, seq, &one) {
+            Ok(Seen::Held) => {}
+            came => {
+                row.show_came(came);
+                return row.fill(" at #", &[seq as i64]);
+            }
         }
     }
-    Ok(String::from_str(alloc, "Held")?)
+    row.put("Held");
 }
 
-fn overlay(alloc: Global, settings: &mut Settings, words: &mut Words) -> Result<(), RowFault> {
-    let (seq, date) = (words.number()?, words.number()?);
-    let pack = pack_of(alloc, words)?;
+fn overlay(settings: &mut Settings, row: &mut Row) -> Result<(), RowFault> {
+    let seq = row.number();
+    let date = row.number();
+    let pack = pack_of(row)?;
     let count = pack.len();
     if count > 100 {
         return Err(RowFault::Unknown);
@@ -68,55 +89,44 @@ fn overlay(alloc: Global, settings: &mut Settings, words: &mut Words) -> Result<
 }
 
 // Settings of one key.
-fn load(alloc: Global, settings: &mut Settings, words: &mut Words) -> Result<(), RowFault> {
-    let (seq, date) = (words.number()?, words.number()?);
-    let all = vec![in alloc; words.setting(alloc)?]?;
-    *settings = Settings::load(alloc, seq, date, all);
+fn load(settings: &mut Settings, row: &mut Row) -> Result<(), RowFault> {
+    let seq = row.number();
+    let date = row.number();
+    let all = vec![in row.alloc(); setting(row)]?;
+    *settings = Settings::load(row.alloc(), seq, date, all);
     Ok(())
 }
 
 // The mode, the seq, the date, and how many packs are held.
-fn state(alloc: Global, settings: &Settings) -> Result<String, RowFault> {
-    let (mode, at, date, held) = (
-        settings.mode(),
-        settings.at(),
-        settings.date(),
-        settings.held(),
-    );
-    Ok(format!(in alloc; "{mode:?} {at}@{date}, {held} held")?)
+fn tell(settings: &Settings, row: &mut Row) {
+    let (at, date) = (settings.at() as i64, settings.date() as i64);
+    row.show(&settings.mode());
+    row.fill(" #@#, # held", &[at, date, settings.held() as i64]);
 }
 
-fn get(alloc: Global, settings: &Settings, words: &mut Words) -> Result<String, RowFault> {
-    let mut text = String::new(alloc);
-    match settings.get(words.text(alloc)?.as_slice()) {
-        Some(value) => put_quoted(&mut text, value)?,
-        None => text.push_str("none")?,
+fn get(settings: &Settings, row: &mut Row) {
+    let key = text(row);
+    match settings.get(key.as_slice()) {
+        Some(value) => put_quoted(row, value),
+        None => row.put("none"),
     }
-    Ok(text)
 }
 
-fn keys(alloc: Global, settings: &Settings) -> Result<String, RowFault> {
-    let mut text = String::new(alloc);
+fn keys(settings: &Settings, row: &mut Row) {
     for (i, setting) in settings.all().iter().enumerate() {
         if i > 0 {
-            text.push(' ')?;
+            row.put(" ");
         }
-        put_quoted(&mut text, setting.key.as_slice())?;
+        put_quoted(row, setting.key.as_slice());
     }
-    Ok(text)
 }
 
 // A step that is answered by nothing.
-fn step(
-    alloc: Global,
-    settings: &mut Settings,
-    verb: &str,
-    words: &mut Words,
-) -> Result<(), RowFault> {
+fn step(settings: &mut Settings, verb: &str, row: &mut Row) -> Result<(), RowFault> {
     match verb {
-        "overlay" => overlay(alloc, settings, words),
-        "load" => load(alloc, settings, words),
-        "ask" => Ok(settings.ask(words.number()?)),
+        "overlay" => overlay(settings, row),
+        "load" => load(settings, row),
+        "ask" => Ok(settings.ask(row.number())),
         "again" => Ok(settings.again()),
         "forget" => Ok(settings.forget()),
         "state" => Ok(()),
@@ -124,20 +134,20 @@ fn step(
     }
 }
 
-/// What comes of a call of settings: what it answers, or else how they are then.
-pub fn settings_told(
-    alloc: Global,
-    settings: &mut Settings,
-    words: &mut Words,
-) -> Result<String, RowFault> {
-    match words.word()? {
-        "push" => pushed(alloc, settings, words),
-        "fill" => fill(alloc, settings, words),
-        "get" => get(alloc, settings, words),
-        "keys" => keys(alloc, settings),
-        verb => {
-            step(alloc, settings, verb, words)?;
-            state(alloc, settings)
-        }
+// Makes a step, and tells how the settings are then.
+fn step_told(settings: &mut Settings, verb: &str, row: &mut Row) {
+    let made = step(settings, verb, row);
+    row.done("", made);
+    tell(settings, row);
+}
+
+/// Makes a call of settings, and tells what it answers, or else how they are then.
+pub fn settings_call(settings: &mut Settings, row: &mut Row) {
+    match row.word() {
+        "push" => pushed(settings, row),
+        "fill" => fill(settings, row),
+        "get" => get(settings, row),
+        "keys" => keys(settings, row),
+        verb => step_told(settings, verb, row),
     }
 }

@@ -1,57 +1,63 @@
 //! Rows `weave FROM TO NEWS OTHERS` and `split FROM EVENTS` of lists of events.
-use crate::events::{events_of, events_text, put_placed};
+use crate::events::{events_of, put_events, put_placed};
 use crate::others::others_of;
-use crate::words::{RowFault, Words, put_quoted};
+use crate::words::{put_quoted, texts};
+use base_rows::Row;
 use box_events::{Event, ListOf, Placed};
 use difference::{WeaveFault, split, weave};
-use std::alloc::Global;
 use tl_base::Bytes;
 
-fn woven(
-    alloc: Global,
-    from: u32,
-    to: u32,
-    words: &mut Words,
-) -> Result<Result<Vec<Event>, WeaveFault>, RowFault> {
-    let news = words.texts(alloc)?;
-    let others = others_of(alloc, words)?;
-    if from > 1_000_000 || to > 1_000_000 || news.len() > 1_000 {
-        return Err(RowFault::Unknown);
+fn tell_woven(row: &mut Row, woven: Result<Vec<Event>, WeaveFault>) {
+    match woven {
+        Ok(events) => put_events(row, events.as_slice()),
+        Err(fault) => row.show(&fault),
     }
-    Ok(weave(alloc, from, to, news, others))
 }
 
 /// The events that are woven of messages and other events, or why there are none.
-pub fn weave_told(alloc: Global, words: &mut Words) -> Result<String, RowFault> {
-    let (from, to) = (words.number()?, words.number()?);
-    match woven(alloc, from, to, words)? {
-        Ok(events) => events_text(alloc, events.as_slice()),
-        Err(WeaveFault::Memory) => Err(RowFault::Memory),
-        Err(fault) => Ok(format!(in alloc; "{fault:?}")?),
+pub fn weave_call(row: &mut Row) {
+    let from = row.number();
+    let to = row.number();
+    let news = texts(row);
+    let Ok(others) = others_of(row) else {
+        return row.unknown();
+    };
+    if from > 1_000_000 || to > 1_000_000 || news.len() > 1_000 {
+        return row.unknown();
+    }
+    let woven = weave(row.alloc(), from, to, news, others);
+    tell_woven(row, woven);
+}
+
+fn tell_news(row: &mut Row, news: &ListOf<Bytes>) {
+    row.show(&news.len());
+    for body in news.as_slice() {
+        row.put(" ");
+        put_quoted(row, body.as_slice());
     }
 }
 
-// The messages and the other events of a list from a number on.
-fn parts(alloc: Global, words: &mut Words) -> Result<(ListOf<Bytes>, ListOf<Placed>), RowFault> {
-    let from = words.number()?;
-    let events = events_of(alloc, words)?;
-    if from > 500_000 {
-        return Err(RowFault::Unknown);
+fn tell_others(row: &mut Row, others: &ListOf<Placed>) {
+    for placed in others.as_slice() {
+        row.put(" ");
+        put_placed(row, placed);
     }
-    Ok(split(alloc, events.as_slice(), from)?)
 }
 
 /// The parts of a list, as `weave` takes them.
-pub fn split_told(alloc: Global, words: &mut Words) -> Result<String, RowFault> {
-    let (news, others) = parts(alloc, words)?;
-    let mut text = format!(in alloc; "{}", news.len())?;
-    for body in news.as_slice() {
-        text.push(' ')?;
-        put_quoted(&mut text, body.as_slice())?;
+pub fn split_call(row: &mut Row) {
+    let from = row.number();
+    let Ok(events) = events_of(row) else {
+        return row.short();
+    };
+    if from > 500_000 {
+        return row.unknown();
     }
-    for placed in others.as_slice() {
-        text.push(' ')?;
-        put_placed(alloc, &mut text, placed)?;
+    match split(row.alloc(), events.as_slice(), from) {
+        Ok((news, others)) => {
+            tell_news(row, &news);
+            tell_others(row, &others);
+        }
+        Err(_) => row.short(),
     }
-    Ok(text)
 }

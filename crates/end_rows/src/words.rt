@@ -1,4 +1,5 @@
 //! The words of a row, and what they say.
+use base_rows::Row;
 use box_events::{Ids, ListOf, Setting};
 use std::alloc::{AllocError, AllocFailed, Global};
 use tl_base::Bytes;
@@ -34,36 +35,20 @@ impl<'a> Words<'a> {
         Words { rest: row }
     }
 
-    /// More words than this there are not.
-    pub fn most(&self) -> usize {
-        self.rest.len()
-    }
-
-    pub fn is_empty(&self) -> bool {
-        self.rest.is_empty()
-    }
-
-    pub fn next(&mut self) -> Option<&'a str> {
+    pub fn word(&mut self) -> Result<&'a str, RowFault> {
         if self.rest.is_empty() {
-            return None;
+            return Err(RowFault::Unknown);
         }
         match self.rest.split_once(' ') {
             Some((word, rest)) => {
                 self.rest = rest;
-                Some(word)
+                Ok(word)
             }
             None => {
                 let word = self.rest;
                 self.rest = "";
-                Some(word)
+                Ok(word)
             }
-        }
-    }
-
-    pub fn word(&mut self) -> Result<&'a str, RowFault> {
-        match self.next() {
-            Some(word) => Ok(word),
-            None => Err(RowFault::Unknown),
         }
     }
 
@@ -75,59 +60,82 @@ impl<'a> Words<'a> {
         }
     }
 
-    pub fn signed(&mut self) -> Result<i32, RowFault> {
-        match self.word()?.parse::<i32>() {
-            Ok(number) => Ok(number),
-            Err(_) => Err(RowFault::Unknown),
-        }
-    }
-
     pub fn long(&mut self) -> Result<i64, RowFault> {
         match self.word()?.parse::<i64>() {
             Ok(number) => Ok(number),
             Err(_) => Err(RowFault::Unknown),
         }
     }
+}
 
-    /// A text in quotes: `3'x'` is the text xxx.
-    pub fn text(&mut self, alloc: Global) -> Result<Bytes, RowFault> {
-        let Some((count, quoted)) = self.word()?.split_once('\'') else {
-            return Err(RowFault::Unknown);
-        };
-        let Some((text, _)) = quoted.split_once('\'') else {
-            return Err(RowFault::Unknown);
-        };
-        let content = text.repeat(alloc, times(count)? as usize)?;
-        Ok(Bytes::from_slice(alloc, content.as_bytes())?)
+// ---- what the words of a row say
+
+// Why the row's word says nothing.
+fn refuse(row: &mut Row, fault: RowFault) {
+    match fault {
+        RowFault::Unknown => row.unknown(),
+        RowFault::Memory => row.short(),
     }
+}
 
-    /// So many texts as the next word says.
-    pub fn texts(&mut self, alloc: Global) -> Result<ListOf<Bytes>, RowFault> {
-        let mut texts = ListOf::new(alloc);
-        for _ in 0..self.number()? {
-            texts.push(self.text(alloc)?)?;
+/// A text in quotes: `3'x'` is the text xxx.
+pub fn text(row: &mut Row) -> Bytes {
+    match text_of(row.alloc(), row.word()) {
+        Ok(text) => text,
+        Err(fault) => {
+            refuse(row, fault);
+            Bytes::new(row.alloc())
         }
-        Ok(texts)
     }
+}
 
-    /// A key and a value.
-    pub fn setting(&mut self, alloc: Global) -> Result<Setting, RowFault> {
-        let key = self.text(alloc)?;
-        let value = self.text(alloc)?;
-        Ok(Setting { key, value })
+/// So many texts as the next word says.
+pub fn texts(row: &mut Row) -> ListOf<Bytes> {
+    let mut texts = ListOf::new(row.alloc());
+    for _ in 0..row.number() {
+        let pushed = texts.push(text(row));
+        row.done("", pushed);
     }
+    texts
+}
 
-    /// Ids with commas between: `3*7` is the id 7 three times, and `none` no id.
-    pub fn ids(&mut self, alloc: Global) -> Result<Ids, RowFault> {
-        let mut ids = Ids::new(alloc);
-        let word = self.word()?;
-        if word != "none" {
-            for part in word.split(',') {
-                put_ids(part, &mut ids)?;
-            }
+/// A key and a value.
+pub fn setting(row: &mut Row) -> Setting {
+    let key = text(row);
+    let value = text(row);
+    Setting { key, value }
+}
+
+/// Ids with commas between: `3*7` is the id 7 three times, and `none` no id.
+pub fn ids(row: &mut Row) -> Ids {
+    match ids_of(row.alloc(), row.word()) {
+        Ok(ids) => ids,
+        Err(fault) => {
+            refuse(row, fault);
+            Ids::new(row.alloc())
         }
-        Ok(ids)
     }
+}
+
+fn text_of(alloc: Global, word: &str) -> Result<Bytes, RowFault> {
+    let Some((count, quoted)) = word.split_once('\'') else {
+        return Err(RowFault::Unknown);
+    };
+    let Some((text, _)) = quoted.split_once('\'') else {
+        return Err(RowFault::Unknown);
+    };
+    let content = text.repeat(alloc, times(count)? as usize)?;
+    Ok(Bytes::from_slice(alloc, content.as_bytes())?)
+}
+
+fn ids_of(alloc: Global, word: &str) -> Result<Ids, RowFault> {
+    let mut ids = Ids::new(alloc);
+    if word != "none" {
+        for part in word.split(',') {
+            put_ids(part, &mut ids)?;
+        }
+    }
+    Ok(ids)
 }
 
 // How many times; nothing says once.
@@ -160,12 +168,11 @@ fn put_id(count: u32, id: &str, ids: &mut Ids) -> Result<(), RowFault> {
     }
 }
 
-/// Bytes as the text in quotes that they are.
-pub fn put_quoted(text: &mut String, bytes: &[u8]) -> Result<(), RowFault> {
-    text.push('\'')?;
-    for byte in bytes {
-        text.push(*byte as char)?;
-    }
-    text.push('\'')?;
-    Ok(())
+// ---- bytes
+
+/// Bytes in the quotes of these rows.
+pub fn put_quoted(row: &mut Row, bytes: &[u8]) {
+    row.put("'");
+    row.letters(bytes);
+    row.put("'");
 }

@@ -1,6 +1,6 @@
 //! Objects that rows speak of by their names.
-use crate::words::RowFault;
-use std::alloc::Global;
+use crate::row::Row;
+use std::alloc::{AllocError, Global};
 
 /// Objects of one kind.
 #[derive(Drop)]
@@ -25,10 +25,25 @@ impl<T: Drop> Named<T> {
         Some(object)
     }
 
+    /// The same, or another one where none has the name.
+    pub fn take_or(&mut self, name: &str, other: T) -> T {
+        match self.take(name) {
+            Some(object) => object,
+            None => other,
+        }
+    }
+
     /// Puts an object in under a name.
-    pub fn put(&mut self, alloc: Global, name: &str, object: T) -> Result<(), RowFault> {
+    pub fn put(&mut self, alloc: Global, name: &str, object: T) -> Result<(), AllocError> {
         let name = String::from_str(alloc, name)?;
         self.items.push((name, object))?;
         Ok(())
+    }
+
+    /// The same for a row.
+    pub fn keep(&mut self, row: &mut Row, name: &str, object: T) {
+        if self.put(row.alloc(), name, object).is_err() {
+            row.short();
+        }
     }
 }
