@@ -25,6 +25,7 @@ COMMANDS = {
     "client": ("bring a saved client up to date", "The client of the file STATE asks a server for all that is new, and is saved. An empty file is a new client."),
     "layers": ("tell whether a new schema reads old bytes", "Whether NEW reads all bytes that values of TYPE had under OLD, or what breaks them first."),
     "calls": ("tell calls and their answers", "What the packets of a file are, each answer in the type that its call is answered in."),
+    "keep": ("serve, and keep what is posted", "As serve, from the posts that the database FILE has, and each new one is added to it. An empty file, or none, has none."),
 }
 OPERANDS = {
     "SCHEMA": "a file with a schema's text",
@@ -40,9 +41,10 @@ OPERANDS = {
     "CHANNEL ..": "the channels that are watched besides those of STATE",
     "OLD": "a file with the schema that was",
     "NEW": "a file with the schema that is",
+    "FILE": "a database of posts, which is made where there is none",
 }
 RANGES = {"CLIENTS": "clients_range", "NUMBER": "run_range", "STEPS": "steps_range", "SESSIONS": "sessions_range", "CHANNEL ..": "channel_range"}
-FILES = ("SCHEMA", "INPUT", "JOURNAL", "STATE", "OLD", "NEW")
+FILES = ("SCHEMA", "INPUT", "JOURNAL", "STATE", "OLD", "NEW", "FILE")
 STATUSES = {
     "Done": "The answer stands on standard output.",
     "Refused": "A file, TYPE or the words are refused: what, where and why stands on standard error.",
@@ -52,6 +54,7 @@ STATUSES = {
     "Memory": "Memory was refused.",
     "LinkFault": "A link could not be made, or failed.",
     "PeerFault": "The other end of a link did something wrong.",
+    "KeepFault": "The database of posts can't be opened, read or written.",
 }
 # The types that constructors make, in a text with a space on each side of each `=`. Names alone are let through: bash expands what it completes to.
 TYPES = r"""sed 's|//.*||' "$1" 2>/dev/null | awk '
@@ -77,6 +80,7 @@ def ranges():
 
 def statuses():
     found = dict(re.findall(r"^status_number (\w+) = (\d+)$", read("crates/command_base/specs/Answer.antt"), re.MULTILINE))
+    found |= dict(re.findall(r"^stored_number (\w+) = (\d+)$", read("crates/commands/specs/Stored.antt"), re.MULTILINE))
     if set(found) != set(STATUSES):
         raise Differs(f"statuses without a text, or texts without a status: {sorted(set(found) ^ set(STATUSES))}")
     return {int(number): STATUSES[name] for name, number in found.items()}
@@ -140,6 +144,7 @@ _tlbox_types() {{
 
 _tlbox() {{
     local -a commands operands
+    local operand
     commands=(
 {commands}
     )
@@ -151,7 +156,10 @@ _tlbox() {{
 {cases}
     *) return ;;
     esac
-    case $operands[CURRENT-2] in
+    operand=$operands[CURRENT-2]
+    # The last operand may be one of which there are any number.
+    [[ -z $operand && $operands[-1] == *.. ]] && operand=$operands[-1]
+    case $operand in
     {'|'.join(FILES)}) _files ;;
     TYPE) compadd -- ${{(f)"$(_tlbox_types ${{(Q)words[3]}})"}} ;;
 {said}

@@ -26,7 +26,7 @@ _tlbox() {
         fi
     done
     if [[ ${#words[@]} -eq 2 ]]; then
-        COMPREPLY=($(IFS=' ' && compgen -W 'check decode encode replay make serve post client layers calls' -- "$word"))
+        COMPREPLY=($(IFS=' ' && compgen -W 'check decode encode replay make serve post client layers calls keep' -- "$word"))
         return
     fi
     case ${words[1]} in
@@ -40,11 +40,12 @@ _tlbox() {
     client) operands=(SCHEMA ADDRESS STATE 'CHANNEL ..') ;;
     layers) operands=(OLD NEW TYPE) ;;
     calls) operands=(SCHEMA INPUT) ;;
+    keep) operands=(SCHEMA ADDRESS SESSIONS FILE) ;;
     *) return ;;
     esac
     operand=${operands[${#words[@]} - 3]}
     case $operand in
-    SCHEMA | INPUT | JOURNAL | STATE | OLD | NEW) COMPREPLY=($(compgen -f -- "$word")) ;;
+    SCHEMA | INPUT | JOURNAL | STATE | OLD | NEW | FILE) COMPREPLY=($(compgen -f -- "$word")) ;;
     TYPE) COMPREPLY=($(compgen -W "$(_tlbox_types "${words[2]}")" -- "$word")) ;;
     CLIENTS) COMPREPLY=($(IFS=' ' && compgen -W '1 2 3 4 5 6 7 8 9 10 11 12 13 14 15 16' -- "$word")) ;;
     esac

@@ -7,6 +7,6 @@ use Rattle.cases.specs.declared.traffic.Traffic.{Traffic}
 abbrev pub IsTraffic : Traffic → Traffic → Type 0
 IsTraffic s t = (s.addresses.items ≡ t.addresses.items) × (s.sent.items ≡ t.sent.items) × (s.starts.items ≡ t.starts.items) × (s.created.items ≡ t.created.items)
 
--- the same status, the same bytes on each out and on State, and the same traffic
+-- the same status, the same bytes on each out and on State, the same traffic, and the same entries kept
 abbrev pub EndsAs : Ending → Ending → Type 0
-EndsAs a b = (a.status ≡ b.status) × (a.output.items ≡ b.output.items) × (a.errors.items ≡ b.errors.items) × (a.state.items ≡ b.state.items) × IsTraffic a.traffic b.traffic
+EndsAs a b = (a.status ≡ b.status) × (a.output.items ≡ b.output.items) × (a.errors.items ≡ b.errors.items) × (a.state.items ≡ b.state.items) × IsTraffic a.traffic b.traffic × (a.kept.items ≡ b.kept.items)

@@ -4,8 +4,9 @@ use crate::fault::CaseFault;
 use crate::setting::Setting;
 use crate::traffic::Traffic;
 use crate::words::{bytes_of, cut_word, number_of, words_of};
+use box_store::MemKeeper;
 use std::alloc::{AllocError, Global};
-use tl_base::MemHost;
+use tl_base::{MemHost, Memory};
 
 // So many bytes of what differs are shown.
 const SHOWN_BYTES: usize = 160;
@@ -87,6 +88,7 @@ impl Case {
                 let bytes = bytes_of(self.alloc, rest)?;
                 Ok(self.wanted.state.extend_from_slice(&bytes)?)
             }
+            "kept" => Ok(put_line(&mut self.wanted.kept, rest)?),
             "front" => {
                 self.wanted.keep_front(number_of(rest)? as usize);
                 Ok(())
@@ -137,6 +139,11 @@ impl Case {
         self.setting.host()
     }
 
+    /// The keeper that it finds, where it is a run of `keep`.
+    pub fn keeper(&self) -> Result<MemKeeper, Memory> {
+        self.setting.keeper()
+    }
+
     /// Tells where the run came to another end, with the place of the case.
     pub fn difference(&self, got: &Ending) -> Result<String, AllocError> {
         let alloc = self.alloc;
@@ -148,6 +155,7 @@ impl Case {
         put_difference(alloc, &mut text, "Output", &self.wanted.output, &got.output)?;
         put_difference(alloc, &mut text, "Errors", &self.wanted.errors, &got.errors)?;
         put_bytes_difference(alloc, &mut text, "State", &self.wanted.state, &got.state)?;
+        put_difference(alloc, &mut text, "entries", &self.wanted.kept, &got.kept)?;
         put_traffic(alloc, &mut text, &self.wanted.traffic, &got.traffic)?;
         Ok(text)
     }

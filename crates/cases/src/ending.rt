@@ -18,6 +18,8 @@ pub struct Ending {
     /// All bytes on State.
     pub state: Vec<u8>,
     pub traffic: Traffic,
+    /// A line for each entry that the keeper has, in a run of `keep`.
+    pub kept: Vec<u8>,
 }
 
 impl Ending {
@@ -29,6 +31,7 @@ impl Ending {
             errors: Vec::new(alloc),
             state: Vec::new(alloc),
             traffic: Traffic::none(alloc),
+            kept: Vec::new(alloc),
         }
     }
 
@@ -41,6 +44,7 @@ impl Ending {
             && self.errors.as_slice() == other.errors.as_slice()
             && self.state.as_slice() == other.state.as_slice()
             && self.traffic.is_as(&other.traffic)
+            && self.kept.as_slice() == other.kept.as_slice()
     }
 
     pub fn copy(&self) -> Result<Ending, AllocError>
@@ -52,6 +56,7 @@ impl Ending {
             errors: self.errors.clone()?,
             state: self.state.clone()?,
             traffic: self.traffic.copy()?,
+            kept: self.kept.clone()?,
         })
     }
 

@@ -5,6 +5,7 @@ mod block;
 mod case;
 mod ending;
 mod fault;
+mod kept;
 mod reader;
 mod setting;
 mod traced;
@@ -13,9 +14,11 @@ mod words;
 
 use crate::case::Case;
 use crate::ending::Ending;
+use crate::kept::entries_text;
 use crate::reader::{BadLine, read_cases};
 use crate::traced::TracedHost;
-use commands::run;
+use box_store::MemKeeper;
+use commands::{keep_in, run, run_stored};
 use std::alloc::{AllocError, Global};
 use std::process::ExitCode;
 use std::{env, fs, io};
@@ -42,11 +45,23 @@ fn status_of(alloc: Global, words: &[String], host: &mut TracedHost<MemHost>) ->
     run(alloc, words, host).code()
 }
 
+// Runs `keep` over a keeper, and tells its status, and the entries afterwards.
+fn kept_by(
+    alloc: Global,
+    words: &[String],
+    host: &mut TracedHost<MemHost>,
+    keeper: MemKeeper,
+) -> Result<(u8, Vec<u8>), AllocError> {
+    let (status, keeper) = run_stored(alloc, words, host, keeper);
+    Ok((status.code(), entries_text(alloc, keeper.entries())?))
+}
+
 // How a run ended, and what it did.
 fn ending_over(
     alloc: Global,
     status: u8,
     host: &TracedHost<MemHost>,
+    kept: Vec<u8>,
 ) -> Result<Ending, AllocError> {
     if !host.is_whole {
         return Err(AllocError);
@@ -57,14 +72,22 @@ fn ending_over(
         errors: Vec::from_slice(alloc, host.host.written(Out::Errors))?,
         state: Vec::from_slice(alloc, host.host.written(Out::State))?,
         traffic: host.traffic.copy()?,
+        kept,
     })
 }
 
 // How a run ends.
 fn ending_of(alloc: Global, case: &Case) -> Result<Ending, AllocError> {
     let mut host = TracedHost::new(alloc, case.host()?);
-    let status = status_of(alloc, case.words(), &mut host);
-    ending_over(alloc, status, &host)
+    if keep_in(case.words()).is_none() {
+        let status = status_of(alloc, case.words(), &mut host);
+        return ending_over(alloc, status, &host, Vec::new(alloc));
+    }
+    let Ok(keeper) = case.keeper() else {
+        return Err(AllocError);
+    };
+    let (status, kept) = kept_by(alloc, case.words(), &mut host, keeper)?;
+    ending_over(alloc, status, &host, kept)
 }
 
 // Makes a run, and prints a line where it ends otherwise.

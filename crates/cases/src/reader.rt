@@ -233,9 +233,14 @@ impl Begun {
                 Ok(())
             }
             "is-profile" => self.setting.check_profile(rest),
-            "link" | "moments" | "reads-at-most" | "room" | "fails" => {
-                self.call(number, word, rest)
-            }
+            "link"
+            | "moments"
+            | "reads-at-most"
+            | "room"
+            | "fails"
+            | "entry"
+            | "keeper-room"
+            | "keeper-fails" => self.call(number, word, rest),
             "run" => self.run(place.file.as_str(), number, rest),
             "same" => self.want_as_before(),
             "same-as-first" => self.want_as(0),
@@ -249,7 +254,8 @@ impl Begun {
             | "sent"
             | "sent-more"
             | "state"
-            | "state-hex" => self.want(word, rest),
+            | "state-hex"
+            | "kept" => self.want(word, rest),
             _ => Err(CaseFault::NoWord),
         }
     }

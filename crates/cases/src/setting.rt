@@ -1,9 +1,11 @@
 //! What a run finds.
 use crate::ending::put_line;
 use crate::fault::CaseFault;
+use crate::kept::CaseKeeper;
 use crate::words::{Moment, bytes_of, cut_word, moments_of, number_of, numbered_call, numbers_of};
+use box_store::MemKeeper;
 use std::alloc::{AllocError, Global};
-use tl_base::{Bytes, HostCall, MemHost};
+use tl_base::{Bytes, HostCall, MemHost, Memory};
 use wire_profile::PROFILE_TEXT;
 
 // How many bytes each out takes, where no line says it.
@@ -30,6 +32,7 @@ pub struct Setting {
     // How many bytes each read gives at most; the last holds for all further reads. None: as many as are asked for.
     most: Vec<u32>,
     room: u32,
+    keeper: CaseKeeper,
 }
 
 fn copy_files(alloc: Global, files: &[CaseFile]) -> Result<Vec<CaseFile>, AllocError> {
@@ -125,6 +128,7 @@ impl Setting {
             fails: Vec::new(alloc),
             most: Vec::new(alloc),
             room: ROOM,
+            keeper: CaseKeeper::new(alloc),
         }
     }
 
@@ -139,6 +143,7 @@ impl Setting {
             fails: Vec::from_slice(self.alloc, &self.fails)?,
             most: Vec::from_slice(self.alloc, &self.most)?,
             room: self.room,
+            keeper: self.keeper.copy()?,
         })
     }
 
@@ -153,6 +158,7 @@ impl Setting {
         self.fails.clear();
         self.most.clear();
         self.room = ROOM;
+        self.keeper.clear();
     }
 
     /// Begins a file, in place of one with the name.
@@ -223,8 +229,13 @@ impl Setting {
                 self.most = numbers_of(self.alloc, rest)?;
                 Ok(())
             }
-            _ => Err(CaseFault::NoWord),
+            _ => self.keeper.take(word, rest),
         }
+    }
+
+    /// The keeper that a run of `keep` finds.
+    pub fn keeper(&self) -> Result<MemKeeper, Memory> {
+        self.keeper.keeper()
     }
 
     // The bytes of the longest file.

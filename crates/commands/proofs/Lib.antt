@@ -1,5 +1,6 @@
 pub mod Decided
 pub mod NumberWords
+pub mod KeepWords
 pub mod Channels
 pub mod Rows
 pub mod Ranges
@@ -12,4 +13,5 @@ pub mod WordsParted
 pub mod OneAnswer
 pub mod AnAnswer
 pub mod Endings
+pub mod StoredEnds
 mod Digits

@@ -6,7 +6,7 @@ use Rattle.command_base.specs.Answer.{Answer, misused}
 use Rattle.commands.specs.Requests.{RequestText, AsksFor, AsksNothing, HasFilesOf, HasComingOf, ShowsBytesFor, job_of}
 
 abbrev pub usage_line : List ℕ
-usage_line = codes "usage: tlbox check SCHEMA, decode SCHEMA TYPE INPUT, encode SCHEMA TYPE INPUT, replay SCHEMA JOURNAL CLIENTS, make SCHEMA NUMBER STEPS, serve SCHEMA ADDRESS SESSIONS, post SCHEMA ADDRESS INPUT, client SCHEMA ADDRESS STATE [CHANNEL ..], layers OLD NEW TYPE, calls SCHEMA INPUT\n"
+usage_line = codes "usage: tlbox check SCHEMA, decode SCHEMA TYPE INPUT, encode SCHEMA TYPE INPUT, replay SCHEMA JOURNAL CLIENTS, make SCHEMA NUMBER STEPS, serve SCHEMA ADDRESS SESSIONS, post SCHEMA ADDRESS INPUT, client SCHEMA ADDRESS STATE [CHANNEL ..], layers OLD NEW TYPE, calls SCHEMA INPUT, keep SCHEMA ADDRESS SESSIONS FILE\n"
 
 abbrev pub usage : Answer
 usage = misused usage_line

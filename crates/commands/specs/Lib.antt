@@ -3,3 +3,4 @@ pub mod CommandLine
 pub mod Answers
 pub mod Runs
 pub mod Numbers
+pub mod Stored

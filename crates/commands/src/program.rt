@@ -19,8 +19,8 @@ use tl_base::Host;
 use update_commands::{make_run, replay_journal};
 
 /// What is told where the words are no row.
-const USAGE: &[u8] =
-    b"usage: tlbox check SCHEMA, decode SCHEMA TYPE INPUT, encode SCHEMA TYPE INPUT, replay SCHEMA JOURNAL CLIENTS, make SCHEMA NUMBER STEPS, serve SCHEMA ADDRESS SESSIONS, post SCHEMA ADDRESS INPUT, client SCHEMA ADDRESS STATE [CHANNEL ..], layers OLD NEW TYPE, calls SCHEMA INPUT\n";
+pub const USAGE: &[u8] =
+    b"usage: tlbox check SCHEMA, decode SCHEMA TYPE INPUT, encode SCHEMA TYPE INPUT, replay SCHEMA JOURNAL CLIENTS, make SCHEMA NUMBER STEPS, serve SCHEMA ADDRESS SESSIONS, post SCHEMA ADDRESS INPUT, client SCHEMA ADDRESS STATE [CHANNEL ..], layers OLD NEW TYPE, calls SCHEMA INPUT, keep SCHEMA ADDRESS SESSIONS FILE\n";
 
 /// Runs the program over an outside: the words without the program's name, and the status that it ends with.
 pub fn run<H: Host>(alloc: Global, words: &[String], host: &mut H) -> Status

@@ -387,8 +387,8 @@ fn are_operands(words: &[String]) -> bool
     words.iter().all(|word| is_operand(word.as_str()))
 }
 
-// Whether a word may be an operand: it is not empty, and does not begin with `-`.
-fn is_operand(word: &str) -> bool
+/// Whether a word may be an operand: it is not empty, and does not begin with `-`.
+pub fn is_operand(word: &str) -> bool
     ensures { IsTrue result ↔ IsOperand word.now }
 {
     match word.as_bytes() {

@@ -8,10 +8,11 @@ use Rattle.tl_base.specs.Using.{MeetsFaults}
 use Rattle.tl_base.specs.declared.counts.Kind.TheVariants as kinds
 use Rattle.tl_base.specs.declared.host.Out.TheVariants as outs
 use Rattle.tl_base.specs.declared.host.Slot.TheVariants as slots
-use Rattle.box_events.specs.declared.requests.Numbered.{Numbered}
 use Rattle.box_server.specs.Servers.{ServerState, dated_at}
+use Rattle.box_store.specs.declared.entry.Entry.{Entry}
 use Rattle.wire_profile.specs.Places.{ProfileView}
 use Rattle.update_sessions.specs.Exchanges.{MaySend}
+use Rattle.update_sessions.specs.Kept.{kept_in}
 use Rattle.update_sessions.specs.Served.{Serves}
 use Rattle.update_sessions.specs.Serving.{server_side}
 use Rattle.update_sessions.specs.declared.fault.SessionFault.{SessionFault}
@@ -29,7 +30,7 @@ use Rattle.fault_lines.specs.Answers.{answer_line}
 use Rattle.fault_lines.specs.Messages.{wire_line}
 use Rattle.session_commands.specs.Lines.{packet_line, served_line}
 use Rattle.session_commands.specs.Serve.{SessionEnd, served, peer_fault, link_fault, IsShortEnd, IsWhole, KeepsServing, Session, end_errors, end_of, end_output, end_status, first_fault}
-use Rattle.session_commands.specs.inner.Serving.{GoesOn, HasEndRoom, HasNextRoom, HasSessionRoom, IsSessionStatus, MayStop, MeetsNext, NextServed, NextUntold, ServesNext, TakesNext, Tallies, TellsEnd, next_moment, next_taken, session_view, with_told}
+use Rattle.session_commands.specs.inner.Serving.{GoesOn, HasEndRoom, HasNextRoom, HasSessionRoom, IsSessionStatus, MayStop, MeetsNext, NextServed, NextUntold, ServesKept, ServesNext, TakesNext, Tallies, TellsEnd, next_moment, next_taken, session_view, with_told}
 use Rattle.session_commands.proofs.HostLinks.{link_used, none_written}
 use Rattle.session_commands.proofs.Sent.{told_with}
 
@@ -106,9 +107,9 @@ next_told E now a m b h k = told_then a m b (Accepts {E = E} (Ok tt)) (TellsMome
 
 -- ---- a session over it
 
-module _ (p : ProfileView) (s t : ServerState) (now : ℕ) (r : Result ℕ SessionFault) where
-  abbrev pub Calls : List ℕ → List ℕ → Type 0
-  Calls bytes out = (calls : List Numbered) × Serves p (dated_at s now) bytes out t r calls
+module _ (p : ProfileView) (s t : ServerState) (entries now_entries : Option (List Entry)) (now : ℕ) (r : Result ℕ SessionFault) where
+  abbrev Calls : List ℕ → List ℕ → Type 0
+  Calls bytes out = ServesKept p (dated_at s now) bytes out t r entries now_entries
 
   -- a session was served: its view, and what it did over the bytes that the link gave
   pub record Taken (v w : View) : Type 0 where
@@ -165,11 +166,16 @@ module _ (p : ProfileView) (s t : ServerState) (now : ℕ) (r : Result ℕ Sessi
   -- ---- its end is told
 
   module _ (k : ℕ) (before after : Tally) (word : IsShortEnd r) where
-    session_of : (v w : View) (e : SessionEnd) (h : Taken v w) → end_of r ≡ Some e → Session p s (next_moment v) (next_link v) h.out t e
+    -- the entries of its new posts
+    abbrev more_of : (v w : View) (h : Taken v w) → List Entry
+    more_of v w h = kept_in (dated_at s now) h.calls.0
+
+    session_of : (v w : View) (e : SessionEnd) (h : Taken v w) → end_of r ≡ Some e → Session p s (next_moment v) (next_link v) h.out t (more_of v w h) e
     session_of v w e h is = record {
       answer = r;
       calls = h.calls.0;
       serves = subst (λ (n : ℕ). Serves p (dated_at s n) (next_link v) h.out t r h.calls.0) h.moment h.calls.1;
+      entries = ap (λ (n : ℕ). kept_in (dated_at s n) h.calls.0) h.moment;
       word = word;
       ended = is;
     }
@@ -193,12 +199,14 @@ module _ (p : ProfileView) (s t : ServerState) (now : ℕ) (r : Result ℕ Sessi
     output_as : (v u : View) (h : Taken v u) → u.written.output ≡ v.written.output
     output_as v u h = ap (λ (x : View). x.written.output) h.view ∙ append-nil v.written.output
 
-    next_so : (R S : Type 0) (q : Result (Unit {0}) Stop) (v u w : View) → Tallies r before after q → Taken v u × Failed R S v → TellsEnd k r before after q u w → ServesNext R S p k s t before after q v w
+    next_so : (R S : Type 0) (q : Result (Unit {0}) Stop) (v u w : View) → Tallies r before after q → Taken v u × Failed R S v → TellsEnd k r before after q u w → ServesNext R S p k s t entries now_entries before after q v w
     next_so R S (Ok tt) v u w (d, also, counts) (h, failed) (e, is, view, lines) = record {
       ended = e;
       sent = h.out;
       left = h.left;
+      more = more_of v u h;
       session = session_of v u e h is;
+      appended = h.calls.2;
       whole = whole_or R S v e is failed;
       view = view ∙ ap (λ (x : View). with_told (end_output k e) w.written.errors x) h.view ∙ then_told h.left h.out (end_output k e) w.written.errors v;
       lines = subst (λ (x : List ℕ). GoesOn before.whole after.whole x w.written.errors (end_errors e)) (errors_as v u h) lines;
@@ -208,6 +216,7 @@ module _ (p : ProfileView) (s t : ServerState) (now : ℕ) (r : Result ℕ Sessi
       frames = n;
       sent = h.out;
       server = t;
+      more = more_of v u h;
       session = session_of v u (served n) h (ap end_of is);
       output = (prefix, rest, split, ap (λ (x : View). x.written.output) view ∙ ap (λ (x : List ℕ). x ++ prefix) (output_as v u h));
       errors = ap (λ (x : View). x.written.errors) view ∙ errors_as v u h;
@@ -221,14 +230,14 @@ module _ (p : ProfileView) (s t : ServerState) (now : ℕ) (r : Result ℕ Sessi
 
     serves_so : (E : Type 0) (a m n b : Option View) (R S T : Type 0) (q : Result (Unit {0}) Stop) → (IsErrOf r fault.LinkFault → R) → (IsSome a → S → T) → Tallies r before after q
         → Told a m (TakesNext {E = E} (Ok now)) → IfSome m (λ u. T → HasLinkRoom (MaySend (server_side p) (dated_at s now)) u → IsErrOf r fault.LinkFault → ⊥) → Told m n (OverHost Calls) → Told n b (TellsEnd k r before after q)
-        → Told a b (ServesNext R S p k s t before after q)
+        → Told a b (ServesNext R S p k s t entries now_entries before after q)
     serves_so E a m n b R S T q rose stays counts takes never over tells =
-        told_then a n b (λ v u. Taken v u × Failed R S v) (TellsEnd k r before after q) (ServesNext R S p k s t before after q) (λ v u w x y. next_so R S q v u w counts x y)
+        told_then a n b (λ v u. Taken v u × Failed R S v) (TellsEnd k r before after q) (ServesNext R S p k s t entries now_entries before after q) (λ v u w x y. next_so R S q v u w counts x y)
         (told_with a n Taken (Failed R S) (session_taken E a m n takes over) (may_fail E a m R S T rose stays takes never)) tells
 
     pub next_served : (E F : Type 0) (x y z w : HostState) (q : Result (Unit {0}) Stop) → MeetsFaults kinds.Links x y F (λ v. 0 < length v.links) → Told x.view y.view (TakesNext {E = E} (Ok now))
         → MeetsFaults kinds.Links y z (IsErrOf r fault.LinkFault) (HasLinkRoom (MaySend (server_side p) (dated_at s now))) → Told y.view z.view (OverHost Calls) → MeetsFaults kinds.Writes z w (IsErrOf q stop.WriteFault) (HasEndRoom k r)
-        → Told z.view w.view (TellsEnd k r before after q) → Tallies r before after q → Told x.view w.view (ServesNext (Rose x.counts.links w.counts.links) (IsTrue x.sound) p k s t before after q)
+        → Told z.view w.view (TellsEnd k r before after q) → Tallies r before after q → Told x.view w.view (ServesNext (Rose x.counts.links w.counts.links) (IsTrue x.sound) p k s t entries now_entries before after q)
     next_served E F x y z w q first takes second over third tells counts =
         serves_so E x.view y.view z.view w.view (Rose x.counts.links w.counts.links) (IsTrue x.sound) (IsTrue y.sound) q (λ f. omega (arith, first.later, second.cause f, ap (λ c. c.links) third.others)) first.stays counts takes second.never over tells
 
@@ -237,7 +246,7 @@ module _ (p : ProfileView) (s t : ServerState) (now : ℕ) (r : Result ℕ Sessi
     end_room : (v u : View) → Taken v u → HasNextRoom p k s v → (q : Result ℕ SessionFault) → q ≡ r → HasEndRoom k q u
     end_room v u h room (Ok n) is =
         let ended : end_of r ≡ Some (served n) = sym (ap end_of is) in
-        omega (arith, room.output h.out t (served n) tt (session_of v u (served n) h ended), ap length (output_as v u h), ap (λ (x : View). x.room) h.view)
+        omega (arith, room.output h.out t (more_of v u h) (served n) tt (session_of v u (served n) h ended), ap length (output_as v u h), ap (λ (x : View). x.room) h.view)
     end_room v u h room (Err f) is = tt
 
     status_so : (R : Type 0) → (IsErrOf r fault.LinkFault → R) → (e : SessionEnd) → end_of r ≡ Some e → (old new : Status) → new ≡ first_fault old (end_status e) → (new ≡ old) ⊎ IsSessionStatus R new

@@ -22,6 +22,7 @@ use Rattle.box_server.specs.Sound.{IsSound}
 use Rattle.box_server.specs.declared.fault.PostFault.{PostFault}
 use Rattle.box_server.proofs.NewServers.{sound_new}
 use Rattle.box_server.proofs.Soundness.{dated_sound, post_sound, posted_sound}
+use Rattle.box_store.specs.declared.entry.Entry.{Entry}
 use Rattle.wire_checks.specs.declared.fault.WireFault.{WireFault}
 use Rattle.wire_profile.specs.Places.{ProfileView}
 use Rattle.wire_profile.specs.Profiles.{IsProfile}
@@ -45,6 +46,7 @@ use Rattle.update_sessions.specs.declared.fault.TheConstants.{MAX_FRAMES}
 use Rattle.update_sessions.specs.Packed.{Came, MeansCall, NoPacket, Packed, SpellsFrame}
 use Rattle.update_sessions.specs.Exchanges.{Exchanged, TakesAll, after_all, sends_all}
 use Rattle.update_sessions.specs.Heard.{NoFrame}
+use Rattle.update_sessions.specs.Kept.{kept_in}
 use Rattle.update_sessions.specs.Receiving.{RefusedPacket}
 use Rattle.update_sessions.specs.Serving.{after_request, posted_frames, sent_for, server_side}
 use Rattle.command_base.specs.Answer.{Answer}
@@ -175,8 +177,9 @@ module _ (p : ProfileView) (good : IsProfile p) where
   record Serving (s : ServerState) (now : ℕ) (bytes : List ℕ) : Type 0 where
     out : List ℕ
     server : ServerState
+    more : List Entry
     ended : SessionEnd
-    session : Session p s now bytes out server ended
+    session : Session p s now bytes out server more ended
     whole : IsWhole ended
     stays : IsGood server
 
@@ -193,32 +196,36 @@ module _ (p : ProfileView) (good : IsProfile p) where
         | full is ↦ record {
           out = sent.0;
           server = t;
+          more = kept_in d row.came_calls;
           ended = peer_fault many_frames_line;
-          session = record { answer = Err fault.TooManyFrames; calls = row.came_calls; serves = (row.left, ex, is); word = tt; ended = refl };
+          session = record { answer = Err fault.TooManyFrames; calls = row.came_calls; serves = (row.left, ex, is); entries = refl; word = tt; ended = refl };
           whole = tt;
           stays = stays;
         }
         | empty less is ↦ record {
           out = sent.0;
           server = t;
+          more = kept_in d row.came_calls;
           ended = served (length row.came_calls);
-          session = record { answer = Ok (length row.came_calls); calls = row.came_calls; serves = (subst (λ (l : List ℕ). Exchanged (server_side p) d bytes l sent.0 t row.came_calls) is ex, refl, less); word = tt; ended = refl };
+          session = record { answer = Ok (length row.came_calls); calls = row.came_calls; serves = (subst (λ (l : List ℕ). Exchanged (server_side p) d bytes l sent.0 t row.came_calls) is ex, refl, less); entries = refl; word = tt; ended = refl };
           whole = tt;
           stays = stays;
         }
         | none less f line lacks word tells ↦ record {
           out = sent.0;
           server = t;
+          more = kept_in d row.came_calls;
           ended = peer_fault line;
-          session = record { answer = Err (fault.Packet f); calls = row.came_calls; serves = (row.left, ex, less, lacks); word = word; ended = ap (option_map (λ l. peer_fault l)) tells };
+          session = record { answer = Err (fault.Packet f); calls = row.came_calls; serves = (row.left, ex, less, lacks); entries = refl; word = word; ended = ap (option_map (λ l. peer_fault l)) tells };
           whole = tt;
           stays = stays;
         }
         | refused less f line lacks tells ↦ record {
           out = sent.0;
           server = t;
+          more = kept_in d row.came_calls;
           ended = peer_fault line;
-          session = record { answer = Err (fault.Wire f); calls = row.came_calls; serves = (row.left, ex, less, lacks); word = tt; ended = ap (option_map (λ l. peer_fault l)) tells };
+          session = record { answer = Err (fault.Wire f); calls = row.came_calls; serves = (row.left, ex, less, lacks); entries = refl; word = tt; ended = ap (option_map (λ l. peer_fault l)) tells };
           whole = tt;
           stays = stays;
         }
@@ -227,17 +234,17 @@ module _ (p : ProfileView) (good : IsProfile p) where
   module _ (given : List (List ℕ)) (all : ListsOfBytes given) (moments : List ℕ) (few : (k : ℕ) → get_or moments k 0 < 2 ^ 31) where
     record HasTotal (k : ℕ) : Type 0 where
       total : Total
-      sessions : Sessions IsWhole p given moments k total
+      sessions : Sessions IsWhole p new_server given moments k total
       stays : IsGood total.server
 
     each_total : (k : ℕ) → HasTotal k
-    each_total zero = record { total = no_sessions; sessions = refl; stays = good_new }
+    each_total zero = record { total = no_sessions new_server; sessions = refl; stays = good_new }
     each_total (suc k) =
         let h = each_total k in
         let one = each_session h.total.server (get_or moments k 0) (get_or given k []) h.stays (few k) (given_bytes given all k) in
         record {
-          total = with_session k one.ended one.out one.server h.total;
-          sessions = (h.total, one.ended, one.out, one.server, h.sessions, one.whole, one.session, refl);
+          total = with_session k one.ended one.out one.server one.more h.total;
+          sessions = (h.total, one.ended, one.out, one.server, one.more, h.sessions, one.whole, one.session, refl);
           stays = one.stays;
         }
 
@@ -249,6 +256,6 @@ few_moments (m ∷ ms) all (suc k) = few_moments ms all.1 k
 
 pub each_serve : ServesAreAnswered
 each_serve files hold given bytes moments few schema address n (text, has) =
-    let told = each_text text (OfSessions IsWhole address n given moments) (λ p good h.
+    let told = each_text text (OfSessions new_server address IsWhole n given moments) (λ p good h.
     (let t = each_total p good given bytes moments (few_moments moments few) n in (total_answer address n t.total, (t.total, t.sessions, refl)))) in
     (told.0, (text, has, told.1))

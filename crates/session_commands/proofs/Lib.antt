@@ -23,8 +23,11 @@ pub mod OneServed
 pub mod OneTotal
 pub mod ToldEnds
 pub mod Connections
+pub mod Stores
 pub mod ServeRuns
+pub mod StoreRuns
 pub mod ServeParts
+pub mod KeepParts
 pub mod ServeKept
 pub mod OneServe
 pub mod EachServe

@@ -8,6 +8,7 @@ use Rattle.tl_encode.proofs.OneSpelling.{one_spelling}
 use Rattle.box_events.specs.declared.replies.Frame.{Frame}
 use Rattle.box_events.specs.declared.requests.Numbered.{Numbered}
 use Rattle.box_server.specs.Servers.{ServerState, dated_at}
+use Rattle.box_store.specs.declared.entry.Entry.{Entry}
 use Rattle.wire_checks.specs.declared.fault.WireFault.{WireFault}
 use Rattle.wire_profile.specs.Places.{ProfileView, cell_shape}
 use Rattle.wire_profile.specs.Profiles.{IsProfile}
@@ -22,6 +23,7 @@ use Rattle.update_sessions.specs.declared.fault.TheConstants.{MAX_FRAMES}
 use Rattle.update_sessions.specs.Packed.{Came, MeansCall, NoPacket, SpellsFrame}
 use Rattle.update_sessions.specs.Exchanges.{Exchanged, MaySend}
 use Rattle.update_sessions.specs.Receiving.{RefusedPacket}
+use Rattle.update_sessions.specs.Kept.{kept_in}
 use Rattle.update_sessions.specs.Served.{Serves}
 use Rattle.update_sessions.specs.Serving.{server_side}
 use Rattle.session_commands.specs.Post.{IsWordLong}
@@ -151,26 +153,27 @@ module _ (p : ProfileView) (good : IsProfile p) where
   -- ---- the session of a connection
 
   module _ (s : ServerState) (now : ℕ) (bytes : List ℕ) (are : AreBytes bytes) where
-    closed_so : (out : List ℕ) (t : ServerState) (e : SessionEnd) (h : Session p s now bytes out t e) → IsWhole e → Closed (dated_at s now) bytes out t h.answer h.calls
-    closed_so out t e h whole = closed (dated_at s now) bytes are out t h.answer h.calls e h.serves h.word h.ended whole
+    closed_so : (out : List ℕ) (t : ServerState) (more : List Entry) (e : SessionEnd) (h : Session p s now bytes out t more e) → IsWhole e → Closed (dated_at s now) bytes out t h.answer h.calls
+    closed_so out t more e h whole = closed (dated_at s now) bytes are out t h.answer h.calls e h.serves h.word h.ended whole
 
     -- what may be sent is no more than what is sent
-    pub session_sends : (out : List ℕ) (t : ServerState) (e : SessionEnd) → Session p s now bytes out t e → IsWhole e → (o : List ℕ) → MaySend (server_side p) (dated_at s now) bytes o → length o ≤ length out
-    session_sends out t e h whole o may =
-        let c = closed_so out t e h whole in
+    pub session_sends : (out : List ℕ) (t : ServerState) (more : List Entry) (e : SessionEnd) → Session p s now bytes out t more e → IsWhole e → (o : List ℕ) → MaySend (server_side p) (dated_at s now) bytes o → length o ≤ length out
+    session_sends out t more e h whole o may =
+        let c = closed_so out t more e h whole in
         sends_most (server_side p) one_of one_frame (dated_at s now) bytes c.left out o t h.calls are c.ended may
 
-    pub record SameSession (out o : List ℕ) (t u : ServerState) (e d : SessionEnd) : Type 0 where
+    pub record SameSession (out o : List ℕ) (t u : ServerState) (more also_more : List Entry) (e d : SessionEnd) : Type 0 where
       pub sent : out ≡ o
       pub server : t ≡ u
+      pub entries : more ≡ also_more
       pub end_is : e ≡ d
 
-    pub one_session : (out o : List ℕ) (t u : ServerState) (e d : SessionEnd) → Session p s now bytes out t e → Session p s now bytes o u d → IsWhole e → IsWhole d → SameSession out o t u e d
-    one_session out o t u e d h k whole also =
-        let first = closed_so out t e h whole in
-        let second = closed_so o u d k also in
+    pub one_session : (out o : List ℕ) (t u : ServerState) (more also_more : List Entry) (e d : SessionEnd) → Session p s now bytes out t more e → Session p s now bytes o u also_more d → IsWhole e → IsWhole d → SameSession out o t u more also_more e d
+    one_session out o t u more also_more e d h k whole also =
+        let first = closed_so out t more e h whole in
+        let second = closed_so o u also_more d k also in
         let one : AreOne (server_side p) first.left out t h.calls second.left o u k.calls = one_ended (server_side p) one_of one_frame (dated_at s now) bytes first.left out t h.calls second.left o u k.calls are first.ended second.ended in
         let left = came_bytes bytes h.calls first.left first.ended.exchanged.came are in
         let there : EndsWith first.left (length h.calls) k.answer = subst (λ (l : List ℕ). EndsWith l (length h.calls) k.answer) one.left_same (subst (λ (cs : List Numbered). EndsWith second.left (length cs) k.answer) one.all second.ends) in
         let result : h.answer ≡ k.answer = one_result first.left left (length h.calls) h.answer k.answer first.ends there in
-        record { sent = sym one.wrote; server = sym one.ends; end_is = some_is e d (sym h.ended ∙ ap end_of result ∙ k.ended) }
+        record { sent = sym one.wrote; server = sym one.ends; entries = h.entries ∙ ap (kept_in (dated_at s now)) (sym one.all) ∙ sym k.entries; end_is = some_is e d (sym h.ended ∙ ap end_of result ∙ k.ended) }

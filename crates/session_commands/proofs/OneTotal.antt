@@ -5,6 +5,7 @@ use Rattle.std.proofs.Math.Nat.{eq-or-lt_of_le}
 use Rattle.std.proofs.lemmas.List.{get_or_append_left, get_or_at}
 use Rattle.tl_base.specs.Contents.{AreBytes, ListsOfBytes}
 use Rattle.box_server.specs.Servers.{ServerState}
+use Rattle.box_store.specs.declared.entry.Entry.{Entry}
 use Rattle.wire_profile.specs.Places.{ProfileView}
 use Rattle.wire_profile.specs.Profiles.{IsProfile}
 use Rattle.command_base.specs.declared.status.Status.{Status}
@@ -38,14 +39,14 @@ first_so status.ReadFault e whole h = h
 first_so status.WriteFault e whole h = h
 first_so status.Memory e whole h = h
 
-module _ (p : ProfileView) (given : List (List ℕ)) (moments : List ℕ) where
-  pub whole_status : (k : ℕ) (r : Total) → Sessions IsWhole p given moments k r → IsSessionStatus ⊥ r.status
+module _ (p : ProfileView) (s : ServerState) (given : List (List ℕ)) (moments : List ℕ) where
+  pub whole_status : (k : ℕ) (r : Total) → Sessions IsWhole p s given moments k r → IsSessionStatus ⊥ r.status
   whole_status zero r is = subst (λ (x : Total). IsSessionStatus ⊥ x.status) (sym is) tt
-  whole_status (suc k) r (q, e, out, t, h, whole, session, is) = subst (λ (x : Total). IsSessionStatus ⊥ x.status) (sym is) (first_so q.status e whole (whole_status k q h))
+  whole_status (suc k) r (q, e, out, t, more, h, whole, session, is) = subst (λ (x : Total). IsSessionStatus ⊥ x.status) (sym is) (first_so q.status e whole (whole_status k q h))
 
-  pub any_of : (k : ℕ) (r : Total) → Sessions IsWhole p given moments k r → Sessions IsAny p given moments k r
+  pub any_of : (k : ℕ) (r : Total) → Sessions IsWhole p s given moments k r → Sessions IsAny p s given moments k r
   any_of zero r is = is
-  any_of (suc k) r (q, e, out, t, h, whole, session, is) = (q, e, out, t, any_of k q h, tt, session, is)
+  any_of (suc k) r (q, e, out, t, more, h, whole, session, is) = (q, e, out, t, more, any_of k q h, tt, session, is)
 
   -- ---- one of some sessions
 
@@ -55,9 +56,10 @@ module _ (p : ProfileView) (given : List (List ℕ)) (moments : List ℕ) where
     pub ended : SessionEnd
     pub sent : List ℕ
     pub server : ServerState
-    pub sessions : Sessions IsWhole p given moments k total
+    pub more : List Entry
+    pub sessions : Sessions IsWhole p s given moments k total
     pub whole : IsWhole ended
-    pub session : Session p total.server (get_or moments k 0) (get_or given k []) sent server ended
+    pub session : Session p total.server (get_or moments k 0) (get_or given k []) sent server more ended
     pub link : length sent ≤ room
     pub output : before + length total.output + length (end_output k ended) ≤ room
 
@@ -67,9 +69,9 @@ module _ (p : ProfileView) (given : List (List ℕ)) (moments : List ℕ) where
   first_of : (P : List ℕ → Type 0) (ls : List (List ℕ)) (x : List ℕ) → All P (ls ++ x ∷ []) → All P ls
   first_of P ls x all = λ k d lt. subst P (get_or_append_left ls (x ∷ []) d k lt) (all k d (omega (arith, lt, length-append ls (x ∷ []))))
 
-  pub is_among : (n : ℕ) (r : Total) (before room : ℕ) → Sessions IsWhole p given moments n r → All (λ b. length b ≤ room) r.sent → before + length r.output ≤ room → (k : ℕ) → k < n → IsAmong k before room
+  pub is_among : (n : ℕ) (r : Total) (before room : ℕ) → Sessions IsWhole p s given moments n r → All (λ b. length b ≤ room) r.sent → before + length r.output ≤ room → (k : ℕ) → k < n → IsAmong k before room
   is_among zero r before room h sent output k less = absurd (omega (arith, less))
-  is_among (suc n) r before room (q, e, out, t, h, whole, session, is) sent output k less =
+  is_among (suc n) r before room (q, e, out, t, more, h, whole, session, is) sent output k less =
       let links : All (λ b. length b ≤ room) (q.sent ++ out ∷ []) = subst (λ (x : Total). All (λ b. length b ≤ room) x.sent) is sent in
       let written = ap (λ (x : Total). length x.output) is in
       elim (eq-or-lt_of_le {n = k} {m = n} (omega (arith, less))) as (λ z. IsAmong k before room) [
@@ -78,6 +80,7 @@ module _ (p : ProfileView) (given : List (List ℕ)) (moments : List ℕ) where
           ended = e;
           sent = out;
           server = t;
+          more = more;
           sessions = h;
           whole = whole;
           session = session;
@@ -89,15 +92,16 @@ module _ (p : ProfileView) (given : List (List ℕ)) (moments : List ℕ) where
 
 -- ---- there is one
 
-module _ (p : ProfileView) (good : IsProfile p) (given : List (List ℕ)) (all : ListsOfBytes given) (moments : List ℕ) where
-  same_with : (k : ℕ) (d e : SessionEnd) (o out : List ℕ) (u t : ServerState) (q r : Total) → q ≡ r → o ≡ out → u ≡ t → d ≡ e → with_session k d o u q ≡ with_session k e out t r
-  same_with k d e o out u t q r totals sent servers ends =
-      ap (λ (x : Total). with_session k d o u x) totals ∙ ap (λ (x : List ℕ). with_session k d x u r) sent ∙ ap (λ (x : ServerState). with_session k d out x r) servers ∙ ap (λ (x : SessionEnd). with_session k x out t r) ends
+module _ (p : ProfileView) (good : IsProfile p) (s : ServerState) (given : List (List ℕ)) (all : ListsOfBytes given) (moments : List ℕ) where
+  same_with : (k : ℕ) (d e : SessionEnd) (o out : List ℕ) (u t : ServerState) (x y : List Entry) (q r : Total) → q ≡ r → o ≡ out → u ≡ t → x ≡ y → d ≡ e → with_session k d o u x q ≡ with_session k e out t y r
+  same_with k d e o out u t x y q r totals sent servers entries ends =
+      ap (λ (z : Total). with_session k d o u x z) totals ∙ ap (λ (z : List ℕ). with_session k d z u x r) sent ∙ ap (λ (z : ServerState). with_session k d out z x r) servers ∙ ap (λ (z : List Entry). with_session k d out t z r) entries
+      ∙ ap (λ (z : SessionEnd). with_session k z out t y r) ends
 
-  pub one_total : (k : ℕ) (r q : Total) → Sessions IsWhole p given moments k r → Sessions IsWhole p given moments k q → r ≡ q
+  pub one_total : (k : ℕ) (r q : Total) → Sessions IsWhole p s given moments k r → Sessions IsWhole p s given moments k q → r ≡ q
   one_total zero r q is at = is ∙ sym at
-  one_total (suc k) r q (x, e, out, t, h, whole, session, is) (y, d, o, u, g, also, other, at) =
+  one_total (suc k) r q (x, e, out, t, more, h, whole, session, is) (y, d, o, u, extra, g, also, other, at) =
       let totals : x ≡ y = one_total k x y h g in
-      let here = subst (λ (z : Total). Session p z.server (get_or moments k 0) (get_or given k []) o u d) (sym totals) other in
-      let one = one_session p good x.server (get_or moments k 0) (get_or given k []) (given_bytes given all k) out o t u e d session here whole also in
-      is ∙ same_with k e d out o t u x y totals one.sent one.server one.end_is ∙ sym at
+      let here = subst (λ (z : Total). Session p z.server (get_or moments k 0) (get_or given k []) o u extra d) (sym totals) other in
+      let one = one_session p good x.server (get_or moments k 0) (get_or given k []) (given_bytes given all k) out o t u more extra e d session here whole also in
+      is ∙ same_with k e d out o t u more extra x y totals one.sent one.server one.entries one.end_is ∙ sym at

@@ -1,4 +1,4 @@
--- What `serve` makes of its schema, and then of the profile that this is.
+-- What `serve` and `keep` make of their schema, and then of the profile that this is.
 use Rattle.std.proofs.Common.{◌≡◌, ℕ, ◌≤◌, List, Option, Result, Ok, Err, codes, sym, ap, ◌∙◌, subst, inl, inr}
 use Rattle.std.specs.Prelude.{IsErrAnd}
 use Rattle.tl_base.specs.Outside.{View, HasFile, IsThere}
@@ -23,7 +23,7 @@ use Rattle.command_base.proofs.Views.{told_as, told_then}
 use Rattle.schema_files.specs.Loaded.{IsSchemaText}
 use Rattle.schema_files.specs.Parts.{LoadsSchema}
 use Rattle.fault_lines.specs.Profiled.{TellsProfile, IsProfileText, OfProfileText, no_schema, no_profile, profiled, HasProfile}
-use Rattle.session_commands.specs.Serve.{SessionEnd, IsAny, IsWhole, KeepsServing, OfSessions, ServeKeeps, serve_job}
+use Rattle.session_commands.specs.Serve.{SessionEnd, IsAny, IsWhole, KeepsServing, ServeKeeps, SessionsAnswer, serving_job}
 use Rattle.session_commands.specs.inner.Serving.{sessions_job}
 use Rattle.session_commands.proofs.Connections.{keeps_on}
 use Rattle.session_commands.proofs.PostParts.{profile_tells}
@@ -36,88 +36,90 @@ only_keeps v w e = record {
   input = ap (λ (x : View). x.left.input) e;
 }
 
-module _ (schema address : List ℕ) (n : ℕ) where
+module _ (schema : List ℕ) where
   abbrev pub LoadsFirst : Result Declared Unmade → View → View → Type 0
   LoadsFirst r v w = LoadsSchema slots.Schema (codes "schema") schema r v w
 
-  abbrev job : Job
-  job = serve_job schema address n
+  abbrev text_is : (S : Declared) (p : ProfileView) → IsAnswer S (Ok p) → (text : List ℕ) → IsSchemaText text S → IsProfileText text p
+  text_is S p is text read = record { schema = S; read = read; is = is }
 
-  -- ---- the schema is refused
+  abbrev pub profile_is : (S : Declared) (p : ProfileView) → IsAnswer S (Ok p) → (v u : View) → LoadsFirst (Ok S) v u → HasProfile v.files schema
+  profile_is S p is v u ((text, has, read), only) = record { text = text; p = p; there = has; is = text_is S p is text read }
 
-  schema_stops : (e : Unmade) (v w : View) → LoadsFirst (Err e) v w → MakesOutput job (of_fault e) v w
-  schema_stops (unmade.Refused line) v w ((text, has, (cause, h, is)), only) = ((text, has, no_schema cause h (ap refused is)), only_schema v w only)
-  schema_stops unmade.ReadFault v w only = only_schema v w only
-  schema_stops unmade.Memory v w only = only_schema v w only
+  module _ (n : ℕ) (Of : SessionsAnswer) where
+    abbrev job : Job
+    job = serving_job schema n Of
 
-  pub no_schema_works : (W L : Type 0) (e : Unmade) (r : Result Status Stop) (a b : Option View) → Told a b (LoadsFirst (Err e)) → IsErrAnd r (λ z. z ≡ of_unmade e) → Told a b (Works W L job r)
-  no_schema_works W L e r a b h is = told_as a b (LoadsFirst (Err e)) (Works W L job r) (λ v w l. unmade_works W L job e r v w (schema_stops e v w l) is) h
+    -- ---- the schema is refused
 
-  -- ---- the schema is no profile
+    schema_stops : (e : Unmade) (v w : View) → LoadsFirst (Err e) v w → MakesOutput job (of_fault e) v w
+    schema_stops (unmade.Refused line) v w ((text, has, (cause, h, is)), only) = ((text, has, no_schema cause h (ap refused is)), only_schema v w only)
+    schema_stops unmade.ReadFault v w only = only_schema v w only
+    schema_stops unmade.Memory v w only = only_schema v w only
 
-  pub no_profile_works : (W L : Type 0) (S : Declared) (e : Unmade) (r : Result Status Stop) (a b : Option View) → Told a b (LoadsFirst (Ok S)) → Refuses (TellsProfile S) e → IsErrAnd r (λ z. z ≡ of_unmade e) → Told a b (Works W L job r)
-  no_profile_works W L S e r a b loaded tells is =
-      told_as a b (LoadsFirst (Ok S)) (Works W L job r) (λ v w l. unmade_works W L job e r v w
-      (refuses_so job (TellsProfile S) e v w (λ line (fault, lacks, says). (l.0.0, l.0.1, no_profile S fault l.0.2 lacks (ap refused says))) tells (only_schema v w l.1)) is) loaded
+    pub no_schema_works : (W L : Type 0) (e : Unmade) (r : Result Status Stop) (a b : Option View) → Told a b (LoadsFirst (Err e)) → IsErrAnd r (λ z. z ≡ of_unmade e) → Told a b (Works W L job r)
+    no_schema_works W L e r a b h is = told_as a b (LoadsFirst (Err e)) (Works W L job r) (λ v w l. unmade_works W L job e r v w (schema_stops e v w l) is) h
 
-  -- ---- the profile is known
+    -- ---- the schema is no profile
+
+    pub no_profile_works : (W L : Type 0) (S : Declared) (e : Unmade) (r : Result Status Stop) (a b : Option View) → Told a b (LoadsFirst (Ok S)) → Refuses (TellsProfile S) e → IsErrAnd r (λ z. z ≡ of_unmade e) → Told a b (Works W L job r)
+    no_profile_works W L S e r a b loaded tells is =
+        told_as a b (LoadsFirst (Ok S)) (Works W L job r) (λ v w l. unmade_works W L job e r v w
+        (refuses_so job (TellsProfile S) e v w (λ line (fault, lacks, says). (l.0.0, l.0.1, no_profile S fault l.0.2 lacks (ap refused says))) tells (only_schema v w l.1)) is) loaded
+
+    -- ---- the profile is known
+
+    module _ (S : Declared) (p : ProfileView) (is : IsAnswer S (Ok p)) where
+      abbrev part : Job
+      part = sessions_job p n Of
+
+      -- the schema's file alone was read
+      before_it : (Is : SessionEnd → Type 0) (k : ℕ) (v u : View) → OnlySlot slots.Schema v u → (a : Answer) → Of Is k u.links u.moments p a → Of Is k v.links v.moments p a
+      before_it Is k v u only a h =
+          subst (λ (g : List (List ℕ)). Of Is k g v.moments p a) (ap (λ (x : View). x.links) only) (subst (λ (m : List ℕ). Of Is k u.links m p a) (ap (λ (x : View). x.moments) only) h)
+
+      after_it : (Is : SessionEnd → Type 0) (k : ℕ) (v u : View) → OnlySlot slots.Schema v u → (a : Answer) → Of Is k v.links v.moments p a → Of Is k u.links u.moments p a
+      after_it Is k v u only a h =
+          subst (λ (g : List (List ℕ)). Of Is k g u.moments p a) (sym (ap (λ (x : View). x.links) only)) (subst (λ (m : List ℕ). Of Is k v.links m p a) (sym (ap (λ (x : View). x.moments) only)) h)
+
+      profile_answers : (v u : View) → LoadsFirst (Ok S) v u → (a : Answer) → part.answers u a → job.answers v a
+      profile_answers v u ((text, has, read), only) a h = (text, has, profiled p (text_is S p is text read) (before_it IsWhole n v u only a h))
+
+      profile_broken : (v u : View) → LoadsFirst (Ok S) v u → (a : Answer) → part.broken u a → job.broken v a
+      profile_broken v u loaded a h = (profile_is S p is v u loaded, before_it IsAny n v u loaded.1 a h)
+
+      profile_partial : (v u : View) → LoadsFirst (Ok S) v u → (a : Answer) → part.partial u a → job.partial v a
+      profile_partial v u loaded a (k, few, h) = (profile_is S p is v u loaded, k, few, before_it IsAny k v u loaded.1 a h)
+
+      pub profile_carries : (v u : View) → LoadsFirst (Ok S) v u → Before v u × Carries part job v u
+      profile_carries v u loaded =
+          (before v u (only_schema v u loaded.1), record { answers = profile_answers v u loaded; broken = profile_broken v u loaded; partial = profile_partial v u loaded; pieces = λ e. e; reads_on = λ e. e; tells = λ e. e })
+
+      same_room : (v u : View) (a : Answer) → OnlySlot slots.Schema v u → HasRoomFor a v → HasRoomFor a u
+      same_room v u a only room = subst (λ (z : View). HasRoomFor a z) (sym only) (record { output = room.output; state = room.state; links = room.links; coming = room.coming; address = room.address })
+
+      pub profile_fits : (v u : View) → LoadsFirst (Ok S) v u → Fits job v → Fits part u
+      profile_fits v u ((text, has, read), only) (a, (more, also, h), room) =
+          let here = subst (λ (x : List ℕ). OfProfileText x (Of IsWhole n v.links v.moments) a) (same_file v.files schema more text also has) h in
+          let answer = profile_tells text p (Of IsWhole n v.links v.moments) a (text_is S p is text read) here in
+          (a, after_it IsWhole n v u only a answer, same_room v u a only room)
+
+    -- an answer names the schema's file
+    pub schema_there : (v : View) → Answered job v → IsThere schema v
+    schema_there v (a, (text, has, h)) = (text, has)
+
+  -- ---- what is kept
 
   module _ (S : Declared) (p : ProfileView) (is : IsAnswer S (Ok p)) where
-    abbrev part : Job
-    part = sessions_job p address n
-
-    text_is : (text : List ℕ) → IsSchemaText text S → IsProfileText text p
-    text_is text read = record { schema = S; read = read; is = is }
-
-    profile_is : (v u : View) → LoadsFirst (Ok S) v u → HasProfile v.files schema
-    profile_is v u ((text, has, read), only) = record { text = text; p = p; there = has; is = text_is text read }
-
-    -- the schema's file alone was read
-    before_it : (Is : SessionEnd → Type 0) (k : ℕ) (v u : View) → OnlySlot slots.Schema v u → (a : Answer) → OfSessions Is address k u.links u.moments p a → OfSessions Is address k v.links v.moments p a
-    before_it Is k v u only a h =
-        subst (λ (g : List (List ℕ)). OfSessions Is address k g v.moments p a) (ap (λ (x : View). x.links) only) (subst (λ (m : List ℕ). OfSessions Is address k u.links m p a) (ap (λ (x : View). x.moments) only) h)
-
-    after_it : (Is : SessionEnd → Type 0) (k : ℕ) (v u : View) → OnlySlot slots.Schema v u → (a : Answer) → OfSessions Is address k v.links v.moments p a → OfSessions Is address k u.links u.moments p a
-    after_it Is k v u only a h =
-        subst (λ (g : List (List ℕ)). OfSessions Is address k g u.moments p a) (sym (ap (λ (x : View). x.links) only)) (subst (λ (m : List ℕ). OfSessions Is address k v.links m p a) (sym (ap (λ (x : View). x.moments) only)) h)
-
-    profile_answers : (v u : View) → LoadsFirst (Ok S) v u → (a : Answer) → part.answers u a → job.answers v a
-    profile_answers v u ((text, has, read), only) a h = (text, has, profiled p (text_is text read) (before_it IsWhole n v u only a h))
-
-    profile_broken : (v u : View) → LoadsFirst (Ok S) v u → (a : Answer) → part.broken u a → job.broken v a
-    profile_broken v u ((text, has, read), only) a h = (record { text = text; p = p; there = has; is = text_is text read }, before_it IsAny n v u only a h)
-
-    profile_partial : (v u : View) → LoadsFirst (Ok S) v u → (a : Answer) → part.partial u a → job.partial v a
-    profile_partial v u ((text, has, read), only) a (k, few, h) = (record { text = text; p = p; there = has; is = text_is text read }, k, few, before_it IsAny k v u only a h)
-
-    pub profile_carries : (v u : View) → LoadsFirst (Ok S) v u → Before v u × Carries part job v u
-    profile_carries v u loaded =
-        (before v u (only_schema v u loaded.1), record { answers = profile_answers v u loaded; broken = profile_broken v u loaded; partial = profile_partial v u loaded; pieces = λ e. e; reads_on = λ e. e; tells = λ e. e })
-
-    same_room : (v u : View) (a : Answer) → OnlySlot slots.Schema v u → HasRoomFor a v → HasRoomFor a u
-    same_room v u a only room = subst (λ (z : View). HasRoomFor a z) (sym only) (record { output = room.output; state = room.state; links = room.links; coming = room.coming; address = room.address })
-
-    pub profile_fits : (v u : View) → LoadsFirst (Ok S) v u → Fits job v → Fits part u
-    profile_fits v u ((text, has, read), only) (a, (more, also, h), room) =
-        let here = subst (λ (x : List ℕ). OfProfileText x (OfSessions IsWhole address n v.links v.moments) a) (same_file v.files schema more text also has) h in
-        let answer = profile_tells text p (OfSessions IsWhole address n v.links v.moments) a (text_is text read) here in
-        (a, after_it IsWhole n v u only a answer, same_room v u a only room)
-
-    -- ---- what is kept
-
     then_keeps : (v u w : View) → LoadsFirst (Ok S) v u → KeepsServing u w → ServeKeeps schema v w
     then_keeps v u w loaded k = record {
       rest = keeps_on v u w (only_keeps v u loaded.1) k;
-      links = inr (profile_is v u loaded);
-      moments = inr (profile_is v u loaded);
+      links = inr (profile_is S p is v u loaded);
+      moments = inr (profile_is S p is v u loaded);
     }
 
     pub served_kept : (a m b : Option View) → Told a m (LoadsFirst (Ok S)) → Told m b KeepsServing → Told a b (ServeKeeps schema)
     served_kept a m b h k = told_then a m b (LoadsFirst (Ok S)) KeepsServing (ServeKeeps schema) (λ v u w l g. then_keeps v u w l g) h k
-
-  -- an answer names the schema's file
-  pub schema_there : (v : View) → Answered job v → IsThere schema v
-  schema_there v (a, (text, has, h)) = (text, has)
 
   schema_keeps : (v w : View) → OnlySlot slots.Schema v w → ServeKeeps schema v w
   schema_keeps v w e = record {

@@ -1,13 +1,15 @@
--- What `serve` answers: how the sessions end that it serves in turn from one new server, or where and why its schema is refused. This project's own.
+-- What `serve` answers: how the sessions end that it serves in turn from one server, or where and why its schema is refused. This project's own.
 use Rattle.std.specs.Prelude.{◌≡◌, ◌⊎◌, ℕ, zero, suc, ◌<◌, ◌≤◌, ◌^◌, List, [], ◌∷◌, ◌++◌, length, get_or, Option, Some, None, option_map, codes, decimal, Result, Ok, Err}
 use Rattle.std.specs.List.{AllByRecursion}
 use Rattle.tl_base.specs.Contents.{AreBytes, Files, HoldBytes, ListsOfBytes}
 use Rattle.tl_base.specs.Outside.{View, HasFile}
 use Rattle.box_events.specs.declared.requests.Numbered.{Numbered}
 use Rattle.box_server.specs.Servers.{ServerState, new_server, dated_at}
+use Rattle.box_store.specs.declared.entry.Entry.{Entry}
 use Rattle.wire_profile.specs.Places.{ProfileView}
 use Rattle.update_sessions.specs.declared.fault.SessionFault.{SessionFault}
 use Rattle.update_sessions.specs.declared.fault.SessionFault.TheVariants as fault
+use Rattle.update_sessions.specs.Kept.{kept_in}
 use Rattle.update_sessions.specs.Served.{Serves}
 use Rattle.command_base.specs.Answer.{Answer, link_fault_line}
 use Rattle.command_base.specs.Jobs.{Job}
@@ -38,11 +40,12 @@ abbrev pub IsShortEnd : Result ℕ SessionFault → Type 0
 IsShortEnd (Ok n) = Unit {0}
 IsShortEnd (Err f) = IsShort f
 
--- a session at a moment over a link that gives these bytes: what was sent, the server after it, and how it ended
-pub record Session (p : ProfileView) (s : ServerState) (now : ℕ) (bytes out : List ℕ) (t : ServerState) (e : SessionEnd) : Type 0 where
+-- a session at a moment over a link that gives these bytes: what was sent, the server after it, the entries of its new posts, and how it ended
+pub record Session (p : ProfileView) (s : ServerState) (now : ℕ) (bytes out : List ℕ) (t : ServerState) (more : List Entry) (e : SessionEnd) : Type 0 where
   pub answer : Result ℕ SessionFault
   pub calls : List Numbered
   pub serves : Serves p (dated_at s now) bytes out t answer calls
+  pub entries : more ≡ kept_in (dated_at s now) calls
   pub word : IsShortEnd answer
   pub ended : end_of answer ≡ Some e
 
@@ -76,16 +79,18 @@ end_status link_fault = LinkFault
 
 -- ---- sessions in turn
 
--- what sessions came to: the server after them, what was told on Output and on Errors, what was sent over each link, and the status of the first fault
+-- what sessions came to: the server after them, the entries of new posts, what was told on Output and on Errors, what was sent over each link, and the
+-- status of the first fault
 pub record Total : Type 0 where
   pub server : ServerState
+  pub entries : List Entry
   pub output : List ℕ
   pub errors : List ℕ
   pub sent : List (List ℕ)
   pub status : Status
 
-abbrev pub no_sessions : Total
-no_sessions = record { server = new_server; output = []; errors = []; sent = []; status = Done }
+abbrev pub no_sessions : ServerState → Total
+no_sessions s = record { server = s; entries = []; output = []; errors = []; sent = []; status = Done }
 
 -- the status of the first fault
 abbrev pub first_fault : Status → Status → Status
@@ -93,15 +98,15 @@ first_fault Done s = s
 first_fault before s = before
 
 -- what they came to with one more, which has this number
-abbrev pub with_session : ℕ → SessionEnd → List ℕ → ServerState → Total → Total
-with_session k e out t r =
-    record { server = t; output = r.output ++ end_output k e; errors = r.errors ++ end_errors e; sent = r.sent ++ out ∷ []; status = first_fault r.status (end_status e) }
+abbrev pub with_session : ℕ → SessionEnd → List ℕ → ServerState → List Entry → Total → Total
+with_session k e out t more r =
+    record { server = t; entries = r.entries ++ more; output = r.output ++ end_output k e; errors = r.errors ++ end_errors e; sent = r.sent ++ out ∷ []; status = first_fault r.status (end_status e) }
 
--- Sessions from a new server, each of which ends so: that with the number k, counted from 0, is over the link and at the moment with that number.
-abbrev pub Sessions : (SessionEnd → Type 0) → ProfileView → List (List ℕ) → List ℕ → ℕ → Total → Type 0
-Sessions Is p given moments zero r = r ≡ no_sessions
-Sessions Is p given moments (suc k) r =
-    (q : Total) × (e : SessionEnd) × (out : List ℕ) × (t : ServerState) × Sessions Is p given moments k q × Is e × Session p q.server (get_or moments k 0) (get_or given k []) out t e × (r ≡ with_session k e out t q)
+-- Sessions from a server on, each of which ends so: that with the number k, counted from 0, is over the link and at the moment with that number.
+abbrev pub Sessions : (SessionEnd → Type 0) → ProfileView → ServerState → List (List ℕ) → List ℕ → ℕ → Total → Type 0
+Sessions Is p s given moments zero r = r ≡ no_sessions s
+Sessions Is p s given moments (suc k) r =
+    (q : Total) × (e : SessionEnd) × (out : List ℕ) × (t : ServerState) × (more : List Entry) × Sessions Is p s given moments k q × Is e × Session p q.server (get_or moments k 0) (get_or given k []) out t more e × (r ≡ with_session k e out t more q)
 
 -- ---- answers
 
@@ -109,20 +114,12 @@ Sessions Is p given moments (suc k) r =
 abbrev pub total_answer : List ℕ → ℕ → Total → Answer
 total_answer address n r = record { status = r.status; output = r.output; errors = r.errors; state = None; taken = n; links = r.sent; moments = n; address = Some address }
 
-abbrev pub OfSessions : (SessionEnd → Type 0) → List ℕ → ℕ → List (List ℕ) → List ℕ → ProfileView → Answer → Type 0
-OfSessions Is address n given moments p a = (r : Total) × Sessions Is p given moments n r × (a ≡ total_answer address n r)
+abbrev pub OfSessions : ServerState → List ℕ → (SessionEnd → Type 0) → ℕ → List (List ℕ) → List ℕ → ProfileView → Answer → Type 0
+OfSessions s address Is n given moments p a = (r : Total) × Sessions Is p s given moments n r × (a ≡ total_answer address n r)
 
 -- serve's answer, over links that give these bytes at these moments, none of which fails
 abbrev pub ServeAnswer : Files → List (List ℕ) → List ℕ → List ℕ → List ℕ → ℕ → Answer → Type 0
-ServeAnswer files given moments schema address n a = (text : List ℕ) × HasFile files schema text × OfProfileText text (OfSessions IsWhole address n given moments) a
-
--- what is answered where links may fail
-abbrev pub ServeBroken : List ℕ → List ℕ → ℕ → View → Answer → Type 0
-ServeBroken schema address n v a = (h : HasProfile v.files schema) × OfSessions IsAny address n v.links v.moments h.p a
-
--- what was told and was about to be told when a run stopped: that of the first sessions
-abbrev pub ServePart : List ℕ → List ℕ → ℕ → View → Answer → Type 0
-ServePart schema address n v a = (h : HasProfile v.files schema) × (k : ℕ) × (k ≤ n) × OfSessions IsAny address k v.links v.moments h.p a
+ServeAnswer files given moments schema address n a = (text : List ℕ) × HasFile files schema text × OfProfileText text (OfSessions new_server address IsWhole n given moments) a
 
 -- what is left by a run that serves
 pub record KeepsServing (v w : View) : Type 0 where
@@ -137,18 +134,26 @@ pub record ServeKeeps (schema : List ℕ) (v w : View) : Type 0 where
   pub links : LeavesLinks (HasProfile v.files schema) v w
   pub moments : (w.moments ≡ v.moments) ⊎ HasProfile v.files schema
 
--- `serve SCHEMA ADDRESS SESSIONS`
-abbrev pub serve_job : List ℕ → List ℕ → ℕ → Job
-serve_job schema address n = record {
-  answers = λ v a. ServeAnswer v.files v.links v.moments schema address n a;
-  broken = ServeBroken schema address n;
-  partial = ServePart schema address n;
+-- What is answered by so many sessions, each of which ends so, over links that give these bytes at these moments, by the profile of a schema.
+abbrev pub SessionsAnswer : Type 1
+SessionsAnswer = (SessionEnd → Type 0) → ℕ → List (List ℕ) → List ℕ → ProfileView → Answer → Type 0
+
+-- The job of n sessions by a schema: where links may fail, they do in sessions of any end; where the run stops, the first sessions were told.
+abbrev pub serving_job : List ℕ → ℕ → SessionsAnswer → Job
+serving_job schema n Of = record {
+  answers = λ v a. (text : List ℕ) × HasFile v.files schema text × OfProfileText text (Of IsWhole n v.links v.moments) a;
+  broken = λ v a. (h : HasProfile v.files schema) × Of IsAny n v.links v.moments h.p a;
+  partial = λ v a. (h : HasProfile v.files schema) × (k : ℕ) × (k ≤ n) × Of IsAny k v.links v.moments h.p a;
   in_pieces = Unit {0};
   reads_on = ⊥;
   tells = Unit {0};
   linked = Unit {0};
   keeps = ServeKeeps schema;
 }
+
+-- `serve SCHEMA ADDRESS SESSIONS`
+abbrev pub serve_job : List ℕ → List ℕ → ℕ → Job
+serve_job schema address n = serving_job schema n (OfSessions new_server address)
 
 -- ---- laws
 

@@ -4,3 +4,4 @@ pub mod Serving
 pub mod StateFiles
 pub mod Calling
 pub mod Recovering
+pub mod Keeping

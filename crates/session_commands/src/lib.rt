@@ -1,5 +1,5 @@
-//! The commands over a link: `post`, which sends one call and prints its reply, `serve`, which serves connections from one new server, and `client`, which
-//! brings a saved client up to date.
+//! The commands over a link: `post`, which sends one call and prints its reply, `serve`, which serves connections from one new server, `keep`, which does so
+//! from a server whose posts are kept, and `client`, which brings a saved client up to date.
 #![tactic(auto)]
 
 mod channels;
@@ -7,6 +7,7 @@ mod client;
 mod connection;
 mod ending;
 mod exchange;
+mod keep;
 mod laws;
 mod leaving;
 mod post;
@@ -15,11 +16,15 @@ mod sending;
 mod serve;
 mod serve_laws;
 mod session;
+mod sessions;
 mod state;
+mod stored;
 mod telling;
 
 pub use client::recover_client;
+pub use keep::serve_kept;
 pub use laws::{client_has_one_answer, post_has_one_answer};
 pub use post::post_call;
 pub use serve::serve_sessions;
 pub use serve_laws::serve_has_one_answer;
+pub use stored::{StoreStop, StoredRun};

@@ -3,12 +3,14 @@ ghost use Rattle.tl_base.specs.Calls.{Told};
 ghost use Rattle.command_base.specs.Jobs.{WorksOver};
 ghost use Rattle.command_base.specs.Sound.{MeetsFaultsOf};
 ghost use Rattle.command_base.specs.Telling.{status_of};
-ghost use Rattle.session_commands.specs.Serve.{KeepsServing, serve_job};
+ghost use Rattle.box_server.specs.Servers.{new_server};
+ghost use Rattle.session_commands.specs.Serve.{KeepsServing, OfSessions, serve_job};
 ghost use Rattle.session_commands.specs.inner.Serving.{sessions_job};
 
-use crate::connection::serve_next;
-use crate::telling::Tally;
+use crate::sessions::serve_all;
+use crate::stored::StoreStop;
 use box_server::Server;
+use box_store::Stored;
 use command_base::{Status, Stop};
 use fault_lines::profile_of;
 use schema_files::load_schema;
@@ -30,33 +32,25 @@ pub fn serve_sessions<H: Host>(
 {
     let schema = load_schema(alloc, host, Slot::Schema, "schema", schema)?;
     let profile = profile_of(alloc, &schema)?;
-    serve_all(alloc, host, &profile, address, sessions)
+    serve_new(alloc, host, &profile, address, sessions)
 }
 
-// Likewise by a profile.
-fn serve_all<H: Host>(
+// Likewise by a profile. A keeper that keeps nothing never fails.
+fn serve_new<H: Host>(
     alloc: Global,
     host: &mut H,
     profile: &Profile,
     address: &str,
     sessions: u32,
 ) -> Result<Status, Stop>
-    ensures works { WorksOver (sessions_job profile.now address.now sessions) (H.state host.old) (H.state host.new) result }
+    ensures works { WorksOver (sessions_job profile.now sessions (OfSessions new_server address.now)) (H.state host.old) (H.state host.new) result }
     ensures kept { Told (H.state host.old).view (H.state host.new).view KeepsServing }
-    ensures faults { MeetsFaultsOf (sessions_job profile.now address.now sessions) (H.state host.old) (H.state host.new) (status_of result) }
+    ensures faults { MeetsFaultsOf (sessions_job profile.now sessions (OfSessions new_server address.now)) (H.state host.old) (H.state host.new) (status_of result) }
 {
-    // Read for the proof alone: that the profile is sound.
-    let _schema = profile.schema();
-    if host.listen(address).is_err() {
-        return Err(Stop::LinkFault);
+    let store = Stored::over(Server::new(alloc));
+    match serve_all(alloc, host, profile, address, sessions, store).end {
+        Ok(status) => Ok(status),
+        Err(StoreStop::Stop(stop)) => Err(stop),
+        Err(StoreStop::KeepFault) => unreachable!(),
     }
-    let mut server = Server::new(alloc);
-    let mut tally = Tally {
-        status: Status::Done,
-        whole: true,
-    };
-    for session in 0..sessions {
-        serve_next(alloc, host, profile, &mut server, session, &mut tally)?;
-    }
-    Ok(tally.status)
 }

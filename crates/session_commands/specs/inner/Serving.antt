@@ -7,8 +7,11 @@ use Rattle.tl_base.specs.declared.host.Out.TheVariants.{Output}
 use Rattle.tl_base.specs.declared.host.Slot.TheVariants.{Link}
 use Rattle.box_events.specs.declared.requests.Numbered.{Numbered}
 use Rattle.box_server.specs.Servers.{ServerState, dated_at}
+use Rattle.box_store.specs.declared.entry.Entry.{Entry}
+use Rattle.box_store.specs.Keeping.{with_more}
 use Rattle.wire_profile.specs.Places.{ProfileView}
 use Rattle.update_sessions.specs.Exchanges.{MaySend}
+use Rattle.update_sessions.specs.Kept.{kept_in}
 use Rattle.update_sessions.specs.Served.{Serves}
 use Rattle.update_sessions.specs.Serving.{server_side}
 use Rattle.update_sessions.specs.declared.fault.SessionFault.{SessionFault}
@@ -22,7 +25,7 @@ use Rattle.command_base.specs.declared.stop.Stop.TheVariants as stop
 use Rattle.session_commands.specs.declared.telling.Tally.{Tally}
 use Rattle.session_commands.specs.Linked.{next_link}
 use Rattle.session_commands.specs.Lines.{served_line}
-use Rattle.session_commands.specs.Serve.{SessionEnd, served, Session, IsWhole, IsAny, end_of, end_output, end_errors, end_status, first_fault, KeepsServing, OfSessions, Sessions, Total}
+use Rattle.session_commands.specs.Serve.{SessionEnd, served, Session, IsWhole, IsAny, end_of, end_output, end_errors, end_status, first_fault, KeepsServing, OfSessions, Sessions, SessionsAnswer, Total}
 use Rattle.session_commands.specs.inner.Posting.{keeps_all}
 
 -- ---- a session's end is told
@@ -77,6 +80,12 @@ abbrev pub HasEndRoom : ℕ → Result ℕ SessionFault → View → Type 0
 HasEndRoom k (Ok n) v = HasRoom Output (length (served_line k n)) v
 HasEndRoom k (Err f) v = Unit {0}
 
+-- ---- a session over a store
+
+-- a session of a server whose date was set, and its new posts are kept
+abbrev pub ServesKept : ProfileView → ServerState → List ℕ → List ℕ → ServerState → Result ℕ SessionFault → Option (List Entry) → Option (List Entry) → Type 0
+ServesKept p s bytes out t r entries now_entries = (calls : List Numbered) × Serves p s bytes out t r calls × (now_entries ≡ with_more (kept_in s calls) entries)
+
 -- ---- a connection
 
 -- the next moment
@@ -105,15 +114,17 @@ HasSessionRoom p s v = (out : List ℕ) → MaySend (server_side p) (dated_at s 
 pub record HasNextRoom (p : ProfileView) (k : ℕ) (s : ServerState) (v : View) : Type 0 where
   pub coming : 0 < length v.links
   pub link : HasSessionRoom p s v
-  pub output : (out : List ℕ) (t : ServerState) (e : SessionEnd) → IsWhole e → Session p s (next_moment v) (next_link v) out t e → HasRoom Output (length (end_output k e)) v
+  pub output : (out : List ℕ) (t : ServerState) (more : List Entry) (e : SessionEnd) → IsWhole e → Session p s (next_moment v) (next_link v) out t more e → HasRoom Output (length (end_output k e)) v
 
--- The session with the number k, over the next link and at the next moment, ended, and this was told. Its link failed only where the count of links'
+-- The session with the number k, over the next link and at the next moment, ended, its new posts were kept, and this was told. Its link failed only where the count of links'
 -- faults rose, and the outside wasn't sound or had no room.
-pub record NextServed (link_rose sound : Type 0) (p : ProfileView) (k : ℕ) (s t : ServerState) (before after : Tally) (v w : View) : Type 0 where
+pub record NextServed (link_rose sound : Type 0) (p : ProfileView) (k : ℕ) (s t : ServerState) (entries now_entries : Option (List Entry)) (before after : Tally) (v w : View) : Type 0 where
   pub ended : SessionEnd
   pub sent : List ℕ
   pub left : List ℕ
-  pub session : Session p s (next_moment v) (next_link v) sent t ended
+  pub more : List Entry
+  pub session : Session p s (next_moment v) (next_link v) sent t more ended
+  pub appended : now_entries ≡ with_more more entries
   pub whole : IsWhole ended ⊎ (link_rose × (sound → HasSessionRoom p s v → ⊥))
   pub view : w ≡ session_view left sent (end_output k ended) w.written.errors v
   pub lines : GoesOn before.whole after.whole v.written.errors w.written.errors (end_errors ended)
@@ -124,16 +135,17 @@ pub record NextUntold (p : ProfileView) (k : ℕ) (s : ServerState) (v w : View)
   pub frames : ℕ
   pub sent : List ℕ
   pub server : ServerState
-  pub session : Session p s (next_moment v) (next_link v) sent server (served frames)
+  pub more : List Entry
+  pub session : Session p s (next_moment v) (next_link v) sent server more (served frames)
   pub output : AddsPrefix v.written.output w.written.output (served_line k frames)
   pub errors : w.written.errors ≡ v.written.errors
 
-abbrev pub ServesNext : Type 0 → Type 0 → ProfileView → ℕ → ServerState → ServerState → Tally → Tally → Result (Unit {0}) Stop → View → View → Type 0
-ServesNext link_rose sound p k s t before after (Ok u) v w = NextServed link_rose sound p k s t before after v w
-ServesNext link_rose sound p k s t before after (Err stop.WriteFault) v w = NextUntold p k s v w
-ServesNext link_rose sound p k s t before after (Err stop.LinkFault) v w = WritesNothing v w
-ServesNext link_rose sound p k s t before after (Err stop.Memory) v w = WritesNothing v w
-ServesNext link_rose sound p k s t before after (Err e) v w = ⊥
+abbrev pub ServesNext : Type 0 → Type 0 → ProfileView → ℕ → ServerState → ServerState → Option (List Entry) → Option (List Entry) → Tally → Tally → Result (Unit {0}) Stop → View → View → Type 0
+ServesNext link_rose sound p k s t entries now_entries before after (Ok u) v w = NextServed link_rose sound p k s t entries now_entries before after v w
+ServesNext link_rose sound p k s t entries now_entries before after (Err stop.WriteFault) v w = NextUntold p k s v w
+ServesNext link_rose sound p k s t entries now_entries before after (Err stop.LinkFault) v w = WritesNothing v w
+ServesNext link_rose sound p k s t entries now_entries before after (Err stop.Memory) v w = WritesNothing v w
+ServesNext link_rose sound p k s t entries now_entries before after (Err e) v w = ⊥
 
 -- the status of sessions: a link's fault only where their count rose
 abbrev pub IsSessionStatus : Type 0 → Status → Type 0
@@ -166,11 +178,11 @@ pub record MeetsNext (p : ProfileView) (k : ℕ) (s : ServerState) (before after
 -- ---- a part as a job; what it keeps is told beside it
 
 -- from where the profile is known
-abbrev pub sessions_job : ProfileView → List ℕ → ℕ → Job
-sessions_job p address n = record {
-  answers = λ v a. OfSessions IsWhole address n v.links v.moments p a;
-  broken = λ v a. OfSessions IsAny address n v.links v.moments p a;
-  partial = λ v a. (k : ℕ) × (k ≤ n) × OfSessions IsAny address k v.links v.moments p a;
+abbrev pub sessions_job : ProfileView → ℕ → SessionsAnswer → Job
+sessions_job p n Of = record {
+  answers = λ v a. Of IsWhole n v.links v.moments p a;
+  broken = λ v a. Of IsAny n v.links v.moments p a;
+  partial = λ v a. (k : ℕ) × (k ≤ n) × Of IsAny k v.links v.moments p a;
   in_pieces = Unit {0};
   reads_on = ⊥;
   tells = Unit {0};
@@ -185,21 +197,22 @@ abbrev pub total_view : List ℕ → ℕ → List ℕ → Total → List ℕ →
 total_view address k left r errors v =
     record v { address = Some address; left = with_slot Link left v.left; links = drop k v.links; moments = drop k v.moments; written = record v.written { output = v.written.output ++ r.output; errors = errors; links = v.written.links ++ r.sent } }
 
--- What the first k of n sessions did. The link of one failed only where the count of links' faults rose, and the outside wasn't sound or had no room
--- for an answer.
-pub record ServedSo (link_rose sound : Type 0) (p : ProfileView) (address : List ℕ) (n k : ℕ) (s : ServerState) (tally : Tally) (v w : View) : Type 0 where
+-- What the first k of n sessions from a server on did. The link of one failed only where the count of links' faults rose, and the outside wasn't sound or
+-- had no room for an answer.
+pub record ServedSo (link_rose sound : Type 0) (p : ProfileView) (address : List ℕ) (n k : ℕ) (first s : ServerState) (entries now_entries : Option (List Entry)) (tally : Tally) (v w : View) : Type 0 where
   pub total : Total
   pub left : List ℕ
-  pub sessions : Sessions IsAny p v.links v.moments k total
-  pub whole : Sessions IsWhole p v.links v.moments k total ⊎ (link_rose × (sound → Fits (sessions_job p address n) v → ⊥))
+  pub sessions : Sessions IsAny p first v.links v.moments k total
+  pub whole : Sessions IsWhole p first v.links v.moments k total ⊎ (link_rose × (sound → Fits (sessions_job p n (OfSessions first address)) v → ⊥))
   pub server : s ≡ total.server
+  pub appended : now_entries ≡ with_more total.entries entries
   pub status : tally.status ≡ total.status
   pub view : w ≡ total_view address k left total w.written.errors v
   pub lines : GoesOn true tally.whole v.written.errors w.written.errors total.errors
 
 -- likewise, and the counts of faults that they met
-pub record ServesOn (p : ProfileView) (address : List ℕ) (n k : ℕ) (s : ServerState) (tally : Tally) (old new : HostState) : Type 0 where
-  pub served : Told old.view new.view (ServedSo (Rose old.counts.links new.counts.links) (IsTrue old.sound) p address n k s tally)
+pub record ServesOn (p : ProfileView) (address : List ℕ) (n k : ℕ) (first s : ServerState) (entries now_entries : Option (List Entry)) (tally : Tally) (old new : HostState) : Type 0 where
+  pub served : Told old.view new.view (ServedSo (Rose old.counts.links new.counts.links) (IsTrue old.sound) p address n k first s entries now_entries tally)
   pub kept : Told old.view new.view KeepsServing
   pub reads : new.counts.reads ≡ old.counts.reads
   pub writes_later : old.counts.writes ≤ new.counts.writes

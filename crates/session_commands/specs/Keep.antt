@@ -1,0 +1,111 @@
+-- What `keep` answers: how the sessions end that it serves in turn from the server that the entries of a keeper rebuild, and which entries are then kept; or
+-- which entry isn't accepted. This project's own.
+use Rattle.std.specs.Prelude.{◌≡◌, ◌⊎◌, ℕ, ◌<◌, List, [], ◌++◌, get_or, codes, true, Option, Some, None, IsSome, IfSome, Result, Ok, Err}
+use Rattle.tl_base.specs.Outside.{View}
+use Rattle.box_server.specs.Servers.{ServerState, dated_at}
+use Rattle.box_store.specs.declared.entry.Entry.{Entry}
+use Rattle.box_store.specs.Keeping.{with_more}
+use Rattle.box_store.specs.Rebuilding.{IsBad, are_right, rebuilt}
+use Rattle.box_store.specs.Storing.{Tells}
+use Rattle.wire_profile.specs.Places.{ProfileView}
+use Rattle.update_sessions.specs.declared.fault.TheConstants.{MAX_FRAMES}
+use Rattle.update_sessions.specs.Kept.{RoomFor}
+use Rattle.command_base.specs.Answer.{placed_line, refused}
+use Rattle.command_base.specs.Jobs.{Job}
+use Rattle.command_base.specs.declared.status.Status.{Status}
+use Rattle.command_base.specs.declared.stop.Stop.{Stop}
+use Rattle.command_base.specs.declared.stop.Stop.TheVariants.{Memory}
+use Rattle.fault_lines.specs.Profiled.{HasProfile}
+use Rattle.session_commands.specs.declared.stored.StoreStop.{StoreStop}
+use Rattle.session_commands.specs.declared.stored.StoreStop.TheVariants as store_stop
+use Rattle.session_commands.specs.Serve.{IsAny, OfSessions, Sessions, SessionsAnswer, Total, serving_job}
+
+-- ---- how a run ends
+
+-- to its host a keeper that failed ends a run as memory that ran out
+abbrev pub host_stop : StoreStop → Stop
+host_stop (store_stop.Stop e) = e
+host_stop store_stop.KeepFault = Memory
+
+abbrev pub host_end : {T : Type 0} → Result T StoreStop → Result T Stop
+host_end (Ok x) = Ok x
+host_end (Err e) = Err (host_stop e)
+
+abbrev pub IsKeepFault : StoreStop → Type 0
+IsKeepFault (store_stop.Stop e) = ⊥
+IsKeepFault store_stop.KeepFault = Unit {0}
+
+abbrev pub EndsByKeeper : {T : Type 0} → Result T StoreStop → Type 0
+EndsByKeeper (Ok x) = ⊥
+EndsByKeeper (Err e) = IsKeepFault e
+
+-- ---- answers
+
+-- the server that entries rebuild; any, where they aren't told
+abbrev pub Starts : Option (List Entry) → ServerState → Type 0
+Starts None s = Unit {0}
+Starts (Some es) s = (are_right es ≡ true) × (s ≡ rebuilt es)
+
+-- the entry n is the first that isn't accepted
+abbrev pub IsBadEntry : Option (List Entry) → ℕ → Type 0
+IsBadEntry None n = Unit {0}
+IsBadEntry (Some es) n = IsBad es n
+
+-- "tlbox: keeper N BadEntry"
+abbrev pub bad_entry_line : ℕ → List ℕ
+bad_entry_line n = placed_line (codes "keeper") n (codes "BadEntry")
+
+-- sessions from the server that the entries rebuild; or an entry isn't accepted, and nothing listens
+abbrev pub OfEntries : Option (List Entry) → List ℕ → SessionsAnswer
+OfEntries entries address Is n given moments p a =
+    ((s : ServerState) × Starts entries s × OfSessions s address Is n given moments p a) ⊎ ((k : ℕ) × IsBadEntry entries k × (a ≡ refused (bad_entry_line k)))
+
+-- `keep SCHEMA ADDRESS SESSIONS FILE`, over these entries
+abbrev pub keep_job : Option (List Entry) → List ℕ → List ℕ → ℕ → Job
+keep_job entries schema address n = serving_job schema n (OfEntries entries address)
+
+-- likewise, and the schema's profile is answered only over entries that are told
+abbrev pub OfToldEntries : Option (List Entry) → List ℕ → SessionsAnswer
+OfToldEntries entries address Is n given moments p a = IsSome entries × OfEntries entries address Is n given moments p a
+
+abbrev pub told_job : Option (List Entry) → List ℕ → List ℕ → ℕ → Job
+told_job entries schema address n = serving_job schema n (OfToldEntries entries address)
+
+-- ---- entries
+
+-- entries are only added
+abbrev pub Grows : Option (List Entry) → Option (List Entry) → Type 0
+Grows old new = (more : List Entry) × (new ≡ with_more more old)
+
+-- where they are told, each is accepted in its turn
+abbrev pub AreRight : Option (List Entry) → Type 0
+AreRight entries = IfSome entries (λ es. are_right es ≡ true)
+
+-- right entries stay right
+abbrev pub StaysRight : Option (List Entry) → Option (List Entry) → Type 0
+StaysRight old new = IfSome old (λ es. are_right es ≡ true → AreRight new)
+
+-- n sessions from a server on were served: the entries of their new posts were added, and all rebuild the server after them, its date aside
+abbrev pub KeepsSessions : ProfileView → ServerState → ℕ → Option (List Entry) → Option (List Entry) → View → Type 0
+KeepsSessions p s n entries now_entries v = (r : Total) × Sessions IsAny p s v.links v.moments n r × (now_entries ≡ with_more r.entries entries) × Tells now_entries r.server
+
+-- what a run that ends with its answer has kept
+abbrev pub KeepsByFile : List ℕ → ℕ → Option (List Entry) → Option (List Entry) → Result Status StoreStop → View → View → Type 0
+KeepsByFile schema n entries now_entries (Ok status) v w = (h : HasProfile v.files schema) × (s : ServerState) × Starts entries s × KeepsSessions h.p s n entries now_entries v
+KeepsByFile schema n entries now_entries (Err e) v w = Unit {0}
+
+-- ---- room
+
+-- there is room for these entries with what each of n sessions from a server on may add to them
+abbrev pub RoomForAll : ProfileView → ServerState → ℕ → ℕ → View → List Entry → Type 0
+RoomForAll p s n room v es =
+    (k : ℕ) → k < n → (r : Total) → Sessions IsAny p s v.links v.moments k r → RoomFor p MAX_FRAMES (dated_at r.server (get_or v.moments k 0)) (Some (get_or v.links k [])) (Some []) room (es ++ r.entries)
+
+-- over an outside that tells its view
+abbrev pub RoomOver : Option View → (View → List Entry → Type 0) → List Entry → Type 0
+RoomOver None P es = ⊥
+RoomOver (Some v) P es = P v es
+
+-- there is room for the entries with what a run may add to them
+abbrev pub RoomForRun : List ℕ → ℕ → ℕ → View → List Entry → Type 0
+RoomForRun schema n room v es = (h : HasProfile v.files schema) → RoomForAll h.p (rebuilt es) n room v es
