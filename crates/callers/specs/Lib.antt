@@ -1,0 +1,4 @@
+pub mod Schemas
+pub mod Answers
+pub mod Packets
+pub mod Servers

@@ -1,0 +1,56 @@
+//! A schema from its text, and a value of one of its types from bytes.
+ghost use Rattle.std.specs.Prelude.{IfOk};
+ghost use Rattle.tl_types.specs.Seen.{view};
+ghost use Rattle.callers.specs.Schemas.{IsSchemaText, IsValueOf};
+
+use std::alloc::Global;
+use thiserror::Error;
+use tl_calls::{AnswerFault, whole_value};
+use tl_combinators::{SyntaxFault, parse};
+use tl_lexer::{LexFault, lex};
+use tl_schema::{CheckFault, Schema, TypeFault, check, type_of};
+use tl_types::Value;
+
+/// Why a text declares no schema.
+#[derive(Debug, Drop, Error)]
+pub enum SchemaTextFault {
+    #[error("{0}")]
+    Lex(#[from] LexFault),
+    #[error("{0}")]
+    Parse(#[from] SyntaxFault),
+    #[error("{0}")]
+    Check(#[from] CheckFault),
+}
+
+/// Why no value is read.
+#[derive(Debug, Drop, Error)]
+pub enum ValueFault {
+    #[error("{0}")]
+    Type(#[from] TypeFault),
+    #[error("{0}")]
+    Input(#[from] AnswerFault),
+}
+
+/// The schema that a text declares.
+pub fn schema_of(alloc: Global, text: &[u8]) -> Result<Schema, SchemaTextFault>
+    ensures { IfOk result (IsSchemaText text.now) }
+{
+    let tokens = lex(alloc, text)?;
+    let program = parse(alloc, text, &tokens)?;
+    let schema = check(alloc, &program)?;
+    Ok(schema)
+}
+
+/// The value of a type that is all of the bytes. The type is named as a field's is, as in `Vector<int>`.
+pub fn value_of(
+    alloc: Global,
+    schema: &Schema,
+    name: &[u8],
+    bytes: &[u8],
+) -> Result<Value, ValueFault>
+    ensures { IfOk result (λ v. IsValueOf schema.now name.now bytes.now (view v)) }
+{
+    let of = type_of(alloc, schema, name)?;
+    let value = whole_value(alloc, schema, &of, bytes)?;
+    Ok(value)
+}
