@@ -1,5 +1,5 @@
 #!/bin/sh
-# Builds the program, and times one of its commands, or each of them where none is named: run.sh [check|decode|values|encode|ratios|replay|steps|links|calls|packets|hostile [NUMBERS ..]]
+# Builds the program, and times one of its commands, or each of them where none is named: run.sh [check|decode|values|encode|ratios|replay|steps|links|calls|packets|keep|hostile [NUMBERS ..]]
 # README.md tells what it prints.
 set -eu
 
@@ -22,7 +22,7 @@ trap 'rm -f "$log"' EXIT
 if [ $# -gt 0 ]; then
     python3 "$bench/$1.py" "$top/crates/tlbox" "$@"
 else
-    for command in check decode values encode ratios replay steps links calls packets hostile; do
+    for command in check decode values encode ratios replay steps links calls packets keep hostile; do
         python3 "$bench/$command.py" "$top/crates/tlbox" "$command"
     done
 fi
