@@ -1,15 +1,15 @@
 -- What serving the next connection does, from what its parts do.
-use Rattle.std.proofs.Common.{◌≡◌, ◌⊎◌, ℕ, ◌+◌, ◌<◌, ◌≤◌, List, [], ◌∷◌, ◌++◌, append-nil, length, get_or, drop, Bool, true, false, Option, Some, None, option_map, Result, Ok, Err, IsSome, IsTrue, codes, refl, sym, ap, ◌∙◌, subst, arith, inl, inr}
+use Rattle.std.proofs.Common.{◌≡◌, ◌⊎◌, ℕ, ◌<◌, List, [], ◌∷◌, ◌++◌, append-nil, length, get_or, drop, true, false, Option, Some, None, option_map, Result, Ok, Err, IsSome, IsTrue, codes, refl, sym, ap, ◌∙◌, subst, arith, inl, inr}
 use Rattle.std.specs.Prelude.{IfSome, IsErrOf, OnOk}
 use Rattle.tl_base.specs.Calls.{Accepts, TellsMoment, Told, link_taken}
 use Rattle.tl_base.specs.Causes.{Rose}
-use Rattle.tl_base.specs.Outside.{View, HostState, left_of, with_slot, written_of}
+use Rattle.tl_base.specs.Outside.{View, HostState, left_of, with_slot}
 use Rattle.tl_base.specs.Using.{MeetsFaults}
 use Rattle.tl_base.specs.declared.counts.Kind.TheVariants as kinds
-use Rattle.tl_base.specs.declared.host.Out.TheVariants as outs
 use Rattle.tl_base.specs.declared.host.Slot.TheVariants as slots
 use Rattle.box_server.specs.Servers.{ServerState, dated_at}
 use Rattle.box_store.specs.declared.entry.Entry.{Entry}
+use Rattle.box_store.specs.Storing.{Tells}
 use Rattle.wire_profile.specs.Places.{ProfileView}
 use Rattle.update_sessions.specs.Exchanges.{MaySend}
 use Rattle.update_sessions.specs.Kept.{kept_in}
@@ -17,20 +17,19 @@ use Rattle.update_sessions.specs.Served.{Serves}
 use Rattle.update_sessions.specs.Serving.{server_side}
 use Rattle.update_sessions.specs.declared.fault.SessionFault.{SessionFault}
 use Rattle.update_sessions.specs.declared.fault.SessionFault.TheVariants as fault
-use Rattle.command_base.specs.Kept.{WritesNothing}
 use Rattle.command_base.specs.declared.status.Status.{Status}
 use Rattle.command_base.specs.declared.status.Status.TheVariants as status
 use Rattle.command_base.specs.declared.stop.Stop.{Stop}
 use Rattle.command_base.specs.declared.stop.Stop.TheVariants as stop
-use Rattle.command_base.proofs.Faults.{NeverFails, fails_as, safe, stays_sound, then_fails}
+use Rattle.command_base.proofs.Faults.{fails_as, safe, stays_sound, then_fails}
 use Rattle.command_base.proofs.Views.{told_as, told_then}
 use Rattle.session_commands.specs.declared.telling.Tally.{Tally}
-use Rattle.session_commands.specs.Linked.{HasLinkRoom, OverHost, next_link, with_link}
+use Rattle.session_commands.specs.Linked.{HasLinkRoom, OverHost, next_link}
 use Rattle.fault_lines.specs.Answers.{answer_line}
 use Rattle.fault_lines.specs.Messages.{wire_line}
-use Rattle.session_commands.specs.Lines.{packet_line, served_line}
+use Rattle.session_commands.specs.Lines.{packet_line}
 use Rattle.session_commands.specs.Serve.{SessionEnd, served, peer_fault, link_fault, IsShortEnd, IsWhole, KeepsServing, Session, end_errors, end_of, end_output, end_status, first_fault}
-use Rattle.session_commands.specs.inner.Serving.{GoesOn, HasEndRoom, HasNextRoom, HasSessionRoom, IsSessionStatus, MayStop, MeetsNext, NextServed, NextUntold, ServesKept, ServesNext, TakesNext, Tallies, TellsEnd, next_moment, next_taken, session_view, with_told}
+use Rattle.session_commands.specs.inner.Serving.{GoesOn, HasEndRoom, HasNextRoom, HasSessionRoom, IsSessionStatus, MayStop, MeetsNext, ServesKept, ServesNext, TakesNext, Tallies, TellsEnd, next_moment, session_view, with_told}
 use Rattle.session_commands.proofs.HostLinks.{link_used, none_written}
 use Rattle.session_commands.proofs.Sent.{told_with}
 
@@ -104,6 +103,11 @@ moment_so E now v u w (some, is) (at, then) =
 
 pub next_told : (E : Type 0) (now : ℕ) (a m b : Option View) → Told a m (Accepts {E = E} (Ok tt)) → Told m b (TellsMoment now) → Told a b (TakesNext {E = E} (Ok now))
 next_told E now a m b h k = told_then a m b (Accepts {E = E} (Ok tt)) (TellsMoment now) (TakesNext {E = E} (Ok now)) (λ v u w x y. moment_so E now v u w x y) h k
+
+-- none is taken
+pub next_untaken : (E : Type 0) (R S : Type 0) (e : E) (p : ProfileView) (k : ℕ) (s t : ServerState) (o n : Option (List Entry)) (before after : Tally) (a b : Option View) → n ≡ o → Tells o s → Told a b (TakesNext {E = E} (Err e)) → Told a b (ServesNext R S p k s t o n before after (Err stop.LinkFault))
+next_untaken E R S e p k s t o n before after a b same tells h =
+    told_as a b (TakesNext {E = E} (Err e)) (ServesNext R S p k s t o n before after (Err stop.LinkFault)) (λ v w is. record { view = is; entries_kept = same; tells = subst (λ (e : Option (List Entry)). Tells e s) (sym same) tells }) h
 
 -- ---- a session over it
 
@@ -199,8 +203,8 @@ module _ (p : ProfileView) (s t : ServerState) (entries now_entries : Option (Li
     output_as : (v u : View) (h : Taken v u) → u.written.output ≡ v.written.output
     output_as v u h = ap (λ (x : View). x.written.output) h.view ∙ append-nil v.written.output
 
-    next_so : (R S : Type 0) (q : Result (Unit {0}) Stop) (v u w : View) → Tallies r before after q → Taken v u × Failed R S v → TellsEnd k r before after q u w → ServesNext R S p k s t entries now_entries before after q v w
-    next_so R S (Ok tt) v u w (d, also, counts) (h, failed) (e, is, view, lines) = record {
+    next_so : (R S : Type 0) (q : Result (Unit {0}) Stop) → (IsErrOf q stop.WriteFault → Tells now_entries t) → (v u w : View) → Tallies r before after q → Taken v u × Failed R S v → TellsEnd k r before after q u w → ServesNext R S p k s t entries now_entries before after q v w
+    next_so R S (Ok tt) tells v u w (d, also, counts) (h, failed) (e, is, view, lines) = record {
       ended = e;
       sent = h.out;
       left = h.left;
@@ -212,34 +216,37 @@ module _ (p : ProfileView) (s t : ServerState) (entries now_entries : Option (Li
       lines = subst (λ (x : List ℕ). GoesOn before.whole after.whole x w.written.errors (end_errors e)) (errors_as v u h) lines;
       status = counts ∙ ap (λ (x : SessionEnd). first_fault before.status (end_status x)) (some_is d e (sym also ∙ is));
     }
-    next_so R S (Err stop.WriteFault) v u w counts (h, failed) (n, prefix, rest, is, split, view) = record {
+    next_so R S (Err stop.WriteFault) tells v u w counts (h, failed) (n, prefix, rest, is, split, view) = record {
       frames = n;
       sent = h.out;
       server = t;
       more = more_of v u h;
       session = session_of v u (served n) h (ap end_of is);
+      appended = h.calls.2;
+      tells = tells refl;
+      links = ap (λ (x : View). x.written.links) view ∙ ap (λ (x : View). x.written.links) h.view;
       output = (prefix, rest, split, ap (λ (x : View). x.written.output) view ∙ ap (λ (x : List ℕ). x ++ prefix) (output_as v u h));
       errors = ap (λ (x : View). x.written.errors) view ∙ errors_as v u h;
     }
-    next_so R S (Err stop.Memory) v u w counts (h, failed) same =
+    next_so R S (Err stop.Memory) tells v u w counts (h, failed) same =
         record { output = ap (λ (x : View). x.written.output) same ∙ output_as v u h; errors = ap (λ (x : View). x.written.errors) same ∙ errors_as v u h }
-    next_so R S (Err stop.LinkFault) v u w counts h never = absurd never
-    next_so R S (Err stop.ReadFault) v u w counts h never = absurd never
-    next_so R S (Err (stop.Refused line)) v u w counts h never = absurd never
-    next_so R S (Err (stop.Peer line)) v u w counts h never = absurd never
+    next_so R S (Err stop.LinkFault) tells v u w counts h never = absurd never
+    next_so R S (Err stop.ReadFault) tells v u w counts h never = absurd never
+    next_so R S (Err (stop.Refused line)) tells v u w counts h never = absurd never
+    next_so R S (Err (stop.Peer line)) tells v u w counts h never = absurd never
 
-    serves_so : (E : Type 0) (a m n b : Option View) (R S T : Type 0) (q : Result (Unit {0}) Stop) → (IsErrOf r fault.LinkFault → R) → (IsSome a → S → T) → Tallies r before after q
+    serves_so : (E : Type 0) (a m n b : Option View) (R S T : Type 0) (q : Result (Unit {0}) Stop) → (IsErrOf q stop.WriteFault → Tells now_entries t) → (IsErrOf r fault.LinkFault → R) → (IsSome a → S → T) → Tallies r before after q
         → Told a m (TakesNext {E = E} (Ok now)) → IfSome m (λ u. T → HasLinkRoom (MaySend (server_side p) (dated_at s now)) u → IsErrOf r fault.LinkFault → ⊥) → Told m n (OverHost Calls) → Told n b (TellsEnd k r before after q)
         → Told a b (ServesNext R S p k s t entries now_entries before after q)
-    serves_so E a m n b R S T q rose stays counts takes never over tells =
-        told_then a n b (λ v u. Taken v u × Failed R S v) (TellsEnd k r before after q) (ServesNext R S p k s t entries now_entries before after q) (λ v u w x y. next_so R S q v u w counts x y)
+    serves_so E a m n b R S T q tell rose stays counts takes never over tells =
+        told_then a n b (λ v u. Taken v u × Failed R S v) (TellsEnd k r before after q) (ServesNext R S p k s t entries now_entries before after q) (λ v u w x y. next_so R S q tell v u w counts x y)
         (told_with a n Taken (Failed R S) (session_taken E a m n takes over) (may_fail E a m R S T rose stays takes never)) tells
 
-    pub next_served : (E F : Type 0) (x y z w : HostState) (q : Result (Unit {0}) Stop) → MeetsFaults kinds.Links x y F (λ v. 0 < length v.links) → Told x.view y.view (TakesNext {E = E} (Ok now))
+    pub next_served : (E F : Type 0) (x y z w : HostState) (q : Result (Unit {0}) Stop) → (IsErrOf q stop.WriteFault → Tells now_entries t) → MeetsFaults kinds.Links x y F (λ v. 0 < length v.links) → Told x.view y.view (TakesNext {E = E} (Ok now))
         → MeetsFaults kinds.Links y z (IsErrOf r fault.LinkFault) (HasLinkRoom (MaySend (server_side p) (dated_at s now))) → Told y.view z.view (OverHost Calls) → MeetsFaults kinds.Writes z w (IsErrOf q stop.WriteFault) (HasEndRoom k r)
         → Told z.view w.view (TellsEnd k r before after q) → Tallies r before after q → Told x.view w.view (ServesNext (Rose x.counts.links w.counts.links) (IsTrue x.sound) p k s t entries now_entries before after q)
-    next_served E F x y z w q first takes second over third tells counts =
-        serves_so E x.view y.view z.view w.view (Rose x.counts.links w.counts.links) (IsTrue x.sound) (IsTrue y.sound) q (λ f. omega (arith, first.later, second.cause f, ap (λ c. c.links) third.others)) first.stays counts takes second.never over tells
+    next_served E F x y z w q tell first takes second over third tells counts =
+        serves_so E x.view y.view z.view w.view (Rose x.counts.links w.counts.links) (IsTrue x.sound) (IsTrue y.sound) q tell (λ f. omega (arith, first.later, second.cause f, ap (λ c. c.links) third.others)) first.stays counts takes second.never over tells
 
     -- ---- where nothing can fail
 

@@ -1,6 +1,6 @@
 -- What a run over a keeper does: its store is opened, or why not, and then sessions are served from its server.
-use Rattle.std.proofs.Common.{◌≡◌, ◌⊎◌, ℕ, zero, suc, ◌+◌, ◌<◌, ◌≤◌, List, [], ◌∷◌, ◌++◌, get_or, take, Bool, true, false, ◌&&◌, Option, Some, None, Result, Ok, Err, IsSome, IsTrue, refl, sym, ap, ◌∙◌, subst, inl, inr}
-use Rattle.std.specs.Prelude.{IfSome, IsErrAnd, ⊤}
+use Rattle.std.proofs.Common.{◌≡◌, ℕ, zero, suc, ◌+◌, ◌<◌, List, [], ◌∷◌, ◌++◌, get_or, take, Bool, true, false, ◌&&◌, Option, Some, None, Result, Ok, Err, IsSome, IsTrue, refl, sym, ap, ◌∙◌, subst, inl, inr}
+use Rattle.std.specs.Prelude.{IfSome, IsErrAnd}
 use Rattle.tl_base.specs.Calls.{Told}
 use Rattle.tl_base.specs.Hosted.{OnlySlot}
 use Rattle.tl_base.specs.Outside.{View, HostState}
@@ -11,20 +11,18 @@ use Rattle.box_store.specs.declared.entry.Entry.{Entry}
 use Rattle.box_store.specs.declared.fault.OpenFault.{OpenFault}
 use Rattle.box_store.specs.declared.fault.OpenFault.TheVariants.{BadEntry}
 use Rattle.box_store.specs.Answering.{Opens}
-use Rattle.box_store.specs.Keeping.{KeeperState, Keeps}
 use Rattle.box_store.specs.Rebuilding.{IsBad, are_right, are_right_from, is_accepted, rebuilt, with_entry}
 use Rattle.wire_profile.specs.Faults.{IsAnswer}
 use Rattle.wire_profile.specs.Places.{ProfileView}
 use Rattle.update_sessions.specs.declared.fault.TheConstants.{MAX_FRAMES}
 use Rattle.update_sessions.specs.Kept.{RoomFor}
-use Rattle.command_base.specs.Answer.{Answer, refused}
+use Rattle.command_base.specs.Answer.{refused}
 use Rattle.command_base.specs.Jobs.{Job, Works, WorksOver, of_unmade}
 use Rattle.command_base.specs.Loading.{RefusesAs}
-use Rattle.command_base.specs.Sound.{Fits, HasRoomFor, IsFault, MeetsFaultsOf}
-use Rattle.command_base.specs.Telling.{status_of, stop_status}
+use Rattle.command_base.specs.Sound.{Fits, IsFault, MeetsFaultsOf}
 use Rattle.command_base.specs.declared.status.Status.{Status}
-use Rattle.command_base.specs.declared.status.Status.TheVariants as status
 use Rattle.command_base.specs.declared.stop.Stop.{Stop}
+use Rattle.command_base.specs.declared.stop.Stop.TheVariants as stop
 use Rattle.command_base.specs.declared.stop.Unmade.{Unmade}
 use Rattle.command_base.specs.declared.stop.Unmade.TheVariants as unmade
 use Rattle.command_base.proofs.Rests.{only_schema}
@@ -32,8 +30,8 @@ use Rattle.command_base.proofs.Stages.{Carries, refuses_so, unmade_works, works_
 use Rattle.command_base.proofs.Views.{told_as, told_then}
 use Rattle.session_commands.specs.declared.stored.StoreStop.{StoreStop}
 use Rattle.session_commands.specs.declared.stored.StoreStop.TheVariants as store_stop
-use Rattle.session_commands.specs.Keep.{AreRight, IsBadEntry, KeepsByFile, KeepsSessions, OfEntries, OfToldEntries, RoomForAll, RoomForRun, RoomOver, Starts, StaysRight, bad_entry_line, host_end}
-use Rattle.session_commands.specs.Serve.{IsAny, IsWhole, OfSessions, Sessions, Total}
+use Rattle.session_commands.specs.Keep.{AreRight, IsBadEntry, KeepsByFile, KeepsFirst, KeepsSessions, OfEntries, OfToldEntries, RoomForAll, RoomForRun, RoomOver, SessionsBy, Starts, StaysRight, StopKeeps, bad_entry_line, host_end}
+use Rattle.session_commands.specs.Serve.{IsAny, IsWhole, OfSessions, SessionEnd, Sessions, Total}
 use Rattle.session_commands.specs.inner.Keeping.{KeepsByEntries, KeepsOn, RoomByEntries}
 use Rattle.session_commands.specs.inner.Serving.{sessions_job}
 use Rattle.session_commands.proofs.ServeParts.{LoadsFirst, profile_is}
@@ -133,12 +131,22 @@ opened_meets p n o address s starts x y t h = record {
     never None i = tt
     never (Some v) i = λ sound fits failed. i sound (opened_fits p n o address s starts v fits) failed
 
-pub opened_kept : (p : ProfileView) (n : ℕ) (o q r : Option (List Entry)) (s : ServerState) → Starts o s → q ≡ o → (end : Result Status StoreStop) (a b : Option View) → Told a b (KeepsOn p s n q r end) → Told a b (KeepsByEntries p n o r end)
-opened_kept p n o q r s starts same end a b h = told_as a b (KeepsOn p s n q r end) (KeepsByEntries p n o r end) (by_end end) h
+-- what was kept under other words
+pub stop_as : (F G N M : Type 0) → (F → G) → (N → M) → (e : StoreStop) → StopKeeps F N e → StopKeeps G M e
+stop_as F G N M few none (store_stop.Stop stop.LinkFault) h = few h
+stop_as F G N M few none (store_stop.Stop stop.WriteFault) h = few h
+stop_as F G N M few none (store_stop.Stop (stop.Refused line)) h = none h
+stop_as F G N M few none (store_stop.Stop stop.ReadFault) h = none h
+stop_as F G N M few none (store_stop.Stop (stop.Peer line)) h = none h
+stop_as F G N M few none (store_stop.Stop stop.Memory) h = tt
+stop_as F G N M few none store_stop.KeepFault h = tt
+
+pub opened_kept : (L : Type 0) (p : ProfileView) (n : ℕ) (o q r : Option (List Entry)) (s : ServerState) → Starts o s → q ≡ o → (end : Result Status StoreStop) (a b : Option View) → Told a b (KeepsOn L p s n q r end) → Told a b (KeepsByEntries L p n o r end)
+opened_kept L p n o q r s starts same end a b h = told_as a b (KeepsOn L p s n q r end) (KeepsByEntries L p n o r end) (by_end end) h
   where
-    by_end : (end : Result Status StoreStop) (v w : View) → KeepsOn p s n q r end v w → KeepsByEntries p n o r end v w
-    by_end (Ok t) v w h = (s, starts, subst (λ (e : Option (List Entry)). KeepsSessions p s n e r v) same h)
-    by_end (Err e) v w h = tt
+    by_end : (end : Result Status StoreStop) (v w : View) → KeepsOn L p s n q r end v w → KeepsByEntries L p n o r end v w
+    by_end (Ok t) v w h = (s, starts, subst (λ (e : Option (List Entry)). KeepsSessions L p s n e r v w) same h)
+    by_end (Err e) v w h = stop_as _ _ _ _ (λ f. (s, starts, subst (λ (e : Option (List Entry)). KeepsFirst L p s n e r v w) same f)) (λ f. absurd f) e h
 
 pub opened_room : (p : ProfileView) (n : ℕ) (o q : Option (List Entry)) (s : ServerState) → Starts o s → q ≡ o → (room now : ℕ) → now ≡ room → (a : Option View) (es fs : List Entry) → o ≡ Some es → q ≡ Some fs → RoomOver a (RoomByEntries p n room) es → RoomOver a (RoomForAll p s n now) fs
 opened_room p n o q s starts same room now is None es fs at has f = absurd f
@@ -151,6 +159,20 @@ opened_room p n o q s starts same room now is (Some v) es fs at has f =
     some_same x y e = cc
 
 -- ---- no store is opened
+
+-- nothing is kept by what isn't made
+unmade_keeps : (F N : Type 0) (e : Unmade) → N → StopKeeps F N (store_stop.Stop (of_unmade e))
+unmade_keeps F N (unmade.Refused line) same = same
+unmade_keeps F N unmade.ReadFault same = same
+unmade_keeps F N unmade.Memory same = tt
+
+pub unopened_kept : (L : Type 0) (p : ProfileView) (n : ℕ) (o r : Option (List Entry)) (e : Unmade) (end : Result Status StoreStop) (a : Option View) → end ≡ Err (store_stop.Stop (of_unmade e)) → r ≡ o → Told a a (KeepsByEntries L p n o r end)
+unopened_kept L p n o r e end None is same = tt
+unopened_kept L p n o r e end (Some v) is same = subst (λ (z : Result Status StoreStop). KeepsByEntries L p n o r z v v) (sym is) (unmade_keeps _ _ e same)
+
+pub unloaded_kept : (L : Type 0) (schema : List ℕ) (n : ℕ) (o r : Option (List Entry)) (e : Unmade) (end : Result Status StoreStop) (a b : Option View) (Q : View → View → Type 0) → end ≡ Err (store_stop.Stop (of_unmade e)) → r ≡ o → Told a b Q → Told a b (KeepsByFile L schema n o r end)
+unloaded_kept L schema n o r e end a b Q is same h =
+    told_as a b Q (KeepsByFile L schema n o r end) (λ v w i. subst (λ (z : Result Status StoreStop). KeepsByFile L schema n o r z v w) (sym is) (unmade_keeps _ _ e same)) h
 
 -- how a run ends whose end is that of what isn't made
 pub end_is : (end : Result Status StoreStop) (e : Unmade) → end ≡ Err (store_stop.Stop (of_unmade e)) → IsErrAnd (host_end end) (λ z. z ≡ of_unmade e)
@@ -170,19 +192,23 @@ module _ (p : ProfileView) (n : ℕ) (o : Option (List Entry)) (address : List �
 
 module _ (schema : List ℕ) (n : ℕ) where
   module _ (p : ProfileView) (v u : View) (only : OnlySlot slots.Schema v u) where
-    sessions_as : (s : ServerState) (k : ℕ) (r : Total) → Sessions IsAny p s u.links u.moments k r → Sessions IsAny p s v.links v.moments k r
-    sessions_as s k r h =
-        subst (λ (m : List ℕ). Sessions IsAny p s v.links m k r) (ap (λ (x : View). x.moments) only) (subst (λ (l : List (List ℕ)). Sessions IsAny p s l u.moments k r) (ap (λ (x : View). x.links) only) h)
+    sessions_as : (Is : SessionEnd → Type 0) (s : ServerState) (k : ℕ) (r : Total) → Sessions Is p s u.links u.moments k r → Sessions Is p s v.links v.moments k r
+    sessions_as Is s k r h =
+        subst (λ (m : List ℕ). Sessions Is p s v.links m k r) (ap (λ (x : View). x.moments) only) (subst (λ (l : List (List ℕ)). Sessions Is p s l u.moments k r) (ap (λ (x : View). x.links) only) h)
 
-    kept_as : (s : ServerState) (o q : Option (List Entry)) → KeepsSessions p s n o q u → KeepsSessions p s n o q v
-    kept_as s o q (r, h, is, tells) = (r, sessions_as s n r h, is, tells)
+    by_as : (L N : Type 0) → (L → N) → (s : ServerState) (k : ℕ) (r : Total) → SessionsBy L p s u.links u.moments k r → SessionsBy N p s v.links v.moments k r
+    by_as L N lift s k r h = elim h as (λ z. SessionsBy N p s v.links v.moments k r) [ inl whole ↦ inl (sessions_as IsWhole s k r whole) | inr failed ↦ inr (lift failed.0, sessions_as IsAny s k r failed.1) ]
 
-  pub file_kept : (o q : Option (List Entry)) (end : Result Status StoreStop) (S : Declared) (p : ProfileView) → IsAnswer S (Ok p) → (a m b : Option View) → Told a m (LoadsFirst schema (Ok S)) → Told m b (KeepsByEntries p n o q end) → Told a b (KeepsByFile schema n o q end)
-  file_kept o q end S p is a m b loads kept = told_then a m b (LoadsFirst schema (Ok S)) (KeepsByEntries p n o q end) (KeepsByFile schema n o q end) (λ v u w l k. by_end end v u w l k) loads kept
+    kept_as : (L N : Type 0) → (L → N) → (w : View) (s : ServerState) (k : ℕ) (o q : Option (List Entry)) → KeepsSessions L p s k o q u w → KeepsSessions N p s k o q v w
+    kept_as L N lift w s k o q (r, h, sent, is, tells) = (r, by_as L N lift s k r h, sent ∙ ap (λ (x : View). x.written.links ++ r.sent) only, is, tells)
+
+  pub file_kept : (L N : Type 0) → (L → N) → (o q : Option (List Entry)) (end : Result Status StoreStop) (S : Declared) (p : ProfileView) → IsAnswer S (Ok p) → (a m b : Option View) → Told a m (LoadsFirst schema (Ok S)) → Told m b (KeepsByEntries L p n o q end)
+      → Told a b (KeepsByFile N schema n o q end)
+  file_kept L N lift o q end S p is a m b loads kept = told_then a m b (LoadsFirst schema (Ok S)) (KeepsByEntries L p n o q end) (KeepsByFile N schema n o q end) (λ v u w l k. by_end end v u w l k) loads kept
     where
-      by_end : (end : Result Status StoreStop) (v u w : View) → LoadsFirst schema (Ok S) v u → KeepsByEntries p n o q end u w → KeepsByFile schema n o q end v w
-      by_end (Ok t) v u w l (s, starts, kept) = (profile_is schema S p is v u l, s, starts, kept_as p v u l.1 s o q kept)
-      by_end (Err e) v u w l k = tt
+      by_end : (end : Result Status StoreStop) (v u w : View) → LoadsFirst schema (Ok S) v u → KeepsByEntries L p n o q end u w → KeepsByFile N schema n o q end v w
+      by_end (Ok t) v u w l (s, starts, kept) = (profile_is schema S p is v u l, s, starts, kept_as p v u l.1 L N lift w s n o q kept)
+      by_end (Err e) v u w l h = stop_as _ _ _ _ (λ (s, starts, f). (profile_is schema S p is v u l, s, starts, (f.0, f.1, kept_as p v u l.1 L N lift w s f.0 o q f.2))) (λ same. same) e h
 
   pub file_room : (room : ℕ) (S : Declared) (p : ProfileView) → IsAnswer S (Ok p) → (a m : Option View) → Told a m (LoadsFirst schema (Ok S)) → (es : List Entry) → RoomOver a (RoomForRun schema n room) es → RoomOver m (RoomByEntries p n room) es
   file_room room S p is None m h es f = absurd f
@@ -195,6 +221,17 @@ module _ (schema : List ℕ) (n : ℕ) where
       room_as v u only es k less r h g =
           let links : u.links ≡ v.links = ap (λ (x : View). x.links) only in
           let moments : u.moments ≡ v.moments = ap (λ (x : View). x.moments) only in
-          let there = sessions_as p v u only (rebuilt es) k r h in
+          let there = sessions_as p v u only IsAny (rebuilt es) k r h in
           subst (λ (m : List ℕ). RoomFor p MAX_FRAMES (dated_at r.server (get_or m k 0)) (Some (get_or u.links k [])) (Some []) room (es ++ r.entries)) (sym moments)
           (subst (λ (l : List (List ℕ)). RoomFor p MAX_FRAMES (dated_at r.server (get_or v.moments k 0)) (Some (get_or l k [])) (Some []) room (es ++ r.entries)) (sym links) (g k less r there))
+
+-- ---- the run's end is told
+
+module _ (L N : Type 0) (lift : L → N) (schema : List ℕ) (n : ℕ) (o q : Option (List Entry)) where
+  sessions_told : (p : ProfileView) (s : ServerState) (k : ℕ) (v u w : View) → w.written.links ≡ u.written.links → KeepsSessions L p s k o q v u → KeepsSessions N p s k o q v w
+  sessions_told p s k v u w same (r, by, sent, is, tells) =
+      (r, elim by as (λ z. SessionsBy N p s v.links v.moments k r) [ inl whole ↦ inl whole | inr failed ↦ inr (lift failed.0, failed.1) ], same ∙ sent, is, tells)
+
+  pub file_told : (end : Result Status StoreStop) (v u w : View) → w.written.links ≡ u.written.links → KeepsByFile L schema n o q end v u → KeepsByFile N schema n o q end v w
+  file_told (Ok status) v u w same (h, s, starts, kept) = (h, s, starts, sessions_told h.p s n v u w same kept)
+  file_told (Err e) v u w same h = stop_as _ _ _ _ (λ (h, s, starts, f). (h, s, starts, (f.0, f.1, sessions_told h.p s f.0 v u w same f.2))) (λ is. is) e h

@@ -1,5 +1,5 @@
 -- Over bytes a server's session is one: it takes the same calls, sends the same for them, and ends so.
-use Rattle.std.proofs.Common.{◌≡◌, ℕ, ◌<◌, ◌≤◌, List, [], ◌∷◌, ◌++◌, length, Option, Some, None, option_map, Result, Ok, Err, refl, sym, ap, ◌∙◌, subst, arith, inl, inr}
+use Rattle.std.proofs.Common.{◌≡◌, ℕ, ◌<◌, ◌≤◌, List, [], ◌∷◌, ◌++◌, length, Some, None, Result, Ok, Err, refl, sym, ap, ◌∙◌, subst, arith, inl, inr}
 use Rattle.tl_base.specs.Contents.{AreBytes}
 use Rattle.tl_base.specs.Packets.{IsPacketLength, packet}
 use Rattle.tl_base.specs.declared.packet.PacketFault.{PacketFault}
@@ -31,7 +31,7 @@ use Rattle.session_commands.specs.Serve.{SessionEnd, link_fault, end_of, IsShort
 use Rattle.session_commands.proofs.OnePacket.{never_packet, one_packet_fault, same_packet}
 use Rattle.session_commands.proofs.OneCall.{never_call, one_call}
 use Rattle.session_commands.proofs.OneReply.{body_bytes}
-use Rattle.session_commands.proofs.OneExchange.{Ended, AreOne, one_ended, rest_bytes, same_rest, sends_most}
+use Rattle.session_commands.proofs.OneExchange.{Ended, AreOne, one_ended, rest_bytes, sends_most}
 
 no_end : (e : SessionEnd) → None ≡ Some e → ⊥
 no_end e is = cc

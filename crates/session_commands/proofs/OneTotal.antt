@@ -1,5 +1,5 @@
 -- What sessions come to is one, and what their answer has room for is room for each of them.
-use Rattle.std.proofs.Common.{◌≡◌, ◌⊎◌, ℕ, zero, suc, ◌+◌, ◌<◌, ◌≤◌, List, [], ◌∷◌, ◌++◌, length, length-append, get_or, refl, sym, ap, ◌∙◌, subst, arith, inl, inr}
+use Rattle.std.proofs.Common.{◌≡◌, ℕ, zero, suc, ◌+◌, ◌<◌, ◌≤◌, List, [], ◌∷◌, ◌++◌, length, length-append, get_or, refl, sym, ap, ◌∙◌, subst, arith, inl, inr}
 use Rattle.std.specs.List.{All}
 use Rattle.std.proofs.Math.Nat.{eq-or-lt_of_le}
 use Rattle.std.proofs.lemmas.List.{get_or_append_left, get_or_at}
@@ -10,7 +10,7 @@ use Rattle.wire_profile.specs.Places.{ProfileView}
 use Rattle.wire_profile.specs.Profiles.{IsProfile}
 use Rattle.command_base.specs.declared.status.Status.{Status}
 use Rattle.command_base.specs.declared.status.Status.TheVariants as status
-use Rattle.session_commands.specs.Serve.{SessionEnd, served, peer_fault, link_fault, Session, IsWhole, IsAny, end_output, end_status, first_fault, Total, Sessions, no_sessions, with_session}
+use Rattle.session_commands.specs.Serve.{SessionEnd, served, peer_fault, link_fault, Session, IsWhole, IsAny, end_output, end_status, first_fault, Total, Sessions, with_session}
 use Rattle.session_commands.specs.inner.Serving.{IsSessionStatus}
 use Rattle.session_commands.proofs.OneServed.{one_session}
 

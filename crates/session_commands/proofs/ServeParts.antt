@@ -1,7 +1,7 @@
 -- What `serve` and `keep` make of their schema, and then of the profile that this is.
-use Rattle.std.proofs.Common.{◌≡◌, ℕ, ◌≤◌, List, Option, Result, Ok, Err, codes, sym, ap, ◌∙◌, subst, inl, inr}
+use Rattle.std.proofs.Common.{◌≡◌, ℕ, List, Option, Result, Ok, Err, codes, sym, ap, subst, inl, inr}
 use Rattle.std.specs.Prelude.{IsErrAnd}
-use Rattle.tl_base.specs.Outside.{View, HasFile, IsThere}
+use Rattle.tl_base.specs.Outside.{View, IsThere}
 use Rattle.tl_base.specs.Calls.{Told}
 use Rattle.tl_base.specs.Hosted.{OnlySlot}
 use Rattle.tl_base.specs.declared.host.Slot.TheVariants as slots

@@ -1,15 +1,13 @@
 -- Sessions one after the other, and how a run of them ends.
-use Rattle.std.proofs.Common.{◌≡◌, ◌≢◌, ◌⊎◌, ℕ, zero, suc, ◌+◌, ◌-◌, ◌<◌, ◌≤◌, List, [], ◌∷◌, ◌++◌, append-nil, append_assoc, length, length-append, get_or, drop, Bool, true, false, Option, Some, None, Result, Ok, Err, is_err, IsSome, IsTrue, refl, sym, ap, ◌∙◌, subst, arith, inl, inr}
+use Rattle.std.proofs.Common.{◌≡◌, ◌≢◌, ◌⊎◌, ℕ, suc, ◌+◌, ◌<◌, ◌≤◌, List, [], ◌∷◌, ◌++◌, append-nil, append_assoc, length, length-append, get_or, drop, Bool, true, false, Option, Some, None, Result, Ok, Err, is_err, IsSome, IsTrue, refl, sym, ap, ◌∙◌, subst, arith, inl, inr}
 use Rattle.std.specs.Prelude.{IfSome, IsErrOf, IsErrAnd}
 use Rattle.std.specs.List.{All}
 use Rattle.std.proofs.lemmas.List.{drop-drop, get_or-drop, length-drop}
 use Rattle.tl_base.specs.Calls.{Listens, Told}
 use Rattle.tl_base.specs.Causes.{Rose}
-use Rattle.tl_base.specs.Contents.{AreBytes}
-use Rattle.tl_base.specs.Outside.{View, HostState, HasRoom, ShowsBytes, with_slot}
+use Rattle.tl_base.specs.Outside.{View, HostState, ShowsBytes, with_slot}
 use Rattle.tl_base.specs.Using.{MeetsFaults}
 use Rattle.tl_base.specs.declared.counts.Kind.TheVariants as kinds
-use Rattle.tl_base.specs.declared.host.Out.TheVariants as outs
 use Rattle.tl_base.specs.declared.host.Slot.TheVariants as slots
 use Rattle.box_server.specs.Servers.{ServerState, dated_at}
 use Rattle.box_store.specs.declared.entry.Entry.{Entry}
@@ -20,9 +18,9 @@ use Rattle.update_sessions.specs.Exchanges.{MaySend}
 use Rattle.update_sessions.specs.Serving.{server_side}
 use Rattle.update_sessions.proofs.Entries.{more_more, more_none}
 use Rattle.command_base.specs.Answer.{Answer}
-use Rattle.command_base.specs.Jobs.{Job, GivesOutput, MayAnswer, ToldSome, Works, WorksOver}
+use Rattle.command_base.specs.Jobs.{Job, MayAnswer, ToldSome, Works, WorksOver}
 use Rattle.command_base.specs.Kept.{AddsPrefix, WritesNothing}
-use Rattle.command_base.specs.Sound.{Fits, HasRoomFor, IsFault, MeetsFaultsOf}
+use Rattle.command_base.specs.Sound.{Fits, IsFault, MeetsFaultsOf}
 use Rattle.command_base.specs.Telling.{status_of, stop_status, Tells}
 use Rattle.command_base.specs.declared.status.Status.{Status}
 use Rattle.command_base.specs.declared.status.Status.TheVariants as status
@@ -32,13 +30,11 @@ use Rattle.command_base.proofs.Faults.{stays_sound}
 use Rattle.command_base.proofs.Views.{told_as, told_then}
 use Rattle.session_commands.specs.declared.telling.Tally.{Tally}
 use Rattle.session_commands.specs.Linked.{next_link}
-use Rattle.session_commands.specs.Lines.{served_line}
 use Rattle.session_commands.specs.Serve.{SessionEnd, served, Session, IsAny, IsWhole, KeepsServing, OfSessions, Sessions, Total, end_errors, end_output, end_status, first_fault, no_sessions, total_answer, with_session}
-use Rattle.session_commands.specs.inner.Serving.{GoesOn, HasNextRoom, HasSessionRoom, IsSessionStatus, MayStop, MeetsNext, NextServed, NextUntold, ServedSo, ServesNext, ServesOn, next_moment, session_view, sessions_job, total_view}
-use Rattle.session_commands.proofs.Connections.{keeps_on, same_keeps}
+use Rattle.session_commands.specs.inner.Serving.{GoesOn, HasNextRoom, HasSessionRoom, IsSessionStatus, MayStop, MeetsNext, NextServed, NextUntaken, NextUntold, ServedSo, ServesNext, ServesOn, next_moment, session_view, sessions_job, total_view}
+use Rattle.session_commands.proofs.Connections.{keeps_on}
 use Rattle.session_commands.proofs.OneServed.{one_session, session_sends}
-use Rattle.session_commands.proofs.OneTotal.{IsAmong, any_of, given_bytes, is_among, one_total, whole_status}
-use Rattle.session_commands.proofs.Sent.{told_with}
+use Rattle.session_commands.proofs.OneTotal.{IsAmong, given_bytes, is_among, one_total, whole_status}
 
 -- ---- lines on Errors
 
@@ -67,6 +63,16 @@ at_zero l k d = let same : k + 0 ≡ k = omega arith in get_or-drop k l 0 d ∙ 
 
 one_more : {A : Type 0} (l : List A) (k : ℕ) → drop 1 (drop k l) ≡ drop (suc k) l
 one_more l k = let same : k + 1 ≡ suc k = omega arith in drop-drop 1 k l ∙ ap (λ (i : ℕ). drop i l) same
+
+-- ---- the next session, as that of the whole run
+
+pub at_session : (p : ProfileView) (address : List ℕ) (k : ℕ) (s : ServerState) (out : List ℕ) (r : ServerState) (more : List Entry) (e : SessionEnd) (total : Total) (left : List ℕ) (v u : View) → s ≡ total.server → u ≡ total_view address k left total u.written.errors v
+    → Session p s (next_moment u) (next_link u) out r more e → Session p total.server (get_or v.moments k 0) (get_or v.links k []) out r more e
+at_session p address k s out r more e total left v u server view h =
+    let moment : next_moment u ≡ get_or v.moments k 0 = ap (λ (x : View). next_moment x) view ∙ at_zero v.moments k 0 in
+    let link : next_link u ≡ get_or v.links k [] = ap (λ (x : View). next_link x) view ∙ at_zero v.links k [] in
+    subst (λ (z : ServerState). Session p z (get_or v.moments k 0) (get_or v.links k []) out r more e) server
+    (subst (λ (m : ℕ). Session p s m (get_or v.links k []) out r more e) moment (subst (λ (l : List ℕ). Session p s (next_moment u) l out r more e) link h))
 
 -- ---- statuses
 
@@ -253,17 +259,9 @@ module _ (p : ProfileView) (good : IsProfile p) (address : List ℕ) (n : ℕ) (
           | inr failed ↦ inr (lift failed.0, failed.1)
         ]
 
-    at_session : (out : List ℕ) (r : ServerState) (more : List Entry) (e : SessionEnd) (total : Total) (left : List ℕ) (v u : View) → s ≡ total.server → u ≡ total_view address k left total u.written.errors v → Session p s (next_moment u) (next_link u) out r more e
-        → Session p total.server (get_or v.moments k 0) (get_or v.links k []) out r more e
-    at_session out r more e total left v u server view h =
-        let moment : next_moment u ≡ get_or v.moments k 0 = ap (λ (x : View). next_moment x) view ∙ at_zero v.moments k 0 in
-        let link : next_link u ≡ get_or v.links k [] = ap (λ (x : View). next_link x) view ∙ at_zero v.links k [] in
-        subst (λ (z : ServerState). Session p z (get_or v.moments k 0) (get_or v.links k []) out r more e) server
-        (subst (λ (m : ℕ). Session p s m (get_or v.links k []) out r more e) moment (subst (λ (l : List ℕ). Session p s (next_moment u) l out r more e) link h))
-
     served_on : (L N M S T : Type 0) → (L → N) → (M → N) → (S → T) → (v u w : View) → ServedSo L S p address n k first s entries before b v u × ShowsBytes v → NextServed M T p k s t before after b a u w → ServedSo N S p address n (suc k) first t entries after a v w
     served_on L N M S T lift rose stays v u w (h, shown) g =
-        let session = at_session g.sent t g.more g.ended h.total h.left v u h.server h.view g.session in
+        let session = at_session p address k s g.sent t g.more g.ended h.total h.left v u h.server h.view g.session in
         record {
           total = with_session k g.ended g.sent t g.more h.total;
           left = g.left;
@@ -315,9 +313,9 @@ module _ (p : ProfileView) (good : IsProfile p) (address : List ℕ) (n : ℕ) (
       inr (tt, subst (λ (l : List ℕ). AddsPrefix v.written.errors l h.total.errors) (sym none.errors) (lines_so b.whole v.written.errors u.written.errors h.total.errors h.lines)),
     )
 
-    untold_with : (L S : Type 0) (v u w : View) → ServedSo L S p address n k first s entries before b v u → NextUntold p k s u w → (x : Answer) × ((j : ℕ) × (j ≤ n) × OfSessions first address IsAny j v.links v.moments p x) × AddsPrefix v.written.output w.written.output x.output × ToldSome job x v w
+    untold_with : (L S : Type 0) (v u w : View) → ServedSo L S p address n k first s entries before b v u → NextUntold p k s before after u w → (x : Answer) × ((j : ℕ) × (j ≤ n) × OfSessions first address IsAny j v.links v.moments p x) × AddsPrefix v.written.output w.written.output x.output × ToldSome job x v w
     untold_with L S v u w h g =
-        let session = at_session g.sent g.server g.more (served g.frames) h.total h.left v u h.server h.view g.session in
+        let session = at_session p address k s g.sent g.server g.more (served g.frames) h.total h.left v u h.server h.view g.session in
         let r = with_session k (served g.frames) g.sent g.server g.more h.total in
         let prefix = g.output.0 in
         let rest = g.output.1 in (
@@ -332,8 +330,11 @@ module _ (p : ProfileView) (good : IsProfile p) (address : List ℕ) (n : ℕ) (
           inr (tt, prefix_on v.written.errors u.written.errors w.written.errors h.total.errors [] (lines_so b.whole v.written.errors u.written.errors h.total.errors h.lines) g.errors),
         )
 
+    untaken_writes : (u w : View) → NextUntaken s before after u w → WritesNothing u w
+    untaken_writes u w g = record { output = ap (λ (x : View). x.written.output) g.view; errors = ap (λ (x : View). x.written.errors) g.view }
+
     stopped_so : (L S M T W N : Type 0) (e : Stop) (v u w : View) → ServedSo L S p address n k first s entries before b v u → ServesNext M T p k s t before after b a (Err e) u w → Works W N job (Err e) v w
-    stopped_so L S M T W N stop.LinkFault v u w h g = let x = stopped_with L S v u w stop.LinkFault h g in (x.0, inr x.1, x.2, x.3)
+    stopped_so L S M T W N stop.LinkFault v u w h g = let x = stopped_with L S v u w stop.LinkFault h (untaken_writes u w g) in (x.0, inr x.1, x.2, x.3)
     stopped_so L S M T W N stop.Memory v u w h g = let x = stopped_with L S v u w stop.Memory h g in inr (tt, (x.0, inr x.1, x.2, x.3))
     stopped_so L S M T W N stop.WriteFault v u w h g = let x = untold_with L S v u w h g in (x.0, inr x.1, x.2, x.3)
     stopped_so L S M T W N stop.ReadFault v u w h g = absurd g

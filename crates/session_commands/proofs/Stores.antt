@@ -1,5 +1,5 @@
 -- What sessions over a store keep.
-use Rattle.std.proofs.Common.{◌≡◌, ◌⊎◌, ℕ, ◌+◌, ◌<◌, ◌≤◌, ◌^◌, List, [], ◌++◌, append_assoc, length, get_or, drop, Bool, true, false, Option, Some, None, Result, Ok, Err, IsSome, IsTrue, refl, sym, ap, ◌∙◌, subst, arith, inl, inr}
+use Rattle.std.proofs.Common.{◌≡◌, ◌⊎◌, ℕ, ◌<◌, ◌^◌, List, [], ◌++◌, Bool, true, false, Option, Some, None, Result, Ok, Err, IsTrue, sym, ap, ◌∙◌, subst, arith, inl, inr}
 use Rattle.std.specs.Prelude.{IfSome, IsErrOf, ⊤}
 use Rattle.tl_base.specs.Calls.{Told}
 use Rattle.tl_base.specs.Causes.{Rose}
@@ -37,7 +37,7 @@ use Rattle.session_commands.specs.declared.telling.Tally.{Tally}
 use Rattle.session_commands.specs.Keep.{AreRight, Grows, RoomOver}
 use Rattle.session_commands.specs.Linked.{OverHost, next_link}
 use Rattle.session_commands.specs.inner.Keeping.{RoomForLink, RoomForNext}
-use Rattle.session_commands.specs.inner.Serving.{HasNextRoom, MeetsNext, ServesKept, ServesNext, TakesNext, next_moment}
+use Rattle.session_commands.specs.inner.Serving.{HasNextRoom, MeetsNext, NextUntaken, NextUntold, ServesKept, ServesNext, TakesNext}
 
 -- ---- entries
 
@@ -174,12 +174,12 @@ module _ (p : ProfileView) (k : ℕ) (s t : ServerState) (o n : Option (List Ent
   }
 
 -- a run that stops doesn't tell its server
-pub stops_any : (R S : Type 0) (p : ProfileView) (k : ℕ) (s t u : ServerState) (o n m : Option (List Entry)) (before after : Tally) (e : Stop) (a b : Option View) → Told a b (ServesNext R S p k s t o n before after (Err e)) → Told a b (ServesNext R S p k s u o m before after (Err e))
-stops_any R S p k s t u o n m before after e a b = told_as a b (ServesNext R S p k s t o n before after (Err e)) (ServesNext R S p k s u o m before after (Err e)) (λ v w h. by_stop e v w h)
+pub stops_any : (R S : Type 0) (p : ProfileView) (k : ℕ) (s t u : ServerState) (o n m : Option (List Entry)) (before after : Tally) (e : Stop) (a b : Option View) → m ≡ n → Told a b (ServesNext R S p k s t o n before after (Err e)) → Told a b (ServesNext R S p k s u o m before after (Err e))
+stops_any R S p k s t u o n m before after e a b same = told_as a b (ServesNext R S p k s t o n before after (Err e)) (ServesNext R S p k s u o m before after (Err e)) (λ v w h. by_stop e v w h)
   where
     by_stop : (e : Stop) (v w : View) → ServesNext R S p k s t o n before after (Err e) v w → ServesNext R S p k s u o m before after (Err e) v w
-    by_stop stop.WriteFault v w h = h
-    by_stop stop.LinkFault v w h = h
+    by_stop stop.WriteFault v w h = subst (λ (x : Option (List Entry)). NextUntold p k s o x v w) (sym same) h
+    by_stop stop.LinkFault v w h = subst (λ (x : Option (List Entry)). NextUntaken s o x v w) (sym same) h
     by_stop stop.Memory v w h = h
     by_stop stop.ReadFault v w h = h
     by_stop (stop.Refused line) v w h = h

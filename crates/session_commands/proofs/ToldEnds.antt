@@ -1,5 +1,5 @@
 -- How the end of a session is told, from what its parts tell.
-use Rattle.std.proofs.Common.{◌≡◌, ◌⊎◌, ℕ, List, [], ◌++◌, append-nil, length, Bool, true, false, Option, Some, None, option_map, Result, Ok, Err, Vec, Global, codes, refl, sym, ap, ◌∙◌, subst, inl, inr}
+use Rattle.std.proofs.Common.{◌≡◌, ℕ, List, [], append-nil, Bool, true, false, Option, Some, option_map, Result, Ok, Err, Vec, Global, codes, refl, sym, ap, ◌∙◌}
 use Rattle.tl_base.specs.Calls.{Told}
 use Rattle.tl_base.specs.Outside.{View}
 use Rattle.update_sessions.specs.declared.fault.SessionFault.{SessionFault}

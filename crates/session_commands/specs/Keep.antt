@@ -1,6 +1,6 @@
 -- What `keep` answers: how the sessions end that it serves in turn from the server that the entries of a keeper rebuild, and which entries are then kept; or
 -- which entry isn't accepted. This project's own.
-use Rattle.std.specs.Prelude.{◌≡◌, ◌⊎◌, ℕ, ◌<◌, List, [], ◌++◌, get_or, codes, true, Option, Some, None, IsSome, IfSome, Result, Ok, Err}
+use Rattle.std.specs.Prelude.{◌≡◌, ◌⊎◌, ℕ, ◌<◌, ◌≤◌, List, [], ◌++◌, get_or, codes, true, Option, Some, None, IsSome, IfSome, Result, Ok, Err}
 use Rattle.tl_base.specs.Outside.{View}
 use Rattle.box_server.specs.Servers.{ServerState, dated_at}
 use Rattle.box_store.specs.declared.entry.Entry.{Entry}
@@ -14,11 +14,11 @@ use Rattle.command_base.specs.Answer.{placed_line, refused}
 use Rattle.command_base.specs.Jobs.{Job}
 use Rattle.command_base.specs.declared.status.Status.{Status}
 use Rattle.command_base.specs.declared.stop.Stop.{Stop}
-use Rattle.command_base.specs.declared.stop.Stop.TheVariants.{Memory}
+use Rattle.command_base.specs.declared.stop.Stop.TheVariants.{LinkFault, Memory, Peer, ReadFault, Refused, WriteFault}
 use Rattle.fault_lines.specs.Profiled.{HasProfile}
 use Rattle.session_commands.specs.declared.stored.StoreStop.{StoreStop}
 use Rattle.session_commands.specs.declared.stored.StoreStop.TheVariants as store_stop
-use Rattle.session_commands.specs.Serve.{IsAny, OfSessions, Sessions, SessionsAnswer, Total, serving_job}
+use Rattle.session_commands.specs.Serve.{IsAny, IsWhole, OfSessions, Sessions, SessionsAnswer, Total, serving_job}
 
 -- ---- how a run ends
 
@@ -85,14 +85,36 @@ AreRight entries = IfSome entries (λ es. are_right es ≡ true)
 abbrev pub StaysRight : Option (List Entry) → Option (List Entry) → Type 0
 StaysRight old new = IfSome old (λ es. are_right es ≡ true → AreRight new)
 
--- n sessions from a server on were served: the entries of their new posts were added, and all rebuild the server after them, its date aside
-abbrev pub KeepsSessions : ProfileView → ServerState → ℕ → Option (List Entry) → Option (List Entry) → View → Type 0
-KeepsSessions p s n entries now_entries v = (r : Total) × Sessions IsAny p s v.links v.moments n r × (now_entries ≡ with_more r.entries entries) × Tells now_entries r.server
+-- sessions from a server on; the link of one failed only where the count of links' faults rose
+abbrev pub SessionsBy : Type 0 → ProfileView → ServerState → List (List ℕ) → List ℕ → ℕ → Total → Type 0
+SessionsBy link_rose p s given moments n r = Sessions IsWhole p s given moments n r ⊎ (link_rose × Sessions IsAny p s given moments n r)
 
--- what a run that ends with its answer has kept
-abbrev pub KeepsByFile : List ℕ → ℕ → Option (List Entry) → Option (List Entry) → Result Status StoreStop → View → View → Type 0
-KeepsByFile schema n entries now_entries (Ok status) v w = (h : HasProfile v.files schema) × (s : ServerState) × Starts entries s × KeepsSessions h.p s n entries now_entries v
-KeepsByFile schema n entries now_entries (Err e) v w = Unit {0}
+-- n sessions from a server on were served, which sent what was sent: the entries of their new posts were added, and all rebuild the server after them, its
+-- date aside
+abbrev pub KeepsSessions : Type 0 → ProfileView → ServerState → ℕ → Option (List Entry) → Option (List Entry) → View → View → Type 0
+KeepsSessions link_rose p s n entries now_entries v w =
+    (r : Total) × SessionsBy link_rose p s v.links v.moments n r × (w.written.links ≡ v.written.links ++ r.sent) × (now_entries ≡ with_more r.entries entries) × Tells now_entries r.server
+
+-- so of the first sessions, n at most
+abbrev pub KeepsFirst : Type 0 → ProfileView → ServerState → ℕ → Option (List Entry) → Option (List Entry) → View → View → Type 0
+KeepsFirst link_rose p s n entries now_entries v w = (k : ℕ) × (k ≤ n) × KeepsSessions link_rose p s k entries now_entries v w
+
+-- What a run that stopped has kept: that of its first sessions where nobody could be listened to or taken, or Output failed; that of no session where
+-- something was refused or unread. Where memory ran out or the keeper failed, its entries are right all the same.
+abbrev pub StopKeeps : Type 0 → Type 0 → StoreStop → Type 0
+StopKeeps Few Same (store_stop.Stop LinkFault) = Few
+StopKeeps Few Same (store_stop.Stop WriteFault) = Few
+StopKeeps Few Same (store_stop.Stop (Refused line)) = Same
+StopKeeps Few Same (store_stop.Stop ReadFault) = Same
+StopKeeps Few Same (store_stop.Stop (Peer line)) = Same
+StopKeeps Few Same (store_stop.Stop Memory) = Unit {0}
+StopKeeps Few Same store_stop.KeepFault = Unit {0}
+
+-- what a run has kept
+abbrev pub KeepsByFile : Type 0 → List ℕ → ℕ → Option (List Entry) → Option (List Entry) → Result Status StoreStop → View → View → Type 0
+KeepsByFile link_rose schema n entries now_entries (Ok status) v w = (h : HasProfile v.files schema) × (s : ServerState) × Starts entries s × KeepsSessions link_rose h.p s n entries now_entries v w
+KeepsByFile link_rose schema n entries now_entries (Err e) v w =
+    StopKeeps ((h : HasProfile v.files schema) × (s : ServerState) × Starts entries s × KeepsFirst link_rose h.p s n entries now_entries v w) (now_entries ≡ entries) e
 
 -- ---- room
 

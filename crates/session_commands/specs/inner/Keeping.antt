@@ -1,5 +1,5 @@
 -- What the parts of `keep` do. This project's own.
-use Rattle.std.specs.Prelude.{◌≡◌, ℕ, List, [], Option, Some, None, Result, Ok, Err, IsErrOf, ⊤}
+use Rattle.std.specs.Prelude.{◌≡◌, ℕ, List, [], Option, Some, Result, Ok, Err, IsErrOf, ⊤}
 use Rattle.tl_base.specs.Outside.{View, left_of}
 use Rattle.tl_base.specs.declared.host.Slot.TheVariants.{Link}
 use Rattle.box_server.specs.Servers.{ServerState, dated_at, new_server}
@@ -16,7 +16,7 @@ use Rattle.command_base.specs.declared.stop.Stop.{Stop}
 use Rattle.session_commands.specs.declared.connection.Served.{Served}
 use Rattle.session_commands.specs.declared.stored.Stopped.{Stopped}
 use Rattle.session_commands.specs.declared.stored.StoreStop.{StoreStop}
-use Rattle.session_commands.specs.Keep.{Grows, IsKeepFault, KeepsSessions, RoomForAll, Starts, host_stop}
+use Rattle.session_commands.specs.Keep.{Grows, IsKeepFault, KeepsFirst, KeepsSessions, RoomForAll, Starts, StopKeeps, host_stop}
 use Rattle.session_commands.specs.Linked.{next_link}
 use Rattle.session_commands.specs.inner.Serving.{ServesKept, next_moment}
 
@@ -64,10 +64,10 @@ RoomForNext p s room v es = RoomFor p MAX_FRAMES (dated_at s (next_moment v)) (S
 
 -- ---- sessions in turn
 
--- what a run of all sessions kept
-abbrev pub KeepsOn : ProfileView → ServerState → ℕ → Option (List Entry) → Option (List Entry) → Result Status StoreStop → View → View → Type 0
-KeepsOn p s n entries now_entries (Ok status) v w = KeepsSessions p s n entries now_entries v
-KeepsOn p s n entries now_entries (Err e) v w = Unit {0}
+-- what a run of sessions kept
+abbrev pub KeepsOn : Type 0 → ProfileView → ServerState → ℕ → Option (List Entry) → Option (List Entry) → Result Status StoreStop → View → View → Type 0
+KeepsOn link_rose p s n entries now_entries (Ok status) v w = KeepsSessions link_rose p s n entries now_entries v w
+KeepsOn link_rose p s n entries now_entries (Err e) v w = StopKeeps (KeepsFirst link_rose p s n entries now_entries v w) ⊥ e
 
 -- so far each session's new posts were kept, and no call to the keeper failed
 pub record StoresSo (old new : KeeperState) : Type 0 where
@@ -76,10 +76,11 @@ pub record StoresSo (old new : KeeperState) : Type 0 where
 
 -- ---- from a keeper on
 
--- what a run that ends with its answer has kept
-abbrev pub KeepsByEntries : ProfileView → ℕ → Option (List Entry) → Option (List Entry) → Result Status StoreStop → View → View → Type 0
-KeepsByEntries p n entries now_entries (Ok status) v w = (s : ServerState) × Starts entries s × KeepsSessions p s n entries now_entries v
-KeepsByEntries p n entries now_entries (Err e) v w = Unit {0}
+-- what a run has kept
+abbrev pub KeepsByEntries : Type 0 → ProfileView → ℕ → Option (List Entry) → Option (List Entry) → Result Status StoreStop → View → View → Type 0
+KeepsByEntries link_rose p n entries now_entries (Ok status) v w = (s : ServerState) × Starts entries s × KeepsSessions link_rose p s n entries now_entries v w
+KeepsByEntries link_rose p n entries now_entries (Err e) v w =
+    StopKeeps ((s : ServerState) × Starts entries s × KeepsFirst link_rose p s n entries now_entries v w) (now_entries ≡ entries) e
 
 -- there is room for the entries with what sessions from the server that they rebuild may add
 abbrev pub RoomByEntries : ProfileView → ℕ → ℕ → View → List Entry → Type 0

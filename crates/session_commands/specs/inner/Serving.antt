@@ -1,5 +1,5 @@
 -- What the parts of `serve` do. This project's own.
-use Rattle.std.specs.Prelude.{◌≡◌, ◌⊎◌, ℕ, ◌+◌, ◌<◌, ◌≤◌, List, [], ◌∷◌, ◌++◌, length, get_or, drop, Bool, true, false, Option, Some, None, Result, Ok, Err, IsErrOf, IsTrue, IsSome, IfSome, OnOk}
+use Rattle.std.specs.Prelude.{◌≡◌, ◌⊎◌, ℕ, ◌<◌, ◌≤◌, List, [], ◌∷◌, ◌++◌, length, get_or, drop, Bool, true, false, Option, Some, Result, Ok, Err, IsErrOf, IsTrue, IsSome, IfSome, OnOk}
 use Rattle.tl_base.specs.Calls.{Told, link_taken}
 use Rattle.tl_base.specs.Causes.{Rose}
 use Rattle.tl_base.specs.Outside.{View, HostState, HasRoom, with_slot}
@@ -9,6 +9,7 @@ use Rattle.box_events.specs.declared.requests.Numbered.{Numbered}
 use Rattle.box_server.specs.Servers.{ServerState, dated_at}
 use Rattle.box_store.specs.declared.entry.Entry.{Entry}
 use Rattle.box_store.specs.Keeping.{with_more}
+use Rattle.box_store.specs.Storing.{Tells}
 use Rattle.wire_profile.specs.Places.{ProfileView}
 use Rattle.update_sessions.specs.Exchanges.{MaySend}
 use Rattle.update_sessions.specs.Kept.{kept_in}
@@ -130,20 +131,29 @@ pub record NextServed (link_rose sound : Type 0) (p : ProfileView) (k : ℕ) (s 
   pub lines : GoesOn before.whole after.whole v.written.errors w.written.errors (end_errors ended)
   pub status : after.status ≡ first_fault before.status (end_status ended)
 
--- the session ended, but its line wasn't written whole
-pub record NextUntold (p : ProfileView) (k : ℕ) (s : ServerState) (v w : View) : Type 0 where
+-- no connection was taken
+pub record NextUntaken (s : ServerState) (entries now_entries : Option (List Entry)) (v w : View) : Type 0 where
+  pub view : w ≡ v
+  pub entries_kept : now_entries ≡ entries
+  pub tells : Tells now_entries s
+
+-- the session ended and its new posts were kept, but its line wasn't written whole
+pub record NextUntold (p : ProfileView) (k : ℕ) (s : ServerState) (entries now_entries : Option (List Entry)) (v w : View) : Type 0 where
   pub frames : ℕ
   pub sent : List ℕ
   pub server : ServerState
   pub more : List Entry
   pub session : Session p s (next_moment v) (next_link v) sent server more (served frames)
+  pub appended : now_entries ≡ with_more more entries
+  pub tells : Tells now_entries server
+  pub links : w.written.links ≡ v.written.links ++ sent ∷ []
   pub output : AddsPrefix v.written.output w.written.output (served_line k frames)
   pub errors : w.written.errors ≡ v.written.errors
 
 abbrev pub ServesNext : Type 0 → Type 0 → ProfileView → ℕ → ServerState → ServerState → Option (List Entry) → Option (List Entry) → Tally → Tally → Result (Unit {0}) Stop → View → View → Type 0
 ServesNext link_rose sound p k s t entries now_entries before after (Ok u) v w = NextServed link_rose sound p k s t entries now_entries before after v w
-ServesNext link_rose sound p k s t entries now_entries before after (Err stop.WriteFault) v w = NextUntold p k s v w
-ServesNext link_rose sound p k s t entries now_entries before after (Err stop.LinkFault) v w = WritesNothing v w
+ServesNext link_rose sound p k s t entries now_entries before after (Err stop.WriteFault) v w = NextUntold p k s entries now_entries v w
+ServesNext link_rose sound p k s t entries now_entries before after (Err stop.LinkFault) v w = NextUntaken s entries now_entries v w
 ServesNext link_rose sound p k s t entries now_entries before after (Err stop.Memory) v w = WritesNothing v w
 ServesNext link_rose sound p k s t entries now_entries before after (Err e) v w = ⊥
 

@@ -1,4 +1,4 @@
-use Rattle.std.proofs.Common.{◌≡◌, is_err, true, false, Ok, Err, refl, sym, ap, ◌∙◌, arith}
+use Rattle.std.proofs.Common.{◌≡◌, is_err, true, false, Err, refl, sym, ap, ◌∙◌, arith}
 use Rattle.tl_base.specs.declared.fault.Failed.{Failed}
 use Rattle.box_server.specs.Servers.{new_server}
 use Rattle.command_base.proofs.Views.{told_then}
@@ -6,7 +6,7 @@ use Rattle.session_commands.specs.Keep.{host_stop}
 use Rattle.session_commands.specs.Serve.{KeepsServing}
 use Rattle.session_commands.proofs.Connections.{keeps_on}
 use Rattle.session_commands.proofs.ServeRuns.{all_faults, all_works, serves_none, serves_on, stopped_faults, stopped_works, unlistened_works}
-use Rattle.session_commands.proofs.StoreRuns.{all_kept, keeps_next, stopped_kept, stores_left, stores_more, stores_none}
+use Rattle.session_commands.proofs.StoreRuns.{all_kept, keeps_next, stopped_kept, stores_left, stores_more, stores_none, unlistened_kept}
 use Rattle.session_commands.proofs.Stores.{grows_as, grows_then, keeps_all}
 use Rattle.session_commands.proofs.sessions.serve_all.Goals as goal
 
@@ -14,6 +14,11 @@ pub returns-then-is_err-clause-works : goal.returns-then-is_err-clause-works
 returns-then-is_err-clause-works g c =
     let failed : is_err c.listen.result ≡ true = sym c.is_err.ensures.value ∙ c.if-is_err.true in
     unlistened_works c.args.profile.now c.schema-schema.ensures.sound c.args.address.now c.args.sessions c.args.store.server (g.K.Keeper.state c.args.store.keeper).entries Failed c.listen.result (g.H.Host.state c.args.host.now) (g.H.Host.state c.listen.new.self) failed c.listen.ensures.view
+
+pub returns-then-is_err-clause-entries : goal.returns-then-is_err-clause-entries
+returns-then-is_err-clause-entries g c =
+    let failed : is_err c.listen.result ≡ true = sym c.is_err.ensures.value ∙ c.if-is_err.true in
+    unlistened_kept c.args.profile.now c.args.address.now c.args.sessions c.args.store.server (g.K.Keeper.state c.args.store.keeper).entries Failed _ c.listen.result _ _ _ failed (ap (λ k. (g.K.Keeper.state k).entries) c.into_keeper.ensures.keeper) c.into_keeper.ensures.rebuilt c.listen.ensures.view
 
 pub loop-session-init : goal.loop-session-init
 loop-session-init g c =
@@ -35,7 +40,8 @@ returns-in-Err-clause-faults g c =
 
 pub returns-in-Err-clause-entries : goal.returns-in-Err-clause-entries
 returns-in-Err-clause-entries g c =
-    stopped_kept c.args.profile.now c.args.store.server c.args.sessions (g.K.Keeper.state c.args.store.keeper).entries (g.K.Keeper.state c.in-Err.field-0.keeper).entries c.in-Err.field-0.stop _ _ KeepsServing (told_then _ _ _ KeepsServing KeepsServing KeepsServing keeps_on c.loop-session.invariant.0.kept c.in-Err.ensures.kept)
+    stopped_kept c.args.profile.now c.args.address.now c.args.sessions c.args.store.server (g.K.Keeper.state c.args.store.keeper).entries c.loop-session.session c.loop-session-test.true c.loop-session.store.server new_server (g.K.Keeper.state c.loop-session.store.keeper).entries (g.K.Keeper.state c.in-Err.field-0.keeper).entries c.loop-session.tally c.serve_next.new.tally
+    c.in-Err.field-0.stop (g.H.Host.state c.args.host.now) (g.H.Host.state c.loop-session.host) (g.H.Host.state c.serve_next.new.host) c.in-Err.ensures.faults.links_later c.loop-session.invariant.0 c.in-Err.ensures.serves
 
 pub returns-in-Err-clause-grows : goal.returns-in-Err-clause-grows
 returns-in-Err-clause-grows g c = grows_then _ _ _ c.loop-session.invariant.1.grows c.in-Err.ensures.grows
