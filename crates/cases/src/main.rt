@@ -8,6 +8,7 @@ mod fault;
 mod kept;
 mod reader;
 mod setting;
+mod show;
 mod traced;
 mod traffic;
 mod words;
@@ -16,6 +17,7 @@ use crate::case::Case;
 use crate::ending::Ending;
 use crate::kept::entries_text;
 use crate::reader::{BadLine, read_cases};
+use crate::show::shown_run;
 use crate::traced::TracedHost;
 use box_store::MemKeeper;
 use commands::{keep_in, run, run_stored};
@@ -90,9 +92,13 @@ fn ending_of(alloc: Global, case: &Case) -> Result<Ending, AllocError> {
     ending_over(alloc, status, &host, kept)
 }
 
-// Makes a run, and prints a line where it ends otherwise.
-fn run_case(rt: &HostRuntime, case: &Case) -> io::Result<Counts> {
+// Makes a run, and prints a line where it ends otherwise. Where runs are to be shown, what it did comes before that.
+fn run_case(rt: &HostRuntime, case: &Case, shows: bool) -> io::Result<Counts> {
     let got = ending_of(rt.alloc(), case)?;
+    if shows {
+        let text = shown_run(rt.alloc(), case.words(), &got)?;
+        print!(rt; "{text}")?;
+    }
     if got.ends_as(case.wanted()) {
         return Ok(Counts { runs: 1, differ: 0 });
     }
@@ -102,10 +108,10 @@ fn run_case(rt: &HostRuntime, case: &Case) -> io::Result<Counts> {
 }
 
 // Makes the runs.
-fn run_cases(rt: &HostRuntime, cases: &[Case]) -> io::Result<Counts> {
+fn run_cases(rt: &HostRuntime, cases: &[Case], shows: bool) -> io::Result<Counts> {
     let mut counts = Counts { runs: 0, differ: 0 };
     for case in cases {
-        counts = counts.with(run_case(rt, case)?);
+        counts = counts.with(run_case(rt, case, shows)?);
     }
     Ok(counts)
 }
@@ -118,10 +124,10 @@ fn refuse(rt: &HostRuntime, name: &str, bad: BadLine) -> io::Result<Counts> {
 }
 
 // Makes the runs of a case file of this text.
-fn run_text(rt: &HostRuntime, name: &str, text: &str) -> io::Result<Counts> {
+fn run_text(rt: &HostRuntime, name: &str, text: &str, shows: bool) -> io::Result<Counts> {
     match read_cases(rt, name, text) {
         Ok(cases) => {
-            let counts = run_cases(rt, &cases)?;
+            let counts = run_cases(rt, &cases, shows)?;
             let (runs, differ) = (counts.runs, counts.differ);
             println!(rt; "{name}: {runs} runs, {differ} differ")?;
             Ok(counts)
@@ -131,9 +137,9 @@ fn run_text(rt: &HostRuntime, name: &str, text: &str) -> io::Result<Counts> {
 }
 
 // Makes the runs of a case file.
-fn run_file(rt: &HostRuntime, name: &str) -> io::Result<Counts> {
+fn run_file(rt: &HostRuntime, name: &str, shows: bool) -> io::Result<Counts> {
     match fs::read_to_string(rt, name) {
-        Ok(text) => run_text(rt, name, text.as_str()),
+        Ok(text) => run_text(rt, name, text.as_str(), shows),
         Err(_) => {
             println!(rt; "{name}: can't be read")?;
             Ok(Counts { runs: 0, differ: 1 })
@@ -145,12 +151,17 @@ fn run_file(rt: &HostRuntime, name: &str) -> io::Result<Counts> {
 fn run_files(rt: &HostRuntime) -> io::Result<u8> {
     let mut counts = Counts { runs: 0, differ: 0 };
     let mut is_asked = false;
-    for name in env::args(rt)?.skip(1) {
-        is_asked = true;
-        counts = counts.with(run_file(rt, name.as_str())?);
+    let mut shows = false;
+    for word in env::args(rt)?.skip(1) {
+        if !is_asked && word.as_str() == "--show" {
+            shows = true;
+        } else {
+            is_asked = true;
+            counts = counts.with(run_file(rt, word.as_str(), shows)?);
+        }
     }
     if !is_asked {
-        println!(rt; "usage: cases FILE ..")?;
+        println!(rt; "usage: cases [--show] FILE ..")?;
         return Ok(2);
     }
     let (runs, differ) = (counts.runs, counts.differ);

@@ -232,6 +232,7 @@ impl Begun {
                 self.both_ways = number;
                 Ok(())
             }
+            "profile" => Ok(self.setting.begin_profile(rest)?),
             "is-profile" => self.setting.check_profile(rest),
             "link"
             | "moments"

@@ -170,6 +170,12 @@ impl Setting {
         Ok(())
     }
 
+    /// Begins a file with the text that has the protocol's declarations.
+    pub fn begin_profile(&mut self, name: &str) -> Result<(), AllocError> {
+        let bytes = Vec::from_slice(self.alloc, PROFILE_TEXT.as_bytes())?;
+        self.begin(name, bytes)
+    }
+
     // Begins a link to come, with these bytes.
     fn begin_link(&mut self, digits: &str) -> Result<(), CaseFault> {
         let bytes = bytes_of(self.alloc, digits)?;
