@@ -75,17 +75,21 @@ pub kept_told : (schema : List ℕ) (T : Type 0) (end : Result Status StoreStop)
 kept_told schema T end a m b h k = told_then a m b (ServeKeeps schema) (TellsEnd T end) (ServeKeeps schema) (λ v u w x y. keeps_then schema T end v u w x y) h k
 
 -- what is told leaves what was kept
-module _ (L N : Type 0) (lift : L → N) (schema : List ℕ) (n : ℕ) (o q : Option (List Entry)) (T : Type 0) where
+module _ (L N : Type 0) (lift : L → N) (schema address : List ℕ) (n : ℕ) (o q : Option (List Entry)) (T : Type 0) where
   links_told : (end : Result Status StoreStop) (u w : View) → TellsEnd T end u w → w.written.links ≡ u.written.links
   links_told (Ok s) u w same = ap (λ (x : View). x.written.links) same
   links_told (Err e) u w (told, rest) = ap (λ (x : View). x.written.links) rest
 
-  pub entries_told : (end : Result Status StoreStop) (a m b : Option View) → Told a m (KeepsByFile L schema n o q end) → Told m b (TellsEnd T end) → Told a b (KeepsByFile N schema n o q end)
-  entries_told end a m b h k = told_then a m b (KeepsByFile L schema n o q end) (TellsEnd T end) (KeepsByFile N schema n o q end) (λ v u w x y. file_told L N lift schema n o q end v u w (links_told end u w y) x) h k
+  address_told : (end : Result Status StoreStop) (u w : View) → TellsEnd T end u w → w.address ≡ u.address
+  address_told (Ok s) u w same = ap (λ (x : View). x.address) same
+  address_told (Err e) u w (told, rest) = ap (λ (x : View). x.address) rest
+
+  pub entries_told : (end : Result Status StoreStop) (a m b : Option View) → Told a m (KeepsByFile L schema address n o q end) → Told m b (TellsEnd T end) → Told a b (KeepsByFile N schema address n o q end)
+  entries_told end a m b h k = told_then a m b (KeepsByFile L schema address n o q end) (TellsEnd T end) (KeepsByFile N schema address n o q end) (λ v u w x y. file_told L N lift schema address n o q end v u w (links_told end u w y) (address_told end u w y) x) h k
 
 -- a run of these words, from its work and what was told
 pub runs_so : (k : KeepText) (x y z : HostState) (old new : KeeperState) (end : Result Status StoreStop) (status : StoredStatus) → status ≡ stored_status end → WorksOver (keep_job old.entries k.schema k.address k.sessions) x y (host_end end) → Told x.view y.view (ServeKeeps k.schema)
-    → MeetsFaultsOf (told_job old.entries k.schema k.address k.sessions) x y (status_of (host_end end)) → Told x.view y.view (KeepsByFile (Rose x.counts.links y.counts.links) k.schema k.sessions old.entries new.entries end) → Keeps old new (EndsByKeeper end) (RoomOver x.view (RoomForRun k.schema k.sessions old.room))
+    → MeetsFaultsOf (told_job old.entries k.schema k.address k.sessions) x y (status_of (host_end end)) → Told x.view y.view (KeepsByFile (Rose x.counts.links y.counts.links) k.schema k.address k.sessions old.entries new.entries end) → Keeps old new (EndsByKeeper end) (RoomOver x.view (RoomForRun k.schema k.sessions old.room))
     → Told y.view z.view (TellsEnd (Rose y.counts.writes z.counts.writes) end) → y.counts.writes ≤ z.counts.writes → z.counts.reads ≡ y.counts.reads → z.counts.links ≡ y.counts.links → RunsStored k x z old new status
 runs_so k x y z old new end status is works kept faults entries used told later reads links = record {
   end = end;
@@ -96,7 +100,7 @@ runs_so k x y z old new end status is works kept faults entries used told later 
   write = λ f. omega (arith, faults.write f, later);
   link = λ f. omega (arith, faults.link f, links);
   sound = faults.never;
-  entries = entries_told (Rose x.counts.links y.counts.links) (Rose x.counts.links z.counts.links) (λ r. omega (arith, r, links)) k.schema k.sessions old.entries new.entries _ end x.view y.view z.view entries told;
+  entries = entries_told (Rose x.counts.links y.counts.links) (Rose x.counts.links z.counts.links) (λ r. omega (arith, r, links)) k.schema k.address k.sessions old.entries new.entries _ end x.view y.view z.view entries told;
   used = used;
 }
 

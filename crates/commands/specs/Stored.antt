@@ -96,5 +96,5 @@ pub record RunsStored (k : KeepText) (old new : HostState) (keeper_old keeper_ne
   pub write : status_of (host_end end) ≡ WriteFault → Rose old.counts.writes new.counts.writes
   pub link : status_of (host_end end) ≡ LinkFault → Rose old.counts.links new.counts.links
   pub sound : IfSome old.view (λ v. IsTrue old.sound → Fits (told_job keeper_old.entries k.schema k.address k.sessions) v → IsFault (status_of (host_end end)) → ⊥)
-  pub entries : Told old.view new.view (KeepsByFile (Rose old.counts.links new.counts.links) k.schema k.sessions keeper_old.entries keeper_new.entries end)
+  pub entries : Told old.view new.view (KeepsByFile (Rose old.counts.links new.counts.links) k.schema k.address k.sessions keeper_old.entries keeper_new.entries end)
   pub used : Keeps keeper_old keeper_new (EndsByKeeper end) (RoomOver old.view (RoomForRun k.schema k.sessions keeper_old.room))

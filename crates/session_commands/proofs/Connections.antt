@@ -225,6 +225,7 @@ module _ (p : ProfileView) (s t : ServerState) (entries now_entries : Option (Li
       appended = h.calls.2;
       tells = tells refl;
       links = ap (λ (x : View). x.written.links) view ∙ ap (λ (x : View). x.written.links) h.view;
+      address = ap (λ (x : View). x.address) view ∙ ap (λ (x : View). x.address) h.view;
       output = (prefix, rest, split, ap (λ (x : View). x.written.output) view ∙ ap (λ (x : List ℕ). x ++ prefix) (output_as v u h));
       errors = ap (λ (x : View). x.written.errors) view ∙ errors_as v u h;
     }

@@ -132,21 +132,21 @@ opened_meets p n o address s starts x y t h = record {
     never (Some v) i = λ sound fits failed. i sound (opened_fits p n o address s starts v fits) failed
 
 -- what was kept under other words
-pub stop_as : (F G N M : Type 0) → (F → G) → (N → M) → (e : StoreStop) → StopKeeps F N e → StopKeeps G M e
-stop_as F G N M few none (store_stop.Stop stop.LinkFault) h = few h
-stop_as F G N M few none (store_stop.Stop stop.WriteFault) h = few h
-stop_as F G N M few none (store_stop.Stop (stop.Refused line)) h = none h
-stop_as F G N M few none (store_stop.Stop stop.ReadFault) h = none h
-stop_as F G N M few none (store_stop.Stop (stop.Peer line)) h = none h
-stop_as F G N M few none (store_stop.Stop stop.Memory) h = tt
-stop_as F G N M few none store_stop.KeepFault h = tt
+pub stop_as : (F G N M A B : Type 0) → (F → G) → (N → M) → (A → B) → (e : StoreStop) → StopKeeps F N A e → StopKeeps G M B e
+stop_as F G N M A B few none asked (store_stop.Stop stop.LinkFault) h = few h
+stop_as F G N M A B few none asked (store_stop.Stop stop.WriteFault) h = few h
+stop_as F G N M A B few none asked (store_stop.Stop (stop.Refused line)) h = none h
+stop_as F G N M A B few none asked (store_stop.Stop stop.ReadFault) h = none h
+stop_as F G N M A B few none asked (store_stop.Stop (stop.Peer line)) h = none h
+stop_as F G N M A B few none asked (store_stop.Stop stop.Memory) h = tt
+stop_as F G N M A B few none asked store_stop.KeepFault h = asked h
 
-pub opened_kept : (L : Type 0) (p : ProfileView) (n : ℕ) (o q r : Option (List Entry)) (s : ServerState) → Starts o s → q ≡ o → (end : Result Status StoreStop) (a b : Option View) → Told a b (KeepsOn L p s n q r end) → Told a b (KeepsByEntries L p n o r end)
-opened_kept L p n o q r s starts same end a b h = told_as a b (KeepsOn L p s n q r end) (KeepsByEntries L p n o r end) (by_end end) h
+pub opened_kept : (L : Type 0) (p : ProfileView) (address : List ℕ) (n : ℕ) (o q r : Option (List Entry)) (s : ServerState) → Starts o s → q ≡ o → (end : Result Status StoreStop) (a b : Option View) → Told a b (KeepsOn L p address s n q r end) → Told a b (KeepsByEntries L p address n o r end)
+opened_kept L p address n o q r s starts same end a b h = told_as a b (KeepsOn L p address s n q r end) (KeepsByEntries L p address n o r end) (by_end end) h
   where
-    by_end : (end : Result Status StoreStop) (v w : View) → KeepsOn L p s n q r end v w → KeepsByEntries L p n o r end v w
-    by_end (Ok t) v w h = (s, starts, subst (λ (e : Option (List Entry)). KeepsSessions L p s n e r v w) same h)
-    by_end (Err e) v w h = stop_as _ _ _ _ (λ f. (s, starts, subst (λ (e : Option (List Entry)). KeepsFirst L p s n e r v w) same f)) (λ f. absurd f) e h
+    by_end : (end : Result Status StoreStop) (v w : View) → KeepsOn L p address s n q r end v w → KeepsByEntries L p address n o r end v w
+    by_end (Ok t) v w h = (s, starts, subst (λ (e : Option (List Entry)). KeepsSessions L p address s n e r v w) same h)
+    by_end (Err e) v w h = stop_as _ _ _ _ _ _ (λ f. (s, starts, subst (λ (e : Option (List Entry)). KeepsFirst L p address s n e r v w) same f)) (λ f. absurd f) (λ a. a) e h
 
 pub opened_room : (p : ProfileView) (n : ℕ) (o q : Option (List Entry)) (s : ServerState) → Starts o s → q ≡ o → (room now : ℕ) → now ≡ room → (a : Option View) (es fs : List Entry) → o ≡ Some es → q ≡ Some fs → RoomOver a (RoomByEntries p n room) es → RoomOver a (RoomForAll p s n now) fs
 opened_room p n o q s starts same room now is None es fs at has f = absurd f
@@ -161,18 +161,18 @@ opened_room p n o q s starts same room now is (Some v) es fs at has f =
 -- ---- no store is opened
 
 -- nothing is kept by what isn't made
-unmade_keeps : (F N : Type 0) (e : Unmade) → N → StopKeeps F N (store_stop.Stop (of_unmade e))
-unmade_keeps F N (unmade.Refused line) same = same
-unmade_keeps F N unmade.ReadFault same = same
-unmade_keeps F N unmade.Memory same = tt
+unmade_keeps : (F N A : Type 0) (e : Unmade) → N → StopKeeps F N A (store_stop.Stop (of_unmade e))
+unmade_keeps F N A (unmade.Refused line) same = same
+unmade_keeps F N A unmade.ReadFault same = same
+unmade_keeps F N A unmade.Memory same = tt
 
-pub unopened_kept : (L : Type 0) (p : ProfileView) (n : ℕ) (o r : Option (List Entry)) (e : Unmade) (end : Result Status StoreStop) (a : Option View) → end ≡ Err (store_stop.Stop (of_unmade e)) → r ≡ o → Told a a (KeepsByEntries L p n o r end)
-unopened_kept L p n o r e end None is same = tt
-unopened_kept L p n o r e end (Some v) is same = subst (λ (z : Result Status StoreStop). KeepsByEntries L p n o r z v v) (sym is) (unmade_keeps _ _ e same)
+pub unopened_kept : (L : Type 0) (p : ProfileView) (address : List ℕ) (n : ℕ) (o r : Option (List Entry)) (e : Unmade) (end : Result Status StoreStop) (a : Option View) → end ≡ Err (store_stop.Stop (of_unmade e)) → r ≡ o → Told a a (KeepsByEntries L p address n o r end)
+unopened_kept L p address n o r e end None is same = tt
+unopened_kept L p address n o r e end (Some v) is same = subst (λ (z : Result Status StoreStop). KeepsByEntries L p address n o r z v v) (sym is) (unmade_keeps _ _ (Unit {0}) e same)
 
-pub unloaded_kept : (L : Type 0) (schema : List ℕ) (n : ℕ) (o r : Option (List Entry)) (e : Unmade) (end : Result Status StoreStop) (a b : Option View) (Q : View → View → Type 0) → end ≡ Err (store_stop.Stop (of_unmade e)) → r ≡ o → Told a b Q → Told a b (KeepsByFile L schema n o r end)
-unloaded_kept L schema n o r e end a b Q is same h =
-    told_as a b Q (KeepsByFile L schema n o r end) (λ v w i. subst (λ (z : Result Status StoreStop). KeepsByFile L schema n o r z v w) (sym is) (unmade_keeps _ _ e same)) h
+pub unloaded_kept : (L : Type 0) (schema address : List ℕ) (n : ℕ) (o r : Option (List Entry)) (e : Unmade) (end : Result Status StoreStop) (a b : Option View) (Q : View → View → Type 0) → end ≡ Err (store_stop.Stop (of_unmade e)) → r ≡ o → Told a b Q → Told a b (KeepsByFile L schema address n o r end)
+unloaded_kept L schema address n o r e end a b Q is same h =
+    told_as a b Q (KeepsByFile L schema address n o r end) (λ v w i. subst (λ (z : Result Status StoreStop). KeepsByFile L schema address n o r z v w) (sym is) (unmade_keeps _ _ (Unit {0}) e same)) h
 
 -- how a run ends whose end is that of what isn't made
 pub end_is : (end : Result Status StoreStop) (e : Unmade) → end ≡ Err (store_stop.Stop (of_unmade e)) → IsErrAnd (host_end end) (λ z. z ≡ of_unmade e)
@@ -199,16 +199,16 @@ module _ (schema : List ℕ) (n : ℕ) where
     by_as : (L N : Type 0) → (L → N) → (s : ServerState) (k : ℕ) (r : Total) → SessionsBy L p s u.links u.moments k r → SessionsBy N p s v.links v.moments k r
     by_as L N lift s k r h = elim h as (λ z. SessionsBy N p s v.links v.moments k r) [ inl whole ↦ inl (sessions_as IsWhole s k r whole) | inr failed ↦ inr (lift failed.0, sessions_as IsAny s k r failed.1) ]
 
-    kept_as : (L N : Type 0) → (L → N) → (w : View) (s : ServerState) (k : ℕ) (o q : Option (List Entry)) → KeepsSessions L p s k o q u w → KeepsSessions N p s k o q v w
-    kept_as L N lift w s k o q (r, h, sent, is, tells) = (r, by_as L N lift s k r h, sent ∙ ap (λ (x : View). x.written.links ++ r.sent) only, is, tells)
+    kept_as : (L N : Type 0) → (L → N) → (address : List ℕ) (w : View) (s : ServerState) (k : ℕ) (o q : Option (List Entry)) → KeepsSessions L p address s k o q u w → KeepsSessions N p address s k o q v w
+    kept_as L N lift address w s k o q (r, h, sent, at, is, tells) = (r, by_as L N lift s k r h, sent ∙ ap (λ (x : View). x.written.links ++ r.sent) only, at, is, tells)
 
-  pub file_kept : (L N : Type 0) → (L → N) → (o q : Option (List Entry)) (end : Result Status StoreStop) (S : Declared) (p : ProfileView) → IsAnswer S (Ok p) → (a m b : Option View) → Told a m (LoadsFirst schema (Ok S)) → Told m b (KeepsByEntries L p n o q end)
-      → Told a b (KeepsByFile N schema n o q end)
-  file_kept L N lift o q end S p is a m b loads kept = told_then a m b (LoadsFirst schema (Ok S)) (KeepsByEntries L p n o q end) (KeepsByFile N schema n o q end) (λ v u w l k. by_end end v u w l k) loads kept
+  pub file_kept : (L N : Type 0) → (L → N) → (address : List ℕ) (o q : Option (List Entry)) (end : Result Status StoreStop) (S : Declared) (p : ProfileView) → IsAnswer S (Ok p) → (a m b : Option View) → Told a m (LoadsFirst schema (Ok S)) → Told m b (KeepsByEntries L p address n o q end)
+      → Told a b (KeepsByFile N schema address n o q end)
+  file_kept L N lift address o q end S p is a m b loads kept = told_then a m b (LoadsFirst schema (Ok S)) (KeepsByEntries L p address n o q end) (KeepsByFile N schema address n o q end) (λ v u w l k. by_end end v u w l k) loads kept
     where
-      by_end : (end : Result Status StoreStop) (v u w : View) → LoadsFirst schema (Ok S) v u → KeepsByEntries L p n o q end u w → KeepsByFile N schema n o q end v w
-      by_end (Ok t) v u w l (s, starts, kept) = (profile_is schema S p is v u l, s, starts, kept_as p v u l.1 L N lift w s n o q kept)
-      by_end (Err e) v u w l h = stop_as _ _ _ _ (λ (s, starts, f). (profile_is schema S p is v u l, s, starts, (f.0, f.1, kept_as p v u l.1 L N lift w s f.0 o q f.2))) (λ same. same) e h
+      by_end : (end : Result Status StoreStop) (v u w : View) → LoadsFirst schema (Ok S) v u → KeepsByEntries L p address n o q end u w → KeepsByFile N schema address n o q end v w
+      by_end (Ok t) v u w l (s, starts, kept) = (profile_is schema S p is v u l, s, starts, kept_as p v u l.1 L N lift address w s n o q kept)
+      by_end (Err e) v u w l h = stop_as _ _ _ _ _ _ (λ (s, starts, f). (profile_is schema S p is v u l, s, starts, (f.0, f.1, kept_as p v u l.1 L N lift address w s f.0 o q f.2))) (λ same. same) (λ a. profile_is schema S p is v u l) e h
 
   pub file_room : (room : ℕ) (S : Declared) (p : ProfileView) → IsAnswer S (Ok p) → (a m : Option View) → Told a m (LoadsFirst schema (Ok S)) → (es : List Entry) → RoomOver a (RoomForRun schema n room) es → RoomOver m (RoomByEntries p n room) es
   file_room room S p is None m h es f = absurd f
@@ -227,11 +227,11 @@ module _ (schema : List ℕ) (n : ℕ) where
 
 -- ---- the run's end is told
 
-module _ (L N : Type 0) (lift : L → N) (schema : List ℕ) (n : ℕ) (o q : Option (List Entry)) where
-  sessions_told : (p : ProfileView) (s : ServerState) (k : ℕ) (v u w : View) → w.written.links ≡ u.written.links → KeepsSessions L p s k o q v u → KeepsSessions N p s k o q v w
-  sessions_told p s k v u w same (r, by, sent, is, tells) =
-      (r, elim by as (λ z. SessionsBy N p s v.links v.moments k r) [ inl whole ↦ inl whole | inr failed ↦ inr (lift failed.0, failed.1) ], same ∙ sent, is, tells)
+module _ (L N : Type 0) (lift : L → N) (schema address : List ℕ) (n : ℕ) (o q : Option (List Entry)) where
+  sessions_told : (p : ProfileView) (s : ServerState) (k : ℕ) (v u w : View) → w.written.links ≡ u.written.links → w.address ≡ u.address → KeepsSessions L p address s k o q v u → KeepsSessions N p address s k o q v w
+  sessions_told p s k v u w same at (r, by, sent, used, is, tells) =
+      (r, elim by as (λ z. SessionsBy N p s v.links v.moments k r) [ inl whole ↦ inl whole | inr failed ↦ inr (lift failed.0, failed.1) ], same ∙ sent, λ some. at ∙ used some, is, tells)
 
-  pub file_told : (end : Result Status StoreStop) (v u w : View) → w.written.links ≡ u.written.links → KeepsByFile L schema n o q end v u → KeepsByFile N schema n o q end v w
-  file_told (Ok status) v u w same (h, s, starts, kept) = (h, s, starts, sessions_told h.p s n v u w same kept)
-  file_told (Err e) v u w same h = stop_as _ _ _ _ (λ (h, s, starts, f). (h, s, starts, (f.0, f.1, sessions_told h.p s f.0 v u w same f.2))) (λ is. is) e h
+  pub file_told : (end : Result Status StoreStop) (v u w : View) → w.written.links ≡ u.written.links → w.address ≡ u.address → KeepsByFile L schema address n o q end v u → KeepsByFile N schema address n o q end v w
+  file_told (Ok status) v u w same at (h, s, starts, kept) = (h, s, starts, sessions_told h.p s n v u w same at kept)
+  file_told (Err e) v u w same at h = stop_as _ _ _ _ _ _ (λ (h, s, starts, f). (h, s, starts, (f.0, f.1, sessions_told h.p s f.0 v u w same at f.2))) (λ is. is) (λ a. a) e h

@@ -90,38 +90,38 @@ module _ (p : ProfileView) (address : List ℕ) (n : ℕ) (first : ServerState) 
         | inr failed ↦ inr (lift failed.0, h.sessions)
       ]
 
-  kept_so : (L S : Type 0) (s : ServerState) (q : Option (List Entry)) (tally : Tally) (v w : View) → Tells q s → ServedSo L S p address n n first s o q tally v w → KeepsSessions L p first n o q v w
-  kept_so L S s q tally v w tells h = (h.total, sessions_by L L S (λ e. e) n s q tally v w h, ap (λ (x : View). x.written.links) h.view, h.appended, subst (Tells q) h.server tells)
+  kept_so : (L S : Type 0) (s : ServerState) (q : Option (List Entry)) (tally : Tally) (v w : View) → Tells q s → ServedSo L S p address n n first s o q tally v w → KeepsSessions L p address first n o q v w
+  kept_so L S s q tally v w tells h = (h.total, sessions_by L L S (λ e. e) n s q tally v w h, ap (λ (x : View). x.written.links) h.view, λ some. ap (λ (x : View). x.address) h.view, h.appended, subst (Tells q) h.server tells)
 
   all_of : (k : ℕ) (s : ServerState) (q : Option (List Entry)) (tally : Tally) (x y : HostState) → k ≡ n → ServesOn p address n k first s o q tally x y → ServesOn p address n n first s o q tally x y
   all_of k s q tally x y is h = subst (λ (m : ℕ). ServesOn p address n m first s o q tally x y) is h
 
   pub all_kept : (k : ℕ) (s : ServerState) (q r : Option (List Entry)) (tally : Tally) (status : Status) (x y : HostState) → k ≡ n → ServesOn p address n k first s o q tally x y → Tells q s → r ≡ q
-      → Told x.view y.view (KeepsOn (Rose x.counts.links y.counts.links) p first n o r (Ok status))
+      → Told x.view y.view (KeepsOn (Rose x.counts.links y.counts.links) p address first n o r (Ok status))
   all_kept k s q r tally status x y is h tells same =
       let L = Rose x.counts.links y.counts.links in
       let all = all_of k s q tally x y is h in
-      subst (λ (e : Option (List Entry)). Told x.view y.view (KeepsOn L p first n o e (Ok status))) (sym same)
-      (told_as x.view y.view (ServedSo L (IsTrue x.sound) p address n n first s o q tally) (KeepsOn L p first n o q (Ok status)) (λ v w i. kept_so L (IsTrue x.sound) s q tally v w tells i) all.served)
+      subst (λ (e : Option (List Entry)). Told x.view y.view (KeepsOn L p address first n o e (Ok status))) (sym same)
+      (told_as x.view y.view (ServedSo L (IsTrue x.sound) p address n n first s o q tally) (KeepsOn L p address first n o q (Ok status)) (λ v w i. kept_so L (IsTrue x.sound) s q tally v w tells i) all.served)
 
   -- ---- a run that stopped
 
   -- before the first connection
-  pub unlistened_kept : (E : Type 0) (L : Type 0) (r : Result (Unit {0}) E) (q : Option (List Entry)) (a b : Option View) → is_err r ≡ true → q ≡ o → Tells o first → Told a b (Listens address r) → Told a b (KeepsOn L p first n o q (Err (store_stop.Stop stop.LinkFault)))
+  pub unlistened_kept : (E : Type 0) (L : Type 0) (r : Result (Unit {0}) E) (q : Option (List Entry)) (a b : Option View) → is_err r ≡ true → q ≡ o → Tells o first → Told a b (Listens address r) → Told a b (KeepsOn L p address first n o q (Err (store_stop.Stop stop.LinkFault)))
   unlistened_kept E L (Ok tt) q a b failed same tells h = absurd cc
   unlistened_kept E L (Err e) q a b failed same tells h =
-      told_as a b (Listens {E = E} address (Err e)) (KeepsOn L p first n o q (Err (store_stop.Stop stop.LinkFault)))
-      (λ v w is. (0, omega arith, (no_sessions first, inl refl, ap (λ (x : View). x.written.links) is ∙ sym (append-nil v.written.links), same ∙ more_none o, subst (λ (e : Option (List Entry)). Tells e first) (sym same) tells))) h
+      told_as a b (Listens {E = E} address (Err e)) (KeepsOn L p address first n o q (Err (store_stop.Stop stop.LinkFault)))
+      (λ v w is. (0, omega arith, (no_sessions first, inl refl, ap (λ (x : View). x.written.links) is ∙ sym (append-nil v.written.links), λ some. absurd (omega (arith, some)), same ∙ more_none o, subst (λ (e : Option (List Entry)). Tells e first) (sym same) tells))) h
 
   module _ (k : ℕ) (less : k < n) (s t : ServerState) (q m : Option (List Entry)) (tally after : Tally) where
-    untaken_kept : (L N S : Type 0) → (L → N) → (v u w : View) → ServedSo L S p address n k first s o q tally v u → NextUntaken s q m u w → KeepsFirst N p first n o m v w
+    untaken_kept : (L N S : Type 0) → (L → N) → (v u w : View) → ServedSo L S p address n k first s o q tally v u → NextUntaken s q m u w → KeepsFirst N p address first n o m v w
     untaken_kept L N S lift v u w h g = (
       k,
       omega (arith, less),
-      (h.total, sessions_by L N S lift k s q tally v u h, ap (λ (x : View). x.written.links) g.view ∙ ap (λ (x : View). x.written.links) h.view, g.entries_kept ∙ h.appended, subst (Tells m) h.server g.tells),
+      (h.total, sessions_by L N S lift k s q tally v u h, ap (λ (x : View). x.written.links) g.view ∙ ap (λ (x : View). x.written.links) h.view, λ some. ap (λ (x : View). x.address) g.view ∙ ap (λ (x : View). x.address) h.view, g.entries_kept ∙ h.appended, subst (Tells m) h.server g.tells),
     )
 
-    untold_kept : (L N S : Type 0) → (L → N) → (v u w : View) → ServedSo L S p address n k first s o q tally v u → NextUntold p k s q m u w → KeepsFirst N p first n o m v w
+    untold_kept : (L N S : Type 0) → (L → N) → (v u w : View) → ServedSo L S p address n k first s o q tally v u → NextUntold p k s q m u w → KeepsFirst N p address first n o m v w
     untold_kept L N S lift v u w h g =
         let e = served g.frames in
         let session = at_session p address k s g.sent g.server g.more e h.total h.left v u h.server h.view g.session in
@@ -132,9 +132,9 @@ module _ (p : ProfileView) (address : List ℕ) (n : ℕ) (first : ServerState) 
           | inr failed ↦ inr (lift failed.0, (h.total, e, g.sent, g.server, g.more, h.sessions, tt, session, refl))
         ] in
         let sent = g.links ∙ ap (λ (x : View). x.written.links ++ g.sent ∷ []) h.view ∙ append_assoc v.written.links h.total.sent (g.sent ∷ []) in
-        (suc k, omega (arith, less), (r, by, sent, g.appended ∙ ap (with_more g.more) h.appended ∙ more_more o h.total.entries g.more, g.tells))
+        (suc k, omega (arith, less), (r, by, sent, λ some. g.address ∙ ap (λ (x : View). x.address) h.view, g.appended ∙ ap (with_more g.more) h.appended ∙ more_more o h.total.entries g.more, g.tells))
 
-    stop_kept : (L M N S T : Type 0) → (L → N) → (e : StoreStop) (v u w : View) → ServedSo L S p address n k first s o q tally v u → ServesNext M T p k s t q m tally after (Err (host_stop e)) u w → StopKeeps (KeepsFirst N p first n o m v w) ⊥ e
+    stop_kept : (L M N S T : Type 0) → (L → N) → (e : StoreStop) (v u w : View) → ServedSo L S p address n k first s o q tally v u → ServesNext M T p k s t q m tally after (Err (host_stop e)) u w → StopKeeps (KeepsFirst N p address first n o m v w) ⊥ (Unit {0}) e
     stop_kept L M N S T lift (store_stop.Stop stop.LinkFault) v u w h g = untaken_kept L N S lift v u w h g
     stop_kept L M N S T lift (store_stop.Stop stop.WriteFault) v u w h g = untold_kept L N S lift v u w h g
     stop_kept L M N S T lift (store_stop.Stop stop.Memory) v u w h g = tt
@@ -144,12 +144,12 @@ module _ (p : ProfileView) (address : List ℕ) (n : ℕ) (first : ServerState) 
     stop_kept L M N S T lift store_stop.KeepFault v u w h g = tt
 
     pub stopped_kept : (e : StoreStop) (x y z : HostState) → y.counts.links ≤ z.counts.links → ServesOn p address n k first s o q tally x y
-        → Told y.view z.view (ServesNext (Rose y.counts.links z.counts.links) (IsTrue y.sound) p k s t q m tally after (Err (host_stop e))) → Told x.view z.view (KeepsOn (Rose x.counts.links z.counts.links) p first n o m (Err e))
+        → Told y.view z.view (ServesNext (Rose y.counts.links z.counts.links) (IsTrue y.sound) p k s t q m tally after (Err (host_stop e))) → Told x.view z.view (KeepsOn (Rose x.counts.links z.counts.links) p address first n o m (Err e))
     stopped_kept e x y z later h g =
         let L = Rose x.counts.links y.counts.links in
         let M = Rose y.counts.links z.counts.links in
         let N = Rose x.counts.links z.counts.links in
-        told_then x.view y.view z.view (ServedSo L (IsTrue x.sound) p address n k first s o q tally) (ServesNext M (IsTrue y.sound) p k s t q m tally after (Err (host_stop e))) (KeepsOn N p first n o m (Err e))
+        told_then x.view y.view z.view (ServedSo L (IsTrue x.sound) p address n k first s o q tally) (ServesNext M (IsTrue y.sound) p k s t q m tally after (Err (host_stop e))) (KeepsOn N p address first n o m (Err e))
         (λ v u w i j. stop_kept L M N (IsTrue x.sound) (IsTrue y.sound) (λ r. omega (arith, r, later)) e v u w i j) h.served g
 
 -- ---- one more

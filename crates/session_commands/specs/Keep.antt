@@ -89,32 +89,33 @@ StaysRight old new = IfSome old (λ es. are_right es ≡ true → AreRight new)
 abbrev pub SessionsBy : Type 0 → ProfileView → ServerState → List (List ℕ) → List ℕ → ℕ → Total → Type 0
 SessionsBy link_rose p s given moments n r = Sessions IsWhole p s given moments n r ⊎ (link_rose × Sessions IsAny p s given moments n r)
 
--- n sessions from a server on were served, which sent what was sent: the entries of their new posts were added, and all rebuild the server after them, its
--- date aside
-abbrev pub KeepsSessions : Type 0 → ProfileView → ServerState → ℕ → Option (List Entry) → Option (List Entry) → View → View → Type 0
-KeepsSessions link_rose p s n entries now_entries v w =
-    (r : Total) × SessionsBy link_rose p s v.links v.moments n r × (w.written.links ≡ v.written.links ++ r.sent) × (now_entries ≡ with_more r.entries entries) × Tells now_entries r.server
+-- n sessions from a server on were served at an address, which sent what was sent: the entries of their new posts were added, and all rebuild the server
+-- after them, its date aside
+abbrev pub KeepsSessions : Type 0 → ProfileView → List ℕ → ServerState → ℕ → Option (List Entry) → Option (List Entry) → View → View → Type 0
+KeepsSessions link_rose p address s n entries now_entries v w =
+    (r : Total) × SessionsBy link_rose p s v.links v.moments n r × (w.written.links ≡ v.written.links ++ r.sent) × (0 < n → w.address ≡ Some address) × (now_entries ≡ with_more r.entries entries) × Tells now_entries r.server
 
 -- so of the first sessions, n at most
-abbrev pub KeepsFirst : Type 0 → ProfileView → ServerState → ℕ → Option (List Entry) → Option (List Entry) → View → View → Type 0
-KeepsFirst link_rose p s n entries now_entries v w = (k : ℕ) × (k ≤ n) × KeepsSessions link_rose p s k entries now_entries v w
+abbrev pub KeepsFirst : Type 0 → ProfileView → List ℕ → ServerState → ℕ → Option (List Entry) → Option (List Entry) → View → View → Type 0
+KeepsFirst link_rose p address s n entries now_entries v w = (k : ℕ) × (k ≤ n) × KeepsSessions link_rose p address s k entries now_entries v w
 
 -- What a run that stopped has kept: that of its first sessions where nobody could be listened to or taken, or Output failed; that of no session where
--- something was refused or unread. Where memory ran out or the keeper failed, its entries are right all the same.
-abbrev pub StopKeeps : Type 0 → Type 0 → StoreStop → Type 0
-StopKeeps Few Same (store_stop.Stop LinkFault) = Few
-StopKeeps Few Same (store_stop.Stop WriteFault) = Few
-StopKeeps Few Same (store_stop.Stop (Refused line)) = Same
-StopKeeps Few Same (store_stop.Stop ReadFault) = Same
-StopKeeps Few Same (store_stop.Stop (Peer line)) = Same
-StopKeeps Few Same (store_stop.Stop Memory) = Unit {0}
-StopKeeps Few Same store_stop.KeepFault = Unit {0}
+-- something was refused or unread. The keeper is asked only where the schema is the protocol's; where it failed, or memory ran out, its entries are right
+-- all the same.
+abbrev pub StopKeeps : Type 0 → Type 0 → Type 0 → StoreStop → Type 0
+StopKeeps Few Same Asked (store_stop.Stop LinkFault) = Few
+StopKeeps Few Same Asked (store_stop.Stop WriteFault) = Few
+StopKeeps Few Same Asked (store_stop.Stop (Refused line)) = Same
+StopKeeps Few Same Asked (store_stop.Stop ReadFault) = Same
+StopKeeps Few Same Asked (store_stop.Stop (Peer line)) = Same
+StopKeeps Few Same Asked (store_stop.Stop Memory) = Unit {0}
+StopKeeps Few Same Asked store_stop.KeepFault = Asked
 
 -- what a run has kept
-abbrev pub KeepsByFile : Type 0 → List ℕ → ℕ → Option (List Entry) → Option (List Entry) → Result Status StoreStop → View → View → Type 0
-KeepsByFile link_rose schema n entries now_entries (Ok status) v w = (h : HasProfile v.files schema) × (s : ServerState) × Starts entries s × KeepsSessions link_rose h.p s n entries now_entries v w
-KeepsByFile link_rose schema n entries now_entries (Err e) v w =
-    StopKeeps ((h : HasProfile v.files schema) × (s : ServerState) × Starts entries s × KeepsFirst link_rose h.p s n entries now_entries v w) (now_entries ≡ entries) e
+abbrev pub KeepsByFile : Type 0 → List ℕ → List ℕ → ℕ → Option (List Entry) → Option (List Entry) → Result Status StoreStop → View → View → Type 0
+KeepsByFile link_rose schema address n entries now_entries (Ok status) v w = (h : HasProfile v.files schema) × (s : ServerState) × Starts entries s × KeepsSessions link_rose h.p address s n entries now_entries v w
+KeepsByFile link_rose schema address n entries now_entries (Err e) v w =
+    StopKeeps ((h : HasProfile v.files schema) × (s : ServerState) × Starts entries s × KeepsFirst link_rose h.p address s n entries now_entries v w) (now_entries ≡ entries) (HasProfile v.files schema) e
 
 -- ---- room
 

@@ -34,7 +34,7 @@ pub fn serve_kept<H: Host, K: Keeper>(
     ensures works { WorksOver (keep_job (K.state keeper).entries schema.now address.now sessions) (H.state host.old) (H.state host.new) (host_end result.end) }
     ensures kept { Told (H.state host.old).view (H.state host.new).view (keep_job (K.state keeper).entries schema.now address.now sessions).keeps }
     ensures faults { MeetsFaultsOf (told_job (K.state keeper).entries schema.now address.now sessions) (H.state host.old) (H.state host.new) (status_of (host_end result.end)) }
-    ensures entries { Told (H.state host.old).view (H.state host.new).view (KeepsByFile (Rose (H.state host.old).counts.links (H.state host.new).counts.links) schema.now sessions (K.state keeper).entries (K.state result.keeper).entries result.end) }
+    ensures entries { Told (H.state host.old).view (H.state host.new).view (KeepsByFile (Rose (H.state host.old).counts.links (H.state host.new).counts.links) schema.now address.now sessions (K.state keeper).entries (K.state result.keeper).entries result.end) }
     ensures grows { Grows (K.state keeper).entries (K.state result.keeper).entries }
     ensures right { StaysRight (K.state keeper).entries (K.state result.keeper).entries }
     ensures used { Keeps (K.state keeper) (K.state result.keeper) (EndsByKeeper result.end) (RoomOver (H.state host.old).view (RoomForRun schema.now sessions (K.state keeper).room)) }
@@ -62,7 +62,7 @@ fn open_and_serve<H: Host, K: Keeper>(
     ensures works { WorksOver (sessions_job profile.now sessions (OfEntries (K.state keeper).entries address.now)) (H.state host.old) (H.state host.new) (host_end result.end) }
     ensures kept { Told (H.state host.old).view (H.state host.new).view KeepsServing }
     ensures faults { MeetsFaultsOf (sessions_job profile.now sessions (OfToldEntries (K.state keeper).entries address.now)) (H.state host.old) (H.state host.new) (status_of (host_end result.end)) }
-    ensures entries { Told (H.state host.old).view (H.state host.new).view (KeepsByEntries (Rose (H.state host.old).counts.links (H.state host.new).counts.links) profile.now sessions (K.state keeper).entries (K.state result.keeper).entries result.end) }
+    ensures entries { Told (H.state host.old).view (H.state host.new).view (KeepsByEntries (Rose (H.state host.old).counts.links (H.state host.new).counts.links) profile.now address.now sessions (K.state keeper).entries (K.state result.keeper).entries result.end) }
     ensures grows { Grows (K.state keeper).entries (K.state result.keeper).entries }
     ensures right { StaysRight (K.state keeper).entries (K.state result.keeper).entries }
     ensures used { Keeps (K.state keeper) (K.state result.keeper) (EndsByKeeper result.end) (RoomOver (H.state host.old).view (RoomByEntries profile.now sessions (K.state keeper).room)) }

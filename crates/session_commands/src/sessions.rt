@@ -32,7 +32,7 @@ pub fn serve_all<H: Host, K: Keeper>(
     ensures works { WorksOver (sessions_job profile.now sessions (OfSessions store.server address.now)) (H.state host.old) (H.state host.new) (host_end result.end) }
     ensures kept { Told (H.state host.old).view (H.state host.new).view KeepsServing }
     ensures faults { MeetsFaultsOf (sessions_job profile.now sessions (OfSessions store.server address.now)) (H.state host.old) (H.state host.new) (status_of (host_end result.end)) }
-    ensures entries { Told (H.state host.old).view (H.state host.new).view (KeepsOn (Rose (H.state host.old).counts.links (H.state host.new).counts.links) profile.now store.server sessions (K.state store.keeper).entries (K.state result.keeper).entries result.end) }
+    ensures entries { Told (H.state host.old).view (H.state host.new).view (KeepsOn (Rose (H.state host.old).counts.links (H.state host.new).counts.links) profile.now address.now store.server sessions (K.state store.keeper).entries (K.state result.keeper).entries result.end) }
     ensures grows { Grows (K.state store.keeper).entries (K.state result.keeper).entries }
     ensures right { AreRight (K.state result.keeper).entries }
     ensures used { Keeps (K.state store.keeper) (K.state result.keeper) (EndsByKeeper result.end) (RoomOver (H.state host.old).view (RoomForAll profile.now store.server sessions (K.state store.keeper).room)) }

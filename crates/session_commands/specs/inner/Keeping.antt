@@ -65,9 +65,9 @@ RoomForNext p s room v es = RoomFor p MAX_FRAMES (dated_at s (next_moment v)) (S
 -- ---- sessions in turn
 
 -- what a run of sessions kept
-abbrev pub KeepsOn : Type 0 → ProfileView → ServerState → ℕ → Option (List Entry) → Option (List Entry) → Result Status StoreStop → View → View → Type 0
-KeepsOn link_rose p s n entries now_entries (Ok status) v w = KeepsSessions link_rose p s n entries now_entries v w
-KeepsOn link_rose p s n entries now_entries (Err e) v w = StopKeeps (KeepsFirst link_rose p s n entries now_entries v w) ⊥ e
+abbrev pub KeepsOn : Type 0 → ProfileView → List ℕ → ServerState → ℕ → Option (List Entry) → Option (List Entry) → Result Status StoreStop → View → View → Type 0
+KeepsOn link_rose p address s n entries now_entries (Ok status) v w = KeepsSessions link_rose p address s n entries now_entries v w
+KeepsOn link_rose p address s n entries now_entries (Err e) v w = StopKeeps (KeepsFirst link_rose p address s n entries now_entries v w) ⊥ (Unit {0}) e
 
 -- so far each session's new posts were kept, and no call to the keeper failed
 pub record StoresSo (old new : KeeperState) : Type 0 where
@@ -77,10 +77,10 @@ pub record StoresSo (old new : KeeperState) : Type 0 where
 -- ---- from a keeper on
 
 -- what a run has kept
-abbrev pub KeepsByEntries : Type 0 → ProfileView → ℕ → Option (List Entry) → Option (List Entry) → Result Status StoreStop → View → View → Type 0
-KeepsByEntries link_rose p n entries now_entries (Ok status) v w = (s : ServerState) × Starts entries s × KeepsSessions link_rose p s n entries now_entries v w
-KeepsByEntries link_rose p n entries now_entries (Err e) v w =
-    StopKeeps ((s : ServerState) × Starts entries s × KeepsFirst link_rose p s n entries now_entries v w) (now_entries ≡ entries) e
+abbrev pub KeepsByEntries : Type 0 → ProfileView → List ℕ → ℕ → Option (List Entry) → Option (List Entry) → Result Status StoreStop → View → View → Type 0
+KeepsByEntries link_rose p address n entries now_entries (Ok status) v w = (s : ServerState) × Starts entries s × KeepsSessions link_rose p address s n entries now_entries v w
+KeepsByEntries link_rose p address n entries now_entries (Err e) v w =
+    StopKeeps ((s : ServerState) × Starts entries s × KeepsFirst link_rose p address s n entries now_entries v w) (now_entries ≡ entries) (Unit {0}) e
 
 -- there is room for the entries with what sessions from the server that they rebuild may add
 abbrev pub RoomByEntries : ProfileView → ℕ → ℕ → View → List Entry → Type 0

@@ -147,6 +147,7 @@ pub record NextUntold (p : ProfileView) (k : ℕ) (s : ServerState) (entries now
   pub appended : now_entries ≡ with_more more entries
   pub tells : Tells now_entries server
   pub links : w.written.links ≡ v.written.links ++ sent ∷ []
+  pub address : w.address ≡ v.address
   pub output : AddsPrefix v.written.output w.written.output (served_line k frames)
   pub errors : w.written.errors ≡ v.written.errors
 

@@ -17,7 +17,7 @@ returns-in-Ok-clause-faults g c =
 
 pub returns-in-Ok-clause-entries : goal.returns-in-Ok-clause-entries
 returns-in-Ok-clause-entries g c =
-    opened_kept _ c.args.profile.now c.args.sessions (g.K.Keeper.state c.args.keeper).entries _ _ c.in-Ok.store.server (starts_of _ _ c.in-Ok.ensures.opens) c.in-Ok.ensures.entries c.serve_all.result.end _ _ c.serve_all.ensures.entries
+    opened_kept _ c.args.profile.now c.args.address.now c.args.sessions (g.K.Keeper.state c.args.keeper).entries _ _ c.in-Ok.store.server (starts_of _ _ c.in-Ok.ensures.opens) c.in-Ok.ensures.entries c.serve_all.result.end _ _ c.serve_all.ensures.entries
 
 pub returns-in-Ok-clause-used : goal.returns-in-Ok-clause-used
 returns-in-Ok-clause-used g c =
@@ -32,5 +32,5 @@ returns-in-Err-BadEntry-clause-works g c =
 
 pub returns-in-Err-BadEntry-clause-entries : goal.returns-in-Err-BadEntry-clause-entries
 returns-in-Err-BadEntry-clause-entries g c =
-    unopened_kept _ c.args.profile.now c.args.sessions _ _ c.bad_entry.result c.ended.result.end _ c.ended.ensures.end
+    unopened_kept _ c.args.profile.now c.args.address.now c.args.sessions _ _ c.bad_entry.result c.ended.result.end _ c.ended.ensures.end
     (ap (λ k. (g.K.Keeper.state k).entries) c.ended.ensures.keeper ∙ sym (ap (λ f. (g.K.Keeper.state (opened_keeper (Err f))).entries) c.in-Err-BadEntry.field-0-is) ∙ c.in-Err-BadEntry.ensures.entries)

@@ -38,7 +38,7 @@ returns-clause-faults g c =
 
 pub returns-clause-entries : goal.returns-clause-entries
 returns-clause-entries g c =
-    file_kept c.args.schema.now c.args.sessions _ _ (λ r. rose_kept _ _ _ (search rules) r) _ _ c.open_and_serve.result.end c.in-Ok.schema c.in-Ok-profile_of.profile c.in-Ok-profile_of.ensures _ _ _ c.in-Ok.ensures.loads c.open_and_serve.ensures.entries
+    file_kept c.args.schema.now c.args.sessions _ _ (λ r. rose_kept _ _ _ (search rules) r) c.args.address.now _ _ c.open_and_serve.result.end c.in-Ok.schema c.in-Ok-profile_of.profile c.in-Ok-profile_of.ensures _ _ _ c.in-Ok.ensures.loads c.open_and_serve.ensures.entries
 
 pub returns-clause-used : goal.returns-clause-used
 returns-clause-used g c =
