@@ -1,6 +1,6 @@
 -- What a decoder has after bytes, and what it answers for a piece.
-use Rattle.std.proofs.Common.{◌≡◌, ℕ, ◌-◌, ◌<◌, ◌≤◌, List, [], ◌++◌, length, drop, Option, Some, None, Result, Ok, Err, refl, ap, sym, ◌∙◌, subst, arith, append_assoc, append-nil, true≢false, false, inl, inr}
-use Rattle.std.specs.Prelude.{◌≢◌}
+use Rattle.std.proofs.Common.{◌≡◌, ℕ, ◌-◌, ◌<◌, ◌≤◌, List, [], ◌++◌, length, drop, Option, Some, None, Result, Ok, Err, refl, ap, sym, ◌∙◌, subst, arith, append_assoc, append-nil, true≢false, inl, inr}
+use Rattle.std.specs.Prelude.{◌≢◌, IfErr}
 use Rattle.std.proofs.lemmas.List.{length-append, length-drop}
 use Rattle.tl_base.specs.Contents.{AreBytes}
 use Rattle.tl_schema.specs.Types.{Shape}
@@ -20,15 +20,17 @@ use Rattle.tl_types.specs.declared.value.TheConstants.{MAX_LEVELS}
 use Rattle.tl_decode.specs.declared.fault.DecodeFault.{DecodeFault}
 use Rattle.tl_decode.specs.declared.fault.DecodeFault.TheVariants as fault
 use Rattle.tl_decode.specs.declared.stack.Frame.{Frame}
-use Rattle.tl_decode.specs.declared.stack.Wanted.{Wanted}
+use Rattle.tl_decode.specs.declared.stack.Progress.{Progress}
+use Rattle.tl_decode.specs.declared.stack.Progress.TheVariants as progress
+use Rattle.tl_decode.specs.declared.stack.Reading.{Reading}
 use Rattle.tl_decode.specs.declared.stack.Next.TheVariants as next
 use Rattle.tl_decode.specs.declared.stack.Found.{Found}
 use Rattle.tl_decode.specs.declared.stack.Found.TheVariants as found
 use Rattle.tl_decode.specs.declared.stack.Fed.{Fed}
 use Rattle.tl_decode.specs.declared.stack.Fed.TheVariants as fed
-use Rattle.tl_decode.specs.inner.Frames.{views, type_in, found_at, next_at, resume, resumes, is_truncated, SettlesAt}
-use Rattle.tl_decode.specs.inner.Needs.{IsInOrder, PieceLess, TakesPiece, piece_work, reads_on}
-use Rattle.tl_decode.specs.Decoders.{DecoderView, EachRefusalStays, HasFound, HasStopped, HasTaken, HasValue, GivesEnd, GivesRefusal, GivesMore, pieces_left, reads_all}
+use Rattle.tl_decode.specs.inner.Frames.{views, type_in, found_at, next_at, resume, resumes, is_truncated, AreWell, SettlesAt}
+use Rattle.tl_decode.specs.inner.Needs.{IsInOrder, TakesPiece, piece_work, reads_on}
+use Rattle.tl_decode.specs.Decoders.{DecoderView, EachRefusalStays, Feeds, HasCome, HasTaken, GivesEnd, GivesRefusal, GivesMore, IsDecoder, pieces_left, reads_all, stopped, stopped_by, work_left}
 use Rattle.tl_types.proofs.Exactly.{exactly_one}
 use Rattle.tl_decode.proofs.FrameLists.{resume_err}
 use Rattle.tl_decode.proofs.HeldBytes.{item_cut}
@@ -41,66 +43,68 @@ use Rattle.tl_decode.proofs.Outcomes.{same_ok, never_err, same_err, reads, fails
 
 -- the answer for a piece after which these bytes were taken, of which there were so many before
 abbrev pub Told : DecoderView → List ℕ → ℕ → Result Fed DecodeFault → Type 0
-Told d bytes before (Ok fed.More) = (W : Wanted) × IsInOrder d.plan d.frames (found.Wants W) d.held × HasFound d bytes (found.Wants W)
-Told d bytes before (Ok (fed.Done used)) =
-    (v : Value) × (rest : List ℕ) × (d.found ≡ found.Done v) × (d.stopped ≡ None) × ((more : List ℕ) → reads_all d (bytes ++ more) ≡ Ok (view v, spot d.at (rest ++ more))) × (used ≡ (length bytes - before) - length rest)
-Told d bytes before (Err (fault.Refused offset cause)) = (is_truncated cause ≡ false) × ((more : List ℕ) → reads_all d (bytes ++ more) ≡ Err (offset, cause))
-Told d bytes before (Err fault.ReadFault) = ⊥
-Told d bytes before (Err fault.Memory) = Unit {0}
+Told d bytes before (Ok fed.More) = (r : Reading) × HasCome d bytes (progress.Reading r)
+Told d bytes before (Ok (fed.Done used)) = (v : Value) × (come : HasCome d bytes (progress.Done v)) × (d.progress ≡ progress.Done v) × (used ≡ (length bytes - before) - length come.0)
+Told d bytes before (Err e) = HasCome d bytes (progress.Stopped e)
 
 module _ (d : DecoderView) (bytes : List ℕ) where
   at_end : {r : List ℕ → Read ValueView} → ((more : List ℕ) → reads_all d (bytes ++ more) ≡ r more) → reads_all d bytes ≡ r []
   at_end h = ap (reads_all d) (sym (append-nil bytes)) ∙ h []
 
   -- an item that isn't whole is cut off where the input ends
-  cut_at : (W : Wanted) → IsInOrder d.plan d.frames (found.Wants W) d.held → HasFound d bytes (found.Wants W) → reads_all d bytes ≡ Err (d.at, Truncated)
-  cut_at W o h =
-      at_end {r = λ more. reads_on d.plan d.frames (found.Wants W) d.at d.held more} h
-      ∙ ap (λ (z : List ℕ). found_at d.plan (views d.plan d.frames) (found.Wants W) (spot d.at z)) (append-nil d.held)
-      ∙ ap (resumes d.plan (views d.plan d.frames)) (item_fails d.plan (views d.plan d.frames) W (spot d.at d.held) d.at Truncated (item_cut W d.at d.held o.begins)) ∙ resume_err d.plan.schema.decls MAX_LEVELS (views d.plan d.frames) _
+  cut_at : (r : Reading) → HasCome d bytes (progress.Reading r) → reads_all d bytes ≡ Err (d.at, Truncated)
+  cut_at r h =
+      let held = r.held.items in
+      at_end {r = λ more. reads_on d.plan r d.at more} h.1
+      ∙ ap (λ (z : List ℕ). found_at d.plan (views d.plan r.frames.items) (found.Wants r.wanted) (spot d.at z)) (append-nil held)
+      ∙ ap (resumes d.plan (views d.plan r.frames.items)) (item_fails d.plan (views d.plan r.frames.items) r.wanted (spot d.at held) d.at Truncated (item_cut r.wanted d.at held h.0.begins)) ∙ resume_err d.plan.schema.decls MAX_LEVELS (views d.plan r.frames.items) _
 
-  pub done_at : (v : Value) (rest : List ℕ) → ((more : List ℕ) → reads_all d (bytes ++ more) ≡ Ok (view v, spot d.at (rest ++ more))) → reads_all d bytes ≡ Ok (view v, spot d.at rest)
-  done_at v rest h = at_end {r = λ more. Ok (view v, spot d.at (rest ++ more))} h ∙ ap (λ (z : List ℕ). Ok (view v, spot d.at z)) (append-nil rest)
+  pub done_at : (v : Value) (h : HasCome d bytes (progress.Done v)) → reads_all d bytes ≡ Ok (view v, spot d.at h.0)
+  done_at v h = at_end {r = λ more. Ok (view v, spot d.at (h.0 ++ more))} h.1 ∙ ap (λ (z : List ℕ). Ok (view v, spot d.at z)) (append-nil h.0)
 
-  stop_at : (offset : ℕ) (cause : Cause) → ((more : List ℕ) → reads_all d (bytes ++ more) ≡ Err (offset, cause)) → reads_all d bytes ≡ Err (offset, cause)
-  stop_at offset cause h = at_end {r = λ more. Err (offset, cause)} h
+  stop_at : (offset : ℕ) (cause : Cause) → HasCome d bytes (progress.Stopped (fault.Refused offset cause)) → reads_all d bytes ≡ Err (offset, cause)
+  stop_at offset cause h = at_end {r = λ more. Err (offset, cause)} h.1
 
   module _ (before : ℕ) where
     pub gives_end : (r : Result Fed DecodeFault) → Told d bytes before r → (v : ValueView) (x rest : List ℕ) (q : ℕ) → bytes ≡ x ++ rest → reads_all d bytes ≡ Ok (v, spot q rest) → GivesEnd d before r v (length x)
-    gives_end (Ok fed.More) t v x rest q split e = never_err (sym (cut_at t.0 t.1 t.2) ∙ e)
+    gives_end (Ok fed.More) t v x rest q split e = never_err (sym (cut_at t.0 t.1) ∙ e)
     gives_end (Ok (fed.Done used)) t v x rest q split e =
-        let both = same_ok (sym (done_at t.0 t.1 t.4) ∙ e) in
-        let left : length t.1 ≡ length rest = ap (λ (y : ValueView × Spot). length y.1.bytes) both in
-        (omega (arith, t.5, left, ap length split, length-append x rest), (t.0, t.2, t.3, ap (λ (y : ValueView × Spot). y.0) both))
-    gives_end (Err (fault.Refused offset cause)) t v x rest q split e = never_err (sym (stop_at offset cause t.1) ∙ e)
+        let both = same_ok (sym (done_at t.0 t.1) ∙ e) in
+        let left : length t.1.0 ≡ length rest = ap (λ (y : ValueView × Spot). length y.1.bytes) both in
+        (omega (arith, t.3, left, ap length split, length-append x rest), (t.0, t.2, ap (λ (y : ValueView × Spot). y.0) both))
+    gives_end (Err (fault.Refused offset cause)) t v x rest q split e = never_err (sym (stop_at offset cause t) ∙ e)
     gives_end (Err fault.ReadFault) t v x rest q split e = t
     gives_end (Err fault.Memory) t v x rest q split e = tt
 
     pub gives_refusal : (r : Result Fed DecodeFault) → Told d bytes before r → (offset : ℕ) (cause : Cause) → cause ≢ Truncated → reads_all d bytes ≡ Err (offset, cause) → GivesRefusal r offset cause
-    gives_refusal (Ok fed.More) t offset cause other e = other (sym (same_err (sym (cut_at t.0 t.1 t.2) ∙ e)).1)
-    gives_refusal (Ok (fed.Done used)) t offset cause other e = never_err (sym e ∙ done_at t.0 t.1 t.4)
-    gives_refusal (Err (fault.Refused place why)) t offset cause other e = same_err (sym (stop_at place why t.1) ∙ e)
+    gives_refusal (Ok fed.More) t offset cause other e = other (sym (same_err (sym (cut_at t.0 t.1) ∙ e)).1)
+    gives_refusal (Ok (fed.Done used)) t offset cause other e = never_err (sym e ∙ done_at t.0 t.1)
+    gives_refusal (Err (fault.Refused place why)) t offset cause other e = same_err (sym (stop_at place why t) ∙ e)
     gives_refusal (Err fault.ReadFault) t offset cause other e = t
     gives_refusal (Err fault.Memory) t offset cause other e = tt
 
     pub gives_more : (r : Result Fed DecodeFault) → Told d bytes before r → (offset : ℕ) → reads_all d bytes ≡ Err (offset, Truncated) → GivesMore d r offset
-    gives_more (Ok fed.More) t offset e = (same_err (sym (cut_at t.0 t.1 t.2) ∙ e)).0
-    gives_more (Ok (fed.Done used)) t offset e = never_err (sym e ∙ done_at t.0 t.1 t.4)
-    gives_more (Err (fault.Refused place why)) t offset e = true≢false (sym (ap is_truncated (same_err (sym (stop_at place why t.1) ∙ e)).1) ∙ t.0)
+    gives_more (Ok fed.More) t offset e = (same_err (sym (cut_at t.0 t.1) ∙ e)).0
+    gives_more (Ok (fed.Done used)) t offset e = never_err (sym e ∙ done_at t.0 t.1)
+    gives_more (Err (fault.Refused place why)) t offset e = true≢false (sym (ap is_truncated (same_err (sym (stop_at place why t) ∙ e)).1) ∙ t.0)
     gives_more (Err fault.ReadFault) t offset e = t
     gives_more (Err fault.Memory) t offset e = tt
 
   -- where the input is cut off
-  pub ends_at : (stopped : Option DecodeFault) → HasStopped d bytes stopped → (offset : ℕ) → reads_all d bytes ≡ Err (offset, Truncated) → stopped ≢ Some fault.Memory → d.at ≡ offset
-  ends_at None h offset e other = by d.found refl
-    where
-      by : (f : Found) → d.found ≡ f → d.at ≡ offset
-      by (found.Wants W) is =
-          (same_err (sym (cut_at W (subst (λ (g : Found). IsInOrder d.plan d.frames g d.held) is h.0) (subst (HasFound d bytes) is h.1)) ∙ e)).0
-      by (found.Done v) is = let own = subst (HasFound d bytes) is h.1 in never_err (sym e ∙ done_at v own.0 own.1)
-  ends_at (Some (fault.Refused place why)) h offset e other = absurd (true≢false (sym (ap is_truncated (same_err (sym (stop_at place why h.1) ∙ e)).1) ∙ h.0))
-  ends_at (Some fault.ReadFault) h offset e other = absurd h
-  ends_at (Some fault.Memory) h offset e other = absurd (other refl)
+  ends_at : (now : Progress) → HasCome d bytes now → (offset : ℕ) → reads_all d bytes ≡ Err (offset, Truncated) → stopped_by now ≢ Some fault.Memory → d.at ≡ offset
+  ends_at (progress.Reading r) h offset e other = (same_err (sym (cut_at r h) ∙ e)).0
+  ends_at (progress.Done v) h offset e other = never_err (sym e ∙ done_at v h)
+  ends_at (progress.Stopped (fault.Refused place why)) h offset e other = absurd (true≢false (sym (ap is_truncated (same_err (sym (stop_at place why h) ∙ e)).1) ∙ h.0))
+  ends_at (progress.Stopped fault.ReadFault) h offset e other = absurd h
+  ends_at (progress.Stopped fault.Memory) h offset e other = absurd (other refl)
+
+  -- where the value is there
+  value_ends_at : (now : Progress) → HasCome d bytes now → (v : ValueView) (offset : ℕ) (rest : List ℕ) → reads_all d bytes ≡ Ok (v, spot offset rest) → stopped_by now ≢ Some fault.Memory → d.at ≡ offset
+  value_ends_at (progress.Reading r) h v offset rest e other = never_err (sym (cut_at r h) ∙ e)
+  value_ends_at (progress.Done w) h v offset rest e other = ap (λ (y : ValueView × Spot). y.1.place) (same_ok (sym (done_at w h) ∙ e))
+  value_ends_at (progress.Stopped (fault.Refused place why)) h v offset rest e other = never_err (sym (stop_at place why h) ∙ e)
+  value_ends_at (progress.Stopped fault.ReadFault) h v offset rest e other = absurd h
+  value_ends_at (progress.Stopped fault.Memory) h v offset rest e other = absurd (other refl)
 
 -- ---- what the bytes read as
 
@@ -121,151 +125,194 @@ module _ (p : PlanView) (root : ℕ) (fs none : List Frame) (work : ℕ) (empty 
   unfolding resume
   opens s = refl
 
-  first : (r : Result Found DecodeFault) → SettlesAt p (next_at p (views p none) (next.Open root)) work 0 fs r → SettlesAt p (next_at p [] (next.Open root)) work 0 fs r
+  abbrev pub Settled : Result Found DecodeFault → Type 0
+  Settled r = SettlesAt p (next_at p (views p none) (next.Open root)) work 0 fs r
+
+  abbrev pub HasBegun : Progress → Type 0
+  HasBegun now = HasTaken (record { plan = p; root = root; progress = now; at = 0 }) []
+
+  first : (r : Result Found DecodeFault) → Settled r → SettlesAt p (next_at p [] (next.Open root)) work 0 fs r
   first r s = subst (λ (z : List Frame). SettlesAt p (next_at p (views p z) (next.Open root)) work 0 fs r) empty s
 
-  new_found : (f : Found) (held : List ℕ) → held ≡ [] → SettlesAt p (next_at p [] (next.Open root)) work 0 fs (Ok f) → HasStopped (record { plan = p; root = root; frames = fs; found = f; at = 0; held = held; stopped = None }) [] None
-  new_found (found.Wants W) held e s = (
-    record { frames = s.0.frames; well = s.0.is_well; begins = rw e (begins_none p (found.Wants W) s.0.is_well) },
-    λ more. sym (opens (spot 0 more)) ∙ s.0.same (spot 0 more) ∙ ap (λ (z : List ℕ). reads_on p fs (found.Wants W) 0 z more) (sym e),
-  )
-  new_found (found.Done v) held e s = (record { frames = s.0.frames; well = s.0.is_well; begins = e }, ([], λ more. sym (opens (spot 0 more)) ∙ s.0.same (spot 0 more)))
-
-  pub taken_new : (f : Found) (held : List ℕ) → held ≡ [] → SettlesAt p (next_at p (views p none) (next.Open root)) work 0 fs (Ok f) → HasTaken (record { plan = p; root = root; frames = fs; found = f; at = 0; held = held; stopped = None }) []
+  pub begun_reading : (r : Reading) → r.frames.items ≡ fs → r.held.items ≡ [] → Settled (Ok (found.Wants r.wanted)) → HasBegun (progress.Reading r)
   unfolding HasTaken
-  taken_new f held e s = new_found f held e (first (Ok f) s)
+  begun_reading r same held s =
+      let t = first (Ok (found.Wants r.wanted)) s in (
+        record { frames = subst (AreWell p) (sym same) t.0.frames; well = t.0.is_well; begins = rw held (begins_none p r.wanted t.0.is_well) },
+        λ more. sym (opens (spot 0 more)) ∙ t.0.same (spot 0 more) ∙ ap (λ (z : List Frame). found_at p (views p z) (found.Wants r.wanted) (spot 0 more)) (sym same) ∙ ap (λ (z : List ℕ). found_at p (views p r.frames.items) (found.Wants r.wanted) (spot 0 (z ++ more))) (sym held),
+      )
 
-  new_stopped : (e : DecodeFault) (f : Found) (held : List ℕ) → SettlesAt p (next_at p [] (next.Open root)) work 0 fs (Err e) → HasStopped (record { plan = p; root = root; frames = fs; found = f; at = 0; held = held; stopped = Some e }) [] (Some e)
-  new_stopped (fault.Refused place cause) f held s = (s.0, λ more. sym (opens (spot 0 more)) ∙ s.1 more)
-  new_stopped fault.ReadFault f held s = s
-  new_stopped fault.Memory f held s = tt
-
-  pub taken_stopped : (e : DecodeFault) (f : Found) (held : List ℕ) → SettlesAt p (next_at p (views p none) (next.Open root)) work 0 fs (Err e) → HasTaken (record { plan = p; root = root; frames = fs; found = f; at = 0; held = held; stopped = Some e }) []
+  pub begun_done : (v : Value) → Settled (Ok (found.Done v)) → HasBegun (progress.Done v)
   unfolding HasTaken
-  taken_stopped e f held s = new_stopped e f held (first (Err e) s)
+  begun_done v s = let t = first (Ok (found.Done v)) s in ([], λ more. sym (opens (spot 0 more)) ∙ t.0.same (spot 0 more))
+
+  pub begun_stopped : (e : DecodeFault) → Settled (Err e) → HasBegun (progress.Stopped e)
+  unfolding HasTaken
+  begun_stopped (fault.Refused place cause) s = let t = first (Err (fault.Refused place cause)) s in (t.0, λ more. sym (opens (spot 0 more)) ∙ t.1 more)
+  begun_stopped fault.ReadFault s = s
+  begun_stopped fault.Memory s = tt
 
 -- ---- a piece
 
 -- what a piece leaves: the answer and the bytes that were taken
-pub record Fits (d : DecoderView) (bytes : List ℕ) (before : ℕ) (r : Result Fed DecodeFault) : Type 0 where
-  pub told : Told d bytes before r
-  pub taken : HasTaken d bytes
+record Fits (d : DecoderView) (bytes : List ℕ) (before : ℕ) (r : Result Fed DecodeFault) : Type 0 where
+  told : Told d bytes before r
+  taken : HasTaken d bytes
 
 module _ (d : DecoderView) (bytes piece : List ℕ) where
   regroup : {r : List ℕ → Read ValueView} → ((more : List ℕ) → reads_all d (bytes ++ more) ≡ r more) → (more : List ℕ) → reads_all d ((bytes ++ piece) ++ more) ≡ r (piece ++ more)
   regroup h more = ap (reads_all d) (append_assoc bytes piece more) ∙ h (piece ++ more)
 
-  -- a decoder that has stopped
-  stays_stopped : (e : DecodeFault) → HasStopped d bytes (Some e) → HasStopped d (bytes ++ piece) (Some e) × Told d (bytes ++ piece) (length bytes) (Err e)
-  stays_stopped (fault.Refused place cause) h = ((h.0, regroup {r = λ more. Err (place, cause)} h.1), (h.0, regroup {r = λ more. Err (place, cause)} h.1))
-  stays_stopped fault.ReadFault h = absurd h
-  stays_stopped fault.Memory h = (tt, tt)
-
-  pub fits_stopped : (e : DecodeFault) → d.stopped ≡ Some e → HasTaken d bytes → Fits d (bytes ++ piece) (length bytes) (Err e)
+  -- what has come of some bytes
+  come : {now : Progress} → d.progress ≡ now → HasTaken d bytes → HasCome d bytes now
   unfolding HasTaken
-  fits_stopped e is h =
-      let both = stays_stopped e (subst (HasStopped d bytes) is h) in
-      record { told = both.1; taken = subst (HasStopped d (bytes ++ piece)) (sym is) both.0 }
+  come is h = subst (HasCome d bytes) is h
+
+  -- a decoder that has stopped
+  stays_stopped : (e : DecodeFault) → HasCome d bytes (progress.Stopped e) → HasCome d (bytes ++ piece) (progress.Stopped e)
+  stays_stopped (fault.Refused place cause) h = (h.0, regroup {r = λ more. Err (place, cause)} h.1)
+  stays_stopped fault.ReadFault h = h
+  stays_stopped fault.Memory h = tt
+
+  fits_stopped : (e : DecodeFault) → d.progress ≡ progress.Stopped e → HasTaken d bytes → Fits d (bytes ++ piece) (length bytes) (Err e)
+  unfolding HasTaken
+  fits_stopped e is h = let now = stays_stopped e (come is h) in record { told = now; taken = subst (HasCome d (bytes ++ piece)) (sym is) now }
 
   -- one that is done
-  pub fits_done : (v : Value) → d.stopped ≡ None → d.found ≡ found.Done v → HasTaken d bytes → Fits d (bytes ++ piece) (length bytes) (Ok (fed.Done 0))
+  fits_done : (v : Value) → d.progress ≡ progress.Done v → HasTaken d bytes → Fits d (bytes ++ piece) (length bytes) (Ok (fed.Done 0))
   unfolding HasTaken
-  fits_done v none is h =
-      let own = subst (HasStopped d bytes) none h in
-      let done = subst (HasFound d bytes) is own.1 in
-      let more : (z : List ℕ) → reads_all d ((bytes ++ piece) ++ z) ≡ Ok (view v, spot d.at ((done.0 ++ piece) ++ z)) = λ z. regroup {r = λ more. Ok (view v, spot d.at (done.0 ++ more))} done.1 z ∙ ap (λ (y : List ℕ). Ok (view v, spot d.at y)) (sym (append_assoc done.0 piece z)) in
-      record {
-        told = (v, done.0 ++ piece, is, none, more, omega (arith, length-append bytes piece, length-append done.0 piece));
-        taken = subst (HasStopped d (bytes ++ piece)) (sym none) (own.0, subst (HasFound d (bytes ++ piece)) (sym is) (done.0 ++ piece, more));
-      }
+  fits_done v is h =
+      let was = come is h in
+      let now : HasCome d (bytes ++ piece) (progress.Done v) = (was.0 ++ piece, λ more. regroup {r = λ more. Ok (view v, spot d.at (was.0 ++ more))} was.1 more ∙ ap (λ (y : List ℕ). Ok (view v, spot d.at y)) (sym (append_assoc was.0 piece more))) in
+      record { told = (v, now, is, omega (arith, length-append bytes piece, length-append was.0 piece)); taken = subst (HasCome d (bytes ++ piece)) (sym is) now }
 
   -- one that goes on
-  module _ (f : Found) (none : d.stopped ≡ None) (is : d.found ≡ f) (fs : List Frame) (at : ℕ) (held : List ℕ) where
-    abbrev old : List ℕ → Read ValueView
-    old = reads_on d.plan d.frames f d.at d.held
+  module _ (r : Reading) (is : d.progress ≡ progress.Reading r) (h : HasTaken d bytes) (new : Reading) (at : ℕ) where
+    abbrev after : Progress → DecoderView
+    after now = record { plan = d.plan; root = d.root; progress = now; at = at }
 
-    abbrev after : Found → Option DecodeFault → DecoderView
-    after g stopped = record { plan = d.plan; root = d.root; frames = fs; found = g; at = at; held = held; stopped = stopped }
+    abbrev Takes : Result (Option (Value × ℕ)) DecodeFault → Type 0
+    Takes s = TakesPiece d.plan (reads_on d.plan r d.at) piece new at s
 
-    goes_old : HasTaken d bytes → ((v : Value) → f ≡ found.Done v → ⊥) → (more : List ℕ) → reads_all d ((bytes ++ piece) ++ more) ≡ old (piece ++ more)
+    goes : (more : List ℕ) → reads_all d ((bytes ++ piece) ++ more) ≡ reads_on d.plan r d.at (piece ++ more)
+    goes more = regroup {r = λ z. reads_on d.plan r d.at z} (come is h).1 more
+
+    fits_more : Takes (Ok None) → Fits (after (progress.Reading new)) (bytes ++ piece) (length bytes) (Ok fed.More)
     unfolding HasTaken
-    goes_old h not_done more = by f refl
+    fits_more t = let now : HasCome (after (progress.Reading new)) (bytes ++ piece) (progress.Reading new) = (t.0, λ more. goes more ∙ t.1 more) in record { told = (new, now); taken = now }
+
+    fits_end : (v : Value) (used : ℕ) → Takes (Ok (Some (v, used))) → Fits (after (progress.Done v)) (bytes ++ piece) (length bytes) (Ok (fed.Done used))
+    unfolding HasTaken
+    fits_end v used t =
+        let now : HasCome (after (progress.Done v)) (bytes ++ piece) (progress.Done v) = (drop used piece, λ more. goes more ∙ t.1 more) in
+        record { told = (v, now, refl, omega (arith, t.0, length-append bytes piece, length-drop used piece)); taken = now }
+
+    stops : (e : DecodeFault) → Takes (Err e) → HasCome (after (progress.Stopped e)) (bytes ++ piece) (progress.Stopped e)
+    stops (fault.Refused place cause) t = (t.0, λ more. goes more ∙ t.1 more)
+    stops fault.ReadFault t = t
+    stops fault.Memory t = tt
+
+    fits_err : (e : DecodeFault) → Takes (Err e) → Fits (after (progress.Stopped e)) (bytes ++ piece) (length bytes) (Err e)
+    unfolding HasTaken
+    fits_err e t = let now = stops e t in record { told = now; taken = now }
+
+-- ---- what a piece does
+
+-- a decoder that goes on is in order
+pub in_order : (d : DecoderView) (r : Reading) → IsDecoder d → d.progress ≡ progress.Reading r → IsInOrder d.plan r
+in_order d r good is = (come d good.taken.0 [] is good.taken.1).0
+
+-- of the same decoder
+pub feeds_same : (d e new : DecoderView) (piece : List ℕ) (r : Result Fed DecodeFault) → d ≡ e → Feeds d new piece r → Feeds e new piece r
+feeds_same d e new piece r is f = subst (λ (z : DecoderView). Feeds z new piece r) is f
+
+-- it is a decoder again
+pub still_decoder : (d new : DecoderView) (piece : List ℕ) (r : Result Fed DecodeFault) → IsDecoder d → Feeds d new piece r → IsDecoder new
+still_decoder d new piece r good f = record {
+  sound = subst IsPlan (sym f.plan) good.sound;
+  root = subst (λ (p : PlanView). new.root < p.roots) (sym f.plan) (subst (λ (k : ℕ). k < d.plan.roots) (sym f.root) good.root);
+  taken = (good.taken.0 ++ piece, f.taken good.taken.0 good.taken.1);
+}
+
+module _ (d new : DecoderView) (piece : List ℕ) (r : Result Fed DecodeFault) (good : IsDecoder d) (plan : new.plan ≡ d.plan) (root : new.root ≡ d.root) (fits : (bytes : List ℕ) → HasTaken d bytes → Fits new (bytes ++ piece) (length bytes) r) where
+  as_new : (bytes : List ℕ) (x : Read ValueView) → reads_all d bytes ≡ x → reads_all new bytes ≡ x
+  as_new bytes x e = ap (λ (p : PlanView). value_at p.schema.decls MAX_LEVELS (type_in p new.root) (spot 0 bytes)) plan ∙ ap (λ (k : ℕ). value_at d.plan.schema.decls MAX_LEVELS (type_in d.plan k) (spot 0 bytes)) root ∙ e
+
+  -- what was answered, after some bytes that were taken
+  told_of : {s : Result Fed DecodeFault} → r ≡ s → Told new (good.taken.0 ++ piece) (length good.taken.0) s
+  told_of e = subst (Told new (good.taken.0 ++ piece) (length good.taken.0)) e (fits good.taken.0 good.taken.1).told
+
+  feeds : (0 < length piece → r ≡ Ok fed.More → pieces_left new < pieces_left d) → IfErr r (λ e. stopped new ≡ Some e) → ((e : DecodeFault) → stopped d ≡ Some e → r ≡ Err e) → Feeds d new piece r
+  feeds less stays again = record {
+    plan = plan;
+    root = root;
+    taken = λ bytes h. (fits bytes h).taken;
+    spelled = λ bytes h T is v x rest split s deep.
+        gives_end new (bytes ++ piece) (length bytes) r (fits bytes h).told v x rest (moved 0 (length x)) split (as_new (bytes ++ piece) _ (spelled_reads d good.sound T is (bytes ++ piece) v x rest split s deep));
+    refused = λ bytes h T is offset cause other s.
+        gives_refusal new (bytes ++ piece) (length bytes) r (fits bytes h).told (moved 0 offset) cause other (as_new (bytes ++ piece) _ (refused_reads d good.sound T is (bytes ++ piece) offset cause s));
+    cut_off = λ bytes h T is offset s. gives_more new (bytes ++ piece) (length bytes) r (fits bytes h).told (moved 0 offset) (as_new (bytes ++ piece) _ (refused_reads d good.sound T is (bytes ++ piece) offset Truncated s));
+    done = λ used e. let t = told_of e in (view t.0, (t.0, t.2, refl));
+    unread = λ e. told_of e;
+    less = less;
+    fault = stays;
+    again = again;
+  }
+
+module _ (d : DecoderView) (piece : List ℕ) (good : IsDecoder d) where
+  -- one that has stopped
+  pub feeds_stopped : (e : DecodeFault) → d.progress ≡ progress.Stopped e → Feeds d (record d { progress = progress.Stopped e }) piece (Err e)
+  feeds_stopped e is =
+      subst (λ (now : Progress). Feeds d (record d { progress = now }) piece (Err e)) is
+      (feeds d d piece (Err e) good refl refl (λ bytes h. fits_stopped d bytes piece e is h) (λ some more. absurd cc) (ap stopped_by is) (λ f other. ap Err (same (sym (ap stopped_by is) ∙ other))))
+    where
+      same : {f : DecodeFault} → ◌≡◌ {A = Option DecodeFault} (Some e) (Some f) → e ≡ f
+      same s = cc
+
+  -- one that is done
+  pub feeds_done : (v : Value) → d.progress ≡ progress.Done v → Feeds d d piece (Ok (fed.Done 0))
+  feeds_done v is = feeds d d piece (Ok (fed.Done 0)) good refl refl (λ bytes h. fits_done d bytes piece v is h) (λ some more. absurd cc) tt (λ f other. never (sym (ap stopped_by is) ∙ other))
+    where
+      never : {P : Type 0} {f : DecodeFault} → ◌≡◌ {A = Option DecodeFault} None (Some f) → P
+      never s = absurd cc
+
+  -- one that goes on
+  module _ (r : Reading) (is : d.progress ≡ progress.Reading r) (new : Reading) (at : ℕ) where
+    abbrev then : Progress → DecoderView
+    then now = record { plan = d.plan; root = d.root; progress = now; at = at }
+
+    abbrev Taken : Result (Option (Value × ℕ)) DecodeFault → Type 0
+    Taken s = TakesPiece d.plan (reads_on d.plan r d.at) piece new at s
+
+    never_stopped : {P : Type 0} {f : DecodeFault} → stopped d ≡ Some f → P
+    never_stopped other = absurd (no_fault (sym (ap stopped_by is) ∙ other))
       where
-        own : HasStopped d bytes None
-        own = subst (HasStopped d bytes) none h
+        no_fault : {f : DecodeFault} → ◌≡◌ {A = Option DecodeFault} None (Some f) → ⊥
+        no_fault s = cc
 
-        by : (g : Found) → f ≡ g → reads_all d ((bytes ++ piece) ++ more) ≡ reads_on d.plan d.frames f d.at d.held (piece ++ more)
-        by (found.Wants W) e = regroup {r = λ z. reads_on d.plan d.frames f d.at d.held z} (subst (λ (k : Found). (z : List ℕ) → reads_all d (bytes ++ z) ≡ reads_on d.plan d.frames k d.at d.held z) (sym e) (subst (HasFound d bytes) (is ∙ e) own.1)) more
-        by (found.Done v) e = absurd (not_done v e)
+    less_left : (0 < length piece → piece_work d.plan new < piece_work d.plan r) → 0 < length piece → pieces_left (then (progress.Reading new)) < pieces_left d
+    unfolding pieces_left
+    less_left less some = subst (λ (now : Progress). piece_work d.plan new < work_left d.plan now) (sym is) (less some)
 
-    pub in_order : HasTaken d bytes → IsInOrder d.plan d.frames f d.held
-    unfolding HasTaken
-    in_order h = subst (λ (g : Found). IsInOrder d.plan d.frames g d.held) is (subst (HasStopped d bytes) none h).0
+    pub feeds_more : Taken (Ok None) → (0 < length piece → piece_work d.plan new < piece_work d.plan r) → Feeds d (then (progress.Reading new)) piece (Ok fed.More)
+    feeds_more t less = feeds d (then (progress.Reading new)) piece (Ok fed.More) good refl refl (λ bytes h. fits_more d bytes piece r is h new at t) (λ some e. less_left less some) tt (λ f other. never_stopped other)
 
-    module _ (h : HasTaken d bytes) (not_done : (v : Value) → f ≡ found.Done v → ⊥) where
-      pub fits_ok : (g : Found) (r : Fed) → TakesPiece d.plan old piece fs at held (Ok (g, r)) → Fits (after g None) (bytes ++ piece) (length bytes) (Ok r)
-      unfolding HasTaken
-      fits_ok (found.Wants W) fed.More t =
-          let goes : HasFound (after (found.Wants W) None) (bytes ++ piece) (found.Wants W) = λ more. goes_old h not_done more ∙ t.1 more in
-          record { told = (W, t.0, goes); taken = (t.0, goes) }
-      fits_ok (found.Done v) (fed.Done used) t =
-          let goes : (more : List ℕ) → reads_all d ((bytes ++ piece) ++ more) ≡ Ok (view v, spot at (drop used piece ++ more)) = λ more. goes_old h not_done more ∙ t.3 more in
-          record {
-            told = (v, drop used piece, refl, refl, goes, omega (arith, t.0, length-append bytes piece, length-drop used piece));
-            taken = (record { frames = t.1; well = tt; begins = t.2 }, (drop used piece, goes));
-          }
-      fits_ok (found.Wants W) (fed.Done used) t = absurd t
-      fits_ok (found.Done v) fed.More t = absurd t
+    pub feeds_end : (v : Value) (used : ℕ) → Taken (Ok (Some (v, used))) → Feeds d (then (progress.Done v)) piece (Ok (fed.Done used))
+    feeds_end v used t = feeds d (then (progress.Done v)) piece (Ok (fed.Done used)) good refl refl (λ bytes h. fits_end d bytes piece r is h new at v used t) (λ some e. absurd cc) tt (λ f other. never_stopped other)
 
-      fits_told : (g : Found) (e : DecodeFault) → TakesPiece d.plan old piece fs at held (Err e) → HasStopped (after g (Some e)) (bytes ++ piece) (Some e) × Told (after g (Some e)) (bytes ++ piece) (length bytes) (Err e)
-      fits_told g (fault.Refused place cause) t = ((t.0, λ more. goes_old h not_done more ∙ t.1 more), (t.0, λ more. goes_old h not_done more ∙ t.1 more))
-      fits_told g fault.ReadFault t = absurd t
-      fits_told g fault.Memory t = (tt, tt)
+    pub feeds_err : (e : DecodeFault) → Taken (Err e) → Feeds d (then (progress.Stopped e)) piece (Err e)
+    feeds_err e t = feeds d (then (progress.Stopped e)) piece (Err e) good refl refl (λ bytes h. fits_err d bytes piece r is h new at e t) (λ some e. absurd cc) refl (λ f other. never_stopped other)
 
-      pub fits_err : (g : Found) (e : DecodeFault) → TakesPiece d.plan old piece fs at held (Err e) → Fits (after g (Some e)) (bytes ++ piece) (length bytes) (Err e)
-      unfolding HasTaken
-      fits_err g e t = let both = fits_told g e t in record { told = both.1; taken = both.0 }
+-- ---- where the input ends
 
-      pub fits_on : (g : Found) (r : Fed) (s : Option DecodeFault) → s ≡ None → TakesPiece d.plan old piece fs at held (Ok (g, r)) → Fits (after g s) (bytes ++ piece) (length bytes) (Ok r)
-      fits_on g r s e t = subst (λ (z : Option DecodeFault). Fits (after g z) (bytes ++ piece) (length bytes) (Ok r)) (sym e) (fits_ok g r t)
-
--- ---- what is said of each answer
-
-module _ (d new : DecoderView) (piece : List ℕ) (r : Result Fed DecodeFault) (fits : (bytes : List ℕ) → HasTaken d bytes → Fits new (bytes ++ piece) (length bytes) r) where
-  pub says_taken : (bytes : List ℕ) → HasTaken d bytes → HasTaken new (bytes ++ piece)
-  says_taken bytes h = (fits bytes h).taken
-
-  module _ (good : IsPlan d.plan) (plan : new.plan ≡ d.plan) (root : new.root ≡ d.root) where
-    as_new : (bytes : List ℕ) (x : Read ValueView) → reads_all d bytes ≡ x → reads_all new bytes ≡ x
-    as_new bytes x e = ap (λ (p : PlanView). value_at p.schema.decls MAX_LEVELS (type_in p new.root) (spot 0 bytes)) plan ∙ ap (λ (k : ℕ). value_at d.plan.schema.decls MAX_LEVELS (type_in d.plan k) (spot 0 bytes)) root ∙ e
-
-    pub says_spelled : (bytes : List ℕ) → HasTaken d bytes → (T : Shape) → IsInstance d.plan d.root T → (v : ValueView) (x rest : List ℕ) → bytes ++ piece ≡ x ++ rest → Spells d.plan.schema T v x → depth v ≤ MAX_LEVELS → GivesEnd new (length bytes) r v (length x)
-    says_spelled bytes h T is v x rest split s deep =
-        gives_end new (bytes ++ piece) (length bytes) r (fits bytes h).told v x rest (moved 0 (length x)) split (as_new (bytes ++ piece) _ (spelled_reads d good T is (bytes ++ piece) v x rest split s deep))
-
-    pub says_refused : (bytes : List ℕ) → HasTaken d bytes → (T : Shape) → IsInstance d.plan d.root T → (offset : ℕ) (cause : Cause) → cause ≢ Truncated → Refused d.plan.schema MAX_LEVELS T (bytes ++ piece) offset cause → GivesRefusal r (moved 0 offset) cause
-    says_refused bytes h T is offset cause other s =
-        gives_refusal new (bytes ++ piece) (length bytes) r (fits bytes h).told (moved 0 offset) cause other (as_new (bytes ++ piece) _ (refused_reads d good T is (bytes ++ piece) offset cause s))
-
-    pub says_more : (bytes : List ℕ) → HasTaken d bytes → (T : Shape) → IsInstance d.plan d.root T → (offset : ℕ) → Refused d.plan.schema MAX_LEVELS T (bytes ++ piece) offset Truncated → GivesMore new r (moved 0 offset)
-    says_more bytes h T is offset s =
-        gives_more new (bytes ++ piece) (length bytes) r (fits bytes h).told (moved 0 offset) (as_new (bytes ++ piece) _ (refused_reads d good T is (bytes ++ piece) offset Truncated s))
-
-pub says_ended : (d : DecoderView) (good : IsPlan d.plan) (bytes : List ℕ) → HasTaken d bytes → (T : Shape) → IsInstance d.plan d.root T → (offset : ℕ) → Refused d.plan.schema MAX_LEVELS T bytes offset Truncated → d.stopped ≢ Some fault.Memory → d.at ≡ moved 0 offset
+pub says_ended : (d : DecoderView) (good : IsPlan d.plan) (bytes : List ℕ) → HasTaken d bytes → (T : Shape) → IsInstance d.plan d.root T → (offset : ℕ) → Refused d.plan.schema MAX_LEVELS T bytes offset Truncated → stopped d ≢ Some fault.Memory → d.at ≡ moved 0 offset
 unfolding HasTaken
-says_ended d good bytes h T is offset s other = ends_at d bytes d.stopped h (moved 0 offset) (refused_reads d good T is bytes offset Truncated s) other
+says_ended d good bytes h T is offset s other = ends_at d bytes d.progress h (moved 0 offset) (refused_reads d good T is bytes offset Truncated s) other
 
-pub same_done : (d : DecoderView) (f : Found) (value : Value) (v : ValueView) → d.found ≡ f → f ≡ found.Done value → HasValue d v → view value ≡ v
-same_done d f value v is e (other, there, none, seen) = ap view (same (sym e ∙ sym is ∙ there)) ∙ seen
-  where
-    same : found.Done value ≡ found.Done other → value ≡ other
-    same h = cc
-
-pub not_wanted : (d : DecoderView) (f : Found) (W : Wanted) (v : ValueView) → d.found ≡ f → f ≡ found.Wants W → HasValue d v → ⊥
-not_wanted d f W v is e (other, there, none, seen) = never (sym e ∙ sym is ∙ there)
-  where
-    never : found.Wants W ≡ found.Done other → ⊥
-    never h = cc
+pub says_value_ended : (d : DecoderView) (good : IsPlan d.plan) (bytes : List ℕ) → HasTaken d bytes → (T : Shape) → IsInstance d.plan d.root T → (v : ValueView) (x rest : List ℕ) → bytes ≡ x ++ rest → Spells d.plan.schema T v x → depth v ≤ MAX_LEVELS
+    → stopped d ≢ Some fault.Memory → d.at ≡ moved 0 (length x)
+unfolding HasTaken
+says_value_ended d good bytes h T is v x rest split s deep other = value_ends_at d bytes d.progress h v (moved 0 (length x)) rest (spelled_reads d good T is bytes v x rest split s deep) other
 
 -- ---- a refusal stays
 
@@ -276,39 +323,15 @@ refused_all d good all are T is formed place cause e = elim (exactly_one d.plan.
   | inr (offset, why, r) ↦ (let same = same_err (sym e ∙ refused_reads d good T is all offset why r) in (offset, subst (Refused d.plan.schema MAX_LEVELS T all offset) (sym same.1) r, same.0))
 ]
 
+refusal_stays : (d : DecoderView) (bytes more : List ℕ) (place : ℕ) (cause : Cause) (now : Progress) → HasCome d bytes now → stopped_by now ≡ Some (fault.Refused place cause) → reads_all d (bytes ++ more) ≡ Err (place, cause)
+refusal_stays d bytes more place cause (progress.Reading r) h e = absurd cc
+refusal_stays d bytes more place cause (progress.Done v) h e = absurd cc
+refusal_stays d bytes more place cause (progress.Stopped f) h e = (subst (λ (g : DecodeFault). HasCome d bytes (progress.Stopped g)) (same e) h).1 more
+  where
+    same : ◌≡◌ {A = Option DecodeFault} (Some f) (Some (fault.Refused place cause)) → f ≡ fault.Refused place cause
+    same e = cc
+
 pub each_refusal_stays : EachRefusalStays
 unfolding HasTaken
 each_refusal_stays d good bytes more are h T is formed place cause stopped =
-    refused_all d good (bytes ++ more) are T is formed place cause ((subst (HasStopped d bytes) stopped h).1 more)
-
--- ---- the value, and how often more is asked for
-
-pub same_fed : {r s : Fed} → ◌≡◌ {A = Result Fed DecodeFault} (Ok r) (Ok s) → r ≡ s
-same_fed e = cc
-
-never_more : {P : Type 0} {used : ℕ} → fed.More ≡ fed.Done used → P
-never_more e = absurd cc
-
-pub done_value : (p : PlanView) (old : List ℕ → Read ValueView) (piece : List ℕ) (fs : List Frame) (at : ℕ) (held : List ℕ) (g : Found) (r : Fed) (d : DecoderView) → d.found ≡ g → d.stopped ≡ None → TakesPiece p old piece fs at held (Ok (g, r)) → (used : ℕ) → r ≡ fed.Done used → (v : ValueView) × HasValue d v
-done_value p old piece fs at held (found.Done v) (fed.Done u) d is none t used e = (view v, (v, is, none, refl))
-done_value p old piece fs at held (found.Wants W) fed.More d is none t used e = never_more e
-done_value p old piece fs at held (found.Wants W) (fed.Done u) d is none t used e = absurd t
-done_value p old piece fs at held (found.Done v) fed.More d is none t used e = absurd t
-
-pub less_left : (d : DecoderView) (f : Found) → d.found ≡ f → (fs : List Frame) (held piece : List ℕ) (g : Found) (r : Fed) (at : ℕ) (stopped : Option DecodeFault) → PieceLess d.plan (piece_work d.plan d.frames f d.held) piece fs held (Ok (g, r)) → 0 < length piece → r ≡ fed.More
-    → pieces_left (record { plan = d.plan; root = d.root; frames = fs; found = g; at = at; held = held; stopped = stopped }) < pieces_left d
-unfolding pieces_left
-less_left d f is fs held piece g fed.More at stopped t some e = subst (λ (z : Found). piece_work d.plan fs g held < piece_work d.plan d.frames z d.held) (sym is) (t some)
-less_left d f is fs held piece g (fed.Done u) at stopped t some e = never_more (sym e)
-
--- ---- no read fault
-
-pub same_fault : {e f : DecodeFault} → ◌≡◌ {A = Result Fed DecodeFault} (Err e) (Err f) → e ≡ f
-same_fault e = cc
-
-pub stopped_unread : (d : DecoderView) (bytes : List ℕ) → HasTaken d bytes → (e : DecodeFault) → d.stopped ≡ Some e → e ≡ fault.ReadFault → ⊥
-unfolding HasTaken
-stopped_unread d bytes h e stopped is = subst (λ (f : DecodeFault). HasStopped d bytes (Some f)) is (subst (HasStopped d bytes) stopped h)
-
-pub piece_unread : (p : PlanView) (old : List ℕ → Read ValueView) (piece : List ℕ) (fs : List Frame) (at : ℕ) (held : List ℕ) (e : DecodeFault) → TakesPiece p old piece fs at held (Err e) → e ≡ fault.ReadFault → ⊥
-piece_unread p old piece fs at held e t is = subst (λ (f : DecodeFault). TakesPiece p old piece fs at held (Err f)) is t
+    refused_all d good (bytes ++ more) are T is formed place cause (refusal_stays d bytes more place cause d.progress h stopped)

@@ -12,6 +12,7 @@ use Rattle.tl_types.proofs.Numbers.{exact_again, exact_short, word_short, moved_
 use Rattle.tl_decode.specs.declared.stack.Wanted.{Wanted}
 use Rattle.tl_decode.specs.declared.stack.Wanted.TheVariants as wanted
 use Rattle.tl_decode.specs.declared.stack.Item.{Item}
+use Rattle.tl_decode.specs.declared.stack.Item.TheVariants as item
 use Rattle.tl_decode.specs.declared.stack.Stop.{Stop}
 use Rattle.tl_decode.specs.declared.stack.Stop.TheVariants as stop
 use Rattle.tl_decode.specs.inner.Frames.{item_at, item_view, ItemView, word, plain, is_truncated}
@@ -208,6 +209,10 @@ direct_item W old next size x none le whole =
           ap (λ (z : List ℕ). item_at W (spot p z)) (split_next old next more size ∙ ap (λ (z : List ℕ). (z ++ take size next) ++ (drop size next ++ more)) none)
           ∙ whole p (drop size next ++ more) ∙ ap (λ (n : ℕ). Ok (item_view x, spot (moved p n) (drop size next ++ more))) len,
     )
+
+pub word_next : (W : Wanted) (old next : List ℕ) (w : ℕ) → ((s : Spot) → item_at W s ≡ item_at wanted.Nat s) → old ≡ [] → 4 ≤ length next → w ≡ from_le_bytes w32 (take 4 next) → FindsItem W old old next (Ok (Some (item.Word w, 4)))
+word_next W old next w same none some is =
+    direct_item W old next 4 (item.Word w) none some (λ p more. same (spot p (take 4 next ++ more)) ∙ word_whole p w (take 4 next) more (length-take-le 4 next some) is)
 
 pub direct_stop : (W : Wanted) (old new next : List ℕ) (size : ℕ) (st : Stop) → old ≡ [] → IsWhole W (take size next) (Err st) → FindsItem W old new next (Err st)
 direct_stop W old new next size (stop.Refused cause) none whole = (

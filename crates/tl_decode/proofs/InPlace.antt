@@ -1,5 +1,5 @@
 -- Steps that change the innermost frame in place.
-use Rattle.std.proofs.Common.{◌≡◌, ℕ, suc, ◌+◌, ◌-◌, ◌<◌, List, [], ◌∷◌, ◌++◌, length, map, take, drop, get_or, slice_set, Vec, None, Some, Ok, refl, ap, sym, subst, ◌∙◌, arith}
+use Rattle.std.proofs.Common.{◌≡◌, ℕ, suc, ◌+◌, ◌-◌, ◌<◌, List, [], ◌∷◌, ◌++◌, length, map, take, drop, get_or, slice_set, Vec, None, Some, Result, Ok, Err, refl, ap, sym, subst, ◌∙◌, arith}
 use Rattle.std.specs.declared.alloc.Global.{Global}
 use Rattle.std.proofs.lemmas.List.{drop_all, drop_more, map_push, same_from_push, set_split, take-append-drop}
 use Rattle.tl_plan.specs.Plans.{PlanView}
@@ -10,20 +10,26 @@ use Rattle.tl_decode.specs.declared.stack.Frame.{Frame}
 use Rattle.tl_decode.specs.declared.stack.Frame.TheVariants as frame
 use Rattle.tl_decode.specs.declared.stack.Next.{Next}
 use Rattle.tl_decode.specs.declared.stack.Next.TheVariants as next
+use Rattle.tl_decode.specs.declared.stack.Step.{Step}
 use Rattle.tl_decode.specs.declared.stack.Step.TheVariants as step
+use Rattle.tl_decode.specs.declared.stack.Stop.{Stop}
+use Rattle.tl_decode.specs.declared.stack.Stop.TheVariants as stop
 use Rattle.tl_decode.specs.inner.Frames.{in_list, in_record, type_in, entry_in, IsInPlan, AreWell, IsWellFrame, StepsFrom, Adds, IsWith, Opens}
 use Rattle.tl_decode.proofs.FrameLists.{well_pop}
 use Rattle.tl_decode.proofs.PartSteps.{closes_in, list_opens}
 
 -- ---- two steps as one
 
-steps_after : (p : PlanView) (old mid new : List Frame) (n m k : Next) → StepsFrom p old n mid (Ok (step.Goes m)) → StepsFrom p mid m new (Ok (step.Goes k)) → StepsFrom p old n new (Ok (step.Goes k))
-steps_after p old mid new n m k a b = (record { frames = b.0.frames; is_well = b.0.is_well; same = λ s. a.0.same s ∙ b.0.same s }, omega (arith, a.1, b.1))
+pub steps_then : (p : PlanView) (old mid new : List Frame) (n m : Next) (r : Result Step Stop) → StepsFrom p old n mid (Ok (step.Goes m)) → StepsFrom p mid m new r → StepsFrom p old n new r
+steps_then p old mid new n m (Ok (step.Goes k)) a b = (record { frames = b.0.frames; is_well = b.0.is_well; same = λ s. a.0.same s ∙ b.0.same s }, omega (arith, a.1, b.1))
+steps_then p old mid new n m (Ok (step.Stops f)) a b = (record { frames = b.0.frames; is_well = b.0.is_well; same = λ s. a.0.same s ∙ b.0.same s }, omega (arith, a.1, b.1))
+steps_then p old mid new n m (Err (stop.Refused cause)) a b = (b.0, λ s. a.0.same s ∙ b.1 s)
+steps_then p old mid new n m (Err stop.Memory) a b = tt
 
 closes_opens : (p : PlanView) (old new fs : List Frame) (f g : Frame) (v : Value) (j : ℕ) → old ≡ fs ++ f ∷ [] → new ≡ fs ++ g ∷ [] → AreWell p old → Adds p f v g (Some j) → StepsFrom p old (next.Close v) new (Ok (step.Goes (next.Open j)))
 closes_opens p old new fs f g v j e is all (h, one, opens) =
     let first = closes_in p old fs f h v e all one.0 (λ w. one.1) in
-    rw is (steps_after p old fs (fs ++ g ∷ []) (next.Close v) (next.Part h) (next.Open j) first (opens fs first.0.frames))
+    rw is (steps_then p old fs (fs ++ g ∷ []) (next.Close v) (next.Part h) (Ok (step.Goes (next.Open j))) first (opens fs first.0.frames))
 
 -- ---- one value more
 

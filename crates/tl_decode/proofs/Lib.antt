@@ -32,3 +32,5 @@ pub mod RootsOrEnds
 pub mod SizesGiven
 pub mod TakesFour
 pub mod PieceWork
+pub mod FedWhole
+pub mod WholeValues

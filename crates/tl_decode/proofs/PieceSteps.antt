@@ -1,6 +1,6 @@
 -- A piece, taken item by item.
-use Rattle.std.proofs.Common.{◌≡◌, ℕ, ◌+◌, ◌<◌, ◌≤◌, List, [], ◌++◌, length, drop, Some, None, Result, Ok, Err, refl, ap, sym, ◌∙◌, subst, arith, append_assoc}
-use Rattle.std.proofs.lemmas.List.{drop-drop, length-drop}
+use Rattle.std.proofs.Common.{◌≡◌, ℕ, ◌+◌, ◌-◌, ◌^◌, ◌<◌, ◌≤◌, List, [], ◌++◌, length, take, drop, Some, Result, Ok, Err, ap, sym, ◌∙◌, subst, arith}
+use Rattle.std.proofs.lemmas.List.{drop-drop, length-drop, take_all}
 use Rattle.tl_plan.specs.Plans.{PlanView}
 use Rattle.tl_types.specs.Offsets.{moved}
 use Rattle.tl_types.specs.Seen.{view}
@@ -17,14 +17,15 @@ use Rattle.tl_decode.specs.declared.stack.Item.{Item}
 use Rattle.tl_decode.specs.declared.stack.Next.{Next}
 use Rattle.tl_decode.specs.declared.stack.Found.{Found}
 use Rattle.tl_decode.specs.declared.stack.Found.TheVariants as found
-use Rattle.tl_decode.specs.declared.stack.Fed.TheVariants as fed
+use Rattle.tl_decode.specs.declared.stack.Reading.{Reading}
 use Rattle.tl_decode.specs.declared.stack.Stop.{Stop}
 use Rattle.tl_decode.specs.declared.stack.Stop.TheVariants as stop
-use Rattle.tl_decode.specs.inner.Frames.{FrameView, ItemView, views, item_view, goes_after, levels_below, next_at, found_at, next_work, found_work, resumes, IsStop, IsWellFound, SettlesAt, Takes}
-use Rattle.tl_decode.specs.inner.Needs.{FindsItem, IsHeld, IsInOrder, TakesItem, TakesPiece, reads_on}
+use Rattle.tl_decode.specs.inner.Frames.{FrameView, ItemView, views, item_view, goes_after, levels_below, next_at, found_at, next_work, found_work, resumes, IsStop, IsWellWanted, SettlesAt, Takes}
+use Rattle.tl_decode.specs.inner.Needs.{FindsItem, IsInOrder, TakesItem, TakesPiece, needs, piece_work, reads_on}
 use Rattle.tl_decode.proofs.FrameLists.{resume_err}
 use Rattle.tl_decode.proofs.HeldBytes.{text_least}
 use Rattle.tl_decode.proofs.Onward.{item_then, item_fails}
+use Rattle.tl_decode.proofs.PieceWork.{some_less}
 
 -- ---- after an item
 
@@ -42,78 +43,71 @@ after_stops p fs W place then work x (stop.Refused cause) e new t is =
 after_stops p fs W place then work x stop.Memory e new t is = subst (λ (f : DecodeFault). SettlesAt p (goes_after p fs W place x) work then new (Err f)) (sym is) tt
 
 -- an item needs a byte at least
-pub begins_none : (p : PlanView) (f : Found) → IsWellFound p f → IsHeld f []
-begins_none p (found.Wants wanted.Int) w = omega arith
-begins_none p (found.Wants wanted.Nat) w = omega arith
-begins_none p (found.Wants wanted.Long) w = omega arith
-begins_none p (found.Wants (wanted.Opaque k)) w = omega (arith, w)
-begins_none p (found.Wants wanted.Text) w = let least = text_least [] in omega (arith, least)
-begins_none p (found.Wants (wanted.Number j)) w = omega arith
-begins_none p (found.Wants (wanted.ListNumber j)) w = omega arith
-begins_none p (found.Wants (wanted.Count j)) w = omega arith
-begins_none p (found.Done v) w = refl
+pub begins_none : (p : PlanView) (W : Wanted) → IsWellWanted p W → 0 < needs W []
+begins_none p wanted.Int w = omega arith
+begins_none p wanted.Nat w = omega arith
+begins_none p wanted.Long w = omega arith
+begins_none p (wanted.Opaque k) w = omega (arith, w)
+begins_none p wanted.Text w = let least = text_least [] in omega (arith, least)
+begins_none p (wanted.Number j) w = omega arith
+begins_none p (wanted.ListNumber j) w = omega arith
+begins_none p (wanted.Count j) w = omega arith
 
 -- ---- one item
 
-pub item_none : (p : PlanView) (fs : List Frame) (W : Wanted) (at work : ℕ) (old new next : List ℕ) → IsInOrder p fs (found.Wants W) old → FindsItem W old new next (Ok None) → TakesItem p (reads_on p fs (found.Wants W) at old) work W next fs at new (Ok None)
-item_none p fs W at work old new next o f = (
-  record { frames = o.frames; well = o.well; begins = f.1 },
-  λ more. ap (λ (z : List ℕ). found_at p (views p fs) (found.Wants W) (spot at z)) (sym (append_assoc old next more) ∙ ap (λ (z : List ℕ). z ++ more) (sym f.0)),
-)
+module _ (p : PlanView) (old new : Reading) (at then : ℕ) (next : List ℕ) (x : Item) (n : ℕ) (f : FindsItem old.wanted old.held.items new.held.items next (Ok (Some (x, n)))) (is : then ≡ moved at (length old.held.items + n)) where
+  abbrev fs : List FrameView
+  fs = views p old.frames.items
 
-module _ (p : PlanView) (fs : List Frame) (W : Wanted) (at then : ℕ) (old held next : List ℕ) (x : Item) (n : ℕ) (f : FindsItem W old held next (Ok (Some (x, n)))) (is : then ≡ moved at (length old + n)) where
-  goes : (more : List ℕ) → reads_on p fs (found.Wants W) at old (next ++ more) ≡ goes_after p (views p fs) W at (item_view x) (spot then (drop n next ++ more))
+  goes : (more : List ℕ) → reads_on p old at (next ++ more) ≡ goes_after p fs old.wanted at (item_view x) (spot then (drop n next ++ more))
   goes more =
-      ap (resumes p (views p fs)) (item_then p (views p fs) W (spot at (old ++ (next ++ more))) (item_view x) (spot (moved at (length old + n)) (drop n next ++ more)) (f.2 at more))
-      ∙ ap (λ (q : ℕ). goes_after p (views p fs) W at (item_view x) (spot q (drop n next ++ more))) (sym is)
+      ap (resumes p fs) (item_then p fs old.wanted (spot at (old.held.items ++ (next ++ more))) (item_view x) (spot (moved at (length old.held.items + n)) (drop n next ++ more)) (f.2 at more))
+      ∙ ap (λ (q : ℕ). goes_after p fs old.wanted at (item_view x) (spot q (drop n next ++ more))) (sym is)
 
-  pub item_some : (work : ℕ) (new : List Frame) (g : Found) → SettlesAt p (goes_after p (views p fs) W at (item_view x)) work then new (Ok g) → found_work p (views p new) g < found_work p (views p fs) (found.Wants W)
-      → TakesItem p (reads_on p fs (found.Wants W) at old) (found_work p (views p fs) (found.Wants W)) W next new then held (Ok (Some (g, n)))
-  item_some work new g s less = (
-    record { frames = s.0.frames; well = s.0.is_well; begins = subst (IsHeld g) (sym f.0) (begins_none p g s.0.is_well) },
-    f.0,
-    f.1,
-    less,
-    λ more. goes more ∙ s.0.same (spot then (drop n next ++ more)),
-  )
+  pub item_some : (work : ℕ) (g : Found) → SettlesAt p (goes_after p fs old.wanted at (item_view x)) work then new.frames.items (Ok g) → found_work p (views p new.frames.items) g < found_work p fs (found.Wants old.wanted)
+      → TakesItem p (reads_on p old at) (found_work p fs (found.Wants old.wanted)) next new then (Ok (Some (g, n)))
+  item_some work g s less = (s.0.frames, s.0.is_well, f.0, f.1, less, λ more. goes more ∙ s.0.same (spot then (drop n next ++ more)))
 
-  pub item_error : (work least : ℕ) (new : List Frame) (e : DecodeFault) → SettlesAt p (goes_after p (views p fs) W at (item_view x)) work then new (Err e) → TakesItem p (reads_on p fs (found.Wants W) at old) least W next new then held (Err e)
-  item_error work least new (fault.Refused q cause) s = (s.0, λ more. goes more ∙ s.1 (drop n next ++ more))
-  item_error work least new fault.ReadFault s = s
-  item_error work least new fault.Memory s = tt
+  pub item_error : (work least : ℕ) (e : DecodeFault) → SettlesAt p (goes_after p fs old.wanted at (item_view x)) work then new.frames.items (Err e) → TakesItem p (reads_on p old at) least next new then (Err e)
+  item_error work least (fault.Refused q cause) s = (s.0, λ more. goes more ∙ s.1 (drop n next ++ more))
+  item_error work least fault.ReadFault s = s
+  item_error work least fault.Memory s = tt
 
-pub item_stop : (p : PlanView) (fs new : List Frame) (W : Wanted) (at then work : ℕ) (old held next : List ℕ) (st : Stop) (e : DecodeFault) → FindsItem W old held next (Err st) → IsStop st at e → TakesItem p (reads_on p fs (found.Wants W) at old) work W next new then held (Err e)
-item_stop p fs new W at then work old held next (stop.Refused cause) e f is =
-    subst (λ (g : DecodeFault). TakesItem p (reads_on p fs (found.Wants W) at old) work W next new then held (Err g)) (sym is)
-    (f.0, λ more. ap (resumes p (views p fs)) (item_fails p (views p fs) W (spot at (old ++ (next ++ more))) at cause (f.1 at more)) ∙ resume_err p.schema.decls MAX_LEVELS (views p fs) _)
-item_stop p fs new W at then work old held next stop.Memory e f is = subst (λ (g : DecodeFault). TakesItem p (reads_on p fs (found.Wants W) at old) work W next new then held (Err g)) (sym is) tt
+pub item_stop : (p : PlanView) (old new : Reading) (at then work : ℕ) (next : List ℕ) (st : Stop) (e : DecodeFault) → FindsItem old.wanted old.held.items new.held.items next (Err st) → IsStop st at e → TakesItem p (reads_on p old at) work next new then (Err e)
+item_stop p old new at then work next (stop.Refused cause) e f is =
+    let fs = views p old.frames.items in
+    subst (λ (g : DecodeFault). TakesItem p (reads_on p old at) work next new then (Err g)) (sym is)
+    (f.0, λ more. ap (resumes p fs) (item_fails p fs old.wanted (spot at (old.held.items ++ (next ++ more))) at cause (f.1 at more)) ∙ resume_err p.schema.decls MAX_LEVELS fs _)
+item_stop p old new at then work next stop.Memory e f is = subst (λ (g : DecodeFault). TakesItem p (reads_on p old at) work next new then (Err g)) (sym is) tt
 
 -- ---- a piece
 
 -- so far
-pub record SoFar (p : PlanView) (old : List ℕ → Read ValueView) (piece : List ℕ) (used : ℕ) (fs : List Frame) (f : Found) (at : ℕ) (held : List ℕ) : Type 0 where
+pub record SoFar (p : PlanView) (old : List ℕ → Read ValueView) (piece : List ℕ) (used : ℕ) (now : Reading) (at : ℕ) : Type 0 where
   pub within : used ≤ length piece
-  pub order : IsInOrder p fs f held
-  pub reads : (more : List ℕ) → old (piece ++ more) ≡ reads_on p fs f at held (drop used piece ++ more)
+  pub order : IsInOrder p now
+  pub reads : (more : List ℕ) → old (piece ++ more) ≡ reads_on p now at (drop used piece ++ more)
 
-module _ (p : PlanView) (old : List ℕ → Read ValueView) (piece : List ℕ) (used at : ℕ) (fs : List Frame) (held : List ℕ) where
-  pub piece_done : (v : Value) → SoFar p old piece used fs (found.Done v) at held → TakesPiece p old piece fs at held (Ok (found.Done v, fed.Done used))
-  piece_done v s = (s.within, s.order.frames, s.order.begins, λ more. s.reads more ∙ ap (λ (z : List ℕ). Ok (view v, spot at (z ++ (drop used piece ++ more)))) s.order.begins)
+module _ (p : PlanView) (old : List ℕ → Read ValueView) (piece : List ℕ) (used at : ℕ) (now : Reading) (s : SoFar p old piece used now at) (new : Reading) (then : ℕ) (g : Found) (n : ℕ) (t : TakesItem p (reads_on p now at) (found_work p (views p now.frames.items) (found.Wants now.wanted)) (take (length piece - used) (drop used piece)) new then (Ok (Some (g, n)))) where
+  takes : (f : Found) → g ≡ f → TakesItem p (reads_on p now at) (found_work p (views p now.frames.items) (found.Wants now.wanted)) (drop used piece) new then (Ok (Some (f, n)))
+  takes f is =
+      let rest = take_all (length piece - used) (drop used piece) (omega (arith, length-drop used piece)) in
+      subst (λ (k : Found). TakesItem p (reads_on p now at) (found_work p (views p now.frames.items) (found.Wants now.wanted)) (drop used piece) new then (Ok (Some (k, n)))) is
+      (subst (λ (next : List ℕ). TakesItem p (reads_on p now at) (found_work p (views p now.frames.items) (found.Wants now.wanted)) next new then (Ok (Some (g, n)))) rest t)
 
-  module _ (W : Wanted) (s : SoFar p old piece used fs (found.Wants W) at held) (new : List Frame) (then work : ℕ) (kept : List ℕ) where
-    pub piece_more : TakesItem p (reads_on p fs (found.Wants W) at held) work W (drop used piece) new then kept (Ok None) → TakesPiece p old piece new then kept (Ok (found.Wants W, fed.More))
-    piece_more t = (t.0, λ more. s.reads more ∙ t.1 more)
+  pub piece_done : (v : Value) → g ≡ found.Done v → TakesPiece p old piece new then (Ok (Some (v, used + n)))
+  piece_done v is =
+      let u = takes (found.Done v) is in
+      (omega (arith, u.3, length-drop used piece, s.within), λ more. s.reads more ∙ u.5 more ∙ ap (λ (z : List ℕ). Ok (view v, spot then (z ++ more))) (drop-drop n used piece))
 
-    pub piece_stops : (e : DecodeFault) → TakesItem p (reads_on p fs (found.Wants W) at held) work W (drop used piece) new then kept (Err e) → TakesPiece p old piece new then kept (Err e)
-    piece_stops (fault.Refused place cause) t = (t.0, λ more. s.reads more ∙ t.1 more)
-    piece_stops fault.ReadFault t = t
-    piece_stops fault.Memory t = tt
-
-    pub piece_goes : (g : Found) (n : ℕ) → TakesItem p (reads_on p fs (found.Wants W) at held) work W (drop used piece) new then kept (Ok (Some (g, n))) → SoFar p old piece (used + n) new g then kept
-    piece_goes g n t = record {
-      within = omega (arith, t.2, length-drop used piece, s.within);
-      order = t.0;
-      reads = λ more.
-          s.reads more ∙ t.4 more ∙ ap (λ (z : List ℕ). reads_on p new g then [] (z ++ more)) (drop-drop n used piece)
-          ∙ ap (λ (z : List ℕ). reads_on p new g then z (drop (used + n) piece ++ more)) (sym t.1);
-    }
+  pub piece_goes : (W : Wanted) → g ≡ found.Wants W → length now.held.items < 2 ^ 64 → SoFar p old piece (used + n) (record new { wanted = W }) then × (piece_work p (record new { wanted = W }) < piece_work p now)
+  piece_goes W is lt =
+      let u = takes (found.Wants W) is in
+      let on = λ (z more : List ℕ). found_at p (views p new.frames.items) (found.Wants W) (spot then (z ++ more)) in (
+        record {
+          within = omega (arith, u.3, length-drop used piece, s.within);
+          order = record { frames = u.0; well = u.1; begins = subst (λ (z : List ℕ). length z < needs W z) (sym u.2) (begins_none p W u.1) };
+          reads = λ more. s.reads more ∙ u.5 more ∙ ap (λ (z : List ℕ). on z more) (drop-drop n used piece) ∙ ap (λ (z : List ℕ). on z (drop (used + n) piece ++ more)) (sym u.2);
+        },
+        some_less p now new W u.2 lt u.4,
+      )

@@ -20,9 +20,8 @@ use Rattle.tl_types.specs.declared.value.TheConstants.{MAX_LEVELS}
 use Rattle.tl_types.proofs.Exactly.{exactly_one}
 use Rattle.tl_types.proofs.FormedParts.{IsRead}
 use Rattle.tl_decode.specs.declared.fault.DecodeFault.{DecodeFault}
-use Rattle.tl_decode.specs.declared.stack.Found.{Found}
-use Rattle.tl_decode.specs.declared.stack.Found.TheVariants as found
-use Rattle.tl_decode.specs.Decoders.{DecoderView, HasFound, HasStopped, HasTaken, HasValue}
+use Rattle.tl_decode.specs.declared.stack.Progress.TheVariants as progress
+use Rattle.tl_decode.specs.Decoders.{DecoderView, HasCome, HasTaken}
 use Rattle.tl_decode.specs.Decoding.{GivesFew}
 use Rattle.tl_decode.specs.Sizes.{HasFewNodes}
 use Rattle.tl_decode.specs.inner.Steps.{ReadsAs}
@@ -75,28 +74,32 @@ module _ (schema : Declared) (good : IsSchema schema) (T : Shape) where
 some_is : {x y : List ℕ} → Some x ≡ Some y → x ≡ y
 some_is e = cc
 
+pub gives_few_of : (schema : Declared) → IsSchema schema → (T : Shape) → IsRead schema T → (a b : Option (List ℕ)) (m q : ℕ) (r : Result Value DecodeFault) → m < 2 ^ 64 → IfSome a AreBytes → ReadsAs view a b m q r (value_at schema.decls MAX_LEVELS T)
+    → IfSome a (λ bytes. GivesFew schema T bytes b r)
+gives_few_of schema good T of None b m q r lt are h = tt
+gives_few_of schema good T of (Some bytes) b m q (Ok value) lt are h = λ x rest split left.
+    let few = few_read schema good T of m q lt bytes h.0 are (view value) h.2 in
+    let same : h.0 ≡ rest = some_is (sym h.1 ∙ left) in
+    let len : length few.0 ≡ length x = omega (arith, ap length split, ap length few.1, length-append x rest, length-append few.0 h.0, ap length same) in
+    subst (λ (n : ℕ). HasFewNodes schema T n (view value)) len few.2
+gives_few_of schema good T of (Some bytes) b m q (Err e) lt are h = tt
+
 pub gives_few : (p : PlanView) → IsPlan p → (j : ℕ) (a b : Option (List ℕ)) (m q : ℕ) (r : Result Value DecodeFault) → m < 2 ^ 64 → IfSome a AreBytes → ReadsAs view a b m q r (value_at p.schema.decls MAX_LEVELS (type_in p j))
     → IfSome a (λ bytes. (T : Shape) → IsInstance p j T → GivesFew p.schema T bytes b r)
 gives_few p good j None b m q r lt are h = tt
-gives_few p good j (Some bytes) b m q (Ok value) lt are h = λ T is x rest split left.
-    let own = subst (λ (U : Shape). ReadsAs view (Some bytes) b m q (Ok value) (value_at p.schema.decls MAX_LEVELS U)) (instance_type p j T is) h in
-    let few = few_read p.schema good.schema T (root_read p good j T is) m q lt bytes own.0 are (view value) own.2 in
-    let same : own.0 ≡ rest = some_is (sym own.1 ∙ left) in
-    let len : length few.0 ≡ length x = omega (arith, ap length split, ap length few.1, length-append x rest, length-append few.0 own.0, ap length same) in
-    subst (λ (n : ℕ). HasFewNodes p.schema T n (view value)) len few.2
-gives_few p good j (Some bytes) b m q (Err e) lt are h = λ T is. tt
+gives_few p good j (Some bytes) b m q r lt are h = λ T is.
+    gives_few_of p.schema good.schema T (root_read p good j T is) (Some bytes) b m q r lt are (subst (λ (U : Shape). ReadsAs view (Some bytes) b m q r (value_at p.schema.decls MAX_LEVELS U)) (instance_type p j T is) h)
 
 -- ---- a value that a decoder has found
 
 module _ (d : DecoderView) (good : IsPlan d.plan) (bytes : List ℕ) (are : AreBytes bytes) where
-  found_few : (value : Value) → HasStopped d bytes None → d.found ≡ found.Done value → (T : Shape) → IsInstance d.plan d.root T → HasFewNodes d.plan.schema T (length bytes) (view value)
-  found_few value h is T root =
-      let done = subst (HasFound d bytes) is h.1 in
-      let read : value_at d.plan.schema.decls MAX_LEVELS T (spot 0 bytes) ≡ Ok (view value, spot d.at done.0) =
-      ap (λ (U : Shape). value_at d.plan.schema.decls MAX_LEVELS U (spot 0 bytes)) (sym (instance_type d.plan d.root T root)) ∙ done_at d bytes value done.0 done.1 in
-      let few = few_read d.plan.schema good.schema T (root_read d.plan good d.root T root) 0 d.at (omega arith) bytes done.0 are (view value) read in
-      few_more d.plan.schema T (length few.0) (length bytes) (view value) (omega (arith, ap length few.1, length-append few.0 done.0)) few.2
+  found_few : (value : Value) → HasCome d bytes (progress.Done value) → (T : Shape) → IsInstance d.plan d.root T → HasFewNodes d.plan.schema T (length bytes) (view value)
+  found_few value h T root =
+      let read : value_at d.plan.schema.decls MAX_LEVELS T (spot 0 bytes) ≡ Ok (view value, spot d.at h.0) =
+      ap (λ (U : Shape). value_at d.plan.schema.decls MAX_LEVELS U (spot 0 bytes)) (sym (instance_type d.plan d.root T root)) ∙ done_at d bytes value h in
+      let few = few_read d.plan.schema good.schema T (root_read d.plan good d.root T root) 0 d.at (omega arith) bytes h.0 are (view value) read in
+      few_more d.plan.schema T (length few.0) (length bytes) (view value) (omega (arith, ap length few.1, length-append few.0 h.0)) few.2
 
-  pub taken_few : HasTaken d bytes → (f : Found) (value : Value) (v : ValueView) → d.found ≡ f → f ≡ found.Done value → HasValue d v → (T : Shape) → IsInstance d.plan d.root T → HasFewNodes d.plan.schema T (length bytes) (view value)
+  pub taken_few : HasTaken d bytes → (value : Value) → d.progress ≡ progress.Done value → (T : Shape) → IsInstance d.plan d.root T → HasFewNodes d.plan.schema T (length bytes) (view value)
   unfolding HasTaken
-  taken_few h f value v is e has T root = found_few value (subst (HasStopped d bytes) has.2 h) (is ∙ e) T root
+  taken_few h value is T root = found_few value (subst (HasCome d bytes) is h) T root

@@ -2,4 +2,5 @@ pub mod Decoding
 pub mod Decoders
 pub mod Endings
 pub mod Sizes
+pub mod Wholes
 pub mod inner

@@ -6,37 +6,34 @@ ghost use Rattle.tl_decode.specs.inner.Needs.{IsInOrder, ItemLess, PieceLess, Ta
 use crate::fault::DecodeFault;
 use crate::held_items::next_item;
 use crate::planned::{settle_at, stopped};
-use crate::stack::{Fed, Found, Frame, Item, Wanted};
+use crate::stack::{Found, Frame, Item, Reading, Wanted};
 use crate::taking::take;
 use std::alloc::Global;
 use tl_plan::Plan;
+use tl_types::Value;
 
-/// Takes a piece: all items that it ends, and all after these that needs no bytes. What begins an item is held.
+/// Takes a piece: all items that it ends, and all after these that needs no bytes. The value is answered, and how many bytes of the piece it takes;
+/// None where it isn't whole: what begins an item is held then.
 pub fn take_piece(
     alloc: Global,
     plan: &Plan,
-    frames: &mut Vec<Frame>,
-    first: Found,
+    reading: &mut Reading,
     at: &mut u64,
-    held: &mut Vec<u8>,
     piece: &[u8],
-) -> Result<(Found, Fed), DecodeFault>
-    requires { IsInOrder plan.now frames.old.items first held.old.items }
-    ensures takes { TakesPiece plan.now (reads_on plan.now frames.old.items first at.old held.old.items) piece.now frames.new.items at.new held.new.items result }
-    ensures less { PieceLess plan.now (piece_work plan.now frames.old.items first held.old.items) piece.now frames.new.items held.new.items result }
+) -> Result<Option<(Value, usize)>, DecodeFault>
+    requires { IsInOrder plan.now reading.old }
+    ensures takes { TakesPiece plan.now (reads_on plan.now reading.old at.old) piece.now reading.new at.new result }
+    ensures less { PieceLess plan.now (piece_work plan.now reading.old) piece.now reading.new result }
 {
-    let mut found = first;
     let mut used = 0usize;
     'items: loop {
-        match found {
-            Found::Done { value } => return Ok((Found::Done { value }, Fed::Done { used })),
-            Found::Wants { wanted } => {
-                match take_item(alloc, plan, frames, wanted, at, held, &piece[used..])? {
-                    None => return Ok((Found::Wants { wanted }, Fed::More)),
-                    Some((next, count)) => {
-                        found = next;
-                        used += count;
-                    }
+        match take_item(alloc, plan, reading, at, &piece[used..])? {
+            None => return Ok(None),
+            Some((found, count)) => {
+                used += count;
+                match found {
+                    Found::Done { value } => return Ok(Some((value, used))),
+                    Found::Wants { wanted } => reading.wanted = wanted,
                 }
             }
         }
@@ -47,23 +44,22 @@ pub fn take_piece(
 fn take_item(
     alloc: Global,
     plan: &Plan,
-    frames: &mut Vec<Frame>,
-    wanted: Wanted,
+    reading: &mut Reading,
     at: &mut u64,
-    held: &mut Vec<u8>,
     next: &[u8],
 ) -> Result<Option<(Found, usize)>, DecodeFault>
-    requires { IsInOrder plan.now frames.old.items (Found.Wants wanted) held.old.items }
-    ensures takes { TakesItem plan.now (reads_on plan.now frames.old.items (Found.Wants wanted) at.old held.old.items) (found_work plan.now (views plan.now frames.old.items) (Found.Wants wanted)) wanted next.now frames.new.items at.new held.new.items result }
-    ensures less { ItemLess plan.now (piece_work plan.now frames.old.items (Found.Wants wanted) held.old.items) wanted next.now frames.new.items held.new.items result }
+    requires { IsInOrder plan.now reading.old }
+    ensures takes { TakesItem plan.now (reads_on plan.now reading.old at.old) (found_work plan.now (views plan.now reading.old.frames.items) (Found.Wants reading.old.wanted)) next.now reading.new at.new result }
+    ensures less { ItemLess plan.now (piece_work plan.now reading.old) next.now reading.new result }
 {
     let place = *at;
-    let had = held.len() as u64;
-    match next_item(alloc, wanted, held, next) {
+    let wanted = reading.wanted;
+    let had = reading.held.len() as u64;
+    match next_item(alloc, wanted, &mut reading.held, next) {
         Ok(None) => Ok(None),
         Ok(Some((item, count))) => {
             *at = at.saturating_add(had).saturating_add(count as u64);
-            let found = after_item(alloc, plan, frames, wanted, item, place, *at)?;
+            let found = after_item(alloc, plan, &mut reading.frames, wanted, item, place, *at)?;
             Ok(Some((found, count)))
         }
         Err(stop) => Err(stopped(stop, place)),

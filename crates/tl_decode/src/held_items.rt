@@ -1,6 +1,6 @@
 //! Items of bytes that are there.
-ghost use Rattle.std.specs.Prelude.{◌≡◌, ◌≤◌, ◌<◌, IfOk, Ok, length, take};
-ghost use Rattle.std.specs.Int.{w64, cast_signed, from_le_bytes};
+ghost use Rattle.std.specs.Prelude.{◌≡◌, ◌≤◌, ◌<◌, IfOk, IfSome, Ok, Some, length, take};
+ghost use Rattle.std.specs.Int.{w32, w64, cast_signed, from_le_bytes};
 ghost use Rattle.tl_types.specs.Seen.{view};
 ghost use Rattle.tl_types.specs.Values.{long};
 ghost use Rattle.tl_types.specs.inner.Reading.{text_head_of};
@@ -23,6 +23,10 @@ pub fn next_item(
     requires { length held.old.items < needs wanted held.old.items }
     ensures { FindsItem wanted held.old.items held.new.items next.now result }
 {
+    // Most items are words: these go by a short path.
+    if let Some(word) = next_word(wanted, held, next) {
+        return Ok(Some((Item::Word { word }, 4)));
+    }
     if held.is_empty() {
         let size = need_of(wanted, next);
         if size <= next.len() {
@@ -37,6 +41,28 @@ pub fn next_item(
     let item = whole_item(alloc, wanted, held)?;
     held.clear();
     Ok(Some((item, count)))
+}
+
+// The four bytes that are looked for, where no byte of them is held and all of them are in the next ones.
+fn next_word(wanted: Wanted, held: &[u8], next: &[u8]) -> Option<u32>
+    ensures { IfSome result (λ word. FindsItem wanted held.now held.now next.now (Ok (Some (Item.Word word, 4)))) }
+{
+    if !held.is_empty() {
+        return None;
+    }
+    if next.len() < 4 {
+        return None;
+    }
+    match wanted {
+        Wanted::Long => None,
+        Wanted::Opaque { .. } => None,
+        Wanted::Text => None,
+        Wanted::Int => Some(word_in(next)),
+        Wanted::Nat => Some(word_in(next)),
+        Wanted::Number { .. } => Some(word_in(next)),
+        Wanted::ListNumber { .. } => Some(word_in(next)),
+        Wanted::Count { .. } => Some(word_in(next)),
+    }
 }
 
 // Holds the next bytes of an item, until it is whole.
@@ -136,8 +162,15 @@ fn whole_word(bytes: &[u8]) -> Item
     ensures { IsWhole Wanted.Nat bytes.now (Ok result) }
 {
     Item::Word {
-        word: u32::from_le_bytes(four_bytes(bytes)),
+        word: word_in(bytes),
     }
+}
+
+fn word_in(bytes: &[u8]) -> u32
+    requires { 4 ≤ length bytes.now }
+    ensures { result ≡ from_le_bytes w32 (take 4 bytes.now) }
+{
+    u32::from_le_bytes(four_bytes(bytes))
 }
 
 fn whole_text(alloc: Global, bytes: &[u8]) -> Result<Item, Stop>

@@ -20,6 +20,8 @@ mod stack;
 mod taking;
 mod texts;
 mod walk;
+mod whole;
+mod whole_bytes;
 
 pub use endings::{decode_or_end, takes_four};
 pub use fault::DecodeFault;
@@ -31,3 +33,5 @@ pub use planned::decode;
 pub use stack::Fed;
 pub use tl_types::MAX_LEVELS;
 pub use walk::decode_walk;
+pub use whole::{WholeFault, decode_whole};
+pub use whole_bytes::{decode_bytes, decode_bytes_as};

@@ -36,8 +36,8 @@ fn step(alloc: Global, plan: &Plan, frames: &mut Vec<Frame>, next: Next) -> Resu
 {
     match next {
         Next::Open { of } => open(alloc, plan, frames, of),
-        Next::Part { top } => part(plan, frames, top),
-        Next::Close { value } => close(plan, frames, value),
+        Next::Part { top } => part(alloc, plan, frames, top),
+        Next::Close { value } => close(alloc, plan, frames, value),
         Next::Begin { item } => Ok(Step::Stops {
             found: Found::Wants {
                 wanted: Wanted::Count { item },
@@ -46,8 +46,8 @@ fn step(alloc: Global, plan: &Plan, frames: &mut Vec<Frame>, next: Next) -> Resu
     }
 }
 
-// A value becomes a part of the innermost list or record, whose next part is opened in place; without one it is the whole.
-fn close(plan: &Plan, frames: &mut Vec<Frame>, value: Value) -> Result<Step, Stop>
+// A value becomes a part of the innermost list or record, whose next part is opened at once; without one it is the whole.
+fn close(alloc: Global, plan: &Plan, frames: &mut Vec<Frame>, value: Value) -> Result<Step, Stop>
     requires frames { AreWell plan.now frames.old.items }
     ensures { StepsFrom plan.now frames.old.items (Next.Close value) frames.new.items result }
 {
@@ -56,9 +56,7 @@ fn close(plan: &Plan, frames: &mut Vec<Frame>, value: Value) -> Result<Step, Sto
             found: Found::Done { value },
         }),
         Some(top) => match add(plan, top, value)? {
-            Some(of) => Ok(Step::Goes {
-                next: Next::Open { of },
-            }),
+            Some(of) => open(alloc, plan, frames, of),
             None => Ok(Step::Goes {
                 next: Next::Part {
                     top: innermost(frames),

@@ -3,24 +3,26 @@ ghost use Rattle.std.specs.Prelude.{◌≡◌, ◌<◌, IfOk, length};
 ghost use Rattle.tl_types.specs.Seen.{view, views as values};
 ghost use Rattle.tl_decode.specs.inner.Frames.{Adds, AreWell, Comes, IsWellFrame, StepsFrom, made, type_in};
 
+use crate::opening::open;
 use crate::stack::{Coming, Frame, Next, Step, Stop};
-use std::alloc::AllocError;
+use std::alloc::{AllocError, Global};
 use tl_plan::{Form, Plan};
 use tl_types::{Value, stands};
 
-/// The next part is to be read, or the list or record is whole.
-pub fn part(plan: &Plan, frames: &mut Vec<Frame>, top: Frame) -> Result<Step, Stop>
+/// The next part is opened, or the list or record is whole.
+pub fn part(alloc: Global, plan: &Plan, frames: &mut Vec<Frame>, top: Frame) -> Result<Step, Stop>
     requires frames { AreWell plan.now frames.old.items }
     requires top { IsWellFrame plan.now top }
     ensures { StepsFrom plan.now frames.old.items (Next.Part top) frames.new.items result }
 {
     match top {
-        Frame::List { item, left, items } => element(plan, frames, item, left, items),
-        Frame::Record { of, member, fields } => field(plan, frames, of, member, fields),
+        Frame::List { item, left, items } => element(alloc, plan, frames, item, left, items),
+        Frame::Record { of, member, fields } => field(alloc, plan, frames, of, member, fields),
     }
 }
 
 fn element(
+    alloc: Global,
     plan: &Plan,
     frames: &mut Vec<Frame>,
     item: u32,
@@ -43,13 +45,12 @@ fn element(
         left: left - 1,
         items,
     })?;
-    Ok(Step::Goes {
-        next: Next::Open { of: item },
-    })
+    open(alloc, plan, frames, item)
 }
 
 // A field is read, or it isn't there, since its bit is clear.
 fn field(
+    alloc: Global,
     plan: &Plan,
     frames: &mut Vec<Frame>,
     of: u32,
@@ -76,9 +77,7 @@ fn field(
         }
         Coming::Field { of: next } => {
             frames.push(Frame::Record { of, member, fields })?;
-            Ok(Step::Goes {
-                next: Next::Open { of: next },
-            })
+            open(alloc, plan, frames, next)
         }
     }
 }

@@ -1,4 +1,5 @@
 //! How far a value is read: the lists and records that were begun, and what comes next.
+use crate::fault::DecodeFault;
 use std::alloc::{AllocError, AllocFailed};
 use tl_types::{Cause, Value};
 
@@ -73,6 +74,22 @@ pub enum Coming {
 pub enum Found {
     Wants { wanted: Wanted },
     Done { value: Value },
+}
+
+/// What reading goes on from where the bytes come in pieces: the lists and records that were begun, the item that is looked for, and its bytes so far.
+#[derive(Drop)]
+pub struct Reading {
+    pub frames: Vec<Frame>,
+    pub wanted: Wanted,
+    pub held: Vec<u8>,
+}
+
+/// How far a value is whose bytes come in pieces.
+#[derive(Drop)]
+pub enum Progress {
+    Reading { reading: Reading },
+    Done { value: Value },
+    Stopped { fault: DecodeFault },
 }
 
 #[derive(Drop)]

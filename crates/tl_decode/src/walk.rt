@@ -8,7 +8,7 @@ ghost use Rattle.tl_types.specs.Refusal.{Refused};
 ghost use Rattle.tl_types.specs.Spelling.{Spells};
 ghost use Rattle.tl_types.specs.Values.{ValueView, depth};
 ghost use Rattle.tl_types.specs.declared.cause.Cause.{Cause};
-ghost use Rattle.tl_decode.specs.Decoding.{GivesFault, GivesValue};
+ghost use Rattle.tl_decode.specs.Decoding.{GivesFault, GivesFew, GivesValue};
 
 use crate::decoder::value_of;
 use crate::fault::DecodeFault;
@@ -31,6 +31,8 @@ pub fn decode_walk<S: Source>(
     ensures spelled { IfSome (S.state from.old).left (λ bytes. (v : ValueView) (x rest : List ℕ) → bytes ≡ x ++ rest → Spells schema.now (shape of.now) v x → depth v ≤ MAX_LEVELS → GivesValue result (S.state from.new).left at.old at.new v x rest) }
     // What is refused is refused at its offset, for its cause.
     ensures refused { IfSome (S.state from.old).left (λ bytes. (offset : ℕ) (cause : Cause) → Refused schema.now MAX_LEVELS (shape of.now) bytes offset cause → GivesFault result (moved at.old offset) cause) }
+    // What is given has few nodes for the bytes that were taken.
+    ensures bounded { IfSome (S.state from.old).left (λ bytes. GivesFew schema.now (shape of.now) bytes (S.state from.new).left result) }
     ensures used { Used (S.state from.old) (S.state from.new) (IsErrOf result DecodeFault.ReadFault) }
 {
     // Read for the proof alone: that the offset fits, and that the schema is sound.

@@ -7,19 +7,18 @@ use Rattle.tl_types.specs.Seen.{view}
 use Rattle.tl_types.specs.Values.{ValueView}
 use Rattle.tl_types.specs.inner.Reading.{Head, Read, spot, text_head_of}
 use Rattle.tl_types.specs.declared.cause.Cause.{Cause}
+use Rattle.tl_types.specs.declared.value.Value.{Value}
 use Rattle.tl_decode.specs.declared.fault.DecodeFault.{DecodeFault}
 use Rattle.tl_decode.specs.declared.fault.DecodeFault.TheVariants as fault
-use Rattle.tl_decode.specs.declared.stack.Frame.{Frame}
 use Rattle.tl_decode.specs.declared.stack.Wanted.{Wanted}
 use Rattle.tl_decode.specs.declared.stack.Wanted.TheVariants as wanted
 use Rattle.tl_decode.specs.declared.stack.Item.{Item}
 use Rattle.tl_decode.specs.declared.stack.Found.{Found}
 use Rattle.tl_decode.specs.declared.stack.Found.TheVariants as found
+use Rattle.tl_decode.specs.declared.stack.Reading.{Reading}
 use Rattle.tl_decode.specs.declared.stack.Stop.{Stop}
 use Rattle.tl_decode.specs.declared.stack.Stop.TheVariants as stop
-use Rattle.tl_decode.specs.declared.stack.Fed.{Fed}
-use Rattle.tl_decode.specs.declared.stack.Fed.TheVariants as fed
-use Rattle.tl_decode.specs.inner.Frames.{views, item_at, item_view, found_at, found_work, is_truncated, AreWell, IsWellFound}
+use Rattle.tl_decode.specs.inner.Frames.{views, item_at, item_view, found_at, found_work, is_truncated, AreWell, IsWellFound, IsWellWanted}
 
 -- ---- items
 
@@ -62,54 +61,48 @@ FindsItem W old new next (Err stop.Memory) = Unit {0}
 
 -- ---- pieces
 
--- what is read on with these frames, where so many bytes were taken and these are held
-abbrev pub reads_on : PlanView → List Frame → Found → ℕ → List ℕ → List ℕ → Read ValueView
-reads_on p fs f at held more = found_at p (views p fs) f (spot at (held ++ more))
+-- what is read on from here, where so many bytes were taken
+abbrev pub reads_on : PlanView → Reading → ℕ → List ℕ → Read ValueView
+reads_on p r at more = found_at p (views p r.frames.items) (found.Wants r.wanted) (spot at (r.held.items ++ more))
 
--- the item that is looked for isn't whole; where the value is there, nothing is held
-abbrev pub IsHeld : Found → List ℕ → Type 0
-IsHeld (found.Wants W) held = length held < needs W held
-IsHeld (found.Done v) held = held ≡ []
-
--- the frames and numbers are in range, and what is held begins an item
-pub record IsInOrder (p : PlanView) (fs : List Frame) (f : Found) (held : List ℕ) : Type 0 where
-  pub frames : AreWell p fs
-  pub well : IsWellFound p f
-  pub begins : IsHeld f held
+-- the frames and numbers are in range, and what is held begins the item
+pub record IsInOrder (p : PlanView) (r : Reading) : Type 0 where
+  pub frames : AreWell p r.frames.items
+  pub well : IsWellWanted p r.wanted
+  pub begins : length r.held.items < needs r.wanted r.held.items
 
 -- A piece is taken: what was read on is read on from the new state, or the value is there or refused, however the input goes on.
-abbrev pub TakesPiece : PlanView → (List ℕ → Read ValueView) → List ℕ → List Frame → ℕ → List ℕ → Result (Found × Fed) DecodeFault → Type 0
-TakesPiece p old piece fs at held (Ok (found.Wants W, fed.More)) = IsInOrder p fs (found.Wants W) held × ((more : List ℕ) → old (piece ++ more) ≡ reads_on p fs (found.Wants W) at held more)
-TakesPiece p old piece fs at held (Ok (found.Done v, fed.Done used)) = (used ≤ length piece) × AreWell p fs × (held ≡ []) × ((more : List ℕ) → old (piece ++ more) ≡ Ok (view v, spot at (drop used piece ++ more)))
-TakesPiece p old piece fs at held (Ok (found.Wants W, fed.Done used)) = ⊥
-TakesPiece p old piece fs at held (Ok (found.Done v, fed.More)) = ⊥
-TakesPiece p old piece fs at held (Err (fault.Refused place cause)) = (is_truncated cause ≡ false) × ((more : List ℕ) → old (piece ++ more) ≡ Err (place, cause))
-TakesPiece p old piece fs at held (Err fault.ReadFault) = ⊥
-TakesPiece p old piece fs at held (Err fault.Memory) = Unit {0}
+abbrev pub TakesPiece : PlanView → (List ℕ → Read ValueView) → List ℕ → Reading → ℕ → Result (Option (Value × ℕ)) DecodeFault → Type 0
+TakesPiece p old piece new at (Ok None) = IsInOrder p new × ((more : List ℕ) → old (piece ++ more) ≡ reads_on p new at more)
+TakesPiece p old piece new at (Ok (Some x)) = (x.1 ≤ length piece) × ((more : List ℕ) → old (piece ++ more) ≡ Ok (view x.0, spot at (drop x.1 piece ++ more)))
+TakesPiece p old piece new at (Err (fault.Refused place cause)) = (is_truncated cause ≡ false) × ((more : List ℕ) → old (piece ++ more) ≡ Err (place, cause))
+TakesPiece p old piece new at (Err fault.ReadFault) = ⊥
+TakesPiece p old piece new at (Err fault.Memory) = Unit {0}
 
 -- One item is taken of the next bytes, or all of them are held.
-abbrev pub TakesItem : PlanView → (List ℕ → Read ValueView) → ℕ → Wanted → List ℕ → List Frame → ℕ → List ℕ → Result (Option (Found × ℕ)) DecodeFault → Type 0
-TakesItem p old work W next fs at held (Ok None) = IsInOrder p fs (found.Wants W) held × ((more : List ℕ) → old (next ++ more) ≡ reads_on p fs (found.Wants W) at held more)
-TakesItem p old work W next fs at held (Ok (Some x)) =
-    IsInOrder p fs x.0 held × (held ≡ []) × (x.1 ≤ length next) × (found_work p (views p fs) x.0 < work) × ((more : List ℕ) → old (next ++ more) ≡ reads_on p fs x.0 at [] (drop x.1 next ++ more))
-TakesItem p old work W next fs at held (Err (fault.Refused place cause)) = (is_truncated cause ≡ false) × ((more : List ℕ) → old (next ++ more) ≡ Err (place, cause))
-TakesItem p old work W next fs at held (Err fault.ReadFault) = ⊥
-TakesItem p old work W next fs at held (Err fault.Memory) = Unit {0}
+abbrev pub TakesItem : PlanView → (List ℕ → Read ValueView) → ℕ → List ℕ → Reading → ℕ → Result (Option (Found × ℕ)) DecodeFault → Type 0
+TakesItem p old work next new at (Ok None) = IsInOrder p new × ((more : List ℕ) → old (next ++ more) ≡ reads_on p new at more)
+TakesItem p old work next new at (Ok (Some x)) =
+    AreWell p new.frames.items × IsWellFound p x.0 × (new.held.items ≡ []) × (x.1 ≤ length next) × (found_work p (views p new.frames.items) x.0 < work)
+    × ((more : List ℕ) → old (next ++ more) ≡ found_at p (views p new.frames.items) x.0 (spot at (drop x.1 next ++ more)))
+TakesItem p old work next new at (Err (fault.Refused place cause)) = (is_truncated cause ≡ false) × ((more : List ℕ) → old (next ++ more) ≡ Err (place, cause))
+TakesItem p old work next new at (Err fault.ReadFault) = ⊥
+TakesItem p old work next new at (Err fault.Memory) = Unit {0}
 
 -- ---- how often a decoder asks for more
 
 -- as often as this, at most: there are fewer items to come, or more bytes are held of the one that is looked for
-abbrev pub piece_work : PlanView → List Frame → Found → List ℕ → ℕ
-piece_work p fs f held = found_work p (views p fs) f * 2 ^ 64 + (2 ^ 64 - length held)
+abbrev pub piece_work : PlanView → Reading → ℕ
+piece_work p r = found_work p (views p r.frames.items) (found.Wants r.wanted) * 2 ^ 64 + (2 ^ 64 - length r.held.items)
 
--- an item leaves less to come, and so do bytes that are held
-abbrev pub ItemLess : PlanView → ℕ → Wanted → List ℕ → List Frame → List ℕ → Result (Option (Found × ℕ)) DecodeFault → Type 0
-ItemLess p work W next fs held (Ok None) = (piece_work p fs (found.Wants W) held ≤ work) × (0 < length next → piece_work p fs (found.Wants W) held < work)
-ItemLess p work W next fs held (Ok (Some x)) = piece_work p fs x.0 held < work
-ItemLess p work W next fs held (Err e) = Unit {0}
+-- bytes that are held leave less to come
+abbrev pub ItemLess : PlanView → ℕ → List ℕ → Reading → Result (Option (Found × ℕ)) DecodeFault → Type 0
+ItemLess p work next new (Ok None) = (piece_work p new ≤ work) × (0 < length next → piece_work p new < work)
+ItemLess p work next new (Ok (Some x)) = Unit {0}
+ItemLess p work next new (Err e) = Unit {0}
 
 -- a piece with bytes leaves less to come
-abbrev pub PieceLess : PlanView → ℕ → List ℕ → List Frame → List ℕ → Result (Found × Fed) DecodeFault → Type 0
-PieceLess p work piece fs held (Ok (f, fed.More)) = 0 < length piece → piece_work p fs f held < work
-PieceLess p work piece fs held (Ok (f, fed.Done used)) = Unit {0}
-PieceLess p work piece fs held (Err e) = Unit {0}
+abbrev pub PieceLess : PlanView → ℕ → List ℕ → Reading → Result (Option (Value × ℕ)) DecodeFault → Type 0
+PieceLess p work piece new (Ok None) = 0 < length piece → piece_work p new < work
+PieceLess p work piece new (Ok (Some x)) = Unit {0}
+PieceLess p work piece new (Err e) = Unit {0}

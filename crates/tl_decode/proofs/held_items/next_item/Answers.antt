@@ -25,8 +25,8 @@ returns-then-size-next c =
 pub returns-in_err-item-2 : goal.returns-in_err-item-2
 returns-in_err-item-2 c =
     let p = err_from_is_err_and c.from_residual-in_err-item-2.result c.from_residual-in_err-item-2.ensures.1 in
-    rw (p.1, p.2) (held_stop c.args.wanted c.args.held.now.items c.fill.new.held.items c.fill.new.held.items c.args.next.now c.in_ok-count.count _ c.in_ok-count.ensures (subst (λ (b : List ℕ). IsWhole c.args.wanted b (Err c.in_err-item-2.field-0.0)) c.deref-2.ensures.value c.in_err-item-2.ensures))
+    rw (p.1, p.2) (held_stop c.args.wanted c.args.held.now.items c.fill.new.held.items c.fill.new.held.items c.args.next.now c.in_ok-count.count _ c.in_ok-count.ensures (subst (λ (b : List ℕ). IsWhole c.args.wanted b (Err c.in_err-item-2.field-0.0)) c.deref-3.ensures.value c.in_err-item-2.ensures))
 
 pub returns : goal.returns
 returns c =
-    held_item c.args.wanted c.args.held.now.items c.fill.new.held.items c.clear.new.self.items c.args.next.now c.in_ok-count.count c.in_ok-item-2.item c.in_ok-count.ensures (rw c.deref-2.ensures.value at c.in_ok-item-2.ensures) c.clear.ensures.items
+    held_item c.args.wanted c.args.held.now.items c.fill.new.held.items c.clear.new.self.items c.args.next.now c.in_ok-count.count c.in_ok-item-2.item c.in_ok-count.ensures (rw c.deref-3.ensures.value at c.in_ok-item-2.ensures) c.clear.ensures.items

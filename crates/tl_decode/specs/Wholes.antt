@@ -1,0 +1,46 @@
+-- What reading bytes as one value answers: the value that all of them spell, or where and why they spell none. This project's own.
+use Rattle.std.specs.Prelude.{◌≡◌, ◌⊎◌, ℕ, ◌<◌, ◌≤◌, List, [], ◌++◌, length, Bool, true, false, Result, Ok, Err}
+use Rattle.tl_schema.specs.Types.{Shape}
+use Rattle.tl_schema.specs.Schemas.{Declared}
+use Rattle.tl_types.specs.Values.{ValueView, depth}
+use Rattle.tl_types.specs.Seen.{view}
+use Rattle.tl_types.specs.Spelling.{Spells}
+use Rattle.tl_types.specs.Refusal as refusal
+use Rattle.tl_types.specs.Offsets.{moved}
+use Rattle.tl_types.specs.declared.value.Value.{Value}
+use Rattle.tl_types.specs.declared.value.TheConstants.{MAX_LEVELS}
+use Rattle.tl_decode.specs.Decoders.{DecoderView, HasValue}
+use Rattle.tl_decode.specs.declared.fault.DecodeFault.{DecodeFault}
+use Rattle.tl_decode.specs.declared.fault.DecodeFault.TheVariants as decode
+use Rattle.tl_decode.specs.declared.whole.WholeFault.{WholeFault}
+use Rattle.tl_decode.specs.declared.whole.WholeFault.TheVariants.{Refused, Trailing, ReadFault, Memory}
+
+-- All the bytes spell the value; or they are refused; or they go on after a spelling. Out of memory and a failed read are free here.
+abbrev pub ReadsWhole : Declared → Shape → List ℕ → Result Value WholeFault → Type 0
+ReadsWhole schema T bytes (Ok value) = Spells schema T (view value) bytes × (depth (view value) ≤ MAX_LEVELS)
+ReadsWhole schema T bytes (Err (Refused place cause)) = (offset : ℕ) × refusal.Refused schema MAX_LEVELS T bytes offset cause × (place ≡ moved 0 offset)
+ReadsWhole schema T bytes (Err (Trailing place)) =
+    (v : ValueView) × (x rest : List ℕ) × (bytes ≡ x ++ rest) × (0 < length rest) × Spells schema T v x × (depth v ≤ MAX_LEVELS) × (place ≡ moved 0 (length x))
+ReadsWhole schema T bytes (Err ReadFault) = Unit {0}
+ReadsWhole schema T bytes (Err Memory) = Unit {0}
+
+-- why bytes are no value, where decoding from their start fails
+abbrev pub whole_fault : DecodeFault → WholeFault
+whole_fault (decode.Refused place cause) = Refused place cause
+whole_fault decode.ReadFault = ReadFault
+whole_fault decode.Memory = Memory
+
+-- ---- inside: a decoder that is fed with the bytes
+
+-- What comes after a value: no byte of its piece and no byte of what is left, or more bytes at the place.
+abbrev pub EndsAfter : ℕ → Bool → List ℕ → Result (Unit {0}) WholeFault → Type 0
+EndsAfter place more left (Ok u) = (more ≡ false) × (left ≡ [])
+EndsAfter place more left (Err (Trailing at)) = (at ≡ place) × ((more ≡ true) ⊎ (0 < length left))
+EndsAfter place more left (Err (Refused at cause)) = ⊥
+EndsAfter place more left (Err ReadFault) = Unit {0}
+EndsAfter place more left (Err Memory) = ⊥
+
+-- A decoder was fed with all the bytes: they spell the value that it has, or they are no value, for the cause.
+abbrev pub FeedsWhole : Declared → Shape → List ℕ → DecoderView → Result (Unit {0}) WholeFault → Type 0
+FeedsWhole schema T bytes d (Ok u) = (v : ValueView) × HasValue d v × Spells schema T v bytes × (depth v ≤ MAX_LEVELS)
+FeedsWhole schema T bytes d (Err e) = ReadsWhole schema T bytes (Err e)
