@@ -1,5 +1,5 @@
 -- The walk over a whole value.
-use Rattle.std.proofs.Common.{◌≡◌, ℕ, zero, suc, ap₂, ◌+◌, ◌-◌, ◌<◌, ◌≤◌, ◌^◌, List, [], ◌∷◌, ◌++◌, append-nil, append_assoc, length, min, Option, Some, None, refl, sym, ap, ◌∙◌, arith}
+use Rattle.std.proofs.Common.{◌≡◌, ℕ, zero, suc, ap₂, ◌+◌, ◌-◌, ◌<◌, ◌≤◌, ◌^◌, List, [], ◌∷◌, ◌++◌, append-nil, append_assoc, length, min, Option, Some, None, refl, sym, subst, ap, true, ◌∙◌, arith}
 use Rattle.std.specs.Prelude.{slice_get}
 use Rattle.std.proofs.lemmas.List.{length-append}
 use Rattle.tl_schema.specs.Types.{Shape}
@@ -10,13 +10,14 @@ use Rattle.tl_plan.specs.Seen.{Shows}
 use Rattle.tl_plan.specs.declared.instances.Instance.{Instance}
 use Rattle.tl_types.specs.Values.{ValueView, depth}
 use Rattle.tl_types.specs.Spelling.{Spells}
-use Rattle.tl_types.specs.Fitting.{Bit, MisfitView, misfit, node_misfit, or_else}
+use Rattle.tl_types.specs.Fitting.{Bit, MisfitView, is_in_range, misfit, node_misfit, or_else}
 use Rattle.tl_types.specs.Seen.{view}
 use Rattle.tl_types.specs.declared.value.TheConstants.{MAX_LEVELS}
 use Rattle.tl_types.specs.declared.misfit.MisfitCause.{MisfitCause}
-use Rattle.tl_types.proofs.NodePasses.{fits_of, no_cause, or_else_none}
+use Rattle.tl_types.proofs.NodePasses.{fits_of, no_cause, or_else_none, passes}
 use Rattle.tl_encode.specs.declared.frames.Frame.{Frame}
 use Rattle.tl_encode.specs.declared.frames.Part.{Part}
+use Rattle.tl_encode.specs.Lengths.{FitsInstance}
 use Rattle.tl_encode.specs.inner.Bytes.{spelling, start}
 use Rattle.tl_encode.specs.inner.Forms.{outermost}
 use Rattle.tl_encode.specs.inner.Frames.{path_of}
@@ -117,3 +118,12 @@ module _ (p : PlanView) (k : ℕ) (v : ValueView) where
       let both = or_else_none (part_misfit p x fs) (misfit_left p fs) (sym walks.misfit ∙ fits) in
       let own = no_misfit_under (path_of fs) _ both.0 in
       no_cause p.schema.decls (levels_in fs) x.bit (part_type p x) (view x.value.now) (fits_of p.schema.decls (levels_in fs) x.bit (part_type p x) (view x.value.now) own).own
+
+-- where the value fits the root's type, each part that the walk comes to passes
+module _ (p : PlanView) (k root : ℕ) (v : ValueView) (put : List ℕ) (next : Option Part) (x : Part) (fs : List Frame) where
+  pub part_fits : k < length p.instances → k ≡ root → FitsInstance p root v → next ≡ Some x → Walks p k v put next fs → node_misfit p.schema.decls (levels_in fs) x.bit (part_type p x) (view x.value.now) ≡ None
+  part_fits within same fits is walks =
+      part_passes p k v put x fs (subst (λ (o : Option Part). Walks p k v put o fs) is walks) (fits (type_at p k) (subst (λ (i : ℕ). IsInstance p i (type_at p k)) same (instance_is p k within)))
+
+  pub part_in_range : k < length p.instances → k ≡ root → FitsInstance p root v → next ≡ Some x → Walks p k v put next fs → is_in_range (view x.value.now) ≡ true
+  part_in_range within same fits is walks = (passes p.schema.decls (levels_in fs) x.bit (part_type p x) (view x.value.now) (part_fits within same fits is walks)).range

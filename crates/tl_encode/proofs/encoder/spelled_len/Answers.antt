@@ -1,11 +1,9 @@
 use Rattle.std.proofs.Common.{rules, ◌∙◌, ◌-◌, ◌^◌, List, [], ℕ, Option, length, min, ap, sym, refl, subst}
-use Rattle.tl_plan.specs.PlanLaws.{IsInstance}
 use Rattle.tl_types.specs.Seen.{view}
-use Rattle.tl_types.proofs.NodePasses.{passes}
 use Rattle.tl_encode.specs.declared.frames.Part.{Part}
 use Rattle.tl_encode.specs.inner.Frames.{EachIsCounted, frames_of}
-use Rattle.tl_encode.specs.inner.Walks.{Walks, levels_in, part_type, type_at}
-use Rattle.tl_encode.proofs.Walking.{ends, goes_on, instance_is, one_more, part_passes, start_told, starts, whole_is}
+use Rattle.tl_encode.specs.inner.Walks.{Walks}
+use Rattle.tl_encode.proofs.Walking.{ends, goes_on, one_more, part_fits, part_in_range, start_told, starts, whole_is}
 use Rattle.tl_encode.proofs.encoder.spelled_len.Goals as goal
 
 pub loop-next-init : goal.loop-next-init
@@ -18,21 +16,13 @@ loop-next-init c = (
 
 pub step_over-next-requires-clause-fits : goal.step_over-next-requires-clause-fits
 step_over-next-requires-clause-fits c =
-    let p = c.args.plan.now in
-    let fs = frames_of c.loop-next.stack in
     let put = c.loop-next.invariant.3 in
-    let walks = subst (λ (o : Option Part). Walks p c.root-of.result (view c.args.value.now) put.0 o fs) c.in-Some.is put.1 in
-    part_passes p c.root-of.result (view c.args.value.now) put.0 c.in-Some.part fs walks (c.requires.fits _ (subst (λ (k : ℕ). IsInstance p k (type_at p c.root-of.result)) c.root-of.ensures.root (instance_is p c.root-of.result c.root-of.ensures.within)))
+    part_fits c.args.plan.now c.root-of.result c.args.root (view c.args.value.now) put.0 c.loop-next.next c.in-Some.part (frames_of c.loop-next.stack) c.root-of.ensures.within c.root-of.ensures.root c.requires.fits c.in-Some.is put.1
 
 pub start_len-requires : goal.start_len-requires
 start_len-requires c =
-    let p = c.args.plan.now in
-    let x = c.in-Some.part in
-    let fs = frames_of c.loop-next.stack in
     let put = c.loop-next.invariant.3 in
-    let walks = subst (λ (o : Option Part). Walks p c.root-of.result (view c.args.value.now) put.0 o fs) c.in-Some.is put.1 in
-    let own = part_passes p c.root-of.result (view c.args.value.now) put.0 x fs walks (c.requires.fits _ (subst (λ (k : ℕ). IsInstance p k (type_at p c.root-of.result)) c.root-of.ensures.root (instance_is p c.root-of.result c.root-of.ensures.within))) in
-    record { in_range = (passes p.schema.decls (levels_in fs) x.bit (part_type p x) (view x.value.now) own).range }
+    record { in_range = part_in_range c.args.plan.now c.root-of.result c.args.root (view c.args.value.now) put.0 c.loop-next.next c.in-Some.part (frames_of c.loop-next.stack) c.root-of.ensures.within c.root-of.ensures.root c.requires.fits c.in-Some.is put.1 }
 
 pub loop-next-preserved : goal.loop-next-preserved
 loop-next-preserved c =

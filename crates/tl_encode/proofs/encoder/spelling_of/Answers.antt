@@ -1,4 +1,4 @@
-use Rattle.std.proofs.Common.{◌≡◌, ◌∙◌, None, ap, subst}
+use Rattle.std.proofs.Common.{◌∙◌, None, ap, subst}
 use Rattle.tl_schema.specs.Types.{Shape}
 use Rattle.tl_types.specs.Fitting.{misfit}
 use Rattle.tl_types.specs.Seen.{view}
