@@ -8,7 +8,7 @@ use Rattle.tl_types.specs.declared.value.TheConstants.{MAX_LEVELS}
 use Rattle.tl_schema.specs.Types as type
 use Rattle.tl_schema.specs.Schemas.{Declared}
 use Rattle.wire_checks.specs.declared.fault.WireFault.{WireFault}
-use Rattle.box_wire.specs.inner.Wholes.{ReadsWhole}
+use Rattle.box_wire.specs.inner.Wholes.{ReadsValue}
 use Rattle.wire_forms.specs.declared.form.Cell.{Cell}
 use Rattle.wire_forms.specs.declared.form.Cell.TheVariants.{Whole, Query}
 use Rattle.wire_forms.specs.Forms.{forms, cells_of, is_function, is_request}
@@ -152,5 +152,5 @@ call_levels t is e = absurd is
 
 -- ---- the schema of a profile
 
-pub whole_call : (R S : Declared) (bytes : List ℕ) → R ≡ S → (r : Result Value WireFault) → ReadsWhole R type.call bytes r → ReadsWhole S type.call bytes r
-whole_call R S bytes same r is = subst (λ (U : Declared). ReadsWhole U type.call bytes r) same is
+pub whole_call : (R S : Declared) (bytes : List ℕ) → R ≡ S → (r : Result Value WireFault) → ReadsValue R type.call bytes r → ReadsValue S type.call bytes r
+whole_call R S bytes same r is = subst (λ (U : Declared). ReadsValue U type.call bytes r) same is

@@ -10,6 +10,9 @@ use Rattle.tl_types.specs.Offsets.{moved}
 use Rattle.tl_types.specs.declared.cause.Cause.{Cause}
 use Rattle.tl_types.specs.declared.value.TheConstants.{MAX_LEVELS}
 use Rattle.tl_types.proofs.Exactly.{exactly_one}
+use Rattle.tl_decode.specs.Wholes.{ReadsWhole}
+use Rattle.tl_decode.specs.declared.whole.WholeFault.{WholeFault}
+use Rattle.tl_decode.specs.declared.whole.WholeFault.TheVariants as whole
 use Rattle.wire_forms.specs.IsOf.{IsOf}
 use Rattle.wire_profile.specs.Places.{ProfileView, cell_shape}
 use Rattle.wire_profile.specs.Profiles.{IsProfile}
@@ -20,8 +23,7 @@ use Rattle.wire_checks.specs.declared.fault.WireFault.TheVariants as wire
 use Rattle.box_wire.specs.Kinds.{Kind}
 use Rattle.box_wire.specs.Framing.{SpellsWhole, Means, WireRefused, no_value, goes_on, no_message}
 use Rattle.box_wire.specs.Answers.{Reads}
-use Rattle.box_wire.specs.inner.Wholes.{NoWhole, AnswersMessage}
-use Rattle.box_wire.specs.inner.Wholes as whole
+use Rattle.box_wire.specs.inner.Wholes.{ReadsValue, AnswersMessage, as_wire_fault}
 
 -- Messages of a kind, and their values.
 pub record KindLaws {M : Type 0} (kind : Kind) (tree : M → ValueView) (inside : ValueView → M) (Is : M → Type 0) : Type 0 where
@@ -93,10 +95,11 @@ module _ (p : ProfileView) (good : IsProfile p) (kind : Kind) (formed : IsFormed
   one_fault e f (no_message v r c) (goes_on w x rest s on some at) = absurd (not_on v w x rest r s on some)
   one_fault e f (no_message w s c) (no_message v r d) = some_is e f (cause_as w v (Some e) (Some f) s r c d)
 
-  told_of : (e : WireFault) → NoWhole p.schema (cell_shape p kind.cell) bytes e → (e ≡ wire.Memory) ⊎ WireRefused p kind bytes e
-  told_of e (whole.no_value offset cause r is) = inr (no_value offset cause r is)
-  told_of e (whole.goes_on v x rest spells deep is some at) = inr (goes_on v x rest (spells, deep) is some at)
-  told_of e (whole.memory is) = inl is
+  told_of : (e : WireFault) (f : WholeFault) → ReadsWhole p.schema (cell_shape p kind.cell) bytes (Err f) → e ≡ as_wire_fault f → (e ≡ wire.Memory) ⊎ WireRefused p kind bytes e
+  told_of e (whole.Refused place cause) (offset, r, at) is = inr (no_value offset cause r (is ∙ ap (λ (n : ℕ). wire.Refused n cause) at))
+  told_of e (whole.Trailing place) (v, x, rest, split, some, spells, deep, at) is = inr (goes_on v x rest (spells, deep) split some (is ∙ ap (λ (n : ℕ). wire.Trailing n) at))
+  told_of e whole.ReadFault r is = inl is
+  told_of e whole.Memory r is = inl is
 
   module _ {M : Type 0} (tree : M → ValueView) (inside : ValueView → M) (Is : M → Type 0) (laws : KindLaws kind tree inside Is) where
     -- what is answered, of the bytes
@@ -128,8 +131,8 @@ module _ (p : ProfileView) (good : IsProfile p) (kind : Kind) (formed : IsFormed
       refused = λ f s. elim told [ inl memory ↦ inr (ap Err memory) | inr t ↦ inl (ap Err (one_fault e f t s)) ];
     }
 
-    pub reads_none : (e : WireFault) → NoWhole p.schema (cell_shape p kind.cell) bytes e → ReadsThem (Err e)
-    reads_none e none = reads_by (Err e) tt (told_of e none)
+    pub reads_none : (e : WireFault) → ReadsValue p.schema (cell_shape p kind.cell) bytes (Err e) → ReadsThem (Err e)
+    reads_none e none = reads_by (Err e) tt (told_of e none.0 none.1 none.2)
 
     answered : (v : ValueView) → SpellsWhole p kind v bytes → (o : Option WireFault) → kind.cause (owned p v) ≡ o → (r : Result M WireFault) → AnswersMessage o (inside (owned p v)) r → Given r × Told r
     answered v s (Some e) c (Ok x) is = absurd (ok_or_err x e is)

@@ -1,4 +1,3 @@
-pub mod WholeValues
 pub mod KeptValues
 pub mod FormedTypes
 pub mod Exactly

@@ -1,18 +1,18 @@
 //! Values that are the whole of some bytes, and the bytes of values.
-ghost use Rattle.std.specs.Prelude.{◌≡◌, ◌≢◌, ◌<◌, IfOk, drop};
+ghost use Rattle.std.specs.Prelude.{◌≡◌, ◌≢◌, ◌<◌, IfOk};
 ghost use Rattle.tl_base.specs.Contents.{AreBytes};
 ghost use Rattle.tl_schema.specs.Types.{Shape, call};
 ghost use Rattle.tl_schema.specs.Formed.{IsFormed};
 ghost use Rattle.tl_plan.specs.PlanLaws.{IsInstance};
 ghost use Rattle.tl_types.specs.Seen.{view};
 ghost use Rattle.box_wire.specs.Answers.{GivesSpelling};
-ghost use Rattle.box_wire.specs.inner.Wholes.{EndsWith, IsSpelling, ReadsWhole, as_wire_fault};
+ghost use Rattle.box_wire.specs.inner.Wholes.{IsSpelling, ReadsValue, as_wire_fault};
 
 use crate::fault::SpellFault;
 use box_events::MAX_FRAME_BYTES;
 use std::alloc::{AllocError, Global};
-use tl_base::{Bytes, SliceSource};
-use tl_decode::{DecodeFault, decode, decode_walk};
+use tl_base::Bytes;
+use tl_decode::{WholeFault, decode_bytes, decode_bytes_as};
 use tl_encode::{spell, spelling_of};
 use tl_plan::Plan;
 use tl_schema::{Schema, TypeRef};
@@ -20,56 +20,38 @@ use tl_types::{Value, fits};
 use wire_checks::WireFault;
 
 // A fault over bytes in memory, which are always read.
-fn wire_fault(fault: DecodeFault) -> WireFault
-    requires { fault ≢ DecodeFault.ReadFault }
+fn wire_fault(fault: WholeFault) -> WireFault
+    requires { fault ≢ WholeFault.ReadFault }
     ensures { result ≡ as_wire_fault fault }
 {
     match fault {
-        DecodeFault::Refused { place, cause } => WireFault::Refused { place, cause },
-        DecodeFault::ReadFault => unreachable!(),
-        DecodeFault::Memory => WireFault::Memory,
+        WholeFault::Refused { place, cause } => WireFault::Refused { place, cause },
+        WholeFault::Trailing { place } => WireFault::Trailing { place },
+        WholeFault::ReadFault => unreachable!(),
+        WholeFault::Memory => WireFault::Memory,
     }
 }
 
 /// The value of a root of a plan that is the whole of the bytes.
 pub fn value_in(alloc: Global, plan: &Plan, root: u32, bytes: &[u8]) -> Result<Value, WireFault>
     requires { root < plan.now.roots }
-    ensures whole { (T : Shape) → IsInstance plan.now root T → IsFormed plan.now.schema T → ReadsWhole plan.now.schema T bytes.now result }
+    ensures whole { (T : Shape) → IsInstance plan.now root T → IsFormed plan.now.schema T → ReadsValue plan.now.schema T bytes.now result }
     ensures bytes { AreBytes bytes.now }
 {
-    // Read for the proof alone: that the plan is sound.
-    let _count = plan.count();
-    let mut from = SliceSource::new(bytes);
-    let mut at = 0;
-    match decode(alloc, plan, root, &mut at, &mut from) {
-        Ok(value) => ended(value, at, &from),
+    match decode_bytes(alloc, plan, root, bytes) {
+        Ok(value) => Ok(value),
         Err(fault) => Err(wire_fault(fault)),
     }
 }
 
 /// The call of any function of a schema that is the whole of the bytes.
 pub fn value_of_call(alloc: Global, schema: &Schema, bytes: &[u8]) -> Result<Value, WireFault>
-    ensures whole { ReadsWhole schema.now call bytes.now result }
+    ensures whole { ReadsValue schema.now call bytes.now result }
     ensures bytes { AreBytes bytes.now }
 {
-    // Read for the proof alone: that the schema is sound.
-    let _count = schema.count();
-    let mut from = SliceSource::new(bytes);
-    let mut at = 0;
-    match decode_walk(alloc, schema, &TypeRef::Call, &mut at, &mut from) {
-        Ok(value) => ended(value, at, &from),
+    match decode_bytes_as(alloc, schema, &TypeRef::Call, bytes) {
+        Ok(value) => Ok(value),
         Err(fault) => Err(wire_fault(fault)),
-    }
-}
-
-// The value, unless bytes are left after it.
-fn ended(value: Value, at: u64, from: &SliceSource) -> Result<Value, WireFault>
-    ensures { EndsWith (drop from.now.at from.now.bytes.now) at value result }
-{
-    if from.is_empty() {
-        Ok(value)
-    } else {
-        Err(WireFault::Trailing { place: at })
     }
 }
 

@@ -9,7 +9,7 @@ use Rattle.tl_schema.specs.Schemas.{Declared}
 use Rattle.tl_types.specs.Offsets.{moved}
 use Rattle.tl_types.specs.Values.{ValueView}
 use Rattle.tl_types.specs.declared.value.TheConstants.{MAX_LEVELS}
-use Rattle.tl_calls.specs.Calling.{CallsView, StandsFor, ReadsWhole, Sends, open_at}
+use Rattle.tl_calls.specs.Calling.{CallsView, StandsFor, ReadsAnswer, Sends, open_at}
 use Rattle.tl_calls.specs.Events.{Log, open_in, IsOpen}
 use Rattle.tl_calls.specs.Results.{result_type}
 use Rattle.tl_calls.specs.declared.calls.TheConstants.{MAX_OPEN}
@@ -39,13 +39,13 @@ no_more p place n is inside = omega (arith, is, inside)
 part_within : (b x rest : List ℕ) → b ≡ x ++ rest → length x ≤ length b
 part_within b x rest split = omega (arith, ap length split, length-append x rest)
 
-pub offset_within : (schema : Declared) (T : Shape) (b : List ℕ) (fault : AnswerFault) → ReadsWhole schema T b (Err fault) → offset_in fault ≤ length b
+pub offset_within : (schema : Declared) (T : Shape) (b : List ℕ) (fault : AnswerFault) → ReadsAnswer schema T b (Err fault) → offset_in fault ≤ length b
 offset_within schema T b (answer.Refused place cause) (p, r, is) = no_more p place (length b) is (refused_within schema MAX_LEVELS T b p cause r)
 offset_within schema T b (answer.Trailing place) (v, x, rest, split, some, spells, deep, is) = no_more (length x) place (length b) is (part_within b x rest split)
 offset_within schema T b answer.Memory u = omega arith
 
 -- what is told of bytes after the first word of a packet has a place in the file
-pub place_fits : (schema : Declared) (T : Shape) (at : ℕ) (b : List ℕ) (fault : AnswerFault) → at + (8 + length b) < 2 ^ 64 → ReadsWhole schema T b (Err fault) → at + (8 + offset_in fault) < 2 ^ 64
+pub place_fits : (schema : Declared) (T : Shape) (at : ℕ) (b : List ℕ) (fault : AnswerFault) → at + (8 + length b) < 2 ^ 64 → ReadsAnswer schema T b (Err fault) → at + (8 + offset_in fault) < 2 ^ 64
 place_fits schema T at b fault few read = omega (arith, few, offset_within schema T b fault read)
 
 -- ---- bytes that are no value
@@ -58,7 +58,7 @@ module _ (schema : Declared) (T : Shape) (at : ℕ) (b : List ℕ) (few : at + (
   placed : (p place : ℕ) → p ≤ length b → place ≡ moved 0 p → at + (8 + place) ≡ at + (8 + p)
   placed p place inside is = ap (λ (n : ℕ). at + (8 + n)) (is ∙ as_moved p (length b) inside (omega (arith, few)))
 
-  pub unread_says : (fault : AnswerFault) (u : Unmade) → ReadsWhole schema T b (Err fault) → TellsUnread at fault u → Refuses (SaysRefused NoWholeAt) u
+  pub unread_says : (fault : AnswerFault) (u : Unmade) → ReadsAnswer schema T b (Err fault) → TellsUnread at fault u → Refuses (SaysRefused NoWholeAt) u
   unread_says (answer.Refused place cause) u (p, r, is) tells =
       refuses_as (λ told. told ≡ input_line (at + (8 + place)) (cause_text cause)) (SaysRefused NoWholeAt) u
       (λ line says. (at + (8 + place), cause_text cause, (p, refused cause r refl, placed p place (refused_within schema MAX_LEVELS T b p cause r) is), says)) tells
@@ -74,12 +74,12 @@ abbrev pub SaysContent : Declared → CallsView → ℕ → List ℕ → List �
 SaysContent schema old at content line = (past : Log) → StandsFor schema old past → SaysRefused (ContentRefused schema past at content) line
 
 module _ (schema : Declared) (old : CallsView) (at : ℕ) (b : List ℕ) where
-  pub call_unread : at + (8 + length b) < 2 ^ 64 → (fault : AnswerFault) (u : Unmade) → ReadsWhole schema type.call b (Err fault) → TellsUnread at fault u → Refuses (SaysContent schema old at (word 0 ++ b)) u
+  pub call_unread : at + (8 + length b) < 2 ^ 64 → (fault : AnswerFault) (u : Unmade) → ReadsAnswer schema type.call b (Err fault) → TellsUnread at fault u → Refuses (SaysContent schema old at (word 0 ++ b)) u
   call_unread few fault u read tells =
       refuses_as (SaysRefused (NoWholeAt schema type.call at b few)) (SaysContent schema old at (word 0 ++ b)) u
       (λ line (place, why, (p, none, is), says) past stands. (place, why, no_call b p refl none is, says)) (unread_says schema type.call at b few fault u read tells)
 
-  pub answer_unread : at + (8 + length b) < 2 ^ 64 → (n : ℕ) (call : ValueView) → n < 2 ^ 32 → open_at old n ≡ Some call → (fault : AnswerFault) (u : Unmade) → ReadsWhole schema (result_type schema.decls call) b (Err fault) → TellsUnread at fault u
+  pub answer_unread : at + (8 + length b) < 2 ^ 64 → (n : ℕ) (call : ValueView) → n < 2 ^ 32 → open_at old n ≡ Some call → (fault : AnswerFault) (u : Unmade) → ReadsAnswer schema (result_type schema.decls call) b (Err fault) → TellsUnread at fault u
       → Refuses (SaysContent schema old at (word n ++ b)) u
   answer_unread few n call fits found fault u read tells =
       refuses_as (SaysRefused (NoWholeAt schema (result_type schema.decls call) at b few)) (SaysContent schema old at (word n ++ b)) u

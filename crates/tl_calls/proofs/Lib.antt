@@ -10,6 +10,5 @@ pub mod Answers
 pub mod Judged
 pub mod ResultSteps
 pub mod Agreed
-pub mod WholeAnswers
 pub mod Called
 pub mod CalledResults

@@ -4,13 +4,12 @@ use Rattle.std.specs.Map.{lookup, remove_entry}
 use Rattle.std.specs.Ordering.{is_eq, nat_cmp}
 use Rattle.tl_schema.specs.Types.{Shape}
 use Rattle.tl_schema.specs.Schemas.{Declared}
-use Rattle.tl_types.specs.Values.{ValueView, depth}
+use Rattle.tl_types.specs.Values.{ValueView}
 use Rattle.tl_types.specs.Seen.{view}
-use Rattle.tl_types.specs.Spelling.{Spells}
-use Rattle.tl_types.specs.Refusal as refusal
-use Rattle.tl_types.specs.Offsets.{moved}
 use Rattle.tl_types.specs.declared.value.Value.{Value}
-use Rattle.tl_types.specs.declared.value.TheConstants.{MAX_LEVELS}
+use Rattle.tl_decode.specs.Wholes.{ReadsWhole}
+use Rattle.tl_decode.specs.declared.whole.WholeFault.{WholeFault}
+use Rattle.tl_decode.specs.declared.whole.WholeFault.TheVariants as whole
 use Rattle.tl_calls.specs.Results.{result_type, HasResult, ResultHas}
 use Rattle.tl_calls.specs.Events.{Log, sent, came, sent_in, open_in, Given}
 use Rattle.tl_calls.specs.declared.calls.TheConstants.{MAX_OPEN}
@@ -61,18 +60,22 @@ Sends schema old new v (Err send.Full) = (length old.calls ≡ MAX_OPEN) × (new
 Sends schema old new v (Err (send.Result cause)) = (length old.calls < MAX_OPEN) × ResultHas schema (result_type schema.decls v) cause × (new ≡ old)
 Sends schema old new v (Err send.Memory) = new ≡ old
 
+-- a fault of an answer's bytes, as one of any bytes
+abbrev pub as_whole_fault : AnswerFault → WholeFault
+as_whole_fault (answer.Refused place cause) = whole.Refused place cause
+as_whole_fault (answer.Trailing place) = whole.Trailing place
+as_whole_fault answer.Memory = whole.Memory
+
 -- The value of a type that the bytes spell, or where and why they spell none. Out of memory is free.
-abbrev pub ReadsWhole : Declared → Shape → List ℕ → Result Value AnswerFault → Type 0
-ReadsWhole schema T b (Ok v) = Spells schema T (view v) b × (depth (view v) ≤ MAX_LEVELS)
-ReadsWhole schema T b (Err (answer.Refused place cause)) = (p : ℕ) × refusal.Refused schema MAX_LEVELS T b p cause × (place ≡ moved 0 p)
-ReadsWhole schema T b (Err (answer.Trailing place)) = (v : ValueView) × (x rest : List ℕ) × (b ≡ x ++ rest) × (0 < length rest) × Spells schema T v x × (depth v ≤ MAX_LEVELS) × (place ≡ moved 0 (length x))
-ReadsWhole schema T b (Err answer.Memory) = Unit {0}
+abbrev pub ReadsAnswer : Declared → Shape → List ℕ → Result Value AnswerFault → Type 0
+ReadsAnswer schema T b (Ok v) = ReadsWhole schema T b (Ok v)
+ReadsAnswer schema T b (Err fault) = ReadsWhole schema T b (Err (as_whole_fault fault))
 
 -- What an answer to an open call does: the value closes it, and after a refusal it is still open.
 abbrev pub ToCall : Declared → CallsView → CallsView → ℕ → ValueView → List ℕ → Result (Option Value) AnswerFault → Type 0
 ToCall schema old new n asked b (Ok None) = ⊥
-ToCall schema old new n asked b (Ok (Some v)) = ReadsWhole schema (result_type schema.decls asked) b (Ok v) × (new ≡ without_call n old)
-ToCall schema old new n asked b (Err fault) = ReadsWhole schema (result_type schema.decls asked) b (Err fault) × (new ≡ old)
+ToCall schema old new n asked b (Ok (Some v)) = ReadsAnswer schema (result_type schema.decls asked) b (Ok v) × (new ≡ without_call n old)
+ToCall schema old new n asked b (Err fault) = ReadsAnswer schema (result_type schema.decls asked) b (Err fault) × (new ≡ old)
 
 -- An answer to no open call gives nothing, and changes nothing.
 abbrev pub ToNone : CallsView → CallsView → Result (Option Value) AnswerFault → Type 0

@@ -5,7 +5,7 @@ use Rattle.wire_profile.specs.Places.{cell_shape}
 use Rattle.wire_values.specs.Carried.{IsSaved}
 use Rattle.wire_values.specs.SavedClients.{saved_in, saved_tree}
 use Rattle.box_wire.specs.Kinds.{saved_clients}
-use Rattle.box_wire.specs.inner.Wholes.{ReadsWhole}
+use Rattle.box_wire.specs.inner.Wholes.{ReadsValue}
 use Rattle.box_wire.proofs.Exactly.{reads_none, reads_value}
 use Rattle.box_wire.proofs.SavedLaws.{saved_laws, saved_formed}
 use Rattle.box_wire.proofs.Roots.{of_root}
@@ -16,11 +16,11 @@ returns-in_err-value c =
     let formed = saved_formed c.args.profile.now c.plan.ensures.sound in
     let q = err_from_is_err_and c.from_residual.result c.from_residual.ensures.1 in
     rw (q.1, q.2) (reads_none c.args.profile.now c.plan.ensures.sound saved_clients formed c.args.bytes.now c.value_in.ensures.bytes saved_tree saved_in IsSaved saved_laws c.in_err-value.field-0.0
-    (of_root c.args.profile.now c.plan.result.now c.plan.ensures.plan 2 (cell_shape c.args.profile.now saved_clients.cell) refl formed (λ S T. ReadsWhole S T c.args.bytes.now (Err c.in_err-value.field-0.0)) c.in_err-value.ensures.whole))
+    (of_root c.args.profile.now c.plan.result.now c.plan.ensures.plan 2 (cell_shape c.args.profile.now saved_clients.cell) refl formed (λ S T. ReadsValue S T c.args.bytes.now (Err c.in_err-value.field-0.0)) c.in_err-value.ensures.whole))
 
 pub returns : goal.returns
 returns c =
     let formed = saved_formed c.args.profile.now c.plan.ensures.sound in
     reads_value c.args.profile.now c.plan.ensures.sound saved_clients formed c.args.bytes.now c.value_in.ensures.bytes saved_tree saved_in IsSaved saved_laws (view c.in_ok-value.value)
-    (of_root c.args.profile.now c.plan.result.now c.plan.ensures.plan 2 (cell_shape c.args.profile.now saved_clients.cell) refl formed (λ S T. ReadsWhole S T c.args.bytes.now (Ok c.in_ok-value.value)) c.in_ok-value.ensures.whole)
+    (of_root c.args.profile.now c.plan.result.now c.plan.ensures.plan 2 (cell_shape c.args.profile.now saved_clients.cell) refl formed (λ S T. ReadsValue S T c.args.bytes.now (Ok c.in_ok-value.value)) c.in_ok-value.ensures.whole)
     (view c.put_forms.new.value) c.put_forms.ensures c.saved_in.result c.saved_in.ensures

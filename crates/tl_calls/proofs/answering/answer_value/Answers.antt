@@ -3,7 +3,7 @@ use Rattle.tl_schema.proofs.ResultsFormed.{results_are_formed}
 use Rattle.tl_schema.specs.Types.{Shape}
 use Rattle.tl_schema.specs.Formed.{IsFormed}
 use Rattle.tl_types.specs.Seen.{view}
-use Rattle.tl_calls.specs.Calling.{ReadsWhole}
+use Rattle.tl_calls.specs.Calling.{ReadsAnswer}
 use Rattle.tl_calls.proofs.Answered.{answered_in_formed}
 use Rattle.tl_calls.proofs.answering.answer_value.Goals as goal
 
@@ -13,4 +13,4 @@ whole_value-requires c = record {
 }
 
 pub returns-clause-whole : goal.returns-clause-whole
-returns-clause-whole c = subst (λ (T : Shape). ReadsWhole c.args.schema.now T c.args.bytes.now c.whole_value.result) c.in_ok-of.ensures c.whole_value.ensures.whole
+returns-clause-whole c = subst (λ (T : Shape). ReadsAnswer c.args.schema.now T c.args.bytes.now c.whole_value.result) c.in_ok-of.ensures c.whole_value.ensures.whole
