@@ -15,9 +15,9 @@ use Rattle.tl_types.specs.declared.value.Value.{Value}
 use Rattle.tl_types.specs.Parts.{arguments_of, is_absent}
 use Rattle.tl_show.specs.inner.Forms.{FormView, form_in, part_of, read_at, record_by, unless_missing, written}
 use Rattle.tl_show.specs.inner.FormViews.{form_view, part_view}
-use Rattle.tl_show.specs.declared.forms.Form.{Form}
-use Rattle.tl_show.specs.declared.forms.Part.{Part}
-use Rattle.tl_show.specs.declared.forms.Part.TheVariants.{Field}
+use Rattle.tl_show.specs.declared.form.Form.{Form}
+use Rattle.tl_show.specs.declared.form.Part.{Part}
+use Rattle.tl_show.specs.declared.form.Part.TheVariants.{Field}
 
 -- a value of a type, unless it is that of a field that isn't there
 abbrev there : List FormView → Shape → Value → Option Data

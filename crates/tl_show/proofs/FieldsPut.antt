@@ -20,8 +20,8 @@ use Rattle.tl_types.specs.Parts.{is_absent}
 use Rattle.tl_show.specs.Shown.{name_text, named, shown, with_field, with_fields}
 use Rattle.tl_show.specs.inner.Forms.{PutsFields, shown_at, unless_missing}
 use Rattle.tl_show.specs.inner.FormViews.{entry_views}
-use Rattle.tl_show.specs.declared.forms.Part.{Part}
-use Rattle.tl_show.specs.declared.forms.Part.TheVariants.{Name, Field}
+use Rattle.tl_show.specs.declared.form.Part.{Part}
+use Rattle.tl_show.specs.declared.form.Part.TheVariants.{Name, Field}
 use Rattle.tl_show.proofs.KeyOrder.{Entry, put_part, inserted}
 
 none_left : (ds : List Declaration) (args : List Shape) (ms : Members) (vs : ValueViews) → with_fields ds args ms [] vs ≡ ms

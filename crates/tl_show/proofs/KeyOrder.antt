@@ -13,7 +13,7 @@ use Rattle.serde_json.specs.Data.{Data, Members, no_members, member, put}
 use Rattle.tl_schema.specs.Types.{Shape}
 use Rattle.tl_show.specs.inner.Forms.{Reads, members_at, part_of, with_part}
 use Rattle.tl_show.specs.inner.FormViews.{entry_views, part_view}
-use Rattle.tl_show.specs.declared.forms.Part.{Part}
+use Rattle.tl_show.specs.declared.form.Part.{Part}
 
 abbrev pub Entry : Type 0
 Entry = String Global × Part

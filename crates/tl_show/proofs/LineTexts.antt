@@ -1,19 +1,18 @@
 -- The text of what was written, and of what is shown.
-use Rattle.std.proofs.Common.{◌≡◌, ℕ, List, [], ◌++◌, Vec, Global, Option, Some, None, Result, Ok, Err, false, ap, ◌∙◌}
+use Rattle.std.proofs.Common.{◌≡◌, ℕ, List, [], ◌∷◌, ◌++◌, Vec, Global, Option, Some, None, Result, Ok, Err, false, refl, ap, ◌∙◌, append-nil}
 use Rattle.std.specs.Prelude.{IfOk, IfSome}
 use Rattle.std.specs.declared.alloc.AllocError.{AllocError}
-use Rattle.json.specs.Print.{print}
-use Rattle.json.specs.Tree.{json_tokens}
+use Rattle.json.specs.Print.{print, print_from, quoted}
+use Rattle.json.specs.Token.{Token, key, string}
 use Rattle.json.specs.Written.{Written}
-use Rattle.serde_json.proofs.Texts.{print-outline}
 use Rattle.serde_json.specs.Data.{Data}
-use Rattle.serde_json.specs.Written.{compact_text, has_float, outline}
+use Rattle.serde_json.specs.Written.{compact_text, has_float}
 use Rattle.tl_schema.specs.Types.{Shape}
 use Rattle.tl_schema.specs.Schemas.{Declaration, Declared}
 use Rattle.tl_types.specs.Values.{ValueView}
 use Rattle.tl_show.specs.Shown.{shown}
 use Rattle.tl_show.specs.inner.Forms.{AreForms, FormView, written}
-use Rattle.tl_show.specs.inner.Lines.{Appended, PrintAsShown}
+use Rattle.tl_show.specs.inner.Lines.{PrintAsShown}
 use Rattle.tl_show.proofs.FormedRecords.{as_shown}
 use Rattle.tl_show.proofs.NoFloats.{no_float}
 
@@ -23,9 +22,18 @@ Line = Result (Vec ℕ Global) AllocError
 abbrev pub IsText : Line → Data → Type 0
 IsText line d = IfOk line (λ b. b.items ≡ compact_text d)
 
-pub text_of_tokens : (d : Data) (old new : Written) (text : List ℕ) → old.before ≡ [] → old.tokens ≡ [] → Appended old new (json_tokens (outline d))
-    → text ≡ new.before ++ print new.tokens → text ≡ compact_text d
-text_of_tokens d old new text first none added is = is ∙ rw (added.before, added.tokens, first, none) (print-outline d)
+-- what a writer of one token leaves
+pub one_printed : (old new : Written) (t : Token) (start text : List ℕ) → old.before ≡ start → old.tokens ≡ [] → new.before ≡ old.before → new.tokens ≡ old.tokens ++ t ∷ []
+    → text ≡ new.before ++ print new.tokens → text ≡ start ++ print (t ∷ [])
+one_printed old new t start text first none kept added is = is ∙ rw (kept, added, first, none) refl
+
+pub print-key : (k : List ℕ) → print (key k ∷ []) ≡ quoted k ++ 58 ∷ []
+unfolding print_from
+print-key k = append-nil (quoted k ++ 58 ∷ [])
+
+pub print-string : (s : List ℕ) → print (string s ∷ []) ≡ quoted s
+unfolding print_from
+print-string s = append-nil (quoted s)
 
 -- the forms of a schema's declarations write what is shown
 pub print_as_shown : {X : Type 0} (schema : Declared) (see : X → List FormView) (found : Option X) → IfSome found (λ x. AreForms schema.decls (see x)) → IfSome found (λ x. PrintAsShown schema (see x))

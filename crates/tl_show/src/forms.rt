@@ -1,29 +1,17 @@
 //! The keys of records, in the order in which they are written.
-ghost use Rattle.std.specs.Prelude.{◌≡◌, IfOk, IfSome, map};
+ghost use Rattle.std.specs.Prelude.{◌≡◌, ◌∷◌, ◌++◌, [], IfOk, IfSome, map, string_bytes};
+ghost use Rattle.json.specs.Print.{quoted};
 ghost use Rattle.tl_schema.specs.Seen.{declaration, slot};
 ghost use Rattle.tl_show.specs.inner.Forms.{AreForms, IsForm, PutsFields};
-ghost use Rattle.tl_show.specs.inner.FormViews.{entry_views, form_view};
+ghost use Rattle.tl_show.specs.inner.FormViews.{entry_views, form_view, key_view, part_view};
 
+use crate::form::{Form, Key, Part};
 use crate::parts::name_text;
+use crate::quoting::quoted_of;
+use json::Writer;
 use std::alloc::{AllocError, Global};
 use std::collections::BTreeMap;
-use tl_schema::{Entry, Schema, SchemaField, TypeRef};
-
-/// What stands at a key of a record.
-#[derive(Drop)]
-pub enum Part<'a> {
-    /// The name of its declaration.
-    Name,
-    /// The value at this index, of this type.
-    Field { index: usize, of: &'a TypeRef },
-}
-
-/// How the records of a declaration are written: the text of its name, and the keys in the order of their bytes.
-#[derive(Drop)]
-pub struct Form<'a> {
-    pub name: String,
-    pub keys: Vec<(String, Part<'a>)>,
-}
+use tl_schema::{Entry, Schema, SchemaField};
 
 /// The forms of a schema's declarations; none where one of these has two fields of one name, or a field named `_`.
 pub fn forms_of(alloc: Global, schema: &Schema) -> Result<Option<Vec<Form<'_>>>, AllocError>
@@ -47,8 +35,38 @@ fn form_of(alloc: Global, entry: &Entry) -> Result<Option<Form<'_>>, AllocError>
         return Ok(None);
     };
     let name = name_text(alloc, entry.name.as_slice())?;
-    let keys = parts.into_iter().collect(alloc)?;
-    Ok(Some(Form { name, keys }))
+    let title = quoted_of(alloc, &name)?;
+    let keys = keys_of(alloc, parts.into_iter().collect(alloc)?)?;
+    Ok(Some(Form { name, title, keys }))
+}
+
+// The keys with what stands at them, in the same order.
+fn keys_of<'a>(alloc: Global, entries: Vec<(String, Part<'a>)>) -> Result<Vec<Key<'a>>, AllocError>
+    ensures { IfOk result (λ keys. map key_view keys.items ≡ entry_views entries.entry.items) }
+{
+    let mut keys = Vec::with_capacity(alloc, entries.len())?;
+    for entry in entries {
+        let (name, part) = entry;
+        keys.push(key_of(alloc, name, part)?)?;
+    }
+    Ok(keys)
+}
+
+// A key with what stands at it.
+fn key_of(alloc: Global, name: String, part: Part<'_>) -> Result<Key<'_>, AllocError>
+    ensures { IfOk result (λ key. key_view key ≡ (string_bytes name, part_view part.entry)) }
+{
+    let lead = lead_of(alloc, &name)?;
+    Ok(Key { name, part, lead })
+}
+
+// A comma, the key as JSON, and its colon.
+fn lead_of(alloc: Global, name: &str) -> Result<Vec<u8>, AllocError>
+    ensures { IfOk result (λ lead. lead.items ≡ 44 ∷ (quoted name.now ++ 58 ∷ [])) }
+{
+    let mut lead = Writer::new(Vec::from_slice(alloc, b",")?);
+    lead.key(name)?;
+    Ok(lead.into_inner())
 }
 
 // What stands at the keys of a record with these fields, by the keys; none where two are alike.

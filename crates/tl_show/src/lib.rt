@@ -2,6 +2,7 @@
 #![tactic(auto)]
 
 mod fault;
+mod form;
 mod forms;
 mod from_text;
 mod keyed;
@@ -10,6 +11,7 @@ mod laws;
 mod line;
 mod parts;
 mod plain;
+mod quoting;
 mod reading;
 mod records;
 mod texts;

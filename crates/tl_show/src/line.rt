@@ -9,10 +9,10 @@ ghost use Rattle.tl_show.specs.inner.FormViews.{form_view};
 ghost use Rattle.tl_show.specs.inner.Forms.{written};
 ghost use Rattle.tl_show.specs.inner.Lines.{PrintAsShown};
 
-use crate::forms::{Form, forms_of};
+use crate::form::Form;
+use crate::forms::forms_of;
 use crate::tree::show;
 use crate::writing::write_value;
-use json::Writer;
 use std::alloc::{AllocError, Global};
 use tl_schema::{Schema, TypeRef};
 use tl_types::Value;
@@ -74,9 +74,9 @@ fn text_by_forms(
 ) -> Result<Vec<u8>, AllocError>
     ensures { IfOk result (λ bytes. bytes.items ≡ compact_text (written (map form_view forms.now) (shape of.now) (view value.now))) }
 {
-    let mut out = Writer::new(Vec::new(alloc));
+    let mut out = Vec::new(alloc);
     write_value(alloc, value, of, forms, &mut out)?;
-    Ok(out.into_inner())
+    Ok(out)
 }
 
 // The text, by the value's tree. Only a schema with two keys alike in one declaration comes here.

@@ -1,13 +1,11 @@
 //! Strings and bytes as JSON text.
 ghost use Rattle.std.specs.Prelude.{◌≡◌};
-ghost use Rattle.json.specs.Token.{string};
-ghost use Rattle.serde_json.specs.Data.{Data};
 ghost use Rattle.tl_schema.specs.Seen.{shape};
 ghost use Rattle.tl_show.specs.Shown.{hex_data, string_data, text_data};
 ghost use Rattle.tl_show.specs.inner.Lines.{WritesData};
 
 use crate::parts::is_string;
-use json::Writer;
+use crate::quoting::{append, write_quoted};
 use std::alloc::{AllocError, Global};
 use tl_schema::TypeRef;
 
@@ -16,9 +14,9 @@ pub fn write_text(
     alloc: Global,
     of: &TypeRef,
     bytes: &[u8],
-    out: &mut Writer,
+    out: &mut Vec<u8>,
 ) -> Result<(), AllocError>
-    ensures { WritesData result out.old out.new (text_data (shape of.now) bytes.now) }
+    ensures { WritesData result out.old.items out.new.items (text_data (shape of.now) bytes.now) }
 {
     if is_string(of) {
         write_string(alloc, bytes, out)
@@ -28,24 +26,23 @@ pub fn write_text(
 }
 
 /// Writes bytes as hexadecimal digits.
-pub fn write_hex(alloc: Global, bytes: &[u8], out: &mut Writer) -> Result<(), AllocError>
-    ensures { WritesData result out.old out.new (hex_data bytes.now) }
+pub fn write_hex(alloc: Global, bytes: &[u8], out: &mut Vec<u8>) -> Result<(), AllocError>
+    ensures { WritesData result out.old.items out.new.items (hex_data bytes.now) }
 {
     let digits = hex::encode(alloc, bytes)?;
-    out.string(&digits)
+    write_quoted(alloc, &digits, out)
 }
 
 // Writes the bytes of a `string`: their text, where they are one.
-fn write_string(alloc: Global, bytes: &[u8], out: &mut Writer) -> Result<(), AllocError>
-    ensures { WritesData result out.old out.new (string_data bytes.now) }
+fn write_string(alloc: Global, bytes: &[u8], out: &mut Vec<u8>) -> Result<(), AllocError>
+    ensures { WritesData result out.old.items out.new.items (string_data bytes.now) }
 {
     match str::from_utf8(bytes) {
-        Ok(text) => out.string(text),
+        Ok(text) => write_quoted(alloc, text, out),
         Err(_) => {
-            out.begin_object()?;
-            out.key("hex")?;
+            append(b"{\"hex\":", out)?;
             write_hex(alloc, bytes, out)?;
-            out.end_object()
+            append(b"}", out)
         }
     }
 }

@@ -4,9 +4,10 @@ use Rattle.std.specs.declared.alloc.Global.{Global}
 use Rattle.tl_schema.specs.Seen.{shape}
 use Rattle.tl_show.specs.inner.Forms.{PartView, FormView}
 use Rattle.tl_show.specs.inner.Forms as form
-use Rattle.tl_show.specs.declared.forms.Part.{Part}
-use Rattle.tl_show.specs.declared.forms.Part.TheVariants.{Name, Field}
-use Rattle.tl_show.specs.declared.forms.Form.{Form}
+use Rattle.tl_show.specs.declared.form.Part.{Part}
+use Rattle.tl_show.specs.declared.form.Part.TheVariants.{Name, Field}
+use Rattle.tl_show.specs.declared.form.Key.{Key}
+use Rattle.tl_show.specs.declared.form.Form.{Form}
 
 abbrev pub part_view : Part → PartView
 part_view Name = form.name
@@ -18,5 +19,11 @@ entry_view e = (string_bytes e.0, part_view e.1)
 abbrev pub entry_views : List (String Global × Part) → List (List ℕ × PartView)
 entry_views es = map entry_view es
 
+abbrev pub key_view : Key → List ℕ × PartView
+key_view k = (string_bytes k.name, part_view k.part)
+
+abbrev pub key_views : List Key → List (List ℕ × PartView)
+key_views ks = map key_view ks
+
 abbrev pub form_view : Form → FormView
-form_view f = record { name = string_bytes f.name; keys = entry_views f.keys.items }
+form_view f = record { name = string_bytes f.name; keys = key_views f.keys.items }

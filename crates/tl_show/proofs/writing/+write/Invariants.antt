@@ -1,13 +1,12 @@
 use Rattle.std.proofs.Common.{◌≡◌, ◌+◌, ◌*◌, List, ◌++◌, drop, map}
-use Rattle.json.specs.Tree.{json_tokens, items_tokens, members_tokens}
-use Rattle.serde_json.specs.Data.{array}
-use Rattle.serde_json.specs.Written.{outline, items_outline, members_outline}
+use Rattle.serde_json.specs.Data.{array, object}
+use Rattle.serde_json.specs.Written.{compact_text, items_text, members_text}
 use Rattle.tl_schema.specs.Seen.{shape}
 use Rattle.tl_types.specs.Seen.{view, views}
 use Rattle.tl_types.specs.declared.value.Value.{Value}
+use Rattle.tl_show.specs.declared.form.Key.{Key}
 use Rattle.tl_show.specs.inner.Forms.{members_at, read_at, written_each}
-use Rattle.tl_show.specs.inner.FormViews.{entry_views, form_view}
-use Rattle.tl_show.proofs.KeyOrder.{Entry}
+use Rattle.tl_show.specs.inner.FormViews.{form_view, key_views}
 use Rattle.tl_show.proofs.Sizes.{size, size_of}
 use Rattle.tl_show.proofs.writing.+write.Given as goal
 
@@ -27,20 +26,17 @@ abbrev pub decreases-write_member : goal.decreases-write_member
 decreases-write_member l = 8 * size_of (views l.fields.now) + 4
 
 abbrev pub decreases-write_field : goal.decreases-write_field
-decreases-write_field l = 8 * size (view l.value.now) + 1
+decreases-write_field l = 8 * size (view l.value.now) + 2
+
+abbrev pub decreases-write_closed : goal.decreases-write_closed
+decreases-write_closed l = 8 * size (view l.value.now) + 1
 
 abbrev pub invariant-write_items-loop-item : goal.invariant-write_items-loop-item
 invariant-write_items-loop-item l =
     let items = λ (vs : List Value). written_each (map form_view l.forms) (shape l.of) (views vs) in
-    record {
-      before : l.out.before ≡ l.fn.out.before;
-      tokens : l.out.tokens ++ items_tokens (items_outline (items (drop l.item-index l.items))) ≡ l.fn.out.tokens ++ json_tokens (outline (array (items l.items)));
-    }
+    l.out.items ++ items_text l.later (items (drop l.item-index l.items)) ≡ l.fn.out.items ++ compact_text (array (items l.items))
 
 abbrev pub invariant-write_members-loop-key : goal.invariant-write_members-loop-key
 invariant-write_members-loop-key l =
-    let members = λ (es : List Entry). members_at (form_view l.form).name (map shape l.args) (read_at (map form_view l.forms) (views l.fields)) (entry_views es) in
-    record {
-      before : l.out.before ≡ l.fn.out.before;
-      tokens : l.out.tokens ++ members_tokens (members_outline (members (drop l.key-index l.form.keys.items))) ≡ l.fn.out.tokens ++ members_tokens (members_outline (members l.form.keys.items));
-    }
+    let members = λ (ks : List Key). members_at (form_view l.form).name (map shape l.args) (read_at (map form_view l.forms) (views l.fields)) (key_views ks) in
+    l.out.items ++ members_text l.later (members (drop l.key-index l.form.keys.items)) ≡ l.fn.out.items ++ compact_text (object (members l.form.keys.items))

@@ -1,5 +1,5 @@
 use Rattle.std.proofs.Common.{Vec, Global, map}
-use Rattle.tl_show.specs.declared.forms.Form.{Form}
+use Rattle.tl_show.specs.declared.form.Form.{Form}
 use Rattle.tl_show.specs.inner.FormViews.{form_view}
 use Rattle.tl_show.proofs.LineTexts.{print_as_shown}
 use Rattle.tl_show.proofs.line.JsonPrinter.new.Goals as goal

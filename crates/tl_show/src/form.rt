@@ -1,0 +1,34 @@
+//! How records are written.
+ghost use Rattle.std.specs.Prelude.{◌≡◌, ◌∷◌, ◌++◌, [], string_bytes};
+ghost use Rattle.json.specs.Print.{quoted};
+
+use tl_schema::TypeRef;
+
+/// What stands at a key of a record.
+#[derive(Drop)]
+pub enum Part<'a> {
+    /// The name of its declaration.
+    Name,
+    /// The value at this index, of this type.
+    Field { index: usize, of: &'a TypeRef },
+}
+
+/// A key of a record, and what stands at it.
+#[derive(Drop)]
+pub struct Key<'a> {
+    pub name: String,
+    pub part: Part<'a>,
+    /// A comma, the key as JSON, and its colon.
+    pub lead: Vec<u8>,
+    ghost is_lead: { lead.items ≡ 44 ∷ (quoted (string_bytes name) ++ 58 ∷ []) },
+}
+
+/// How the records of a declaration are written: the text of its name, and the keys in the order of their bytes.
+#[derive(Drop)]
+pub struct Form<'a> {
+    pub name: String,
+    /// The name as JSON.
+    pub title: Vec<u8>,
+    pub keys: Vec<Key<'a>>,
+    ghost is_title: { title.items ≡ quoted (string_bytes name) },
+}
