@@ -1,22 +1,19 @@
 -- What `encode` makes of its input.
-use Rattle.std.proofs.Common.{◌≡◌, ℕ, List, [], ◌∷◌, Option, Some, None, Ok, Err, sym, ap, subst}
+use Rattle.std.proofs.Common.{◌≡◌, ◌∙◌, ℕ, List, [], ◌∷◌, None, Ok, sym, ap, ap₂, subst}
 use Rattle.tl_schema.specs.Types.{Shape}
 use Rattle.tl_schema.specs.Schemas.{Declared}
 use Rattle.tl_schema.specs.Formed.{IsFormed}
 use Rattle.tl_plan.specs.Plans.{PlanView, answer}
 use Rattle.tl_plan.specs.PlanLaws.{IsInstance}
-use Rattle.tl_types.specs.Fitting.{MisfitView}
 use Rattle.tl_types.specs.Fitting.{misfit as misfit_of}
-use Rattle.tl_types.specs.declared.misfit.Misfit.{Misfit}
-use Rattle.tl_types.specs.declared.misfit.FitFault.{FitFault}
-use Rattle.tl_types.specs.declared.misfit.FitFault.TheVariants as fit
 use Rattle.tl_types.specs.Values.{ValueView}
 use Rattle.tl_types.specs.Seen.{view}
 use Rattle.tl_types.specs.Spelling.{Spells}
 use Rattle.tl_types.specs.declared.value.Value.{Value}
 use Rattle.tl_types.specs.declared.value.TheConstants.{MAX_LEVELS}
 use Rattle.tl_types.proofs.FitsAreSpelled.{each_fits_exactly}
-use Rattle.tl_encode.specs.Encoding.{TellsFit}
+use Rattle.tl_encode.specs.Lengths.{FitsInstance}
+use Rattle.tl_encode.proofs.Walking.{type_of_instance}
 use Rattle.command_base.specs.Answer.{done, refused}
 use Rattle.schema_files.specs.Causes as cause
 use Rattle.schema_files.specs.Loaded.{IsSchemaText}
@@ -24,19 +21,12 @@ use Rattle.schema_files.specs.Parts.{IsJsonValue, TellsJson}
 use Rattle.schema_files.proofs.Planned.{planned}
 use Rattle.codec_commands.specs.Encode.{OfJson, too_long, no_json, badly_formed, misfit, spelled}
 
-never_told : (m : Option MisfitView) (n : MisfitView) → m ≡ None → m ≡ Some n → ⊥
-never_told m n none some = absurd cc
-
--- of a value without a misfit none is told
-pub never_misfit : (m : Option MisfitView) (fault : FitFault) (told : Misfit) → TellsFit m (Err fault) → fault ≡ fit.Misfit told → m ≡ None → ⊥
-never_misfit m fault told tells is none = never_told m (told.path.items, told.cause) none (subst (λ (e : FitFault). TellsFit m (Err e)) is tells)
-
 -- what fits a type of the schema fits it in the plan's
-pub fits_planned : (schema : Declared) (T : Shape) (p : PlanView) (v : ValueView) → answer schema (T ∷ []) ≡ Ok p → misfit_of schema.decls MAX_LEVELS None T v ≡ None
-    → (U : Shape) × IsInstance p 0 U × (misfit_of p.schema.decls MAX_LEVELS None U v ≡ None)
-fits_planned schema T p v is fits =
+pub fits_planned : (schema : Declared) (T : Shape) (p : PlanView) (v : ValueView) → answer schema (T ∷ []) ≡ Ok p → misfit_of schema.decls MAX_LEVELS None T v ≡ None → FitsInstance p 0 v
+fits_planned schema T p v is fits = λ U instance.
     let of = planned schema T p is in
-    (T, of.2, subst (λ (S : Declared). misfit_of S.decls MAX_LEVELS None T v ≡ None) (sym of.0) fits)
+    let same = sym (type_of_instance p 0 T of.2) ∙ type_of_instance p 0 U instance in
+    ap₂ (λ (S : Declared) (V : Shape). misfit_of S.decls MAX_LEVELS None V v) of.0 (sym same) ∙ fits
 
 -- each spelling by the schema is one by the plan
 pub spelled_planned : {P : List ℕ → Type 0} (schema : Declared) (T : Shape) (p : PlanView) (v : ValueView) → answer schema (T ∷ []) ≡ Ok p

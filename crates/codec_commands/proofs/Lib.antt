@@ -1,5 +1,4 @@
 pub mod OneSpelling
-pub mod FedWhole
 pub mod Loading
 pub mod OneTyped
 pub mod OneDecode

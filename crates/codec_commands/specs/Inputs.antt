@@ -16,26 +16,26 @@ use Rattle.command_base.specs.declared.stop.Unmade.{Unmade}
 use Rattle.command_base.specs.declared.stop.Unmade.TheVariants as unmade
 use Rattle.schema_files.specs.Lines.{input_line, cause_text}
 use Rattle.codec_commands.specs.Decode.{OfInput}
-use Rattle.codec_commands.specs.Decoding.{DecodesWhole}
-use Rattle.codec_commands.specs.declared.whole.InputFault.{InputFault}
-use Rattle.codec_commands.specs.declared.whole.InputFault.TheVariants as input
+use Rattle.tl_decode.specs.Wholes.{ReadsWhole}
+use Rattle.tl_decode.specs.declared.whole.WholeFault.{WholeFault}
+use Rattle.tl_decode.specs.declared.whole.WholeFault.TheVariants as whole
 
 -- what was left of the input was taken as one value of the type
-abbrev pub TakesValue : Declared → Shape → Result Value InputFault → View → View → Type 0
-TakesValue schema T result v w = DecodesWhole schema T (left_of Input v) result × OnlySlot Input v w
+abbrev pub TakesValue : Declared → Shape → Result Value WholeFault → View → View → Type 0
+TakesValue schema T result v w = ReadsWhole schema T (left_of Input v) result × OnlySlot Input v w
 
 -- the value that is the whole of a file
-abbrev pub FileIsValue : Declared → Shape → List ℕ → Result Value InputFault → View → View → Type 0
-FileIsValue schema T name (Err input.ReadFault) v w = OnlySlot Input v w
-FileIsValue schema T name (Err input.Memory) v w = OnlySlot Input v w
-FileIsValue schema T name result v w = ((bytes : List ℕ) × HasFile v.files name bytes × DecodesWhole schema T bytes result) × OnlySlot Input v w
+abbrev pub FileIsValue : Declared → Shape → List ℕ → Result Value WholeFault → View → View → Type 0
+FileIsValue schema T name (Err whole.ReadFault) v w = OnlySlot Input v w
+FileIsValue schema T name (Err whole.Memory) v w = OnlySlot Input v w
+FileIsValue schema T name result v w = ((bytes : List ℕ) × HasFile v.files name bytes × ReadsWhole schema T bytes result) × OnlySlot Input v w
 
 -- what is told of an input that is no value
-abbrev pub TellsFault : InputFault → Unmade → Type 0
-TellsFault (input.Refused place cause) u = RefusesAs (input_line place (cause_text cause)) u
-TellsFault (input.Trailing place) u = RefusesAs (input_line place (codes "Trailing")) u
-TellsFault input.ReadFault u = u ≡ unmade.ReadFault
-TellsFault input.Memory u = u ≡ unmade.Memory
+abbrev pub TellsFault : WholeFault → Unmade → Type 0
+TellsFault (whole.Refused place cause) u = RefusesAs (input_line place (cause_text cause)) u
+TellsFault (whole.Trailing place) u = RefusesAs (input_line place (codes "Trailing")) u
+TellsFault whole.ReadFault u = u ≡ unmade.ReadFault
+TellsFault whole.Memory u = u ≡ unmade.Memory
 
 -- the bytes are the spelling of the value
 abbrev pub IsWhole : Declared → Shape → List ℕ → Value → Type 0

@@ -1,4 +1,3 @@
-pub mod Decoding
 pub mod Typed
 pub mod Check
 pub mod Decode

@@ -1,5 +1,5 @@
 //! `encode`: schema, type and input are loaded, and the spelling of the value is written.
-ghost use Rattle.std.specs.Prelude.{◌≡◌, ◌<◌, ℕ, List, None, IfOk, IsErrOf};
+ghost use Rattle.std.specs.Prelude.{IsErrOf};
 ghost use Rattle.tl_base.specs.Calls.{Told};
 ghost use Rattle.tl_base.specs.Using.{MeetsFaults};
 ghost use Rattle.tl_base.specs.declared.counts.Kind.TheVariants as kinds;
@@ -7,35 +7,14 @@ ghost use Rattle.command_base.specs.Jobs.{MakesOutput, WorksOver, making};
 ghost use Rattle.command_base.specs.Kept.{LeavesInput};
 ghost use Rattle.command_base.specs.Sound.{Answered, MeetsFaultsOf};
 ghost use Rattle.command_base.specs.Telling.{status_of};
-ghost use Rattle.tl_schema.specs.Types.{Shape};
-ghost use Rattle.tl_plan.specs.PlanLaws.{IsInstance};
-ghost use Rattle.tl_types.specs.Fitting.{misfit};
-ghost use Rattle.tl_types.specs.Seen.{view};
-ghost use Rattle.tl_types.specs.Spelling.{Spells};
-ghost use Rattle.tl_types.specs.declared.value.TheConstants.{MAX_LEVELS};
 ghost use Rattle.codec_commands.specs.Encode.{encode_job};
 ghost use Rattle.codec_commands.specs.Typed.{ReachesInput};
 
 use command_base::{Status, Stop, Unmade, write_made};
 use schema_files::{load_json, load_schema, plan_of, type_named};
-use std::alloc::{AllocError, Global};
+use std::alloc::Global;
 use tl_base::{Host, Slot};
-use tl_encode::spelling_of;
-use tl_plan::Plan;
-use tl_types::{FitFault, Value};
-
-// The spelling of a value that fits the plan's type.
-fn fitting_spelling(alloc: Global, plan: &Plan, value: &Value) -> Result<Vec<u8>, AllocError>
-    requires root { 0 < plan.now.roots }
-    requires fits { (T : Shape) × IsInstance plan.now 0 T × (misfit plan.now.schema.decls MAX_LEVELS None T (view value.now) ≡ None) }
-    ensures { (T : Shape) (b : List ℕ) → IsInstance plan.now 0 T → Spells plan.now.schema T (view value.now) b → IfOk result (λ bytes. bytes.items ≡ b) }
-{
-    match spelling_of(alloc, plan, 0, value) {
-        Ok(bytes) => Ok(bytes),
-        Err(FitFault::Misfit(_)) => unreachable!(),
-        Err(FitFault::Memory) => Err(AllocError),
-    }
-}
+use tl_encode::fitting_spelling;
 
 // The spelling of the value that the input's JSON is.
 fn made_spelling<H: Host>(
@@ -53,7 +32,7 @@ fn made_spelling<H: Host>(
     let of = type_named(alloc, &schema, of)?;
     let plan = plan_of(alloc, &schema, &of)?;
     let value = load_json(alloc, host, &schema, &of, input)?;
-    let bytes = fitting_spelling(alloc, &plan, &value)?;
+    let bytes = fitting_spelling(alloc, &plan, 0, &value)?;
     Ok(bytes)
 }
 

@@ -11,23 +11,23 @@ ghost use Rattle.command_base.specs.Loading.{RefusesAs};
 ghost use Rattle.schema_files.specs.Lines.{cause_text, input_line};
 ghost use Rattle.codec_commands.specs.Inputs.{FileIsValue, LoadsValue, TakesValue, TellsFault};
 
-use crate::whole::{InputFault, decode_whole};
 use command_base::Unmade;
 use schema_files::cause_text;
 use std::alloc::Global;
 use tl_base::{Host, Slot, SourceOf};
+use tl_decode::{WholeFault, decode_whole};
 use tl_plan::Plan;
 use tl_types::{Cause, Value};
 
 // The value that is what is left of the input.
-fn slot_value<H: Host>(alloc: Global, host: &mut H, plan: &Plan) -> Result<Value, InputFault>
+fn slot_value<H: Host>(alloc: Global, host: &mut H, plan: &Plan) -> Result<Value, WholeFault>
     requires root { 0 < plan.now.roots }
     requires formed { (T : Shape) → IsInstance plan.now 0 T → IsFormed plan.now.schema T }
     ensures value { (T : Shape) → IsInstance plan.now 0 T → Told (H.state host.old).view (H.state host.new).view (TakesValue plan.now.schema T result) }
-    ensures faults { MeetsFaults kinds.Reads (H.state host.old) (H.state host.new) (IsErrOf result InputFault.ReadFault) (λ _. Unit {0}) }
+    ensures faults { MeetsFaults kinds.Reads (H.state host.old) (H.state host.new) (IsErrOf result WholeFault.ReadFault) (λ _. Unit {0}) }
 {
     let mut source = SourceOf::new(host, Slot::Input);
-    decode_whole(alloc, plan, &mut source)
+    decode_whole(alloc, plan, 0, &mut source)
 }
 
 // The value that is the whole of a file.
@@ -36,15 +36,15 @@ fn file_value<H: Host>(
     host: &mut H,
     plan: &Plan,
     name: &str,
-) -> Result<Value, InputFault>
+) -> Result<Value, WholeFault>
     requires root { 0 < plan.now.roots }
     requires formed { (T : Shape) → IsInstance plan.now 0 T → IsFormed plan.now.schema T }
     ensures loads { (T : Shape) → IsInstance plan.now 0 T → Told (H.state host.old).view (H.state host.new).view (FileIsValue plan.now.schema T name.now result) }
-    ensures faults { MeetsFaults kinds.Reads (H.state host.old) (H.state host.new) (IsErrOf result InputFault.ReadFault) (IsThere name.now) }
+    ensures faults { MeetsFaults kinds.Reads (H.state host.old) (H.state host.new) (IsErrOf result WholeFault.ReadFault) (IsThere name.now) }
 {
     match host.open_slot(Slot::Input, name) {
         Ok(()) => slot_value(alloc, host, plan),
-        Err(_) => Err(InputFault::ReadFault),
+        Err(_) => Err(WholeFault::ReadFault),
     }
 }
 
@@ -59,15 +59,15 @@ fn cause_unmade(alloc: Global, place: u64, cause: Cause) -> Unmade
 }
 
 // What is told of an input that is no value.
-fn input_unmade(alloc: Global, fault: InputFault) -> Unmade
+fn input_unmade(alloc: Global, fault: WholeFault) -> Unmade
     ensures tells { TellsFault fault result }
-    ensures read { result ≡ Unmade.ReadFault → fault ≡ InputFault.ReadFault }
+    ensures read { result ≡ Unmade.ReadFault → fault ≡ WholeFault.ReadFault }
 {
     match fault {
-        InputFault::Refused { place, cause } => cause_unmade(alloc, place, cause),
-        InputFault::Trailing { place } => Unmade::placed(alloc, "input", place, "Trailing"),
-        InputFault::ReadFault => Unmade::ReadFault,
-        InputFault::Memory => Unmade::Memory,
+        WholeFault::Refused { place, cause } => cause_unmade(alloc, place, cause),
+        WholeFault::Trailing { place } => Unmade::placed(alloc, "input", place, "Trailing"),
+        WholeFault::ReadFault => Unmade::ReadFault,
+        WholeFault::Memory => Unmade::Memory,
     }
 }
 

@@ -6,7 +6,6 @@ mod decode;
 mod encode;
 mod input;
 mod listing;
-mod whole;
 
 pub use check::check_schema;
 pub use decode::decode_input;
