@@ -3,15 +3,16 @@ use crate::hosts::host_call;
 use crate::lists::list_call;
 use crate::named::Named;
 use crate::numbers::number_call;
-use crate::row::{Row, Rows, difference};
+use crate::report::{Report, Rows, report_of};
+use crate::row::Row;
 use crate::sinks::sink_call;
 use crate::sources::source_call;
 use std::alloc::{AllocError, Global};
 use tl_base::{Bytes, MemHost, MemSink, MemSource};
 
-/// What the rows of a file name.
+// What the rows of a file name.
 #[derive(Drop)]
-pub struct Base {
+struct Base {
     lists: Named<Bytes>,
     sources: Named<MemSource>,
     sinks: Named<MemSink>,
@@ -19,8 +20,8 @@ pub struct Base {
 }
 
 impl Base {
-    /// Nothing is named.
-    pub fn new(alloc: Global) -> Base {
+    // Nothing is named.
+    fn new(alloc: Global) -> Base {
         Base {
             lists: Named::new(alloc),
             sources: Named::new(alloc),
@@ -42,11 +43,7 @@ impl Rows for Base {
     }
 }
 
-/// How a row is told, where that is otherwise than it says.
-pub fn base_difference(
-    alloc: Global,
-    base: &mut Base,
-    row: &str,
-) -> Result<Option<String>, AllocError> {
-    difference(alloc, base, row)
+/// Looks at the rows of a file.
+pub fn base_report(alloc: Global, file: &str, text: &str) -> Result<Report, AllocError> {
+    report_of(alloc, &mut Base::new(alloc), file, text)
 }

@@ -61,15 +61,34 @@ fn kind_of(row: &mut Row) -> Option<HostCall> {
 
 // ---- what a host finds
 
-// A host with room for four bytes, two files of one name and an empty one, and six links to come.
+fn put_file(
+    alloc: Global,
+    host: &mut MemHost,
+    name: &str,
+    content: &[u8],
+) -> Result<(), AllocError> {
+    host.file(alloc, name, Bytes::from_slice(alloc, content)?)
+}
+
+fn put_link(alloc: Global, host: &mut MemHost) -> Result<(), AllocError> {
+    host.link(alloc, Bytes::from_slice(alloc, b"link")?)
+}
+
+// Two files of one name and an empty one, and six links to come.
+fn prepare(alloc: Global, host: &mut MemHost) -> Result<(), AllocError> {
+    put_file(alloc, host, "a", b"first")?;
+    put_file(alloc, host, "a", b"second")?;
+    put_file(alloc, host, "b", b"")?;
+    for _ in 0..6 {
+        put_link(alloc, host)?;
+    }
+    Ok(())
+}
+
+// A host that finds these, with room for four bytes.
 fn prepared(alloc: Global) -> Result<MemHost, AllocError> {
     let mut host = MemHost::new(alloc, 4)?;
-    host.file(alloc, "a", Bytes::from_slice(alloc, b"first")?)?;
-    host.file(alloc, "a", Bytes::from_slice(alloc, b"second")?)?;
-    host.file(alloc, "b", Bytes::new(alloc))?;
-    for _ in 0..6 {
-        host.link(alloc, Bytes::from_slice(alloc, b"link")?)?;
-    }
+    prepare(alloc, &mut host)?;
     Ok(host)
 }
 

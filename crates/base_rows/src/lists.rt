@@ -36,7 +36,7 @@ pub fn list_call(lists: &mut Named<Bytes>, row: &mut Row) {
     let name = row.word();
     let mut list = lists.take_or(name, Bytes::new(row.alloc()));
     let made = call(&mut list, row);
-    row.done("", made);
+    row.grown(made);
     row.quote(list.as_slice());
     lists.keep(row, name, list);
 }

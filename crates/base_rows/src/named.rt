@@ -15,9 +15,19 @@ impl<T: Drop> Named<T> {
         }
     }
 
+    fn index_of(&self, name: &str) -> Option<usize> {
+        self.items.iter().position(|item| item.0.as_str() == name)
+    }
+
+    /// The object of a name.
+    pub fn get(&self, name: &str) -> Option<&T> {
+        let item = self.items.get(self.index_of(name)?)?;
+        Some(&item.1)
+    }
+
     /// Takes the object of a name out.
     pub fn take(&mut self, name: &str) -> Option<T> {
-        let index = self.items.iter().position(|item| item.0.as_str() == name)?;
+        let index = self.index_of(name)?;
         if index >= self.items.len() {
             return None;
         }
@@ -42,8 +52,6 @@ impl<T: Drop> Named<T> {
 
     /// The same for a row.
     pub fn keep(&mut self, row: &mut Row, name: &str, object: T) {
-        if self.put(row.alloc(), name, object).is_err() {
-            row.short();
-        }
+        row.grown(self.put(row.alloc(), name, object));
     }
 }

@@ -1,6 +1,7 @@
 //! A row that is looked at: the words that are still to be read, and what it is told so far.
-use crate::asked::{quoted, unescaped};
-use crate::texts::{digits, letters, otherwise, parted, unread};
+use crate::quotes::{quoted, unescaped};
+use crate::texts::{digits, letters, otherwise, unread};
+use crate::words::RowFault;
 use std::alloc::{AllocError, Global};
 use std::fmt::Debug;
 
@@ -58,7 +59,7 @@ impl<'r> Row<'r> {
         self.rest.is_empty()
     }
 
-    /// More words than this there are not.
+    /// No more words than this are left.
     pub fn most(&self) -> usize {
         self.rest.len()
     }
@@ -214,16 +215,30 @@ impl<'r> Row<'r> {
         self.is_short = true;
     }
 
-    /// What is told.
-    pub fn into_told(self) -> Result<String, AllocError> {
-        if self.is_short {
-            return Err(AllocError);
+    /// A word says nothing, for this cause.
+    pub fn refuse(&mut self, fault: RowFault) {
+        match fault {
+            RowFault::Unknown => self.unknown(),
+            RowFault::Memory => self.short(),
         }
-        Ok(self.told)
     }
 
-    // How the row is told, where that is otherwise than wanted.
-    fn difference(&self, asked: &str) -> Result<Option<String>, AllocError> {
+    /// A step was made, or a word said nothing.
+    pub fn note(&mut self, made: Result<(), RowFault>) {
+        if let Err(fault) = made {
+            self.refuse(fault);
+        }
+    }
+
+    /// A list has grown, or memory was refused.
+    pub fn grown<E: Drop>(&mut self, grown: Result<(), E>) {
+        if grown.is_err() {
+            self.short();
+        }
+    }
+
+    /// How the row is told, where that is otherwise than wanted.
+    pub fn difference(&self, asked: &str) -> Result<Option<String>, AllocError> {
         if self.is_short {
             return Err(AllocError);
         }
@@ -232,24 +247,4 @@ impl<'r> Row<'r> {
         }
         otherwise(self.alloc, asked, self.told.as_str(), self.wanted)
     }
-}
-
-/// What the rows of a file name, and the calls that they say.
-pub trait Rows {
-    /// Makes the call that a row says, which is told what comes of it.
-    fn call(&mut self, row: &mut Row);
-}
-
-/// How a line `ASKED => WANTED` is told, where that is otherwise than it says.
-pub fn difference<R: Rows>(
-    alloc: Global,
-    rows: &mut R,
-    line: &str,
-) -> Result<Option<String>, AllocError> {
-    let Some((asked, wanted)) = parted(line) else {
-        return unread(alloc, line, "a row without an answer");
-    };
-    let mut row = Row::new(alloc, asked, wanted);
-    rows.call(&mut row);
-    row.difference(asked)
 }

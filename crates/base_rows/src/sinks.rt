@@ -1,7 +1,7 @@
 //! Rows `sink NAME CALL`.
 use crate::named::Named;
 use crate::row::Row;
-use crate::sources::fails_of;
+use crate::sources::numbers_of;
 use std::alloc::AllocError;
 use tl_base::{MemSink, Sink, write_all, write_packet};
 
@@ -35,7 +35,7 @@ fn call(to: &mut MemSink, call: &str, row: &mut Row) {
 fn made(row: &mut Row) -> Result<MemSink, AllocError> {
     let room = row.number();
     let _ = row.word();
-    let fails = fails_of(row.alloc(), row.word())?;
+    let fails = numbers_of(row.alloc(), row.word())?;
     MemSink::new(row.alloc(), room, fails)
 }
 

@@ -2,6 +2,7 @@
 use crate::named::Named;
 use crate::row::Row;
 use std::alloc::{AllocError, Global};
+use std::str::FromStr;
 use tl_base::{
     Bytes, Failed, Limited, MemSource, Source, TakeFault, read_packet, take_bytes, take_end,
     take_text, take_word,
@@ -92,22 +93,14 @@ fn limited<S: Source>(from: &mut S, row: &mut Row) {
 
 // ---- named sources
 
-// Numbers with commas between; a word that is none stands for no numbers.
-fn cuts_of(alloc: Global, words: &str) -> Result<Vec<u32>, AllocError> {
+/// Numbers with commas between; a word that is none stands for no number.
+pub fn numbers_of<N: FromStr + Drop>(alloc: Global, words: &str) -> Result<Vec<N>, AllocError>
+where
+    N::Err: Drop,
+{
     let mut numbers = Vec::new(alloc);
     for word in words.split(',') {
-        if let Ok(number) = word.parse::<u32>() {
-            numbers.push(number)?;
-        }
-    }
-    Ok(numbers)
-}
-
-/// The same of numbers of 64 bits.
-pub fn fails_of(alloc: Global, words: &str) -> Result<Vec<u64>, AllocError> {
-    let mut numbers = Vec::new(alloc);
-    for word in words.split(',') {
-        if let Ok(number) = word.parse::<u64>() {
+        if let Ok(number) = word.parse::<N>() {
             numbers.push(number)?;
         }
     }
@@ -116,9 +109,9 @@ pub fn fails_of(alloc: Global, words: &str) -> Result<Vec<u64>, AllocError> {
 
 // A source of the row's text, by `CUTS fails FAILS`, the numbers of its cuts and of its failing reads.
 fn made(row: &mut Row) -> Result<MemSource, AllocError> {
-    let cuts = cuts_of(row.alloc(), row.word())?;
+    let cuts = numbers_of(row.alloc(), row.word())?;
     let _ = row.word();
-    let fails = fails_of(row.alloc(), row.word())?;
+    let fails = numbers_of(row.alloc(), row.word())?;
     Ok(MemSource::new(Bytes::from_vec(row.bytes()), cuts, fails))
 }
 

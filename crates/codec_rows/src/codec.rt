@@ -1,116 +1,77 @@
 //! Rows of tokens, programs, schemas, types and values.
-use crate::entries::{found_told, text_entries_told, type_told};
-use crate::grammar::text_told;
-use crate::layers::lifted_told;
-use crate::plans::planned_told;
+use crate::entries::{entries, find, type_named};
+use crate::grammar::text_call;
+use crate::layers::lift;
+use crate::plans::plan_call;
 use crate::schemas::schema_of;
-use crate::walks::walked_told;
-use base_rows::{Asked, asked_of, first, otherwise, parted, unread};
+use crate::walks::walk;
+use base_rows::{Named, Report, Row, Rows, report_of};
 use std::alloc::{AllocError, Global};
-use std::collections::BTreeMap;
 use tl_schema::Schema;
 
-type Schemas = BTreeMap<String, Schema>;
-
-/// The schemas that the rows of a file name.
+// The schemas that the rows of a file name.
 #[derive(Drop)]
-pub struct Codec {
-    schemas: Schemas,
+struct Codec {
+    schemas: Named<Schema>,
 }
 
-impl Codec {
-    /// Nothing is named.
-    pub fn new(alloc: Global) -> Codec {
-        Codec {
-            schemas: BTreeMap::new(alloc),
+// Names the schema that the text is, in the place of one of its name.
+fn name(schemas: &mut Named<Schema>, row: &mut Row) {
+    let name = row.word();
+    let text = row.bytes();
+    let _ = schemas.take(name);
+    match schema_of(row.alloc(), text.as_slice()) {
+        Ok(schema) => {
+            row.put("made");
+            schemas.keep(row, name, schema);
+        }
+        Err(_) => row.short(),
+    }
+}
+
+// Lifts from an old schema to that of the next word's name.
+fn lift_to_named(schemas: &Named<Schema>, old: &Schema, row: &mut Row) {
+    match schemas.get(row.word()) {
+        Some(new) => lift(old, new, row),
+        None => row.put("no such schema"),
+    }
+}
+
+// Makes a call by a schema.
+fn call_by(schemas: &Named<Schema>, schema: &Schema, row: &mut Row) {
+    match row.word() {
+        "lift" => lift_to_named(schemas, schema, row),
+        "find" => find(schema, row),
+        "type_of" => type_named(schema, row),
+        "walk" => walk(schema, row),
+        "plan" => plan_call(schema, row),
+        _ => row.unknown(),
+    }
+}
+
+// The same by the schema of the next word's name.
+fn call_by_named(schemas: &Named<Schema>, row: &mut Row) {
+    match schemas.get(row.word()) {
+        Some(schema) => call_by(schemas, schema, row),
+        None => row.put("no such schema"),
+    }
+}
+
+impl Rows for Codec {
+    fn call(&mut self, row: &mut Row) {
+        match row.word() {
+            "schema" => name(&mut self.schemas, row),
+            "by" => call_by_named(&self.schemas, row),
+            "entries" => entries(row),
+            call => text_call(call, row),
         }
     }
 }
 
-// The answer of a call by a schema.
-fn schema_told(
-    alloc: Global,
-    schema: &Schema,
-    call: &[&str],
-    text: &[u8],
-) -> Result<String, AllocError> {
-    let (call, words) = first(call);
-    let (word, call_of) = first(words);
-    match call {
-        "find" => found_told(alloc, schema, word, first(call_of).0 == "function"),
-        "type_of" => type_told(alloc, schema, text),
-        "walk" => walked_told(alloc, schema, word, call_of),
-        "plan" => planned_told(alloc, schema, word, call_of, text),
-        _ => String::from_str(alloc, "an unknown call"),
-    }
-}
-
-// Names the schema that a text is.
-fn made(
-    alloc: Global,
-    schemas: &mut Schemas,
-    name: &str,
-    text: &[u8],
-) -> Result<String, AllocError> {
-    let schema = schema_of(alloc, text)?;
-    schemas.insert(String::from_str(alloc, name)?, schema)?;
-    String::from_str(alloc, "made")
-}
-
-// The answer of `lift` by an old schema, with the name of a new one, a type and the words of a value.
-fn lift_told(
-    alloc: Global,
-    schemas: &Schemas,
-    old: &Schema,
-    words: &[&str],
-) -> Result<String, AllocError> {
-    let (name, words) = first(words);
-    let (of, value) = first(words);
-    match schemas.get(name) {
-        Some(new) => lifted_told(alloc, old, new, of, value),
-        None => String::from_str(alloc, "no such schema"),
-    }
-}
-
-// The answer of a call by the schema of a name.
-fn named_told(
-    alloc: Global,
-    schemas: &Schemas,
-    name: &str,
-    call: &[&str],
-    text: &[u8],
-) -> Result<String, AllocError> {
-    match schemas.get(name) {
-        Some(schema) => match first(call) {
-            ("lift", words) => lift_told(alloc, schemas, schema, words),
-            _ => schema_told(alloc, schema, call, text),
-        },
-        None => String::from_str(alloc, "no such schema"),
-    }
-}
-
-// The answer of the call that a row says.
-fn told(alloc: Global, schemas: &mut Schemas, asked: &Asked) -> Result<String, AllocError> {
-    let text = asked.text();
-    let (kind, words) = first(asked.words.as_slice());
-    let (name, call) = first(words);
-    match kind {
-        "schema" => made(alloc, schemas, name, text),
-        "entries" => text_entries_told(alloc, text),
-        "by" => named_told(alloc, schemas, name, call, text),
-        _ => text_told(alloc, kind, text),
-    }
-}
-
-/// How a row is told, where that is otherwise than it says.
-pub fn codec_difference(
-    alloc: Global,
-    codec: &mut Codec,
-    row: &str,
-) -> Result<Option<String>, AllocError> {
-    let Some((asked, wanted)) = parted(row) else {
-        return unread(alloc, row, "a row without an answer");
+/// Looks at the rows of a file.
+pub fn codec_report(alloc: Global, file: &str, text: &str) -> Result<Report, AllocError> {
+    let mut codec = Codec {
+        schemas: Named::new(alloc),
     };
-    let told = told(alloc, &mut codec.schemas, &asked_of(alloc, asked)?)?;
-    otherwise(alloc, asked, told.as_str(), wanted)
+    report_of(alloc, &mut codec, file, text)
 }

@@ -1,61 +1,61 @@
 //! Entries of schemas, and types by their names.
 use crate::schemas::schema_of;
-use base_rows::{quoted, text_of};
-use std::alloc::{AllocError, Global};
+use base_rows::Row;
 use tl_schema::{Entry, Schema, SchemaField, type_of};
 
 // The condition of a field, its variable and its type.
-fn put_field(alloc: Global, out: &mut String, field: &SchemaField) -> Result<(), AllocError> {
+fn tell_field(row: &mut Row, field: &SchemaField) {
     if let Some((at, bit)) = field.cond {
-        out.push_str(&format!(in alloc; "{at}.{bit}? ")?)?;
+        row.fill("#.#? ", &[at as i64, bit as i64]);
     }
     if let Some(var) = field.var {
-        out.push_str(&format!(in alloc; "!{var} ")?)?;
+        row.fill("!# ", &[var as i64]);
     }
-    out.push_str(&text_of(alloc, &field.of)?)?;
-    out.push_str("\n")
+    row.show(&field.of);
+    row.put("\\n");
 }
 
 // The number of an entry, how many variables it has, its type's number and its result; and its fields.
-fn put_entry(alloc: Global, out: &mut String, entry: &Entry) -> Result<(), AllocError> {
-    let (number, vars, head) = (entry.number, entry.vars, entry.head);
-    let result = text_of(alloc, &entry.result)?;
-    out.push_str(&format!(in alloc; "= {number} {vars} {head} {result}\n")?)?;
+fn tell_entry(row: &mut Row, entry: &Entry) {
+    let (number, vars, head) = (entry.number as i64, entry.vars as i64, entry.head as i64);
+    row.fill("= # # # ", &[number, vars, head]);
+    row.show(&entry.result);
+    row.put("\\n");
     for field in &entry.fields {
-        put_field(alloc, out, field)?;
+        tell_field(row, field);
     }
-    Ok(())
 }
 
 // The entries of a schema.
-fn entries_told(alloc: Global, schema: &Schema) -> Result<String, AllocError> {
-    let mut out = String::new(alloc);
+fn tell_entries(row: &mut Row, schema: &Schema) {
+    row.put("\"");
     for i in 0..schema.count() {
-        put_entry(alloc, &mut out, schema.entry(i))?;
+        tell_entry(row, schema.entry(i));
     }
-    quoted(alloc, out.as_bytes())
+    row.put("\"");
 }
 
 /// The entries of the schema that a text is.
-pub fn text_entries_told(alloc: Global, text: &[u8]) -> Result<String, AllocError> {
-    entries_told(alloc, &schema_of(alloc, text)?)
+pub fn entries(row: &mut Row) {
+    let text = row.bytes();
+    match schema_of(row.alloc(), text.as_slice()) {
+        Ok(schema) => tell_entries(row, &schema),
+        Err(_) => row.short(),
+    }
 }
 
 /// The index of the constructor or function with a name.
-pub fn found_told(
-    alloc: Global,
-    schema: &Schema,
-    name: &str,
-    is_function: bool,
-) -> Result<String, AllocError> {
-    let found = schema.find(name.as_bytes(), is_function);
-    format!(in alloc; "{found:?}")
+pub fn find(schema: &Schema, row: &mut Row) {
+    let name = row.word();
+    let is_function = row.word() == "function";
+    row.show(&schema.find(name.as_bytes(), is_function));
 }
 
 /// The type that a text names.
-pub fn type_told(alloc: Global, schema: &Schema, text: &[u8]) -> Result<String, AllocError> {
-    match type_of(alloc, schema, text) {
-        Ok(of) => text_of(alloc, &of),
-        Err(fault) => text_of(alloc, &fault),
+pub fn type_named(schema: &Schema, row: &mut Row) {
+    let text = row.bytes();
+    match type_of(row.alloc(), schema, text.as_slice()) {
+        Ok(of) => row.show(&of),
+        Err(fault) => row.show(&fault),
     }
 }

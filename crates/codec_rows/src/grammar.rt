@@ -1,28 +1,30 @@
 //! Tokens, programs, types and descriptions of texts, and what is printed.
 use crate::trees::{put_program, put_tree};
-use base_rows::quoted;
-use std::alloc::{AllocError, Global};
+use base_rows::Row;
+use std::alloc::Global;
 use tl_combinators::{Program, TypeTree, parse, parse_type};
 use tl_lexer::{Token, lex};
 use tl_print::print;
 
-fn put_token(alloc: Global, token: &Token, text: &mut String) -> Result<(), AllocError> {
-    let (kind, start, end) = (token.kind, token.start, token.end);
-    text.push_str(format!(in alloc; "{kind:?} {start}..{end} ")?.as_str())?;
-    Ok(())
+fn tell_token(row: &mut Row, token: &Token) {
+    row.show(&token.kind);
+    row.put(" ");
+    row.show(&token.start);
+    row.put("..");
+    row.show(&token.end);
+    row.put(" ");
 }
 
 // A text's tokens, each with its span; they end with a dot.
-fn tokens_told(alloc: Global, text: &[u8]) -> Result<String, AllocError> {
-    let mut told = String::new(alloc);
-    let Ok(tokens) = lex(alloc, text) else {
-        return String::from_str(alloc, "no tokens");
+fn tokens(row: &mut Row) {
+    let text = row.bytes();
+    let Ok(tokens) = lex(row.alloc(), text.as_slice()) else {
+        return row.put("no tokens");
     };
     for token in &tokens {
-        put_token(alloc, token, &mut told)?;
+        tell_token(row, token);
     }
-    told.push_str(".")?;
-    Ok(told)
+    row.put(".");
 }
 
 fn program_of(alloc: Global, text: &[u8]) -> Option<Program> {
@@ -36,56 +38,64 @@ fn tree_of(alloc: Global, text: &[u8]) -> Option<TypeTree> {
 }
 
 // `print` asks that some text reads as the program, so it stands after `parse`.
-fn printed(alloc: Global, text: &[u8]) -> Option<Vec<u8>> {
+fn printed_of(alloc: Global, text: &[u8]) -> Option<Vec<u8>> {
     let tokens = lex(alloc, text).ok()?;
     let program = parse(alloc, text, &tokens).ok()?;
     Some(print(alloc, &program).ok()?.into_vec())
 }
 
-fn program_told(alloc: Global, text: &[u8]) -> Result<String, AllocError> {
-    let Some(program) = program_of(alloc, text) else {
-        return String::from_str(alloc, "no program");
+fn program(row: &mut Row) {
+    let text = row.bytes();
+    let Some(program) = program_of(row.alloc(), text.as_slice()) else {
+        return row.put("no program");
     };
-    let mut out = Vec::new(alloc);
-    put_program(alloc, &mut out, &program)?;
-    quoted(alloc, out.as_slice())
+    row.put("\"");
+    put_program(row, &program);
+    row.put("\"");
 }
 
-fn tree_told(alloc: Global, text: &[u8]) -> Result<String, AllocError> {
-    let Some(tree) = tree_of(alloc, text) else {
-        return String::from_str(alloc, "no type");
+fn tree(row: &mut Row) {
+    let text = row.bytes();
+    let Some(tree) = tree_of(row.alloc(), text.as_slice()) else {
+        return row.put("no type");
     };
-    let mut out = Vec::new(alloc);
-    put_tree(&mut out, &tree)?;
-    quoted(alloc, out.as_slice())
+    row.put("\"");
+    put_tree(row, &tree);
+    row.put("\"");
+}
+
+fn tell_description(row: &mut Row, program: &Program) {
+    match program.decls.as_slice() {
+        [only] => row.quote(only.description()),
+        _ => row.put("not one declaration"),
+    }
 }
 
 // The description of the one thing that a text declares.
-fn description_told(alloc: Global, text: &[u8]) -> Result<String, AllocError> {
-    let Some(program) = program_of(alloc, text) else {
-        return String::from_str(alloc, "no program");
-    };
-    match program.decls.as_slice() {
-        [only] => quoted(alloc, only.description()),
-        _ => String::from_str(alloc, "not one declaration"),
+fn description(row: &mut Row) {
+    let text = row.bytes();
+    match program_of(row.alloc(), text.as_slice()) {
+        Some(program) => tell_description(row, &program),
+        None => row.put("no program"),
     }
 }
 
-fn printed_told(alloc: Global, text: &[u8]) -> Result<String, AllocError> {
-    match printed(alloc, text) {
-        Some(printed) => quoted(alloc, printed.as_slice()),
-        None => String::from_str(alloc, "no program"),
+fn printed(row: &mut Row) {
+    let text = row.bytes();
+    match printed_of(row.alloc(), text.as_slice()) {
+        Some(printed) => row.quote(printed.as_slice()),
+        None => row.put("no program"),
     }
 }
 
-/// The answer of a call of a text alone.
-pub fn text_told(alloc: Global, call: &str, text: &[u8]) -> Result<String, AllocError> {
+/// Makes a call of a text alone.
+pub fn text_call(call: &str, row: &mut Row) {
     match call {
-        "tokens" => tokens_told(alloc, text),
-        "program" => program_told(alloc, text),
-        "type" => tree_told(alloc, text),
-        "description" => description_told(alloc, text),
-        "print" => printed_told(alloc, text),
-        _ => String::from_str(alloc, "an unknown call"),
+        "tokens" => tokens(row),
+        "program" => program(row),
+        "type" => tree(row),
+        "description" => description(row),
+        "print" => printed(row),
+        _ => row.unknown(),
     }
 }

@@ -1,31 +1,27 @@
 //! Values that are lifted from an old schema to a new one.
 use crate::values::value_of;
-use base_rows::text_of;
-use std::alloc::{AllocError, Global};
+use base_rows::Row;
 use tl_layers::{Layers, compare};
 use tl_schema::{Schema, type_of};
 
-// A value that words are, lifted.
-fn value_lifted(alloc: Global, layers: &Layers, words: &[&str]) -> Result<String, AllocError> {
-    match value_of(alloc, words)? {
-        Some(value) => text_of(alloc, &layers.lift(alloc, &value)?),
-        None => String::from_str(alloc, "no value"),
+// The value that the other words are, lifted.
+fn tell_lifted(layers: &Layers, row: &mut Row) {
+    let Some(value) = value_of(row) else {
+        return row.unknown();
+    };
+    match layers.lift(row.alloc(), &value) {
+        Ok(lifted) => row.show(&lifted),
+        Err(_) => row.short(),
     }
 }
 
 /// A value of an old schema's type, lifted to a new schema; or why that one doesn't read its bytes.
-pub fn lifted_told(
-    alloc: Global,
-    old: &Schema,
-    new: &Schema,
-    of: &str,
-    words: &[&str],
-) -> Result<String, AllocError> {
-    let Ok(of) = type_of(alloc, old, of.as_bytes()) else {
-        return String::from_str(alloc, "no type");
+pub fn lift(old: &Schema, new: &Schema, row: &mut Row) {
+    let Ok(of) = type_of(row.alloc(), old, row.word().as_bytes()) else {
+        return row.put("no type");
     };
-    match compare(alloc, old, new, &of) {
-        Ok(layers) => value_lifted(alloc, &layers, words),
-        Err(fault) => text_of(alloc, &fault),
+    match compare(row.alloc(), old, new, &of) {
+        Ok(layers) => tell_lifted(&layers, row),
+        Err(fault) => row.show(&fault),
     }
 }

@@ -11,5 +11,5 @@ mod trees;
 mod values;
 mod walks;
 
-pub use codec::{Codec, codec_difference};
+pub use codec::codec_report;
 pub use schemas::{plan_of, schema_of};

@@ -1,7 +1,7 @@
 //! Values from bytes and bytes from values, by the plan of a type.
 use crate::schemas::plan_of;
 use crate::values::value_of;
-use base_rows::{first, quoted, text_of};
+use base_rows::Row;
 use std::alloc::{AllocError, Global};
 use tl_base::{Bytes, MemSink, MemSource};
 use tl_decode::{Decoder, Fed, decode, decode_or_end, takes_four};
@@ -13,217 +13,196 @@ use tl_types::Value;
 // ---- values from bytes
 
 // A source of these bytes, whose first reads give one, two and three of them.
-fn source_of(alloc: Global, bytes: &[u8]) -> Result<MemSource, AllocError> {
+fn source_of(alloc: Global, bytes: Vec<u8>) -> Result<MemSource, AllocError> {
     let cuts = Vec::from_slice(alloc, &[1u32, 2, 3])?;
-    Ok(MemSource::new(Bytes::from_slice(alloc, bytes)?, cuts, Vec::new(alloc)))
+    Ok(MemSource::new(Bytes::from_vec(bytes), cuts, Vec::new(alloc)))
+}
+
+// A value, and the offset after it.
+fn tell_value(value: &Value, at: u64, row: &mut Row) {
+    row.show(value);
+    row.put(" to ");
+    row.show(&at);
 }
 
 // The value at the first byte, and where reading stopped.
-fn decoded_told(alloc: Global, plan: &Plan, bytes: &[u8]) -> Result<String, AllocError> {
-    let mut from = source_of(alloc, bytes)?;
+fn decode_from(plan: &Plan, from: &mut MemSource, row: &mut Row) {
     let mut at = 0;
     if plan.roots() == 0 {
-        return String::from_str(alloc, "no root");
+        return row.put("no root");
     }
-    match decode(alloc, plan, 0, &mut at, &mut from) {
-        Ok(value) => {
-            let value = text_of(alloc, &value)?;
-            format!(in alloc; "{value} to {at}")
-        }
-        Err(fault) => text_of(alloc, &fault),
+    match decode(row.alloc(), plan, 0, &mut at, from) {
+        Ok(value) => tell_value(&value, at, row),
+        Err(fault) => row.show(&fault),
+    }
+}
+
+fn decode_call(plan: &Plan, row: &mut Row) {
+    match source_of(row.alloc(), row.bytes()) {
+        Ok(mut from) => decode_from(plan, &mut from, row),
+        Err(_) => row.short(),
     }
 }
 
 // Tells the next value and where reading stopped, the end, or the fault, and whether more is to be read.
-fn put_next(
-    alloc: Global,
-    plan: &Plan,
-    at: &mut u64,
-    from: &mut MemSource,
-    told: &mut String,
-) -> Result<bool, AllocError> {
+fn tell_next(plan: &Plan, at: &mut u64, from: &mut MemSource, row: &mut Row) -> bool {
     if plan.roots() == 0 || !takes_four(plan, 0) {
-        told.push_str("no root")?;
-        return Ok(false);
+        row.put("no root");
+        return false;
     }
-    match decode_or_end(alloc, plan, 0, at, from) {
+    match decode_or_end(row.alloc(), plan, 0, at, from) {
         Ok(Some(value)) => {
-            let value = text_of(alloc, &value)?;
-            told.push_str(format!(in alloc; "{value} to {at}; ")?.as_str())?;
-            Ok(true)
+            tell_value(&value, *at, row);
+            row.put("; ");
+            return true;
         }
         Ok(None) => {
-            told.push_str(format!(in alloc; "the end at {at}")?.as_str())?;
-            Ok(false)
+            row.put("the end at ");
+            row.show(at);
         }
-        Err(fault) => {
-            told.push_str(text_of(alloc, &fault)?.as_str())?;
-            Ok(false)
+        Err(fault) => row.show(&fault),
+    }
+    false
+}
+
+// The values of a source one after the other, up to a refusal or the end.
+fn all_from(plan: &Plan, most: usize, from: &mut MemSource, row: &mut Row) {
+    let mut at = 0;
+    for _ in 0..most {
+        if !tell_next(plan, &mut at, from, row) {
+            return;
         }
     }
 }
 
-// The values of bytes one after the other, up to a refusal or the end.
-fn all_told(alloc: Global, plan: &Plan, bytes: &[u8]) -> Result<String, AllocError> {
-    let mut from = source_of(alloc, bytes)?;
-    let mut told = String::new(alloc);
-    let mut at = 0;
-    for _ in 0..bytes.len() {
-        if !put_next(alloc, plan, &mut at, &mut from, &mut told)? {
-            return Ok(told);
-        }
+fn all_call(plan: &Plan, row: &mut Row) {
+    let bytes = row.bytes();
+    let most = bytes.len();
+    match source_of(row.alloc(), bytes) {
+        Ok(mut from) => all_from(plan, most, &mut from, row),
+        Err(_) => row.short(),
     }
-    Ok(told)
 }
 
 // ---- pieces
 
 // That more is wanted, and the offset at which the input would be cut off.
-fn put_more(alloc: Global, decoder: &Decoder, told: &mut String) -> Result<(), AllocError> {
-    let at = decoder.ended();
-    told.push_str(format!(in alloc; "more, cut at {at}; ")?.as_str())
+fn tell_more(ended: u64, row: &mut Row) {
+    row.put("more, cut at ");
+    row.show(&ended);
+    row.put("; ");
 }
 
 // After how many bytes of the last piece the value ends, and the value.
-fn put_done(
-    alloc: Global,
-    used: usize,
-    value: &Value,
-    told: &mut String,
-) -> Result<(), AllocError> {
-    told.push_str(format!(in alloc; "done after {used}, ")?.as_str())?;
-    told.push_str(text_of(alloc, value)?.as_str())
+fn tell_done(used: usize, value: &Value, row: &mut Row) {
+    row.put("done after ");
+    row.show(&used);
+    row.put(", ");
+    row.show(value);
 }
 
 // Feeds a piece, and tells the answer: with the offset at which the input would be cut off where more is wanted, or with the value.
 fn fed<'p, 's>(
-    alloc: Global,
     mut decoder: Decoder<'p, 's>,
     piece: &[u8],
-    told: &mut String,
-) -> Result<Option<Decoder<'p, 's>>, AllocError> {
+    row: &mut Row,
+) -> Option<Decoder<'p, 's>> {
     match decoder.feed(piece) {
         Ok(Fed::More) => {
-            put_more(alloc, &decoder, told)?;
-            Ok(Some(decoder))
+            tell_more(decoder.ended(), row);
+            Some(decoder)
         }
         Ok(Fed::Done { used }) => {
-            put_done(alloc, used, &decoder.into_value(), told)?;
-            Ok(None)
+            tell_done(used, &decoder.into_value(), row);
+            None
         }
         Err(fault) => {
-            told.push_str(text_of(alloc, &fault)?.as_str())?;
-            Ok(None)
+            row.show(&fault);
+            None
         }
     }
 }
 
 // The answers of pieces of so many bytes, up to a refusal or the value.
-fn pieces_told(
-    alloc: Global,
-    plan: &Plan,
-    size: usize,
-    bytes: &[u8],
-) -> Result<String, AllocError> {
-    let mut told = String::new(alloc);
+fn feed_call(plan: &Plan, row: &mut Row) {
+    let size = row.number() as usize;
+    let bytes = row.bytes();
     if plan.roots() == 0 || size == 0 {
-        return String::from_str(alloc, "no root");
+        return row.put("no root");
     }
-    let mut decoder = Decoder::new(alloc, plan, 0);
+    let mut decoder = Decoder::new(row.alloc(), plan, 0);
     for piece in bytes.chunks(size) {
-        match fed(alloc, decoder, piece, &mut told)? {
+        match fed(decoder, piece, row) {
             Some(next) => decoder = next,
-            None => return Ok(told),
+            None => return,
         }
-    }
-    Ok(told)
-}
-
-// The same, where the first of the words says how many.
-fn fed_told(alloc: Global, plan: &Plan, words: &[&str], text: &[u8]) -> Result<String, AllocError> {
-    let [size] = words else {
-        return String::from_str(alloc, "no size");
-    };
-    match size.parse::<usize>() {
-        Ok(size) => pieces_told(alloc, plan, size, text),
-        Err(_) => String::from_str(alloc, "no size"),
     }
 }
 
 // ---- bytes from values
 
-// What is answered of a value, and what the sink has then.
-fn encoded_told(alloc: Global, plan: &Plan, value: &Value) -> Result<String, AllocError> {
-    let mut to = MemSink::new(alloc, 100, Vec::new(alloc))?;
+// What is answered of a value by a sink, and what the sink has then.
+fn encode_to(plan: &Plan, value: &Value, to: &mut MemSink, row: &mut Row) {
     if plan.roots() == 0 {
-        return String::from_str(alloc, "no root");
+        return row.put("no root");
     }
-    match encode(alloc, plan, 0, value, &mut to) {
+    match encode(row.alloc(), plan, 0, value, to) {
         Ok(count) => {
-            let has = quoted(alloc, to.as_slice())?;
-            format!(in alloc; "{count} {has}")
+            row.show(&count);
+            row.put(" ");
+            row.quote(to.as_slice());
         }
-        Err(fault) => text_of(alloc, &fault),
+        Err(fault) => row.show(&fault),
+    }
+}
+
+fn encode_call(plan: &Plan, row: &mut Row) {
+    let Some(value) = value_of(row) else {
+        return row.unknown();
+    };
+    match MemSink::new(row.alloc(), 100, Vec::new(row.alloc())) {
+        Ok(mut to) => encode_to(plan, &value, &mut to, row),
+        Err(_) => row.short(),
     }
 }
 
 // How long a value's spelling is, twice: a value that has a spelling fits, so its length may be asked for.
-fn length_told(alloc: Global, plan: &Plan, value: &Value) -> Result<String, AllocError> {
+fn tell_length(plan: &Plan, value: &Value, row: &mut Row) {
     if plan.roots() == 0 {
-        return String::from_str(alloc, "no root");
+        return row.put("no root");
     }
-    match spelling_of(alloc, plan, 0, value) {
+    match spelling_of(row.alloc(), plan, 0, value) {
         Ok(spelling) => {
-            let (length, asked) = (spelling.len(), spelled_len(plan, 0, value));
-            format!(in alloc; "{length} {asked}")
+            row.show(&spelling.len());
+            row.put(" ");
+            row.show(&spelled_len(plan, 0, value));
         }
-        Err(fault) => text_of(alloc, &fault),
+        Err(fault) => row.show(&fault),
     }
 }
 
-// The answer of a call of a value.
-fn value_told(
-    alloc: Global,
-    plan: &Plan,
-    call: &str,
-    words: &[&str],
-) -> Result<String, AllocError> {
-    let Some(value) = value_of(alloc, words)? else {
-        return String::from_str(alloc, "no value");
-    };
-    match call {
-        "encode" => encoded_told(alloc, plan, &value),
-        "length" => length_told(alloc, plan, &value),
-        _ => String::from_str(alloc, "an unknown call"),
+fn length_call(plan: &Plan, row: &mut Row) {
+    match value_of(row) {
+        Some(value) => tell_length(plan, &value, row),
+        None => row.unknown(),
     }
 }
 
-fn plan_told(
-    alloc: Global,
-    plan: &Plan,
-    call: &str,
-    words: &[&str],
-    text: &[u8],
-) -> Result<String, AllocError> {
-    match call {
-        "decode" => decoded_told(alloc, plan, text),
-        "all" => all_told(alloc, plan, text),
-        "feed" => fed_told(alloc, plan, words, text),
-        _ => value_told(alloc, plan, call, words),
+fn call(plan: &Plan, row: &mut Row) {
+    match row.word() {
+        "decode" => decode_call(plan, row),
+        "all" => all_call(plan, row),
+        "feed" => feed_call(plan, row),
+        "encode" => encode_call(plan, row),
+        "length" => length_call(plan, row),
+        _ => row.unknown(),
     }
 }
 
-/// The answer of a call by the plan of a type.
-pub fn planned_told(
-    alloc: Global,
-    schema: &Schema,
-    of: &str,
-    call: &[&str],
-    text: &[u8],
-) -> Result<String, AllocError> {
-    let (call, words) = first(call);
-    match plan_of(alloc, schema, of.as_bytes()) {
-        Some(plan) => plan_told(alloc, &plan, call, words, text),
-        None => String::from_str(alloc, "no plan"),
+/// Makes a call by the plan of a type.
+pub fn plan_call(schema: &Schema, row: &mut Row) {
+    match plan_of(row.alloc(), schema, row.word().as_bytes()) {
+        Some(plan) => call(&plan, row),
+        None => row.put("no plan"),
     }
 }

@@ -1,101 +1,97 @@
 //! Types and declarations, in a spelling of these rows.
-use std::alloc::{AllocError, Global};
+use base_rows::Row;
 use tl_combinators::{Decl, Field, FieldKind, Program, TypeTree};
-
-fn put(out: &mut Vec<u8>, bytes: &[u8]) -> Result<(), AllocError> {
-    out.extend_from_slice(bytes)?;
-    Ok(())
-}
 
 /// A name, and each of the types that it is applied to in brackets; `%` and a type; or `!`.
 #[cycle(shows)]
-pub fn put_tree(out: &mut Vec<u8>, tree: &TypeTree) -> Result<(), AllocError> {
+pub fn put_tree(row: &mut Row, tree: &TypeTree) {
     match tree {
         TypeTree::Named { name, args } => {
-            put(out, name.as_slice())?;
-            put_args(out, args)
+            row.letters(name.as_slice());
+            put_args(row, args)
         }
         TypeTree::Percent { tree } => {
-            put(out, b"%")?;
-            put_tree(out, tree)
+            row.put("%");
+            put_tree(row, tree)
         }
-        TypeTree::AnyCall => put(out, b"!"),
+        TypeTree::AnyCall => row.put("!"),
     }
 }
 
 #[cycle(shows)]
-fn put_args(out: &mut Vec<u8>, args: &Vec<TypeTree>) -> Result<(), AllocError> {
+fn put_args(row: &mut Row, args: &Vec<TypeTree>) {
     for arg in args {
-        put(out, b"[")?;
-        put_tree(out, arg)?;
-        put(out, b"]")?;
+        row.put("[");
+        put_tree(row, arg);
+        row.put("]");
     }
-    Ok(())
 }
 
 // `#`, `flag`, `!X`, or a type.
-fn put_kind(out: &mut Vec<u8>, kind: &FieldKind) -> Result<(), AllocError> {
+fn put_kind(row: &mut Row, kind: &FieldKind) {
     match kind {
-        FieldKind::Nat => put(out, b"#"),
-        FieldKind::Flag => put(out, b"flag"),
+        FieldKind::Nat => row.put("#"),
+        FieldKind::Flag => row.put("flag"),
         FieldKind::Call { var } => {
-            put(out, b"!")?;
-            put(out, var.as_slice())
+            row.put("!");
+            row.letters(var.as_slice())
         }
-        FieldKind::Of { tree } => put_tree(out, tree),
+        FieldKind::Of { tree } => put_tree(row, tree),
     }
 }
 
-fn put_field(alloc: Global, out: &mut Vec<u8>, field: &Field) -> Result<(), AllocError> {
-    put(out, b" ")?;
-    put(out, field.name.as_slice())?;
-    put(out, b":")?;
+fn put_field(row: &mut Row, field: &Field) {
+    row.put(" ");
+    row.letters(field.name.as_slice());
+    row.put(":");
     if let Some(cond) = &field.cond {
-        put(out, cond.flags.as_slice())?;
-        let bit = cond.bit;
-        put(out, format!(in alloc; ".{bit}?")?.as_bytes())?;
+        row.letters(cond.flags.as_slice());
+        row.fill(".#?", &[cond.bit as i64]);
     }
-    put_kind(out, &field.kind)
+    put_kind(row, &field.kind);
 }
 
 // `function` or `line` where it is one, the name and the number that is written.
-fn put_head(alloc: Global, out: &mut Vec<u8>, decl: &Decl) -> Result<(), AllocError> {
+fn put_head(row: &mut Row, decl: &Decl) {
     if decl.function {
-        put(out, b"function ")?;
+        row.put("function ");
     }
     if decl.builtin {
-        put(out, b"line ")?;
+        row.put("line ");
     }
-    put(out, decl.name.as_slice())?;
+    row.letters(decl.name.as_slice());
     if let Some(number) = decl.number {
-        put(out, format!(in alloc; "#{number}")?.as_bytes())?;
+        row.put("#");
+        row.show(&number);
     }
-    Ok(())
 }
 
-fn put_declaration(alloc: Global, out: &mut Vec<u8>, decl: &Decl) -> Result<(), AllocError> {
-    put_head(alloc, out, decl)?;
+fn put_var(row: &mut Row, var: &[u8]) {
+    row.put(" {");
+    row.letters(var);
+    row.put("}");
+}
+
+fn put_declaration(row: &mut Row, decl: &Decl) {
+    put_head(row, decl);
     for var in &decl.vars {
-        put(out, b" {")?;
-        put(out, var.as_slice())?;
-        put(out, b"}")?;
+        put_var(row, var.as_slice());
     }
     for field in &decl.fields {
-        put_field(alloc, out, field)?;
+        put_field(row, field);
     }
-    put(out, b" = ")?;
-    put_tree(out, &decl.result)?;
+    row.put(" = ");
+    put_tree(row, &decl.result);
     // The line of a built-in type has no description.
     if decl.builtin {
-        put(out, decl.description())?;
+        row.letters(decl.description());
     }
-    put(out, b"; ")
+    row.put("; ");
 }
 
 /// Each declaration, with `; ` after it.
-pub fn put_program(alloc: Global, out: &mut Vec<u8>, program: &Program) -> Result<(), AllocError> {
+pub fn put_program(row: &mut Row, program: &Program) {
     for decl in &program.decls {
-        put_declaration(alloc, out, decl)?;
+        put_declaration(row, decl);
     }
-    Ok(())
 }

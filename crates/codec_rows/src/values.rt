@@ -1,5 +1,5 @@
 //! Values in words.
-use base_rows::unescaped;
+use base_rows::{Row, unescaped};
 use std::alloc::{AllocError, Global};
 use tl_base::Bytes;
 use tl_types::Value;
@@ -69,14 +69,27 @@ fn of_word(
     }
 }
 
-/// The value that the last of the words is, where `list:N` takes the N values before it and `node:N` all, as fields of entry N.
-pub fn value_of(alloc: Global, words: &[&str]) -> Result<Option<Value>, AllocError> {
-    let mut values = Vec::new(alloc);
-    for word in words {
-        match of_word(alloc, word, &mut values)? {
+fn value_of_words(row: &mut Row) -> Result<Option<Value>, AllocError> {
+    let mut values = Vec::new(row.alloc());
+    for _ in 0..row.most() {
+        if row.is_empty() {
+            break;
+        }
+        match of_word(row.alloc(), row.word(), &mut values)? {
             Some(value) => values.push(value)?,
             None => return Ok(None),
         }
     }
     Ok(values.pop())
+}
+
+/// The value that the last of the words is, where `list:N` takes the N values before it and `node:N` all, as fields of entry N.
+pub fn value_of(row: &mut Row) -> Option<Value> {
+    match value_of_words(row) {
+        Ok(value) => value,
+        Err(_) => {
+            row.short();
+            None
+        }
+    }
 }

@@ -1,75 +1,64 @@
 //! Values as bytes and as JSON, by a schema and a type.
+ghost use Rattle.tl_schema.specs.Formed.{IsFormed};
+ghost use Rattle.tl_schema.specs.Seen.{shape};
+
 use crate::values::value_of;
-use base_rows::{first, quoted, text_of};
+use base_rows::Row;
 use std::alloc::{AllocError, Global};
 use tl_base::MemSink;
 use tl_encode::encode_walk;
 use tl_schema::{Schema, type_of};
 use tl_show::show;
-use tl_types::Value;
+use tl_types::{TypeRef, Value};
 
-// What is answered of a value, and what the sink has then.
-fn encoded_told(
+// The JSON of a value.
+fn shown(
     alloc: Global,
     schema: &Schema,
-    of: &str,
+    of: &TypeRef,
     value: &Value,
-    to: &mut MemSink,
 ) -> Result<String, AllocError> {
-    let Ok(of) = type_of(alloc, schema, of.as_bytes()) else {
-        return String::from_str(alloc, "no type");
+    show(alloc, schema, of, value)?.to_string(alloc)
+}
+
+// What is answered of a value by a sink with so much room, and what the sink has then.
+fn tell_written(schema: &Schema, of: &TypeRef, value: &Value, room: u32, row: &mut Row)
+    requires formed { IsFormed schema.now (shape of.now) }
+{
+    let Ok(mut to) = MemSink::new(row.alloc(), room, Vec::new(row.alloc())) else {
+        return row.short();
     };
-    match encode_walk(alloc, schema, &of, value, to) {
-        Ok(count) => format!(in alloc; "{count}"),
-        Err(fault) => text_of(alloc, &fault),
+    let came = encode_walk(row.alloc(), schema, of, value, &mut to);
+    row.show_came(came);
+    row.put(" ");
+    row.quote(to.as_slice());
+}
+
+fn show_call(schema: &Schema, of: &TypeRef, row: &mut Row) {
+    match value_of(row) {
+        Some(value) => row.put_made(shown(row.alloc(), schema, of, &value)),
+        None => row.unknown(),
     }
 }
 
-// The JSON of a value.
-fn shown_told(
-    alloc: Global,
-    schema: &Schema,
-    of: &str,
-    value: &Value,
-) -> Result<String, AllocError> {
-    let Ok(of) = type_of(alloc, schema, of.as_bytes()) else {
-        return String::from_str(alloc, "no type");
+fn room_call(schema: &Schema, of: &TypeRef, row: &mut Row)
+    requires formed { IsFormed schema.now (shape of.now) }
+{
+    let room = row.number();
+    match value_of(row) {
+        Some(value) => tell_written(schema, of, &value, room, row),
+        None => row.unknown(),
+    }
+}
+
+/// Makes a call of a value of a type.
+pub fn walk(schema: &Schema, row: &mut Row) {
+    let Ok(of) = type_of(row.alloc(), schema, row.word().as_bytes()) else {
+        return row.put("no type");
     };
-    show(alloc, schema, &of, value)?.to_string(alloc)
-}
-
-// The same, with what a sink with so much room has after it.
-fn into_room(
-    alloc: Global,
-    schema: &Schema,
-    of: &str,
-    value: &Value,
-    room: u32,
-) -> Result<String, AllocError> {
-    let mut to = MemSink::new(alloc, room, Vec::new(alloc))?;
-    let told = encoded_told(alloc, schema, of, value, &mut to)?;
-    let has = quoted(alloc, to.as_slice())?;
-    format!(in alloc; "{told} {has}")
-}
-
-/// The answer of a call of a value of a type.
-pub fn walked_told(
-    alloc: Global,
-    schema: &Schema,
-    of: &str,
-    call: &[&str],
-) -> Result<String, AllocError> {
-    let (call, words) = first(call);
-    let (word, after) = first(words);
-    match call {
-        "show" => match value_of(alloc, words)? {
-            Some(value) => shown_told(alloc, schema, of, &value),
-            None => String::from_str(alloc, "no value"),
-        },
-        "room" => match (word.parse::<u32>(), value_of(alloc, after)?) {
-            (Ok(room), Some(value)) => into_room(alloc, schema, of, &value, room),
-            _ => String::from_str(alloc, "no room or no value"),
-        },
-        _ => String::from_str(alloc, "an unknown call"),
+    match row.word() {
+        "show" => show_call(schema, &of, row),
+        "room" => room_call(schema, &of, row),
+        _ => row.unknown(),
     }
 }

@@ -1,4 +1,4 @@
-//! Rows of the calls of boxes, lanes and both ends.
+//! Rows of the calls of boxes, lanes, keepers and both ends.
 //!
 //! A row is `KIND NAME CALL WORDS => TOLD`, where the object of a name begins with the first row that names it, or `KIND WORDS => TOLD` of what
 //! has no name.
@@ -6,11 +6,12 @@ use crate::asks::asks_call;
 use crate::boxes::box_call;
 use crate::clients::client_call;
 use crate::gaps::gap_call;
+use crate::keepers::{Kept, kept_call};
 use crate::lanes::lane_call;
 use crate::servers::server_call;
 use crate::settings::settings_call;
 use crate::weaves::{split_call, weave_call};
-use base_rows::{Named, Row, Rows, difference};
+use base_rows::{Named, Report, Row, Rows, report_of};
 use box_client::Client;
 use box_events::{Asks, Event, EventBox};
 use box_server::Server;
@@ -19,21 +20,22 @@ use pts_machine::Lane;
 use seq_machine::Settings;
 use std::alloc::{AllocError, Global};
 
-/// What the rows of a file name.
+// What the rows of a file name.
 #[derive(Drop)]
-pub struct Ends {
+struct Ends {
     asks: Named<Asks>,
     boxes: Named<EventBox>,
     gaps: Named<Gap<u32>>,
     lanes: Named<Lane<Event>>,
     settings: Named<Settings>,
     servers: Named<Server>,
+    keepers: Named<Kept>,
     clients: Named<Client>,
 }
 
 impl Ends {
-    /// Nothing is named.
-    pub fn new(alloc: Global) -> Ends {
+    // Nothing is named.
+    fn new(alloc: Global) -> Ends {
         Ends {
             asks: Named::new(alloc),
             boxes: Named::new(alloc),
@@ -41,6 +43,7 @@ impl Ends {
             lanes: Named::new(alloc),
             settings: Named::new(alloc),
             servers: Named::new(alloc),
+            keepers: Named::new(alloc),
             clients: Named::new(alloc),
         }
     }
@@ -90,6 +93,13 @@ fn of_server(all: &mut Named<Server>, row: &mut Row) {
     all.keep(row, name, server);
 }
 
+fn of_keeper(all: &mut Named<Kept>, row: &mut Row) {
+    let name = row.word();
+    if let Some(kept) = kept_call(all.take(name), row) {
+        all.keep(row, name, kept);
+    }
+}
+
 fn of_client(all: &mut Named<Client>, row: &mut Row) {
     let name = row.word();
     let mut client = all.take_or(name, Client::new(row.alloc()));
@@ -108,6 +118,7 @@ impl Rows for Ends {
             "lane" => of_lane(&mut self.lanes, row),
             "settings" => of_settings(&mut self.settings, row),
             "server" => of_server(&mut self.servers, row),
+            "keeper" => of_keeper(&mut self.keepers, row),
             "client" => of_client(&mut self.clients, row),
             "weave" => weave_call(row),
             "split" => split_call(row),
@@ -116,11 +127,7 @@ impl Rows for Ends {
     }
 }
 
-/// How a row is told, where that is otherwise than it says.
-pub fn ends_difference(
-    alloc: Global,
-    ends: &mut Ends,
-    row: &str,
-) -> Result<Option<String>, AllocError> {
-    difference(alloc, ends, row)
+/// Looks at the rows of a file.
+pub fn ends_report(alloc: Global, file: &str, text: &str) -> Result<Report, AllocError> {
+    report_of(alloc, &mut Ends::new(alloc), file, text)
 }

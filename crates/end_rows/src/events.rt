@@ -4,10 +4,10 @@ ghost use Rattle.std.specs.List.{sum_by};
 ghost use Rattle.box_events.specs.Events.{count_of};
 ghost use Rattle.box_events.specs.Boxes.{ending};
 
-use crate::words::{RowFault, ids, put_quoted, text};
+use crate::words::{ids, put_quoted, text};
 use base_rows::Row;
 use box_events::{Event, EventKind, Ids, Placed};
-use std::alloc::{AllocError, Global};
+use std::alloc::AllocError;
 
 // An event in the place of one that no words say.
 fn unknown(row: &mut Row) -> Event {
@@ -118,11 +118,4 @@ pub fn put_events(row: &mut Row, events: &[Event]) {
         }
         put_event(row, event);
     }
-}
-
-/// The same as a text.
-pub fn events_text(alloc: Global, events: &[Event]) -> Result<String, RowFault> {
-    let mut row = Row::new(alloc, "", "");
-    put_events(&mut row, events);
-    Ok(row.into_told()?)
 }

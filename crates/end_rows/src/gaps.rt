@@ -1,6 +1,5 @@
 //! Rows `gap NAME ..` of gaps, whose items are numbers. A held item ends at the number after its start.
-use crate::words::RowFault;
-use base_rows::Row;
+use base_rows::{Row, RowFault};
 use gap_buffer::{Gap, Held};
 
 fn hold(gap: &mut Gap<u32>, start: u32, item: u32) -> Result<Held<u32>, RowFault> {

@@ -1,7 +1,6 @@
 //! Rows `lane NAME ..` of lanes.
 use crate::events::{events_of, next_event, put_events};
-use crate::words::RowFault;
-use base_rows::Row;
+use base_rows::{Row, RowFault};
 use box_events::Event;
 use pts_machine::{Lane, Seen};
 
@@ -94,7 +93,7 @@ fn step(lane: &mut Lane<Event>, verb: &str, row: &mut Row) -> Result<(), RowFaul
 // Makes a step, and tells how the lane is then.
 fn step_told(lane: &mut Lane<Event>, verb: &str, row: &mut Row) {
     let made = step(lane, verb, row);
-    row.done("", made);
+    row.note(made);
     tell(lane, row);
 }
 

@@ -1,4 +1,4 @@
-//! Rows of the calls of boxes, lanes and both ends, and the words of rows.
+//! Rows of the calls of boxes, lanes, keepers and both ends.
 #![tactic(auto)]
 
 mod answers;
@@ -8,6 +8,7 @@ mod clients;
 mod ends;
 mod events;
 mod gaps;
+mod keepers;
 mod lanes;
 mod others;
 mod posts;
@@ -18,7 +19,5 @@ mod settings;
 mod weaves;
 mod words;
 
-pub use base_rows::Named;
-pub use ends::{Ends, ends_difference};
-pub use events::events_text;
-pub use words::{RowFault, Words};
+pub use ends::ends_report;
+pub use events::put_events;

@@ -5,8 +5,7 @@ ghost use Rattle.difference.specs.Refusal.{AreOthers};
 ghost use Rattle.difference.specs.Laws.{AreCountedOthers};
 
 use crate::events::event_of;
-use crate::words::RowFault;
-use base_rows::Row;
+use base_rows::{Row, RowFault};
 use box_events::{Event, EventKind, ListOf, Placed};
 
 fn is_message(event: &Event) -> bool

@@ -91,7 +91,7 @@ fn put_all(posts: &mut Vec<Post>, row: &mut Row) {
             return;
         }
         let put = put_next(posts, row);
-        row.done("", put);
+        row.grown(put);
     }
 }
 

@@ -4,8 +4,8 @@ ghost use Rattle.std.specs.Prelude.{◌≤◌, IfOk};
 ghost use Rattle.box_client.specs.Ranges.{IsReplyInRange};
 
 use crate::others::others_of;
-use crate::words::{RowFault, setting, texts};
-use base_rows::Row;
+use crate::words::{setting, texts};
+use base_rows::{Row, RowFault};
 use box_client::Client;
 use box_events::{ChannelReply, ListOf, Reply, Setting, State};
 
@@ -14,7 +14,7 @@ fn settings_of(row: &mut Row) -> ListOf<Setting> {
     let mut settings = ListOf::new(row.alloc());
     for _ in 0..row.number() {
         let pushed = settings.push(setting(row));
-        row.done("", pushed);
+        row.grown(pushed);
     }
     settings
 }
@@ -103,6 +103,6 @@ pub fn hear_reply(client: &mut Client, row: &mut Row) {
             let heard = client.hear_reply(row.alloc(), number, reply);
             row.show_came(heard);
         }
-        Err(fault) => row.show(&fault),
+        Err(fault) => row.refuse(fault),
     }
 }

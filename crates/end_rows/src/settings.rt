@@ -1,6 +1,6 @@
 //! Rows `settings NAME ..` of settings at a seq.
-use crate::words::{RowFault, put_quoted, setting, text};
-use base_rows::Row;
+use crate::words::{put_quoted, setting, text};
+use base_rows::{Row, RowFault};
 use box_events::Setting;
 use pts_machine::Seen;
 use seq_machine::Settings;
@@ -137,7 +137,7 @@ fn step(settings: &mut Settings, verb: &str, row: &mut Row) -> Result<(), RowFau
 // Makes a step, and tells how the settings are then.
 fn step_told(settings: &mut Settings, verb: &str, row: &mut Row) {
     let made = step(settings, verb, row);
-    row.done("", made);
+    row.note(made);
     tell(settings, row);
 }
 

@@ -19,8 +19,9 @@ pub fn weave_call(row: &mut Row) {
     let from = row.number();
     let to = row.number();
     let news = texts(row);
-    let Ok(others) = others_of(row) else {
-        return row.unknown();
+    let others = match others_of(row) {
+        Ok(others) => others,
+        Err(fault) => return row.refuse(fault),
     };
     if from > 1_000_000 || to > 1_000_000 || news.len() > 1_000 {
         return row.unknown();

@@ -1,89 +1,15 @@
 //! The words of a row, and what they say.
-use base_rows::Row;
+use base_rows::{Row, RowFault, times};
 use box_events::{Ids, ListOf, Setting};
-use std::alloc::{AllocError, AllocFailed, Global};
+use std::alloc::Global;
 use tl_base::Bytes;
-
-/// Why a row isn't told.
-#[derive(Clone, Copy, Debug)]
-pub enum RowFault {
-    /// A word is missing, or is none of those that can stand there.
-    Unknown,
-    Memory,
-}
-
-impl From<AllocError> for RowFault {
-    fn from(_e: AllocError) -> RowFault {
-        RowFault::Memory
-    }
-}
-
-impl<T: Drop> From<AllocFailed<T>> for RowFault {
-    fn from(_e: AllocFailed<T>) -> RowFault {
-        RowFault::Memory
-    }
-}
-
-/// The words of a row that are still to be read.
-#[derive(Clone, Copy)]
-pub struct Words<'a> {
-    rest: &'a str,
-}
-
-impl<'a> Words<'a> {
-    pub fn of(row: &'a str) -> Words<'a> {
-        Words { rest: row }
-    }
-
-    pub fn word(&mut self) -> Result<&'a str, RowFault> {
-        if self.rest.is_empty() {
-            return Err(RowFault::Unknown);
-        }
-        match self.rest.split_once(' ') {
-            Some((word, rest)) => {
-                self.rest = rest;
-                Ok(word)
-            }
-            None => {
-                let word = self.rest;
-                self.rest = "";
-                Ok(word)
-            }
-        }
-    }
-
-    /// A number from 0 to 1,000,000.
-    pub fn number(&mut self) -> Result<u32, RowFault> {
-        match self.word()?.parse::<u32>() {
-            Ok(number) if number <= 1_000_000 => Ok(number),
-            _ => Err(RowFault::Unknown),
-        }
-    }
-
-    pub fn long(&mut self) -> Result<i64, RowFault> {
-        match self.word()?.parse::<i64>() {
-            Ok(number) => Ok(number),
-            Err(_) => Err(RowFault::Unknown),
-        }
-    }
-}
-
-// ---- what the words of a row say
-
-// Why the row's word says nothing.
-fn refuse(row: &mut Row, fault: RowFault) {
-    match fault {
-        RowFault::Unknown => row.unknown(),
-        RowFault::Memory => row.short(),
-    }
-}
 
 /// A text in quotes: `3'x'` is the text xxx.
 pub fn text(row: &mut Row) -> Bytes {
     match text_of(row.alloc(), row.word()) {
         Ok(text) => text,
         Err(fault) => {
-            refuse(row, fault);
+            row.refuse(fault);
             Bytes::new(row.alloc())
         }
     }
@@ -94,7 +20,7 @@ pub fn texts(row: &mut Row) -> ListOf<Bytes> {
     let mut texts = ListOf::new(row.alloc());
     for _ in 0..row.number() {
         let pushed = texts.push(text(row));
-        row.done("", pushed);
+        row.grown(pushed);
     }
     texts
 }
@@ -111,7 +37,7 @@ pub fn ids(row: &mut Row) -> Ids {
     match ids_of(row.alloc(), row.word()) {
         Ok(ids) => ids,
         Err(fault) => {
-            refuse(row, fault);
+            row.refuse(fault);
             Ids::new(row.alloc())
         }
     }
@@ -136,17 +62,6 @@ fn ids_of(alloc: Global, word: &str) -> Result<Ids, RowFault> {
         }
     }
     Ok(ids)
-}
-
-// How many times; nothing says once.
-fn times(count: &str) -> Result<u32, RowFault> {
-    if count.is_empty() {
-        return Ok(1);
-    }
-    match count.parse::<u32>() {
-        Ok(count) => Ok(count),
-        Err(_) => Err(RowFault::Unknown),
-    }
 }
 
 fn put_ids(part: &str, ids: &mut Ids) -> Result<(), RowFault> {

@@ -1,58 +1,80 @@
-//! What the calls answer for bytes, told as text.
-use base_rows::text_of;
+//! What bytes are read as: a frame, a call or a saved client, and how it is spelled again.
+use base_rows::{Row, text_of};
 use box_events::{Frame, Numbered, Saved};
 use box_wire::{read_call, read_frame, read_saved, spell_call, spell_frame, spell_saved};
 use std::alloc::{AllocError, Global};
+use std::fmt::Debug;
 use tl_base::Bytes;
 use wire_profile::Profile;
 
-/// What bytes are read as: its text, and how it is spelled. Else why they are refused, or why it isn't spelled.
-pub type Read = Result<(String, Bytes), String>;
+// The text of a message, in which lists of bytes, ids and others are told alike.
+fn plain(alloc: Global, text: &str) -> Result<String, AllocError> {
+    let mut text = text.replace(alloc, "ListOf { items: ", "")?;
+    text = text.as_str().replace(alloc, "Bytes { items: ", "")?;
+    text = text.as_str().replace(alloc, "Ids { items: ", "")?;
+    text.as_str().replace(alloc, "] }", "]")
+}
 
-// A frame's text and spelling, or why it isn't spelled.
-fn frame_spelled(alloc: Global, profile: &Profile, frame: &Frame) -> Result<Read, AllocError> {
-    match spell_frame(alloc, profile, frame) {
-        Ok(spelled) => Ok(Ok((text_of(alloc, frame)?, spelled))),
-        Err(fault) => Ok(Err(text_of(alloc, &fault)?)),
+fn plain_of<T: Debug>(alloc: Global, message: &T) -> Result<String, AllocError> {
+    plain(alloc, text_of(alloc, message)?.as_str())
+}
+
+/// Tells a message as the row wants it: that it was taken, or its bytes, or else itself, with a star where it is spelled otherwise.
+pub fn tell_read<T: Debug>(message: &T, spelled: &[u8], bytes: &[u8], row: &mut Row) {
+    if row.wanted() == "taken" {
+        return row.put("taken");
+    }
+    if row.wanted().starts_with("bytes ") {
+        row.put("bytes ");
+        return row.digits(spelled);
+    }
+    row.put_made(plain_of(row.alloc(), message));
+    if spelled != bytes {
+        row.put(" *");
     }
 }
 
-// A call's.
-fn call_spelled(alloc: Global, profile: &Profile, call: &Numbered) -> Result<Read, AllocError> {
-    match spell_call(alloc, profile, call) {
-        Ok(spelled) => Ok(Ok((text_of(alloc, call)?, spelled))),
-        Err(fault) => Ok(Err(text_of(alloc, &fault)?)),
+fn tell_frame(profile: &Profile, frame: &Frame, bytes: &[u8], row: &mut Row) {
+    match spell_frame(row.alloc(), profile, frame) {
+        Ok(spelled) => tell_read(frame, spelled.as_slice(), bytes, row),
+        Err(fault) => row.show(&fault),
     }
 }
 
-// A saved client's.
-fn saved_spelled(alloc: Global, profile: &Profile, saved: &Saved) -> Result<Read, AllocError> {
-    match spell_saved(alloc, profile, saved) {
-        Ok(spelled) => Ok(Ok((text_of(alloc, saved)?, spelled))),
-        Err(_) => Err(AllocError),
+fn tell_call(profile: &Profile, call: &Numbered, bytes: &[u8], row: &mut Row) {
+    match spell_call(row.alloc(), profile, call) {
+        Ok(spelled) => tell_read(call, spelled.as_slice(), bytes, row),
+        Err(fault) => row.show(&fault),
+    }
+}
+
+fn tell_saved(profile: &Profile, saved: &Saved, bytes: &[u8], row: &mut Row) {
+    match spell_saved(row.alloc(), profile, saved) {
+        Ok(spelled) => tell_read(saved, spelled.as_slice(), bytes, row),
+        Err(_) => row.short(),
     }
 }
 
 /// What the bytes of a frame are read as.
-pub fn frame_read(alloc: Global, profile: &Profile, bytes: &Bytes) -> Result<Read, AllocError> {
-    match read_frame(alloc, profile, bytes.as_slice()) {
-        Ok(frame) => frame_spelled(alloc, profile, &frame),
-        Err(fault) => Ok(Err(text_of(alloc, &fault)?)),
+pub fn frame(profile: &Profile, bytes: &Bytes, row: &mut Row) {
+    match read_frame(row.alloc(), profile, bytes.as_slice()) {
+        Ok(frame) => tell_frame(profile, &frame, bytes.as_slice(), row),
+        Err(fault) => row.show(&fault),
     }
 }
 
 /// What the bytes of a call are read as.
-pub fn call_read(alloc: Global, profile: &Profile, bytes: &Bytes) -> Result<Read, AllocError> {
-    match read_call(alloc, profile, bytes.as_slice()) {
-        Ok(call) => call_spelled(alloc, profile, &call),
-        Err(fault) => Ok(Err(text_of(alloc, &fault)?)),
+pub fn call(profile: &Profile, bytes: &Bytes, row: &mut Row) {
+    match read_call(row.alloc(), profile, bytes.as_slice()) {
+        Ok(call) => tell_call(profile, &call, bytes.as_slice(), row),
+        Err(fault) => row.show(&fault),
     }
 }
 
 /// What the bytes of a saved client are read as.
-pub fn saved_read(alloc: Global, profile: &Profile, bytes: &Bytes) -> Result<Read, AllocError> {
-    match read_saved(alloc, profile, bytes.as_slice()) {
-        Ok(saved) => saved_spelled(alloc, profile, &saved),
-        Err(fault) => Ok(Err(text_of(alloc, &fault)?)),
+pub fn saved(profile: &Profile, bytes: &Bytes, row: &mut Row) {
+    match read_saved(row.alloc(), profile, bytes.as_slice()) {
+        Ok(saved) => tell_saved(profile, &saved, bytes.as_slice(), row),
+        Err(fault) => row.show(&fault),
     }
 }

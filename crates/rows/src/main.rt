@@ -9,19 +9,18 @@ mod schemas;
 mod steps;
 mod words;
 
-use crate::messages::message_difference;
-use crate::profiles::profile_difference;
-use crate::repeat::{repeat_difference, repeated};
+use crate::messages::Messages;
+use crate::profiles::Texts;
+use crate::repeat::{Repeats, repeated};
 use crate::schemas::schema;
-use base_rows::{Base, base_difference};
-use codec_rows::{Codec, codec_difference};
-use end_rows::{Ends, ends_difference};
+use base_rows::{Report, base_report, report_of};
+use codec_rows::codec_report;
+use end_rows::ends_report;
 use std::alloc::{AllocError, Global};
 use std::process::ExitCode;
 use std::{env, fs, io};
-use tl_schema::Schema;
 use wire_profile::Profile;
-use world_rows::{Worlds, worlds_difference};
+use world_rows::worlds_report;
 
 const USAGE: &str =
     "usage: rows MODE FILE.., where MODE is own, other, texts, base, codec, ends, worlds or repeats; or rows repeat NAME MANY CALLS";
@@ -83,116 +82,53 @@ fn mode_of(word: &str) -> Option<Mode> {
     }
 }
 
-// What the rows of a file are looked at by. It lives as long as they are.
-#[derive(Drop)]
-enum State<'s> {
-    Messages(Profile<'s>),
-    Texts,
-    Base(Base),
-    Codec(Codec),
-    Ends(Ends),
-    Worlds(Worlds<'s>),
-    Repeats,
-}
-
-// How a row is told, where that is otherwise than it says.
-fn difference(alloc: Global, state: &mut State, row: &str) -> Result<Option<String>, AllocError> {
-    match state {
-        State::Messages(profile) => message_difference(alloc, profile, row),
-        State::Texts => profile_difference(alloc, row),
-        State::Base(base) => base_difference(alloc, base, row),
-        State::Codec(codec) => codec_difference(alloc, codec, row),
-        State::Ends(ends) => ends_difference(alloc, ends, row),
-        State::Worlds(worlds) => worlds_difference(alloc, worlds, row),
-        State::Repeats => repeat_difference(alloc, row),
-    }
-}
-
 // ---- the rows of a file
 
-// Empty lines and comments are no rows.
-fn is_row(line: &str) -> bool {
-    !line.is_empty() && !line.starts_with("//")
-}
-
-// Prints a row that is told otherwise.
-fn refuse(rt: &HostRuntime, file: &str, number: usize, told: &str) -> io::Result<Counts> {
-    println!(rt; "{file}:{number}: {told}")?;
-    Ok(Counts { rows: 1, differ: 1 })
-}
-
-// One line of a file; a row that is told otherwise is printed.
-fn run_line(
-    rt: &HostRuntime,
-    state: &mut State,
-    file: &str,
-    number: usize,
-    line: &str,
-) -> io::Result<Counts> {
-    if !is_row(line) {
-        return Ok(Counts { rows: 0, differ: 0 });
-    }
-    match difference(rt.alloc(), state, line)? {
-        Some(told) => refuse(rt, file, number, told.as_str()),
-        None => Ok(Counts { rows: 1, differ: 0 }),
-    }
-}
-
-// Looks at each row of a text.
-fn run_rows(rt: &HostRuntime, mut state: State, file: &str, text: &str) -> io::Result<Counts> {
-    let mut counts = Counts { rows: 0, differ: 0 };
-    let mut number: usize = 0;
-    for line in text.lines() {
-        number = number.saturating_add(1);
-        counts = counts.with(run_line(rt, &mut state, file, number, line)?);
-    }
-    Ok(counts)
-}
-
 // Looks at each row of a text, by the profile that a schema is.
-fn run_messages(rt: &HostRuntime, schema: &Schema, file: &str, text: &str) -> io::Result<Counts> {
-    match Profile::of(rt.alloc(), schema) {
-        Ok(profile) => run_rows(rt, State::Messages(profile), file, text),
-        Err(_) => {
-            println!(rt; "no profile")?;
-            Ok(Counts { rows: 0, differ: 1 })
-        }
+fn of_messages(
+    alloc: Global,
+    is_other: bool,
+    file: &str,
+    text: &str,
+) -> Result<Report, AllocError> {
+    let schema = schema(alloc, is_other)?;
+    match Profile::of(alloc, &schema) {
+        Ok(profile) => report_of(alloc, &mut Messages::by(profile), file, text),
+        Err(_) => Err(AllocError),
     }
 }
 
 // Looks at each row of a text, by a schema that is a profile.
-fn run_worlds(rt: &HostRuntime, schema: &Schema, file: &str, text: &str) -> io::Result<Counts> {
-    run_rows(
-        rt,
-        State::Worlds(Worlds::new(rt.alloc(), schema)),
-        file,
-        text,
-    )
+fn of_worlds(alloc: Global, file: &str, text: &str) -> Result<Report, AllocError> {
+    worlds_report(alloc, &schema(alloc, false)?, file, text)
 }
 
 // Looks at each row of a text.
-fn run_text(rt: &HostRuntime, mode: Mode, file: &str, text: &str) -> io::Result<Counts> {
+fn of_text(alloc: Global, mode: Mode, file: &str, text: &str) -> Result<Report, AllocError> {
     match mode {
-        Mode::Own => run_messages(rt, &schema(rt.alloc(), false)?, file, text),
-        Mode::Other => run_messages(rt, &schema(rt.alloc(), true)?, file, text),
-        Mode::Texts => run_rows(rt, State::Texts, file, text),
-        Mode::Base => run_rows(rt, State::Base(Base::new(rt.alloc())), file, text),
-        Mode::Codec => run_rows(rt, State::Codec(Codec::new(rt.alloc())), file, text),
-        Mode::Ends => run_rows(rt, State::Ends(Ends::new(rt.alloc())), file, text),
-        Mode::Worlds => run_worlds(rt, &schema(rt.alloc(), false)?, file, text),
-        Mode::Repeats => run_rows(rt, State::Repeats, file, text),
+        Mode::Own => of_messages(alloc, false, file, text),
+        Mode::Other => of_messages(alloc, true, file, text),
+        Mode::Texts => report_of(alloc, &mut Texts, file, text),
+        Mode::Base => base_report(alloc, file, text),
+        Mode::Codec => codec_report(alloc, file, text),
+        Mode::Ends => ends_report(alloc, file, text),
+        Mode::Worlds => of_worlds(alloc, file, text),
+        Mode::Repeats => report_of(alloc, &mut Repeats, file, text),
     }
+}
+
+// Prints the rows that are told otherwise, and how many rows there are.
+fn tell(rt: &HostRuntime, file: &str, report: &Report) -> io::Result<Counts> {
+    let (lines, rows, differ) = (report.lines.as_str(), report.rows, report.differ);
+    print!(rt; "{lines}")?;
+    println!(rt; "{file}: {rows} rows, {differ} differ")?;
+    Ok(Counts { rows, differ })
 }
 
 // Looks at the rows of a file.
 fn run_file(rt: &HostRuntime, mode: Mode, file: &str) -> io::Result<Counts> {
     match fs::read_to_string(rt, file) {
-        Ok(text) => {
-            let counts = run_text(rt, mode, file, text.as_str())?;
-            let (rows, differ) = (counts.rows, counts.differ);
-            println!(rt; "{file}: {rows} rows, {differ} differ")?;
-            Ok(counts)
-        }
+        Ok(text) => tell(rt, file, &of_text(rt.alloc(), mode, file, text.as_str())?),
         Err(_) => {
             println!(rt; "{file}: can't be read")?;
             Ok(Counts { rows: 0, differ: 1 })

@@ -1,29 +1,29 @@
 //! Rows `LEFT OUT | PUT BEFORE => TOLD` of texts near the profile's.
-use base_rows::{otherwise, parted, unread};
+use base_rows::{Row, Rows};
 use codec_rows::schema_of;
 use std::alloc::{AllocError, Global};
 use tl_schema::Schema;
 use wire_profile::{PROFILE_TEXT, Profile, ProfileFault};
 
 // A cause and the name of a declaration.
-fn named(alloc: Global, cause: &str, name: &[u8]) -> Result<String, AllocError> {
-    let mut text = String::from_str(alloc, cause)?;
-    for byte in name {
-        text.push(*byte as char)?;
-    }
-    Ok(text)
+fn tell_named(cause: &str, name: &[u8], row: &mut Row) {
+    row.put(cause);
+    row.letters(name);
 }
 
-// Where a profile's first and last form stand in its schema, or the first difference.
-fn told(alloc: Global, schema: &Schema) -> Result<String, AllocError> {
-    match Profile::of(alloc, schema) {
-        Ok(profile) => {
-            let (first, last) = (profile.place(0), profile.place(60));
-            format!(in alloc; "a profile, {first} to {last}")
-        }
-        Err(ProfileFault::Missing { name }) => named(alloc, "Missing ", name.as_slice()),
-        Err(ProfileFault::Differs { name }) => named(alloc, "Differs ", name.as_slice()),
-        Err(ProfileFault::Memory) => Err(AllocError),
+// Where a profile's first and last form stand in its schema.
+fn tell_profile(profile: &Profile, row: &mut Row) {
+    let (first, last) = (profile.place(0), profile.place(60));
+    row.fill("a profile, # to #", &[first as i64, last as i64]);
+}
+
+// That a schema is a profile, or the first difference.
+fn tell(schema: &Schema, row: &mut Row) {
+    match Profile::of(row.alloc(), schema) {
+        Ok(profile) => tell_profile(&profile, row),
+        Err(ProfileFault::Missing { name }) => tell_named("Missing ", name.as_slice(), row),
+        Err(ProfileFault::Differs { name }) => tell_named("Differs ", name.as_slice(), row),
+        Err(ProfileFault::Memory) => row.short(),
     }
 }
 
@@ -51,19 +51,24 @@ fn edited(alloc: Global, left_out: &str, before: &str) -> Result<String, AllocEr
 }
 
 // What the edited text is.
-fn edited_told(alloc: Global, left_out: &str, before: &str) -> Result<String, AllocError> {
-    let text = edited(alloc, left_out, before)?;
-    told(alloc, &schema_of(alloc, text.as_bytes())?)
+fn tell_edited(left_out: &str, before: &str, row: &mut Row) -> Result<(), AllocError> {
+    let text = edited(row.alloc(), left_out, before)?;
+    let schema = schema_of(row.alloc(), text.as_bytes())?;
+    tell(&schema, row);
+    Ok(())
 }
 
-/// How a row is told, where that is otherwise than it says.
-pub fn profile_difference(alloc: Global, row: &str) -> Result<Option<String>, AllocError> {
-    let Some((asked, wanted)) = parted(row) else {
-        return unread(alloc, row, "a row without an answer");
-    };
-    let Some((left_out, before)) = asked.split_once(" | ") else {
-        return unread(alloc, row, "a row without a text");
-    };
-    let told = edited_told(alloc, left_out, before)?;
-    otherwise(alloc, asked, told.as_str(), wanted)
+/// Texts near the profile's.
+#[derive(Drop)]
+pub struct Texts;
+
+impl Rows for Texts {
+    fn call(&mut self, row: &mut Row) {
+        let Some((left_out, before)) = row.rest().split_once(" | ") else {
+            return row.unknown();
+        };
+        if tell_edited(left_out, before, row).is_err() {
+            row.short();
+        }
+    }
 }

@@ -6,7 +6,7 @@ mod pushes;
 
 use crate::repeat::pieces::{fed, plans};
 use crate::repeat::pushes::pushes;
-use base_rows::{otherwise, parted, unread};
+use base_rows::{Row, Rows};
 use box_events::{BoxFault, Event, EventBox, Post, Reply, Request};
 use box_server::{PostFault, Server};
 use gap_buffer::{Gap, Held};
@@ -171,15 +171,21 @@ pub fn repeated(alloc: Global, words: &[&str]) -> Result<Option<u64>, BoxFault> 
     }
 }
 
-/// How a row is told, where that is otherwise than it says.
-pub fn repeat_difference(alloc: Global, row: &str) -> Result<Option<String>, AllocError> {
-    let Some((asked, wanted)) = parted(row) else {
-        return unread(alloc, row, "a row without an answer");
-    };
-    let words: Vec<&str> = asked.split_whitespace().collect(alloc)?;
-    let told = match repeated(alloc, words.as_slice()) {
-        Ok(Some(number)) => format!(in alloc; "{number}")?,
-        _ => String::from_str(alloc, "no number")?,
-    };
-    otherwise(alloc, asked, told.as_str(), wanted)
+// The same of words with spaces between; None also where there was no memory.
+fn number_of(alloc: Global, words: &str) -> Option<u64> {
+    let words: Vec<&str> = words.split_whitespace().collect(alloc).ok()?;
+    repeated(alloc, words.as_slice()).ok()?
+}
+
+/// Rows of what many calls come to.
+#[derive(Drop)]
+pub struct Repeats;
+
+impl Rows for Repeats {
+    fn call(&mut self, row: &mut Row) {
+        match number_of(row.alloc(), row.rest()) {
+            Some(number) => row.show(&number),
+            None => row.put("no number"),
+        }
+    }
 }

@@ -1,6 +1,7 @@
-//! What reading steps from a source answers, told as text.
-use crate::answers::Read;
-use base_rows::text_of;
+//! What reading steps from a source answers.
+use crate::answers::tell_read;
+use base_rows::Row;
+use box_events::Step;
 use box_wire::{read_step, spell_step};
 use std::alloc::{AllocError, Global};
 use tl_base::{Bytes, MemSource};
@@ -20,56 +21,55 @@ fn source_of(
     Ok(MemSource::new(bytes.copy()?, cuts, fails))
 }
 
+fn tell_step(profile: &Profile, step: &Step, bytes: &[u8], row: &mut Row) {
+    match spell_step(row.alloc(), profile, step) {
+        Ok(spelled) => tell_read(step, spelled.as_slice(), bytes, row),
+        Err(_) => row.short(),
+    }
+}
+
+fn step_from(profile: &Profile, bytes: &Bytes, from: &mut MemSource, row: &mut Row) {
+    match read_step(row.alloc(), profile, from) {
+        Ok(Some(step)) => tell_step(profile, &step, bytes.as_slice(), row),
+        Ok(None) => row.put("the end"),
+        Err(fault) => row.show(&fault),
+    }
+}
+
 /// What the bytes of a step are read as.
-pub fn step_read(alloc: Global, profile: &Profile, bytes: &Bytes) -> Result<Read, AllocError> {
-    match read_step(alloc, profile, &mut source_of(alloc, bytes, false, false)?) {
-        Ok(Some(step)) => match spell_step(alloc, profile, &step) {
-            Ok(spelled) => Ok(Ok((text_of(alloc, &step)?, spelled))),
-            Err(_) => Err(AllocError),
-        },
-        Ok(None) => Ok(Err(String::from_str(alloc, "the end")?)),
-        Err(fault) => Ok(Err(text_of(alloc, &fault)?)),
+pub fn step(profile: &Profile, bytes: &Bytes, row: &mut Row) {
+    match source_of(row.alloc(), bytes, false, false) {
+        Ok(mut from) => step_from(profile, bytes, &mut from, row),
+        Err(_) => row.short(),
     }
 }
 
 // Tells the next step, the end, or why there is none, and whether more is to be read.
-fn put_step(
-    alloc: Global,
-    profile: &Profile,
-    from: &mut MemSource,
-    text: &mut String,
-) -> Result<bool, AllocError> {
-    match read_step(alloc, profile, from) {
+fn tell_next(profile: &Profile, from: &mut MemSource, row: &mut Row) -> bool {
+    match read_step(row.alloc(), profile, from) {
         Ok(Some(step)) => {
-            text.push_str(text_of(alloc, &step)?.as_str())?;
-            text.push_str("; ")?;
-            Ok(true)
+            row.show(&step);
+            row.put("; ");
+            return true;
         }
-        Ok(None) => {
-            text.push_str("the end")?;
-            Ok(false)
-        }
-        Err(fault) => {
-            text.push_str(text_of(alloc, &fault)?.as_str())?;
-            Ok(false)
+        Ok(None) => row.put("the end"),
+        Err(fault) => row.show(&fault),
+    }
+    false
+}
+
+fn steps_from(profile: &Profile, most: usize, from: &mut MemSource, row: &mut Row) {
+    for _ in 0..most {
+        if !tell_next(profile, from, row) {
+            return;
         }
     }
 }
 
 /// The steps of bytes one after the other, up to a refusal or the end.
-pub fn steps_told(
-    alloc: Global,
-    profile: &Profile,
-    bytes: &Bytes,
-    is_in_pieces: bool,
-    is_broken: bool,
-) -> Result<String, AllocError> {
-    let mut from = source_of(alloc, bytes, is_in_pieces, is_broken)?;
-    let mut text = String::new(alloc);
-    for _ in 0..bytes.len() {
-        if !put_step(alloc, profile, &mut from, &mut text)? {
-            return Ok(text);
-        }
+pub fn steps(profile: &Profile, bytes: &Bytes, is_in_pieces: bool, is_broken: bool, row: &mut Row) {
+    match source_of(row.alloc(), bytes, is_in_pieces, is_broken) {
+        Ok(mut from) => steps_from(profile, bytes.len(), &mut from, row),
+        Err(_) => row.short(),
     }
-    Ok(text)
 }

@@ -2,6 +2,7 @@
 //!
 //! A word is a number of 32 bits, `L` and a number of 64 bits, a text in quotes, or the name of a constructor or function, which stands for its number.
 //! `3*7` is the number 7 three times, and `3'x'` the text xxx.
+use base_rows::Row;
 use std::alloc::{AllocError, Global};
 use tl_base::{Bytes, bytes_of_i32, bytes_of_i64, bytes_of_u32};
 use tl_schema::Schema;
@@ -20,13 +21,20 @@ impl From<AllocError> for WordFault {
     }
 }
 
-/// The bytes of words. Names have their numbers in the schema.
-pub fn bytes_of(alloc: Global, schema: &Schema, words: &str) -> Result<Bytes, WordFault> {
-    let mut bytes = Bytes::new(alloc);
-    for word in words.split_whitespace() {
-        put_word(alloc, schema, word, &mut bytes)?;
+/// The bytes of the row's other words. Names have their numbers in the schema.
+pub fn bytes_of(schema: &Schema, row: &mut Row) -> Bytes {
+    let mut bytes = Bytes::new(row.alloc());
+    for _ in 0..row.most() {
+        if row.is_empty() {
+            break;
+        }
+        match put_word(row.alloc(), schema, row.word(), &mut bytes) {
+            Ok(()) => {}
+            Err(WordFault::Unknown) => row.unknown(),
+            Err(WordFault::Memory) => row.short(),
+        }
     }
-    Ok(bytes)
+    bytes
 }
 
 fn put_word(

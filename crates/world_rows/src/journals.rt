@@ -1,33 +1,39 @@
 //! Rows `journal NAME ..` of journals: `put TIMES DIGITS`, whose bytes come last, and of a replay by so many clients `replay CLIENTS READ WRITE`, of which
 //! the calls of these numbers fail, or `ends CLIENTS`.
 use crate::worlds::new_world;
-use base_rows::text_of;
-use end_rows::{RowFault, Words};
+use base_rows::{Row, RowFault};
 use std::alloc::{AllocError, Global};
 use tl_base::{Bytes, MemSink, MemSource};
 use tl_schema::Schema;
 use update_replay::{ReplayFault, replay_steps};
 
-// The bytes that digits are, so many times.
-fn put(alloc: Global, journal: &mut Bytes, words: &mut Words) -> Result<(), RowFault> {
-    let times = words.number()?;
-    let Ok(bytes) = hex::decode(alloc, words.word()?) else {
-        return Err(RowFault::Unknown);
-    };
+// The bytes are put so many times.
+fn put_times(journal: &mut Bytes, times: u32, bytes: &[u8]) -> Result<(), AllocError> {
     for _ in 0..times {
-        journal.append(bytes.as_slice())?;
+        journal.append(bytes)?;
     }
     Ok(())
 }
 
+fn put(journal: &mut Bytes, row: &mut Row) {
+    let times = row.number();
+    let Ok(bytes) = hex::decode(row.alloc(), row.word()) else {
+        return row.unknown();
+    };
+    let put = put_times(journal, times, bytes.as_slice());
+    row.grown(put);
+    row.show(&journal.len());
+    row.put(" bytes");
+}
+
 // Numbers of calls that fail: none or one.
-fn failing(alloc: Global, words: &mut Words) -> Result<Vec<u64>, RowFault> {
-    match words.word()? {
-        "none" => Ok(Vec::new(alloc)),
-        number => match number.parse::<u64>() {
-            Ok(number) => Ok(vec![in alloc; number]?),
-            Err(_) => Err(RowFault::Unknown),
-        },
+fn failing(alloc: Global, word: &str) -> Result<Vec<u64>, RowFault> {
+    if word == "none" {
+        return Ok(Vec::new(alloc));
+    }
+    match word.parse::<u64>() {
+        Ok(number) => Ok(vec![in alloc; number]?),
+        Err(_) => Err(RowFault::Unknown),
     }
 }
 
@@ -47,82 +53,67 @@ fn sink_of(alloc: Global, failed_writes: Vec<u64>) -> Result<MemSink, AllocError
 }
 
 // How a replay of a new world ends, and how many packets were sent then.
-fn replayed(
-    alloc: Global,
+fn replay_from(
     schema: &Schema,
     clients: u32,
     from: &mut MemSource,
     to: &mut MemSink,
-) -> Result<String, RowFault> {
-    let mut world = new_world(alloc, schema, clients)?;
-    let ended = replay_steps(alloc, &mut world, from, to);
-    Ok(ending(alloc, &ended, world.packets())?)
+    row: &mut Row,
+) -> Result<(), RowFault> {
+    let mut world = new_world(row.alloc(), schema, clients)?;
+    let ended = replay_steps(row.alloc(), &mut world, from, to);
+    tell_ending(ended, world.packets(), row);
+    Ok(())
 }
 
-// The words of such an end.
-fn ending(
-    alloc: Global,
-    ended: &Result<u32, ReplayFault>,
-    packets: u32,
-) -> Result<String, AllocError> {
-    let mut text = text_of(alloc, ended)?;
-    text.push_str(format!(in alloc; ", {packets} packets")?.as_str())?;
-    Ok(text)
+fn tell_ending(ended: Result<u32, ReplayFault>, packets: u32, row: &mut Row) {
+    row.show(&ended);
+    row.fill(", # packets", &[packets as i64]);
 }
 
 // Lines, each with a bar after it.
-fn put_lines(text: &mut String, lines: &[u8]) -> Result<(), AllocError> {
+fn lines_text(alloc: Global, lines: &[u8]) -> Result<String, AllocError> {
+    let mut text = String::new(alloc);
     for byte in lines {
         let letter = if *byte == b'\n' { '|' } else { *byte as char };
         text.push(letter)?;
     }
-    Ok(())
-}
-
-// The same, and the lines that are written.
-fn replay(
-    alloc: Global,
-    schema: &Schema,
-    journal: &Bytes,
-    words: &mut Words,
-) -> Result<String, RowFault> {
-    let clients = words.number()?;
-    let mut from = source_of(alloc, journal, failing(alloc, words)?)?;
-    let mut to = sink_of(alloc, failing(alloc, words)?)?;
-    let mut text = replayed(alloc, schema, clients, &mut from, &mut to)?;
-    text.push('|')?;
-    put_lines(&mut text, to.as_slice())?;
     Ok(text)
 }
 
-// The same without the lines.
-fn ends(
-    alloc: Global,
-    schema: &Schema,
-    journal: &Bytes,
-    words: &mut Words,
-) -> Result<String, RowFault> {
-    let clients = words.number()?;
-    let mut from = source_of(alloc, journal, Vec::new(alloc))?;
-    let mut to = sink_of(alloc, Vec::new(alloc))?;
-    replayed(alloc, schema, clients, &mut from, &mut to)
+// The same, and the lines that are written.
+fn replay(schema: &Schema, journal: &Bytes, row: &mut Row) -> Result<(), RowFault> {
+    let clients = row.number();
+    let mut from = source_of(row.alloc(), journal, failing(row.alloc(), row.word())?)?;
+    let mut to = sink_of(row.alloc(), failing(row.alloc(), row.word())?)?;
+    replay_from(schema, clients, &mut from, &mut to, row)?;
+    row.put("|");
+    row.put_made(lines_text(row.alloc(), to.as_slice()));
+    Ok(())
 }
 
-/// What comes of a call over a journal.
-pub fn journal_told(
-    alloc: Global,
-    schema: &Schema,
-    journal: &mut Bytes,
-    words: &mut Words,
-) -> Result<String, RowFault> {
-    match words.word()? {
-        "put" => {
-            put(alloc, journal, words)?;
-            let length = journal.len();
-            Ok(format!(in alloc; "{length} bytes")?)
-        }
-        "replay" => replay(alloc, schema, journal, words),
-        "ends" => ends(alloc, schema, journal, words),
+// The same without the lines.
+fn ends(schema: &Schema, journal: &Bytes, row: &mut Row) -> Result<(), RowFault> {
+    let clients = row.number();
+    let mut from = source_of(row.alloc(), journal, Vec::new(row.alloc()))?;
+    let mut to = sink_of(row.alloc(), Vec::new(row.alloc()))?;
+    replay_from(schema, clients, &mut from, &mut to, row)
+}
+
+// Makes a replay of a journal.
+fn replay_call(schema: &Schema, journal: &Bytes, call: &str, row: &mut Row) {
+    let made = match call {
+        "replay" => replay(schema, journal, row),
+        "ends" => ends(schema, journal, row),
         _ => Err(RowFault::Unknown),
+    };
+    row.note(made);
+}
+
+/// Makes a call over a journal.
+pub fn journal_call(schema: &Schema, journal: &mut Bytes, row: &mut Row) {
+    match row.word() {
+        "put" => put(journal, row),
+        call => replay_call(schema, journal, call, row),
     }
 }

@@ -5,4 +5,4 @@ mod journals;
 mod rows;
 mod worlds;
 
-pub use rows::{Worlds, worlds_difference};
+pub use rows::worlds_report;

@@ -1,58 +1,6 @@
-//! What a row asks, taken apart: its words, and the texts in quotes among them.
+//! Bytes as text in double quotes.
 use std::alloc::{AllocError, Global};
 use tl_numbers::read_hex;
-
-/// What a row asks.
-#[derive(Drop)]
-pub struct Asked<'r> {
-    /// The words outside of quotes.
-    pub words: Vec<&'r str>,
-    /// The bytes of the texts in quotes.
-    pub texts: Vec<Vec<u8>>,
-}
-
-impl Asked<'_> {
-    /// The first text; none is empty.
-    pub fn text(&self) -> &[u8] {
-        match self.texts.as_slice() {
-            [first, ..] => first.as_slice(),
-            [] => b"",
-        }
-    }
-}
-
-/// The first of some words, which is empty where there is none, and the others.
-pub fn first<'w, 'r>(words: &'w [&'r str]) -> (&'r str, &'w [&'r str]) {
-    match words {
-        [first, rest @ ..] => (*first, rest),
-        [] => ("", words),
-    }
-}
-
-/// The words and texts of what a row asks.
-pub fn asked_of(alloc: Global, row: &str) -> Result<Asked<'_>, AllocError> {
-    let mut words = Vec::new(alloc);
-    let mut texts = Vec::new(alloc);
-    let mut is_quoted = false;
-    for piece in row.split('"') {
-        if is_quoted {
-            texts.push(unescaped(alloc, piece)?)?;
-        } else {
-            put_words(piece, &mut words)?;
-        }
-        is_quoted = !is_quoted;
-    }
-    Ok(Asked { words, texts })
-}
-
-fn put_words<'r>(piece: &'r str, words: &mut Vec<&'r str>) -> Result<(), AllocError> {
-    for word in piece.split_whitespace() {
-        words.push(word)?;
-    }
-    Ok(())
-}
-
-// ---- bytes as text
 
 /// The bytes of a text, in which `\n`, `\r`, `\t`, `\0` and `\x` with two digits stand for one byte.
 pub fn unescaped(alloc: Global, text: &str) -> Result<Vec<u8>, AllocError> {
