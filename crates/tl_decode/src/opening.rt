@@ -8,6 +8,8 @@ use tl_plan::{Form, Plan};
 use tl_types::{Cause, MAX_LEVELS, Value};
 
 /// A value of this instance is to be read: its first item is looked for, or it has none.
+// Each of its four calls stands on the path of every value: as a call of its own it costs a tenth of `decode`.
+#[inline(always)]
 pub fn open(alloc: Global, plan: &Plan, frames: &Vec<Frame>, of: u32) -> Result<Step, Stop>
     requires frames { AreWell plan.now frames.now.items }
     requires within { IsInPlan plan.now of }

@@ -14,6 +14,7 @@ use tl_plan::{Form, Member, Plan};
 use tl_types::{Cause, Value};
 
 /// The item that was looked for is there.
+#[inline(always)]
 pub fn take(alloc: Global, plan: &Plan, wanted: Wanted, item: Item) -> Result<Next, Stop>
     requires { IsWellWanted plan.now wanted }
     ensures { Takes plan.now wanted (item_view item) result }
