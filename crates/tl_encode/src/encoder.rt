@@ -140,6 +140,7 @@ fn bytes_of<'a>(
 }
 
 // Steps over a part that has no misfit, its own parts aside, and gives the next.
+#[inline(always)]
 fn step_over<'a>(plan: &'a Plan, part: Part<'a>, stack: &mut Stack<'a>) -> Option<Part<'a>>
     requires places { HasPlaces stack.old }
     requires counted { EachIsCounted (frames_of stack.old) }

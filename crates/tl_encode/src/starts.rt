@@ -13,6 +13,7 @@ use tl_schema::Schema;
 use tl_types::Value;
 
 /// Appends what comes before the parts of a value: of a value without parts, its spelling.
+#[inline(always)]
 pub fn put_start(
     value: &Value,
     schema: &Schema,
