@@ -83,6 +83,7 @@ impl<'s> Plan<'s> {
         requires { k < self.now.roots }
         ensures root { result ≡ k }
         ensures within { result < length self.now.instances }
+        ensures sound { IsPlan self.now }
     {
         prove!(k < self.roots);
         k
