@@ -31,7 +31,8 @@ use Rattle.tl_decode.specs.Decoders.{DecoderView, Feeds, HasTaken, HasValue}
 use Rattle.tl_decode.proofs.FedBytes.{each_refusal_stays}
 use Rattle.tl_decode.specs.declared.whole.WholeFault.{WholeFault}
 use Rattle.tl_decode.specs.declared.whole.WholeFault.TheVariants as whole
-use Rattle.tl_decode.specs.Wholes.{whole_fault, ReadsWhole, EndsAfter, FeedsWhole}
+use Rattle.tl_decode.specs.Wholes.{whole_fault, ReadsWhole}
+use Rattle.tl_decode.specs.inner.FedWholes.{EndsAfter, FeedsWhole}
 
 -- ---- bytes
 

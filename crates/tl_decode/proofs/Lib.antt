@@ -1,12 +1,10 @@
 pub mod Steps
 pub mod FixedItems
 pub mod Pieces
-pub mod Strings
 pub mod FirstDeclarations
 pub mod NumberedDeclarations
 pub mod Loops
 pub mod Values
-pub mod Opaques
 pub mod Closings
 pub mod PlanTypes
 pub mod FrameLists
@@ -17,6 +15,7 @@ pub mod ItemSteps
 pub mod Searches
 pub mod Onward
 pub mod HeldBytes
+pub mod SourceItems
 pub mod PieceSteps
 pub mod Outcomes
 pub mod FedBytes
@@ -27,7 +26,6 @@ pub mod SizesEmpty
 pub mod SizesWidths
 pub mod SizesUsed
 pub mod SizesTexts
-pub mod FirstItems
 pub mod RootsOrEnds
 pub mod SizesGiven
 pub mod TakesFour

@@ -1,5 +1,5 @@
 -- What reading bytes as one value answers: the value that all of them spell, or where and why they spell none. This project's own.
-use Rattle.std.specs.Prelude.{◌≡◌, ◌⊎◌, ℕ, ◌<◌, ◌≤◌, List, [], ◌++◌, length, Bool, true, false, Result, Ok, Err}
+use Rattle.std.specs.Prelude.{◌≡◌, ℕ, ◌<◌, ◌≤◌, List, ◌++◌, length, Result, Ok, Err}
 use Rattle.tl_schema.specs.Types.{Shape}
 use Rattle.tl_schema.specs.Schemas.{Declared}
 use Rattle.tl_types.specs.Values.{ValueView, depth}
@@ -9,7 +9,6 @@ use Rattle.tl_types.specs.Refusal as refusal
 use Rattle.tl_types.specs.Offsets.{moved}
 use Rattle.tl_types.specs.declared.value.Value.{Value}
 use Rattle.tl_types.specs.declared.value.TheConstants.{MAX_LEVELS}
-use Rattle.tl_decode.specs.Decoders.{DecoderView, HasValue}
 use Rattle.tl_decode.specs.declared.fault.DecodeFault.{DecodeFault}
 use Rattle.tl_decode.specs.declared.fault.DecodeFault.TheVariants as decode
 use Rattle.tl_decode.specs.declared.whole.WholeFault.{WholeFault}
@@ -29,18 +28,3 @@ abbrev pub whole_fault : DecodeFault → WholeFault
 whole_fault (decode.Refused place cause) = Refused place cause
 whole_fault decode.ReadFault = ReadFault
 whole_fault decode.Memory = Memory
-
--- ---- inside: a decoder that is fed with the bytes
-
--- What comes after a value: no byte of its piece and no byte of what is left, or more bytes at the place.
-abbrev pub EndsAfter : ℕ → Bool → List ℕ → Result (Unit {0}) WholeFault → Type 0
-EndsAfter place more left (Ok u) = (more ≡ false) × (left ≡ [])
-EndsAfter place more left (Err (Trailing at)) = (at ≡ place) × ((more ≡ true) ⊎ (0 < length left))
-EndsAfter place more left (Err (Refused at cause)) = ⊥
-EndsAfter place more left (Err ReadFault) = Unit {0}
-EndsAfter place more left (Err Memory) = ⊥
-
--- A decoder was fed with all the bytes: they spell the value that it has, or they are no value, for the cause.
-abbrev pub FeedsWhole : Declared → Shape → List ℕ → DecoderView → Result (Unit {0}) WholeFault → Type 0
-FeedsWhole schema T bytes d (Ok u) = (v : ValueView) × HasValue d v × Spells schema T v bytes × (depth v ≤ MAX_LEVELS)
-FeedsWhole schema T bytes d (Err e) = ReadsWhole schema T bytes (Err e)

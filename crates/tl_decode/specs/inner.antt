@@ -2,3 +2,4 @@
 pub mod Steps
 pub mod Frames
 pub mod Needs
+pub mod FedWholes

@@ -17,7 +17,7 @@ ghost use Rattle.tl_decode.specs.inner.Steps.{OrEnds};
 
 use crate::fault::DecodeFault;
 use crate::feeding::after_item;
-use crate::first_items::item_or_end;
+use crate::items::item_or_end;
 use crate::planned::{finish, settle_at};
 use crate::stack::{Found, Frame, Next, Wanted};
 use std::alloc::Global;
@@ -45,9 +45,8 @@ pub fn decode_or_end<S: Source>(
     ensures bounded { IfSome (S.state from.old).left (λ bytes. (T : Shape) → IsInstance plan.now root T → GivesFewOrNone plan.now.schema T bytes (S.state from.new).left result) }
     ensures used { Used (S.state from.old) (S.state from.new) (IsErrOf result DecodeFault.ReadFault) }
 {
-    // Read for the proof alone: that the offset fits, and that the plan is sound.
+    // Read for the proof alone: that the offset fits.
     let _start = *at;
-    let _count = plan.count();
     root_or_end(alloc, plan, plan.root(root), at, from)
 }
 

@@ -5,7 +5,6 @@ mod decoder;
 mod endings;
 mod fault;
 mod feeding;
-mod first_items;
 mod held_items;
 mod items;
 mod laws;

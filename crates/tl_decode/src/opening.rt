@@ -1,5 +1,6 @@
 //! The beginning of a value of an instance.
 ghost use Rattle.std.specs.Prelude.{◌≡◌, ◌<◌, ◌↔◌, IfOk, IsTrue, length};
+ghost use Rattle.tl_plan.specs.Plans.{IsPlan};
 ghost use Rattle.tl_decode.specs.inner.Frames.{AreWell, IsBare, IsFresh, IsInPlan, IsList, IsNumbered, StepsFrom, members_in, type_in};
 
 use crate::stack::{Found, Frame, Next, Step, Stop, Wanted};
@@ -99,6 +100,7 @@ fn open_bare(
     requires frames { AreWell plan.now frames.now.items }
     requires within { IsInPlan plan.now of }
     requires bare { IsBare (type_in plan.now of) entry }
+    requires sound { IsPlan plan.now }
     ensures { StepsFrom plan.now frames.now.items (Next.Open of) frames.now.items result }
 {
     if frames.len() >= MAX_LEVELS as usize {
@@ -106,8 +108,6 @@ fn open_bare(
             cause: Cause::TooDeep,
         });
     }
-    // Read for the proof alone: that the plan is sound.
-    let _count = plan.count();
     let top = begin(alloc, plan, of, 0)?;
     Ok(Step::Goes {
         next: Next::Part { top },

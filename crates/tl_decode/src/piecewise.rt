@@ -2,6 +2,7 @@
 ghost use Rattle.std.specs.Prelude.{◌≡◌, ◌≢◌, ◌≤◌, ◌<◌, ◌++◌, ℕ, List, [], length, Some};
 ghost use Rattle.tl_base.specs.Contents.{AreBytes};
 ghost use Rattle.tl_schema.specs.Types.{Shape};
+ghost use Rattle.tl_plan.specs.Plans.{IsPlan};
 ghost use Rattle.tl_plan.specs.PlanLaws.{IsInstance};
 ghost use Rattle.tl_types.specs.Offsets.{moved};
 ghost use Rattle.tl_types.specs.Refusal.{Refused};
@@ -54,9 +55,8 @@ impl<'p, 's> Decoder<'p, 's> {
         ensures plan { result.plan ≡ plan.now }
         ensures root { result.root ≡ root }
         ensures taken { HasTaken result [] }
+        ensures sound { IsPlan plan.now }
     {
-        // Read for the proof alone: that the plan is sound.
-        let _count = plan.count();
         let of = plan.root(root);
         let progress = begun(alloc, plan, of);
         Decoder {

@@ -1,17 +1,18 @@
 //! Values without parts.
-ghost use Rattle.std.specs.Prelude.{◌≡◌, IsErrOf};
+ghost use Rattle.std.specs.Prelude.{◌≡◌, ◌≤◌, ℕ, List, IsErrOf};
 ghost use Rattle.tl_base.specs.Using.{Used};
 ghost use Rattle.tl_schema.specs.Seen.{shape};
-ghost use Rattle.tl_schema.specs.Types.{opaque, str};
 ghost use Rattle.tl_types.specs.Seen.{view};
 ghost use Rattle.tl_types.specs.inner.Reading.{is_deep, plain_at};
+ghost use Rattle.tl_decode.specs.inner.Frames.{item_value_at};
+ghost use Rattle.tl_decode.specs.inner.Needs.{needs};
 ghost use Rattle.tl_decode.specs.inner.Steps.{ReadsAs};
 
 use crate::fault::DecodeFault;
-use crate::items::{double_of, exact_of, word_of};
-use crate::texts::text_of;
+use crate::items::{item_of, word_of};
+use crate::stack::{Item, Wanted};
 use std::alloc::Global;
-use tl_base::{Bytes, Source};
+use tl_base::Source;
 use tl_schema::TypeRef;
 use tl_types::Value;
 
@@ -42,19 +43,13 @@ pub fn plain_of<S: Source>(
             let word = word_of(at, from)?;
             Ok(Value::Int(word.cast_signed()))
         }
-        TypeRef::Long => {
-            let word = double_of(at, from)?;
-            Ok(Value::Long(word.cast_signed()))
-        }
-        TypeRef::Nat => {
-            let word = word_of(at, from)?;
-            Ok(Value::Nat(word))
-        }
-        TypeRef::Double => opaque_of(alloc, 8, at, from),
-        TypeRef::Int128 => opaque_of(alloc, 16, at, from),
-        TypeRef::Int256 => opaque_of(alloc, 32, at, from),
-        TypeRef::Str => string_of(alloc, at, from),
-        TypeRef::Raw => string_of(alloc, at, from),
+        TypeRef::Long => value_item(alloc, Wanted::Long, at, from),
+        TypeRef::Nat => value_item(alloc, Wanted::Nat, at, from),
+        TypeRef::Double => value_item(alloc, Wanted::Opaque { width: 8 }, at, from),
+        TypeRef::Int128 => value_item(alloc, Wanted::Opaque { width: 16 }, at, from),
+        TypeRef::Int256 => value_item(alloc, Wanted::Opaque { width: 32 }, at, from),
+        TypeRef::Str => value_item(alloc, Wanted::Text, at, from),
+        TypeRef::Raw => value_item(alloc, Wanted::Text, at, from),
         TypeRef::Flag => Ok(Value::Truth),
         TypeRef::Var { .. } => Ok(Value::Absent),
         TypeRef::Vector { .. } => Ok(Value::Absent),
@@ -64,26 +59,19 @@ pub fn plain_of<S: Source>(
     }
 }
 
-/// A string, of a type `string` or `bytes`.
-pub fn string_of<S: Source>(alloc: Global, at: &mut u64, from: &mut S) -> Result<Value, DecodeFault>
-    ensures read { ReadsAs view (S.state from.old).left (S.state from.new).left at.old at.new result (plain_at str) }
-    ensures used { Used (S.state from.old) (S.state from.new) (IsErrOf result DecodeFault.ReadFault) }
-{
-    let text = text_of(alloc, at, from)?;
-    Ok(Value::Text(Bytes::from_vec(text)))
-}
-
-/// So many bytes.
-pub fn opaque_of<S: Source>(
+// The value of an item, where that of four bytes is their number.
+fn value_item<S: Source>(
     alloc: Global,
-    count: u64,
+    wanted: Wanted,
     at: &mut u64,
     from: &mut S,
 ) -> Result<Value, DecodeFault>
-    ensures read { ReadsAs view (S.state from.old).left (S.state from.new).left at.old at.new result (plain_at (opaque count)) }
+    requires { (b : List ℕ) → 4 ≤ needs wanted b }
+    ensures read { ReadsAs view (S.state from.old).left (S.state from.new).left at.old at.new result (item_value_at wanted) }
     ensures used { Used (S.state from.old) (S.state from.new) (IsErrOf result DecodeFault.ReadFault) }
 {
-    let mut bytes = Vec::new(alloc);
-    exact_of(*at, count, &mut bytes, at, from)?;
-    Ok(Value::Opaque(Bytes::from_vec(bytes)))
+    match item_of(alloc, wanted, at, from)? {
+        Item::Word { word } => Ok(Value::Nat(word)),
+        Item::Plain { value } => Ok(value),
+    }
 }

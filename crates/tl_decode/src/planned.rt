@@ -1,7 +1,7 @@
 //! Values of a plan's roots, from a source.
 ghost use Rattle.std.specs.Prelude.{◌≡◌, ◌≤◌, ◌<◌, ◌++◌, ℕ, List, IfSome, IfOk, IsErrOf, map};
 ghost use Rattle.tl_base.specs.Using.{Used};
-ghost use Rattle.tl_schema.specs.Types.{Shape, long};
+ghost use Rattle.tl_schema.specs.Types.{Shape};
 ghost use Rattle.tl_plan.specs.PlanLaws.{IsInstance};
 ghost use Rattle.tl_types.specs.Offsets.{moved};
 ghost use Rattle.tl_types.specs.Refusal.{Refused};
@@ -9,16 +9,15 @@ ghost use Rattle.tl_types.specs.Seen.{view};
 ghost use Rattle.tl_types.specs.Spelling.{Spells};
 ghost use Rattle.tl_types.specs.Values.{ValueView, depth};
 ghost use Rattle.tl_types.specs.declared.cause.Cause.{Cause};
-ghost use Rattle.tl_types.specs.inner.Reading.{plain_at, value_at};
+ghost use Rattle.tl_types.specs.inner.Reading.{value_at};
 ghost use Rattle.tl_decode.specs.Decoding.{GivesFault, GivesFew, GivesValue};
-ghost use Rattle.tl_decode.specs.inner.Frames.{AreWell, IsFound, IsInPlan, IsStop, IsWellFound, IsWellNext, IsWellWanted, ReadsOn, SettlesAt, found_at, found_work, item_at, item_view, next_at, next_work, type_in, views};
+ghost use Rattle.tl_decode.specs.inner.Frames.{AreWell, IsFound, IsInPlan, IsStop, IsWellFound, IsWellNext, IsWellWanted, ReadsOn, SettlesAt, found_at, found_work, next_at, next_work, type_in, views};
 ghost use Rattle.tl_decode.specs.inner.Steps.{ReadsAs};
 
 use crate::fault::DecodeFault;
-use crate::items::{double_of, word_of};
+use crate::items::item_of;
 use crate::machine::settle;
-use crate::plain::{opaque_of, string_of};
-use crate::stack::{Found, Frame, Item, Next, Stop, Wanted};
+use crate::stack::{Found, Frame, Next, Stop, Wanted};
 use crate::taking::take;
 use std::alloc::Global;
 use tl_base::Source;
@@ -43,9 +42,8 @@ pub fn decode<S: Source>(
     ensures bounded { IfSome (S.state from.old).left (λ bytes. (T : Shape) → IsInstance plan.now root T → GivesFew plan.now.schema T bytes (S.state from.new).left result) }
     ensures used { Used (S.state from.old) (S.state from.new) (IsErrOf result DecodeFault.ReadFault) }
 {
-    // Read for the proof alone: that the offset fits, and that the plan is sound.
+    // Read for the proof alone: that the offset fits.
     let _start = *at;
-    let _count = plan.count();
     root_of(alloc, plan, plan.root(root), at, from)
 }
 
@@ -140,51 +138,4 @@ pub fn stopped(stop: Stop, place: u64) -> DecodeFault
         Stop::Refused { cause } => DecodeFault::Refused { place, cause },
         Stop::Memory => DecodeFault::Memory,
     }
-}
-
-// The item that is looked for.
-fn item_of<S: Source>(
-    alloc: Global,
-    wanted: Wanted,
-    at: &mut u64,
-    from: &mut S,
-) -> Result<Item, DecodeFault>
-    ensures read { ReadsAs item_view (S.state from.old).left (S.state from.new).left at.old at.new result (item_at wanted) }
-    ensures used { Used (S.state from.old) (S.state from.new) (IsErrOf result DecodeFault.ReadFault) }
-{
-    match wanted {
-        Wanted::Long => {
-            let value = long_of(at, from)?;
-            Ok(Item::Plain { value })
-        }
-        Wanted::Opaque { width } => {
-            let value = opaque_of(alloc, width, at, from)?;
-            Ok(Item::Plain { value })
-        }
-        Wanted::Text => {
-            let value = string_of(alloc, at, from)?;
-            Ok(Item::Plain { value })
-        }
-        Wanted::Int => word_item(at, from),
-        Wanted::Nat => word_item(at, from),
-        Wanted::Number { .. } => word_item(at, from),
-        Wanted::ListNumber { .. } => word_item(at, from),
-        Wanted::Count { .. } => word_item(at, from),
-    }
-}
-
-fn word_item<S: Source>(at: &mut u64, from: &mut S) -> Result<Item, DecodeFault>
-    ensures read { ReadsAs item_view (S.state from.old).left (S.state from.new).left at.old at.new result (item_at Wanted.Nat) }
-    ensures used { Used (S.state from.old) (S.state from.new) (IsErrOf result DecodeFault.ReadFault) }
-{
-    let word = word_of(at, from)?;
-    Ok(Item::Word { word })
-}
-
-fn long_of<S: Source>(at: &mut u64, from: &mut S) -> Result<Value, DecodeFault>
-    ensures read { ReadsAs view (S.state from.old).left (S.state from.new).left at.old at.new result (plain_at long) }
-    ensures used { Used (S.state from.old) (S.state from.new) (IsErrOf result DecodeFault.ReadFault) }
-{
-    let word = double_of(at, from)?;
-    Ok(Value::Long(word.cast_signed()))
 }

@@ -55,8 +55,6 @@ fn take_list_number(plan: &Plan, item: u32, word: u32) -> Result<Next, Stop>
     requires { IsInPlan plan.now item }
     ensures { Takes plan.now (Wanted.ListNumber item) (item_view (Item.Word word)) result }
 {
-    // Read for the proof alone: the plan's numbers.
-    let _count = plan.count();
     if word != BOXED_VECTOR {
         return Err(Stop::Refused { cause: wrong(word) });
     }
@@ -67,7 +65,6 @@ fn take_count(alloc: Global, plan: &Plan, item: u32, word: u32) -> Result<Next, 
     requires { IsInPlan plan.now item }
     ensures { Takes plan.now (Wanted.Count item) (item_view (Item.Word word)) result }
 {
-    let _count = plan.count();
     if word >= 0x8000_0000 {
         return Err(Stop::Refused {
             cause: Cause::BadCount { word },

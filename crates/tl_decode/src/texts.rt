@@ -1,14 +1,8 @@
-//! Strings.
-ghost use Rattle.std.specs.Prelude.{◌≡◌, ◌^◌, ◌<◌, ◌≤◌, IfOk, IsErrOf, Ok};
-ghost use Rattle.tl_base.specs.Using.{Used};
+//! The heads and the padding of strings.
+ghost use Rattle.std.specs.Prelude.{◌≡◌, ◌^◌, ◌<◌, ◌≤◌, IfOk};
 ghost use Rattle.tl_types.specs.Texts.{missing};
-ghost use Rattle.tl_types.specs.inner.Reading.{all_zero, text_at, text_head_of, text_rest};
-ghost use Rattle.tl_decode.specs.inner.Steps.{ReadsAs};
+ghost use Rattle.tl_types.specs.inner.Reading.{all_zero, text_head_of};
 
-use crate::fault::DecodeFault;
-use crate::items::{exact_of, four_of};
-use std::alloc::Global;
-use tl_base::Source;
 use tl_types::Cause;
 
 /// How many bytes the head of a string has, and how many its text.
@@ -46,46 +40,4 @@ pub fn missing_of(count: u64) -> u64
     ensures { result ≡ missing count }
 {
     (4 - count % 4) % 4
-}
-
-/// The next string.
-pub fn text_of<S: Source>(alloc: Global, at: &mut u64, from: &mut S) -> Result<Vec<u8>, DecodeFault>
-    ensures read { ReadsAs (λ v. v.items) (S.state from.old).left (S.state from.new).left at.old at.new result text_at }
-    ensures used { Used (S.state from.old) (S.state from.new) (IsErrOf result DecodeFault.ReadFault) }
-{
-    let place = *at;
-    let word = four_of(at, from)?;
-    match head_of(word) {
-        Ok((head, length)) => rest_of(alloc, place, word, head, length, at, from),
-        Err(cause) => Err(DecodeFault::Refused { place, cause }),
-    }
-}
-
-// What follows the first four bytes of a string.
-fn rest_of<S: Source>(
-    alloc: Global,
-    place: u64,
-    word: [u8; 4],
-    head: u64,
-    length: u64,
-    at: &mut u64,
-    from: &mut S,
-) -> Result<Vec<u8>, DecodeFault>
-    requires head { 1 ≤ head }
-    requires most { head ≤ 4 }
-    requires length { length < 2 ^ 24 }
-    ensures read { ReadsAs (λ v. v.items) (S.state from.old).left (S.state from.new).left at.old at.new result (text_rest place word (Ok (head, length))) }
-    ensures used { Used (S.state from.old) (S.state from.new) (IsErrOf result DecodeFault.ReadFault) }
-{
-    let more = head + length + missing_of(head + length) - 4;
-    let mut text = Vec::from_slice(alloc, &word[head as usize..])?;
-    exact_of(place, more, &mut text, at, from)?;
-    if !is_zero(&text[length as usize..]) {
-        return Err(DecodeFault::Refused {
-            place,
-            cause: Cause::BadPadding,
-        });
-    }
-    text.truncate(length as usize);
-    Ok(text)
 }

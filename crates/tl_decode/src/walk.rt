@@ -2,6 +2,7 @@
 ghost use Rattle.std.specs.Prelude.{◌≡◌, ◌≤◌, ◌++◌, ℕ, List, IfSome, IsErrOf};
 ghost use Rattle.tl_base.specs.Using.{Used};
 ghost use Rattle.tl_schema.specs.Formed.{IsFormed};
+ghost use Rattle.tl_schema.specs.CheckedPrograms.{IsSchema};
 ghost use Rattle.tl_schema.specs.Seen.{shape};
 ghost use Rattle.tl_types.specs.Offsets.{moved};
 ghost use Rattle.tl_types.specs.Refusal.{Refused};
@@ -10,7 +11,7 @@ ghost use Rattle.tl_types.specs.Values.{ValueView, depth};
 ghost use Rattle.tl_types.specs.declared.cause.Cause.{Cause};
 ghost use Rattle.tl_decode.specs.Decoding.{GivesFault, GivesFew, GivesValue};
 
-use crate::decoder::value_of;
+use crate::decoder::{Walk, value_of};
 use crate::fault::DecodeFault;
 use std::alloc::Global;
 use tl_base::Source;
@@ -33,10 +34,16 @@ pub fn decode_walk<S: Source>(
     ensures refused { IfSome (S.state from.old).left (λ bytes. (offset : ℕ) (cause : Cause) → Refused schema.now MAX_LEVELS (shape of.now) bytes offset cause → GivesFault result (moved at.old offset) cause) }
     // What is given has few nodes for the bytes that were taken.
     ensures bounded { IfSome (S.state from.old).left (λ bytes. GivesFew schema.now (shape of.now) bytes (S.state from.new).left result) }
+    ensures sound { IsSchema schema.now }
     ensures used { Used (S.state from.old) (S.state from.new) (IsErrOf result DecodeFault.ReadFault) }
 {
     // Read for the proof alone: that the offset fits, and that the schema is sound.
     let _start = *at;
     let _count = schema.count();
-    value_of(alloc, schema, MAX_LEVELS, of, at, from)
+    let walk = Walk {
+        alloc,
+        schema,
+        levels: MAX_LEVELS,
+    };
+    value_of(walk, of, at, from)
 }

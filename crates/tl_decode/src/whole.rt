@@ -7,7 +7,8 @@ ghost use Rattle.tl_plan.specs.Plans.{IsPlan};
 ghost use Rattle.tl_plan.specs.PlanLaws.{IsInstance};
 ghost use Rattle.tl_types.specs.Values.{ValueView};
 ghost use Rattle.tl_decode.specs.Decoders.{HasTaken, HasValue};
-ghost use Rattle.tl_decode.specs.Wholes.{EndsAfter, FeedsWhole, ReadsWhole};
+ghost use Rattle.tl_decode.specs.Wholes.{ReadsWhole};
+ghost use Rattle.tl_decode.specs.inner.FedWholes.{EndsAfter, FeedsWhole};
 
 use crate::fault::DecodeFault;
 use crate::piecewise::Decoder;
@@ -74,8 +75,6 @@ pub fn decode_whole<S: Source>(
     ensures whole { (T : Shape) → IsInstance plan.now root T → IsFormed plan.now.schema T → IfSome (S.state from.old).left (λ bytes. ReadsWhole plan.now.schema T bytes result) }
     ensures used { Used (S.state from.old) (S.state from.new) (IsErrOf result WholeFault.ReadFault) }
 {
-    // Read for the proof alone: that the plan is sound.
-    let _count = plan.count();
     let mut decoder = Decoder::new(alloc, plan, root);
     feed_all(&mut decoder, from)?;
     Ok(decoder.into_value())

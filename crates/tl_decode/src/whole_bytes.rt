@@ -29,8 +29,6 @@ pub fn decode_bytes(
     ensures bytes { AreBytes bytes.now }
     ensures unread { result ≢ Err WholeFault.ReadFault }
 {
-    // Read for the proof alone: that the plan is sound.
-    let _count = plan.count();
     let mut decoder = Decoder::new(alloc, plan, root);
     match decoder.feed(bytes)? {
         Fed::More => Err(WholeFault::Refused {
@@ -60,8 +58,6 @@ pub fn decode_bytes_as(
     ensures bytes { AreBytes bytes.now }
     ensures unread { result ≢ Err WholeFault.ReadFault }
 {
-    // Read for the proof alone: that the schema is sound.
-    let _count = schema.count();
     let mut from = SliceSource::new(bytes);
     let mut at = 0;
     let value = decode_walk(alloc, schema, of, &mut at, &mut from)?;

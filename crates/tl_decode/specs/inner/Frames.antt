@@ -114,6 +114,14 @@ item_at (wanted.Opaque k) s = plain_at (type.opaque k) s >>= λ x. Ok (plain x.0
 item_at wanted.Text s = plain_at type.str s >>= λ x. Ok (plain x.0, x.1)
 item_at W s = word_at s >>= λ x. Ok (word x.0, x.1)
 
+-- the value of an item, where that of four bytes is their number
+abbrev pub item_value : ItemView → ValueView
+item_value (word w) = value.nat w
+item_value (plain v) = v
+
+abbrev pub item_value_at : Wanted → Reader
+item_value_at W s = item_at W s >>= λ x. Ok (item_value x.0, x.1)
+
 -- the declaration that the number w names, of those that a value of this type may have
 abbrev pub find_in : List Declaration → Shape → ℕ → Option ℕ
 find_in ds (type.boxed h args) w = first_from (is_member h w) 0 ds

@@ -18,7 +18,7 @@ use Rattle.tl_decode.specs.declared.stack.Found.TheVariants as found
 use Rattle.tl_decode.specs.declared.stack.Reading.{Reading}
 use Rattle.tl_decode.specs.declared.stack.Stop.{Stop}
 use Rattle.tl_decode.specs.declared.stack.Stop.TheVariants as stop
-use Rattle.tl_decode.specs.inner.Frames.{views, item_at, item_view, found_at, found_work, is_truncated, AreWell, IsWellFound, IsWellWanted}
+use Rattle.tl_decode.specs.inner.Frames.{views, item_at, item_view, found_at, found_work, is_truncated, AreWell, IsStop, IsWellFound, IsWellWanted}
 
 -- ---- items
 
@@ -42,6 +42,11 @@ abbrev pub IsWhole : Wanted → List ℕ → Result Item Stop → Type 0
 IsWhole W b (Ok x) = (p : ℕ) (more : List ℕ) → item_at W (spot p (b ++ more)) ≡ Ok (item_view x, spot (moved p (length b)) more)
 IsWhole W b (Err (stop.Refused cause)) = (is_truncated cause ≡ false) × ((p : ℕ) (more : List ℕ) → item_at W (spot p (b ++ more)) ≡ Err (p, cause))
 IsWhole W b (Err stop.Memory) = Unit {0}
+
+-- the same, at a place
+abbrev pub IsWholeAt : Wanted → List ℕ → ℕ → Result Item DecodeFault → Type 0
+IsWholeAt W b p (Ok x) = IsWhole W b (Ok x)
+IsWholeAt W b p (Err e) = (st : Stop) × IsStop st p e × IsWhole W b (Err st)
 
 -- So many of the next bytes came to those that are held: all of them, unless the item is whole.
 pub record Fills (W : Wanted) (old new next : List ℕ) (count : ℕ) : Type 0 where

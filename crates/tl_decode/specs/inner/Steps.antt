@@ -1,6 +1,6 @@
 -- Steps of decoding: what each is to read. This project's own.
 use Rattle.std.specs.Prelude.{◌≡◌, ℕ, ◌<◌, List, [], length, Option, Some, None, Result, Ok, Err}
-use Rattle.tl_types.specs.inner.Reading.{Spot, spot, Read, exact_at}
+use Rattle.tl_types.specs.inner.Reading.{Spot, spot, Read}
 use Rattle.tl_decode.specs.declared.fault.DecodeFault.{DecodeFault}
 use Rattle.tl_decode.specs.declared.fault.DecodeFault.TheVariants.{Refused, ReadFault, Memory}
 
@@ -15,10 +15,6 @@ abbrev pub ReadsAs : {X Y : Type 0} → (X → Y) → Option (List ℕ) → Opti
 ReadsAs see None after p q r read = Unit {0}
 ReadsAs see (Some bytes) after p q (Ok x) read = (rest : List ℕ) × (after ≡ Some rest) × (read (spot p bytes) ≡ Ok (see x, spot q rest))
 ReadsAs see (Some bytes) after p q (Err e) read = FailsAs e (read (spot p bytes))
-
--- the next four bytes
-abbrev pub four_at : Spot → Read (List ℕ)
-four_at s = exact_at s.place 4 s
 
 -- The same, where the input may have ended: nothing is returned exactly where no byte was left.
 abbrev pub OrEnds : {X Y : Type 0} → (X → Y) → Option (List ℕ) → Option (List ℕ) → ℕ → ℕ → Result (Option X) DecodeFault → (Spot → Read Y) → Type 0

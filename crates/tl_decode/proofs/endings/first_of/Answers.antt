@@ -1,7 +1,7 @@
 use Rattle.std.proofs.lemmas.Result.{err_from_is_err_and}
 use Rattle.tl_decode.specs.declared.stack.Found.TheVariants as found
 use Rattle.tl_decode.specs.inner.Frames.{found_work, views}
-use Rattle.tl_decode.proofs.FirstItems.{wide_item}
+use Rattle.tl_decode.proofs.SourceItems.{wide_item}
 use Rattle.tl_decode.proofs.RootsOrEnds.{first_ends, first_failed, first_given, first_stops}
 use Rattle.tl_decode.proofs.endings.first_of.Goals as goal
 

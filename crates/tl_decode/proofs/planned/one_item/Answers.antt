@@ -1,7 +1,11 @@
 use Rattle.std.proofs.lemmas.Result.{err_from_is_err_and}
 use Rattle.tl_decode.specs.inner.Frames.{found_at, next_work, views}
 use Rattle.tl_decode.proofs.Onward.{item_failed, item_refused, item_settled}
+use Rattle.tl_decode.proofs.SourceItems.{wide_item}
 use Rattle.tl_decode.proofs.planned.one_item.Goals as goal
+
+pub item_of-requires : goal.item_of-requires
+item_of-requires g c = wide_item c.args.plan.now c.args.wanted c.requires.wanted
 
 pub returns-in_err-item-clause-read : goal.returns-in_err-item-clause-read
 returns-in_err-item-clause-read g c =

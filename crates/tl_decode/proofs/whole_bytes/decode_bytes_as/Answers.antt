@@ -13,7 +13,7 @@ returns-in_err-value-clause-whole c =
     let p = err_from_is_err_and c.from_residual.result c.from_residual.ensures.1 in
     rw (p.1, p.2)
     (subst (λ (b : List ℕ). ReadsWhole c.args.schema.now (shape c.args.of.now) b (Err (whole_fault c.in_err-value.field-0.0))) (all_left source.at source.bytes.now c.args.bytes.now c.new-from.ensures.at c.new-from.ensures.bytes)
-    (fails c.args.schema.now c.count-count.ensures.sound (shape c.args.of.now) c.requires.formed (drop source.at source.bytes.now) (rest_bytes source.at source.bytes.now source.fits)
+    (fails c.args.schema.now c.in_err-value.ensures.sound (shape c.args.of.now) c.requires.formed (drop source.at source.bytes.now) (rest_bytes source.at source.bytes.now source.fits)
     (drop c.decode_walk.new.from.at c.decode_walk.new.from.bytes.now) c.decode_walk.new.at c.in_err-value.field-0.0 c.in_err-value.ensures.spelled c.in_err-value.ensures.refused))
 
 pub returns-then-not-is_empty-clause-whole : goal.returns-then-not-is_empty-clause-whole
@@ -21,7 +21,7 @@ returns-then-not-is_empty-clause-whole c =
     let source = c.new-from.result in
     let left = drop c.decode_walk.new.from.at c.decode_walk.new.from.bytes.now in
     subst (λ (b : List ℕ). ReadsWhole c.args.schema.now (shape c.args.of.now) b (Err (Trailing c.decode_walk.new.at))) (all_left source.at source.bytes.now c.args.bytes.now c.new-from.ensures.at c.new-from.ensures.bytes)
-    (goes_on c.args.schema.now c.count-count.ensures.sound (shape c.args.of.now) c.requires.formed (drop source.at source.bytes.now) (rest_bytes source.at source.bytes.now source.fits)
+    (goes_on c.args.schema.now c.in_ok-value.ensures.sound (shape c.args.of.now) c.requires.formed (drop source.at source.bytes.now) (rest_bytes source.at source.bytes.now source.fits)
     left c.decode_walk.new.at c.in_ok-value.value c.in_ok-value.ensures.spelled c.in_ok-value.ensures.refused c.if-not-is_empty.ensures)
 
 pub returns-clause-whole : goal.returns-clause-whole
@@ -29,5 +29,5 @@ returns-clause-whole c =
     let source = c.new-from.result in
     let left = drop c.decode_walk.new.from.at c.decode_walk.new.from.bytes.now in
     subst (λ (b : List ℕ). ReadsWhole c.args.schema.now (shape c.args.of.now) b (Ok c.in_ok-value.value)) (all_left source.at source.bytes.now c.args.bytes.now c.new-from.ensures.at c.new-from.ensures.bytes)
-    (ends c.args.schema.now c.count-count.ensures.sound (shape c.args.of.now) c.requires.formed (drop source.at source.bytes.now) (rest_bytes source.at source.bytes.now source.fits)
+    (ends c.args.schema.now c.in_ok-value.ensures.sound (shape c.args.of.now) c.requires.formed (drop source.at source.bytes.now) (rest_bytes source.at source.bytes.now source.fits)
     left c.decode_walk.new.at c.in_ok-value.value c.in_ok-value.ensures.spelled c.in_ok-value.ensures.refused c.if-not-is_empty.ensures)

@@ -1,5 +1,5 @@
--- The first item of an input that may have ended, of which four bytes were taken before it was known how many it has.
-use Rattle.std.proofs.Common.{◌≡◌, ℕ, ◌+◌, ◌<◌, ◌≤◌, List, ◌++◌, length, take, drop, Option, Some, None, Ok, Err, refl, ap, sym, ◌∙◌, subst, arith, inl, inr, take-append-drop, append_assoc}
+-- Items of a source, of which four bytes are taken before it is known how many they have.
+use Rattle.std.proofs.Common.{◌≡◌, ℕ, ◌+◌, ◌<◌, ◌≤◌, List, ◌++◌, length, take, drop, Option, Some, None, Result, Ok, Err, refl, ap, sym, ◌∙◌, subst, arith, inl, inr, take-append-drop, append_assoc}
 use Rattle.std.specs.Prelude.{◌≢◌, IfSome}
 use Rattle.std.proofs.lemmas.Bool.{cases_lt}
 use Rattle.std.proofs.lemmas.List.{length-append, length-take-le, nil_from_length, take-append-le}
@@ -7,8 +7,14 @@ use Rattle.tl_base.specs.Taking.{TakesBytes}
 use Rattle.tl_base.specs.declared.source.TakeFault.TheVariants as took
 use Rattle.tl_plan.specs.Plans.{PlanView}
 use Rattle.tl_types.specs.Offsets.{moved}
-use Rattle.tl_types.specs.inner.Reading.{Fault, Spot, spot, Read, added_at, exact_at, text_head_of}
+use Rattle.tl_types.specs.inner.Reading.{◌>>=◌, Fault, Spot, spot, Read, added_at, exact_at, plain_at, text_head_of, word_at}
 use Rattle.tl_types.specs.declared.cause.Cause.TheVariants.{Truncated}
+use Rattle.tl_schema.specs.Types.{Shape}
+use Rattle.tl_schema.specs.Types as type
+use Rattle.tl_types.specs.Seen.{view}
+use Rattle.tl_types.specs.declared.value.Value.{Value}
+use Rattle.tl_types.specs.Values.{ValueView}
+use Rattle.tl_types.specs.Values as value
 use Rattle.tl_types.proofs.Numbers.{exact_again, exact_short, moved_moved}
 use Rattle.tl_decode.specs.declared.fault.DecodeFault.{DecodeFault}
 use Rattle.tl_decode.specs.declared.fault.DecodeFault.TheVariants.{Refused, ReadFault, Memory}
@@ -18,8 +24,9 @@ use Rattle.tl_decode.specs.declared.stack.Item.{Item}
 use Rattle.tl_decode.specs.declared.stack.Stop.{Stop}
 use Rattle.tl_decode.specs.declared.stack.Stop.TheVariants as stop
 use Rattle.tl_decode.specs.inner.Steps.{FailsAs, OrEnds, ReadsAs}
-use Rattle.tl_decode.specs.inner.Frames.{ItemView, item_at, item_view, IsStop, IsWellWanted}
-use Rattle.tl_decode.specs.inner.Needs.{head_needs, needs, text_needs, IsWhole}
+use Rattle.tl_decode.specs.inner.Frames.{ItemView, item_at, item_view, IsStop, IsWellWanted, item_value, item_value_at, plain, word}
+use Rattle.tl_decode.specs.inner.Needs.{head_needs, needs, text_needs, IsWhole, IsWholeAt}
+use Rattle.tl_decode.proofs.Steps.{as_read}
 use Rattle.tl_decode.proofs.HeldBytes.{item_cut, text_least, text_more_than}
 
 -- ---- how many bytes an item needs
@@ -119,6 +126,21 @@ module _ (W : Wanted) (w : List ℕ) (four : length w ≡ 4) (place n : ℕ) (al
       subst (λ (f : DecodeFault). FailsAs f (whole (spot p bytes))) (sym same) (ap (λ (z : List ℕ). item_at W (spot place z)) j.split ∙ is.1 place h.0)
   after_stop out (Some bytes) b p q r stop.Memory e start h is same = subst (λ (f : DecodeFault). FailsAs f (whole (spot p bytes))) (sym same) tt
 
+  pub after_whole : (out : List ℕ) (a b : Option (List ℕ)) (p q : ℕ) (r : Result Item DecodeFault) → p ≡ moved place 4 → ReadsAs {X = Unit {0}} (λ _. out) a b p q (Ok tt) (added_at w place n) → IsWholeAt W out place r → ReadsAs item_view a b p q r whole
+  after_whole out a b p q (Ok x) start h is = after_read out a b p q x start h is
+  after_whole out a b p q (Err e) start h is = after_stop out a b p q q is.0 e start h is.2 is.1
+
+-- the first four bytes are all of it
+module _ (W : Wanted) (w : List ℕ) (four : length w ≡ 4) (place : ℕ) where
+  pub first_whole : (a : Option (List ℕ)) (p : ℕ) (r : Result Item DecodeFault) → p ≡ moved place 4 → IsWholeAt W w place r → ReadsAs item_view a a p p r (λ s. item_at W (spot place (w ++ s.bytes)))
+  first_whole None p r start is = tt
+  first_whole (Some bytes) p (Ok x) start is = (bytes, refl, is place bytes ∙ ap (λ (k : ℕ). Ok (item_view x, spot k bytes)) (ap (moved place) four ∙ sym start))
+  first_whole (Some bytes) p (Err e) start is = by is.0 is.1 is.2
+    where
+      by : (st : Stop) → IsStop st place e → IsWhole W w (Err st) → FailsAs e (item_at W (spot place (w ++ bytes)))
+      by (stop.Refused cause) same k = subst (λ (f : DecodeFault). FailsAs f (item_at W (spot place (w ++ bytes)))) (sym same) (k.1 place bytes)
+      by stop.Memory same k = subst (λ (f : DecodeFault). FailsAs f (item_at W (spot place (w ++ bytes)))) (sym same) tt
+
 -- the length of what was added to the first four bytes
 pub whole_length : (W : Wanted) (w x out : List ℕ) (n : ℕ) → length w ≡ 4 → 4 + n ≡ needs W w → out ≡ w ++ x → length x ≡ n → length out ≡ needs W out
 whole_length W w x out n four all is len = omega (arith, ap length is, length-append w x, four, len, all, needs_first W w x four, ap (needs W) is)
@@ -152,3 +174,64 @@ or_none W (Some bytes) b p had zero h = (nil_from_length bytes (h.0 ∙ zero), h
 pub or_short : (W : Wanted) (a b : Option (List ℕ)) (p q had : ℕ) → ((x : List ℕ) → 4 ≤ needs W x) → had ≢ 0 → IfSome a (λ bytes. TakesBytes 4 bytes b (Err (took.Ended had))) → OrEnds {X = Item} item_view a b p q (Err (Refused p Truncated)) (item_at W)
 or_short W None b p q had wide some h = tt
 or_short W (Some bytes) b p q had wide some h = (omega (arith, h.0, some), item_cut W p bytes (omega (arith, h.0, h.1, wide bytes)))
+
+-- ---- the item, where the end cuts it off
+
+pub is_item : (W : Wanted) (a b : Option (List ℕ)) (p q : ℕ) (x : Item) → OrEnds item_view a b p q (Ok (Some x)) (item_at W) → ReadsAs item_view a b p q (Ok x) (item_at W)
+is_item W None b p q x h = tt
+is_item W (Some bytes) b p q x h = h.1
+
+pub is_fault : (W : Wanted) (a b : Option (List ℕ)) (p q r : ℕ) (e : DecodeFault) → OrEnds {X = Item} item_view a b p q (Err e) (item_at W) → ReadsAs {X = Item} item_view a b p r (Err e) (item_at W)
+is_fault W None b p q r e h = tt
+is_fault W (Some bytes) b p q r (Refused at cause) h = h.1
+is_fault W (Some bytes) b p q r ReadFault h = tt
+is_fault W (Some bytes) b p q r Memory h = tt
+
+pub is_cut : (W : Wanted) (a b : Option (List ℕ)) (p q r : ℕ) → ((x : List ℕ) → 4 ≤ needs W x) → OrEnds {X = Item} item_view a b p q (Ok None) (item_at W) → ReadsAs {X = Item} item_view a b p r (Err (Refused p Truncated)) (item_at W)
+is_cut W None b p q r wide h = tt
+is_cut W (Some bytes) b p q r wide h = item_cut W p bytes (omega (arith, ap length h.0, wide bytes))
+
+-- ---- values that are one item
+
+abbrev as_plain : ValueView × Spot → Read ItemView
+as_plain x = Ok (plain x.0, x.1)
+
+abbrev as_word : ℕ × Spot → Read ItemView
+as_word x = Ok (word x.0, x.1)
+
+abbrev as_value : ItemView × Spot → Read ValueView
+as_value x = Ok (item_value x.0, x.1)
+
+abbrev as_nat : ℕ × Spot → Read ValueView
+as_nat x = Ok (value.nat x.0, x.1)
+
+value_again : (r : Read ValueView) → ((r >>= as_plain) >>= as_value) ≡ r
+value_again (Ok x) = refl
+value_again (Err e) = refl
+
+number_again : (r : Read ℕ) → ((r >>= as_word) >>= as_value) ≡ (r >>= as_nat)
+number_again (Ok x) = refl
+number_again (Err e) = refl
+
+pub nat_item : (s : Spot) → plain_at type.nat s ≡ item_value_at wanted.Nat s
+unfolding item_at plain_at
+nat_item s = sym (number_again (word_at s))
+
+pub long_item : (s : Spot) → plain_at type.long s ≡ item_value_at wanted.Long s
+unfolding item_at
+long_item s = sym (value_again (plain_at type.long s))
+
+pub opaque_item : (k : ℕ) (s : Spot) → plain_at (type.opaque k) s ≡ item_value_at (wanted.Opaque k) s
+unfolding item_at
+opaque_item k s = sym (value_again (plain_at (type.opaque k) s))
+
+pub text_item : (s : Spot) → plain_at type.str s ≡ item_value_at wanted.Text s
+unfolding item_at
+text_item s = sym (value_again (plain_at type.str s))
+
+pub raw_item : (s : Spot) → plain_at type.raw s ≡ item_value_at wanted.Text s
+unfolding plain_at
+raw_item s = text_item s
+
+pub plain_item : (a b : Option (List ℕ)) (p q : ℕ) (res : Result Value DecodeFault) (T U : Shape) (W : Wanted) → T ≡ U → ((s : Spot) → plain_at U s ≡ item_value_at W s) → ReadsAs view a b p q res (item_value_at W) → ReadsAs view a b p q res (plain_at T)
+plain_item a b p q res T U W is e h = as_read view a b p q res (item_value_at W) (plain_at T) h (λ s. ap (λ (t : Shape). plain_at t s) is ∙ e s)

@@ -1,9 +1,0 @@
-use Rattle.std.proofs.Common.{rules}
-use Rattle.tl_decode.proofs.FixedItems.{four_read, four_ended}
-use Rattle.tl_decode.proofs.items.four_of.Goals as goal
-
-pub returns-in-Ok-clause-read : goal.returns-in-Ok-clause-read
-returns-in-Ok-clause-read g c = four_read _ _ c.args.at.now c.saturating_add.result c.in-Ok.word (search rules) c.in-Ok.ensures.bytes (search rules)
-
-pub returns-in-Err-Ended-clause-read : goal.returns-in-Err-Ended-clause-read
-returns-in-Err-Ended-clause-read g c = four_ended _ _ c.args.at.now _ _ (rw c.in-Err-Ended.field-0-is at c.in-Err-Ended.ensures.bytes)
