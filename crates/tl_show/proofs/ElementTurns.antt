@@ -1,17 +1,15 @@
 -- The elements of a list, read from its text one after the other.
-use Rattle.std.proofs.Common.{◌≡◌, ℕ, suc, List, [], ◌∷◌, ◌++◌, length, map, Bool, Option, Some, Ok, sym, ap, ap₂, ◌∙◌, arith, IsUtf8}
+use Rattle.std.proofs.Common.{◌≡◌, ℕ, suc, List, [], ◌∷◌, ◌++◌, length, map, Option, Some, Ok, sym, ap, ap₂, ◌∙◌, arith}
 use Rattle.std.proofs.lemmas.List.{length-append, map-append}
 use Rattle.json.specs.Token.{Token}
 use Rattle.json.specs.Json.{parse_map}
-use Rattle.serde_json.specs.Data.{Data, Items, no_items, item, array}
-use Rattle.serde_json.specs.Read.{read as read_text}
-use Rattle.tl_schema.specs.Types.{Shape, vector}
+use Rattle.serde_json.specs.Data.{Data, Items, no_items, item}
+use Rattle.tl_schema.specs.Types.{Shape}
 use Rattle.tl_schema.specs.Schemas.{Declaration}
-use Rattle.tl_types.specs.Values.{ValueView, list, values_of}
+use Rattle.tl_types.specs.Values.{ValueView}
 use Rattle.tl_types.specs.Seen.{view}
 use Rattle.tl_types.specs.declared.value.Value.{Value}
 use Rattle.tl_show.specs.Reading.{Read, ◌>>=◌, each_element, inside, reader, readers}
-use Rattle.tl_show.specs.Texts.{IsFormOf}
 
 module _ (ds : List Declaration) (T : Shape) where
   -- however the list goes on from here: it is a list from its start on, and what is read of it is what is read on
@@ -41,10 +39,3 @@ module _ (ds : List Declaration) (T : Shape) where
   pub ends : (whole now : Option (Items × List Token)) (vs : List Value) (r : List Token) → Goes whole now vs → now ≡ Some (no_items, r)
       → (is : Items) × (whole ≡ Some (is, r)) × (each_element 0 T [] (readers ds is) ≡ Ok (map view vs))
   ends whole now vs r goes over = goes no_items r over
-
-  -- the list of what is read
-  pub listed : (U : Shape) (wide : Bool) (bytes text : List ℕ) (is : Items) (vs : List Value) (v : Value) → U ≡ vector wide T → text ≡ bytes → IsUtf8 bytes
-      → read_text text ≡ Some (array is) → each_element 0 T [] (readers ds is) ≡ Ok (map view vs) → view v ≡ list (values_of (map view vs)) → IsFormOf ds U bytes (view v)
-  listed U wide bytes text is vs v of same utf8 json reads seen =
-      let whole = ap (λ (r : Read (List ValueView)). r >>= λ xs. Ok (list (values_of xs))) reads in
-      (array is, (utf8, sym (ap read_text same) ∙ json), ap (λ (S : Shape). reader ds (array is) S) of ∙ whole ∙ ap (λ (x : ValueView). Ok x) (sym seen))

@@ -24,3 +24,5 @@ mod TextNames
 mod NamesTelling
 pub mod ElementTurns
 pub mod JsonTurns
+pub mod DirectTokens
+pub mod DirectFields

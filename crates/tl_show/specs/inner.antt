@@ -3,5 +3,6 @@ pub mod FormViews
 pub mod Forms
 pub mod FormTells
 pub mod Keyed
+pub mod Direct
 pub mod Lines
 pub mod ReadFaults

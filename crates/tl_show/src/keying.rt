@@ -1,6 +1,5 @@
 //! The keys of declarations' records, prepared once.
-ghost use Rattle.std.specs.Prelude.{◌≡◌, IfOk, codes, map, true};
-ghost use Rattle.std.specs.Prelude.{◌∷◌};
+ghost use Rattle.std.specs.Prelude.{◌≡◌, IfOk, map, true};
 ghost use Rattle.tl_schema.specs.Seen.{declaration, slot};
 ghost use Rattle.tl_show.specs.Reading.{AreApart, record_keys};
 ghost use Rattle.tl_show.specs.inner.Keyed.{AreKeyed, IsKeyed, keyed_slot};

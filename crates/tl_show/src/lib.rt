@@ -1,6 +1,7 @@
 //! Values as JSON, and JSON as values.
 #![tactic(auto)]
 
+mod direct;
 mod fault;
 mod form;
 mod forms;

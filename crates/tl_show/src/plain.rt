@@ -1,5 +1,6 @@
 //! Values without parts, from JSON.
 ghost use Rattle.std.specs.Prelude.{◌≡◌, option_and_then, option_map};
+ghost use Rattle.serde_json.specs.Data.{string};
 ghost use Rattle.serde_json.specs.Find.{as_integer, as_number};
 ghost use Rattle.serde_json.specs.View.{view as data_of, members_view};
 ghost use Rattle.tl_schema.specs.Seen.{shape};
@@ -101,15 +102,39 @@ fn nat_within(alloc: Global, number: i128) -> Result<Value, FormFault>
     }
 }
 
-// So many bytes.
-fn opaque_of(alloc: Global, json: &serde_json::Value, count: usize) -> Result<Value, FormFault>
-    ensures { Tells view (plain (types.opaque count) (data_of json.now)) result }
+/// A value of a type from a text.
+pub fn text_of(alloc: Global, text: &str, of: &TypeRef) -> Result<Value, FormFault>
+    ensures { Tells view (plain (shape of.now) (string text.now)) result }
 {
-    let bytes = digits_of(alloc, json)?;
+    match of {
+        TypeRef::Str => Ok(Value::Text(Bytes::from_slice(alloc, text.as_bytes())?)),
+        TypeRef::Raw => Ok(Value::Text(bytes_of(alloc, text)?)),
+        TypeRef::Double => opaque_text(alloc, text, 8),
+        TypeRef::Int128 => opaque_text(alloc, text, 16),
+        TypeRef::Int256 => opaque_text(alloc, text, 32),
+        _ => Err(refused(alloc, FormCause::WrongJson)),
+    }
+}
+
+// So many bytes, from a text.
+fn opaque_text(alloc: Global, text: &str, count: usize) -> Result<Value, FormFault>
+    ensures { Tells view (plain (types.opaque count) (string text.now)) result }
+{
+    let bytes = bytes_of(alloc, text)?;
     if bytes.len() == count {
         Ok(Value::Opaque(bytes))
     } else {
         Err(refused(alloc, FormCause::WrongJson))
+    }
+}
+
+// So many bytes.
+fn opaque_of(alloc: Global, json: &serde_json::Value, count: usize) -> Result<Value, FormFault>
+    ensures { Tells view (plain (types.opaque count) (data_of json.now)) result }
+{
+    match json.as_str() {
+        Some(text) => opaque_text(alloc, text, count),
+        None => Err(refused(alloc, FormCause::WrongJson)),
     }
 }
 

@@ -1,10 +1,11 @@
 //! JSON from its tokens, one value at a time. What isn't common is given up, and left to `serde_json`: text that is no JSON, and a number that isn't
 //! whole or is past 64 bits.
-ghost use Rattle.std.specs.Prelude.{◌≡◌, ◌<◌, length, true, false, Some, option_map, IfOk, IfSome, OnOk, IsTrue, ◌==◌, slice_index};
-ghost use Rattle.json.specs.Json.{items, members, value};
-ghost use Rattle.serde_json.specs.Data.{no_members, number};
-ghost use Rattle.serde_json.specs.Read.{converted, number_from, number_of, of_items, of_json, of_members};
+ghost use Rattle.std.specs.Prelude.{◌≡◌, ◌<◌, ◌≤◌, ℕ, length, true, false, Some, option_map, IfOk, IfSome, OnOk, IsTrue, ◌==◌, slice_index};
+ghost use Rattle.json.specs.Json.{items, value};
+ghost use Rattle.serde_json.specs.Data.{Data, no_members, number, put};
+ghost use Rattle.serde_json.specs.Read.{converted, number_from, number_of, of_items, of_json};
 ghost use Rattle.serde_json.specs.View.{view as data_of, items_view, members_view};
+ghost use Rattle.tl_show.specs.inner.Direct.{GoesOnTo};
 
 use crate::fault::FormFault;
 use fast_float::Numeral;
@@ -87,29 +88,61 @@ fn items_of(alloc: Global, reader: &mut Reader<'_>, depth: usize) -> Result<Vec<
     Ok(found)
 }
 
-// The members of an object, after its brace.
+/// The members of an object, after its brace.
 #[cycle(tree)]
-#[inline(never)]
-fn members_of(
+pub fn members_of(
     alloc: Global,
     reader: &mut Reader<'_>,
     depth: usize,
 ) -> Result<Map<String, Value>, GivenUp>
-    ensures ok { IfOk result (λ m. converted (λ ms. of_members ms no_members) (members (value depth) (length reader.old) reader.old) ≡ Some (members_view m.entries, reader.new)) }
+    ensures ok { IfOk result (λ m. GoesOnTo depth (length reader.old) reader.old no_members reader.new (members_view m.entries)) }
     ensures shorter { OnOk result (length reader.new < length reader.old) }
 {
     let mut found = Map::new(alloc);
-    'members: while let Some(name) = reader.next_key()? {
-        let key = String::from_str(alloc, name)?;
-        let member = tree_of(alloc, reader, depth)?;
-        drop(found.insert(key, member)?);
-    }
+    add_members(alloc, reader, depth, &mut found)?;
     Ok(found)
 }
 
-// The whole number of at most 64 bits that a token writes.
+/// The members that an object has beside those that were found.
+#[cycle(tree)]
+#[inline(never)]
+pub fn add_members(
+    alloc: Global,
+    reader: &mut Reader<'_>,
+    depth: usize,
+    found: &mut Map<String, Value>,
+) -> Result<(), GivenUp>
+    ensures ok { OnOk result ((n : ℕ) → length reader.old ≤ n → GoesOnTo depth n reader.old (members_view found.old.entries) reader.new (members_view found.new.entries)) }
+    ensures shorter { OnOk result (length reader.new < length reader.old) }
+{
+    'members: while let Some(name) = reader.next_key()? {
+        add_member(alloc, reader, depth, name, found)?;
+    }
+    Ok(())
+}
+
+/// The member with a key, after that.
+#[cycle(tree)]
 #[inline(always)]
-fn whole_number(text: &str) -> Option<Value>
+pub fn add_member(
+    alloc: Global,
+    reader: &mut Reader<'_>,
+    depth: usize,
+    name: &str,
+    found: &mut Map<String, Value>,
+) -> Result<(), GivenUp>
+    ensures ok { OnOk result ((d : Data) × (converted of_json (value depth reader.old) ≡ Some (d, reader.new)) × (members_view found.new.entries ≡ put name.now d (members_view found.old.entries))) }
+    ensures shorter { OnOk result (length reader.new < length reader.old) }
+{
+    let key = String::from_str(alloc, name)?;
+    let member = tree_of(alloc, reader, depth)?;
+    drop(found.insert(key, member)?);
+    Ok(())
+}
+
+/// The whole number of at most 64 bits that a token writes.
+#[inline(always)]
+pub fn whole_number(text: &str) -> Option<Value>
     ensures { IfSome result (λ v. option_map number (number_of text.now) ≡ Some (data_of v)) }
 {
     let bytes = text.as_bytes();

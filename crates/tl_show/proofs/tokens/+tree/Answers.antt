@@ -1,4 +1,4 @@
-use Rattle.std.proofs.Common.{◌≡◌, ◌-◌, ◌<◌, ◌∷◌, length, Some, None, option_map, string_bytes, sym, ap, ◌∙◌, arith, rules}
+use Rattle.std.proofs.Common.{◌≡◌, ◌-◌, ◌<◌, ◌∷◌, length, Some, None, option_map, string_bytes, refl, sym, ap, ◌∙◌, arith, rules}
 use Rattle.json.specs.Token.{Token}
 use Rattle.json.specs.Json.{parse_map, after_end_array, read_key, items, members, value}
 use Rattle.json.specs.Reads.{token_of}
@@ -83,39 +83,47 @@ items_of-returns-clause-ok t c =
     let r = c.take_end_array.new.self in
     l.invariant.2 ∙ ap (parse_map (items_before l.found.items)) (items_over p n l.reader r l.invariant.1 (grind arith)) ∙ ap (λ ds. Some (ds, r)) (items_before-no_items l.found.items)
 
-pub members_of-members-init : goal.members_of-members-init
-members_of-members-init t c =
-    let all = members (value c.args.depth) (length c.args.reader.now) c.args.reader.now in
-    (length c.args.reader.now, omega arith, ap (λ es. converted (λ ms. of_members ms (members_view es)) all) (sym c.new-found.ensures.empty), omega arith)
+pub members_of-returns-clause-ok : goal.members_of-returns-clause-ok
+members_of-returns-clause-ok t c =
+    let goes = c.in_ok-add_members.ensures.ok (length c.args.reader.now) (omega arith) in
+    rw c.new-found.ensures.empty at goes
 
-pub members_of-members-preserved : goal.members_of-members-preserved
-members_of-members-preserved t c =
+pub add_members-members-init : goal.add_members-members-init
+add_members-members-init t c = record { goes = λ n enough. (n, enough, refl); shorter = omega arith }
+
+pub add_members-members-preserved : goal.add_members-members-preserved
+add_members-members-preserved t c =
     let p = value c.args.depth in
     let l = c.members in
-    let n = l.invariant.0 in
     let old = members_view l.found.entries in
     let k = c.in-Some.name.now in
     let s = c.next_key.new.self in
     let named : read_key l.reader ≡ Some (Some k, s) = grind arith in
-    let done = c.in_ok-member.ensures in
-    let v = c.in_ok-member.member in
-    let r = c.tree_of.new.reader in
+    let done = c.in_ok-add_member.ensures in
+    let r = c.add_member.new.reader in
     let less = read_key-shorter l.reader (Some k) s named in
     let lesser = done.shorter in
-    let copied : string_bytes c.in_ok-key.key ≡ k = search rules in
-    let inserted : members_view c.insert.new.self.entries ≡ put k (view v) old =
-    ap members_view c.in_ok-insert.ensures.entries ∙ members_view-insert_entry l.found.entries c.in_ok-key.key v ∙ ap (λ name. put name (view v) old) copied in (
-      n - 1,
-      omega (arith, l.invariant.1),
-      l.invariant.2 ∙ member_read p old n k l.reader s r (view v) (omega (arith, l.invariant.1)) named done.ok
-          ∙ ap (λ found. converted (λ ms. of_members ms found) (members p (n - 1) r)) (sym inserted),
-      omega (arith, l.invariant.3),
-    )
+    record {
+      goes = λ n enough.
+          let before = l.invariant.goes n enough in (
+            before.0 - 1,
+            omega (arith, before.1, less, lesser),
+            before.2 ∙ member_read p old before.0 k l.reader s r done.ok.0 (omega (arith, before.1, less)) named done.ok.1
+                ∙ ap (λ found. converted (λ ms. of_members ms found) (members p (before.0 - 1) r)) (sym done.ok.2),
+          );
+      shorter = omega (arith, l.invariant.shorter, less, lesser);
+    }
 
-pub members_of-returns-clause-ok : goal.members_of-returns-clause-ok
-members_of-returns-clause-ok t c =
+pub add_members-returns-clause-ok : goal.add_members-returns-clause-ok
+add_members-returns-clause-ok t c = λ n enough.
     let p = value c.args.depth in
     let l = c.members in
-    let n = l.invariant.0 in
-    let old = members_view l.found.entries in
-    l.invariant.2 ∙ members_over p old n l.reader c.next_key.new.self l.invariant.1 (grind arith)
+    let before = l.invariant.goes n enough in
+    before.2 ∙ members_over p (members_view l.found.entries) before.0 l.reader c.next_key.new.self before.1 (grind arith)
+
+pub add_member-returns-clause-ok : goal.add_member-returns-clause-ok
+add_member-returns-clause-ok t c =
+    let old = members_view c.args.found.now.entries in
+    let v = c.in_ok-member.member in
+    let copied : string_bytes c.in_ok-key.key ≡ c.args.name.now = search rules in
+    (view v, c.in_ok-member.ensures.ok, ap members_view c.in_ok-insert.ensures.entries ∙ members_view-insert_entry c.args.found.now.entries c.in_ok-key.key v ∙ ap (λ name. put name (view v) old) copied)
