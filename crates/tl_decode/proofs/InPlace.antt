@@ -8,13 +8,14 @@ use Rattle.tl_types.specs.inner.Reading.{fields_in}
 use Rattle.tl_types.specs.declared.value.Value.{Value}
 use Rattle.tl_decode.specs.declared.stack.Frame.{Frame}
 use Rattle.tl_decode.specs.declared.stack.Frame.TheVariants as frame
+use Rattle.tl_decode.specs.declared.stack.Found.{Found}
 use Rattle.tl_decode.specs.declared.stack.Next.{Next}
 use Rattle.tl_decode.specs.declared.stack.Next.TheVariants as next
 use Rattle.tl_decode.specs.declared.stack.Step.{Step}
 use Rattle.tl_decode.specs.declared.stack.Step.TheVariants as step
 use Rattle.tl_decode.specs.declared.stack.Stop.{Stop}
 use Rattle.tl_decode.specs.declared.stack.Stop.TheVariants as stop
-use Rattle.tl_decode.specs.inner.Frames.{in_list, in_record, type_in, entry_in, IsInPlan, AreWell, IsWellFrame, StepsFrom, Adds, IsWith, Opens}
+use Rattle.tl_decode.specs.inner.Frames.{in_list, in_record, type_in, entry_in, IsInPlan, AreWell, IsWellFrame, SettlesFrom, StepsFrom, Adds, IsWith, Opens}
 use Rattle.tl_decode.proofs.FrameLists.{well_pop}
 use Rattle.tl_decode.proofs.PartSteps.{closes_in, list_opens}
 
@@ -70,3 +71,10 @@ module _ (p : PlanView) (xs : List Frame) (n : ℕ) (f : Frame) (len : length xs
   last_taken g h v others adds split =
       let both = same_from_push (take (n - 1) xs) others g h (sym (last_set g) ∙ split) in
       rw (sym both.0, sym both.1) (closes_in p xs (take (n - 1) xs) f g v last_of well adds.0 (λ w. adds.1))
+
+-- ---- a step, and then all others
+
+pub settles_then : (p : PlanView) (old mid new : List Frame) (n m : Next) (r : Result Found Stop) → StepsFrom p old n mid (Ok (step.Goes m)) → SettlesFrom p mid m new r → SettlesFrom p old n new r
+settles_then p old mid new n m (Ok f) a b = (record { frames = b.0.frames; is_well = b.0.is_well; same = λ s. a.0.same s ∙ b.0.same s }, omega (arith, a.1, b.1))
+settles_then p old mid new n m (Err (stop.Refused cause)) a b = (b.0, λ s. a.0.same s ∙ b.1 s)
+settles_then p old mid new n m (Err stop.Memory) a b = tt

@@ -1,6 +1,8 @@
 -- A piece, taken item by item.
-use Rattle.std.proofs.Common.{◌≡◌, ℕ, ◌+◌, ◌-◌, ◌^◌, ◌<◌, ◌≤◌, List, [], ◌++◌, length, take, drop, Some, Result, Ok, Err, ap, sym, ◌∙◌, subst, arith}
+use Rattle.std.proofs.Common.{◌≡◌, ℕ, ◌+◌, ◌-◌, ◌^◌, ◌<◌, ◌≤◌, List, [], ◌++◌, length, take, drop, Option, Some, None, Result, Ok, Err, ap, sym, ◌∙◌, subst, arith}
 use Rattle.std.proofs.lemmas.List.{drop-drop, length-drop, take_all}
+use Rattle.std.specs.declared.alloc.Global.{Global}
+use Rattle.std.specs.Prelude.{Vec}
 use Rattle.tl_plan.specs.Plans.{PlanView}
 use Rattle.tl_types.specs.Offsets.{moved}
 use Rattle.tl_types.specs.Seen.{view}
@@ -14,14 +16,16 @@ use Rattle.tl_decode.specs.declared.stack.Frame.{Frame}
 use Rattle.tl_decode.specs.declared.stack.Wanted.{Wanted}
 use Rattle.tl_decode.specs.declared.stack.Wanted.TheVariants as wanted
 use Rattle.tl_decode.specs.declared.stack.Item.{Item}
+use Rattle.tl_decode.specs.declared.stack.Item.TheVariants as item
+use Rattle.tl_decode.specs.declared.stack.Next.TheVariants as next_step
 use Rattle.tl_decode.specs.declared.stack.Next.{Next}
 use Rattle.tl_decode.specs.declared.stack.Found.{Found}
 use Rattle.tl_decode.specs.declared.stack.Found.TheVariants as found
 use Rattle.tl_decode.specs.declared.stack.Reading.{Reading}
 use Rattle.tl_decode.specs.declared.stack.Stop.{Stop}
 use Rattle.tl_decode.specs.declared.stack.Stop.TheVariants as stop
-use Rattle.tl_decode.specs.inner.Frames.{FrameView, ItemView, views, item_view, goes_after, levels_below, next_at, found_at, next_work, found_work, resumes, IsStop, IsWellWanted, SettlesAt, Takes}
-use Rattle.tl_decode.specs.inner.Needs.{FindsItem, IsInOrder, TakesItem, TakesPiece, needs, piece_work, reads_on}
+use Rattle.tl_decode.specs.inner.Frames.{FrameView, ItemView, views, word, item_view, goes_after, levels_below, next_at, found_at, next_work, found_work, resumes, IsStop, IsWellWanted, SettlesAt, SettlesFrom, Takes}
+use Rattle.tl_decode.specs.inner.Needs.{EndsWords, FindsItem, IsInOrder, TakesItem, TakesPiece, TakesWords, needs, piece_work, reads_on}
 use Rattle.tl_decode.proofs.FrameLists.{resume_err}
 use Rattle.tl_decode.proofs.HeldBytes.{text_least}
 use Rattle.tl_decode.proofs.Onward.{item_then, item_fails}
@@ -80,6 +84,27 @@ item_stop p old new at then work next (stop.Refused cause) e f is =
     (f.0, λ more. ap (resumes p fs) (item_fails p fs old.wanted (spot at (old.held.items ++ (next ++ more))) at cause (f.1 at more)) ∙ resume_err p.schema.decls MAX_LEVELS fs _)
 item_stop p old new at then work next stop.Memory e f is = subst (λ (g : DecodeFault). TakesItem p (reads_on p old at) work next new then (Err g)) (sym is) tt
 
+-- ---- a word that is a value
+
+pub settled_at : (p : PlanView) (old : List Frame) (n : Next) (place : ℕ) (new : List Frame) (f : Found) → SettlesFrom p old n new (Ok f) → SettlesAt p (next_at p (views p old) n) (next_work p (views p old) n) place new (Ok f)
+settled_at p old n place new f s = s
+
+-- what comes of an item, however it was found
+module _ (p : PlanView) (old : Reading) (at then : ℕ) (next : List ℕ) (frames : Vec Frame Global) (w : ℕ) (v : Value) (f : FindsItem old.wanted old.held.items old.held.items next (Ok (Some (item.Word w, 4)))) (t : Takes p old.wanted (word w) (Ok (next_step.Close v))) (is : then ≡ moved at (length old.held.items + 4)) where
+  pub word_taken : (g : Found) → SettlesAt p (next_at p (views p old.frames.items) (next_step.Close v)) (next_work p (views p old.frames.items) (next_step.Close v)) then frames.items (Ok g)
+      → TakesItem p (reads_on p old at) (found_work p (views p old.frames.items) (found.Wants old.wanted)) next (record old { frames = frames }) then (Ok (Some (g, 4)))
+  word_taken g s =
+      let vs = views p old.frames.items in
+      let less = t.2 vs in
+      item_some p old (record old { frames = frames }) at then next (item.Word w) 4 f is (found_work p vs (found.Wants old.wanted)) g (after_goes p vs old.wanted at then 0 (word w) (next_step.Close v) frames.items (Ok g) t s) (omega (arith, less, s.1))
+
+  pub word_error : (e : DecodeFault) → SettlesAt p (next_at p (views p old.frames.items) (next_step.Close v)) (next_work p (views p old.frames.items) (next_step.Close v)) then frames.items (Err e)
+      → TakesItem p (reads_on p old at) (found_work p (views p old.frames.items) (found.Wants old.wanted)) next (record old { frames = frames }) then (Err e)
+  word_error e s =
+      let vs = views p old.frames.items in
+      let work = found_work p vs (found.Wants old.wanted) in
+      item_error p old (record old { frames = frames }) at then next (item.Word w) 4 f is work work e (after_goes p vs old.wanted at then 0 (word w) (next_step.Close v) frames.items (Err e) t s)
+
 -- ---- a piece
 
 -- so far
@@ -111,3 +136,32 @@ module _ (p : PlanView) (old : List ℕ → Read ValueView) (piece : List ℕ) (
         },
         some_less p now new W u.2 lt u.4,
       )
+
+-- ---- words, and then the next item
+
+module _ (p : PlanView) (old : List ℕ → Read ValueView) (piece : List ℕ) (used at : ℕ) (now : Reading) (s : SoFar p old piece used now at) (new : Reading) (then n : ℕ) where
+  rest_is : take (length piece - used) (drop used piece) ≡ drop used piece
+  rest_is = take_all (length piece - used) (drop used piece) (omega (arith, length-drop used piece))
+
+  pub words_go : (o : Option Value) → o ≡ None → n ≤ length (take (length piece - used) (drop used piece)) → EndsWords p (reads_on p now at) (take (length piece - used) (drop used piece)) new then n o → SoFar p old piece (used + n) new then
+  words_go o none few ends =
+      let e = subst (λ (q : Option Value). EndsWords p (reads_on p now at) (take (length piece - used) (drop used piece)) new then n q) none ends in
+      let on = subst (λ (next : List ℕ). (more : List ℕ) → reads_on p now at (next ++ more) ≡ reads_on p new then (drop n next ++ more)) rest_is e.1 in
+      record {
+        within = omega (arith, few, ap length rest_is, length-drop used piece, s.within);
+        order = e.0;
+        reads = λ more. s.reads more ∙ on more ∙ ap (λ (z : List ℕ). reads_on p new then (z ++ more)) (drop-drop n used piece);
+      }
+
+  pub words_done : (o : Option Value) (v : Value) → o ≡ Some v → n ≤ length (take (length piece - used) (drop used piece)) → EndsWords p (reads_on p now at) (take (length piece - used) (drop used piece)) new then n o → TakesPiece p old piece new then (Ok (Some (v, used + n)))
+  words_done o v some few ends =
+      let e = subst (λ (q : Option Value). EndsWords p (reads_on p now at) (take (length piece - used) (drop used piece)) new then n q) some ends in
+      let on = subst (λ (next : List ℕ). (more : List ℕ) → reads_on p now at (next ++ more) ≡ Ok (view v, spot then (drop n next ++ more))) rest_is e in
+      (omega (arith, few, ap length rest_is, length-drop used piece, s.within), λ more. s.reads more ∙ on more ∙ ap (λ (z : List ℕ). Ok (view v, spot then (z ++ more))) (drop-drop n used piece))
+
+  pub words_fail : (e : DecodeFault) (work : ℕ) → TakesItem p (reads_on p now at) work (take (length piece - used) (drop used piece)) new then (Err e) → TakesWords p old piece new then (Err e)
+  words_fail (fault.Refused place cause) work t =
+      let on = subst (λ (next : List ℕ). (more : List ℕ) → reads_on p now at (next ++ more) ≡ Err (place, cause)) rest_is t.1 in
+      (t.0, λ more. s.reads more ∙ on more)
+  words_fail fault.ReadFault work t = t
+  words_fail fault.Memory work t = tt

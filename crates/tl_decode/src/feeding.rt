@@ -1,12 +1,13 @@
 //! A piece of the input, taken item by item.
-ghost use Rattle.std.specs.Prelude.{◌<◌, IfOk};
-ghost use Rattle.tl_decode.specs.inner.Frames.{AreWell, IsWellWanted, SettlesAt, found_work, goes_after, item_view, views};
-ghost use Rattle.tl_decode.specs.inner.Needs.{IsInOrder, ItemLess, PieceLess, TakesItem, TakesPiece, piece_work, reads_on};
+ghost use Rattle.std.specs.Prelude.{◌<◌, List, IfNone, IfOk, IfSome, length};
+ghost use Rattle.tl_decode.specs.inner.Frames.{AreWell, GoesOn, IsWellWanted, SettlesAt, found_work, goes_after, item_view, next_at, next_work, views};
+ghost use Rattle.tl_decode.specs.inner.Needs.{IsInOrder, IsNextValue, ItemLess, PieceLess, TakesItem, TakesPiece, TakesWords, WorksLess, piece_work, reads_on};
 
 use crate::fault::DecodeFault;
-use crate::held_items::next_item;
+use crate::held_items::{next_item, next_word};
+use crate::machine::{close_part, go_on};
 use crate::planned::{settle_at, stopped};
-use crate::stack::{Found, Frame, Item, Reading, Wanted};
+use crate::stack::{Found, Frame, Item, Next, Onward, Reading, Wanted};
 use crate::taking::take;
 use std::alloc::Global;
 use tl_plan::Plan;
@@ -27,6 +28,12 @@ pub fn take_piece(
 {
     let mut used = 0usize;
     'items: loop {
+        let (value, words) = take_words(alloc, plan, reading, at, &piece[used..])?;
+        used += words;
+        match value {
+            Some(value) => return Ok(Some((value, used))),
+            None => {}
+        }
         match take_item(alloc, plan, reading, at, &piece[used..])? {
             None => return Ok(None),
             Some((found, count)) => {
@@ -37,6 +44,87 @@ pub fn take_piece(
                 }
             }
         }
+    }
+}
+
+// Takes the words that are values, and all after each that needs no bytes. How many bytes these are is answered, and the value, if it is whole then.
+// Most items are such words: `take_item` would do the same, by a longer path.
+fn take_words(
+    alloc: Global,
+    plan: &Plan,
+    reading: &mut Reading,
+    at: &mut u64,
+    next: &[u8],
+) -> Result<(Option<Value>, usize), DecodeFault>
+    requires { IsInOrder plan.now reading.old }
+    ensures takes { TakesWords plan.now (reads_on plan.now reading.old at.old) next.now reading.new at.new result }
+    ensures less { IfOk result (λ x. IfNone x.0 (WorksLess plan.now reading.old reading.new x.1)) }
+{
+    let mut used = 0usize;
+    'words: loop {
+        let Some(value) = next_value(reading.wanted, &reading.held, &next[used..]) else {
+            return Ok((None, used));
+        };
+        used += 4;
+        *at = at.saturating_add(4);
+        match after_value(alloc, plan, &mut reading.frames, value, *at)? {
+            Found::Done { value } => return Ok((Some(value), used)),
+            Found::Wants { wanted } => reading.wanted = wanted,
+        }
+    }
+}
+
+// All after a value that needs no bytes; a refusal is one at the place. After most values an item is looked for.
+#[inline(always)]
+fn after_value(
+    alloc: Global,
+    plan: &Plan,
+    frames: &mut Vec<Frame>,
+    value: Value,
+    place: u64,
+) -> Result<Found, DecodeFault>
+    requires { AreWell plan.now frames.old.items }
+    ensures { SettlesAt plan.now (next_at plan.now (views plan.now frames.old.items) (Next.Close value)) (next_work plan.now (views plan.now frames.old.items) (Next.Close value)) place frames.new.items result }
+{
+    if frames.is_empty() {
+        return Ok(Found::Done { value });
+    }
+    let onward = close_part(plan, frames, value)?;
+    found_after(alloc, plan, frames, onward, place)
+}
+
+// What is found after a value that became a part; a refusal is one at the place.
+#[inline(always)]
+fn found_after(
+    alloc: Global,
+    plan: &Plan,
+    frames: &mut Vec<Frame>,
+    onward: Onward,
+    place: u64,
+) -> Result<Found, DecodeFault>
+    requires goes { (old : List Frame) × (v : Value) × GoesOn plan.now old v frames.old.items onward }
+    requires some { 0 < length frames.old.items }
+    ensures { (old : List Frame) (v : Value) → GoesOn plan.now old v frames.old.items onward → SettlesAt plan.now (next_at plan.now (views plan.now old) (Next.Close v)) (next_work plan.now (views plan.now old) (Next.Close v)) place frames.new.items result }
+{
+    match onward {
+        Onward::Item { wanted } => Ok(Found::Wants { wanted }),
+        _ => match go_on(alloc, plan, frames, onward) {
+            Ok(found) => Ok(found),
+            Err(stop) => Err(stopped(stop, place)),
+        },
+    }
+}
+
+// The value that the next four bytes are, where a number is looked for that is one, and no byte of it is held.
+#[inline(always)]
+fn next_value(wanted: Wanted, held: &[u8], next: &[u8]) -> Option<Value>
+    ensures { IfSome result (IsNextValue wanted held.now next.now) }
+{
+    let word = next_word(wanted, held, next)?;
+    match wanted {
+        Wanted::Int => Some(Value::Int(word.cast_signed())),
+        Wanted::Nat => Some(Value::Nat(word)),
+        _ => None,
     }
 }
 
@@ -82,6 +170,7 @@ pub fn after_item(
     ensures less { IfOk result (λ f. found_work plan.now (views plan.now frames.new.items) f < found_work plan.now (views plan.now frames.old.items) (Found.Wants wanted)) }
 {
     match take(alloc, plan, wanted, item) {
+        Ok(Next::Close { value }) => after_value(alloc, plan, frames, value, then),
         Ok(next) => settle_at(alloc, plan, frames, next, then),
         Err(stop) => Err(stopped(stop, place)),
     }

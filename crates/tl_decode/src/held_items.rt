@@ -43,8 +43,8 @@ pub fn next_item(
     Ok(Some((item, count)))
 }
 
-// The four bytes that are looked for, where no byte of them is held and all of them are in the next ones.
-fn next_word(wanted: Wanted, held: &[u8], next: &[u8]) -> Option<u32>
+/// The four bytes that are looked for, where no byte of them is held and all of them are in the next ones.
+pub fn next_word(wanted: Wanted, held: &[u8], next: &[u8]) -> Option<u32>
     ensures { IfSome result (λ word. FindsItem wanted held.now held.now next.now (Ok (Some (Item.Word word, 4)))) }
 {
     if !held.is_empty() {

@@ -1,11 +1,11 @@
 //! The steps that need no bytes: values are opened, their parts come in order, and values close.
-ghost use Rattle.std.specs.Prelude.{◌≡◌, ◌<◌, ◌∷◌, ◌++◌, [], length};
-ghost use Rattle.tl_decode.specs.inner.Frames.{AreWell, IsWellNext, SettlesFrom, StepsFrom};
+ghost use Rattle.std.specs.Prelude.{◌≡◌, ◌<◌, ◌∷◌, ◌++◌, List, [], IfOk, length};
+ghost use Rattle.tl_decode.specs.inner.Frames.{AreWell, GoesOn, IsWellNext, SettlesFrom, StepsFrom};
 
-use crate::opening::open;
+use crate::opening::{onward, open};
 use crate::parts::{add, part};
-use crate::stack::{Found, Frame, Next, Step, Stop, Wanted};
-use std::alloc::Global;
+use crate::stack::{Found, Frame, Next, Onward, Step, Stop, Wanted};
+use std::alloc::{AllocError, Global};
 use tl_plan::Plan;
 use tl_types::Value;
 
@@ -63,6 +63,45 @@ fn close(alloc: Global, plan: &Plan, frames: &mut Vec<Frame>, value: Value) -> R
                 },
             }),
         },
+    }
+}
+
+/// A value becomes a part of the innermost list or record, of which there is one. This is the first step of `settle`, told without a value.
+#[inline(always)]
+pub fn close_part(plan: &Plan, frames: &mut Vec<Frame>, value: Value) -> Result<Onward, AllocError>
+    requires frames { AreWell plan.now frames.old.items }
+    requires some { 0 < length frames.old.items }
+    ensures goes { IfOk result (GoesOn plan.now frames.old.items value frames.new.items) }
+    ensures some { 0 < length frames.new.items }
+{
+    match frames.last_mut() {
+        None => unreachable!(),
+        Some(top) => match add(plan, top, value)? {
+            Some(of) => Ok(onward(plan, of)),
+            None => Ok(Onward::Rest),
+        },
+    }
+}
+
+/// All that comes after such a step.
+#[inline(never)]
+pub fn go_on(
+    alloc: Global,
+    plan: &Plan,
+    frames: &mut Vec<Frame>,
+    onward: Onward,
+) -> Result<Found, Stop>
+    requires goes { (old : List Frame) × (v : Value) × GoesOn plan.now old v frames.old.items onward }
+    requires some { 0 < length frames.old.items }
+    ensures { (old : List Frame) (v : Value) → GoesOn plan.now old v frames.old.items onward → SettlesFrom plan.now old (Next.Close v) frames.new.items result }
+{
+    match onward {
+        Onward::Item { wanted } => Ok(Found::Wants { wanted }),
+        Onward::Value { of } => settle(alloc, plan, frames, Next::Open { of }),
+        Onward::Rest => {
+            let top = innermost(frames);
+            settle(alloc, plan, frames, Next::Part { top })
+        }
     }
 }
 

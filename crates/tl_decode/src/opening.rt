@@ -1,9 +1,9 @@
 //! The beginning of a value of an instance.
-ghost use Rattle.std.specs.Prelude.{◌≡◌, ◌<◌, ◌↔◌, IfOk, IsTrue, length};
+ghost use Rattle.std.specs.Prelude.{◌≡◌, ◌<◌, IfOk, IfSome, List, Ok, length};
 ghost use Rattle.tl_plan.specs.Plans.{IsPlan};
-ghost use Rattle.tl_decode.specs.inner.Frames.{AreWell, IsBare, IsFresh, IsInPlan, IsList, IsNumbered, StepsFrom, members_in, type_in};
+ghost use Rattle.tl_decode.specs.inner.Frames.{AreWell, GoesOn, IsBare, IsFresh, IsInPlan, IsList, IsNumbered, StepsFrom, members_in, type_in};
 
-use crate::stack::{Found, Frame, Next, Step, Stop, Wanted};
+use crate::stack::{Found, Frame, Next, Onward, Step, Stop, Wanted};
 use std::alloc::{AllocError, Global};
 use tl_plan::{Form, Plan};
 use tl_types::{Cause, MAX_LEVELS, Value};
@@ -31,6 +31,37 @@ pub fn open(alloc: Global, plan: &Plan, frames: &Vec<Frame>, of: u32) -> Result<
         Form::Boxed { .. } => open_numbered(plan, frames, of),
         Form::Call => open_numbered(plan, frames, of),
         Form::Bare { entry } => open_bare(alloc, plan, frames, of, entry),
+    }
+}
+
+/// What comes where the next part is a value of this instance.
+#[inline(always)]
+pub fn onward(plan: &Plan, of: u32) -> Onward
+    requires { IsInPlan plan.now of }
+    ensures { (old new : List Frame) (v : Value) → StepsFrom plan.now old (Next.Close v) new (Ok (Step.Goes (Next.Open of))) → GoesOn plan.now old v new result }
+{
+    match item_of(plan, of) {
+        Some(wanted) => Onward::Item { wanted },
+        None => Onward::Value { of },
+    }
+}
+
+// The item that a value of this instance is, if it is one.
+#[inline(always)]
+fn item_of(plan: &Plan, of: u32) -> Option<Wanted>
+    requires { IsInPlan plan.now of }
+    ensures { IfSome result (λ W. (fs : List Frame) → AreWell plan.now fs → StepsFrom plan.now fs (Next.Open of) fs (Ok (Step.Stops (Found.Wants W)))) }
+{
+    match plan.instance(of).form {
+        Form::Int => Some(Wanted::Int),
+        Form::Long => Some(Wanted::Long),
+        Form::Nat => Some(Wanted::Nat),
+        Form::Double => Some(Wanted::Opaque { width: 8 }),
+        Form::Int128 => Some(Wanted::Opaque { width: 16 }),
+        Form::Int256 => Some(Wanted::Opaque { width: 32 }),
+        Form::Str => Some(Wanted::Text),
+        Form::Raw => Some(Wanted::Text),
+        _ => None,
     }
 }
 

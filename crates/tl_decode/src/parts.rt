@@ -84,6 +84,7 @@ fn field(
 
 /// A value becomes the next part of a list or a record. The instance of the part after it is answered; None where no part is left, or a field isn't
 /// there.
+#[inline(always)]
 pub fn add(plan: &Plan, top: &mut Frame, value: Value) -> Result<Option<u32>, AllocError>
     requires { IsWellFrame plan.now top.old }
     ensures { IfOk result (Adds plan.now top.old value top.new) }
@@ -108,6 +109,7 @@ pub fn add(plan: &Plan, top: &mut Frame, value: Value) -> Result<Option<u32>, Al
 }
 
 // What comes after the fields that are there.
+#[inline(always)]
 fn coming(plan: &Plan, of: u32, member: usize, fields: &Vec<Value>) -> Coming
     requires { IsWellFrame plan.now (Frame.Record of member fields.now) }
     ensures { Comes plan.now of member fields.now result }

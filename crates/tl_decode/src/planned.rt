@@ -1,5 +1,5 @@
 //! Values of a plan's roots, from a source.
-ghost use Rattle.std.specs.Prelude.{◌≡◌, ◌≤◌, ◌<◌, ◌++◌, ℕ, List, IfSome, IfOk, IsErrOf, map};
+ghost use Rattle.std.specs.Prelude.{◌≡◌, ◌≤◌, ◌<◌, ◌++◌, ℕ, List, IfSome, IfOk, IsErrOf};
 ghost use Rattle.tl_base.specs.Using.{Used};
 ghost use Rattle.tl_schema.specs.Types.{Shape};
 ghost use Rattle.tl_plan.specs.PlanLaws.{IsInstance};

@@ -69,6 +69,17 @@ pub enum Coming {
     Field { of: u32 },
 }
 
+/// What comes after a value that became a part of the innermost list or record.
+#[derive(Clone, Copy)]
+pub enum Onward {
+    /// An item is looked for.
+    Item { wanted: Wanted },
+    /// A value of this instance is to be read.
+    Value { of: u32 },
+    /// A field isn't there, or the list or record is whole.
+    Rest,
+}
+
 /// Where nothing goes on without bytes.
 #[derive(Drop)]
 pub enum Found {

@@ -1,8 +1,7 @@
 //! What comes after an item.
-ghost use Rattle.std.specs.Prelude.{◌≡◌, ◌<◌, ℕ, Some, None, IfSome, IfNone, IfOk, List, length, map, slice_get};
+ghost use Rattle.std.specs.Prelude.{◌≡◌, ◌<◌, ℕ, Some, None, IfSome, IfNone, List, length, slice_get};
 ghost use Rattle.tl_plan.specs.PlanLaws.{StandsIn};
-ghost use Rattle.tl_plan.specs.Seen.{member_view};
-ghost use Rattle.tl_decode.specs.inner.Frames.{IsInPlan, IsNumbered, IsWellWanted, Takes, entries_shown, entry_in, find_in, item_view, members_in, type_in};
+ghost use Rattle.tl_decode.specs.inner.Frames.{IsInPlan, IsWellWanted, Takes, entries_shown, entry_in, find_in, item_view, members_in, type_in};
 
 use crate::decoder::wrong;
 use crate::members::{function, member};

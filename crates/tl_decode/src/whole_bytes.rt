@@ -1,5 +1,5 @@
 //! Values that are the whole of bytes in memory.
-ghost use Rattle.std.specs.Prelude.{◌≡◌, ◌≢◌, ◌<◌, Err};
+ghost use Rattle.std.specs.Prelude.{◌≢◌, ◌<◌, Err};
 ghost use Rattle.tl_base.specs.Contents.{AreBytes};
 ghost use Rattle.tl_schema.specs.Types.{Shape};
 ghost use Rattle.tl_schema.specs.Formed.{IsFormed};

@@ -30,6 +30,8 @@ use Rattle.tl_decode.specs.declared.stack.Item.{Item}
 use Rattle.tl_decode.specs.declared.stack.Item.TheVariants as item
 use Rattle.tl_decode.specs.declared.stack.Next.{Next}
 use Rattle.tl_decode.specs.declared.stack.Next.TheVariants as next
+use Rattle.tl_decode.specs.declared.stack.Onward.{Onward}
+use Rattle.tl_decode.specs.declared.stack.Onward.TheVariants as onward
 use Rattle.tl_decode.specs.declared.stack.Found.{Found}
 use Rattle.tl_decode.specs.declared.stack.Found.TheVariants as found
 use Rattle.tl_decode.specs.declared.stack.Step.{Step}
@@ -299,6 +301,12 @@ IsWith p f v g = (frame_view p g ≡ with_value (frame_view p f) (view v)) × Is
 abbrev pub Adds : PlanView → Frame → Value → Frame → Option ℕ → Type 0
 Adds p f v g None = IsWith p f v g
 Adds p f v g (Some j) = (h : Frame) × IsWith p f v h × Opens p h g j
+
+-- a value became a part of the innermost frame, and this comes then
+abbrev pub GoesOn : PlanView → List Frame → Value → List Frame → Onward → Type 0
+GoesOn p old v new (onward.Item W) = StepsFrom p old (next.Close v) new (Ok (step.Stops (found.Wants W)))
+GoesOn p old v new (onward.Value j) = StepsFrom p old (next.Close v) new (Ok (step.Goes (next.Open j)))
+GoesOn p old v new onward.Rest = (fs : List Frame) (f : Frame) → new ≡ fs ++ f ∷ [] → StepsFrom p old (next.Close v) fs (Ok (step.Goes (next.Part f)))
 
 -- ---- types whose values have parts
 

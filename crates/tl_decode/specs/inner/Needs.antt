@@ -13,12 +13,14 @@ use Rattle.tl_decode.specs.declared.fault.DecodeFault.TheVariants as fault
 use Rattle.tl_decode.specs.declared.stack.Wanted.{Wanted}
 use Rattle.tl_decode.specs.declared.stack.Wanted.TheVariants as wanted
 use Rattle.tl_decode.specs.declared.stack.Item.{Item}
+use Rattle.tl_decode.specs.declared.stack.Item.TheVariants as item
+use Rattle.tl_decode.specs.declared.stack.Next.TheVariants as next_step
 use Rattle.tl_decode.specs.declared.stack.Found.{Found}
 use Rattle.tl_decode.specs.declared.stack.Found.TheVariants as found
 use Rattle.tl_decode.specs.declared.stack.Reading.{Reading}
 use Rattle.tl_decode.specs.declared.stack.Stop.{Stop}
 use Rattle.tl_decode.specs.declared.stack.Stop.TheVariants as stop
-use Rattle.tl_decode.specs.inner.Frames.{views, item_at, item_view, found_at, found_work, is_truncated, AreWell, IsStop, IsWellFound, IsWellWanted}
+use Rattle.tl_decode.specs.inner.Frames.{views, item_at, item_view, found_at, found_work, is_truncated, AreWell, IsStop, IsWellFound, IsWellWanted, Takes, word}
 
 -- ---- items
 
@@ -94,6 +96,23 @@ TakesItem p old work next new at (Err (fault.Refused place cause)) = (is_truncat
 TakesItem p old work next new at (Err fault.ReadFault) = ⊥
 TakesItem p old work next new at (Err fault.Memory) = Unit {0}
 
+-- ---- words that are values
+
+-- the next four bytes are this value, and nothing is held
+abbrev pub IsNextValue : Wanted → List ℕ → List ℕ → Value → Type 0
+IsNextValue W held next v = (w : ℕ) × FindsItem W held held next (Ok (Some (item.Word w, 4))) × ((p : PlanView) → Takes p W (word w) (Ok (next_step.Close v)))
+
+-- after so many of the next bytes: what was read on is read on from the new state, or the value is there, however the input goes on
+abbrev pub EndsWords : PlanView → (List ℕ → Read ValueView) → List ℕ → Reading → ℕ → ℕ → Option Value → Type 0
+EndsWords p old next new at n None = IsInOrder p new × ((more : List ℕ) → old (next ++ more) ≡ reads_on p new at (drop n next ++ more))
+EndsWords p old next new at n (Some v) = (more : List ℕ) → old (next ++ more) ≡ Ok (view v, spot at (drop n next ++ more))
+
+abbrev pub TakesWords : PlanView → (List ℕ → Read ValueView) → List ℕ → Reading → ℕ → Result (Option Value × ℕ) DecodeFault → Type 0
+TakesWords p old next new at (Ok x) = (x.1 ≤ length next) × EndsWords p old next new at x.1 x.0
+TakesWords p old next new at (Err (fault.Refused place cause)) = (is_truncated cause ≡ false) × ((more : List ℕ) → old (next ++ more) ≡ Err (place, cause))
+TakesWords p old next new at (Err fault.ReadFault) = ⊥
+TakesWords p old next new at (Err fault.Memory) = Unit {0}
+
 -- ---- how often a decoder asks for more
 
 -- as often as this, at most: there are fewer items to come, or more bytes are held of the one that is looked for
@@ -111,3 +130,7 @@ abbrev pub PieceLess : PlanView → ℕ → List ℕ → Reading → Result (Opt
 PieceLess p work piece new (Ok None) = 0 < length piece → piece_work p new < work
 PieceLess p work piece new (Ok (Some x)) = Unit {0}
 PieceLess p work piece new (Err e) = Unit {0}
+
+-- words that were taken leave less to come
+abbrev pub WorksLess : PlanView → Reading → Reading → ℕ → Type 0
+WorksLess p old new n = (piece_work p new ≤ piece_work p old) × (0 < n → piece_work p new < piece_work p old)
