@@ -1,8 +1,8 @@
 //! Whether a value fits an instance of a plan, its parts aside.
-ghost use Rattle.std.specs.Prelude.{◌≡◌};
+ghost use Rattle.std.specs.Prelude.{◌≡◌, IsTrue};
 ghost use Rattle.tl_types.specs.Fitting.{has_constructor, has_count, has_kind, has_width, is_constructor, is_kind, node_misfit};
 ghost use Rattle.tl_types.specs.Seen.{view};
-ghost use Rattle.tl_encode.specs.inner.Forms.{outermost};
+ghost use Rattle.tl_encode.specs.inner.Forms.{IsPlain, outermost};
 
 use crate::frames::Part;
 use tl_plan::Form;
@@ -17,6 +17,9 @@ pub fn node_misfit(part: Part, schema: &Schema, levels: u32, form: Form) -> Opti
     ensures { result ≡ node_misfit schema.now.decls levels part.entry.bit (outermost form) (view part.entry.value.now) }
 {
     let value = part.value;
+    if part.bit.is_none() && is_plain(value, form) && is_in_range(value) {
+        return None;
+    }
     if !has_kind(value, part.bit, form) {
         Some(MisfitCause::WrongKind)
     } else if !has_constructor(value, schema, form) {
@@ -31,6 +34,21 @@ pub fn node_misfit(part: Part, schema: &Schema, levels: u32, form: Form) -> Opti
         Some(MisfitCause::TooDeep)
     } else {
         None
+    }
+}
+
+// Whether the value is a number or a string, as the form is: most are, and fit where they are in range.
+#[inline(always)]
+fn is_plain(value: &Value, form: Form) -> bool
+    ensures { IsTrue result → IsPlain (outermost form) (view value.now) }
+{
+    match (form, value) {
+        (Form::Int, Value::Int(_)) => true,
+        (Form::Long, Value::Long(_)) => true,
+        (Form::Nat, Value::Nat(_)) => true,
+        (Form::Str, Value::Text(_)) => true,
+        (Form::Raw, Value::Text(_)) => true,
+        _ => false,
     }
 }
 
