@@ -1,11 +1,12 @@
 -- Text that is JSON, a token at a time: how lists and objects go on.
-use Rattle.std.proofs.Common.{◌≡◌, ℕ, ◌-◌, ◌<◌, ◌≤◌, List, [], ◌∷◌, ◌++◌, length, Option, Some, None, option_map, option_and_then, refl, ap, ◌∙◌, subst}
+use Rattle.std.proofs.Common.{◌≡◌, ℕ, ℤ, ◌-◌, ◌<◌, ◌≤◌, List, [], ◌∷◌, ◌++◌, length, Option, Some, None, option_map, option_and_then, refl, ap, ◌∙◌, subst}
 use Rattle.std.specs.Prelude.{IfSome}
 use Rattle.json.specs.Token.{Token}
 use Rattle.json.specs.Json as json
 use Rattle.json.specs.Json.{Parse, parse_map, after_end_array, read_key, items, members, if_last}
 use Rattle.json.proofs.Grammar.{items_end, items_more, members_end, members_more}
 use Rattle.serde_json.specs.Data.{Data, Num, number, array, object, Items, no_items, item, Members, no_members, put}
+use Rattle.serde_json.specs.Find.{as_integer}
 use Rattle.serde_json.specs.Read.{of_json, of_items, of_members, converted}
 use Rattle.serde_json.specs.View.{view, items_view}
 use Rattle.serde_json.specs.declared.value.Value.{Value}
@@ -87,6 +88,9 @@ none_before (Some p) = refl
 
 pub same_number : (o p : Option Num) (r : Option Value) → o ≡ p → IfSome r (λ v. option_map number o ≡ Some (view v)) → IfSome r (λ v. option_map number p ≡ Some (view v))
 same_number o p r e h = subst (λ (x : Option Num). IfSome r (λ v. option_map number x ≡ Some (view v))) e h
+
+pub same_whole : (o p : Option Num) (r : Option ℤ) → o ≡ p → IfSome r (λ n. option_and_then as_integer o ≡ Some n) → IfSome r (λ n. option_and_then as_integer p ≡ Some n)
+same_whole o p r e h = subst (λ (x : Option Num). IfSome r (λ n. option_and_then as_integer x ≡ Some n)) e h
 
 -- ---- the whole text
 

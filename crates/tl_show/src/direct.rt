@@ -2,7 +2,8 @@
 ghost use Rattle.std.specs.Prelude.{◌≡◌, ◌<◌, ◌≤◌, ◌∷◌, ℕ, List, [], IfOk, IfSome, IsSomeAnd, OnOk, codes, length, map, option_map, replicate, slice_get, string_bytes, true, Some, Ok};
 ghost use Rattle.json.specs.Token as token;
 ghost use Rattle.json.specs.Json.{items, value};
-ghost use Rattle.serde_json.specs.Data.{Data, Items, Members, member, no_members, number, string};
+ghost use Rattle.serde_json.specs.Data.{Data, Items, Members, Num, member, no_members, number, string};
+ghost use Rattle.serde_json.specs.Find.{as_integer};
 ghost use Rattle.serde_json.specs.Read.{converted, number_of, of_items};
 ghost use Rattle.serde_json.specs.View.{view as data_of};
 ghost use Rattle.tl_schema.specs.Closing.{closed};
@@ -17,7 +18,7 @@ use crate::keyed::{KeyedField, KeyedSchema};
 use crate::plain::{plain_of, text_of};
 use crate::reading::value_of;
 use crate::records::{is_record, record_value};
-use crate::tokens::{GivenUp, add_member, add_members, members_of, whole_number};
+use crate::tokens::{GivenUp, add_member, add_members, members_of, whole_in};
 use json::{Reader, Token};
 use serde_json::Map;
 use std::alloc::{AllocError, Global};
@@ -38,7 +39,7 @@ pub fn value_in(
 {
     let token = tokens.next().ok_or(GivenUp)?;
     match token {
-        Token::Number(text) => number_in(alloc, text, of),
+        Token::Number(text) => number_in(text, of),
         Token::String(text) => text_in(alloc, text, of),
         Token::Bool(b) => plain_in(alloc, &serde_json::Value::Bool(b), of),
         Token::BeginArray => list_in(alloc, tokens, depth, schema, of),
@@ -50,13 +51,30 @@ pub fn value_in(
 }
 
 // The value that a number is.
-fn number_in(alloc: Global, text: &str, of: &TypeRef) -> Result<Value, GivenUp>
+fn number_in(text: &str, of: &TypeRef) -> Result<Value, GivenUp>
     ensures { IfOk result (λ v. (d : Data) × (option_map number (number_of text.now) ≡ Some d) × (plain (shape of.now) d ≡ Ok (view v))) }
 {
-    let Some(json) = whole_number(text) else {
-        return Err(GivenUp);
-    };
-    plain_in(alloc, &json, of)
+    let whole = whole_in(text).ok_or(GivenUp)?;
+    whole_value(whole, of).ok_or(GivenUp)
+}
+
+// The value of a type that a whole number is.
+#[inline(always)]
+fn whole_value(whole: i64, of: &TypeRef) -> Option<Value>
+    ensures { IfSome result (λ v. (m : Num) → as_integer m ≡ Some whole → plain (shape of.now) (number m) ≡ Ok (view v)) }
+{
+    match of {
+        TypeRef::Int => match i32::try_from(whole) {
+            Ok(number) => Some(Value::Int(number)),
+            Err(_) => None,
+        },
+        TypeRef::Long => Some(Value::Long(whole)),
+        TypeRef::Nat => match u32::try_from(whole) {
+            Ok(number) => Some(Value::Nat(number)),
+            Err(_) => None,
+        },
+        _ => None,
+    }
 }
 
 // The value that a text is.
@@ -244,9 +262,13 @@ fn none_there(alloc: Global, count: usize) -> Result<Vec<Value>, AllocError>
 }
 
 // The place of the field with a key. It is looked for at a place and after that, and then before.
+#[inline(always)]
 fn place_of(key: &str, fields: &[KeyedField<'_>], first: usize) -> Option<usize>
     ensures { IfSome result (λ i. IsSomeAnd (slice_get fields.now i) (λ f. string_bytes f.key ≡ key.now)) }
 {
+    if first < fields.len() && key == fields[first].key.as_str() {
+        return Some(first);
+    }
     match place_from(key, fields, first) {
         Some(i) => Some(i),
         None => place_from(key, fields, 0),

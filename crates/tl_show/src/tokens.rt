@@ -1,8 +1,9 @@
 //! JSON from its tokens, one value at a time. What isn't common is given up, and left to `serde_json`: text that is no JSON, and a number that isn't
 //! whole or is past 64 bits.
-ghost use Rattle.std.specs.Prelude.{◌≡◌, ◌<◌, ◌≤◌, ℕ, length, true, false, Some, option_map, IfOk, IfSome, OnOk, IsTrue, ◌==◌, slice_index};
+ghost use Rattle.std.specs.Prelude.{◌≡◌, ◌<◌, ◌≤◌, ℕ, length, true, false, Some, option_and_then, option_map, IfOk, IfSome, OnOk, IsTrue, ◌==◌, slice_index};
 ghost use Rattle.json.specs.Json.{items, value};
 ghost use Rattle.serde_json.specs.Data.{Data, no_members, number, put};
+ghost use Rattle.serde_json.specs.Find.{as_integer};
 ghost use Rattle.serde_json.specs.Read.{converted, number_from, number_of, of_items, of_json};
 ghost use Rattle.serde_json.specs.View.{view as data_of, items_view, members_view};
 ghost use Rattle.tl_show.specs.inner.Direct.{GoesOnTo};
@@ -178,6 +179,37 @@ fn below_zero(numeral: &Numeral<'_>) -> Option<Value>
 {
     match numeral.to_i64(true) {
         Some(whole) if whole < 0 => Some(Value::from(whole)),
+        _ => None,
+    }
+}
+
+/// The whole number that a token writes, if an `i64` has it.
+#[inline(always)]
+pub fn whole_in(text: &str) -> Option<i64>
+    ensures { IfSome result (λ n. option_and_then as_integer (number_of text.now) ≡ Some n) }
+{
+    let bytes = text.as_bytes();
+    if has_minus(bytes) {
+        whole_below_zero(&Numeral::scan(&bytes[1..]))
+    } else {
+        whole_from_zero(&Numeral::scan(bytes))
+    }
+}
+
+#[inline(always)]
+fn whole_from_zero(numeral: &Numeral<'_>) -> Option<i64>
+    ensures { IfSome result (λ n. option_and_then as_integer (number_from false numeral.now) ≡ Some n) }
+{
+    numeral.to_i64(false)
+}
+
+// `-0` is a float.
+#[inline(always)]
+fn whole_below_zero(numeral: &Numeral<'_>) -> Option<i64>
+    ensures { IfSome result (λ n. option_and_then as_integer (number_from true numeral.now) ≡ Some n) }
+{
+    match numeral.to_i64(true) {
+        Some(whole) if whole < 0 => Some(whole),
         _ => None,
     }
 }
