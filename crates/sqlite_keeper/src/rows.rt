@@ -24,13 +24,11 @@ fn id_of(bytes: &[u8]) -> Option<i32> {
 // Ids of four bytes each, the lowest first; none where some bytes are left.
 fn ids_of(alloc: Global, bytes: &[u8]) -> Result<Option<Ids>, AllocError> {
     let mut ids = Ids::new(alloc);
-    let mut at = 0usize;
-    while at < bytes.len() {
-        if bytes.len() - at < 4 {
-            return Ok(None);
+    for piece in bytes.chunks(4) {
+        match id_of(piece) {
+            Some(id) => ids.push(id)?,
+            None => return Ok(None),
         }
-        ids.push(i32_of([bytes[at], bytes[at + 1], bytes[at + 2], bytes[at + 3]]))?;
-        at += 4;
     }
     Ok(Some(ids))
 }
