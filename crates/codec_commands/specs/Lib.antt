@@ -3,3 +3,4 @@ pub mod Check
 pub mod Decode
 pub mod Encode
 pub mod Inputs
+pub mod Spelled

@@ -1,55 +1,83 @@
 -- The value that an input of JSON is, from its text and its file.
-use Rattle.std.proofs.Common.{◌≡◌, ℕ, ◌<◌, ◌≤◌, List, ◌++◌, length, None, Result, Ok, Err, ap, arith}
-use Rattle.std.specs.Prelude.{IfOk}
+use Rattle.std.proofs.Common.{◌≡◌, ℕ, ◌<◌, ◌≤◌, List, ◌++◌, length, None, Option, Result, Ok, Err, ap, arith}
+use Rattle.std.specs.Prelude.{IsErrOf}
 use Rattle.std.proofs.lemmas.List.{length-append}
+use Rattle.tl_base.specs.Outside.{View}
+use Rattle.tl_base.specs.Calls.{Told}
 use Rattle.tl_base.specs.declared.host.Slot.TheVariants.{Input}
 use Rattle.tl_schema.specs.Types.{Shape}
 use Rattle.tl_schema.specs.Schemas.{Declared}
-use Rattle.tl_types.specs.Fitting.{misfit}
+use Rattle.tl_types.specs.Fitting.{TellsMisfit, misfit}
 use Rattle.tl_types.specs.Seen.{view}
+use Rattle.tl_types.specs.Values.{ValueView}
+use Rattle.tl_types.specs.declared.misfit.FitFault.{FitFault}
+use Rattle.tl_types.specs.declared.misfit.FitFault.TheVariants as fit
 use Rattle.tl_types.specs.declared.value.Value.{Value}
 use Rattle.tl_types.specs.declared.value.TheConstants.{MAX_LEVELS}
 use Rattle.tl_show.specs.Texts.{TellsText}
-use Rattle.tl_show.specs.declared.fault.JsonFault.TheVariants as json
-use Rattle.tl_show.specs.declared.fault.TextReadFault.{TextReadFault}
-use Rattle.tl_show.specs.declared.fault.TextReadFault.TheVariants as reading
+use Rattle.tl_show.specs.declared.fault.TextFault.{TextFault}
+use Rattle.tl_show.specs.declared.fault.TextFault.TheVariants as reading
 use Rattle.command_base.specs.declared.stop.Unmade.{Unmade}
-use Rattle.command_base.specs.Loading.{Refuses, RefusesAs}
+use Rattle.command_base.specs.declared.stop.Unmade.TheVariants as unmade
+use Rattle.command_base.specs.Loading.{Gives, Loads, Refuses, RefusesAs}
 use Rattle.command_base.proofs.Loaded.{refuses_as, memory_refuses, StaysLong}
+use Rattle.command_base.proofs.Views.{told_as}
 use Rattle.schema_files.specs.declared.json_input.TheConstants.{JSON_BYTES}
 use Rattle.schema_files.specs.Causes.{JsonCause, TooLong, NoJson, Unformed, Misfit}
 use Rattle.schema_files.specs.Lines.{json_line}
-use Rattle.schema_files.specs.JsonInput.{JsonRefused}
-use Rattle.schema_files.specs.Parts.{IsJsonValue, TellsJson, ReadsJson}
-use Rattle.schema_files.specs.inner.Tellings.{TellsNoJson}
+use Rattle.schema_files.specs.JsonInput.{FormRefused, IsForm}
+use Rattle.schema_files.specs.Parts.{IsFormValue, LoadsForm, TellsForm, TellsJson, TellsUnfit}
+use Rattle.schema_files.specs.inner.Tellings.{TellsNoForm}
+
+-- telling of a value that doesn't fit is no failed read
+pub unfit_unread : {X : Type 0} (f : FitFault) (u : Unmade) → TellsUnfit f u → IsErrOf {T = X} (Err u) unmade.ReadFault → ⊥
+unfit_unread (fit.Misfit m) (unmade.Refused line) h failed = absurd cc
+unfit_unread (fit.Misfit m) unmade.ReadFault h failed = h
+unfit_unread (fit.Misfit m) unmade.Memory h failed = absurd cc
+unfit_unread fit.Memory (unmade.Refused line) h failed = absurd cc
+unfit_unread fit.Memory unmade.ReadFault h failed = absurd cc
+unfit_unread fit.Memory unmade.Memory h failed = absurd cc
 
 module _ (schema : Declared) (T : Shape) where
   -- ---- a text
 
-  pub told : (bytes : List ℕ) (cause : JsonCause) (u : Unmade) → JsonRefused schema T bytes cause → RefusesAs (json_line cause) u → Refuses (TellsJson schema T bytes) u
-  told bytes cause u refused = refuses_as (λ line. line ≡ json_line cause) (TellsJson schema T bytes) u (λ line is. (cause, refused, is))
+  told : (bytes : List ℕ) (cause : JsonCause) (u : Unmade) → FormRefused schema T bytes cause → RefusesAs (json_line cause) u → Refuses (TellsForm schema T bytes) u
+  told bytes cause u refused = refuses_as (λ line. line ≡ json_line cause) (TellsForm schema T bytes) u (λ line is. (cause, refused, is))
 
-  pub no_value : (bytes : List ℕ) (f : TextReadFault) (u : Unmade) → length bytes ≤ JSON_BYTES → TellsText schema.decls T bytes (Err f) → TellsNoJson f u → Refuses (TellsJson schema T bytes) u
-  no_value bytes reading.NoJson u few none = told bytes NoJson u (few, none)
-  no_value bytes (reading.Unread (json.Form path cause)) u few (d, is, tells) = told bytes (Unformed path.items cause) u (d, (few, is.0, is.1), tells)
-  no_value bytes (reading.Unread (json.Misfit m)) u few (d, is, tells) = told bytes (Misfit m.path.items m.cause) u (d, tells.0, (few, is.0, is.1), tells.1, tells.2)
-  no_value bytes (reading.Unread json.Memory) u few tells = memory_refuses (TellsJson schema T bytes) u
+  pub no_form : (bytes : List ℕ) (f : TextFault) (u : Unmade) → length bytes ≤ JSON_BYTES → TellsText schema.decls T bytes (Err f) → TellsNoForm f u → Refuses (TellsForm schema T bytes) u
+  no_form bytes reading.NoJson u few none = told bytes NoJson u (few, none)
+  no_form bytes (reading.Form path cause) u few (d, is, tells) = told bytes (Unformed path.items cause) u (d, (few, is.0, is.1), tells)
+  no_form bytes reading.Memory u few tells = memory_refuses (TellsForm schema T bytes) u
 
-  -- what is read fits
-  pub fits : (bytes : List ℕ) (r : Result Value Unmade) → ReadsJson schema T bytes r → IfOk r (λ value. misfit schema.decls MAX_LEVELS None T (view value) ≡ None)
-  fits bytes (Ok value) h = h.3
-  fits bytes (Err u) h = tt
+  -- a value that doesn't fit is told of
+  pub unfit : (bytes : List ℕ) (v : ValueView) (f : FitFault) (u : Unmade) → IsForm schema T bytes v → TellsMisfit (misfit schema.decls MAX_LEVELS None T v) (Err f) → TellsUnfit f u → Refuses (TellsJson schema T bytes) u
+  unfit bytes v (fit.Misfit m) u (d, is, as_read) tells is_told =
+      refuses_as (λ line. line ≡ json_line (Misfit m.path.items m.cause)) (TellsJson schema T bytes) u
+      (λ line says. (Misfit m.path.items m.cause, (d, v, is, as_read, tells), says)) is_told
+  unfit bytes v fit.Memory u is tells is_told = memory_refuses (TellsJson schema T bytes) u is_told
 
   -- ---- a file
 
   -- a text that is too long stays so, and is refused for nothing else
-  long_json : (bytes read rest : List ℕ) (cause : JsonCause) → bytes ≡ read ++ rest → JSON_BYTES < length read → JsonRefused schema T read cause → JsonRefused schema T bytes cause
-  long_json bytes read rest TooLong e long h = omega (arith, ap length e, length-append read rest)
-  long_json bytes read rest NoJson e long h = absurd (omega (arith, h.0))
-  long_json bytes read rest (Unformed path cause) e long (d, is, as_read) = absurd (omega (arith, is.0))
-  long_json bytes read rest (Misfit path cause) e long (d, v, is, as_read, has) = absurd (omega (arith, is.0))
+  long_form : (bytes read rest : List ℕ) (cause : JsonCause) → bytes ≡ read ++ rest → JSON_BYTES < length read → FormRefused schema T read cause → FormRefused schema T bytes cause
+  long_form bytes read rest TooLong e long h = omega (arith, ap length e, length-append read rest)
+  long_form bytes read rest NoJson e long h = absurd (omega (arith, h.0))
+  long_form bytes read rest (Unformed path cause) e long (d, is, as_read) = absurd (omega (arith, is.0))
+  long_form bytes read rest (Misfit path cause) e long h = absurd h
 
-  pub stays_long : (name : List ℕ) → StaysLong Input name JSON_BYTES (IsJsonValue schema T) (TellsJson schema T)
-  stays_long name bytes read rest (Ok value) e long (d, is, as_read, fits) = absurd (omega (arith, is.0))
+  pub stays_long : (name : List ℕ) → StaysLong Input name JSON_BYTES (IsFormValue schema T) (TellsForm schema T)
+  stays_long name bytes read rest (Ok value) e long (d, is, as_read) = absurd (omega (arith, is.0))
   stays_long name bytes read rest (Err u) e long h =
-      refuses_as (TellsJson schema T read) (TellsJson schema T bytes) u (λ line (cause, refused, is). (cause, long_json bytes read rest cause e long refused, is)) h
+      refuses_as (TellsForm schema T read) (TellsForm schema T bytes) u (λ line (cause, refused, is). (cause, long_form bytes read rest cause e long refused, is)) h
+
+  -- what is made of a value is made of each file that is its form
+  made_there : {X : Type 0} (Is : List ℕ → X → Type 0) (Tells : List ℕ → List ℕ → Type 0) (name : List ℕ) (value : Value) (r : Result X Unmade) (v w : View)
+      → ((bytes : List ℕ) → IsForm schema T bytes (view value) → Gives Is Tells bytes r) → LoadsForm schema T name (Ok value) v w → Loads Input name Is Tells r v w
+  made_there Is Tells name value (Ok x) v w makes ((bytes, has, is), only) = ((bytes, has, makes bytes is), only)
+  made_there Is Tells name value (Err (unmade.Refused line)) v w makes ((bytes, has, is), only) = ((bytes, has, makes bytes is), only)
+  made_there Is Tells name value (Err unmade.ReadFault) v w makes file = file.1
+  made_there Is Tells name value (Err unmade.Memory) v w makes file = file.1
+
+  pub made_of_form : {X : Type 0} (Is : List ℕ → X → Type 0) (Tells : List ℕ → List ℕ → Type 0) (name : List ℕ) (value : Value) (r : Result X Unmade) (a b : Option View)
+      → ((bytes : List ℕ) → IsForm schema T bytes (view value) → Gives Is Tells bytes r) → Told a b (LoadsForm schema T name (Ok value)) → Told a b (Loads Input name Is Tells r)
+  made_of_form Is Tells name value r a b makes = told_as a b (LoadsForm schema T name (Ok value)) (Loads Input name Is Tells r) (λ v w. made_there Is Tells name value r v w makes)

@@ -19,6 +19,10 @@ IsJson bytes d = (length bytes ≤ JSON_BYTES) × IsUtf8 bytes × (read_text byt
 abbrev pub IsNoJson : List ℕ → Type 0
 IsNoJson bytes = (length bytes ≤ JSON_BYTES) × (IsUtf8 bytes → read_text bytes ≡ None)
 
+-- the bytes are the JSON that is the form of the value, whether it fits the type or not
+abbrev pub IsForm : Declared → Shape → List ℕ → ValueView → Type 0
+IsForm schema T bytes v = (d : Data) × IsJson bytes d × (read schema.decls T d ≡ Ok v)
+
 -- the bytes are the JSON of the value, which fits the type
 abbrev pub IsJsonOf : Declared → Shape → List ℕ → ValueView → Type 0
 IsJsonOf schema T bytes v = (d : Data) × IsJson bytes d × (read schema.decls T d ≡ Ok v) × (misfit schema.decls MAX_LEVELS None T v ≡ None)
@@ -30,3 +34,8 @@ JsonRefused schema T bytes NoJson = IsNoJson bytes
 JsonRefused schema T bytes (Unformed path cause) = (d : Data) × IsJson bytes d × (read schema.decls T d ≡ Err (path, cause))
 JsonRefused schema T bytes (Misfit path cause) =
     (d : Data) × (v : ValueView) × IsJson bytes d × (read schema.decls T d ≡ Ok v) × (misfit schema.decls MAX_LEVELS None T v ≡ Some (path, cause))
+
+-- the bytes are the form of no value, for this cause
+abbrev pub FormRefused : Declared → Shape → List ℕ → JsonCause → Type 0
+FormRefused schema T bytes (Misfit path cause) = ⊥
+FormRefused schema T bytes cause = JsonRefused schema T bytes cause

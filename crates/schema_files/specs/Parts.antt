@@ -11,11 +11,14 @@ use Rattle.tl_schema.specs.declared.schema.TypeRef.{TypeRef}
 use Rattle.tl_plan.specs.Plans.{PlanView, answer}
 use Rattle.tl_types.specs.Seen.{view}
 use Rattle.tl_types.specs.declared.value.Value.{Value}
+use Rattle.tl_types.specs.declared.misfit.FitFault.{FitFault}
+use Rattle.tl_types.specs.declared.misfit.FitFault.TheVariants as fit
 use Rattle.command_base.specs.declared.stop.Unmade.{Unmade}
-use Rattle.command_base.specs.Loading.{Refuses, Gives, Loads}
-use Rattle.schema_files.specs.Causes.{SchemaCause, TypeNameCause, PlanCause, JsonCause}
+use Rattle.command_base.specs.declared.stop.Unmade.TheVariants as unmade
+use Rattle.command_base.specs.Loading.{Refuses, RefusesAs, Gives, Loads}
+use Rattle.schema_files.specs.Causes.{SchemaCause, TypeNameCause, PlanCause, JsonCause, Misfit}
 use Rattle.schema_files.specs.Loaded.{IsSchemaText, SchemaRefused, TypeNameRefused, PlanRefused}
-use Rattle.schema_files.specs.JsonInput.{IsJsonOf, JsonRefused}
+use Rattle.schema_files.specs.JsonInput.{FormRefused, IsForm, IsJsonOf, JsonRefused}
 use Rattle.schema_files.specs.Lines.{schema_line, type_line, plan_line, json_line}
 
 -- ---- schemas
@@ -55,6 +58,26 @@ PlansType schema T (Ok p) = answer schema (T ∷ []) ≡ Ok p
 PlansType schema T (Err fault) = Refuses (TellsPlan schema T) fault
 
 -- ---- inputs of JSON
+
+abbrev pub IsFormValue : Declared → Shape → List ℕ → Value → Type 0
+IsFormValue schema T bytes value = IsForm schema T bytes (view value)
+
+-- the line says why the bytes are the form of no value of the type
+abbrev pub TellsForm : Declared → Shape → List ℕ → List ℕ → Type 0
+TellsForm schema T bytes line = (cause : JsonCause) × FormRefused schema T bytes cause × (line ≡ json_line cause)
+
+-- the value that a text is the form of
+abbrev pub ReadsForm : Declared → Shape → List ℕ → Result Value Unmade → Type 0
+ReadsForm schema T bytes result = Gives (IsFormValue schema T) (TellsForm schema T) bytes result
+
+-- the value that a file is the form of
+abbrev pub LoadsForm : Declared → Shape → List ℕ → Result Value Unmade → View → View → Type 0
+LoadsForm schema T name result v w = Loads Input name (IsFormValue schema T) (TellsForm schema T) result v w
+
+-- what is told of a value that doesn't fit; out of memory has no line
+abbrev pub TellsUnfit : FitFault → Unmade → Type 0
+TellsUnfit (fit.Misfit told) u = RefusesAs (json_line (Misfit told.path.items told.cause)) u
+TellsUnfit fit.Memory u = u ≡ unmade.Memory
 
 abbrev pub IsJsonValue : Declared → Shape → List ℕ → Value → Type 0
 IsJsonValue schema T bytes value = IsJsonOf schema T bytes (view value)

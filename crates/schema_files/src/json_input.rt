@@ -1,5 +1,5 @@
 //! Values from inputs of JSON.
-ghost use Rattle.std.specs.Prelude.{◌≡◌, None, IfOk, IsErrOf};
+ghost use Rattle.std.specs.Prelude.{◌≡◌, ℕ, List, None, IfOk, IsErrOf};
 ghost use Rattle.tl_base.specs.Calls.{Told};
 ghost use Rattle.tl_base.specs.Outside.{IsThere};
 ghost use Rattle.tl_base.specs.Using.{MeetsFaults};
@@ -11,16 +11,17 @@ ghost use Rattle.tl_types.specs.declared.value.TheConstants.{MAX_LEVELS};
 ghost use Rattle.command_base.specs.Loading.{RefusesAs};
 ghost use Rattle.schema_files.specs.Causes.{Misfit, Unformed};
 ghost use Rattle.schema_files.specs.Lines.{json_line};
-ghost use Rattle.schema_files.specs.Parts.{LoadsJson, ReadsJson};
-ghost use Rattle.schema_files.specs.inner.Tellings.{TellsNoJson, TellsNoValue};
+ghost use Rattle.schema_files.specs.JsonInput.{IsForm};
+ghost use Rattle.schema_files.specs.Parts.{LoadsForm, LoadsJson, ReadsForm, ReadsJson, TellsUnfit};
+ghost use Rattle.schema_files.specs.inner.Tellings.{TellsNoForm};
 
 use crate::lines::{form_text, misfit_text};
 use command_base::Unmade;
 use std::alloc::Global;
 use tl_base::{Host, Slot, read_file};
 use tl_schema::{Schema, TypeRef};
-use tl_show::{FormCause, JsonFault, TextReadFault, read_text};
-use tl_types::{MisfitCause, Value};
+use tl_show::{FormCause, TextFault, read_text};
+use tl_types::{FitFault, MisfitCause, Value, fits};
 
 /// The most bytes that an input of JSON may have.
 pub const JSON_BYTES: u32 = 16_777_216;
@@ -45,30 +46,30 @@ fn misfit_unmade(alloc: Global, path: &[u32], cause: MisfitCause) -> Unmade
     }
 }
 
-// What is told of JSON that is no value.
-fn value_unmade(alloc: Global, fault: &JsonFault) -> Unmade
-    ensures { TellsNoValue fault.now result }
+/// What is told of JSON of a value that doesn't fit, or that memory was out.
+pub fn fit_unmade(alloc: Global, fault: &FitFault) -> Unmade
+    ensures { TellsUnfit fault.now result }
 {
     match fault {
-        JsonFault::Form { path, cause } => form_unmade(alloc, path, *cause),
-        JsonFault::Misfit(misfit) => misfit_unmade(alloc, &misfit.path, misfit.cause),
-        JsonFault::Memory => Unmade::Memory,
+        FitFault::Misfit(misfit) => misfit_unmade(alloc, &misfit.path, misfit.cause),
+        FitFault::Memory => Unmade::Memory,
     }
 }
 
-// What is told of a text that is the JSON of no value.
-fn json_unmade(alloc: Global, fault: &TextReadFault) -> Unmade
-    ensures { TellsNoJson fault.now result }
+// What is told of a text that is the form of no value.
+fn json_unmade(alloc: Global, fault: &TextFault) -> Unmade
+    ensures { TellsNoForm fault.now result }
 {
     match fault {
-        TextReadFault::NoJson => Unmade::unplaced(alloc, "input", "Json"),
-        TextReadFault::Unread(fault) => value_unmade(alloc, fault),
+        TextFault::NoJson => Unmade::unplaced(alloc, "input", "Json"),
+        TextFault::Form { path, cause } => form_unmade(alloc, path, *cause),
+        TextFault::Memory => Unmade::Memory,
     }
 }
 
-// The value that a text is the JSON of.
-fn value_of(alloc: Global, schema: &Schema, of: &TypeRef, text: &[u8]) -> Result<Value, Unmade>
-    ensures { ReadsJson schema.now (shape of.now) text.now result }
+// The value that a text is the form of.
+fn form_of(alloc: Global, schema: &Schema, of: &TypeRef, text: &[u8]) -> Result<Value, Unmade>
+    ensures { ReadsForm schema.now (shape of.now) text.now result }
 {
     if text.len() > JSON_BYTES as usize {
         return Err(Unmade::unplaced(alloc, "input", "TooLong"));
@@ -76,6 +77,33 @@ fn value_of(alloc: Global, schema: &Schema, of: &TypeRef, text: &[u8]) -> Result
     match read_text(alloc, schema, of, text) {
         Ok(value) => Ok(value),
         Err(fault) => Err(json_unmade(alloc, &fault)),
+    }
+}
+
+/// The value that the JSON of a file is the form of, whether it fits its type or not. The file is read by the slot Input.
+pub fn load_form<H: Host>(
+    alloc: Global,
+    host: &mut H,
+    schema: &Schema,
+    of: &TypeRef,
+    name: &str,
+) -> Result<Value, Unmade>
+    ensures loads { Told (H.state host.old).view (H.state host.new).view (LoadsForm schema.now (shape of.now) name.now result) }
+    ensures faults { MeetsFaults kinds.Reads (H.state host.old) (H.state host.new) (IsErrOf result Unmade.ReadFault) (IsThere name.now) }
+{
+    let text = read_file(alloc, host, Slot::Input, name, JSON_BYTES)?;
+    form_of(alloc, schema, of, &text)
+}
+
+// The value, if it fits.
+fn fitting(alloc: Global, schema: &Schema, of: &TypeRef, value: Value) -> Result<Value, Unmade>
+    ensures reads { (bytes : List ℕ) → IsForm schema.now (shape of.now) bytes (view value) → ReadsJson schema.now (shape of.now) bytes result }
+    ensures fits { IfOk result (λ v. misfit schema.now.decls MAX_LEVELS None (shape of.now) (view v) ≡ None) }
+    ensures unread { IsErrOf result Unmade.ReadFault → ⊥ }
+{
+    match fits(alloc, schema, of, &value) {
+        Ok(()) => Ok(value),
+        Err(fault) => Err(fit_unmade(alloc, &fault)),
     }
 }
 
@@ -91,6 +119,6 @@ pub fn load_json<H: Host>(
     ensures fits { IfOk result (λ value. misfit schema.now.decls MAX_LEVELS None (shape of.now) (view value) ≡ None) }
     ensures faults { MeetsFaults kinds.Reads (H.state host.old) (H.state host.new) (IsErrOf result Unmade.ReadFault) (IsThere name.now) }
 {
-    let text = read_file(alloc, host, Slot::Input, name, JSON_BYTES)?;
-    value_of(alloc, schema, of, &text)
+    let value = load_form(alloc, host, schema, of, name)?;
+    fitting(alloc, schema, of, value)
 }

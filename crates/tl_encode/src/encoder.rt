@@ -20,7 +20,7 @@ use crate::nodes::node_misfit;
 use crate::openings::frame_of;
 use crate::starts::{put_start, start_len};
 use crate::writing::write_bytes;
-use std::alloc::{AllocError, Global};
+use std::alloc::Global;
 use tl_base::Sink;
 use tl_plan::Plan;
 use tl_types::{FitFault, Misfit, Value};
@@ -59,33 +59,6 @@ pub fn spelling_of(
     ensures fits { (T : Shape) → IsInstance plan.now root T → TellsFit (misfit plan.now.schema.decls limits.MAX_LEVELS None T (view value.now)) result }
 {
     bytes_of(alloc, plan, plan.root(root), value)
-}
-
-/// The spelling of a value of a root's type that is known to fit.
-pub fn fitting_spelling<'a>(
-    alloc: Global,
-    plan: &'a Plan,
-    root: u32,
-    value: &'a Value,
-) -> Result<Vec<u8>, AllocError>
-    requires root { root < plan.now.roots }
-    requires fits { FitsInstance plan.now root (view value.now) }
-    ensures { (T : Shape) (spelling : List ℕ) → IsInstance plan.now root T → Spells plan.now.schema T (view value.now) spelling → IfOk result (λ bytes. bytes.items ≡ spelling) }
-{
-    let of = plan.root(root);
-    let mut bytes = Vec::new(alloc);
-    let mut stack = Stack::new();
-    let mut next = Some(Part {
-        value,
-        of,
-        bit: None,
-    });
-    while let Some(part) = next {
-        let form = plan.instance(part.of).form;
-        put_start(part.value, plan.schema(), form, &mut bytes)?;
-        next = step_over(plan, part, &mut stack);
-    }
-    Ok(bytes)
 }
 
 /// The length of the spelling of a value of a root's type, up to 2^64 - 1. It takes no memory.

@@ -14,7 +14,7 @@ mod texts;
 mod walk;
 mod writing;
 
-pub use encoder::{encode, fitting_spelling, spelled_len, spelling_of};
+pub use encoder::{encode, spelled_len, spelling_of};
 pub use fault::EncodeFault;
 pub use laws::each_spelling_reads_back;
 pub use spelling::spell;

@@ -44,15 +44,18 @@ pub enum JsonFault {
     Memory,
 }
 
-/// Why no value is read from a text.
+/// Why a text is the form of no value.
 #[derive(Debug, Drop, PartialEq, Eq, Error)]
-pub enum TextReadFault {
+pub enum TextFault {
     /// The text is no UTF-8, no JSON, or JSON of more than 127 levels.
     #[error("no JSON")]
     NoJson,
-    /// It is JSON, of which no value is read.
-    #[error("{0}")]
-    Unread(JsonFault),
+    /// It is JSON that isn't of the form of the type's values, for this cause at this part. The path is as that of `JsonFault`.
+    #[error("{cause}")]
+    Form { path: Vec<u32>, cause: FormCause },
+    /// There was no memory for the value, or for what it is read by.
+    #[error("out of memory")]
+    Memory,
 }
 
 // Why JSON isn't of a form, and where.
@@ -112,39 +115,30 @@ impl From<FitFault> for JsonFault {
     }
 }
 
-impl From<serde_json::Error> for TextReadFault {
+impl From<serde_json::Error> for TextFault {
     ghost use Rattle.tl_show.specs.inner.ReadFaults.{OfJsonError};
 
     ghost from_gives = { OfJsonError };
 
-    fn from(error: serde_json::Error) -> TextReadFault {
+    fn from(error: serde_json::Error) -> TextFault {
         if error.is_memory() {
-            return TextReadFault::Unread(JsonFault::Memory);
+            return TextFault::Memory;
         }
-        TextReadFault::NoJson
+        TextFault::NoJson
     }
 }
 
-impl From<JsonFault> for TextReadFault {
+impl From<FormFault> for TextFault {
     ghost use Rattle.std.specs.Prelude.{◌≡◌};
-    ghost use Rattle.tl_show.specs.declared.fault.TextReadFault.TheVariants.{Unread};
+    ghost use Rattle.tl_show.specs.inner.ReadFaults.{text_fault};
 
-    ghost from_gives = { λ f e. e ≡ Unread f };
+    ghost from_gives = { λ f e. e ≡ text_fault f };
 
-    fn from(fault: JsonFault) -> TextReadFault {
-        TextReadFault::Unread(fault)
-    }
-}
-
-impl From<FitFault> for TextReadFault {
-    ghost use Rattle.std.specs.Prelude.{◌≡◌};
-    ghost use Rattle.tl_show.specs.inner.ReadFaults.{of_fit};
-    ghost use Rattle.tl_show.specs.declared.fault.TextReadFault.TheVariants.{Unread};
-
-    ghost from_gives = { λ f e. e ≡ Unread (of_fit f) };
-
-    fn from(fault: FitFault) -> TextReadFault {
-        TextReadFault::Unread(JsonFault::from(fault))
+    fn from(fault: FormFault) -> TextFault {
+        match fault {
+            FormFault::Form { path, cause } => TextFault::Form { path, cause },
+            FormFault::Memory => TextFault::Memory,
+        }
     }
 }
 

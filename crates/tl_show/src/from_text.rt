@@ -5,35 +5,34 @@ ghost use Rattle.tl_types.specs.Seen.{view};
 ghost use Rattle.tl_show.specs.Texts.{IsFormOf, TellsText};
 
 use crate::direct::value_in;
-use crate::fault::TextReadFault;
+use crate::fault::TextFault;
 use crate::keyed::KeyedSchema;
-use crate::reading::read;
+use crate::reading::read_form;
 use crate::tokens::GivenUp;
 use json::{Reader, Scratch};
 use simdutf8::compat;
 use std::alloc::Global;
 use tl_schema::{Schema, TypeRef};
-use tl_types::{Value, fits};
+use tl_types::Value;
 
 // How deep lists and objects nest in JSON, at most.
 const MAX_LEVELS: usize = 127;
 
-/// The value that `read` reads from the JSON that the text is. A tree of the JSON is made only where no value is read straight from its tokens: then
-/// it tells where and why there is none.
+/// The value that the text is the form of, whether it fits the type or not. A tree of the JSON is made only where no value is read straight from its
+/// tokens: then it tells where and why there is none.
 pub fn read_text(
     alloc: Global,
     schema: &Schema,
     of: &TypeRef,
     text: &[u8],
-) -> Result<Value, TextReadFault>
+) -> Result<Value, TextFault>
     ensures reads { TellsText schema.now.decls (shape of.now) text.now result }
 {
     if let Ok(value) = value_in_text(alloc, schema, of, text) {
-        fits(alloc, schema, of, &value)?;
         return Ok(value);
     }
     let json = serde_json::Value::from_slice(alloc, text)?;
-    let value = read(alloc, schema, of, &json)?;
+    let value = read_form(alloc, schema, of, &json)?;
     Ok(value)
 }
 

@@ -36,8 +36,8 @@ pub fn read(
     Ok(value)
 }
 
-// The value that the JSON is the form of.
-fn read_form(
+/// The value that the JSON is the form of.
+pub fn read_form(
     alloc: Global,
     schema: &Schema,
     of: &TypeRef,

@@ -10,14 +10,12 @@ use Rattle.tl_schema.specs.declared.fault.TypeFault.{TypeFault}
 use Rattle.tl_schema.specs.declared.fault.TypeFault.TheVariants as type
 use Rattle.tl_plan.specs.declared.fault.PlanFault.{PlanFault}
 use Rattle.tl_plan.specs.declared.fault.PlanFault.TheVariants as planning
-use Rattle.tl_show.specs.declared.fault.JsonFault.{JsonFault}
-use Rattle.tl_show.specs.declared.fault.JsonFault.TheVariants as json
-use Rattle.tl_show.specs.declared.fault.TextReadFault.{TextReadFault}
-use Rattle.tl_show.specs.declared.fault.TextReadFault.TheVariants as reading
+use Rattle.tl_show.specs.declared.fault.TextFault.{TextFault}
+use Rattle.tl_show.specs.declared.fault.TextFault.TheVariants as reading
 use Rattle.command_base.specs.declared.stop.Unmade.{Unmade}
 use Rattle.command_base.specs.declared.stop.Unmade.TheVariants as unmade
 use Rattle.command_base.specs.Loading.{RefusesAs}
-use Rattle.schema_files.specs.Causes.{TextTooLong, BadByte, OpenComment, Unexpected, NotProfile, TooMany, Checked, Asked, TypeTooDeep, TooManyInstances, NoJson, Unformed, Misfit}
+use Rattle.schema_files.specs.Causes.{TextTooLong, BadByte, OpenComment, Unexpected, NotProfile, TooMany, Checked, Asked, TypeTooDeep, TooManyInstances, NoJson, Unformed}
 use Rattle.schema_files.specs.Lines.{text_line, schema_line, type_line, plan_line, json_line}
 
 abbrev pub TellsLex : List ℕ → LexFault → Unmade → Type 0
@@ -47,11 +45,7 @@ TellsNoPlan (planning.TypeTooDeep decl) u = RefusesAs (plan_line (TypeTooDeep de
 TellsNoPlan planning.TooManyInstances u = RefusesAs (plan_line TooManyInstances) u
 TellsNoPlan planning.Memory u = u ≡ unmade.Memory
 
-abbrev pub TellsNoValue : JsonFault → Unmade → Type 0
-TellsNoValue (json.Form path cause) u = RefusesAs (json_line (Unformed path.items cause)) u
-TellsNoValue (json.Misfit told) u = RefusesAs (json_line (Misfit told.path.items told.cause)) u
-TellsNoValue json.Memory u = u ≡ unmade.Memory
-
-abbrev pub TellsNoJson : TextReadFault → Unmade → Type 0
-TellsNoJson reading.NoJson u = RefusesAs (json_line NoJson) u
-TellsNoJson (reading.Unread fault) u = TellsNoValue fault u
+abbrev pub TellsNoForm : TextFault → Unmade → Type 0
+TellsNoForm reading.NoJson u = RefusesAs (json_line NoJson) u
+TellsNoForm (reading.Form path cause) u = RefusesAs (json_line (Unformed path.items cause)) u
+TellsNoForm reading.Memory u = u ≡ unmade.Memory

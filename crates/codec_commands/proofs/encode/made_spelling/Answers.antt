@@ -1,15 +1,14 @@
-use Rattle.std.proofs.Common.{◌≡◌, Ok, Err, rules}
+use Rattle.std.proofs.Common.{ℕ, Ok, Err, Vec, Global, rules}
 use Rattle.tl_schema.specs.Seen.{shape}
-use Rattle.tl_types.specs.Seen.{view}
-use Rattle.tl_types.specs.declared.value.Value.{Value}
 use Rattle.command_base.proofs.Faults.{safe, never_failed, read_on, stays_sound}
 use Rattle.command_base.proofs.Loaded.{failed_before, refusal_unread}
-use Rattle.schema_files.specs.Parts.{TellsType, TellsPlan, IsJsonValue, TellsJson, LoadsJson}
+use Rattle.schema_files.specs.Parts.{TellsType, TellsPlan, TellsJson}
 use Rattle.schema_files.proofs.Planned.{planned}
 use Rattle.codec_commands.specs.Encode.{OfJson}
+use Rattle.codec_commands.specs.Spelled.{IsSpelled, LoadsSpelling}
 use Rattle.codec_commands.specs.Typed.{ReachesInput}
-use Rattle.codec_commands.proofs.TypedLines.{LoadsFirst, leaves_input, no_schema_line, no_type_line, no_plan_line, no_value_line, no_memory_line, value_line, input_reached, no_value_sound}
-use Rattle.codec_commands.proofs.EncodedValues.{fits_planned, refused_there, spelled_planned, spelled_there}
+use Rattle.codec_commands.proofs.TypedLines.{LoadsFirst, leaves_input, no_schema_line, no_type_line, no_plan_line, no_value_line, value_line, input_reached, no_value_sound}
+use Rattle.codec_commands.proofs.EncodedValues.{refused_there, spelled_there, spelling_planned}
 use Rattle.codec_commands.proofs.encode.made_spelling.Goals as goal
 
 pub returns-in_err-schema-clause-makes : goal.returns-in_err-schema-clause-makes
@@ -24,21 +23,21 @@ returns-in_err-plan-clause-makes g c =
     no_plan_line OfJson c.args.schema.now c.args.of.now c.args.input.now c.in_ok-schema.schema (shape c.in_ok-of.of) c.in_err-plan.field-0.0 c.from_residual-in_err-plan.result _ _
     c.in_ok-schema.ensures.loads c.in_ok-of.ensures.names c.in_err-plan.ensures.plans c.from_residual-in_err-plan.ensures.1
 
-pub returns-in_err-value-clause-makes : goal.returns-in_err-value-clause-makes
-returns-in_err-value-clause-makes g c =
-    no_value_line OfJson c.args.schema.now c.args.of.now c.args.input.now c.in_ok-schema.schema (shape c.in_ok-of.of) c.in_ok-of.ensures.names (c.in_ok-plan.plan, c.in_ok-plan.ensures.plans) (IsJsonValue c.in_ok-schema.schema (shape c.in_ok-of.of)) (TellsJson c.in_ok-schema.schema (shape c.in_ok-of.of))
-    (refused_there c.in_ok-schema.schema (shape c.in_ok-of.of)) c.in_err-value.field-0.0 c.from_residual-in_err-value.result _ _ _ c.in_ok-schema.ensures.loads c.in_err-value.ensures.loads c.from_residual-in_err-value.ensures.1
-
 pub returns-in_err-bytes-clause-makes : goal.returns-in_err-bytes-clause-makes
 returns-in_err-bytes-clause-makes g c =
-    no_memory_line OfJson c.args.schema.now c.args.of.now c.args.input.now c.in_ok-schema.schema (shape c.in_ok-of.of) c.in_ok-of.ensures.names (c.in_ok-plan.plan, c.in_ok-plan.ensures.plans) (IsJsonValue c.in_ok-schema.schema (shape c.in_ok-of.of)) (TellsJson c.in_ok-schema.schema (shape c.in_ok-of.of))
-    c.in_ok-value.value c.from_residual-in_err-bytes.result _ _ _ c.in_ok-schema.ensures.loads c.in_ok-value.ensures.loads c.from_residual-in_err-bytes.ensures.1
+    let S = c.in_ok-schema.schema in
+    let T = shape c.in_ok-of.of in
+    no_value_line OfJson c.args.schema.now c.args.of.now c.args.input.now S T c.in_ok-of.ensures.names (c.in_ok-plan.plan, c.in_ok-plan.ensures.plans) (IsSpelled S T) (TellsJson S T)
+    (refused_there S T) c.in_err-bytes.field-0.0 c.from_residual-in_err-bytes.result _ _ _ c.in_ok-schema.ensures.loads
+    (spelling_planned S T c.in_ok-plan.plan c.args.input.now (Err c.in_err-bytes.field-0.0) _ _ c.in_ok-plan.ensures.plans c.in_err-bytes.ensures.loads) c.from_residual-in_err-bytes.ensures.1
 
 pub returns-clause-makes : goal.returns-clause-makes
 returns-clause-makes g c =
-    value_line OfJson c.args.schema.now c.args.of.now c.args.input.now c.in_ok-schema.schema (shape c.in_ok-of.of) c.in_ok-of.ensures.names (c.in_ok-plan.plan, c.in_ok-plan.ensures.plans) (IsJsonValue c.in_ok-schema.schema (shape c.in_ok-of.of)) (TellsJson c.in_ok-schema.schema (shape c.in_ok-of.of))
-    c.in_ok-value.value _ (spelled_there c.in_ok-schema.schema (shape c.in_ok-of.of) c.in_ok-value.value _ c.in_ok-of.ensures.formed
-    (spelled_planned {P = λ b. c.in_ok-bytes.bytes.items ≡ b} c.in_ok-schema.schema (shape c.in_ok-of.of) c.in_ok-plan.plan (view c.in_ok-value.value) c.in_ok-plan.ensures.plans c.in_ok-bytes.ensures)) _ _ _ c.in_ok-schema.ensures.loads c.in_ok-value.ensures.loads
+    let S = c.in_ok-schema.schema in
+    let T = shape c.in_ok-of.of in
+    value_line OfJson c.args.schema.now c.args.of.now c.args.input.now S T c.in_ok-of.ensures.names (c.in_ok-plan.plan, c.in_ok-plan.ensures.plans) (IsSpelled S T) (TellsJson S T)
+    c.in_ok-bytes.bytes _ (spelled_there S T c.in_ok-bytes.bytes c.in_ok-of.ensures.formed) _ _ _ c.in_ok-schema.ensures.loads
+    (spelling_planned S T c.in_ok-plan.plan c.args.input.now (Ok c.in_ok-bytes.bytes) _ _ c.in_ok-plan.ensures.plans c.in_ok-bytes.ensures.loads)
 
 pub returns-in_err-of-clause-faults : goal.returns-in_err-of-clause-faults
 returns-in_err-of-clause-faults g c =
@@ -48,12 +47,12 @@ pub returns-in_err-plan-clause-faults : goal.returns-in_err-plan-clause-faults
 returns-in_err-plan-clause-faults g c =
     read_on c.in_ok-schema.ensures.faults (refusal_unread (TellsPlan c.in_ok-schema.schema (shape c.in_ok-of.of)) c.in_err-plan.field-0.0 c.from_residual-in_err-plan.result c.in_err-plan.ensures.plans c.from_residual-in_err-plan.ensures.1)
 
-pub returns-in_err-value-clause-faults : goal.returns-in_err-value-clause-faults
-returns-in_err-value-clause-faults g c =
+pub returns-in_err-bytes-clause-faults : goal.returns-in_err-bytes-clause-faults
+returns-in_err-bytes-clause-faults g c =
     let p =
     no_value_sound OfJson c.args.schema.now c.args.of.now c.args.input.now c.in_ok-schema.schema (shape c.in_ok-of.of) c.in_ok-of.ensures.names (c.in_ok-plan.plan, c.in_ok-plan.ensures.plans)
-    _ c.from_residual-in_err-value.result _ _ _ _ _ (failed_before {X = Value} c.in_err-value.field-0.0 c.from_residual-in_err-value.result c.from_residual-in_err-value.ensures.1)
-    c.in_ok-schema.ensures.loads c.in_ok-schema.ensures.faults.stays (safe c.in_err-value.ensures.faults) in
+    _ c.from_residual-in_err-bytes.result _ _ _ _ _ (failed_before {X = Vec ℕ Global} c.in_err-bytes.field-0.0 c.from_residual-in_err-bytes.result c.from_residual-in_err-bytes.ensures.1)
+    c.in_ok-schema.ensures.loads c.in_ok-schema.ensures.faults.stays (safe c.in_err-bytes.ensures.faults) in
     record {
       later = search rules;
       cause = search rules;
@@ -62,21 +61,12 @@ returns-in_err-value-clause-faults g c =
       never = p.never;
     }
 
-pub returns-in_err-bytes-clause-faults : goal.returns-in_err-bytes-clause-faults
-returns-in_err-bytes-clause-faults g c = record {
-  later = search rules;
-  cause = search rules;
-  others = search rules;
-  stays = stays_sound _ _ _ _ _ (LoadsFirst c.args.schema.now (Ok c.in_ok-schema.schema)) c.in_ok-schema.ensures.loads c.in_ok-schema.ensures.faults.stays c.in_ok-value.ensures.faults.stays;
-  never = never_failed (g.H.Host.state c.args.host.now).view _ _ _ (λ failed. search rules);
-}
-
 pub returns-clause-faults : goal.returns-clause-faults
 returns-clause-faults g c = record {
   later = search rules;
   cause = search rules;
   others = search rules;
-  stays = stays_sound _ _ _ _ _ (LoadsFirst c.args.schema.now (Ok c.in_ok-schema.schema)) c.in_ok-schema.ensures.loads c.in_ok-schema.ensures.faults.stays c.in_ok-value.ensures.faults.stays;
+  stays = stays_sound _ _ _ _ _ (LoadsFirst c.args.schema.now (Ok c.in_ok-schema.schema)) c.in_ok-schema.ensures.loads c.in_ok-schema.ensures.faults.stays c.in_ok-bytes.ensures.faults.stays;
   never = never_failed (g.H.Host.state c.args.host.now).view _ _ _ (λ failed. search rules);
 }
 
@@ -89,23 +79,18 @@ returns-in_err-of-clause-unread g c = leaves_input c.args.schema.now (λ v. Reac
 pub returns-in_err-plan-clause-unread : goal.returns-in_err-plan-clause-unread
 returns-in_err-plan-clause-unread g c = leaves_input c.args.schema.now (λ v. ReachesInput v.files c.args.schema.now c.args.of.now) (Ok c.in_ok-schema.schema) _ _ c.in_ok-schema.ensures.loads
 
-pub returns-in_err-value-clause-unread : goal.returns-in_err-value-clause-unread
-returns-in_err-value-clause-unread g c =
-    input_reached OfJson c.args.schema.now c.args.of.now c.args.input.now c.in_ok-schema.schema (shape c.in_ok-of.of) c.in_ok-of.ensures.names (c.in_ok-plan.plan, c.in_ok-plan.ensures.plans)
-    (LoadsJson c.in_ok-schema.schema (shape c.in_ok-of.of) c.args.input.now (Err c.in_err-value.field-0.0)) _ _ _ c.in_ok-schema.ensures.loads c.in_err-value.ensures.loads
-
 pub returns-in_err-bytes-clause-unread : goal.returns-in_err-bytes-clause-unread
 returns-in_err-bytes-clause-unread g c =
     input_reached OfJson c.args.schema.now c.args.of.now c.args.input.now c.in_ok-schema.schema (shape c.in_ok-of.of) c.in_ok-of.ensures.names (c.in_ok-plan.plan, c.in_ok-plan.ensures.plans)
-    (LoadsJson c.in_ok-schema.schema (shape c.in_ok-of.of) c.args.input.now (Ok c.in_ok-value.value)) _ _ _ c.in_ok-schema.ensures.loads c.in_ok-value.ensures.loads
+    (LoadsSpelling c.in_ok-plan.plan.schema (shape c.in_ok-of.of) c.args.input.now (Err c.in_err-bytes.field-0.0)) _ _ _ c.in_ok-schema.ensures.loads c.in_err-bytes.ensures.loads
 
 pub returns-clause-unread : goal.returns-clause-unread
 returns-clause-unread g c =
     input_reached OfJson c.args.schema.now c.args.of.now c.args.input.now c.in_ok-schema.schema (shape c.in_ok-of.of) c.in_ok-of.ensures.names (c.in_ok-plan.plan, c.in_ok-plan.ensures.plans)
-    (LoadsJson c.in_ok-schema.schema (shape c.in_ok-of.of) c.args.input.now (Ok c.in_ok-value.value)) _ _ _ c.in_ok-schema.ensures.loads c.in_ok-value.ensures.loads
+    (LoadsSpelling c.in_ok-plan.plan.schema (shape c.in_ok-of.of) c.args.input.now (Ok c.in_ok-bytes.bytes)) _ _ _ c.in_ok-schema.ensures.loads c.in_ok-bytes.ensures.loads
 
-pub fitting_spelling-requires-clause-root : goal.fitting_spelling-requires-clause-root
-fitting_spelling-requires-clause-root g c = (planned c.in_ok-schema.schema (shape c.in_ok-of.of) c.in_ok-plan.plan c.in_ok-plan.ensures.plans).1
+pub load_spelling-requires-clause-root : goal.load_spelling-requires-clause-root
+load_spelling-requires-clause-root g c = (planned c.in_ok-schema.schema (shape c.in_ok-of.of) c.in_ok-plan.plan c.in_ok-plan.ensures.plans).1
 
-pub fitting_spelling-requires-clause-fits : goal.fitting_spelling-requires-clause-fits
-fitting_spelling-requires-clause-fits g c = fits_planned c.in_ok-schema.schema (shape c.in_ok-of.of) c.in_ok-plan.plan (view c.in_ok-value.value) c.in_ok-plan.ensures.plans c.in_ok-value.ensures.fits
+pub load_spelling-requires-clause-instance : goal.load_spelling-requires-clause-instance
+load_spelling-requires-clause-instance g c = (planned c.in_ok-schema.schema (shape c.in_ok-of.of) c.in_ok-plan.plan c.in_ok-plan.ensures.plans).2

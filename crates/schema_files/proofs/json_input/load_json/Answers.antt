@@ -1,15 +1,14 @@
-use Rattle.std.proofs.Common.{ℕ, List, subst}
-use Rattle.tl_base.specs.declared.host.Slot.TheVariants.{Input}
 use Rattle.tl_schema.specs.Seen.{shape}
-use Rattle.command_base.proofs.Loaded.{loaded}
-use Rattle.schema_files.specs.declared.json_input.TheConstants.{JSON_BYTES}
-use Rattle.schema_files.specs.Parts.{IsJsonValue, TellsJson, ReadsJson}
-use Rattle.schema_files.proofs.JsonInputs.{stays_long}
+use Rattle.command_base.proofs.Faults.{read_on}
+use Rattle.schema_files.specs.Parts.{IsJsonValue, TellsJson}
+use Rattle.schema_files.proofs.JsonInputs.{made_of_form}
 use Rattle.schema_files.proofs.json_input.load_json.Goals as goal
 
 pub returns-clause-loads : goal.returns-clause-loads
 returns-clause-loads g c =
     let S = c.args.schema.now in
     let T = shape c.args.of.now in
-    loaded Input c.args.name.now JSON_BYTES (IsJsonValue S T) (TellsJson S T) (stays_long S T c.args.name.now) c.in_ok-text.text c.value_of.result _ _ c.in_ok-text.ensures.text
-    (subst (λ (x : List ℕ). ReadsJson S T x c.value_of.result) c.deref.ensures.value c.value_of.ensures)
+    made_of_form S T (IsJsonValue S T) (TellsJson S T) c.args.name.now c.in_ok-value.value c.fitting.result _ _ c.fitting.ensures.reads c.in_ok-value.ensures.loads
+
+pub returns-clause-faults : goal.returns-clause-faults
+returns-clause-faults g c = read_on c.in_ok-value.ensures.faults c.fitting.ensures.unread
