@@ -1,25 +1,8 @@
 //! cases: runs tlbox over files in memory as case files say, and tells which runs end otherwise.
 #![tactic(auto)]
 
-mod block;
-mod case;
-mod ending;
-mod fault;
-mod kept;
-mod reader;
-mod setting;
-mod show;
-mod traced;
-mod traffic;
-mod words;
-
-use crate::case::Case;
-use crate::ending::Ending;
-use crate::kept::entries_text;
-use crate::reader::{BadLine, read_cases};
-use crate::show::shown_run;
-use crate::traced::TracedHost;
 use box_store::MemKeeper;
+use case_files::{BadLine, Case, Ending, TracedHost, entries_text, read_cases, shown_run};
 use commands::{keep_in, run, run_stored};
 use std::alloc::{AllocError, Global};
 use std::process::ExitCode;

@@ -1,7 +1,7 @@
 -- How runs end, compared. This project's own.
 use Rattle.std.specs.Prelude.{◌≡◌}
-use Rattle.cases.specs.declared.ending.Ending.{Ending}
-use Rattle.cases.specs.declared.traffic.Traffic.{Traffic}
+use Rattle.case_files.specs.declared.ending.Ending.{Ending}
+use Rattle.case_files.specs.declared.traffic.Traffic.{Traffic}
 
 -- the same addresses, the same bytes on as many links, and State created under the same names
 abbrev pub IsTraffic : Traffic → Traffic → Type 0

@@ -1,6 +1,6 @@
 //! How runs end.
 ghost use Rattle.std.specs.Prelude.{◌≡◌, ◌↔◌, IfOk, IsTrue};
-ghost use Rattle.cases.specs.Endings.{EndsAs};
+ghost use Rattle.case_files.specs.Endings.{EndsAs};
 
 use crate::fault::CaseFault;
 use crate::traffic::Traffic;

@@ -1,6 +1,6 @@
 //! What runs do with links, and under which names they create State.
 ghost use Rattle.std.specs.Prelude.{◌≡◌, ◌↔◌, IfOk, IsTrue};
-ghost use Rattle.cases.specs.Endings.{IsTraffic};
+ghost use Rattle.case_files.specs.Endings.{IsTraffic};
 
 use crate::ending::put_line;
 use std::alloc::{AllocError, Global};
