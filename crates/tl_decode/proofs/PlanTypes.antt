@@ -10,11 +10,12 @@ use Rattle.tl_schema.specs.Schemas.{Slot, Declaration}
 use Rattle.tl_plan.specs.Types.{arguments_of}
 use Rattle.tl_plan.specs.Plans.{InstanceView, IsPlan, MemberView, PlanView}
 use Rattle.tl_plan.specs.PlanLaws.{IsInstance}
-use Rattle.tl_plan.specs.Seen.{HasForm, ShowsAt, member_view}
-use Rattle.tl_plan.specs.declared.instances.Form.{Form}
+use Rattle.tl_plan.specs.Seen.{ShowsAt, member_view}
+use Rattle.tl_schema.specs.Forms.{HasForm}
+use Rattle.tl_schema.specs.declared.form.Form.{Form}
 use Rattle.tl_plan.specs.declared.instances.Member.{Member}
 use Rattle.tl_plan.specs.declared.instances.Instance.{Instance}
-use Rattle.tl_plan.specs.declared.instances.Form.TheVariants as form
+use Rattle.tl_schema.specs.declared.form.Form.TheVariants as form
 use Rattle.tl_plan.proofs.PlanFacts.{instances_have_members, items_have_instances}
 use Rattle.tl_plan.proofs.FormedReached.{in_map}
 use Rattle.tl_types.specs.Values.{ValueViews}

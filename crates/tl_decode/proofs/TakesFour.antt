@@ -12,9 +12,10 @@ use Rattle.tl_types.specs.Spelling.{Begins, Spells, vector_prefix}
 use Rattle.tl_types.specs.Spelling as begins
 use Rattle.tl_plan.specs.Plans.{PlanView}
 use Rattle.tl_plan.specs.PlanLaws.{IsInstance}
-use Rattle.tl_plan.specs.Seen.{HasForm, ShowsAt}
-use Rattle.tl_plan.specs.declared.instances.Form.{Form}
-use Rattle.tl_plan.specs.declared.instances.Form.TheVariants as form
+use Rattle.tl_plan.specs.Seen.{ShowsAt}
+use Rattle.tl_schema.specs.Forms.{HasForm}
+use Rattle.tl_schema.specs.declared.form.Form.{Form}
+use Rattle.tl_schema.specs.declared.form.Form.TheVariants as form
 use Rattle.tl_plan.specs.declared.instances.Instance.{Instance}
 use Rattle.tl_decode.specs.Endings.{BeginsWithItem, EachItemTakesFour, TakesFour}
 use Rattle.tl_decode.proofs.PlanTypes.{instance_type, shown_type}

@@ -19,10 +19,11 @@ use Rattle.tl_encode.specs.declared.frames.Frame.{Frame}
 use Rattle.tl_encode.specs.declared.frames.Part.{Part}
 use Rattle.tl_encode.specs.Lengths.{FitsInstance}
 use Rattle.tl_encode.specs.inner.Bytes.{spelling, start}
-use Rattle.tl_encode.specs.inner.Forms.{outermost}
+use Rattle.tl_schema.specs.Forms.{outermost}
 use Rattle.tl_encode.specs.inner.Frames.{path_of}
 use Rattle.tl_encode.specs.inner.Walks.{StepsOver, Walks, levels_in, misfit_left, part_misfit, part_type, type_at, type_in, under, whole_bytes}
-use Rattle.tl_encode.proofs.ByForm.{node_by_form, start_by_form}
+use Rattle.tl_types.proofs.ByForm.{node_by_form}
+use Rattle.tl_encode.proofs.ByForm.{start_by_form}
 use Rattle.tl_encode.proofs.Entering.{failed}
 use Rattle.tl_encode.proofs.Spelled.{spelling_is}
 use Rattle.tl_types.proofs.SpelledFits.{spelled_fits}

@@ -1,6 +1,5 @@
 -- What inner clauses cite; a reader of the contracts needs none of it.
 pub mod Bytes
-pub mod Forms
 pub mod Frames
 pub mod Walks
 pub mod Openings

@@ -16,14 +16,13 @@ ghost use Rattle.tl_encode.specs.inner.Walks.{AreOfPlan, Enters, GivesBytes, Ste
 
 use crate::fault::EncodeFault;
 use crate::frames::{Part, Stack};
-use crate::nodes::node_misfit;
 use crate::openings::frame_of;
 use crate::starts::{put_start, start_len};
 use crate::writing::write_bytes;
 use std::alloc::Global;
 use tl_base::Sink;
 use tl_plan::Plan;
-use tl_types::{FitFault, Misfit, Value};
+use tl_types::{FitFault, Misfit, Value, node_misfit};
 
 /// Writes the spelling of a value of a root's type, and answers its length.
 pub fn encode<K: Sink>(
@@ -102,7 +101,13 @@ fn bytes_of<'a>(
     });
     while let Some(part) = next {
         let form = plan.instance(part.of).form;
-        if let Some(cause) = node_misfit(part, plan.schema(), stack.levels(), form) {
+        if let Some(cause) = node_misfit(
+            part.value,
+            plan.schema(),
+            stack.levels(),
+            part.bit,
+            form,
+        ) {
             let path = stack.path(alloc)?;
             return Err(FitFault::Misfit(Misfit { path, cause }));
         }

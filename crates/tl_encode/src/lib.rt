@@ -6,7 +6,6 @@ mod fault;
 mod frames;
 mod items;
 mod laws;
-mod nodes;
 mod openings;
 mod spelling;
 mod starts;

@@ -3,7 +3,7 @@ ghost use Rattle.std.specs.Prelude.{◌≡◌, ◌++◌, OnOk, length, true, sli
 ghost use Rattle.tl_types.specs.Fitting.{is_in_range};
 ghost use Rattle.tl_types.specs.Seen.{view};
 ghost use Rattle.tl_encode.specs.inner.Bytes.{list_prefix, number_bytes, record_prefix, start};
-ghost use Rattle.tl_encode.specs.inner.Forms.{outermost};
+ghost use Rattle.tl_schema.specs.Forms.{outermost};
 
 use crate::items::{put_double, put_vector_prefix, put_word};
 use crate::texts::{put_text, text_len};

@@ -6,10 +6,10 @@ use Rattle.tl_schema.specs.Types.{Shape, Shapes, shapes_of}
 use Rattle.tl_schema.specs.Types as type
 use Rattle.tl_schema.specs.Closing.{list_of_shapes}
 use Rattle.tl_plan.specs.Types.{deepest, levels}
-use Rattle.tl_plan.specs.Seen.{HasForm}
+use Rattle.tl_schema.specs.Forms.{HasForm}
 use Rattle.tl_plan.specs.inner.Nodes.{AreBelow, AreDistinct, Grows, HasParts, NodeView, capped, deepest_of, levels_in, first_of, key_of, levels_above, number_of, parts_of, tag_of, type_at, type_by, types_after, types_at}
-use Rattle.tl_plan.specs.declared.instances.Form.{Form}
-use Rattle.tl_plan.specs.declared.instances.Form.TheVariants as form
+use Rattle.tl_schema.specs.declared.form.Form.{Form}
+use Rattle.tl_schema.specs.declared.form.Form.TheVariants as form
 use Rattle.tl_plan.proofs.TypeLists.{none_some, some_is}
 
 -- ---- elements of lists

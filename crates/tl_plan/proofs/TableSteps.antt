@@ -13,10 +13,10 @@ use Rattle.tl_names.proofs.MapEntries.{found_inserted, place_in_entries}
 use Rattle.tl_schema.specs.Types.{Shape}
 use Rattle.tl_plan.specs.Types.{levels}
 use Rattle.tl_plan.specs.inner.Nodes.{AreBelow, AreDistinct, Grows, HasParts, NodeView, capped, key_of, levels_above, parts_of, type_at, type_by, types_after, types_at}
-use Rattle.tl_plan.specs.Seen.{HasForm}
+use Rattle.tl_schema.specs.Forms.{HasForm}
 use Rattle.tl_plan.specs.inner.Tables.{AreKeys, AreNodes, IsNode, IsTable, node_view, types_of_nodes}
 use Rattle.tl_plan.specs.declared.table.Node.{Node}
-use Rattle.tl_plan.specs.declared.instances.Form.{Form}
+use Rattle.tl_schema.specs.declared.form.Form.{Form}
 use Rattle.tl_plan.proofs.TypeLists.{by_test, none_some, some_is}
 use Rattle.tl_plan.proofs.NodeTypes.{Pushed, earlier, last, below_more, count_after, form_by, get_last, get_pushed, get_within, levels_are, one_key, parts_by, push_after, same_key, type_got, types_more}
 

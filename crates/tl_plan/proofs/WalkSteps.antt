@@ -11,8 +11,9 @@ use Rattle.tl_plan.specs.Entries.{constructors_of, entries_of, fields_at, functi
 use Rattle.tl_plan.specs.Reached.{Named, fields_named, names_of, unnamed}
 use Rattle.tl_plan.specs.Plans.{AreAmong, InstanceView, MemberView, NamesAmong, instance_of, item_in, member_of}
 use Rattle.tl_plan.specs.inner.Nodes.{AreBelow, Grows, parts_of, type_at, types_at}
-use Rattle.tl_plan.specs.Seen.{HasForm, Shows, member_view}
-use Rattle.tl_plan.specs.declared.instances.Form.{Form}
+use Rattle.tl_plan.specs.Seen.{Shows, member_view}
+use Rattle.tl_schema.specs.Forms.{HasForm}
+use Rattle.tl_schema.specs.declared.form.Form.{Form}
 use Rattle.tl_plan.specs.declared.instances.Instance.{Instance}
 use Rattle.tl_plan.specs.inner.Walks.{Walk, Walks, find, find_all, then_walk}
 use Rattle.tl_plan.specs.declared.fault.PlanFault.{PlanFault}

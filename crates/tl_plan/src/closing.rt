@@ -5,10 +5,9 @@ ghost use Rattle.tl_schema.specs.Seen.{shape};
 ghost use Rattle.tl_schema.specs.Types.{shapes_of};
 ghost use Rattle.tl_plan.specs.inner.Nodes.{AreBelow, Grows, HasParts, type_by, types_at};
 
-use crate::instances::Form;
 use crate::table::Table;
 use std::alloc::{AllocError, Global};
-use tl_schema::TypeRef;
+use tl_schema::{Form, TypeRef};
 
 /// The number of the type, with the types of these numbers in place of its variables. A variable past them stays.
 #[cycle(close)]

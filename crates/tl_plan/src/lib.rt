@@ -13,10 +13,11 @@ mod table;
 mod walk;
 
 pub use fault::{MAX_INSTANCES, MAX_LEVELS, PlanFault};
-pub use instances::{Form, Instance, Member};
+pub use instances::{Instance, Member};
 pub use laws::{
     entries_are_declared, instances_are_formed, instances_have_members, items_have_instances,
     one_answer, roots_have_instances, same_types,
 };
 pub use planner::plan;
 pub use plans::Plan;
+pub use tl_schema::Form;

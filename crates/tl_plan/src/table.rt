@@ -1,14 +1,14 @@
 //! Types by numbers: equal types have one number, so that wide types are as small as they are deep.
 ghost use Rattle.std.specs.Prelude.{◌≡◌, ◌<◌, [], IfOk, length, slice_get, Some, map};
 ghost use Rattle.tl_plan.specs.Types.{levels};
-ghost use Rattle.tl_plan.specs.Seen.{HasForm};
+ghost use Rattle.tl_schema.specs.Forms.{HasForm};
 ghost use Rattle.tl_plan.specs.inner.Nodes.{AreBelow, AreDistinct, Grows, HasParts, capped, key_of, levels_above, number_of, parts_of, tag_of, type_at, type_by, types_at};
 ghost use Rattle.tl_plan.specs.inner.Tables.{node_view};
 
-use crate::instances::Form;
 use std::alloc::{AllocError, Global};
 use std::collections::BTreeMap;
 use std::marker::Model;
+use tl_schema::Form;
 
 // A type: its form, the numbers of its parts, which are below its own, and its levels.
 #[derive(Drop)]

@@ -13,11 +13,11 @@ ghost use Rattle.tl_plan.specs.inner.Walks.{AreHeads, Walks, add_all, find_all, 
 use crate::closing::close;
 use crate::fault::PlanFault;
 use crate::heads::Heads;
-use crate::instances::{Form, Instance, Member};
+use crate::instances::{Instance, Member};
 use crate::queue::Queue;
 use crate::table::Table;
 use std::alloc::Global;
-use tl_schema::{Schema, SchemaField, TypeRef};
+use tl_schema::{Form, Schema, SchemaField, TypeRef};
 
 /// Reaches the roots, in order.
 pub fn reach(
@@ -58,10 +58,19 @@ pub fn instance(
         Form::Vector { .. } => vector(alloc, schema, form, &parts, table, queue),
         Form::Boxed { head } => {
             let entries = heads.constructors(head);
-            record(alloc, schema, form, entries, &parts, table, queue)
+            let of = Declarations { form, entries };
+            record(alloc, schema, of, &parts, table, queue)
         }
-        Form::Bare { entry } => record(alloc, schema, form, &[entry], &parts, table, queue),
-        Form::Call => record(alloc, schema, form, &heads.functions, &parts, table, queue),
+        Form::Bare { entry } => {
+            let entries = &[entry];
+            let of = Declarations { form, entries };
+            record(alloc, schema, of, &parts, table, queue)
+        }
+        Form::Call => {
+            let entries = &heads.functions;
+            let of = Declarations { form, entries };
+            record(alloc, schema, of, &parts, table, queue)
+        }
         _ => Ok(Instance {
             form,
             item: None,
@@ -92,26 +101,32 @@ fn vector(
     })
 }
 
+// A form, and the declarations of its values.
+#[derive(Clone, Copy)]
+struct Declarations<'a> {
+    form: Form,
+    entries: &'a [u32],
+}
+
 // The instance of a type with these declarations, applied to types of these numbers.
 fn record(
     alloc: Global,
     schema: &Schema,
-    form: Form,
-    entries: &[u32],
+    of: Declarations<'_>,
     args: &[u32],
     table: &mut Table,
     queue: &mut Queue,
 ) -> Result<Instance, PlanFault>
     requires queue { AreBelow (length table.old) queue.old }
     requires below { AreBelow (length table.old) args.now }
-    ensures { Walks (find_all (types_at table.old queue.old) (flat_map (fields_named schema.now (types_at table.old args.now)) entries.now)) table.old table.new queue.new result (λ i. (i.form ≡ form) × (i.item ≡ None) × (map member_view i.members.items ≡ map (member_of schema.now (types_at table.new queue.new) (types_at table.old args.now)) entries.now)) }
+    ensures { Walks (find_all (types_at table.old queue.old) (flat_map (fields_named schema.now (types_at table.old args.now)) of.entry.entries.now)) table.old table.new queue.new result (λ i. (i.form ≡ of.entry.form) × (i.item ≡ None) × (map member_view i.members.items ≡ map (member_of schema.now (types_at table.new queue.new) (types_at table.old args.now)) of.entry.entries.now)) }
 {
     let mut members = Vec::new(alloc);
-    for entry in entries {
+    for entry in of.entries {
         members.push(member(alloc, schema, *entry, args, table, queue)?)?;
     }
     Ok(Instance {
-        form,
+        form: of.form,
         item: None,
         members,
     })

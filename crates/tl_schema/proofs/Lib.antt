@@ -54,3 +54,5 @@ pub mod FormedTypes
 pub mod FieldsFormed
 pub mod AskedFormed
 pub mod ResultsFormed
+pub mod Forms
+pub mod Views

@@ -21,3 +21,4 @@ pub mod inner
 pub mod Formed
 pub mod Closing
 pub mod FormedLaws
+pub mod Forms

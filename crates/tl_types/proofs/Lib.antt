@@ -22,3 +22,4 @@ pub mod Exactly
 pub mod SignedRanges
 pub mod SpelledFits
 pub mod FitsAreSpelled
+pub mod ByForm

@@ -2,17 +2,17 @@
 ghost use Rattle.std.specs.Prelude.{◌≡◌, ◌<◌, ◌^◌, [], None, Option, length, map};
 ghost use Rattle.tl_schema.specs.Closing.{closed};
 ghost use Rattle.tl_schema.specs.Seen.{shape, slot};
-ghost use Rattle.tl_types.specs.Fitting.{MisfitView, TellsMisfit, bit_of, each_misfit, field_misfit, inside, misfit};
+ghost use Rattle.tl_types.specs.Fitting.{MisfitView, TellsMisfit, bit_of, each_misfit, field_misfit, inside, misfit, node_misfit};
 ghost use Rattle.tl_types.specs.Seen.{view, views};
 
 use crate::closing::close;
 use crate::conditions::stands;
-use crate::misfit::{FitFault, Misfit};
+use crate::misfit::{FitFault, Misfit, MisfitCause};
 use crate::nodes::node_misfit;
 use crate::parts::{arguments_of, item_of, slots_of};
 use crate::value::{MAX_LEVELS, Value};
 use std::alloc::Global;
-use tl_schema::{Schema, SchemaField, TypeRef};
+use tl_schema::{Schema, SchemaField, TypeRef, form_of};
 
 /// Whether the value has a spelling, of this closed type and at most `MAX_LEVELS` levels; where it has none, the first misfit. Memory is taken for
 /// the types of parts that are applied, and for the path of a misfit.
@@ -34,7 +34,7 @@ fn value_fits(
 ) -> Result<(), FitFault>
     ensures { TellsMisfit (misfit schema.now.decls levels bit (shape of.now) (view value.now)) result }
 {
-    if let Some(cause) = node_misfit(value, schema, levels, bit, of) {
+    if let Some(cause) = own_misfit(value, schema, levels, bit, of) {
         let path = Vec::new(alloc);
         return Err(FitFault::Misfit(Misfit { path, cause }));
     }
@@ -51,6 +51,19 @@ fn value_fits(
         }
         _ => Ok(()),
     }
+}
+
+// The first cause that the value has, its parts aside.
+fn own_misfit(
+    value: &Value,
+    schema: &Schema,
+    levels: u32,
+    bit: Option<bool>,
+    of: &TypeRef,
+) -> Option<MisfitCause>
+    ensures { result ≡ node_misfit schema.now.decls levels bit (shape of.now) (view value.now) }
+{
+    node_misfit(value, schema, levels, bit, form_of(of))
 }
 
 // Whether each element fits the type.

@@ -17,10 +17,10 @@ pub use conditions::stands;
 pub use fitting::{bit_of, fits};
 pub use laws::{each_input_is_spelled_or_refused, each_value_fits_or_is_a_misfit};
 pub use misfit::{FitFault, Misfit, MisfitCause};
-pub use nodes::{constructs, has_flag, has_level, is_called, is_in_range};
+pub use nodes::{is_called, node_misfit};
 pub use parts::{arguments_of, is_absent, item_of, slots_of};
 pub use tl_schema::{
-    CheckCause, CheckFault, Entry, Schema, SchemaField, TypeCause, TypeFault, TypeRef, check,
-    type_of,
+    CheckCause, CheckFault, Entry, Form, Schema, SchemaField, TypeCause, TypeFault, TypeRef, check,
+    form_of, type_of,
 };
 pub use value::{MAX_LEVELS, Value};

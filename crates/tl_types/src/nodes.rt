@@ -1,29 +1,33 @@
-//! Whether a value fits a type, its parts aside.
-ghost use Rattle.std.specs.Prelude.{◌≡◌, ◌^◌, nat_lt, slice_get};
-ghost use Rattle.tl_schema.specs.Seen.{shape};
+//! Whether a value fits a type with this outermost part, its own parts aside.
+ghost use Rattle.std.specs.Prelude.{◌≡◌, ◌^◌, IsTrue, nat_lt, slice_get};
+ghost use Rattle.tl_schema.specs.Forms.{outermost};
 ghost use Rattle.tl_types.specs.Fitting.{constructs, has_constructor, has_count, has_flag, has_kind, has_level, has_width, is_called, is_constructor, is_deep_value, is_in_range, is_kind, is_signed, node_misfit};
 ghost use Rattle.tl_types.specs.Seen.{view};
+ghost use Rattle.tl_types.specs.inner.Plain.{IsPlain};
 
 use crate::misfit::MisfitCause;
 use crate::parts::{is_absent, slots_of};
 use crate::value::Value;
-use tl_schema::{Schema, TypeRef};
+use tl_schema::{Form, Schema};
 
-/// The first cause that the value has, its parts aside: of this type, with so many levels left, where it stands by this bit or by none.
+/// The first cause that the value has, its own parts aside: of a type of this form, with so many levels left, where it stands by this bit or by none.
 pub fn node_misfit(
     value: &Value,
     schema: &Schema,
     levels: u32,
     bit: Option<bool>,
-    of: &TypeRef,
+    form: Form,
 ) -> Option<MisfitCause>
-    ensures { result ≡ node_misfit schema.now.decls levels bit (shape of.now) (view value.now) }
+    ensures { result ≡ node_misfit schema.now.decls levels bit (outermost form) (view value.now) }
 {
-    if !has_kind(value, bit, of) {
+    if bit.is_none() && is_plain(value, form) && is_in_range(value) {
+        return None;
+    }
+    if !has_kind(value, bit, form) {
         Some(MisfitCause::WrongKind)
-    } else if !has_constructor(value, schema, of) {
+    } else if !has_constructor(value, schema, form) {
         Some(MisfitCause::WrongConstructor)
-    } else if !has_count(value, schema, of) {
+    } else if !has_count(value, schema, form) {
         Some(MisfitCause::WrongCount)
     } else if !has_flag(value, bit) {
         Some(MisfitCause::FlagMismatch)
@@ -36,59 +40,74 @@ pub fn node_misfit(
     }
 }
 
-// Whether the value is of the type's kind, or isn't there and stands by a bit.
-fn has_kind(value: &Value, bit: Option<bool>, of: &TypeRef) -> bool
-    ensures { result ≡ has_kind bit (shape of.now) (view value.now) }
+// Whether the value is a number or a string, as the form is: most are, and fit where they are in range.
+#[inline(always)]
+fn is_plain(value: &Value, form: Form) -> bool
+    ensures { IsTrue result → IsPlain (outermost form) (view value.now) }
 {
-    is_kind(value, of) || (bit.is_some() && is_absent(value))
+    match (form, value) {
+        (Form::Int, Value::Int(_)) => true,
+        (Form::Long, Value::Long(_)) => true,
+        (Form::Nat, Value::Nat(_)) => true,
+        (Form::Str, Value::Text(_)) => true,
+        (Form::Raw, Value::Text(_)) => true,
+        _ => false,
+    }
 }
 
-// Whether the value is of the type's kind.
-fn is_kind(value: &Value, of: &TypeRef) -> bool
-    ensures { result ≡ is_kind (shape of.now) (view value.now) }
+// Whether the value is of the form's kind, or isn't there and stands by a bit.
+fn has_kind(value: &Value, bit: Option<bool>, form: Form) -> bool
+    ensures { result ≡ has_kind bit (outermost form) (view value.now) }
 {
-    match of {
-        TypeRef::Int => matches!(value, Value::Int(_)),
-        TypeRef::Long => matches!(value, Value::Long(_)),
-        TypeRef::Nat => matches!(value, Value::Nat(_)),
-        TypeRef::Double => matches!(value, Value::Opaque(_)),
-        TypeRef::Int128 => matches!(value, Value::Opaque(_)),
-        TypeRef::Int256 => matches!(value, Value::Opaque(_)),
-        TypeRef::Str => matches!(value, Value::Text(_)),
-        TypeRef::Raw => matches!(value, Value::Text(_)),
-        TypeRef::Flag => matches!(value, Value::Truth),
-        TypeRef::Call => matches!(value, Value::Call { .. }),
-        TypeRef::Var { .. } => false,
-        TypeRef::Vector { .. } => matches!(value, Value::List(_)),
-        TypeRef::Boxed { .. } => matches!(value, Value::Node { .. }),
-        TypeRef::Bare { .. } => matches!(value, Value::Node { .. }),
+    is_kind(value, form) || (bit.is_some() && is_absent(value))
+}
+
+// Whether the value is of the form's kind.
+fn is_kind(value: &Value, form: Form) -> bool
+    ensures { result ≡ is_kind (outermost form) (view value.now) }
+{
+    match form {
+        Form::Int => matches!(value, Value::Int(_)),
+        Form::Long => matches!(value, Value::Long(_)),
+        Form::Nat => matches!(value, Value::Nat(_)),
+        Form::Double => matches!(value, Value::Opaque(_)),
+        Form::Int128 => matches!(value, Value::Opaque(_)),
+        Form::Int256 => matches!(value, Value::Opaque(_)),
+        Form::Str => matches!(value, Value::Text(_)),
+        Form::Raw => matches!(value, Value::Text(_)),
+        Form::Flag => matches!(value, Value::Truth),
+        Form::Call => matches!(value, Value::Call { .. }),
+        Form::Var { .. } => false,
+        Form::Vector { .. } => matches!(value, Value::List(_)),
+        Form::Boxed { .. } => matches!(value, Value::Node { .. }),
+        Form::Bare { .. } => matches!(value, Value::Node { .. }),
     }
 }
 
 // Whether a record is of a constructor of the type, and a call of a function.
-fn has_constructor(value: &Value, schema: &Schema, of: &TypeRef) -> bool
-    ensures { result ≡ has_constructor schema.now.decls (shape of.now) (view value.now) }
+fn has_constructor(value: &Value, schema: &Schema, form: Form) -> bool
+    ensures { result ≡ has_constructor schema.now.decls (outermost form) (view value.now) }
 {
     match value {
-        Value::Node { entry, .. } => is_constructor(schema, of, *entry),
+        Value::Node { entry, .. } => is_constructor(schema, form, *entry),
         Value::Call { entry, .. } => is_called(schema, *entry),
         _ => true,
     }
 }
 
 // Whether the declaration is a constructor of the type, if this has any.
-fn is_constructor(schema: &Schema, of: &TypeRef, entry: u32) -> bool
-    ensures { result ≡ is_constructor schema.now.decls (shape of.now) entry }
+fn is_constructor(schema: &Schema, form: Form, entry: u32) -> bool
+    ensures { result ≡ is_constructor schema.now.decls (outermost form) entry }
 {
-    match of {
-        TypeRef::Boxed { head, .. } => constructs(schema, *head, entry),
-        TypeRef::Bare { entry: own, .. } => entry == *own,
+    match form {
+        Form::Boxed { head } => constructs(schema, head, entry),
+        Form::Bare { entry: own } => entry == own,
         _ => true,
     }
 }
 
-/// Whether the declaration is there and constructs the type with this number.
-pub fn constructs(schema: &Schema, head: u32, entry: u32) -> bool
+// Whether the declaration is there and constructs the type with this number.
+fn constructs(schema: &Schema, head: u32, entry: u32) -> bool
     ensures { result ≡ constructs head (slice_get schema.now.decls entry) }
 {
     entry < schema.count() && schema.entry(entry).head == head
@@ -102,11 +121,11 @@ pub fn is_called(schema: &Schema, entry: u32) -> bool
 }
 
 // Whether an opaque value has as many bytes as its type, and a record or call as many values as its declaration has fields.
-fn has_count(value: &Value, schema: &Schema, of: &TypeRef) -> bool
-    ensures { result ≡ has_count schema.now.decls (shape of.now) (view value.now) }
+fn has_count(value: &Value, schema: &Schema, form: Form) -> bool
+    ensures { result ≡ has_count schema.now.decls (outermost form) (view value.now) }
 {
     match value {
-        Value::Opaque(bytes) => has_width(of, bytes.len()),
+        Value::Opaque(bytes) => has_width(form, bytes.len()),
         Value::Node { entry, fields } => fields.len() == slots_of(schema, *entry).len(),
         Value::Call { entry, fields } => fields.len() == slots_of(schema, *entry).len(),
         _ => true,
@@ -114,19 +133,19 @@ fn has_count(value: &Value, schema: &Schema, of: &TypeRef) -> bool
 }
 
 // Whether the type has so many bytes, if its values are opaque.
-fn has_width(of: &TypeRef, count: usize) -> bool
-    ensures { result ≡ has_width (shape of.now) count }
+fn has_width(form: Form, count: usize) -> bool
+    ensures { result ≡ has_width (outermost form) count }
 {
-    match of {
-        TypeRef::Double => count == 8,
-        TypeRef::Int128 => count == 16,
-        TypeRef::Int256 => count == 32,
+    match form {
+        Form::Double => count == 8,
+        Form::Int128 => count == 16,
+        Form::Int256 => count == 32,
         _ => true,
     }
 }
 
-/// Whether a value that stands by a bit is there exactly where it is set.
-pub fn has_flag(value: &Value, bit: Option<bool>) -> bool
+// Whether a value that stands by a bit is there exactly where it is set.
+fn has_flag(value: &Value, bit: Option<bool>) -> bool
     ensures { result ≡ has_flag bit (view value.now) }
 {
     match bit {
@@ -136,8 +155,8 @@ pub fn has_flag(value: &Value, bit: Option<bool>) -> bool
     }
 }
 
-/// Whether a number is in range, and a string or a list short enough.
-pub fn is_in_range(value: &Value) -> bool
+// Whether a number is in range, and a string or a list short enough.
+fn is_in_range(value: &Value) -> bool
     ensures { result ≡ is_in_range (view value.now) }
 {
     match value {
@@ -171,8 +190,8 @@ fn is_nat(_number: u32) -> bool
     true
 }
 
-/// Whether there is a level for the value, with so many left.
-pub fn has_level(value: &Value, levels: u32) -> bool
+// Whether there is a level for the value, with so many left.
+fn has_level(value: &Value, levels: u32) -> bool
     ensures { result ≡ has_level levels (view value.now) }
 {
     levels > 0 || !is_deep(value)

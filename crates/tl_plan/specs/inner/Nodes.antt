@@ -3,8 +3,8 @@ use Rattle.std.specs.Prelude.{◌≡◌, ℕ, suc, ◌-◌, ◌<◌, ◌^◌, mi
 use Rattle.tl_schema.specs.Types.{Shape, Shapes, shapes_of}
 use Rattle.tl_schema.specs.Types as type
 use Rattle.tl_plan.specs.Types.{arguments_of}
-use Rattle.tl_plan.specs.declared.instances.Form.{Form}
-use Rattle.tl_plan.specs.declared.instances.Form.TheVariants as form
+use Rattle.tl_schema.specs.declared.form.Form.{Form}
+use Rattle.tl_schema.specs.declared.form.Form.TheVariants as form
 
 -- ---- lists of types
 

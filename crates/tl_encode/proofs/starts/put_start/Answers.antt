@@ -6,7 +6,7 @@ use Rattle.tl_types.specs.Values.{count}
 use Rattle.tl_types.proofs.ValueCounts.{vec_counted}
 use Rattle.tl_types.proofs.Views.{view-List}
 use Rattle.tl_encode.specs.inner.Bytes.{list_prefix, start}
-use Rattle.tl_encode.specs.inner.Forms.{outermost}
+use Rattle.tl_schema.specs.Forms.{outermost}
 use Rattle.tl_encode.proofs.Joins.{joined, on_ok}
 use Rattle.tl_encode.proofs.starts.put_start.Goals as goal
 

@@ -24,7 +24,7 @@ returns-in_err-member c =
     let before = c.args.table.now in
     let first = c.args.queue.now in
     let at = c.loop-entry.entry-index in
-    let is = c.args.entries.now in
+    let is = c.args.of.entries.now in
     let i = get_or is at 0 in
     let Ts = c.loop-entry.table in
     let ns = c.loop-entry.queue in
@@ -36,9 +36,9 @@ returns-in_err-member c =
     let one = subst (λ (As : List Shape). Walks (find_all (types_at Ts ns) (fields_named S As i)) Ts Us ms (Err e) (λ (m : Member). member_view m ≡ member_of S (types_at Us ms) As i)) same c.in_err-member.ensures in
     let p = err_from_is_err_and c.from_residual.result c.from_residual.ensures.1 in
     rw (p.1, p.2)
-    (subst (λ (js : List ℕ). Walks (find_all (types_at before first) (flat_map (fields_named S args) js)) before Us ms (Err e) (λ (x : Instance). (x.form ≡ c.args.form) × (x.item ≡ None) × (map member_view x.members.items ≡ map (member_of S (types_at Us ms) args) is)))
+    (subst (λ (js : List ℕ). Walks (find_all (types_at before first) (flat_map (fields_named S args) js)) before Us ms (Err e) (λ (x : Instance). (x.form ≡ c.args.of.form) × (x.item ≡ None) × (map member_view x.members.items ≡ map (member_of S (types_at Us ms) args) is)))
     (sym (read_split is at i c.loop-entry-test.true (read_number is at c.loop-entry-test.true)))
-    (member_fails S args before first (take at is) i Ts ns (map member_view c.loop-entry.members.items) c.loop-entry.invariant (drop (at + 1) is) Us Us ms ms e (λ (m : Member). member_view m ≡ member_of S (types_at Us ms) args i) (λ (x : Instance). (x.form ≡ c.args.form) × (x.item ≡ None) × (map member_view x.members.items ≡ map (member_of S (types_at Us ms) args) is)) one))
+    (member_fails S args before first (take at is) i Ts ns (map member_view c.loop-entry.members.items) c.loop-entry.invariant (drop (at + 1) is) Us Us ms ms e (λ (m : Member). member_view m ≡ member_of S (types_at Us ms) args i) (λ (x : Instance). (x.form ≡ c.args.of.form) × (x.item ≡ None) × (map member_view x.members.items ≡ map (member_of S (types_at Us ms) args) is)) one))
 
 pub loop-entry-preserved : goal.loop-entry-preserved
 loop-entry-preserved c =
@@ -46,7 +46,7 @@ loop-entry-preserved c =
     let before = c.args.table.now in
     let first = c.args.queue.now in
     let at = c.loop-entry.entry-index in
-    let is = c.args.entries.now in
+    let is = c.args.of.entries.now in
     let i = get_or is at 0 in
     let Ts = c.loop-entry.table in
     let ns = c.loop-entry.queue in

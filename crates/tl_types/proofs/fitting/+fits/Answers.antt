@@ -14,7 +14,7 @@ field_fits-returns-then-is_empty t c = rw (no_arguments c.args.args.now c.is_emp
 
 pub value_fits-each_fits-requires : goal.value_fits-each_fits-requires
 value_fits-each_fits-requires t c =
-    let few = few_items c.args.schema.now.decls c.args.levels c.args.bit (shape c.args.of.now) c.args.value.now c.in-List.items c.in-List.is (sym c.node_misfit.ensures ∙ c.in_default.is) in
+    let few = few_items c.args.schema.now.decls c.args.levels c.args.bit (shape c.args.of.now) c.args.value.now c.in-List.items c.in-List.is (sym c.own_misfit.ensures ∙ c.in_default.is) in
     (search (rules, own.the_lemmas), omega (arith, few, ap length c.deref.ensures.value))
 
 pub each_fits-returns-in_err-at_part : goal.each_fits-returns-in_err-at_part

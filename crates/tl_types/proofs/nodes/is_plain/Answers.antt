@@ -1,7 +1,7 @@
 use Rattle.std.proofs.Common.{refl}
 use Rattle.tl_types.proofs.Views.{view-Int, view-Long, view-Nat, view-Text}
-use Rattle.tl_encode.specs.inner.Forms.{of_int, of_long, of_nat, of_raw, of_str}
-use Rattle.tl_encode.proofs.nodes.is_plain.Goals as goal
+use Rattle.tl_types.specs.inner.Plain.{of_int, of_long, of_nat, of_raw, of_str}
+use Rattle.tl_types.proofs.nodes.is_plain.Goals as goal
 
 pub returns-in-Int-Int : goal.returns-in-Int-Int
 returns-in-Int-Int c = λ told. rw (c.in-Int-Int.is-0, c.in-Int-Int.is-1, view-Int c.in-Int-Int.field-0-1 c.in-Int-Int.field-0-1 refl) (of_int c.in-Int-Int.field-0-1)
