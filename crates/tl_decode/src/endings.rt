@@ -16,7 +16,7 @@ ghost use Rattle.tl_decode.specs.inner.Frames.{AreWell, IsInPlan, IsWellWanted, 
 ghost use Rattle.tl_decode.specs.inner.Steps.{OrEnds};
 
 use crate::fault::DecodeFault;
-use crate::feeding::after_item;
+use crate::feeding::{Span, after_item};
 use crate::items::item_or_end;
 use crate::planned::{finish, settle_at};
 use crate::stack::{Found, Frame, Next, Wanted};
@@ -103,7 +103,8 @@ fn first_of<S: Source>(
     match item_or_end(alloc, wanted, at, from)? {
         None => Ok(None),
         Some(item) => {
-            let found = after_item(alloc, plan, frames, wanted, item, place, *at)?;
+            let span = Span { place, end: *at };
+            let found = after_item(alloc, plan, frames, wanted, item, span)?;
             let value = finish(alloc, plan, frames, found, at, from)?;
             Ok(Some(value))
         }

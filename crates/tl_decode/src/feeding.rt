@@ -147,31 +147,38 @@ fn take_item(
         Ok(None) => Ok(None),
         Ok(Some((item, count))) => {
             *at = at.saturating_add(had).saturating_add(count as u64);
-            let found = after_item(alloc, plan, &mut reading.frames, wanted, item, place, *at)?;
+            let span = Span { place, end: *at };
+            let found = after_item(alloc, plan, &mut reading.frames, wanted, item, span)?;
             Ok(Some((found, count)))
         }
         Err(stop) => Err(stopped(stop, place)),
     }
 }
 
-/// All after an item at a place that needs no bytes.
+/// From where to where an item's bytes are.
+#[derive(Clone, Copy)]
+pub struct Span {
+    pub place: u64,
+    pub end: u64,
+}
+
+/// All after an item that needs no bytes.
 pub fn after_item(
     alloc: Global,
     plan: &Plan,
     frames: &mut Vec<Frame>,
     wanted: Wanted,
     item: Item,
-    place: u64,
-    then: u64,
+    at: Span,
 ) -> Result<Found, DecodeFault>
     requires frames { AreWell plan.now frames.old.items }
     requires wanted { IsWellWanted plan.now wanted }
-    ensures goes { SettlesAt plan.now (goes_after plan.now (views plan.now frames.old.items) wanted place (item_view item)) (found_work plan.now (views plan.now frames.old.items) (Found.Wants wanted)) then frames.new.items result }
+    ensures goes { SettlesAt plan.now (goes_after plan.now (views plan.now frames.old.items) wanted at.place (item_view item)) (found_work plan.now (views plan.now frames.old.items) (Found.Wants wanted)) at.end frames.new.items result }
     ensures less { IfOk result (λ f. found_work plan.now (views plan.now frames.new.items) f < found_work plan.now (views plan.now frames.old.items) (Found.Wants wanted)) }
 {
     match take(alloc, plan, wanted, item) {
-        Ok(Next::Close { value }) => after_value(alloc, plan, frames, value, then),
-        Ok(next) => settle_at(alloc, plan, frames, next, then),
-        Err(stop) => Err(stopped(stop, place)),
+        Ok(Next::Close { value }) => after_value(alloc, plan, frames, value, at.end),
+        Ok(next) => settle_at(alloc, plan, frames, next, at.end),
+        Err(stop) => Err(stopped(stop, at.place)),
     }
 }
