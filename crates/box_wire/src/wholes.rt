@@ -61,8 +61,6 @@ pub fn bytes_of(alloc: Global, plan: &Plan, root: u32, value: &Value) -> Result<
     requires { root < plan.now.roots }
     ensures { (T : Shape) → IsInstance plan.now root T → IsFormed plan.now.schema T → IfOk result (λ bytes. IsSpelling plan.now.schema T (view value.now) bytes.items) }
 {
-    // Read for the proof alone: that the plan is sound.
-    let _count = plan.count();
     match spelling_of(alloc, plan, root, value) {
         Ok(bytes) => Ok(bytes),
         Err(_) => Err(AllocError),

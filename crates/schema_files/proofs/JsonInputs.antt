@@ -15,8 +15,8 @@ use Rattle.tl_types.specs.declared.misfit.FitFault.TheVariants as fit
 use Rattle.tl_types.specs.declared.value.Value.{Value}
 use Rattle.tl_types.specs.declared.value.TheConstants.{MAX_LEVELS}
 use Rattle.tl_show.specs.Texts.{TellsText}
-use Rattle.tl_show.specs.declared.fault.TextFault.{TextFault}
-use Rattle.tl_show.specs.declared.fault.TextFault.TheVariants as reading
+use Rattle.tl_show.specs.declared.fault.JsonTextFault.{JsonTextFault}
+use Rattle.tl_show.specs.declared.fault.JsonTextFault.TheVariants as reading
 use Rattle.command_base.specs.declared.stop.Unmade.{Unmade}
 use Rattle.command_base.specs.declared.stop.Unmade.TheVariants as unmade
 use Rattle.command_base.specs.Loading.{Gives, Loads, Refuses, RefusesAs}
@@ -44,7 +44,7 @@ module _ (schema : Declared) (T : Shape) where
   told : (bytes : List ℕ) (cause : JsonCause) (u : Unmade) → FormRefused schema T bytes cause → RefusesAs (json_line cause) u → Refuses (TellsForm schema T bytes) u
   told bytes cause u refused = refuses_as (λ line. line ≡ json_line cause) (TellsForm schema T bytes) u (λ line is. (cause, refused, is))
 
-  pub no_form : (bytes : List ℕ) (f : TextFault) (u : Unmade) → length bytes ≤ JSON_BYTES → TellsText schema.decls T bytes (Err f) → TellsNoForm f u → Refuses (TellsForm schema T bytes) u
+  pub no_form : (bytes : List ℕ) (f : JsonTextFault) (u : Unmade) → length bytes ≤ JSON_BYTES → TellsText schema.decls T bytes (Err f) → TellsNoForm f u → Refuses (TellsForm schema T bytes) u
   no_form bytes reading.NoJson u few none = told bytes NoJson u (few, none)
   no_form bytes (reading.Form path cause) u few (d, is, tells) = told bytes (Unformed path.items cause) u (d, (few, is.0, is.1), tells)
   no_form bytes reading.Memory u few tells = memory_refuses (TellsForm schema T bytes) u

@@ -20,7 +20,7 @@ use command_base::Unmade;
 use std::alloc::Global;
 use tl_base::{Host, Slot, read_file};
 use tl_schema::{Schema, TypeRef};
-use tl_show::{FormCause, TextFault, read_text};
+use tl_show::{FormCause, JsonTextFault, read_text};
 use tl_types::{FitFault, MisfitCause, Value, fits};
 
 /// The most bytes that an input of JSON may have.
@@ -57,13 +57,13 @@ pub fn fit_unmade(alloc: Global, fault: &FitFault) -> Unmade
 }
 
 // What is told of a text that is the form of no value.
-fn json_unmade(alloc: Global, fault: &TextFault) -> Unmade
+fn json_unmade(alloc: Global, fault: &JsonTextFault) -> Unmade
     ensures { TellsNoForm fault.now result }
 {
     match fault {
-        TextFault::NoJson => Unmade::unplaced(alloc, "input", "Json"),
-        TextFault::Form { path, cause } => form_unmade(alloc, path, *cause),
-        TextFault::Memory => Unmade::Memory,
+        JsonTextFault::NoJson => Unmade::unplaced(alloc, "input", "Json"),
+        JsonTextFault::Form { path, cause } => form_unmade(alloc, path, *cause),
+        JsonTextFault::Memory => Unmade::Memory,
     }
 }
 

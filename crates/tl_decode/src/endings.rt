@@ -1,5 +1,5 @@
 //! Values of a plan's roots, from a source that may have ended.
-ghost use Rattle.std.specs.Prelude.{◌≡◌, ◌≢◌, ◌≤◌, ◌<◌, ◌++◌, ℕ, List, IfSome, IsErrOf, length, true, false};
+ghost use Rattle.std.specs.Prelude.{◌≡◌, ◌≢◌, ◌≤◌, ◌<◌, ◌^◌, ◌++◌, ℕ, List, IfSome, IsErrOf, length, true, false};
 ghost use Rattle.tl_base.specs.Using.{Used};
 ghost use Rattle.tl_schema.specs.Types.{Shape};
 ghost use Rattle.tl_plan.specs.Plans.{IsPlan};
@@ -45,8 +45,6 @@ pub fn decode_or_end<S: Source>(
     ensures bounded { IfSome (S.state from.old).left (λ bytes. (T : Shape) → IsInstance plan.now root T → GivesFewOrNone plan.now.schema T bytes (S.state from.new).left result) }
     ensures used { Used (S.state from.old) (S.state from.new) (IsErrOf result DecodeFault.ReadFault) }
 {
-    // Read for the proof alone: that the offset fits.
-    let _start = *at;
     root_or_end(alloc, plan, plan.root(root), at, from)
 }
 
@@ -75,6 +73,7 @@ fn root_or_end<S: Source>(
     requires within { IsInPlan plan.now root }
     requires four { (T : Shape) → IsInstance plan.now root T → TakesFour plan.now.schema T }
     ensures read { OrEnds view (S.state from.old).left (S.state from.new).left at.old at.new result (value_at plan.now.schema.decls MAX_LEVELS (type_in plan.now root)) }
+    ensures start { at.old < 2 ^ 64 }
     ensures used { Used (S.state from.old) (S.state from.new) (IsErrOf result DecodeFault.ReadFault) }
 {
     let mut frames = Vec::new(alloc);

@@ -41,8 +41,6 @@ fn numbered(schema: &Schema, number: u32) -> Option<u32>
     ensures found { FindsNumber schema.now.program number result }
     ensures within { IfSome result (λ i. i < length schema.now.decls) }
 {
-    // Read for the proof alone: that the schema is sound.
-    let _count = schema.count();
     schema.numbered(number)
 }
 

@@ -1,5 +1,5 @@
 //! Values of a plan's roots, from a source.
-ghost use Rattle.std.specs.Prelude.{◌≡◌, ◌≤◌, ◌<◌, ◌++◌, ℕ, List, IfSome, IfOk, IsErrOf};
+ghost use Rattle.std.specs.Prelude.{◌≡◌, ◌≤◌, ◌<◌, ◌^◌, ◌++◌, ℕ, List, IfSome, IfOk, IsErrOf};
 ghost use Rattle.tl_base.specs.Using.{Used};
 ghost use Rattle.tl_schema.specs.Types.{Shape};
 ghost use Rattle.tl_plan.specs.PlanLaws.{IsInstance};
@@ -42,8 +42,6 @@ pub fn decode<S: Source>(
     ensures bounded { IfSome (S.state from.old).left (λ bytes. (T : Shape) → IsInstance plan.now root T → GivesFew plan.now.schema T bytes (S.state from.new).left result) }
     ensures used { Used (S.state from.old) (S.state from.new) (IsErrOf result DecodeFault.ReadFault) }
 {
-    // Read for the proof alone: that the offset fits.
-    let _start = *at;
     root_of(alloc, plan, plan.root(root), at, from)
 }
 
@@ -56,6 +54,7 @@ fn root_of<S: Source>(
 ) -> Result<Value, DecodeFault>
     requires within { IsInPlan plan.now root }
     ensures read { ReadsAs view (S.state from.old).left (S.state from.new).left at.old at.new result (value_at plan.now.schema.decls MAX_LEVELS (type_in plan.now root)) }
+    ensures start { at.old < 2 ^ 64 }
     ensures used { Used (S.state from.old) (S.state from.new) (IsErrOf result DecodeFault.ReadFault) }
 {
     let mut frames = Vec::new(alloc);

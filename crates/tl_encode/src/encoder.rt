@@ -3,6 +3,7 @@ ghost use Rattle.std.specs.Prelude.{◌≡◌, ◌≤◌, ◌<◌, ℕ, List, No
 ghost use Rattle.tl_base.specs.Using.{WritesOnly, Wrote};
 ghost use Rattle.tl_schema.specs.Types.{Shape};
 ghost use Rattle.tl_plan.specs.PlanLaws.{IsInstance};
+ghost use Rattle.tl_plan.specs.Plans.{IsPlan};
 ghost use Rattle.tl_types.specs.Fitting.{misfit, node_misfit};
 ghost use Rattle.tl_types.specs.Seen.{view};
 ghost use Rattle.tl_types.specs.Spelling.{Spells};
@@ -56,6 +57,7 @@ pub fn spelling_of(
     requires root { root < plan.now.roots }
     ensures spelled { (T : Shape) (spelling : List ℕ) → IsInstance plan.now root T → Spells plan.now.schema T (view value.now) spelling → IfOk result (λ bytes. bytes.items ≡ spelling) }
     ensures fits { (T : Shape) → IsInstance plan.now root T → TellsFit (misfit plan.now.schema.decls limits.MAX_LEVELS None T (view value.now)) result }
+    ensures sound { IsPlan plan.now }
 {
     bytes_of(alloc, plan, plan.root(root), value)
 }

@@ -156,7 +156,8 @@ impl Schema {
 
     /// The index of the declaration with this number, which the lines of built-in types have not.
     pub fn numbered(&self, number: u32) -> Option<u32>
-        ensures { FindsNumber self.now.program number result }
+        ensures found { FindsNumber self.now.program number result }
+        ensures sound { IsSchema self.now }
     {
         self.numbers.get(&number).copied()
     }

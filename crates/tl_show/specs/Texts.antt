@@ -8,8 +8,8 @@ use Rattle.tl_types.specs.Seen.{view}
 use Rattle.tl_types.specs.Values.{ValueView}
 use Rattle.tl_types.specs.declared.value.Value.{Value}
 use Rattle.tl_show.specs.Reading.{read}
-use Rattle.tl_show.specs.declared.fault.TextFault.{TextFault}
-use Rattle.tl_show.specs.declared.fault.TextFault.TheVariants.{NoJson, Form, Memory}
+use Rattle.tl_show.specs.declared.fault.JsonTextFault.{JsonTextFault}
+use Rattle.tl_show.specs.declared.fault.JsonTextFault.TheVariants.{NoJson, Form, Memory}
 
 -- the bytes are UTF-8 and this JSON, of at most 127 levels
 abbrev pub IsJsonText : List ℕ → Data → Type 0
@@ -20,7 +20,7 @@ abbrev pub IsFormOf : List Declaration → Shape → List ℕ → ValueView → 
 IsFormOf ds T bytes v = (d : Data) × IsJsonText bytes d × (read ds T d ≡ Ok v)
 
 -- the value that the bytes are the form of, or why they are that of none; out of memory is free
-abbrev pub TellsText : List Declaration → Shape → List ℕ → Result Value TextFault → Type 0
+abbrev pub TellsText : List Declaration → Shape → List ℕ → Result Value JsonTextFault → Type 0
 TellsText ds T bytes (Ok v) = IsFormOf ds T bytes (view v)
 TellsText ds T bytes (Err NoJson) = IsUtf8 bytes → read_text bytes ≡ None
 TellsText ds T bytes (Err (Form path cause)) = (d : Data) × IsJsonText bytes d × (read ds T d ≡ Err (path.items, cause))

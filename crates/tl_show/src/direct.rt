@@ -204,12 +204,12 @@ fn named_in(
     if !schema.has_apart_keys(entry) {
         return Err(GivenUp);
     }
-    let kind = Kind {
+    let applied = AppliedFields {
         fields: schema.fields(entry),
         args: arguments_of(of),
     };
-    let values = fields_in(alloc, tokens, depth, schema, kind)?;
-    if lacks_field(kind.fields, &values) {
+    let values = fields_in(alloc, tokens, depth, schema, applied)?;
+    if lacks_field(applied.fields, &values) {
         return Err(GivenUp);
     }
     Ok(record_value(of, entry, values))
@@ -217,7 +217,7 @@ fn named_in(
 
 // The fields of a record, and what its type is applied to.
 #[derive(Clone, Copy)]
-struct Kind<'a> {
+struct AppliedFields<'a> {
     fields: &'a [KeyedField<'a>],
     args: &'a [TypeRef],
 }
@@ -229,21 +229,21 @@ fn fields_in(
     tokens: &mut Reader<'_>,
     depth: usize,
     schema: &KeyedSchema<'_>,
-    kind: Kind<'_>,
+    applied: AppliedFields<'_>,
 ) -> Result<Vec<Value>, GivenUp>
-    requires { AreApart (record_keys (map keyed_slot kind.fields.now)) }
+    requires { AreApart (record_keys (map keyed_slot applied.fields.now)) }
     ensures fields { IfOk result (λ vs. (name : List ℕ) (n : ℕ) → length tokens.old ≤ n → (ms : Members) × GoesOnTo depth n tokens.old (member (codes "_") (string name) no_members) tokens.new ms
-        × HasFields schema.now.decls (map shape kind.entry.args.now) kind.entry.fields.now name ms vs.items) }
+        × HasFields schema.now.decls (map shape applied.entry.args.now) applied.entry.fields.now name ms vs.items) }
     ensures shorter { OnOk result (length tokens.new < length tokens.old) }
 {
-    let mut values = none_there(alloc, kind.fields.len())?;
+    let mut values = none_there(alloc, applied.fields.len())?;
     let mut next = 0usize;
     'fields: while let Some(key) = tokens.next_key()? {
-        let Some(i) = place_of(key, kind.fields, next) else {
+        let Some(i) = place_of(key, applied.fields, next) else {
             return Err(GivenUp);
         };
-        let field = kind.fields[i].field;
-        let value = closed_in(alloc, tokens, depth, schema, &field.of, kind.args)?;
+        let field = applied.fields[i].field;
+        let value = closed_in(alloc, tokens, depth, schema, &field.of, applied.args)?;
         values[i] = value;
         next = i + 1;
     }

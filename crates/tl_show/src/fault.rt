@@ -46,7 +46,7 @@ pub enum JsonFault {
 
 /// Why a text is the form of no value.
 #[derive(Debug, Drop, PartialEq, Eq, Error)]
-pub enum TextFault {
+pub enum JsonTextFault {
     /// The text is no UTF-8, no JSON, or JSON of more than 127 levels.
     #[error("no JSON")]
     NoJson,
@@ -115,29 +115,29 @@ impl From<FitFault> for JsonFault {
     }
 }
 
-impl From<serde_json::Error> for TextFault {
+impl From<serde_json::Error> for JsonTextFault {
     ghost use Rattle.tl_show.specs.inner.ReadFaults.{OfJsonError};
 
     ghost from_gives = { OfJsonError };
 
-    fn from(error: serde_json::Error) -> TextFault {
+    fn from(error: serde_json::Error) -> JsonTextFault {
         if error.is_memory() {
-            return TextFault::Memory;
+            return JsonTextFault::Memory;
         }
-        TextFault::NoJson
+        JsonTextFault::NoJson
     }
 }
 
-impl From<FormFault> for TextFault {
+impl From<FormFault> for JsonTextFault {
     ghost use Rattle.std.specs.Prelude.{◌≡◌};
     ghost use Rattle.tl_show.specs.inner.ReadFaults.{text_fault};
 
     ghost from_gives = { λ f e. e ≡ text_fault f };
 
-    fn from(fault: FormFault) -> TextFault {
+    fn from(fault: FormFault) -> JsonTextFault {
         match fault {
-            FormFault::Form { path, cause } => TextFault::Form { path, cause },
-            FormFault::Memory => TextFault::Memory,
+            FormFault::Form { path, cause } => JsonTextFault::Form { path, cause },
+            FormFault::Memory => JsonTextFault::Memory,
         }
     }
 }

@@ -5,7 +5,7 @@ ghost use Rattle.tl_types.specs.Seen.{view};
 ghost use Rattle.tl_show.specs.Texts.{IsFormOf, TellsText};
 
 use crate::direct::value_in;
-use crate::fault::TextFault;
+use crate::fault::JsonTextFault;
 use crate::keyed::KeyedSchema;
 use crate::reading::read_form;
 use crate::tokens::GivenUp;
@@ -25,7 +25,7 @@ pub fn read_text(
     schema: &Schema,
     of: &TypeRef,
     text: &[u8],
-) -> Result<Value, TextFault>
+) -> Result<Value, JsonTextFault>
     ensures reads { TellsText schema.now.decls (shape of.now) text.now result }
 {
     if let Ok(value) = value_in_text(alloc, schema, of, text) {

@@ -20,7 +20,7 @@ mod tokens;
 mod tree;
 mod writing;
 
-pub use fault::{FormCause, JsonFault, TextFault};
+pub use fault::{FormCause, JsonFault, JsonTextFault};
 pub use from_text::read_text;
 pub use laws::{each_text_tells, each_value_reads_back};
 pub use line::{JsonPrinter, show_text};

@@ -10,8 +10,8 @@ use Rattle.tl_schema.specs.declared.fault.TypeFault.{TypeFault}
 use Rattle.tl_schema.specs.declared.fault.TypeFault.TheVariants as type
 use Rattle.tl_plan.specs.declared.fault.PlanFault.{PlanFault}
 use Rattle.tl_plan.specs.declared.fault.PlanFault.TheVariants as planning
-use Rattle.tl_show.specs.declared.fault.TextFault.{TextFault}
-use Rattle.tl_show.specs.declared.fault.TextFault.TheVariants as reading
+use Rattle.tl_show.specs.declared.fault.JsonTextFault.{JsonTextFault}
+use Rattle.tl_show.specs.declared.fault.JsonTextFault.TheVariants as reading
 use Rattle.command_base.specs.declared.stop.Unmade.{Unmade}
 use Rattle.command_base.specs.declared.stop.Unmade.TheVariants as unmade
 use Rattle.command_base.specs.Loading.{RefusesAs}
@@ -45,7 +45,7 @@ TellsNoPlan (planning.TypeTooDeep decl) u = RefusesAs (plan_line (TypeTooDeep de
 TellsNoPlan planning.TooManyInstances u = RefusesAs (plan_line TooManyInstances) u
 TellsNoPlan planning.Memory u = u ≡ unmade.Memory
 
-abbrev pub TellsNoForm : TextFault → Unmade → Type 0
+abbrev pub TellsNoForm : JsonTextFault → Unmade → Type 0
 TellsNoForm reading.NoJson u = RefusesAs (json_line NoJson) u
 TellsNoForm (reading.Form path cause) u = RefusesAs (json_line (Unformed path.items cause)) u
 TellsNoForm reading.Memory u = u ≡ unmade.Memory

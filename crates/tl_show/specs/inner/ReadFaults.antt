@@ -8,8 +8,8 @@ use Rattle.tl_show.specs.declared.fault.FormFault.{FormFault}
 use Rattle.tl_show.specs.declared.fault.FormFault.TheVariants as form
 use Rattle.tl_show.specs.declared.fault.JsonFault.{JsonFault}
 use Rattle.tl_show.specs.declared.fault.JsonFault.TheVariants as fault
-use Rattle.tl_show.specs.declared.fault.TextFault.{TextFault}
-use Rattle.tl_show.specs.declared.fault.TextFault.TheVariants as text
+use Rattle.tl_show.specs.declared.fault.JsonTextFault.{JsonTextFault}
+use Rattle.tl_show.specs.declared.fault.JsonTextFault.TheVariants as text
 
 abbrev pub of_form : FormFault → JsonFault
 of_form (form.Form path cause) = fault.Form path cause
@@ -19,10 +19,10 @@ abbrev pub of_fit : FitFault → JsonFault
 of_fit (fit.Misfit m) = fault.Misfit m
 of_fit fit.Memory = fault.Memory
 
-abbrev pub text_fault : FormFault → TextFault
+abbrev pub text_fault : FormFault → JsonTextFault
 text_fault (form.Form path cause) = text.Form path cause
 text_fault form.Memory = text.Memory
 
 -- a text that is refused is no JSON, unless memory was out
-abbrev pub OfJsonError : Error → TextFault → Type 0
+abbrev pub OfJsonError : Error → JsonTextFault → Type 0
 OfJsonError e f = (IsMemory e × (f ≡ text.Memory)) ⊎ ((IsMemory e → ⊥) × (f ≡ text.NoJson))

@@ -118,12 +118,12 @@ named_in-returns-clause-record t c =
 
 pub fields_in-fields-init : goal.fields_in-fields-init
 fields_in-fields-init t c =
-    let fs = c.args.kind.fields.now in
+    let fs = c.args.applied.fields.now in
     let are = c.in_ok-values.ensures in
     record {
-      goes = λ name n enough. (n, member (codes "_") (string name) no_members, enough, refl, begins_fields c.args.schema.now.decls (map shape c.args.kind.args.now) name fs c.in_ok-values.values.items c.requires are);
+      goes = λ name n enough. (n, member (codes "_") (string name) no_members, enough, refl, begins_fields c.args.schema.now.decls (map shape c.args.applied.args.now) name fs c.in_ok-values.values.items c.requires are);
       shorter = omega arith;
-      long = filled c.in_ok-values.values.items c.args.kind.fields.now are;
+      long = filled c.in_ok-values.values.items c.args.applied.fields.now are;
     }
 
 pub fields_in-fields-preserved : goal.fields_in-fields-preserved
@@ -137,7 +137,7 @@ fields_in-fields-preserved t c =
     let r = c.closed_in.new.tokens in
     let less = read_key-shorter l.tokens (Some k) s named in
     let lesser = done.shorter in
-    let found = found_at c.args.schema.now.decls (map shape c.args.kind.args.now) k done.value.0 no_members c.args.kind.fields.now c.in-Some-place_of.i c.index-kind-i.result c.in_ok-value.value c.index-kind-i.is c.in-Some-place_of.ensures done.value.2 in
+    let found = found_at c.args.schema.now.decls (map shape c.args.applied.args.now) k done.value.0 no_members c.args.applied.fields.now c.in-Some-place_of.i c.index-applied-i.result c.in_ok-value.value c.index-applied-i.is c.in-Some-place_of.ensures done.value.2 in
     record {
       goes = λ name n enough.
           let before = l.invariant.goes name n enough in (
@@ -145,7 +145,7 @@ fields_in-fields-preserved t c =
             put k done.value.0 before.1,
             omega (arith, before.2, less, lesser),
             before.3 ∙ member_read p before.1 before.0 k l.tokens s r done.value.0 (omega (arith, before.2, less)) named done.value.1,
-            one_key c.args.schema.now.decls (map shape c.args.kind.args.now) k done.value.0 before.1 name c.args.kind.fields.now l.values.items c.in-Some-place_of.i c.in_ok-value.value c.requires found before.4,
+            one_key c.args.schema.now.decls (map shape c.args.applied.args.now) k done.value.0 before.1 name c.args.applied.fields.now l.values.items c.in-Some-place_of.i c.in_ok-value.value c.requires found before.4,
           );
       shorter = omega (arith, l.invariant.shorter, less, lesser);
       long = search rules;

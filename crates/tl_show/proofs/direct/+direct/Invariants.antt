@@ -46,9 +46,9 @@ invariant-fields_in-fields l =
       goes : (name : List ℕ) (n : ℕ) → length l.initial.tokens ≤ n
           → (m : ℕ) × (ms : Members) × (length l.tokens ≤ m)
           × (converted (λ found. of_members found (member (codes "_") (string name) no_members)) (members (value l.depth) n l.initial.tokens) ≡ converted (λ found. of_members found ms) (members (value l.depth) m l.tokens))
-          × HasFields l.schema.decls (map shape l.kind.args.now) l.kind.fields.now name ms l.values.items;
+          × HasFields l.schema.decls (map shape l.applied.args.now) l.applied.fields.now name ms l.values.items;
       shorter : length l.tokens ≤ length l.initial.tokens;
-      long : length l.values.items ≡ length l.kind.fields.now;
+      long : length l.values.items ≡ length l.applied.fields.now;
     }
 
 abbrev pub decreases-fields_in-fields : goal.decreases-fields_in-fields
