@@ -1,20 +1,12 @@
 //! tlbox: reads schemas of Telegram's TL language, values that are spelled in them, and journals of updates.
 #![tactic(auto)]
 
-mod links;
-mod real;
-mod state_file;
-mod streams;
-mod words;
-
 use commands::{Status, StoredStatus, keep_in, run, run_stored};
-use real::RealHost;
+use real_host::{RealHost, hold_streams, words_of};
 use sqlite_keeper::{FileKeeper, OpenError, close_keeper, open_keeper};
 use std::alloc::Global;
 use std::process::ExitCode;
-use streams::hold_streams;
 use tl_base::{Out, SinkOf, write_all};
-use words::words_of;
 
 const MEMORY_LINE: &[u8] = b"tlbox: memory\n";
 
