@@ -91,17 +91,55 @@ pub fn post_of(alloc: Global, row: PostRow) -> Result<Option<Post>, AllocError> 
     })
 }
 
-fn row<S: Alter>(
-    conn: &mut Connection<S>,
-    add: &Statement,
-    id: i64,
+// The cells of a row of the table of posts, its number aside.
+struct Cells<'p> {
     kind: i64,
     number: i64,
-    body: &[u8],
-    more: &[u8],
-) -> Result<(), Error> {
-    add.execute(conn, params![id, kind, number, body, more])?;
-    Ok(())
+    body: &'p [u8],
+    more: &'p [u8],
+}
+
+impl<'p> Cells<'p> {
+    fn of(kind: i64, number: i64, body: &'p [u8]) -> Cells<'p> {
+        Cells {
+            kind,
+            number,
+            body,
+            more: &[],
+        }
+    }
+}
+
+// The bytes of the ids that a post has in place of a body; none where it has no ids.
+fn id_bytes(alloc: Global, post: &Post) -> Result<Vec<u8>, AllocError> {
+    match post {
+        Post::Delete { ids } => bytes_of(alloc, ids),
+        Post::ChannelDelete { ids, .. } => bytes_of(alloc, ids),
+        Post::Read { max_id } => Vec::from_slice(alloc, &bytes_of_i32(*max_id)),
+        Post::ChannelRead { max_id, .. } => Vec::from_slice(alloc, &bytes_of_i32(*max_id)),
+        _ => Ok(Vec::new(alloc)),
+    }
+}
+
+// The cells of a post, whose ids have these bytes.
+fn cells_of<'p>(post: &'p Post, ids: &'p [u8]) -> Cells<'p> {
+    match post {
+        Post::Message { body } => Cells::of(0, 0, body.as_slice()),
+        Post::Edit { body } => Cells::of(1, 0, body.as_slice()),
+        Post::Delete { .. } => Cells::of(2, 0, ids),
+        Post::Secret { body } => Cells::of(3, 0, body.as_slice()),
+        Post::ChannelMessage { id, body } => Cells::of(4, *id, body.as_slice()),
+        Post::ChannelEdit { id, body } => Cells::of(5, *id, body.as_slice()),
+        Post::ChannelDelete { id, .. } => Cells::of(6, *id, ids),
+        Post::Setting { key, value } => Cells {
+            kind: 7,
+            number: 0,
+            body: value.as_slice(),
+            more: key.as_slice(),
+        },
+        Post::Read { .. } => Cells::of(8, 0, ids),
+        Post::ChannelRead { id, .. } => Cells::of(9, *id, ids),
+    }
 }
 
 /// Adds the row of a post.
@@ -112,43 +150,13 @@ pub fn put_row<S: Alter>(
     id: i64,
     post: &Post,
 ) -> Result<(), Error> {
-    match post {
-        Post::Message { body } => row(conn, add, id, 0, 0, body.as_slice(), &[]),
-        Post::Edit { body } => row(conn, add, id, 1, 0, body.as_slice(), &[]),
-        Post::Delete { ids } => row(conn, add, id, 2, 0, bytes_of(alloc, ids)?.as_slice(), &[]),
-        Post::Secret { body } => row(conn, add, id, 3, 0, body.as_slice(), &[]),
-        Post::ChannelMessage { id: channel, body } => row(
-            conn,
-            add,
-            id,
-            4,
-            *channel,
-            body.as_slice(),
-            &[],
-        ),
-        Post::ChannelEdit { id: channel, body } => row(
-            conn,
-            add,
-            id,
-            5,
-            *channel,
-            body.as_slice(),
-            &[],
-        ),
-        Post::ChannelDelete { id: channel, ids } => row(
-            conn,
-            add,
-            id,
-            6,
-            *channel,
-            bytes_of(alloc, ids)?.as_slice(),
-            &[],
-        ),
-        Post::Setting { key, value } => row(conn, add, id, 7, 0, value.as_slice(), key.as_slice()),
-        Post::Read { max_id } => row(conn, add, id, 8, 0, &bytes_of_i32(*max_id), &[]),
-        Post::ChannelRead {
-            id: channel,
-            max_id,
-        } => row(conn, add, id, 9, *channel, &bytes_of_i32(*max_id), &[]),
-    }
+    let ids = id_bytes(alloc, post)?;
+    let Cells {
+        kind,
+        number,
+        body,
+        more,
+    } = cells_of(post, &ids);
+    add.execute(conn, params![id, kind, number, body, more])?;
+    Ok(())
 }
