@@ -2,24 +2,10 @@
 //!
 //! A word is a number of 32 bits, `L` and a number of 64 bits, a text in quotes, or the name of a constructor or function, which stands for its number.
 //! `3*7` is the number 7 three times, and `3'x'` the text xxx.
-use base_rows::Row;
-use std::alloc::{AllocError, Global};
+use base_rows::{Row, RowFault, times};
+use std::alloc::Global;
 use tl_base::{Bytes, bytes_of_i32, bytes_of_i64, bytes_of_u32};
 use tl_schema::Schema;
-
-/// Why words have no bytes.
-#[derive(Clone, Copy, Debug)]
-pub enum WordFault {
-    /// One of them is no word, or a name that the schema doesn't have.
-    Unknown,
-    Memory,
-}
-
-impl From<AllocError> for WordFault {
-    fn from(_e: AllocError) -> WordFault {
-        WordFault::Memory
-    }
-}
 
 /// The bytes of the row's other words. Names have their numbers in the schema.
 pub fn bytes_of(schema: &Schema, row: &mut Row) -> Bytes {
@@ -28,28 +14,20 @@ pub fn bytes_of(schema: &Schema, row: &mut Row) -> Bytes {
         if row.is_empty() {
             break;
         }
-        match put_word(row.alloc(), schema, row.word(), &mut bytes) {
-            Ok(()) => {}
-            Err(WordFault::Unknown) => row.unknown(),
-            Err(WordFault::Memory) => row.short(),
-        }
+        let put = put_word(row.alloc(), schema, row.word(), &mut bytes);
+        row.note(put);
     }
     bytes
 }
 
-fn put_word(
-    alloc: Global,
-    schema: &Schema,
-    word: &str,
-    bytes: &mut Bytes,
-) -> Result<(), WordFault> {
+fn put_word(alloc: Global, schema: &Schema, word: &str, bytes: &mut Bytes) -> Result<(), RowFault> {
     if let Some((count, text)) = word.split_once('\'') {
         return put_text(alloc, times(count)?, text, bytes);
     }
     if let Some((count, number)) = word.split_once('*') {
         return match number.parse::<i32>() {
             Ok(number) => put_numbers(times(count)?, number, bytes),
-            Err(_) => Err(WordFault::Unknown),
+            Err(_) => Err(RowFault::Unknown),
         };
     }
     if let Some(number) = word.strip_prefix('L') {
@@ -61,25 +39,14 @@ fn put_word(
     }
 }
 
-// How many times; nothing says once.
-fn times(count: &str) -> Result<u32, WordFault> {
-    if count.is_empty() {
-        return Ok(1);
-    }
-    match count.parse::<u32>() {
-        Ok(count) => Ok(count),
-        Err(_) => Err(WordFault::Unknown),
-    }
-}
-
-fn put_long(number: &str, bytes: &mut Bytes) -> Result<(), WordFault> {
+fn put_long(number: &str, bytes: &mut Bytes) -> Result<(), RowFault> {
     match number.parse::<i64>() {
         Ok(number) => Ok(bytes.append(&bytes_of_i64(number))?),
-        Err(_) => Err(WordFault::Unknown),
+        Err(_) => Err(RowFault::Unknown),
     }
 }
 
-fn put_numbers(count: u32, number: i32, bytes: &mut Bytes) -> Result<(), WordFault> {
+fn put_numbers(count: u32, number: i32, bytes: &mut Bytes) -> Result<(), RowFault> {
     for _ in 0..count {
         bytes.append(&bytes_of_i32(number))?;
     }
@@ -87,9 +54,9 @@ fn put_numbers(count: u32, number: i32, bytes: &mut Bytes) -> Result<(), WordFau
 }
 
 // The text before the closing quote, so many times: its length, its bytes, and zeros up to a multiple of four.
-fn put_text(alloc: Global, count: u32, quoted: &str, bytes: &mut Bytes) -> Result<(), WordFault> {
+fn put_text(alloc: Global, count: u32, quoted: &str, bytes: &mut Bytes) -> Result<(), RowFault> {
     let Some((text, _)) = quoted.split_once('\'') else {
-        return Err(WordFault::Unknown);
+        return Err(RowFault::Unknown);
     };
     let content = text.repeat(alloc, count as usize)?;
     put_length(content.len(), bytes)?;
@@ -103,19 +70,19 @@ fn put_text(alloc: Global, count: u32, quoted: &str, bytes: &mut Bytes) -> Resul
     Ok(())
 }
 
-fn put_length(length: usize, bytes: &mut Bytes) -> Result<(), WordFault> {
+fn put_length(length: usize, bytes: &mut Bytes) -> Result<(), RowFault> {
     if length < 254 {
         bytes.push(length as u8)?;
     } else if length < 16_777_216 {
         let [low, middle, high, _] = bytes_of_u32(length as u32);
         bytes.append(&[254, low, middle, high])?;
     } else {
-        return Err(WordFault::Unknown);
+        return Err(RowFault::Unknown);
     }
     Ok(())
 }
 
-fn put_name(schema: &Schema, name: &str, bytes: &mut Bytes) -> Result<(), WordFault> {
+fn put_name(schema: &Schema, name: &str, bytes: &mut Bytes) -> Result<(), RowFault> {
     let found = match schema.find(name.as_bytes(), false) {
         Some(index) => Some(index),
         None => schema.find(name.as_bytes(), true),
@@ -125,6 +92,6 @@ fn put_name(schema: &Schema, name: &str, bytes: &mut Bytes) -> Result<(), WordFa
             bytes.append(&bytes_of_u32(schema.entry(index).number))?;
             Ok(())
         }
-        _ => Err(WordFault::Unknown),
+        _ => Err(RowFault::Unknown),
     }
 }
