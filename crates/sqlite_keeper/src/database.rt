@@ -4,22 +4,64 @@ use crate::tables::{
     ADD_ENTRY, ADD_POST, COUNT, GET_ENTRY, GET_POSTS, Head, POSTS_OF_ENTRY, command, count_entries,
     head_of, make_tables, posts_of, prepare, put_head, put_posts,
 };
-use box_store::Entry;
+use box_store::{Entry, Posts};
 use sqlite::{Alter, Connection, Error, ErrorCode, Statement};
 use std::alloc::Global;
 
 const TOO_BIG: Error = Error::SqliteFailure(ErrorCode::TooBig);
+
+// The statements that read.
+#[derive(Drop)]
+struct Reads {
+    count: Statement,
+    entry: Statement,
+    posts: Statement,
+}
+
+// The statements that write.
+#[derive(Drop)]
+struct Writes {
+    entry: Statement,
+    post: Statement,
+}
 
 /// A connection, with the statements that are used again and again.
 #[derive(Drop)]
 pub struct Database<S: Alter> {
     alloc: Global,
     conn: Connection<S>,
-    count: Statement,
-    get_entry: Statement,
-    get_posts: Statement,
-    add_entry: Statement,
-    add_post: Statement,
+    reads: Reads,
+    writes: Writes,
+}
+
+fn reads_over<S: Alter>(conn: &mut Connection<S>) -> Result<Reads, Error> {
+    let count = prepare(conn, COUNT)?;
+    let entry = prepare(conn, GET_ENTRY)?;
+    let posts = prepare(conn, GET_POSTS)?;
+    Ok(Reads {
+        count,
+        entry,
+        posts,
+    })
+}
+
+fn writes_over<S: Alter>(conn: &mut Connection<S>) -> Result<Writes, Error> {
+    let entry = prepare(conn, ADD_ENTRY)?;
+    let post = prepare(conn, ADD_POST)?;
+    Ok(Writes { entry, post })
+}
+
+// The entry with this head and these posts, if they are as many as it says.
+fn entry_of(head: Head, posts: Option<Posts>) -> Option<Entry> {
+    let posts = posts?;
+    if posts.len() != head.posts as usize {
+        return None;
+    }
+    Some(Entry {
+        date: head.date,
+        random_id: head.random_id,
+        posts,
+    })
 }
 
 impl<S: Alter + Drop> Database<S> {
@@ -27,19 +69,13 @@ impl<S: Alter + Drop> Database<S> {
     pub fn over(alloc: Global, conn: Connection<S>) -> Result<Database<S>, Error> {
         let mut conn = conn;
         make_tables(&mut conn)?;
-        let count = prepare(&mut conn, COUNT)?;
-        let get_entry = prepare(&mut conn, GET_ENTRY)?;
-        let get_posts = prepare(&mut conn, GET_POSTS)?;
-        let add_entry = prepare(&mut conn, ADD_ENTRY)?;
-        let add_post = prepare(&mut conn, ADD_POST)?;
+        let reads = reads_over(&mut conn)?;
+        let writes = writes_over(&mut conn)?;
         Ok(Database {
             alloc,
             conn,
-            count,
-            get_entry,
-            get_posts,
-            add_entry,
-            add_post,
+            reads,
+            writes,
         })
     }
 
@@ -49,20 +85,14 @@ impl<S: Alter + Drop> Database<S> {
 
     /// How many entries there are.
     pub fn count(&mut self) -> Result<u32, Error> {
-        count_entries(&mut self.conn, &self.count)
+        count_entries(&mut self.conn, &self.reads.count)
     }
 
     /// Entry `n`; none where rows of posts are missing, or one is no post's.
     pub fn get(&mut self, n: u32) -> Result<Option<Entry>, Error> {
-        let head = head_of(&mut self.conn, &self.get_entry, n)?;
-        match posts_of(self.alloc, &mut self.conn, &self.get_posts, n)? {
-            Some(posts) if posts.len() == head.posts as usize => Ok(Some(Entry {
-                date: head.date,
-                random_id: head.random_id,
-                posts,
-            })),
-            _ => Ok(None),
-        }
+        let head = head_of(&mut self.conn, &self.reads.entry, n)?;
+        let posts = posts_of(self.alloc, &mut self.conn, &self.reads.posts, n)?;
+        Ok(entry_of(head, posts))
     }
 
     /// Adds entry `n`: all of its rows, or none.
@@ -86,8 +116,8 @@ impl<S: Alter + Drop> Database<S> {
 
     // The rows of an entry, and the end of their transaction.
     fn put(&mut self, n: u32, head: Head, entry: &Entry) -> Result<(), Error> {
-        put_head(&mut self.conn, &self.add_entry, n, head)?;
-        put_posts(self.alloc, &mut self.conn, &self.add_post, n, entry)?;
+        put_head(&mut self.conn, &self.writes.entry, n, head)?;
+        put_posts(self.alloc, &mut self.conn, &self.writes.post, n, entry)?;
         command(&mut self.conn, "COMMIT")
     }
 }
