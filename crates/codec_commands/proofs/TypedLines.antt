@@ -113,12 +113,6 @@ module _ (Tells : ToInput) (s t i : List ℕ) where
       no_value_line tells e r a m b loaded h is =
           told_then a m b (LoadsFirst s (Ok schema)) (LoadsInput (Err e)) (MakesOutput job (making r)) (λ v u w l k. stops job e r v w (input_stops tells e v u w l k) is) loaded h
 
-      -- out of memory after the input was read
-      pub no_memory_line : (x : X) (r : Result (Vec ℕ Global) Unmade) (a m b : Option View)
-          → Told a m (LoadsFirst s (Ok schema)) → Told m b (LoadsInput (Ok x)) → IsErrAnd r (λ z. z ≡ unmade.Memory) → Told a b (MakesOutput job (making r))
-      no_memory_line x r a m b loaded h is =
-          told_then a m b (LoadsFirst s (Ok schema)) (LoadsInput (Ok x)) (MakesOutput job (making r)) (λ v u w l k. stops job unmade.Memory r v w (both_read v u w l k.1) is) loaded h
-
       -- what is made of the value
       pub value_line : (x : X) (out : List ℕ) → ((text bytes : List ℕ) → IsSchemaText text schema → Is bytes x → Tells schema T bytes (done out)) → (a m b : Option View)
           → Told a m (LoadsFirst s (Ok schema)) → Told m b (LoadsInput (Ok x)) → Told a b (MakesOutput job (made out))

@@ -3,4 +3,5 @@ pub mod Check
 pub mod Decode
 pub mod Encode
 pub mod Inputs
+pub mod Lined
 pub mod Spelled
