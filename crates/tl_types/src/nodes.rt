@@ -11,6 +11,7 @@ use crate::value::Value;
 use tl_schema::{Form, Schema};
 
 /// The first cause that the value has, its own parts aside: of a type of this form, with so many levels left, where it stands by this bit or by none.
+#[inline(always)]
 pub fn node_misfit(
     value: &Value,
     schema: &Schema,
