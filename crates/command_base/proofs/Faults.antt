@@ -30,6 +30,10 @@ pub read_on : {k : Kind} {a b : HostState} {F G : Type 0} {P R : View → Type 0
 read_on {G = G} {R = R} met never =
     record { later = met.later; cause = λ failed. absurd (never failed); others = met.others; stays = met.stays; never = never_failed _ _ G R never }
 
+-- no call was made
+pub met_nothing : {k : Kind} (a : HostState) (F : Type 0) (P : View → Type 0) → (F → ⊥) → MeetsFaults k a a F P
+met_nothing a F P never = record { later = omega (arith); cause = λ failed. absurd (never failed); others = refl; stays = λ told sound. sound; never = never_failed a.view (IsTrue a.sound) F P never }
+
 -- a failure that is another call's, where more is known of the view
 pub fails_as : (told : Option View) (x y : Bool) (F G : Type 0) (P R : View → Type 0) → NeverFails told x y F P → (G → F) → ((v : View) → R v → P v) → NeverFails told x y G R
 fails_as None x y F G P R call cause known = record { stays = call.stays; never = tt }
@@ -47,6 +51,25 @@ then_fails None b x y z F P R Q between first second known = record { stays = st
 then_fails (Some v) None x y z F P R Q between first second known = absurd between
 then_fails (Some v) (Some w) x y z F P R Q between first second known =
     record { stays = stays_sound (Some v) (Some w) x y z Q between first second.stays; never = λ sound p failed. second.never (first refl sound) (known v w between p) failed }
+
+-- a call whose failure is another's, where more is known of the view
+pub met_as : {k : Kind} {a b : HostState} {F G : Type 0} {P R : View → Type 0} → MeetsFaults k a b F P → (G → F) → ((v : View) → R v → P v) → MeetsFaults k a b G R
+met_as {a = a} {b = b} {F = F} {G = G} {P = P} {R = R} met cause known =
+    let call = fails_as a.view a.sound b.sound F G P R (safe met) cause known in
+    record { later = met.later; cause = λ failed. met.cause (cause failed); others = met.others; stays = met.stays; never = call.never }
+
+-- a call after one that didn't fail
+pub met_then : {k : Kind} (a m b : HostState) (F G : Type 0) (P Q R : View → Type 0) (B : View → View → Type 0) → Told a.view m.view B → MeetsFaults k a m F P → MeetsFaults k m b G Q
+    → ((v u : View) → B v u → R v → Q u) → MeetsFaults k a b G R
+met_then a m b F G P Q R B between first second known =
+    let both = then_fails a.view m.view a.sound m.sound b.sound G R Q B between first.stays (safe second) known in
+    record {
+      later = omega (arith, first.later, second.later);
+      cause = λ failed. omega (arith, first.later, second.cause failed);
+      others = second.others ∙ first.others;
+      stays = both.stays;
+      never = both.never;
+    }
 
 -- ---- work that reads and then writes
 

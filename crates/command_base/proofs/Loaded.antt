@@ -77,6 +77,33 @@ module _ {X : Type 0} (slot : Slot) (name : List ℕ) (limit : ℕ) (Is : List �
     pub loaded : (read : Vec ℕ Global) (r : Result X Unmade) (a b : Option View) → Told a b (ReadsFile slot name limit (Ok read)) → Gives Is Tells read.items r → Told a b (Loads slot name Is Tells r)
     loaded read r a b file h = told_as a b (ReadsFile slot name limit (Ok read)) (Loads slot name Is Tells r) (λ v w f. loaded_there read r v w f h) file
 
+-- ---- what is made of what was loaded
+
+module _ {X Y : Type 0} (slot : Slot) (name : List ℕ) (Is : List ℕ → X → Type 0) (Tells : List ℕ → List ℕ → Type 0) (Makes : List ℕ → Y → Type 0) (Says : List ℕ → List ℕ → Type 0) where
+  made_there : (x : X) (r : Result Y Unmade) (v w : View) → ((text : List ℕ) → Is text x → Gives Makes Says text r) → Loads slot name Is Tells (Ok x) v w → Loads slot name Makes Says r v w
+  made_there x (Ok y) v w makes ((text, has, is), only) = ((text, has, makes text is), only)
+  made_there x (Err (unmade.Refused line)) v w makes ((text, has, is), only) = ((text, has, makes text is), only)
+  made_there x (Err unmade.ReadFault) v w makes file = file.1
+  made_there x (Err unmade.Memory) v w makes file = file.1
+
+  -- what is made of a thing is made of the file that it was loaded from
+  pub made_of : (x : X) (r : Result Y Unmade) (a b : Option View) → ((text : List ℕ) → Is text x → Gives Makes Says text r) → Told a b (Loads slot name Is Tells (Ok x)) → Told a b (Loads slot name Makes Says r)
+  made_of x r a b makes = told_as a b (Loads slot name Is Tells (Ok x)) (Loads slot name Makes Says r) (λ v w. made_there x r v w makes)
+
+  module _ (says : (text line : List ℕ) → Tells text line → Says text line) where
+    unmade_there : (e : Unmade) (v w : View) → Loads slot name Is Tells (Err e) v w → Loads slot name Makes Says (Err e) v w
+    unmade_there (unmade.Refused line) v w ((text, has, tells), only) = ((text, has, says text line.items tells), only)
+    unmade_there unmade.ReadFault v w only = only
+    unmade_there unmade.Memory v w only = only
+
+    stops_there : (e : Unmade) (r : Result Y Unmade) (v w : View) → IsErrAnd r (λ z. z ≡ e) → Loads slot name Is Tells (Err e) v w → Loads slot name Makes Says r v w
+    stops_there e (Ok y) v w is file = absurd is
+    stops_there e (Err z) v w is file = subst (λ (y : Unmade). Loads slot name Makes Says (Err y) v w) (sym is) (unmade_there e v w file)
+
+    -- where nothing was loaded nothing is made, at the exit of a `?`
+    pub unmade_of : (e : Unmade) (r : Result Y Unmade) (a b : Option View) → IsErrAnd r (λ z. z ≡ e) → Told a b (Loads slot name Is Tells (Err e)) → Told a b (Loads slot name Makes Says r)
+    unmade_of e r a b is = told_as a b (Loads slot name Is Tells (Err e)) (Loads slot name Makes Says r) (λ v w. stops_there e r v w is)
+
 -- ---- what loading leaves
 
 module _ {X : Type 0} (slot : Slot) (name : List ℕ) (Is : List ℕ → X → Type 0) (Tells : List ℕ → List ℕ → Type 0) where

@@ -1,10 +1,12 @@
 -- The work of a job that makes its Output and then writes it.
 use Rattle.std.proofs.Common.{◌≡◌, ◌≢◌, ℕ, List, ◌++◌, append-nil, length, IsTrue, Option, Some, None, Result, Ok, Err, Vec, Global, refl, sym, ap, ◌∙◌, subst, arith, inl, inr}
-use Rattle.std.specs.Prelude.{IfSome, IsErrOf}
-use Rattle.tl_base.specs.Outside.{View, HostState}
+use Rattle.std.specs.Prelude.{IfSome, IsErrAnd, IsErrOf}
+use Rattle.tl_base.specs.Outside.{View, HasFile, HostState}
 use Rattle.tl_base.specs.Calls.{Told}
+use Rattle.tl_base.specs.Hosted.{OnlySlot}
 use Rattle.tl_base.specs.Using.{MeetsFaults}
 use Rattle.tl_base.specs.declared.counts.Kind.TheVariants as kinds
+use Rattle.tl_base.specs.declared.host.Slot.{Slot}
 use Rattle.command_base.specs.declared.status.Status.{Status}
 use Rattle.command_base.specs.declared.status.Status.TheVariants.{ReadFault, WriteFault, LinkFault, PeerFault}
 use Rattle.command_base.specs.declared.stop.Stop.{Stop}
@@ -14,9 +16,10 @@ use Rattle.command_base.specs.declared.stop.Unmade.TheVariants as unmade
 use Rattle.command_base.specs.Answer.{Answer, done, refused}
 use Rattle.command_base.specs.Kept.{KeepsRest, LeavesInput, KeepsUnread, OnlyReads}
 use Rattle.command_base.specs.Jobs.{Job, Works, Making, made, refused_by, unread, no_memory, of_fault, making, MakesOutput, TellsAs, WritesMade}
+use Rattle.command_base.specs.Loading.{Loads, Refuses}
 use Rattle.command_base.specs.Sound.{IsFault, MeetsFaultsOf, Answered, Fits, MadeFits}
-use Rattle.command_base.proofs.Views.{told_as, told_both, told_then}
-use Rattle.command_base.proofs.Rests.{rest_then, output_rest, same_rest, then_same, wrote_nothing, rest_left, unread_by}
+use Rattle.command_base.proofs.Views.{told_as, told_both, told_here, told_then}
+use Rattle.command_base.proofs.Rests.{rest_then, output_rest, read_nothing, same_rest, then_reads, then_same, wrote_nothing, rest_left, unread_by}
 use Rattle.command_base.proofs.Faults.{safe, then_fails}
 
 module _ (job : Job) where
@@ -33,6 +36,59 @@ module _ (job : Job) where
 
   pub not_made : (m : Making) (fault : Unmade) (a b : Option View) → TellsAs m fault → Told a b (MakesOutput job m) → Told a b (MakesOutput job (of_fault fault))
   not_made m fault a b tells = told_as a b (MakesOutput job m) (MakesOutput job (of_fault fault)) (λ v w. told_by m fault v w tells)
+
+  -- ---- what is made
+
+  -- the exit of a `?`
+  stops_there : (e : Unmade) (r : Result (Vec ℕ Global) Unmade) (v w : View) → IsErrAnd r (λ z. z ≡ e) → MakesOutput job (of_fault e) v w → MakesOutput job (making r) v w
+  stops_there e (Ok x) v w is h = absurd is
+  stops_there e (Err z) v w is h = subst (λ (y : Unmade). MakesOutput job (of_fault y) v w) (sym is) h
+
+  pub stops : (e : Unmade) (r : Result (Vec ℕ Global) Unmade) (a b : Option View) → IsErrAnd r (λ z. z ≡ e) → Told a b (MakesOutput job (of_fault e)) → Told a b (MakesOutput job (making r))
+  stops e r a b is = told_as a b (MakesOutput job (of_fault e)) (MakesOutput job (making r)) (λ v w. stops_there e r v w is)
+
+  -- a refusal by its line, where nothing was read
+  refuses_there : (P : List ℕ → Type 0) (e : Unmade) (v : View) → ((line : List ℕ) → P line → job.answers v (refused line)) → Refuses P e → MakesOutput job (of_fault e) v v
+  refuses_there P (unmade.Refused line) v answers h = (answers line.items h, read_nothing v)
+  refuses_there P unmade.ReadFault v answers h = read_nothing v
+  refuses_there P unmade.Memory v answers h = read_nothing v
+
+  pub refuses_made : (P : List ℕ → Type 0) (e : Unmade) (r : Result (Vec ℕ Global) Unmade) (a : Option View) → ((v : View) (line : List ℕ) → P line → job.answers v (refused line)) → Refuses P e → IsErrAnd r (λ z. z ≡ e)
+      → Told a a (MakesOutput job (making r))
+  refuses_made P e r a answers h is = stops e r a a is (told_here a (MakesOutput job (of_fault e)) (λ v. refuses_there P e v (answers v) h))
+
+  module _ {X : Type 0} (slot : Slot) (name : List ℕ) (Is : List ℕ → X → Type 0) (Says : List ℕ → List ℕ → Type 0) (only : (v w : View) → OnlySlot slot v w → OnlyReads v w)
+      (answers : (v : View) (text line : List ℕ) → HasFile v.files name text → Says text line → job.answers v (refused line)) where
+    -- a file of which nothing is loaded is refused
+    pub unloaded_there : (e : Unmade) (v w : View) → Loads slot name Is Says (Err e) v w → MakesOutput job (of_fault e) v w
+    unloaded_there (unmade.Refused line) v w ((text, has, says), slot_only) = (answers v text line.items has says, only v w slot_only)
+    unloaded_there unmade.ReadFault v w slot_only = only v w slot_only
+    unloaded_there unmade.Memory v w slot_only = only v w slot_only
+
+    pub unloaded_made : (e : Unmade) (r : Result (Vec ℕ Global) Unmade) (a b : Option View) → Told a b (Loads slot name Is Says (Err e)) → IsErrAnd r (λ z. z ≡ e) → Told a b (MakesOutput job (making r))
+    unloaded_made e r a b h is = stops e r a b is (told_as a b (Loads slot name Is Says (Err e)) (MakesOutput job (of_fault e)) (unloaded_there e) h)
+
+  module _ (slot : Slot) (name : List ℕ) (Is : List ℕ → Vec ℕ Global → Type 0) (Says : List ℕ → List ℕ → Type 0) (only : (v w : View) → OnlySlot slot v w → OnlyReads v w)
+      (makes : (v : View) (text : List ℕ) (out : Vec ℕ Global) → HasFile v.files name text → Is text out → job.answers v (done out.items))
+      (answers : (v : View) (text line : List ℕ) → HasFile v.files name text → Says text line → job.answers v (refused line)) where
+    loaded_there : (r : Result (Vec ℕ Global) Unmade) (v w : View) → Loads slot name Is Says r v w → MakesOutput job (making r) v w
+    loaded_there (Ok out) v w ((text, has, is), slot_only) = (makes v text out has is, only v w slot_only)
+    loaded_there (Err e) v w h = unloaded_there slot name Is Says only answers e v w h
+
+    -- the Output that a file is, or its refusal
+    pub loaded_made : (r : Result (Vec ℕ Global) Unmade) (a b : Option View) → Told a b (Loads slot name Is Says r) → Told a b (MakesOutput job (making r))
+    loaded_made r a b = told_as a b (Loads slot name Is Says r) (MakesOutput job (making r)) (loaded_there r)
+
+  -- what is made by the rest of a job, after calls that only read
+  module _ (rest : Job) (P : View → View → Type 0) (reads : (v u : View) → P v u → OnlyReads v u) (answers : (v u : View) (a : Answer) → P v u → rest.answers u a → job.answers v a) where
+    then_there : (m : Making) (v u w : View) → P v u → MakesOutput rest m u w → MakesOutput job m v w
+    then_there (made text) v u w p (answer, only) = (answers v u (done text) p answer, then_reads v u w (reads v u p) only)
+    then_there (refused_by line) v u w p (answer, only) = (answers v u (refused line) p answer, then_reads v u w (reads v u p) only)
+    then_there unread v u w p only = then_reads v u w (reads v u p) only
+    then_there no_memory v u w p only = then_reads v u w (reads v u p) only
+
+    pub made_then : (m : Making) (a t b : Option View) → Told a t P → Told t b (MakesOutput rest m) → Told a b (MakesOutput job m)
+    made_then m a t b = told_then a t b P (MakesOutput rest m) (MakesOutput job m) (then_there m)
 
   -- ---- what is written
 

@@ -1,5 +1,5 @@
 -- What calls leave as it was.
-use Rattle.std.proofs.Common.{◌≡◌, ℕ, List, [], ◌++◌, append-nil, drop, None, Result, Ok, Err, Vec, Global, sym, ap, ◌∙◌, inl, inr}
+use Rattle.std.proofs.Common.{◌≡◌, ℕ, List, [], ◌++◌, append-nil, drop, None, Result, Ok, Err, Vec, Global, refl, sym, ap, ◌∙◌, inl, inr}
 use Rattle.tl_base.specs.Outside.{View, left_of, with_left, with_written}
 use Rattle.tl_base.specs.Hosted.{OnlySlot, ReadsFile}
 use Rattle.tl_base.specs.declared.host.Slot.TheVariants.{Schema, Input}
@@ -36,6 +36,10 @@ output_rest bytes v w e = e ∙ ap (rest_of v) (sym e)
 pub same_rest : (v w : View) → w ≡ v → KeepsRest v w
 unfolding rest_of
 same_rest v w e = e ∙ ap (rest_of v) (sym e)
+
+-- nothing was read or written
+pub read_nothing : (v : View) → OnlyReads v v
+read_nothing v = record { output = refl; errors = refl; rest = same_rest v v refl }
 
 -- what is written to Errors leaves the rest
 pub errors_rest : (v w : View) → OnlyErrors v w → KeepsRest v w

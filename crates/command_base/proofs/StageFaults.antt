@@ -1,5 +1,5 @@
 -- Where work that comes after other calls can't fail, from where these and its own can't.
-use Rattle.std.proofs.Common.{◌≡◌, ◌≢◌, ℕ, List, Result, Ok, Err, refl, sym, ap, ◌∙◌, subst, arith, inl, inr}
+use Rattle.std.proofs.Common.{◌≡◌, ◌≢◌, ℕ, List, Result, Ok, Err, refl, sym, ap, ◌∙◌, subst, arith}
 use Rattle.std.specs.Prelude.{IsErrAnd, IsErrOf}
 use Rattle.tl_base.specs.Outside.{View, HostState}
 use Rattle.tl_base.specs.Calls.{Told}
@@ -15,7 +15,7 @@ use Rattle.command_base.specs.Jobs.{Job, of_unmade}
 use Rattle.command_base.specs.Loading.{Refuses}
 use Rattle.command_base.specs.Sound.{IsFault, MeetsFaultsOf, Answered, Fits}
 use Rattle.command_base.specs.Telling.{status_of, stop_status}
-use Rattle.command_base.proofs.Faults.{NeverFails, safe, fails_as, then_fails, read_faults, read_on}
+use Rattle.command_base.proofs.Faults.{NeverFails, safe, fails_as, met_as, then_fails, read_faults, read_on}
 
 -- ---- what isn't made ends the work
 
@@ -50,17 +50,12 @@ not_peer (unmade.Refused line) is = absurd cc
 not_peer unmade.ReadFault is = absurd cc
 not_peer unmade.Memory is = absurd cc
 
-answered_reads : (job : Job) (x y : HostState) (F : Type 0) (P : View → Type 0) → MeetsFaults kinds.Reads x y F P → ((v : View) → Answered job v → P v) → MeetsFaults kinds.Reads x y F (Answered job)
-answered_reads job x y F P met known =
-    let n = fails_as x.view x.sound y.sound F F P (Answered job) (safe met) (λ f. f) known in
-    record { later = met.later; cause = met.cause; others = met.others; stays = met.stays; never = n.never }
-
 -- reading failed, or what was read is refused
 pub unmade_faults : (X : Type 0) (job : Job) (e : Unmade) (r : Result Status Stop) (x y : HostState) (P : View → Type 0) → IsErrAnd r (λ z. z ≡ of_unmade e)
     → MeetsFaults kinds.Reads x y (IsErrOf {T = X} (Err e) unmade.ReadFault) P → ((v : View) → Answered job v → P v) → MeetsFaultsOf job x y (status_of r)
 unmade_faults X job e r x y P is met known =
     let s = unmade_is e r is in
-    read_faults job x y (status_of r) (IsErrOf {T = X} (Err e) unmade.ReadFault) (answered_reads job x y _ P met known)
+    read_faults job x y (status_of r) (IsErrOf {T = X} (Err e) unmade.ReadFault) (met_as {P = P} {R = Answered job} met (λ f. f) known)
     (λ f. failed_read X e (sym s ∙ f)) (λ f. not_write e (sym s ∙ f)) (λ f. not_link e (sym s ∙ f)) (λ f. not_peer e (sym s ∙ f))
 
 refuses_unread : (P : List ℕ → Type 0) (e : Unmade) → Refuses P e → stop_status (of_unmade e) ≡ status.ReadFault → ⊥

@@ -24,3 +24,8 @@ told_then None (Some u) b P Q R f h k = absurd h
 told_then (Some v) None b P Q R f h k = absurd h
 told_then (Some v) (Some u) None P Q R f h k = k
 told_then (Some v) (Some u) (Some w) P Q R f h k = f v u w h k
+
+-- no call was made
+pub told_here : (a : Option View) (P : View → View → Type 0) → ((v : View) → P v v) → Told a a P
+told_here None P f = tt
+told_here (Some v) P f = f v
