@@ -1,5 +1,5 @@
 -- The packets of a file, by the schema of another.
-use Rattle.std.proofs.Common.{◌≡◌, ℕ, List, Option, Result, Ok, Err, codes, refl, sym, ap, ◌∙◌, subst, inl, inr}
+use Rattle.std.proofs.Common.{◌≡◌, ℕ, List, Option, Result, Ok, Err, codes, refl, sym, ap, subst, inl, inr}
 use Rattle.std.specs.Prelude.{IsErrAnd, IsErrOf}
 use Rattle.tl_base.specs.Contents.{Files}
 use Rattle.tl_base.specs.Outside.{View, HostState, HasFile, IsThere}
@@ -10,7 +10,7 @@ use Rattle.tl_base.specs.Using.{MeetsFaults}
 use Rattle.tl_base.specs.declared.counts.Kind.TheVariants as kinds
 use Rattle.tl_base.specs.declared.host.Slot.TheVariants.{Schema}
 use Rattle.tl_schema.specs.Schemas.{Declared}
-use Rattle.command_base.specs.Answer.{Answer, refused}
+use Rattle.command_base.specs.Answer.{Answer}
 use Rattle.command_base.specs.Jobs.{Works, WorksOver, MakesOutput, of_fault, of_unmade}
 use Rattle.command_base.specs.Kept.{KeepsRest}
 use Rattle.command_base.specs.Sound.{Fits, HasRoomFor, MeetsFaultsOf}
@@ -22,14 +22,14 @@ use Rattle.command_base.specs.declared.stop.Unmade.{Unmade}
 use Rattle.command_base.specs.declared.stop.Unmade.TheVariants as unmade
 use Rattle.command_base.proofs.Loaded.{slot_only}
 use Rattle.command_base.proofs.Rests.{only_schema, rest_then, wrote_nothing}
-use Rattle.command_base.proofs.SameFiles.{same_file}
 use Rattle.command_base.proofs.StageFaults.{refused_faults, stage_faults, unmade_faults}
 use Rattle.command_base.proofs.Stages.{Carries, before, unmade_works, works_then}
 use Rattle.command_base.proofs.Views.{told_as, told_then}
 use Rattle.schema_files.specs.Loaded.{IsSchemaText}
 use Rattle.schema_files.specs.Parts.{LoadsSchema, TellsSchema}
-use Rattle.schema_files.proofs.OneSchemaText.{one_schema_text, never_schema}
-use Rattle.call_commands.specs.Calls.{OfInputFile, OfSchema, no_schema, schema_of, calls_job}
+use Rattle.schema_files.specs.Answering.{schema_of}
+use Rattle.schema_files.proofs.Answering.{no_schema_there, of_schema}
+use Rattle.call_commands.specs.Calls.{OfInputFile, calls_job}
 use Rattle.call_commands.specs.Answering.{file_job}
 
 module _ (s i : List ℕ) where
@@ -39,9 +39,7 @@ module _ (s i : List ℕ) where
   -- ---- no schema
 
   schema_stops : (e : Unmade) (v w : View) → LoadsIt (Err e) v w → MakesOutput (calls_job s i) (of_fault e) v w
-  schema_stops (unmade.Refused line) v w ((text, has, (cause, h, is)), only) = ((text, has, no_schema cause h (ap refused is)), only_schema v w only)
-  schema_stops unmade.ReadFault v w only = only_schema v w only
-  schema_stops unmade.Memory v w only = only_schema v w only
+  schema_stops = no_schema_there (calls_job s i) (codes "schema") s (λ v. OfInputFile v.files i) (λ v a h. h) Schema only_schema
 
   pub no_schema_works : (W L : Type 0) (e : Unmade) (r : Result Status Stop) (a b : Option View) → Told a b (LoadsIt (Err e)) → IsErrAnd r (λ z. z ≡ of_unmade e) → Told a b (Works W L (calls_job s i) r)
   no_schema_works W L e r a b loads is = told_as a b (LoadsIt (Err e)) (Works W L (calls_job s i) r) (λ v w l. unmade_works W L (calls_job s i) e r v w (schema_stops e v w l) is) loads
@@ -92,14 +90,9 @@ module _ (s i : List ℕ) where
     same_room v u a only room = subst (λ (z : View). HasRoomFor a z) (sym only) (record { output = room.output; state = room.state; links = room.links; coming = room.coming; address = room.address })
 
     -- the answer is that of the schema which was loaded
-    of_schema : (text : List ℕ) (files : Files) (a : Answer) → IsSchemaText text schema → OfSchema text i files a → OfInputFile files i schema a
-    of_schema text files a h (no_schema cause r is) = absurd (never_schema text schema cause h r)
-    of_schema text files a h (schema_of other k tells) = subst (λ (x : Declared). OfInputFile files i x a) (one_schema_text text other schema k h) tells
-
     fits_after : (v u : View) → LoadsIt (Ok schema) v u → Fits (calls_job s i) v → Fits (file_job schema i) u
-    fits_after v u l (a, (text, has, h), room) =
-        let same : text ≡ l.0.0 = same_file v.files s text l.0.0 has l.0.1 in
-        let found = of_schema l.0.0 v.files a l.0.2 (subst (λ (x : List ℕ). OfSchema x i v.files a) same h) in
+    fits_after v u l (a, h, room) =
+        let found = of_schema (codes "schema") (OfInputFile v.files i) v.files s l.0.0 schema a l.0.1 l.0.2 h in
         (a, (found.0, subst (λ (fs : Files). HasFile fs i found.0) (sym (same_files v u l)) found.1, found.2), same_room v u a l.1 room)
 
     pub calls_faults : (F : Type 0) (k : Status) (x y z : HostState) → MeetsFaults kinds.Reads x y F (IsThere s) → Told x.view y.view (LoadsIt (Ok schema)) → MeetsFaultsOf (file_job schema i) y z k → MeetsFaultsOf (calls_job s i) x z k

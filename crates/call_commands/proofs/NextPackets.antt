@@ -1,10 +1,9 @@
 -- The next packet of a file, as it is read.
-use Rattle.std.proofs.Common.{◌≡◌, ℕ, ◌+◌, ◌<◌, ◌≤◌, ◌^◌, List, [], ◌++◌, length, length-append, codes, decimal, Bool, true, false, Option, Some, None, Result, Ok, Err, refl, sym, ap, ◌∙◌, subst, arith}
+use Rattle.std.proofs.Common.{◌≡◌, ℕ, ◌+◌, ◌<◌, ◌≤◌, List, ◌++◌, length, length-append, codes, decimal, Bool, true, false, Option, Some, Ok, Err, refl, sym, ap, ◌∙◌, subst, arith}
 use Rattle.std.specs.Prelude.{IsErrOf}
 use Rattle.tl_base.specs.Numbers.{word}
 use Rattle.tl_base.specs.Outside.{View, HostState, left_of}
 use Rattle.tl_base.specs.Calls.{Told}
-use Rattle.tl_base.specs.Hosted.{OnlySlot}
 use Rattle.tl_base.specs.Packets.{IsPacketLength, ReadsPacket, PacketInto, packet}
 use Rattle.tl_base.specs.Using.{MeetsFaults}
 use Rattle.tl_base.specs.declared.counts.Kind.TheVariants as kinds
@@ -21,7 +20,7 @@ use Rattle.command_base.proofs.Faults.{fails_as, safe}
 use Rattle.command_base.proofs.Loaded.{refuses_as}
 use Rattle.command_base.proofs.Views.{told_as}
 use Rattle.schema_files.specs.Lines.{input_line}
-use Rattle.call_commands.specs.CallReports.{HasPacket, PacketRefused, bad_length, ended, too_long}
+use Rattle.call_commands.specs.CallReports.{PacketRefused, bad_length, ended, too_long}
 use Rattle.call_commands.specs.Answering.{Comes, NextPacket, ReadsInput, SaysRefused}
 use Rattle.call_commands.specs.declared.limits.TheConstants.{MAX_PACKET_END}
 use Rattle.call_commands.specs.inner.Tellings.{TellsUnpacked, counted_line}

@@ -1,5 +1,5 @@
 -- Packets that are told: a call that is sent, the value that an answer gives, and an answer to no open call.
-use Rattle.std.proofs.Common.{◌≡◌, ◌≢◌, ℕ, suc, ◌+◌, ◌<◌, ◌≤◌, ◌^◌, List, [], ◌∷◌, ◌++◌, length, codes, Option, Some, None, Result, Ok, Err, Vec, Global, refl, sym, ap, ◌∙◌, subst, arith}
+use Rattle.std.proofs.Common.{◌≡◌, ◌≢◌, ℕ, ◌+◌, ◌<◌, ◌≤◌, ◌^◌, List, ◌++◌, length, codes, Option, Some, None, Result, Ok, Err, Vec, Global, refl, sym, ap, ◌∙◌, subst, arith}
 use Rattle.tl_base.specs.Numbers.{word}
 use Rattle.tl_schema.specs.Types.{Shape}
 use Rattle.tl_schema.specs.Types as type
@@ -11,18 +11,17 @@ use Rattle.tl_types.specs.Values.{ValueView}
 use Rattle.tl_types.specs.Seen.{view}
 use Rattle.tl_types.specs.declared.value.Value.{Value}
 use Rattle.tl_types.proofs.Views.{shape-Call}
-use Rattle.tl_calls.specs.Calling.{CallsView, StandsFor, ReadsAnswer, Sends, LogsSent, Answers, AnswersTo, ToCall, LogsCame, open_at}
-use Rattle.tl_calls.specs.Events.{Log, sent, came, sent_in, open_in, IsOpen}
+use Rattle.tl_calls.specs.Calling.{CallsView, ReadsAnswer, Sends, LogsSent, Answers, AnswersTo, ToCall, LogsCame, open_at}
+use Rattle.tl_calls.specs.Events.{sent, came}
 use Rattle.tl_calls.specs.Results.{result_type}
-use Rattle.tl_calls.specs.declared.calls.TheConstants.{MAX_OPEN}
 use Rattle.tl_calls.specs.declared.fault.AnswerFault.{AnswerFault}
 use Rattle.tl_calls.specs.declared.fault.SendFault.{SendFault}
 use Rattle.tl_calls.specs.declared.fault.SendFault.TheVariants as send
 use Rattle.tl_calls.proofs.Answers.{none_logs}
 use Rattle.tl_calls.proofs.Stands.{found_open, open_found}
 use Rattle.schema_files.specs.Lines.{line_text}
-use Rattle.call_commands.specs.CallReports.{IsWhole, Tells, call, answer, stale, stale_line}
-use Rattle.call_commands.specs.Answering.{TellsPacket, IsAnsweredIn}
+use Rattle.call_commands.specs.CallReports.{IsWhole, call, answer, stale, stale_line}
+use Rattle.call_commands.specs.Answering.{TellsPacket}
 use Rattle.call_commands.specs.inner.Tellings.{numbered_line}
 
 -- ---- the type of calls

@@ -1,5 +1,5 @@
 -- What is told of bytes that are no value, and of calls that aren't sent.
-use Rattle.std.proofs.Common.{◌≡◌, ℕ, ◌+◌, ◌<◌, ◌≤◌, ◌^◌, List, [], ◌++◌, length, length-append, codes, Some, Err, refl, sym, ap, ◌∙◌, arith}
+use Rattle.std.proofs.Common.{◌≡◌, ℕ, ◌+◌, ◌<◌, ◌≤◌, ◌^◌, List, [], ◌++◌, length, length-append, codes, Some, Err, refl, ap, ◌∙◌, arith}
 use Rattle.std.proofs.lemmas.List.{nil_from_length}
 use Rattle.tl_base.specs.Numbers.{word}
 use Rattle.tl_base.specs.Packets.{IsPacketLength}
@@ -10,9 +10,8 @@ use Rattle.tl_types.specs.Offsets.{moved}
 use Rattle.tl_types.specs.Values.{ValueView}
 use Rattle.tl_types.specs.declared.value.TheConstants.{MAX_LEVELS}
 use Rattle.tl_calls.specs.Calling.{CallsView, StandsFor, ReadsAnswer, Sends, open_at}
-use Rattle.tl_calls.specs.Events.{Log, open_in, IsOpen}
+use Rattle.tl_calls.specs.Events.{Log, open_in}
 use Rattle.tl_calls.specs.Results.{result_type}
-use Rattle.tl_calls.specs.declared.calls.TheConstants.{MAX_OPEN}
 use Rattle.tl_calls.specs.declared.fault.AnswerFault.{AnswerFault}
 use Rattle.tl_calls.specs.declared.fault.AnswerFault.TheVariants as answer
 use Rattle.tl_calls.specs.declared.fault.SendFault.{SendFault}

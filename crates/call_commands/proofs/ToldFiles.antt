@@ -1,8 +1,7 @@
 -- The packets of a file that is opened.
-use Rattle.std.proofs.Common.{◌≡◌, ℕ, List, Option, Some, None, Result, Ok, Err, refl, sym, ap, ◌∙◌, subst, arith, inl, inr}
+use Rattle.std.proofs.Common.{◌≡◌, ℕ, List, Option, Result, Ok, Err, refl, sym, ap, ◌∙◌, subst, inl}
 use Rattle.std.specs.Prelude.{IsErr}
-use Rattle.tl_base.specs.Contents.{Files}
-use Rattle.tl_base.specs.Outside.{View, HostState, HasFile, IsThere, left_of, with_left}
+use Rattle.tl_base.specs.Outside.{View, HostState, IsThere, left_of, with_left}
 use Rattle.tl_base.specs.Calls.{Told, Opens}
 use Rattle.tl_base.specs.Using.{MeetsFaults}
 use Rattle.tl_base.specs.declared.counts.Kind.TheVariants as kinds
@@ -22,7 +21,7 @@ use Rattle.command_base.proofs.SameFiles.{same_file}
 use Rattle.command_base.proofs.StageFaults.{stage_faults}
 use Rattle.command_base.proofs.Stages.{Carries, before, works_then}
 use Rattle.command_base.proofs.Views.{told_as, told_then}
-use Rattle.call_commands.specs.Calls.{OfInputFile, OfPackets}
+use Rattle.call_commands.specs.Calls.{OfPackets}
 use Rattle.call_commands.specs.Answering.{file_job, packets_job}
 use Rattle.call_commands.proofs.NextPackets.{met_as}
 

@@ -1,17 +1,16 @@
 -- The packets of what is left of Input, told one by one.
-use Rattle.std.proofs.Common.{◌≡◌, ◌≢◌, ℕ, ◌+◌, ◌≤◌, List, [], ◌∷◌, ◌++◌, append_assoc, append-nil, length, length-append, Option, Some, None, Result, Ok, Err, refl, sym, ap, ap₂, ◌∙◌, subst, arith, inl, inr, ◌⊎◌, Bool}
-use Rattle.std.specs.Prelude.{IsErrAnd, IsErrOf, IfSome, IsTrue, IsSome}
+use Rattle.std.proofs.Common.{◌≡◌, ◌≢◌, ℕ, List, [], ◌∷◌, ◌++◌, append_assoc, append-nil, length, length-append, Option, Some, None, Result, Ok, Err, refl, sym, ap, ◌∙◌, subst, arith, inl, inr, ◌⊎◌}
+use Rattle.std.specs.Prelude.{IsErrAnd, IsErrOf, IfSome, IsTrue}
 use Rattle.tl_base.specs.Contents.{AreBytes}
-use Rattle.tl_base.specs.Outside.{View, HostState, HasRoom, ShowsBytes, left_of, with_left, written_of, with_written}
+use Rattle.tl_base.specs.Outside.{View, HostState, ShowsBytes, left_of, with_left, written_of, with_written}
 use Rattle.tl_base.specs.Calls.{Told}
-use Rattle.tl_base.specs.Packets.{packet}
 use Rattle.tl_base.specs.declared.host.Slot.TheVariants.{Input}
 use Rattle.tl_base.specs.declared.host.Out.TheVariants.{Output}
 use Rattle.tl_schema.specs.CheckedPrograms.{IsSchema}
 use Rattle.tl_schema.specs.Schemas.{Declared}
 use Rattle.tl_calls.specs.Calling.{CallsView, StandsFor}
-use Rattle.tl_calls.specs.Events.{Log, Logged}
-use Rattle.command_base.specs.Answer.{Answer, done, refused_after}
+use Rattle.tl_calls.specs.Events.{Log}
+use Rattle.command_base.specs.Answer.{done, refused_after}
 use Rattle.command_base.specs.Jobs.{EndsBy, WritesSomeOf, Works}
 use Rattle.command_base.specs.Kept.{KeepsRest}
 use Rattle.command_base.specs.Sound.{Fits, IsFault, MeetsFaultsOf}
@@ -22,7 +21,7 @@ use Rattle.command_base.specs.declared.stop.Stop.{Stop}
 use Rattle.command_base.specs.declared.stop.Stop.TheVariants as stop
 use Rattle.command_base.proofs.Faults.{NeverFails, stays_sound, then_fails}
 use Rattle.command_base.proofs.Rests.{rest_left}
-use Rattle.command_base.proofs.Views.{told_as, told_then}
+use Rattle.command_base.proofs.Views.{told_then}
 use Rattle.schema_files.specs.Lines.{input_line}
 use Rattle.call_commands.specs.CallReports.{Began, one_more, HasPacket, Tells, Next, a_line}
 use Rattle.call_commands.specs.CallReports as reports

@@ -1,27 +1,26 @@
 -- The next packet of a file is told, and its line is written.
-use Rattle.std.proofs.Common.{◌≡◌, ℕ, ◌+◌, ◌≤◌, List, [], ◌∷◌, ◌++◌, append-nil, length, Bool, true, false, Option, Some, None, Result, Ok, Err, Vec, Global, refl, sym, ap, ◌∙◌, subst, arith, inl, inr, ◌⊎◌}
-use Rattle.std.specs.Prelude.{IsErr, IsErrAnd, IfErr, IsErrOf, IfSome, IsTrue, IsSome}
+use Rattle.std.proofs.Common.{◌≡◌, ℕ, ◌+◌, ◌≤◌, List, [], ◌++◌, append-nil, length, Bool, true, false, Option, Some, None, Result, Ok, Err, Vec, Global, refl, sym, ap, ◌∙◌, subst, arith, inl, inr, ◌⊎◌}
+use Rattle.std.specs.Prelude.{IsErrAnd, IfErr, IsErrOf, IfSome, IsTrue}
 use Rattle.tl_base.specs.Outside.{View, HostState, HasRoom, left_of, with_left, written_of, with_written}
 use Rattle.tl_base.specs.Calls.{Told}
 use Rattle.tl_base.specs.Hosted.{OnlySlot, Puts}
-use Rattle.tl_base.specs.Packets.{IsPacketLength, packet}
+use Rattle.tl_base.specs.Packets.{IsPacketLength}
 use Rattle.tl_base.specs.Using.{MeetsFaults}
 use Rattle.tl_base.specs.declared.counts.Kind.TheVariants as kinds
 use Rattle.tl_base.specs.declared.host.Slot.TheVariants.{Input}
 use Rattle.tl_base.specs.declared.host.Out.TheVariants.{Output}
 use Rattle.tl_schema.specs.Schemas.{Declared}
-use Rattle.tl_calls.specs.Calling.{CallsView, StandsFor}
-use Rattle.tl_calls.specs.Events.{Log, Logged}
+use Rattle.tl_calls.specs.Calling.{CallsView}
 use Rattle.command_base.specs.Jobs.{of_unmade}
 use Rattle.command_base.specs.Loading.{Refuses}
 use Rattle.command_base.specs.declared.stop.Stop.{Stop}
 use Rattle.command_base.specs.declared.stop.Stop.TheVariants as stop
 use Rattle.command_base.specs.declared.stop.Unmade.{Unmade}
 use Rattle.command_base.specs.declared.stop.Unmade.TheVariants as unmade
-use Rattle.command_base.proofs.Faults.{NeverFails, fails_as, never_failed, safe, then_fails}
+use Rattle.command_base.proofs.Faults.{safe, then_fails}
 use Rattle.command_base.proofs.Views.{told_as, told_then}
-use Rattle.call_commands.specs.CallReports.{HasPacket, Tells, PacketRefused, content as of_content, a_line}
-use Rattle.call_commands.specs.Answering.{IsUnlinked, IsWithin, MeetsBothFaults, NextFits, NextPacket, TellsNext, TellsPacket, Turn}
+use Rattle.call_commands.specs.CallReports.{HasPacket, content as of_content, a_line}
+use Rattle.call_commands.specs.Answering.{IsUnlinked, IsWithin, MeetsBothFaults, NextFits, NextPacket, TellsNext, TellsPacket}
 use Rattle.call_commands.specs.declared.limits.TheConstants.{MAX_PACKET_END}
 use Rattle.call_commands.proofs.NextPackets.{packet_long}
 

@@ -1,7 +1,6 @@
 -- What the parts of `calls` answer, and what they do to the outside. This project's own.
 use Rattle.std.specs.Prelude.{◌≡◌, ◌⊎◌, ℕ, ◌+◌, ◌≤◌, List, [], ◌∷◌, ◌++◌, length, Bool, true, false, Option, Some, None, Result, Ok, Err, Vec, IsTrue, IsSome, IfSome}
 use Rattle.std.specs.declared.alloc.Global.{Global}
-use Rattle.tl_base.specs.Calls.{Told}
 use Rattle.tl_base.specs.Causes.{Rose}
 use Rattle.tl_base.specs.Hosted.{OnlySlot}
 use Rattle.tl_base.specs.Outside.{View, HostState, HasRoom, left_of, with_left, written_of, with_written}

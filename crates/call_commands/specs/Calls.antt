@@ -5,12 +5,12 @@ use Rattle.tl_base.specs.Contents.{AreBytes, Files, HoldBytes}
 use Rattle.tl_base.specs.Outside.{HasFile}
 use Rattle.tl_schema.specs.CheckedPrograms.{IsSchema}
 use Rattle.tl_schema.specs.Schemas.{Declared}
-use Rattle.command_base.specs.Answer.{Answer, done, refused, refused_after}
+use Rattle.command_base.specs.Answer.{Answer, done, refused_after}
 use Rattle.command_base.specs.Jobs.{Job, unlinked_job}
 use Rattle.command_base.specs.Kept.{KeepsUnread}
-use Rattle.schema_files.specs.Causes.{SchemaCause}
-use Rattle.schema_files.specs.Loaded.{IsSchemaText, SchemaRefused}
-use Rattle.schema_files.specs.Lines.{schema_line, input_line}
+use Rattle.schema_files.specs.Answering.{OfSchemaFile}
+use Rattle.schema_files.specs.Loaded.{IsSchemaText}
+use Rattle.schema_files.specs.Lines.{input_line}
 use Rattle.tl_calls.specs.Events.{Log, Given}
 use Rattle.call_commands.specs.CallReports.{Began, PacketRefused}
 
@@ -24,14 +24,9 @@ pub data OfPackets (schema : Declared) (file : List ℕ) (a : Answer) : Type 0 w
 abbrev pub OfInputFile : Files → List ℕ → Declared → Answer → Type 0
 OfInputFile files input schema a = (file : List ℕ) × HasFile files input file × OfPackets schema file a
 
--- the text is no schema's, or it is one's, and then the input's file tells
-pub data OfSchema (text input : List ℕ) (files : Files) (a : Answer) : Type 0 where
-  no_schema : (cause : SchemaCause) → SchemaRefused text cause → a ≡ refused (schema_line (codes "schema") cause) → OfSchema text input files a
-  schema_of : (schema : Declared) → IsSchemaText text schema → OfInputFile files input schema a → OfSchema text input files a
-
--- calls' answer
+-- calls' answer: the schema's text is refused, or the input's file tells
 abbrev pub CallsAnswer : Files → List ℕ → List ℕ → Answer → Type 0
-CallsAnswer files schema input a = (text : List ℕ) × HasFile files schema text × OfSchema text input files a
+CallsAnswer files schema input a = OfSchemaFile (codes "schema") (OfInputFile files input) files schema a
 
 -- the work comes to the input: the file has the text of a schema
 pub record HasSchema (files : Files) (schema : List ℕ) : Type 0 where

@@ -1,5 +1,5 @@
 -- Files of bytes have an answer to `check`, to `decode` and to `encode`.
-use Rattle.std.proofs.Common.{◌≡◌, ℕ, ◌≤◌, List, [], ◌∷◌, ◌++◌, length, append-nil, Option, Some, None, Ok, Err, Bool, true, false, true≢false, refl, sym, ◌∙◌, subst, inl, inr, arith}
+use Rattle.std.proofs.Common.{◌≡◌, ℕ, ◌≤◌, List, [], ◌∷◌, ◌++◌, codes, length, append-nil, Option, Some, None, Ok, Err, Bool, true, false, true≢false, refl, sym, ◌∙◌, subst, inl, inr, arith}
 use Rattle.std.proofs.lemmas.Bool.{cases_lt}
 use Rattle.std.proofs.lemmas.Str.{IsUtf8-from_is_utf8, is_utf8-from_IsUtf8}
 use Rattle.std.specs.Prelude.{IsUtf8}
@@ -19,17 +19,16 @@ use Rattle.tl_types.proofs.Exactly.{exactly_one}
 use Rattle.tl_types.proofs.FitsAreSpelled.{each_fits_exactly}
 use Rattle.tl_types.specs.declared.value.TheConstants.{MAX_LEVELS}
 use Rattle.tl_show.specs.Reading.{read, Read}
-use Rattle.command_base.specs.Answer.{Answer}
+use Rattle.command_base.specs.Answer.{Answer, done}
 use Rattle.command_base.proofs.SameFiles.{file_bytes}
-use Rattle.codec_commands.specs.Check.{OfChecked, no_schema, listed, CheckAnswer}
-use Rattle.codec_commands.specs.Typed.{ToInput, OfType, no_type, no_plan, typed, OfSchema, schema_of, TypedAnswer}
-use Rattle.codec_commands.specs.Typed as typing
+use Rattle.codec_commands.specs.Check.{listing, CheckAnswer}
+use Rattle.codec_commands.specs.Typed.{ToInput, OfType, no_type, no_plan, typed, TypedAnswer}
 use Rattle.codec_commands.specs.Decode.{OfInput, whole, longer, faulty, DecodeAnswer}
 use Rattle.schema_files.specs.JsonInput.{IsJson}
 use Rattle.codec_commands.specs.Encode.{OfJson, too_long, no_json, badly_formed, misfit, spelled, EncodeAnswer}
 use Rattle.schema_files.specs.declared.json_input.TheConstants.{JSON_BYTES}
 use Rattle.schema_files.proofs.FormedWords.{word_formed}
-use Rattle.schema_files.proofs.OneSchemaText.{schema_or_refused}
+use Rattle.schema_files.proofs.Answering.{each_of_file}
 use Rattle.schema_files.proofs.OneTypeName.{type_or_refused}
 use Rattle.schema_files.proofs.TypePlans.{plan_or_refused}
 
@@ -39,14 +38,8 @@ IsFile files name = (bytes : List ℕ) × HasFile files name bytes
 
 -- ---- check
 
-each_checked : (text : List ℕ) → (a : Answer) × OfChecked text a
-each_checked text = elim (schema_or_refused text) [
-  | inl (schema, is) ↦ (_, listed schema is refl)
-  | inr (cause, r) ↦ (_, no_schema cause r refl)
-]
-
 pub each_check : (files : Files) (schema : List ℕ) → IsFile files schema → (a : Answer) × CheckAnswer files schema a
-each_check files schema (text, has) = let tells = each_checked text in (tells.0, (text, has, tells.1))
+each_check = each_of_file (codes "schema") (λ S b. b ≡ done (listing S.decls)) (λ S good. (_, refl))
 
 -- ---- schema, type and input
 
@@ -55,8 +48,8 @@ abbrev TellsEach : ToInput → Type 0
 TellsEach Tells = (schema : Declared) → IsSchema schema → (T : Shape) → IsFormed schema T → (bytes : List ℕ) → AreBytes bytes → (a : Answer) × Tells schema T bytes a
 
 module _ (Tells : ToInput) (each_input : TellsEach Tells) (files : Files) (good : HoldBytes files) where
-  each_type : (schema : Declared) → IsSchema schema → (type input : List ℕ) → IsFile files input → (a : Answer) × OfType Tells schema type input files a
-  each_type schema sound type input (bytes, has) = elim (type_or_refused schema type) [
+  each_type : (type input : List ℕ) → IsFile files input → (schema : Declared) → IsSchema schema → (a : Answer) × OfType Tells schema type input files a
+  each_type type input (bytes, has) schema sound = elim (type_or_refused schema type) [
     | inl (s, means) ↦ elim (plan_or_refused schema s) [
       | inl plan ↦ (let tells = each_input schema sound s (word_formed schema sound type s means) bytes (file_bytes files input bytes good has) in (tells.0, typed s bytes means plan has tells.1))
       | inr (cause, none) ↦ (_, no_plan s cause means none refl)
@@ -64,14 +57,8 @@ module _ (Tells : ToInput) (each_input : TellsEach Tells) (files : Files) (good 
     | inr (cause, r) ↦ (_, no_type cause r refl)
   ]
 
-  each_schema : (text type input : List ℕ) → IsFile files input → (a : Answer) × OfSchema Tells text type input files a
-  each_schema text type input file = elim (schema_or_refused text) [
-    | inl (schema, is) ↦ (let tells = each_type schema is.good type input file in (tells.0, schema_of schema is tells.1))
-    | inr (cause, r) ↦ (_, typing.no_schema cause r refl)
-  ]
-
   each_typed : (schema type input : List ℕ) → IsFile files schema → IsFile files input → (a : Answer) × TypedAnswer Tells files schema type input a
-  each_typed schema type input (text, has) file = let tells = each_schema text type input file in (tells.0, (text, has, tells.1))
+  each_typed schema type input text file = each_of_file (codes "schema") (λ S. OfType Tells S type input files) (each_type type input file) files schema text
 
 -- ---- decode
 

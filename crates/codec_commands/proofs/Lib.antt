@@ -3,10 +3,10 @@ pub mod Loading
 pub mod OneTyped
 pub mod OneDecode
 pub mod OneEncode
+pub mod OneTold
 pub mod OneCheck
 pub mod EachAnswer
 pub mod ListedLines
 pub mod TypedLines
-pub mod DecodedLines
 pub mod EncodedValues
 pub mod Listings

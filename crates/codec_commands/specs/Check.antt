@@ -4,15 +4,12 @@ use Rattle.std.specs.List.{count_by}
 use Rattle.std.specs.Int.{w32, to_be_bytes}
 use Rattle.hex.specs.Hex.{encode_lower}
 use Rattle.tl_base.specs.Contents.{Files}
-use Rattle.tl_base.specs.Outside.{HasFile}
-use Rattle.tl_schema.specs.Schemas.{Declaration, Declared}
+use Rattle.tl_schema.specs.Schemas.{Declaration}
 use Rattle.tl_schema.specs.Meanings.{base_shape}
-use Rattle.schema_files.specs.Causes.{SchemaCause}
-use Rattle.schema_files.specs.Loaded.{IsSchemaText, SchemaRefused}
-use Rattle.command_base.specs.Answer.{Answer, done, refused}
+use Rattle.schema_files.specs.Answering.{OfSchemaFile}
+use Rattle.command_base.specs.Answer.{Answer, done}
 use Rattle.command_base.specs.Jobs.{Job, unlinked_job}
 use Rattle.command_base.specs.Kept.{KeepsUnread}
-use Rattle.schema_files.specs.Lines.{schema_line}
 
 -- ---- the list
 
@@ -39,14 +36,9 @@ listing es = flat_map entry_line es ++ counts_line (count_by is_listed_construct
 
 -- ---- check
 
--- the text is no schema's, or it is one's, and its list is the answer
-pub data OfChecked (text : List ℕ) (a : Answer) : Type 0 where
-  no_schema : (cause : SchemaCause) → SchemaRefused text cause → a ≡ refused (schema_line (codes "schema") cause) → OfChecked text a
-  listed : (schema : Declared) → IsSchemaText text schema → a ≡ done (listing schema.decls) → OfChecked text a
-
--- check's answer
+-- check's answer: the schema's text is refused, or its list is the answer
 abbrev pub CheckAnswer : Files → List ℕ → Answer → Type 0
-CheckAnswer files schema a = (text : List ℕ) × HasFile files schema text × OfChecked text a
+CheckAnswer files schema a = OfSchemaFile (codes "schema") (λ S b. b ≡ done (listing S.decls)) files schema a
 
 -- `check SCHEMA`, which never comes to Input
 abbrev pub check_job : List ℕ → Job

@@ -3,5 +3,4 @@ pub mod Check
 pub mod Decode
 pub mod Encode
 pub mod Inputs
-pub mod Lined
-pub mod Spelled
+pub mod Codings

@@ -2,11 +2,11 @@
 #![tactic(auto)]
 
 mod check;
-mod decode;
-mod encode;
 mod input;
+mod line;
 mod listing;
+mod spelling;
+mod typed;
 
 pub use check::check_schema;
-pub use decode::decode_input;
-pub use encode::encode_input;
+pub use typed::{decode_input, encode_input};

@@ -1,143 +1,90 @@
 -- What `layers` makes of the old schema, its type and the new schema, from their parts.
-use Rattle.std.proofs.Common.{◌≡◌, ℕ, List, Bool, IsTrue, IsSome, Option, Result, Ok, Err, Vec, Global, codes, sym, ap, subst, inl, inr}
+use Rattle.std.proofs.Common.{◌≡◌, ℕ, List, Option, Result, Ok, Err, Vec, Global, codes, sym, ap, subst, inr}
 use Rattle.std.specs.Prelude.{IsErrAnd, IsErrOf}
 use Rattle.tl_base.specs.Contents.{Files}
-use Rattle.tl_base.specs.Outside.{View, HasFile, IsThere}
-use Rattle.tl_base.specs.Hosted.{OnlySlot}
+use Rattle.tl_base.specs.Outside.{View, IsThere}
 use Rattle.tl_base.specs.Calls.{Told}
 use Rattle.tl_base.specs.declared.host.Slot.TheVariants as slots
 use Rattle.tl_schema.specs.Types.{Shape}
 use Rattle.tl_schema.specs.Schemas.{Declared}
 use Rattle.tl_schema.specs.AskedTypes.{IsTypeText}
-use Rattle.command_base.specs.Answer.{Answer, done, refused}
-use Rattle.command_base.specs.Jobs.{Job, MakesOutput, making, made, of_fault}
-use Rattle.command_base.specs.Kept.{LeavesInput, OnlyReads}
+use Rattle.command_base.specs.Answer.{Answer, refused}
+use Rattle.command_base.specs.Jobs.{Making, MakesOutput, making}
+use Rattle.command_base.specs.Kept.{LeavesInput}
 use Rattle.command_base.specs.Loading.{Refuses}
 use Rattle.command_base.specs.Sound.{Answered}
 use Rattle.command_base.specs.declared.stop.Unmade.{Unmade}
 use Rattle.command_base.specs.declared.stop.Unmade.TheVariants as unmade
-use Rattle.command_base.proofs.SameFiles.{same_file}
-use Rattle.command_base.proofs.Faults.{NeverFails, fails_as, then_fails}
-use Rattle.command_base.proofs.Loaded.{slot_only}
-use Rattle.command_base.proofs.Rests.{only_schema, only_input, then_reads}
-use Rattle.command_base.proofs.Views.{told_as, told_then}
-use Rattle.schema_files.specs.Loaded.{IsSchemaText}
-use Rattle.schema_files.specs.Parts.{LoadsSchema, TellsSchema, TellsType}
-use Rattle.schema_files.proofs.OneSchemaText.{one_schema_text, never_schema}
+use Rattle.command_base.proofs.Made.{refuses_made}
+use Rattle.command_base.proofs.Rests.{only_schema, only_input}
+use Rattle.command_base.proofs.Views.{told_as}
+use Rattle.schema_files.specs.Answering.{schema_of}
+use Rattle.schema_files.specs.Parts.{LoadsSchema, TellsType}
+use Rattle.schema_files.proofs.Answering.{no_schema_made, of_schema, reached, rest_made}
 use Rattle.schema_files.proofs.OneTypeName.{never_type}
-use Rattle.layer_commands.specs.Layers.{OfLayers, OfNew, no_new, new_of, OfType, no_type, typed, OfOld, no_schema, schema_of, ReachesNew, LayersAnswer, layers_job}
+use Rattle.layer_commands.specs.Layers.{OfLayers, TellsLayers, OfType, no_type, typed, NamesType, ReachesNew, layers_job, old_job}
 
--- the schema of these commands
-abbrev pub LoadsFirst : List ℕ → Result Declared Unmade → View → View → Type 0
-LoadsFirst s r v w = LoadsSchema slots.Schema (codes "schema") s r v w
-
--- loading it leaves Input, whatever comes later
-pub leaves_input : (s : List ℕ) (came : View → Type 0) (r : Result Declared Unmade) (a b : Option View) → Told a b (LoadsFirst s r) → Told a b (λ v w. LeavesInput (came v) v w)
-leaves_input s came r a b h =
-    told_as a b (OnlySlot slots.Schema) (λ v w. LeavesInput (came v) v w) (λ v w only. inl (ap (λ (x : View). x.left.input) only)) (slot_only slots.Schema s IsSchemaText (TellsSchema (codes "schema")) r a b h)
-
--- the exit of a `?`
-stops : (job : Job) (e : Unmade) (r : Result (Vec ℕ Global) Unmade) (v w : View) → MakesOutput job (of_fault e) v w → IsErrAnd r (λ z. z ≡ e) → MakesOutput job (making r) v w
-stops job e (Ok x) v w h is = absurd is
-stops job e (Err z) v w h is = subst (λ (y : Unmade). MakesOutput job (of_fault y) v w) (sym is) h
+-- ---- once the old schema is loaded
 
 -- the new schema
 abbrev pub LoadsNew : List ℕ → Result Declared Unmade → View → View → Type 0
 LoadsNew n r v w = LoadsSchema slots.Input (codes "new") n r v w
 
+-- what is told of two schemas is no failed read
+pub told_unread : (old new : Declared) (T : Shape) (r : Result (Vec ℕ Global) Unmade) → TellsLayers old new T r → IsErrOf r unmade.ReadFault → ⊥
+told_unread old new T (Ok line) h failed = absurd cc
+told_unread old new T (Err (unmade.Refused line)) h failed = absurd cc
+told_unread old new T (Err unmade.ReadFault) h failed = h
+told_unread old new T (Err unmade.Memory) h failed = absurd cc
+
+module _ (old : Declared) (n t : List ℕ) where
+  pub no_type_made : (e : Unmade) (r : Result (Vec ℕ Global) Unmade) (a : Option View) → Refuses (TellsType old t) e → IsErrAnd r (λ z. z ≡ e) → Told a a (MakesOutput (old_job old n t) (making r))
+  no_type_made e r a = refuses_made (old_job old n t) (TellsType old t) e r a (λ v line (cause, refuses, is). no_type cause refuses (ap refused is))
+
+  module _ (T : Shape) (means : IsTypeText old.program t T) where
+    pub no_new_made : (e : Unmade) (r : Result (Vec ℕ Global) Unmade) (a b : Option View) → Told a b (LoadsNew n (Err e)) → IsErrAnd r (λ z. z ≡ e) → Told a b (MakesOutput (old_job old n t) (making r))
+    no_new_made = no_schema_made (old_job old n t) (codes "new") n (λ v S. OfLayers old S T) (λ v a h. typed T means h) slots.Input only_input
+
+    both_there : (new : Declared) (r : Result (Vec ℕ Global) Unmade) (v w : View) → TellsLayers old new T r → LoadsNew n (Ok new) v w → MakesOutput (old_job old n t) (making r) v w
+    both_there new (Ok line) v w tells l = (typed T means (l.0.0, l.0.1, schema_of new l.0.2 tells), only_input v w l.1)
+    both_there new (Err (unmade.Refused line)) v w tells l = (typed T means (l.0.0, l.0.1, schema_of new l.0.2 tells), only_input v w l.1)
+    both_there new (Err unmade.ReadFault) v w tells l = absurd tells
+    both_there new (Err unmade.Memory) v w tells l = only_input v w l.1
+
+    -- what is told of both schemas
+    pub both_made : (new : Declared) (r : Result (Vec ℕ Global) Unmade) (a b : Option View) → TellsLayers old new T r → Told a b (LoadsNew n (Ok new)) → Told a b (MakesOutput (old_job old n t) (making r))
+    both_made new r a b tells = told_as a b (LoadsNew n (Ok new)) (MakesOutput (old_job old n t) (making r)) (λ v w. both_there new r v w tells)
+
+    -- the work comes to the new schema
+    pub new_reached : (Q : View → View → Type 0) (a b : Option View) → Told a b Q → Told a b (LeavesInput (NamesType old t))
+    new_reached Q a b = told_as a b Q (LeavesInput (NamesType old t)) (λ v w h. inr (T, means))
+
+    -- an answer names the new schema's file, since the word is a type
+    pub new_there : (v : View) → Answered (old_job old n t) v → IsThere n v
+    new_there v (a, no_type cause refuses is) = absurd (never_type old t T cause means refuses)
+    new_there v (a, typed other also (text, has, tells)) = (text, has)
+
+-- ---- from the old schema on
+
+-- the old schema
+abbrev pub LoadsOld : List ℕ → Result Declared Unmade → View → View → Type 0
+LoadsOld s r v w = LoadsSchema slots.Schema (codes "schema") s r v w
+
 module _ (s n t : List ℕ) where
-  abbrev job : Job
-  job = layers_job s n t
+  pub no_old_made : (e : Unmade) (r : Result (Vec ℕ Global) Unmade) (a b : Option View) → Told a b (LoadsOld s (Err e)) → IsErrAnd r (λ z. z ≡ e) → Told a b (MakesOutput (layers_job s n t) (making r))
+  no_old_made = no_schema_made (layers_job s n t) (codes "schema") s (λ v S. OfType S t n v.files) (λ v a h. h) slots.Schema only_schema
 
-  -- an answer that refuses, by its line
-  refuses : (P : List ℕ → Type 0) (e : Unmade) (v w : View) → ((line : List ℕ) → P line → LayersAnswer v.files s n t (refused line)) → Refuses P e → OnlyReads v w → MakesOutput job (of_fault e) v w
-  refuses P (unmade.Refused line) v w answers h only = (answers _ h, only)
-  refuses P unmade.ReadFault v w answers h only = only
-  refuses P unmade.Memory v w answers h only = only
+  module _ (old : Declared) where
+    told_over : (a : Answer) (v u : View) → u.files ≡ v.files → OfType old t n u.files a → OfType old t n v.files a
+    told_over a v u = subst (λ (fs : Files). OfType old t n fs a)
 
-  -- ---- the old schema
+    pub type_made : (m : Making) (a u b : Option View) → Told a u (LoadsOld s (Ok old)) → Told u b (MakesOutput (old_job old n t) m) → Told a b (MakesOutput (layers_job s n t) m)
+    type_made = rest_made (layers_job s n t) (codes "schema") s (λ v S. OfType S t n v.files) (λ v a h. h) (old_job old n t) old (λ v u a. told_over a v u)
 
-  schema_stops : (e : Unmade) (v w : View) → LoadsFirst s (Err e) v w → MakesOutput job (of_fault e) v w
-  schema_stops (unmade.Refused line) v w ((text, has, (cause, h, is)), only) = ((text, has, no_schema cause h (ap refused is)), only_schema v w only)
-  schema_stops unmade.ReadFault v w only = only_schema v w only
-  schema_stops unmade.Memory v w only = only_schema v w only
+    pub type_reached : (a u b : Option View) → Told a u (LoadsOld s (Ok old)) → Told u b (LeavesInput (NamesType old t)) → Told a b (λ v w. LeavesInput (ReachesNew v.files s t) v w)
+    type_reached = reached (codes "schema") s old (NamesType old t) (λ v. ReachesNew v.files s t) (λ v text has is named. record { text = text; of = old; there = has; accepted = is; named = named })
 
-  pub no_schema_line : (e : Unmade) (r : Result (Vec ℕ Global) Unmade) (a b : Option View) → Told a b (LoadsFirst s (Err e)) → IsErrAnd r (λ z. z ≡ e) → Told a b (MakesOutput job (making r))
-  no_schema_line e r a b h is = told_as a b (LoadsFirst s (Err e)) (MakesOutput job (making r)) (λ v w l. stops job e r v w (schema_stops e v w l) is) h
-
-  -- ---- the type
-
-  pub no_type_line : (schema : Declared) (e : Unmade) (r : Result (Vec ℕ Global) Unmade) (a b : Option View) → Told a b (LoadsFirst s (Ok schema))
-      → Refuses (TellsType schema t) e → IsErrAnd r (λ z. z ≡ e) → Told a b (MakesOutput job (making r))
-  no_type_line schema e r a b loaded h is =
-      told_as a b (LoadsFirst s (Ok schema)) (MakesOutput job (making r)) (λ v w l. stops job e r v w
-      (refuses (TellsType schema t) e v w (λ line (cause, refused_so, tells). (l.0.0, l.0.1, schema_of schema l.0.2 (no_type cause refused_so (ap refused tells)))) h (only_schema v w l.1)) is) loaded
-
-  -- ---- the new schema
-
-  module _ (schema : Declared) (T : Shape) (means : IsTypeText schema.program t T) where
-    -- what the new schema's file tells, after the old schema and its type
-    of_new_answer : (text : List ℕ) (a : Answer) (v u : View) → LoadsFirst s (Ok schema) v u → HasFile u.files n text → OfNew schema T text a → LayersAnswer v.files s n t a
-    of_new_answer text a v u ((old, has, is), only) there tells =
-        (old, has, schema_of schema is (typed T text means (subst (λ (fs : Files). HasFile fs n text) (ap (λ (x : View). x.files) only) there) tells))
-
-    -- the old schema was read, and then the new one
-    both_read : (v u w : View) → LoadsFirst s (Ok schema) v u → OnlySlot slots.Input u w → OnlyReads v w
-    both_read v u w loaded only = then_reads v u w (only_schema v u loaded.1) (only_input u w only)
-
-    -- after the type the work comes to the new schema
-    pub new_reached : (Q : View → View → Type 0) (a m b : Option View) → Told a m (LoadsFirst s (Ok schema)) → Told m b Q → Told a b (λ v w. LeavesInput (ReachesNew v.files s t) v w)
-    new_reached Q a m b loaded h =
-        told_then a m b (LoadsFirst s (Ok schema)) Q (λ v w. LeavesInput (ReachesNew v.files s t) v w)
-        (λ v u w l k. inr (record { text = l.0.0; of = schema; meant = T; there = l.0.1; accepted = l.0.2; named = means })) loaded h
-
-    new_stops : (e : Unmade) (v u w : View) → LoadsFirst s (Ok schema) v u → LoadsNew n (Err e) u w → MakesOutput job (of_fault e) v w
-    new_stops (unmade.Refused line) v u w loaded ((text, there, (cause, h, is)), only) =
-        (of_new_answer text _ v u loaded there (no_new cause h (ap refused is)), both_read v u w loaded only)
-    new_stops unmade.ReadFault v u w loaded only = both_read v u w loaded only
-    new_stops unmade.Memory v u w loaded only = both_read v u w loaded only
-
-    pub no_new_line : (e : Unmade) (r : Result (Vec ℕ Global) Unmade) (a m b : Option View) → Told a m (LoadsFirst s (Ok schema)) → Told m b (LoadsNew n (Err e)) → IsErrAnd r (λ z. z ≡ e) → Told a b (MakesOutput job (making r))
-    no_new_line e r a m b loaded h is =
-        told_then a m b (LoadsFirst s (Ok schema)) (LoadsNew n (Err e)) (MakesOutput job (making r)) (λ v u w l k. stops job e r v w (new_stops e v u w l k) is) loaded h
-
-    -- ---- what is told of both
-
-    module _ (other : Declared) where
-      of_both : (a : Answer) (v u w : View) → LoadsFirst s (Ok schema) v u → LoadsNew n (Ok other) u w → OfLayers schema other T a → LayersAnswer v.files s n t a
-      of_both a v u w l k tells = of_new_answer k.0.0 a v u l k.0.1 (new_of other k.0.2 tells)
-
-      pub broken_line : (e : Unmade) (r : Result (Vec ℕ Global) Unmade) (a m b : Option View) → Told a m (LoadsFirst s (Ok schema)) → Told m b (LoadsNew n (Ok other))
-          → Refuses (λ line. OfLayers schema other T (refused line)) e → IsErrAnd r (λ z. z ≡ e) → Told a b (MakesOutput job (making r))
-      broken_line e r a m b loaded h told is =
-          told_then a m b (LoadsFirst s (Ok schema)) (LoadsNew n (Ok other)) (MakesOutput job (making r))
-          (λ v u w l k. stops job e r v w (refuses (λ line. OfLayers schema other T (refused line)) e v w (λ line tells. of_both (refused line) v u w l k tells) told (both_read v u w l k.1)) is) loaded h
-
-      pub whole_line : (out : List ℕ) (a m b : Option View) → Told a m (LoadsFirst s (Ok schema)) → Told m b (LoadsNew n (Ok other)) → OfLayers schema other T (done out) → Told a b (MakesOutput job (made out))
-      whole_line out a m b loaded h tells =
-          told_then a m b (LoadsFirst s (Ok schema)) (LoadsNew n (Ok other)) (MakesOutput job (made out)) (λ v u w l k. (of_both (done out) v u w l k tells, both_read v u w l k.1)) loaded h
-
-    -- ---- where reading the new schema can't fail
-
-    -- an answer after the old schema names the new one's file, since the word is a type
-    type_there : (files : Files) (a : Answer) → OfType schema t n files a → (text : List ℕ) × HasFile files n text
-    type_there files a (no_type cause refused is) = absurd (never_type schema t T cause means refused)
-    type_there files a (typed other text also has tells) = (text, has)
-
-    schema_there : (text : List ℕ) (files : Files) (a : Answer) → IsSchemaText text schema → OfOld text t n files a → (text : List ℕ) × HasFile files n text
-    schema_there text files a h (no_schema cause r is) = absurd (never_schema text schema cause h r)
-    schema_there text files a h (schema_of other k tells) = type_there files a (subst (λ (x : Declared). OfType x t n files a) (one_schema_text text other schema k h) tells)
-
-    -- the schema that was loaded is the answer's: the new one's file is there
-    new_there : (v u : View) → LoadsFirst s (Ok schema) v u → Answered job v → IsThere n u
-    new_there v u ((text, has, h), only) (a, (other, also, tells)) =
-        let same : other ≡ text = same_file v.files s other text also has in
-        let there = schema_there text v.files a h (subst (λ (x : List ℕ). OfOld x t n v.files a) same tells) in
-        (there.0, subst (λ (fs : Files). HasFile fs n there.0) (sym (ap (λ (x : View). x.files) only)) there.1)
-
-    -- over a sound view with an answer the new schema's file is there, so reading it doesn't fail
-    pub no_new_sound : (Failed : Type 0) (r : Result (Vec ℕ Global) Unmade) (a m : Option View) (x y z : Bool) → (IsErrOf r unmade.ReadFault → Failed)
-        → Told a m (LoadsFirst s (Ok schema)) → (IsSome a → IsTrue x → IsTrue y) → NeverFails m y z Failed (IsThere n) → NeverFails a x z (IsErrOf r unmade.ReadFault) (Answered job)
-    no_new_sound Failed r a m x y z failed loaded first second =
-        let both = then_fails a m x y z _ (Answered job) (IsThere n) (LoadsFirst s (Ok schema)) loaded first second new_there in
-        fails_as a x z _ _ (Answered job) (Answered job) both failed (λ v answered. answered)
+    -- an answer of the whole is one of the rest
+    pub type_answered : (v u : View) → LoadsOld s (Ok old) v u → Answered (layers_job s n t) v → Answered (old_job old n t) u
+    type_answered v u l (a, h) =
+        (a, subst (λ (fs : Files). OfType old t n fs a) (sym (ap (λ (x : View). x.files) l.1)) (of_schema (codes "schema") (λ S. OfType S t n v.files) v.files s l.0.0 old a l.0.1 l.0.2 h))

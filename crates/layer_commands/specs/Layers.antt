@@ -11,9 +11,10 @@ use Rattle.command_base.specs.Jobs.{Job, unlinked_job}
 use Rattle.command_base.specs.Kept.{KeepsUnread}
 use Rattle.command_base.specs.Loading.{Refuses}
 use Rattle.command_base.specs.declared.stop.Unmade.{Unmade}
-use Rattle.schema_files.specs.Causes.{SchemaCause, TypeNameCause}
-use Rattle.schema_files.specs.Loaded.{IsSchemaText, SchemaRefused, TypeNameRefused}
-use Rattle.schema_files.specs.Lines.{schema_line, type_line}
+use Rattle.schema_files.specs.Answering.{OfSchemaFile}
+use Rattle.schema_files.specs.Causes.{TypeNameCause}
+use Rattle.schema_files.specs.Loaded.{IsSchemaText, TypeNameRefused}
+use Rattle.schema_files.specs.Lines.{type_line}
 use Rattle.tl_layers.specs.Reached.{Reached}
 use Rattle.tl_layers.specs.Breaks.{IsUnbroken, Breaks}
 use Rattle.tl_layers.specs.Compared.{IsCount}
@@ -51,24 +52,14 @@ abbrev pub TellsLayers : Declared → Declared → Shape → Result (Vec ℕ Glo
 TellsLayers old new T (Ok line) = OfLayers old new T (done line.items)
 TellsLayers old new T (Err fault) = Refuses (λ line. OfLayers old new T (refused line)) fault
 
--- the new text is no schema's, or it is one's
-pub data OfNew (old : Declared) (T : Shape) (text : List ℕ) (a : Answer) : Type 0 where
-  no_new : (cause : SchemaCause) → SchemaRefused text cause → a ≡ refused (schema_line (codes "new") cause) → OfNew old T text a
-  new_of : (new : Declared) → IsSchemaText text new → OfLayers old new T a → OfNew old T text a
-
 -- the word is refused as a type, or it is one, and then the new schema's file tells
 pub data OfType (old : Declared) (type new : List ℕ) (files : Files) (a : Answer) : Type 0 where
   no_type : (cause : TypeNameCause) → TypeNameRefused old type cause → a ≡ refused (type_line cause) → OfType old type new files a
-  typed : (T : Shape) (text : List ℕ) → IsTypeText old.program type T → HasFile files new text → OfNew old T text a → OfType old type new files a
+  typed : (T : Shape) → IsTypeText old.program type T → OfSchemaFile (codes "new") (λ S. OfLayers old S T) files new a → OfType old type new files a
 
--- the old text is no schema's, or it is one's, and then the type tells
-pub data OfOld (text type new : List ℕ) (files : Files) (a : Answer) : Type 0 where
-  no_schema : (cause : SchemaCause) → SchemaRefused text cause → a ≡ refused (schema_line (codes "schema") cause) → OfOld text type new files a
-  schema_of : (old : Declared) → IsSchemaText text old → OfType old type new files a → OfOld text type new files a
-
--- layers' answer
+-- layers' answer: the old schema's text is refused, or the type of its schema tells
 abbrev pub LayersAnswer : Files → List ℕ → List ℕ → List ℕ → Answer → Type 0
-LayersAnswer files old new type a = (text : List ℕ) × HasFile files old text × OfOld text type new files a
+LayersAnswer files old new type a = OfSchemaFile (codes "schema") (λ S. OfType S type new files) files old a
 
 -- some file has this name
 abbrev pub IsFile : Files → List ℕ → Type 0
@@ -82,15 +73,22 @@ pub record HasOneAnswer (files : Files) (old new type : List ℕ) : Type 0 where
 abbrev pub EachHasOneAnswer : Type 0
 EachHasOneAnswer = (files : Files) (old new type : List ℕ) → HasOneAnswer files old new type
 
+-- the word is one of the schema's types
+abbrev pub NamesType : Declared → List ℕ → Type 0
+NamesType schema type = (T : Shape) × IsTypeText schema.program type T
+
 -- the work comes to the new schema: the old text is a schema's, and the word is one of its types
 pub record ReachesNew (files : Files) (old type : List ℕ) : Type 0 where
   pub text : List ℕ
   pub of : Declared
-  pub meant : Shape
   pub there : HasFile files old text
   pub accepted : IsSchemaText text of
-  pub named : IsTypeText of.program type meant
+  pub named : NamesType of type
 
 -- `layers OLD NEW TYPE`
 abbrev pub layers_job : List ℕ → List ℕ → List ℕ → Job
 layers_job old new type = unlinked_job (λ v a. LayersAnswer v.files old new type a) ⊥ (λ v w. KeepsUnread (ReachesNew v.files old type) v w)
+
+-- what it does once it has the old schema
+abbrev pub old_job : Declared → List ℕ → List ℕ → Job
+old_job old new type = unlinked_job (λ v a. OfType old type new v.files a) ⊥ (λ v w. KeepsUnread (NamesType old type) v w)

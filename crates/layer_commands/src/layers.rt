@@ -7,13 +7,31 @@ ghost use Rattle.command_base.specs.Jobs.{MakesOutput, WorksOver, making};
 ghost use Rattle.command_base.specs.Kept.{LeavesInput};
 ghost use Rattle.command_base.specs.Sound.{Answered, MeetsFaultsOf};
 ghost use Rattle.command_base.specs.Telling.{status_of};
-ghost use Rattle.layer_commands.specs.Layers.{ReachesNew, layers_job};
+ghost use Rattle.layer_commands.specs.Layers.{NamesType, ReachesNew, layers_job, old_job};
 
 use crate::verdict::verdict_line;
 use command_base::{Status, Stop, Unmade, write_made};
 use schema_files::{load_schema, type_named};
 use std::alloc::Global;
 use tl_base::{Host, Slot};
+use tl_schema::Schema;
+
+// The line that tells of the old schema, a type of it and the new one.
+fn made_of_old<H: Host>(
+    alloc: Global,
+    host: &mut H,
+    old: &Schema,
+    new: &str,
+    of: &str,
+) -> Result<Vec<u8>, Unmade>
+    ensures makes { Told (H.state host.old).view (H.state host.new).view (MakesOutput (old_job old.now new.now of.now) (making result)) }
+    ensures unread { Told (H.state host.old).view (H.state host.new).view (LeavesInput (NamesType old.now of.now)) }
+    ensures faults { MeetsFaults kinds.Reads (H.state host.old) (H.state host.new) (IsErrOf result Unmade.ReadFault) (Answered (old_job old.now new.now of.now)) }
+{
+    let of = type_named(alloc, old, of)?;
+    let new = load_schema(alloc, host, Slot::Input, "new", new)?;
+    verdict_line(alloc, old, &new, &of)
+}
 
 // The line that tells of both schemas.
 fn made_answer<H: Host>(
@@ -28,10 +46,7 @@ fn made_answer<H: Host>(
     ensures faults { MeetsFaults kinds.Reads (H.state host.old) (H.state host.new) (IsErrOf result Unmade.ReadFault) (Answered (layers_job old.now new.now of.now)) }
 {
     let schema = load_schema(alloc, host, Slot::Schema, "schema", old)?;
-    let of = type_named(alloc, &schema, of)?;
-    let other = load_schema(alloc, host, Slot::Input, "new", new)?;
-    let line = verdict_line(alloc, &schema, &other, &of)?;
-    Ok(line)
+    made_of_old(alloc, host, &schema, new, of)
 }
 
 /// Compares two schemas by a type of the old one, and writes how many declarations it reaches, or tells what breaks.

@@ -1,32 +1,27 @@
 -- The value that an input of JSON is, from its text and its file.
-use Rattle.std.proofs.Common.{◌≡◌, ℕ, ◌<◌, ◌≤◌, List, ◌++◌, length, None, Option, Result, Ok, Err, ap, arith}
+use Rattle.std.proofs.Common.{◌≡◌, ℕ, ◌<◌, ◌≤◌, List, ◌++◌, length, None, Ok, Err, ap, arith}
 use Rattle.std.specs.Prelude.{IsErrOf}
 use Rattle.std.proofs.lemmas.List.{length-append}
-use Rattle.tl_base.specs.Outside.{View}
-use Rattle.tl_base.specs.Calls.{Told}
 use Rattle.tl_base.specs.declared.host.Slot.TheVariants.{Input}
 use Rattle.tl_schema.specs.Types.{Shape}
 use Rattle.tl_schema.specs.Schemas.{Declared}
 use Rattle.tl_types.specs.Fitting.{TellsMisfit, misfit}
-use Rattle.tl_types.specs.Seen.{view}
 use Rattle.tl_types.specs.Values.{ValueView}
 use Rattle.tl_types.specs.declared.misfit.FitFault.{FitFault}
 use Rattle.tl_types.specs.declared.misfit.FitFault.TheVariants as fit
-use Rattle.tl_types.specs.declared.value.Value.{Value}
 use Rattle.tl_types.specs.declared.value.TheConstants.{MAX_LEVELS}
 use Rattle.tl_show.specs.Texts.{TellsText}
 use Rattle.tl_show.specs.declared.fault.JsonTextFault.{JsonTextFault}
 use Rattle.tl_show.specs.declared.fault.JsonTextFault.TheVariants as reading
 use Rattle.command_base.specs.declared.stop.Unmade.{Unmade}
 use Rattle.command_base.specs.declared.stop.Unmade.TheVariants as unmade
-use Rattle.command_base.specs.Loading.{Gives, Loads, Refuses, RefusesAs}
+use Rattle.command_base.specs.Loading.{Refuses, RefusesAs}
 use Rattle.command_base.proofs.Loaded.{refuses_as, memory_refuses, StaysLong}
-use Rattle.command_base.proofs.Views.{told_as}
 use Rattle.schema_files.specs.declared.json_input.TheConstants.{JSON_BYTES}
 use Rattle.schema_files.specs.Causes.{JsonCause, TooLong, NoJson, Unformed, Misfit}
 use Rattle.schema_files.specs.Lines.{json_line}
 use Rattle.schema_files.specs.JsonInput.{FormRefused, IsForm}
-use Rattle.schema_files.specs.Parts.{IsFormValue, LoadsForm, TellsForm, TellsJson, TellsUnfit}
+use Rattle.schema_files.specs.Parts.{IsFormValue, TellsForm, TellsJson, TellsUnfit}
 use Rattle.schema_files.specs.inner.Tellings.{TellsNoForm}
 
 -- telling of a value that doesn't fit is no failed read
@@ -69,15 +64,3 @@ module _ (schema : Declared) (T : Shape) where
   stays_long name bytes read rest (Ok value) e long (d, is, as_read) = absurd (omega (arith, is.0))
   stays_long name bytes read rest (Err u) e long h =
       refuses_as (TellsForm schema T read) (TellsForm schema T bytes) u (λ line (cause, refused, is). (cause, long_form bytes read rest cause e long refused, is)) h
-
-  -- what is made of a value is made of each file that is its form
-  made_there : {X : Type 0} (Is : List ℕ → X → Type 0) (Tells : List ℕ → List ℕ → Type 0) (name : List ℕ) (value : Value) (r : Result X Unmade) (v w : View)
-      → ((bytes : List ℕ) → IsForm schema T bytes (view value) → Gives Is Tells bytes r) → LoadsForm schema T name (Ok value) v w → Loads Input name Is Tells r v w
-  made_there Is Tells name value (Ok x) v w makes ((bytes, has, is), only) = ((bytes, has, makes bytes is), only)
-  made_there Is Tells name value (Err (unmade.Refused line)) v w makes ((bytes, has, is), only) = ((bytes, has, makes bytes is), only)
-  made_there Is Tells name value (Err unmade.ReadFault) v w makes file = file.1
-  made_there Is Tells name value (Err unmade.Memory) v w makes file = file.1
-
-  pub made_of_form : {X : Type 0} (Is : List ℕ → X → Type 0) (Tells : List ℕ → List ℕ → Type 0) (name : List ℕ) (value : Value) (r : Result X Unmade) (a b : Option View)
-      → ((bytes : List ℕ) → IsForm schema T bytes (view value) → Gives Is Tells bytes r) → Told a b (LoadsForm schema T name (Ok value)) → Told a b (Loads Input name Is Tells r)
-  made_of_form Is Tells name value r a b makes = told_as a b (LoadsForm schema T name (Ok value)) (Loads Input name Is Tells r) (λ v w. made_there Is Tells name value r v w makes)

@@ -7,4 +7,5 @@ pub mod TypePlans
 pub mod Planned
 pub mod TypeWords
 pub mod Schemas
+pub mod Answering
 pub mod JsonInputs

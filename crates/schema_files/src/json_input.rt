@@ -68,7 +68,7 @@ fn json_unmade(alloc: Global, fault: &JsonTextFault) -> Unmade
 }
 
 // The value that a text is the form of.
-fn form_of(alloc: Global, schema: &Schema, of: &TypeRef, text: &[u8]) -> Result<Value, Unmade>
+fn formed_value(alloc: Global, schema: &Schema, of: &TypeRef, text: &[u8]) -> Result<Value, Unmade>
     ensures { ReadsForm schema.now (shape of.now) text.now result }
 {
     if text.len() > JSON_BYTES as usize {
@@ -92,7 +92,7 @@ pub fn load_form<H: Host>(
     ensures faults { MeetsFaults kinds.Reads (H.state host.old) (H.state host.new) (IsErrOf result Unmade.ReadFault) (IsThere name.now) }
 {
     let text = read_file(alloc, host, Slot::Input, name, JSON_BYTES)?;
-    form_of(alloc, schema, of, &text)
+    formed_value(alloc, schema, of, &text)
 }
 
 // The value, if it fits.

@@ -1,6 +1,6 @@
 use Rattle.std.proofs.Common.{Ok, ap}
 use Rattle.command_base.proofs.StageFaults.{rose_kept}
-use Rattle.call_commands.proofs.LoadedFiles.{calls_faults, calls_kept, calls_works, no_memory_faults, no_memory_works, no_schema_faults, no_schema_kept, no_schema_works}
+use Rattle.call_commands.proofs.LoadedFiles.{calls_faults, calls_kept, calls_works, no_memory_faults, no_memory_works, no_schema_kept, no_schema_works}
 use Rattle.call_commands.proofs.calls.tell_calls.Goals as goal
 
 pub returns-in_err-schema-clause-works : goal.returns-in_err-schema-clause-works

@@ -1,4 +1,4 @@
-use Rattle.std.proofs.Common.{List, ℕ, length, refl, rules, arith, ap, sym, subst, true, false, Ok, Err}
+use Rattle.std.proofs.Common.{List, ℕ, length, refl, arith, ap, sym, subst, true, false, Ok, Err}
 use Rattle.tl_base.specs.Packets.{IsPacketLength}
 use Rattle.tl_base.specs.declared.sink.WriteFault.{WriteFault}
 use Rattle.call_commands.proofs.Turns.{comes_so, end_told, never_read, never_written, none_told, packet_told, read_alone, read_before, refused_told, tells_so, unlinked, unwritten_told, within_so, write_unlinked, write_unread, wrote_faults}

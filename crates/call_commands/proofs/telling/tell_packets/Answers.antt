@@ -1,4 +1,4 @@
-use Rattle.std.proofs.Common.{arith, refl, ap, Ok, Err, Some, None}
+use Rattle.std.proofs.Common.{arith, refl, ap, Ok, Err}
 use Rattle.std.specs.Prelude.{IsErrOf}
 use Rattle.command_base.specs.declared.stop.Stop.TheVariants.{ReadFault, WriteFault}
 use Rattle.call_commands.specs.Answering.{NextFits}

@@ -11,5 +11,5 @@ pub returns-clause-loads : goal.returns-clause-loads
 returns-clause-loads g c =
     let S = c.args.schema.now in
     let T = shape c.args.of.now in
-    loaded Input c.args.name.now JSON_BYTES (IsFormValue S T) (TellsForm S T) (stays_long S T c.args.name.now) c.in_ok-text.text c.form_of.result _ _ c.in_ok-text.ensures.text
-    (subst (λ (x : List ℕ). ReadsForm S T x c.form_of.result) c.deref.ensures.value c.form_of.ensures)
+    loaded Input c.args.name.now JSON_BYTES (IsFormValue S T) (TellsForm S T) (stays_long S T c.args.name.now) c.in_ok-text.text c.formed_value.result _ _ c.in_ok-text.ensures.text
+    (subst (λ (x : List ℕ). ReadsForm S T x c.formed_value.result) c.deref.ensures.value c.formed_value.ensures)
