@@ -2,6 +2,8 @@
 use Rattle.std.proofs.Common.{◌≡◌, ◌⊎◌, ℕ, List, [], ◌∷◌, length, codes, Option, Some, None, Result, Ok, Err, Vec, Global, refl, sym, ap, ap₂, ◌∙◌, subst, inl, inr}
 use Rattle.std.specs.Prelude.{IfOk, unwrap_or}
 use Rattle.std.specs.declared.alloc.AllocError.{AllocError}
+use Rattle.tl_base.specs.Contents.{Files}
+use Rattle.tl_base.specs.Outside.{HasFile}
 use Rattle.tl_schema.specs.Types.{Shape, boxed, no_shapes}
 use Rattle.tl_schema.specs.Schemas.{Declared}
 use Rattle.tl_schema.specs.CheckedPrograms.{IsSchema}
@@ -22,13 +24,12 @@ use Rattle.command_base.specs.Jobs.{RefusedBy}
 use Rattle.command_base.specs.Loading.{Refuses}
 use Rattle.command_base.specs.declared.stop.Unmade.{Unmade}
 use Rattle.command_base.proofs.Loaded.{memory_refuses}
-use Rattle.schema_files.specs.Causes.{SchemaCause, TypeNameCause}
-use Rattle.schema_files.specs.Loaded.{IsSchemaText, SchemaRefused, TypeNameRefused}
-use Rattle.schema_files.specs.Lines.{schema_line}
-use Rattle.schema_files.proofs.OneSchemaText.{one_schema_text, never_schema, one_schema_cause, schema_or_refused}
+use Rattle.schema_files.specs.Causes.{TypeNameCause}
+use Rattle.schema_files.specs.Loaded.{IsSchemaText, TypeNameRefused}
+use Rattle.schema_files.proofs.Answering.{each_of_file, of_schema, one_of_file}
 use Rattle.schema_files.proofs.OneTypeName.{never_type, type_or_refused}
 use Rattle.fault_lines.specs.Profiles.{profile_line}
-use Rattle.fault_lines.specs.Profiled.{TellsProfile, form_line, IsProfileText, OfProfileText, no_schema, no_profile, profiled, SchemasAreAnswered, SchemasHaveOneAnswer, AnswersAreProfiles}
+use Rattle.fault_lines.specs.Profiled.{TellsProfile, form_line, OfProfile, no_profile, profiled, OfProfileFile, SchemasAreAnswered, SchemasHaveOneAnswer, AnswersAreProfiles}
 
 some_line : (a b : List ℕ) → Some a ≡ Some b → a ≡ b
 some_line a b e = cc
@@ -99,47 +100,48 @@ are_profiles S p good (heads, are, is) =
     let whole = is_profile (profile_of S heads) (own S heads good) (found S heads are) passes.1 in
     (subst IsProfile passes.0 whole, ap (λ (q : ProfileView). q.schema) (sym passes.0) ∙ own_schema S heads)
 
--- ---- texts
+-- ---- what is answered
 
-pub same_profile : (text : List ℕ) (p q : ProfileView) → IsProfileText text p → IsProfileText text q → p ≡ q
-same_profile text p q h k =
-    let one = one_schema h.schema (Ok p) (Ok q) h.is (subst (λ (S : Declared). IsAnswer S (Ok q)) (sym (one_schema_text text h.schema k.schema h.read k.read)) k.is) in
-    cc
+same_fault : (S : Declared) (f g : FaultView) → IsAnswer S (Err f) → IsAnswer S (Err g) → f ≡ g
+same_fault S f g is at = let one = one_schema S (Err f) (Err g) is at in cc
 
-pub never_profile : (text : List ℕ) (p : ProfileView) (S : Declared) (fault : FaultView) → IsProfileText text p → IsSchemaText text S → IsAnswer S (Err fault) → ⊥
-never_profile text p S fault h read is =
-    let one = one_schema h.schema (Ok p) (Err fault) h.is (subst (λ (T : Declared). IsAnswer T (Err fault)) (sym (one_schema_text text h.schema S h.read read)) is) in
-    cc
+same_profile : (S : Declared) (p q : ProfileView) → IsAnswer S (Ok p) → IsAnswer S (Ok q) → p ≡ q
+same_profile S p q is at = let one = one_schema S (Ok p) (Ok q) is at in cc
 
-same_fault : (text : List ℕ) (S T : Declared) (a b : FaultView) → IsSchemaText text S → IsSchemaText text T → IsAnswer S (Err a) → IsAnswer T (Err b) → a ≡ b
-same_fault text S T a b h k is at =
-    let one = one_schema S (Err a) (Err b) is (subst (λ (U : Declared). IsAnswer U (Err b)) (sym (one_schema_text text S T h k)) at) in
-    cc
+never_both : (S : Declared) (p : ProfileView) (f : FaultView) → IsAnswer S (Ok p) → IsAnswer S (Err f) → ⊥
+never_both S p f is lacks = let one = one_schema S (Ok p) (Err f) is lacks in cc
 
-pub one_text : (text : List ℕ) (Then : ProfileView → Answer → Type 0) → ((p : ProfileView) (a b : Answer) → IsProfileText text p → Then p a → Then p b → a ≡ b) → (a b : Answer) → OfProfileText text Then a → OfProfileText text Then b → a ≡ b
-one_text text Then one a b (no_schema c r is) (no_schema d k at) = is ∙ ap (λ (x : SchemaCause). refused (schema_line (codes "schema") x)) (one_schema_cause text c d r k) ∙ sym at
-one_text text Then one a b (no_schema c r is) (no_profile S f read lacks at) = absurd (never_schema text S c read r)
-one_text text Then one a b (no_schema c r is) (profiled p h then) = absurd (never_schema text h.schema c h.read r)
-one_text text Then one a b (no_profile S f read lacks is) (no_schema d k at) = absurd (never_schema text S d read k)
-one_text text Then one a b (no_profile S f read lacks is) (no_profile T g also misses at) = is ∙ ap (λ (x : FaultView). refused (form_line x)) (same_fault text S T f g read also lacks misses) ∙ sym at
-one_text text Then one a b (no_profile S f read lacks is) (profiled p h then) = absurd (never_profile text p S f h read lacks)
-one_text text Then one a b (profiled p h then) (no_schema d k at) = absurd (never_schema text h.schema d h.read k)
-one_text text Then one a b (profiled p h then) (no_profile S f read lacks at) = absurd (never_profile text p S f h read lacks)
-one_text text Then one a b (profiled p h then) (profiled q k next) = one p a b h then (subst (λ (x : ProfileView). Then x b) (sym (same_profile text p q h k)) next)
+module _ (Then : ProfileView → Answer → Type 0) where
+  -- one answer
+  module _ (one : (p : ProfileView) → IsProfile p → (a b : Answer) → Then p a → Then p b → a ≡ b) where
+    one_of_schema : (S : Declared) → IsSchema S → (a b : Answer) → OfProfile Then S a → OfProfile Then S b → a ≡ b
+    one_of_schema S good a b (no_profile f lacks is) (no_profile g misses at) = is ∙ ap (λ (x : FaultView). refused (form_line x)) (same_fault S f g lacks misses) ∙ sym at
+    one_of_schema S good a b (no_profile f lacks is) (profiled p h then) = absurd (never_both S p f h lacks)
+    one_of_schema S good a b (profiled p h then) (no_profile f lacks is) = absurd (never_both S p f h lacks)
+    one_of_schema S good a b (profiled p h then) (profiled q k next) = one p (are_profiles S p good h).0 a b then (subst (λ (x : ProfileView). Then x b) (same_profile S q p k h) next)
 
-module _ (text : List ℕ) (Then : ProfileView → Answer → Type 0) (each : (p : ProfileView) → IsProfile p → IsProfileText text p → (a : Answer) × Then p a) where
-  answered : (S : Declared) → IsSchemaText text S → (told : Result ProfileView FaultView) → IsAnswer S told → (a : Answer) × OfProfileText text Then a
-  answered S read (Ok p) is =
-      let h : IsProfileText text p = record { schema = S; read = read; is = is } in
-      let then = each p (are_profiles S p read.good is).0 h in
-      (then.0, profiled p h then.1)
-  answered S read (Err fault) is = (_, no_profile S fault read is refl)
+    pub one_profiled : (files : Files) (schema : List ℕ) (a b : Answer) → OfProfileFile Then files schema a → OfProfileFile Then files schema b → a ≡ b
+    one_profiled = one_of_file (codes "schema") (OfProfile Then) one_of_schema
 
-  pub each_text : (a : Answer) × OfProfileText text Then a
-  each_text = elim (schema_or_refused text) [
-    | inl (S, read) ↦ (let told = each_schema S read.good in answered S read told.0 told.1)
-    | inr (cause, r) ↦ (_, no_schema cause r refl)
-  ]
+  -- an answer
+  module _ (each : (p : ProfileView) → IsProfile p → (a : Answer) × Then p a) where
+    answered : (S : Declared) → IsSchema S → (told : Result ProfileView FaultView) → IsAnswer S told → (a : Answer) × OfProfile Then S a
+    answered S good (Ok p) is = let then = each p (are_profiles S p good is).0 in (then.0, profiled p is then.1)
+    answered S good (Err fault) is = (_, no_profile fault is refl)
+
+    each_of_schema : (S : Declared) → IsSchema S → (a : Answer) × OfProfile Then S a
+    each_of_schema S good = let told = each_schema S good in answered S good told.0 told.1
+
+    pub each_profiled : (files : Files) (schema : List ℕ) → (text : List ℕ) × HasFile files schema text → (a : Answer) × OfProfileFile Then files schema a
+    each_profiled = each_of_file (codes "schema") (OfProfile Then) each_of_schema
+
+  -- the profile that was found is the answer's
+  then_told : (S : Declared) (p : ProfileView) (a : Answer) → IsAnswer S (Ok p) → OfProfile Then S a → Then p a
+  then_told S p a is (no_profile f lacks at) = absurd (never_both S p f is lacks)
+  then_told S p a is (profiled q also then) = subst (λ (x : ProfileView). Then x a) (same_profile S q p also is) then
+
+  pub profile_tells : (files : Files) (schema text : List ℕ) (S : Declared) (p : ProfileView) (a : Answer) → HasFile files schema text → IsSchemaText text S → IsAnswer S (Ok p) → OfProfileFile Then files schema a → Then p a
+  profile_tells files schema text S p a has read is h = then_told S p a is (of_schema (codes "schema") (OfProfile Then) files schema text S a has read h)
 
 -- ---- what is told of a schema that is none
 

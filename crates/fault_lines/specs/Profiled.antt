@@ -10,9 +10,8 @@ use Rattle.wire_profile.specs.Faults.{FaultView, missing, differs, IsAnswer}
 use Rattle.command_base.specs.Answer.{Answer, refused}
 use Rattle.command_base.specs.Loading.{Refuses}
 use Rattle.command_base.specs.declared.stop.Unmade.{Unmade}
-use Rattle.schema_files.specs.Causes.{SchemaCause}
-use Rattle.schema_files.specs.Loaded.{IsSchemaText, SchemaRefused}
-use Rattle.schema_files.specs.Lines.{schema_line}
+use Rattle.schema_files.specs.Answering.{OfSchemaFile}
+use Rattle.schema_files.specs.Loaded.{IsSchemaText}
 use Rattle.fault_lines.specs.Profiles.{named_line}
 
 -- the first form that is missing or differs
@@ -37,11 +36,14 @@ pub record IsProfileText (text : List ℕ) (p : ProfileView) : Type 0 where
   pub read : IsSchemaText text schema
   pub is : IsAnswer schema (Ok p)
 
--- What is answered by a schema's text: it is no schema's; or the schema is no profile; or it is one, of which more is asked.
-pub data OfProfileText (text : List ℕ) (Then : ProfileView → Answer → Type 0) (a : Answer) : Type 0 where
-  no_schema : (cause : SchemaCause) → SchemaRefused text cause → a ≡ refused (schema_line (codes "schema") cause) → OfProfileText text Then a
-  no_profile : (S : Declared) (fault : FaultView) → IsSchemaText text S → IsAnswer S (Err fault) → a ≡ refused (form_line fault) → OfProfileText text Then a
-  profiled : (p : ProfileView) → IsProfileText text p → Then p a → OfProfileText text Then a
+-- What is answered to a schema: it is no profile; or it is one, of which more is asked.
+pub data OfProfile (Then : ProfileView → Answer → Type 0) (S : Declared) (a : Answer) : Type 0 where
+  no_profile : (fault : FaultView) → IsAnswer S (Err fault) → a ≡ refused (form_line fault) → OfProfile Then S a
+  profiled : (p : ProfileView) → IsAnswer S (Ok p) → Then p a → OfProfile Then S a
+
+-- what is answered to a schema's file
+abbrev pub OfProfileFile : (ProfileView → Answer → Type 0) → Files → List ℕ → Answer → Type 0
+OfProfileFile Then files schema a = OfSchemaFile (codes "schema") (OfProfile Then) files schema a
 
 -- the file has the text of a schema that is a profile, so that the work comes to what is asked of it
 pub record HasProfile (files : Files) (schema : List ℕ) : Type 0 where

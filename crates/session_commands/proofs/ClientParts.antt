@@ -18,17 +18,18 @@ use Rattle.command_base.specs.Jobs.{Job, MakesOutput, of_fault, of_unmade, Works
 use Rattle.command_base.specs.Loading.{Refuses}
 use Rattle.command_base.specs.Sound.{Answered, Fits, HasRoomFor}
 use Rattle.command_base.proofs.Rests.{only_schema}
-use Rattle.command_base.proofs.SameFiles.{same_file}
 use Rattle.command_base.proofs.Stages.{Before, before, Carries, refuses_so, unmade_works}
 use Rattle.command_base.proofs.Views.{told_as, told_then}
 use Rattle.schema_files.specs.Loaded.{IsSchemaText}
 use Rattle.schema_files.specs.Parts.{LoadsSchema}
-use Rattle.fault_lines.specs.Profiled.{TellsProfile, IsProfileText, OfProfileText, no_schema, no_profile, profiled, HasProfile}
+use Rattle.schema_files.specs.Answering.{schema_of}
+use Rattle.schema_files.proofs.Answering.{no_schema_there}
+use Rattle.fault_lines.specs.Profiled.{TellsProfile, IsProfileText, OfProfile, no_profile, profiled, HasProfile}
 use Rattle.session_commands.specs.Client.{OfStateFile, ClientAnswer, ClientKeeps, client_job}
 use Rattle.session_commands.specs.Linked.{next_link, LeavesState, LeavesLinks}
 use Rattle.session_commands.specs.Post.{ReachesLink}
 use Rattle.session_commands.specs.inner.Recovering.{state_job, KeepsStateFile}
-use Rattle.session_commands.proofs.PostParts.{profile_tells}
+use Rattle.fault_lines.proofs.Profiled.{profile_tells}
 
 module _ (schema address name : List ℕ) (channels : List ℤ) where
   abbrev pub LoadsFirst : Result Declared Unmade → View → View → Type 0
@@ -40,9 +41,7 @@ module _ (schema address name : List ℕ) (channels : List ℤ) where
   -- ---- the schema is refused
 
   schema_stops : (e : Unmade) (v w : View) → LoadsFirst (Err e) v w → MakesOutput job (of_fault e) v w
-  schema_stops (unmade.Refused line) v w ((text, has, (cause, h, is)), only) = ((text, has, no_schema cause h (ap refused is)), only_schema v w only)
-  schema_stops unmade.ReadFault v w only = only_schema v w only
-  schema_stops unmade.Memory v w only = only_schema v w only
+  schema_stops = no_schema_there job (codes "schema") schema (λ v. OfProfile (OfStateFile address name channels v.files (next_link v))) (λ v a h. h) slots.Schema only_schema
 
   pub no_schema_works : (W L : Type 0) (e : Unmade) (r : Result Status Stop) (a b : Option View) → Told a b (LoadsFirst (Err e)) → IsErrAnd r (λ z. z ≡ of_unmade e) → Told a b (Works W L job r)
   no_schema_works W L e r a b h is = told_as a b (LoadsFirst (Err e)) (Works W L job r) (λ v w l. unmade_works W L job e r v w (schema_stops e v w l) is) h
@@ -52,7 +51,7 @@ module _ (schema address name : List ℕ) (channels : List ℤ) where
   pub no_profile_works : (W L : Type 0) (S : Declared) (e : Unmade) (r : Result Status Stop) (a b : Option View) → Told a b (LoadsFirst (Ok S)) → Refuses (TellsProfile S) e → IsErrAnd r (λ z. z ≡ of_unmade e) → Told a b (Works W L job r)
   no_profile_works W L S e r a b loaded tells is =
       told_as a b (LoadsFirst (Ok S)) (Works W L job r) (λ v w l. unmade_works W L job e r v w
-      (refuses_so job (TellsProfile S) e v w (λ line (fault, lacks, says). (l.0.0, l.0.1, no_profile S fault l.0.2 lacks (ap refused says))) tells (only_schema v w l.1)) is) loaded
+      (refuses_so job (TellsProfile S) e v w (λ line (fault, lacks, says). (l.0.0, l.0.1, schema_of S l.0.2 (no_profile fault lacks (ap refused says)))) tells (only_schema v w l.1)) is) loaded
 
   -- ---- the profile is known
 
@@ -66,7 +65,7 @@ module _ (schema address name : List ℕ) (channels : List ℤ) where
     profile_answers : (v u : View) → LoadsFirst (Ok S) v u → (a : Answer) → OfStateFile address name channels u.files (next_link u) p a → ClientAnswer v.files (next_link v) schema address name channels a
     profile_answers v u ((text, has, read), only) a h =
         let at_files = subst (λ (fs : Files). OfStateFile address name channels fs (next_link u) p a) (ap (λ (x : View). x.files) only) h in
-        (text, has, profiled p (text_is text read) (subst (λ (g : List ℕ). OfStateFile address name channels v.files g p a) (ap next_link only) at_files))
+        (text, has, schema_of S read (profiled p is (subst (λ (g : List ℕ). OfStateFile address name channels v.files g p a) (ap next_link only) at_files)))
 
     pub profile_carries : (v u : View) → LoadsFirst (Ok S) v u → Before v u × Carries part job v u
     profile_carries v u loaded = (before v u (only_schema v u loaded.1), record { answers = profile_answers v u loaded; broken = λ a cut. cut; partial = λ a part. part; pieces = λ e. e; reads_on = λ e. e; tells = λ e. e })
@@ -75,9 +74,8 @@ module _ (schema address name : List ℕ) (channels : List ℤ) where
     same_room v u a only room = subst (λ (z : View). HasRoomFor a z) (sym only) (record { output = room.output; state = room.state; links = room.links; coming = room.coming; address = room.address })
 
     pub profile_fits : (v u : View) → LoadsFirst (Ok S) v u → Fits job v → Fits part u
-    profile_fits v u ((text, has, read), only) (a, (more, also, h), room) =
-        let here = subst (λ (x : List ℕ). OfProfileText x (OfStateFile address name channels v.files (next_link v)) a) (same_file v.files schema more text also has) h in
-        let answer = profile_tells text p (OfStateFile address name channels v.files (next_link v)) a (text_is text read) here in
+    profile_fits v u ((text, has, read), only) (a, h, room) =
+        let answer = profile_tells (OfStateFile address name channels v.files (next_link v)) v.files schema text S p a has read is h in
         let at_files = subst (λ (fs : Files). OfStateFile address name channels fs (next_link v) p a) (sym (ap (λ (x : View). x.files) only)) answer in
         (a, subst (λ (g : List ℕ). OfStateFile address name channels u.files g p a) (sym (ap next_link only)) at_files, same_room v u a only room)
 

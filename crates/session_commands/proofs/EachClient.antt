@@ -52,7 +52,7 @@ use Rattle.command_base.specs.Answer.{Answer, refused}
 use Rattle.command_base.proofs.SameFiles.{file_bytes}
 use Rattle.fault_lines.specs.Answers.{answer_line}
 use Rattle.fault_lines.specs.Messages.{wire_line}
-use Rattle.fault_lines.proofs.Profiled.{each_text}
+use Rattle.fault_lines.proofs.Profiled.{each_profiled}
 use Rattle.session_commands.specs.declared.state.TheConstants.{MAX_STATE_BYTES}
 use Rattle.session_commands.specs.Lines.{packet_line}
 use Rattle.session_commands.specs.Post.{IsFile, IsWordLong}
@@ -305,6 +305,5 @@ module _ (p : ProfileView) (good : IsProfile p) where
         (told.0, (bytes, has, told.1))
 
 pub each_client : ClientsAreAnswered
-each_client files hold given all small schema address name channels long (text, has) there =
-    let told = each_text text (OfStateFile address name channels files given) (λ p good h. each_file p good address name channels long given all small files hold there) in
-    (told.0, (text, has, told.1))
+each_client files hold given all small schema address name channels long text there =
+    each_profiled (OfStateFile address name channels files given) (λ p good. each_file p good address name channels long given all small files hold there) files schema text

@@ -46,7 +46,7 @@ use Rattle.command_base.proofs.SameFiles.{file_bytes}
 use Rattle.schema_files.specs.Causes.{JsonCause, TooLong, NoJson, Unformed, Misfit}
 use Rattle.schema_files.specs.JsonInput.{IsJson, JsonRefused}
 use Rattle.schema_files.specs.declared.json_input.TheConstants.{JSON_BYTES}
-use Rattle.fault_lines.proofs.Profiled.{each_text}
+use Rattle.fault_lines.proofs.Profiled.{each_profiled}
 use Rattle.session_commands.specs.Lines.{packet_line}
 use Rattle.session_commands.specs.Post.{Outcome, IsReplyTo, OfBody, no_frame, another, reply, OfLink, no_packet, packet_of, IsWordLong, OfCall, no_call, long_call, sent, OfJson, no_json, json_of, OfInput, IsFile, PostsAreAnswered}
 use Rattle.session_commands.proofs.JsonBytes.{read_holds}
@@ -213,6 +213,5 @@ module _ (p : ProfileView) (good : IsProfile p) where
         (told.0, (text, has, told.1))
 
 pub each_post : PostsAreAnswered
-each_post files hold given bytes schema address input (text, has) there =
-    let told = each_text text (OfInput address input files given) (λ p is h. each_input p is address given bytes files hold input there) in
-    (told.0, (text, has, told.1))
+each_post files hold given bytes schema address input text there =
+    each_profiled (OfInput address input files given) (λ p is. each_input p is address given bytes files hold input there) files schema text

@@ -1,12 +1,11 @@
 -- Each `serve` whose schema is there has an answer.
-use Rattle.std.proofs.Common.{◌≡◌, ◌⊎◌, ℕ, zero, suc, ℤ, ◌+◌, ◌<◌, ◌≤◌, ◌^◌, List, [], ◌∷◌, ◌++◌, length, get_or, Option, Some, None, option_map, Result, Ok, Err, refl, sym, ap, ◌∙◌, subst, codes, inl, inr, arith}
+use Rattle.std.proofs.Common.{◌≡◌, ℕ, zero, suc, ℤ, ◌<◌, ◌^◌, List, [], ◌∷◌, ◌++◌, length, get_or, Option, Some, None, option_map, Ok, Err, refl, ap, subst, codes, inl, inr, arith}
 use Rattle.std.specs.Prelude.{⊤}
 use Rattle.std.specs.FinMap as map
 use Rattle.std.specs.List.{All, AllByRecursion}
-use Rattle.tl_base.specs.Contents.{AreBytes, Files, HoldBytes, ListsOfBytes}
-use Rattle.tl_base.specs.Packets.{IsPacketLength, packet}
+use Rattle.tl_base.specs.Contents.{AreBytes, ListsOfBytes}
+use Rattle.tl_base.specs.Packets.{packet}
 use Rattle.tl_base.specs.declared.packet.PacketFault.{PacketFault}
-use Rattle.tl_base.specs.declared.packet.PacketFault.TheVariants as packets
 use Rattle.tl_types.proofs.Numbers.{begins_word}
 use Rattle.box_events.specs.declared.positions.Receipt.{Receipt}
 use Rattle.box_events.specs.declared.replies.Frame.{Frame}
@@ -49,14 +48,13 @@ use Rattle.update_sessions.specs.Heard.{NoFrame}
 use Rattle.update_sessions.specs.Kept.{kept_in}
 use Rattle.update_sessions.specs.Receiving.{RefusedPacket}
 use Rattle.update_sessions.specs.Serving.{after_request, posted_frames, sent_for, server_side}
-use Rattle.command_base.specs.Answer.{Answer}
 use Rattle.fault_lines.specs.Messages.{wire_line}
-use Rattle.fault_lines.proofs.Profiled.{each_text}
+use Rattle.fault_lines.proofs.Profiled.{each_profiled}
 use Rattle.session_commands.specs.Lines.{packet_line}
-use Rattle.session_commands.specs.Post.{IsFile, IsWordLong}
+use Rattle.session_commands.specs.Post.{IsWordLong}
 use Rattle.session_commands.specs.SessionEnds.{many_frames_line}
-use Rattle.session_commands.specs.Serve.{SessionEnd, served, peer_fault, IsWhole, OfSessions, ServeAnswer, ServesAreAnswered, Session, Sessions, Total, no_sessions, total_answer, with_session}
-use Rattle.session_commands.proofs.EachPost.{BeginsNone, BeginsPacket, begins_so, each_message}
+use Rattle.session_commands.specs.Serve.{SessionEnd, served, peer_fault, IsWhole, OfSessions, ServesAreAnswered, Session, Sessions, Total, no_sessions, total_answer, with_session}
+use Rattle.session_commands.proofs.EachPost.{begins_so, each_message}
 use Rattle.session_commands.proofs.OneReply.{body_bytes}
 use Rattle.session_commands.proofs.OneExchange.{rest_bytes}
 use Rattle.session_commands.proofs.OneTotal.{given_bytes}
@@ -255,7 +253,6 @@ few_moments (m ∷ ms) all zero = all.0
 few_moments (m ∷ ms) all (suc k) = few_moments ms all.1 k
 
 pub each_serve : ServesAreAnswered
-each_serve files hold given bytes moments few schema address n (text, has) =
-    let told = each_text text (OfSessions new_server address IsWhole n given moments) (λ p good h.
-    (let t = each_total p good given bytes moments (few_moments moments few) n in (total_answer address n t.total, (t.total, t.sessions, refl)))) in
-    (told.0, (text, has, told.1))
+each_serve files hold given bytes moments few schema address n text =
+    each_profiled (OfSessions new_server address IsWhole n given moments) (λ p good. (let t = each_total p good given bytes moments (few_moments moments few) n in (total_answer address n t.total, (t.total, t.sessions, refl)))) files schema
+    text

@@ -6,8 +6,7 @@ use Rattle.wire_profile.specs.Places.{ProfileView}
 use Rattle.wire_profile.specs.Profiles.{IsProfile}
 use Rattle.command_base.specs.Answer.{Answer, refused}
 use Rattle.command_base.proofs.SameFiles.{file_bytes, same_file}
-use Rattle.fault_lines.specs.Profiled.{OfProfileText}
-use Rattle.fault_lines.proofs.Profiled.{are_profiles, one_text}
+use Rattle.fault_lines.proofs.Profiled.{one_profiled}
 use Rattle.session_commands.specs.Client.{OfSession, OfState, no_client, too_many, watches, OfStateFile, ClientHasOneAnswer, watch_all}
 use Rattle.session_commands.proofs.OneState.{never_client, one_client, one_state_line}
 use Rattle.session_commands.proofs.SessionAnswers.{one_of_session}
@@ -39,6 +38,5 @@ one_file files hold address name channels given p all good a b (bytes, has, h) (
     (subst (λ (x : List ℕ). OfState p address name channels x given b) (same_file files name more bytes also has) k)
 
 pub one_recovery : ClientHasOneAnswer
-one_recovery files hold given all schema address name channels a b (text, has, h) (more, also, k) =
-    one_text text (OfStateFile address name channels files given) (λ p x y is i j. one_file files hold address name channels given p all (are_profiles is.schema p is.read.good is.is).0 x y i j) a b h
-    (subst (λ (x : List ℕ). OfProfileText x (OfStateFile address name channels files given) b) (same_file files schema more text also has) k)
+one_recovery files hold given all schema address name channels =
+    one_profiled (OfStateFile address name channels files given) (λ p good. one_file files hold address name channels given p all good) files schema

@@ -1,7 +1,6 @@
 -- What a client's session does over bytes is one, and no other may ask for more.
-use Rattle.std.proofs.Common.{◌≡◌, inl, inr, ℕ, ◌+◌, ◌<◌, ◌≤◌, List, [], ◌∷◌, ◌++◌, length, length-append, true, false, true≢false, Option, Some, None, Result, Ok, Err, refl, sym, ap, ap₂, ◌∙◌, subst, arith}
+use Rattle.std.proofs.Common.{◌≡◌, inl, inr, ℕ, ◌<◌, ◌≤◌, List, [], ◌∷◌, ◌++◌, length, length-append, true, false, true≢false, Some, None, Result, Ok, Err, refl, sym, ap, ap₂, ◌∙◌, subst, arith}
 use Rattle.tl_base.specs.Contents.{AreBytes}
-use Rattle.tl_base.specs.Packets.{packet}
 use Rattle.tl_base.specs.declared.packet.PacketFault.{PacketFault}
 use Rattle.tl_encode.proofs.OneSpelling.{one_spelling}
 use Rattle.box_events.specs.declared.replies.Frame.{Frame}
@@ -27,12 +26,12 @@ use Rattle.update_sessions.specs.declared.fault.SessionFault.{SessionFault}
 use Rattle.update_sessions.specs.declared.fault.SessionFault.TheVariants.{Packet, Wire, Client, TooManyFrames, LinkFault, Memory}
 use Rattle.update_sessions.specs.declared.fault.TheConstants.{MAX_FRAMES}
 use Rattle.update_sessions.specs.Exchanges.{Exchanged}
-use Rattle.update_sessions.specs.Heard.{NoFrame, RefusedFrame, StillAsks, HearsOn, IsBrokenOff, Hears, broke_off, asked, MayAsk}
+use Rattle.update_sessions.specs.Heard.{NoFrame, RefusedFrame, HearsOn, IsBrokenOff, Hears, broke_off, asked, MayAsk}
 use Rattle.update_sessions.specs.Hearing.{IsTaken, IsFaultOf, cause_of, client_side}
 use Rattle.update_sessions.specs.Packed.{Came, MeansFrame, Packed, SpellsCall}
 use Rattle.update_sessions.specs.Receiving.{ComesFirst, RefusedPacket}
 use Rattle.session_commands.specs.Post.{IsWordLong}
-use Rattle.session_commands.proofs.OneExchange.{Ended, AreOne, one_ended, one_packed, rest_bytes, same_first, same_rest, sends_most}
+use Rattle.session_commands.proofs.OneExchange.{Ended, one_ended, one_packed, rest_bytes, same_first, same_rest, sends_most}
 use Rattle.session_commands.proofs.OnePacket.{never_packet, one_packet_fault}
 use Rattle.session_commands.proofs.OneReply.{body_bytes}
 

@@ -1,10 +1,10 @@
 -- The client of a state file is one, or there is none for one line.
-use Rattle.std.proofs.Common.{◌≡◌, ℕ, ◌<◌, ◌≤◌, List, [], length, Option, Some, None, sym, ap, ◌∙◌, subst, codes, arith}
+use Rattle.std.proofs.Common.{◌≡◌, ℕ, ◌<◌, ◌≤◌, List, [], length, Option, Some, None, sym, ap, ◌∙◌, codes, arith}
 use Rattle.tl_base.specs.Contents.{AreBytes}
 use Rattle.box_events.specs.declared.saved.Saved.{Saved}
 use Rattle.box_client.specs.declared.fault.LoadFault.{LoadFault}
 use Rattle.box_client.specs.declared.fault.LoadFault.TheVariants as load
-use Rattle.box_client.specs.Loads.{IsCauseOf, IsLoadedAs}
+use Rattle.box_client.specs.Loads.{IsCauseOf}
 use Rattle.box_client.specs.Saving.{LoadCause, bad_next, bad_lane, bad_settings, bad_channels, client_loaded, load_cause}
 use Rattle.box_client.specs.States.{ClientState}
 use Rattle.wire_checks.specs.declared.fault.WireFault.{WireFault}

@@ -1,9 +1,9 @@
 -- What a session over a link, and the writing of what is left of it, do to the outside.
-use Rattle.std.proofs.Common.{◌≡◌, ℕ, ◌+◌, ◌≤◌, List, [], ◌∷◌, ◌++◌, append-nil, length, Option, Some, None, Result, Ok, Err, Vec, Global, refl, sym, ap, ◌∙◌, subst, arith, inl, inr}
+use Rattle.std.proofs.Common.{◌≡◌, ℕ, ◌≤◌, List, [], ◌∷◌, ◌++◌, append-nil, length, Option, Some, None, Result, Ok, Err, Vec, Global, refl, sym, ap, ◌∙◌, subst, arith, inl, inr}
 use Rattle.std.specs.Prelude.{IfSome, IsErrAnd}
 use Rattle.std.specs.List.{All}
 use Rattle.tl_base.specs.Contents.{AreBytes}
-use Rattle.tl_base.specs.Outside.{View, ShowsBytes, HasRoom, written_of, with_written}
+use Rattle.tl_base.specs.Outside.{View, written_of, with_written}
 use Rattle.tl_base.specs.Calls.{Told}
 use Rattle.tl_base.specs.declared.host.Out.TheVariants.{Output}
 use Rattle.command_base.specs.declared.status.Status.{Status}
@@ -11,7 +11,7 @@ use Rattle.command_base.specs.declared.status.Status.TheVariants as status
 use Rattle.command_base.specs.declared.stop.Stop.{Stop}
 use Rattle.command_base.specs.declared.stop.Stop.TheVariants as stop
 use Rattle.command_base.specs.Answer.{Answer}
-use Rattle.command_base.specs.Jobs.{Job, GivesOutput, Works}
+use Rattle.command_base.specs.Jobs.{Job, Works}
 use Rattle.command_base.specs.Kept.{Leaves}
 use Rattle.command_base.specs.Sound.{Fits}
 use Rattle.command_base.proofs.Views.{told_as, told_then}

@@ -17,16 +17,17 @@ use Rattle.command_base.specs.Jobs.{Job, MakesOutput, of_fault, of_unmade, Works
 use Rattle.command_base.specs.Loading.{Refuses}
 use Rattle.command_base.specs.Sound.{Answered, Fits, HasRoomFor}
 use Rattle.command_base.proofs.Rests.{only_schema}
-use Rattle.command_base.proofs.SameFiles.{same_file}
 use Rattle.command_base.proofs.Stages.{Before, before, Carries, refuses_so, unmade_works}
 use Rattle.command_base.proofs.Views.{told_as, told_then}
 use Rattle.schema_files.specs.Loaded.{IsSchemaText}
 use Rattle.schema_files.specs.Parts.{LoadsSchema}
-use Rattle.fault_lines.specs.Profiled.{TellsProfile, IsProfileText, OfProfileText, no_schema, no_profile, profiled, HasProfile}
+use Rattle.schema_files.specs.Answering.{schema_of}
+use Rattle.schema_files.proofs.Answering.{no_schema_there}
+use Rattle.fault_lines.specs.Profiled.{TellsProfile, IsProfileText, OfProfile, no_profile, profiled, HasProfile}
 use Rattle.session_commands.specs.Serve.{SessionEnd, IsAny, IsWhole, KeepsServing, ServeKeeps, SessionsAnswer, serving_job}
 use Rattle.session_commands.specs.inner.Serving.{sessions_job}
 use Rattle.session_commands.proofs.Connections.{keeps_on}
-use Rattle.session_commands.proofs.PostParts.{profile_tells}
+use Rattle.fault_lines.proofs.Profiled.{profile_tells}
 
 only_keeps : (v w : View) → OnlySlot slots.Schema v w → KeepsServing v w
 only_keeps v w e = record {
@@ -53,9 +54,7 @@ module _ (schema : List ℕ) where
     -- ---- the schema is refused
 
     schema_stops : (e : Unmade) (v w : View) → LoadsFirst (Err e) v w → MakesOutput job (of_fault e) v w
-    schema_stops (unmade.Refused line) v w ((text, has, (cause, h, is)), only) = ((text, has, no_schema cause h (ap refused is)), only_schema v w only)
-    schema_stops unmade.ReadFault v w only = only_schema v w only
-    schema_stops unmade.Memory v w only = only_schema v w only
+    schema_stops = no_schema_there job (codes "schema") schema (λ v. OfProfile (Of IsWhole n v.links v.moments)) (λ v a h. h) slots.Schema only_schema
 
     pub no_schema_works : (W L : Type 0) (e : Unmade) (r : Result Status Stop) (a b : Option View) → Told a b (LoadsFirst (Err e)) → IsErrAnd r (λ z. z ≡ of_unmade e) → Told a b (Works W L job r)
     no_schema_works W L e r a b h is = told_as a b (LoadsFirst (Err e)) (Works W L job r) (λ v w l. unmade_works W L job e r v w (schema_stops e v w l) is) h
@@ -65,7 +64,7 @@ module _ (schema : List ℕ) where
     pub no_profile_works : (W L : Type 0) (S : Declared) (e : Unmade) (r : Result Status Stop) (a b : Option View) → Told a b (LoadsFirst (Ok S)) → Refuses (TellsProfile S) e → IsErrAnd r (λ z. z ≡ of_unmade e) → Told a b (Works W L job r)
     no_profile_works W L S e r a b loaded tells is =
         told_as a b (LoadsFirst (Ok S)) (Works W L job r) (λ v w l. unmade_works W L job e r v w
-        (refuses_so job (TellsProfile S) e v w (λ line (fault, lacks, says). (l.0.0, l.0.1, no_profile S fault l.0.2 lacks (ap refused says))) tells (only_schema v w l.1)) is) loaded
+        (refuses_so job (TellsProfile S) e v w (λ line (fault, lacks, says). (l.0.0, l.0.1, schema_of S l.0.2 (no_profile fault lacks (ap refused says)))) tells (only_schema v w l.1)) is) loaded
 
     -- ---- the profile is known
 
@@ -83,7 +82,7 @@ module _ (schema : List ℕ) where
           subst (λ (g : List (List ℕ)). Of Is k g u.moments p a) (sym (ap (λ (x : View). x.links) only)) (subst (λ (m : List ℕ). Of Is k v.links m p a) (sym (ap (λ (x : View). x.moments) only)) h)
 
       profile_answers : (v u : View) → LoadsFirst (Ok S) v u → (a : Answer) → part.answers u a → job.answers v a
-      profile_answers v u ((text, has, read), only) a h = (text, has, profiled p (text_is S p is text read) (before_it IsWhole n v u only a h))
+      profile_answers v u ((text, has, read), only) a h = (text, has, schema_of S read (profiled p is (before_it IsWhole n v u only a h)))
 
       profile_broken : (v u : View) → LoadsFirst (Ok S) v u → (a : Answer) → part.broken u a → job.broken v a
       profile_broken v u loaded a h = (profile_is S p is v u loaded, before_it IsAny n v u loaded.1 a h)
@@ -99,9 +98,8 @@ module _ (schema : List ℕ) where
       same_room v u a only room = subst (λ (z : View). HasRoomFor a z) (sym only) (record { output = room.output; state = room.state; links = room.links; coming = room.coming; address = room.address })
 
       pub profile_fits : (v u : View) → LoadsFirst (Ok S) v u → Fits job v → Fits part u
-      profile_fits v u ((text, has, read), only) (a, (more, also, h), room) =
-          let here = subst (λ (x : List ℕ). OfProfileText x (Of IsWhole n v.links v.moments) a) (same_file v.files schema more text also has) h in
-          let answer = profile_tells text p (Of IsWhole n v.links v.moments) a (text_is S p is text read) here in
+      profile_fits v u ((text, has, read), only) (a, h, room) =
+          let answer = profile_tells (Of IsWhole n v.links v.moments) v.files schema text S p a has read is h in
           (a, after_it IsWhole n v u only a answer, same_room v u a only room)
 
     -- an answer names the schema's file

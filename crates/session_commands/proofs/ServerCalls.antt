@@ -1,10 +1,9 @@
 -- Calls over a link that is made to an address, from what is done over the link.
-use Rattle.std.proofs.Common.{◌≡◌, ℕ, ◌+◌, ◌<◌, ◌≤◌, List, length, Option, Some, None, Result, Ok, Err, refl, sym, ap, ◌∙◌, subst, arith, inl, inr}
-use Rattle.tl_base.specs.Outside.{View, HostState, left_of, written_of}
+use Rattle.std.proofs.Common.{◌≡◌, ℕ, ◌<◌, ◌≤◌, List, length, Option, Some, None, Result, Ok, Err, refl, sym, ap, ◌∙◌, subst, arith, inl, inr}
+use Rattle.tl_base.specs.Outside.{View, HostState, left_of}
 use Rattle.tl_base.specs.Calls.{Told, Connects}
 use Rattle.tl_base.specs.Using.{MeetsFaults, SourceState, SinkState}
 use Rattle.tl_base.specs.declared.counts.Kind.TheVariants as kinds
-use Rattle.tl_base.specs.declared.host.Out.TheVariants as outs
 use Rattle.tl_base.specs.declared.host.Slot.TheVariants as slots
 use Rattle.command_base.specs.declared.stop.Stop.{Stop}
 use Rattle.command_base.specs.declared.stop.Stop.TheVariants as stop

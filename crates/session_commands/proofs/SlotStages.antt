@@ -1,5 +1,5 @@
 -- Work after State was read.
-use Rattle.std.proofs.Common.{◌≡◌, ℕ, List, ◌++◌, append-nil, drop, Result, Ok, Err, refl, sym, ap, ◌∙◌, subst, inl, inr}
+use Rattle.std.proofs.Common.{◌≡◌, ℕ, List, ◌++◌, append-nil, drop, Result, Ok, Err, refl, sym, ap, ◌∙◌, subst, inl}
 use Rattle.std.specs.Prelude.{IsErrAnd}
 use Rattle.tl_base.specs.Outside.{View}
 use Rattle.tl_base.specs.Hosted.{OnlySlot}

@@ -1,5 +1,5 @@
 -- What is made of a state's bytes.
-use Rattle.std.proofs.Common.{◌≡◌, ◌⊎◌, ℕ, ◌<◌, ◌≤◌, List, [], ◌∷◌, ◌++◌, length, length-append, Some, None, Bool, true, false, true≢false, ◌==◌, Result, Ok, Err, Vec, Global, sym, ap, ◌∙◌, subst, inl, inr, codes, arith}
+use Rattle.std.proofs.Common.{◌≡◌, ◌⊎◌, ℕ, ◌<◌, ◌≤◌, List, [], ◌∷◌, ◌++◌, length, length-append, Some, None, Bool, false, true≢false, ◌==◌, Result, Ok, Err, Vec, Global, sym, ap, ◌∙◌, subst, inl, inr, codes, arith}
 use Rattle.std.proofs.lemmas.Bool.{cases_lt}
 use Rattle.std.specs.Prelude.{IfOk, IsErrAnd}
 use Rattle.std.specs.declared.alloc.AllocError.{AllocError}
@@ -12,14 +12,11 @@ use Rattle.box_client.proofs.Loadings.{next_is_bad}
 use Rattle.wire_checks.specs.declared.fault.WireFault.{WireFault}
 use Rattle.wire_checks.specs.declared.fault.WireFault.TheVariants as wire
 use Rattle.wire_profile.specs.Places.{ProfileView}
-use Rattle.wire_values.specs.Carried.{IsSaved}
-use Rattle.wire_values.specs.SavedClients.{saved_tree}
-use Rattle.box_wire.specs.Framing.{Means, WireRefused}
+use Rattle.box_wire.specs.Framing.{WireRefused}
 use Rattle.box_wire.specs.Kinds.{saved_clients}
 use Rattle.command_base.specs.Jobs.{RefusedBy}
 use Rattle.command_base.specs.Loading.{Gives, Refuses}
 use Rattle.command_base.specs.declared.stop.Unmade.{Unmade}
-use Rattle.command_base.specs.declared.stop.Unmade.TheVariants as unmade
 use Rattle.command_base.proofs.Loaded.{memory_refuses, refuses_as}
 use Rattle.fault_lines.specs.Messages.{wire_line}
 use Rattle.fault_lines.specs.SavedClients.{load_line}

@@ -1,5 +1,5 @@
 -- What the writing of State, and then of a line, does, from what its calls do.
-use Rattle.std.proofs.Common.{◌≡◌, ℕ, ◌+◌, ◌≤◌, List, [], ◌++◌, append-nil, length, Option, Result, Ok, Err, refl, sym, ap, ◌∙◌, arith, inl, inr}
+use Rattle.std.proofs.Common.{ℕ, ◌≤◌, List, [], ◌++◌, append-nil, length, Option, Result, Ok, Err, refl, sym, ap, ◌∙◌, arith, inl, inr}
 use Rattle.tl_base.specs.Outside.{View, HostState, HasRoom, written_of, with_written}
 use Rattle.tl_base.specs.Calls.{Told, Creates}
 use Rattle.tl_base.specs.Hosted.{Puts}
@@ -8,7 +8,7 @@ use Rattle.tl_base.specs.declared.counts.Kind.TheVariants as kinds
 use Rattle.tl_base.specs.declared.host.Out.TheVariants as outs
 use Rattle.command_base.proofs.Faults.{safe, fails_as, then_fails}
 use Rattle.command_base.proofs.Views.{told_as, told_then}
-use Rattle.session_commands.specs.inner.StateFiles.{with_state, StateBegun, WritesState, WritesBoth, HasStateRoom, HasBothRoom}
+use Rattle.session_commands.specs.inner.StateFiles.{StateBegun, WritesState, WritesBoth, HasStateRoom, HasBothRoom}
 
 -- ---- State
 

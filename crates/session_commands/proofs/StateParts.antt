@@ -1,8 +1,8 @@
 -- What `client` makes of its state, and then of the client that this has.
 use Rattle.std.proofs.Common.{◌≡◌, ℕ, ℤ, List, Option, Some, None, Result, Ok, Err, refl, sym, ap, ◌∙◌, subst, inl, inr}
 use Rattle.std.specs.Prelude.{IsErrAnd}
-use Rattle.tl_base.specs.Contents.{AreBytes, Files}
-use Rattle.tl_base.specs.Outside.{View, HasFile, IsThere, ShowsBytes}
+use Rattle.tl_base.specs.Contents.{AreBytes}
+use Rattle.tl_base.specs.Outside.{View, IsThere, ShowsBytes}
 use Rattle.tl_base.specs.Calls.{Told}
 use Rattle.tl_base.specs.Hosted.{OnlySlot}
 use Rattle.tl_base.specs.declared.host.Slot.TheVariants as slots
@@ -21,7 +21,7 @@ use Rattle.command_base.proofs.SameFiles.{file_bytes, same_file}
 use Rattle.command_base.proofs.Stages.{Before, Carries}
 use Rattle.command_base.proofs.Views.{told_as, told_then}
 use Rattle.session_commands.specs.Client.{HasClient, TellsNoClient, OfSession, OfState, no_client, too_many, watches, OfStateFile, many_channels_line, watch_all}
-use Rattle.session_commands.specs.Linked.{next_link, BeginsState, LeavesState}
+use Rattle.session_commands.specs.Linked.{next_link, LeavesState}
 use Rattle.session_commands.specs.inner.Calling.{KeepsClient}
 use Rattle.session_commands.specs.inner.Recovering.{Watches, state_job, session_job, KeepsStateFile}
 use Rattle.session_commands.proofs.OneState.{never_client, one_client}

@@ -27,7 +27,7 @@ use Rattle.command_base.specs.Answer.{Answer, refused, unplaced_line}
 use Rattle.command_base.specs.Jobs.{Job}
 use Rattle.command_base.specs.declared.status.Status.TheVariants.{PeerFault}
 use Rattle.fault_lines.specs.Messages.{wire_line}
-use Rattle.fault_lines.specs.Profiled.{OfProfileText}
+use Rattle.fault_lines.specs.Profiled.{OfProfileFile}
 use Rattle.fault_lines.specs.SavedClients.{load_line}
 use Rattle.session_commands.specs.declared.state.TheConstants.{MAX_STATE_BYTES}
 use Rattle.session_commands.specs.Linked.{over_link, saves_after, linking_job, next_link, KeepsFiles, LeavesLinks, LeavesState}
@@ -99,7 +99,7 @@ OfStateFile address name channels files given p a = (bytes : List ℕ) × HasFil
 
 -- client's answer, over a link that gives these bytes
 abbrev pub ClientAnswer : Files → List ℕ → List ℕ → List ℕ → List ℕ → List ℤ → Answer → Type 0
-ClientAnswer files given schema address name channels a = (text : List ℕ) × HasFile files schema text × OfProfileText text (OfStateFile address name channels files given) a
+ClientAnswer files given schema address name channels a = OfProfileFile (OfStateFile address name channels files given) files schema a
 
 -- ---- what is left
 

@@ -27,7 +27,7 @@ use Rattle.schema_files.specs.Causes.{JsonCause}
 use Rattle.schema_files.specs.JsonInput.{IsJsonOf, JsonRefused}
 use Rattle.schema_files.specs.Lines.{json_line, line_text}
 use Rattle.fault_lines.specs.Messages.{wire_line}
-use Rattle.fault_lines.specs.Profiled.{OfProfileText, HasProfile}
+use Rattle.fault_lines.specs.Profiled.{OfProfileFile, HasProfile}
 use Rattle.session_commands.specs.Linked.{over_link, linking_job, next_link, KeepsFiles, LeavesLinks}
 use Rattle.session_commands.specs.Lines.{packet_line, wrong_reply_line, long_call_line}
 
@@ -86,7 +86,7 @@ OfInput address input files given p a = (bytes : List ℕ) × HasFile files inpu
 
 -- post's answer, over a link that gives these bytes
 abbrev pub PostAnswer : Files → List ℕ → List ℕ → List ℕ → List ℕ → Answer → Type 0
-PostAnswer files given schema address input a = (text : List ℕ) × HasFile files schema text × OfProfileText text (OfInput address input files given) a
+PostAnswer files given schema address input a = OfProfileFile (OfInput address input files given) files schema a
 
 -- the work comes to the link: the schema is a profile, and some file has the input's name
 pub record ReachesLink (files : Files) (schema input : List ℕ) : Type 0 where

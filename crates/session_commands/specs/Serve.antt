@@ -2,7 +2,7 @@
 use Rattle.std.specs.Prelude.{◌≡◌, ◌⊎◌, ℕ, zero, suc, ◌<◌, ◌≤◌, ◌^◌, List, [], ◌∷◌, ◌++◌, get_or, Option, Some, None, option_map, Result, Ok, Err}
 use Rattle.std.specs.List.{AllByRecursion}
 use Rattle.tl_base.specs.Contents.{Files, HoldBytes, ListsOfBytes}
-use Rattle.tl_base.specs.Outside.{View, HasFile}
+use Rattle.tl_base.specs.Outside.{View}
 use Rattle.box_events.specs.declared.requests.Numbered.{Numbered}
 use Rattle.box_server.specs.Servers.{ServerState, new_server, dated_at}
 use Rattle.box_store.specs.declared.entry.Entry.{Entry}
@@ -15,7 +15,7 @@ use Rattle.command_base.specs.Answer.{Answer, link_fault_line}
 use Rattle.command_base.specs.Jobs.{Job}
 use Rattle.command_base.specs.declared.status.Status.{Status}
 use Rattle.command_base.specs.declared.status.Status.TheVariants.{Done, PeerFault, LinkFault}
-use Rattle.fault_lines.specs.Profiled.{OfProfileText, HasProfile}
+use Rattle.fault_lines.specs.Profiled.{OfProfileFile, HasProfile}
 use Rattle.session_commands.specs.Linked.{LeavesLinks}
 use Rattle.session_commands.specs.Lines.{served_line}
 use Rattle.session_commands.specs.SessionEnds.{IsShort, session_line}
@@ -119,7 +119,7 @@ OfSessions s address Is n given moments p a = (r : Total) × Sessions Is p s giv
 
 -- serve's answer, over links that give these bytes at these moments, none of which fails
 abbrev pub ServeAnswer : Files → List (List ℕ) → List ℕ → List ℕ → List ℕ → ℕ → Answer → Type 0
-ServeAnswer files given moments schema address n a = (text : List ℕ) × HasFile files schema text × OfProfileText text (OfSessions new_server address IsWhole n given moments) a
+ServeAnswer files given moments schema address n a = OfProfileFile (OfSessions new_server address IsWhole n given moments) files schema a
 
 -- what is left by a run that serves
 pub record KeepsServing (v w : View) : Type 0 where
@@ -141,7 +141,7 @@ SessionsAnswer = (SessionEnd → Type 0) → ℕ → List (List ℕ) → List �
 -- The job of n sessions by a schema: where links may fail, they do in sessions of any end; where the run stops, the first sessions were told.
 abbrev pub serving_job : List ℕ → ℕ → SessionsAnswer → Job
 serving_job schema n Of = record {
-  answers = λ v a. (text : List ℕ) × HasFile v.files schema text × OfProfileText text (Of IsWhole n v.links v.moments) a;
+  answers = λ v a. OfProfileFile (Of IsWhole n v.links v.moments) v.files schema a;
   broken = λ v a. (h : HasProfile v.files schema) × Of IsAny n v.links v.moments h.p a;
   partial = λ v a. (h : HasProfile v.files schema) × (k : ℕ) × (k ≤ n) × Of IsAny k v.links v.moments h.p a;
   in_pieces = Unit {0};

@@ -1,9 +1,9 @@
 -- The replay of a journal that is read from its file.
-use Rattle.std.proofs.Common.{◌≡◌, ℕ, ◌+◌, ◌<◌, ◌≤◌, List, ◌++◌, length, length-append, take, Bool, Option, Some, None, Result, Ok, Err, refl, sym, ap, ◌∙◌, subst, arith, lt-ltb}
+use Rattle.std.proofs.Common.{◌≡◌, ℕ, ◌<◌, List, ◌++◌, length, length-append, Bool, Option, Some, None, Result, Ok, Err, sym, ap, ◌∙◌, subst, arith, lt-ltb}
 use Rattle.std.specs.Prelude.{IfSome, IsErrAnd, IsErrOf}
 use Rattle.std.proofs.lemmas.List.{take-append-le}
-use Rattle.tl_base.specs.Contents.{AreBytes, Files}
-use Rattle.tl_base.specs.Outside.{View, HostState, HasFile, IsThere, ShowsBytes}
+use Rattle.tl_base.specs.Contents.{AreBytes}
+use Rattle.tl_base.specs.Outside.{View, HostState, IsThere, ShowsBytes}
 use Rattle.tl_base.specs.Hosted.{OnlySlot}
 use Rattle.tl_base.specs.Calls.{Told}
 use Rattle.tl_base.specs.Using.{MeetsFaults}
@@ -15,7 +15,7 @@ use Rattle.command_base.specs.Answer.{Answer}
 use Rattle.command_base.specs.Jobs.{Works, MakesOutput, of_fault, of_unmade}
 use Rattle.command_base.specs.Kept.{KeepsRest}
 use Rattle.command_base.specs.Loading.{Loads}
-use Rattle.command_base.specs.Sound.{Answered, Fits, HasRoomFor, MeetsFaultsOf}
+use Rattle.command_base.specs.Sound.{Fits, HasRoomFor, MeetsFaultsOf}
 use Rattle.command_base.specs.Telling.{status_of}
 use Rattle.command_base.specs.declared.status.Status.{Status}
 use Rattle.command_base.specs.declared.stop.Stop.{Stop}
@@ -25,13 +25,12 @@ use Rattle.command_base.proofs.Loaded.{StaysLong, refuses_as, slot_only}
 use Rattle.command_base.proofs.Rests.{only_input, rest_then}
 use Rattle.command_base.proofs.SameFiles.{same_file, file_bytes}
 use Rattle.command_base.proofs.Views.{told_as, told_then}
-use Rattle.update_replay.specs.Endings.{Ending}
 use Rattle.update_replay.specs.Replays.{Replays, goes_on, seen_of}
 use Rattle.update_replay.specs.declared.limits.TheConstants.{MAX_JOURNAL_BYTES}
 use Rattle.update_replay.proofs.Windows.{seen_bytes}
 use Rattle.update_commands.specs.Replay.{OfJournal, file_job, journal_job}
 use Rattle.update_commands.specs.Replaying.{IsSeen, NoLine}
-use Rattle.command_base.proofs.Stages.{Before, Carries, before, works_after, unmade_works}
+use Rattle.command_base.proofs.Stages.{Carries, before, works_after, unmade_works}
 use Rattle.command_base.proofs.StageFaults.{stage_faults, unmade_faults}
 
 -- ---- what is looked at

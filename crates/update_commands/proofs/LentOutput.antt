@@ -1,6 +1,6 @@
 -- A replay over Output, lent as a sink, and what it does to the host.
-use Rattle.std.proofs.Common.{◌≡◌, ℕ, zero, suc, ◌+◌, ◌≤◌, List, [], ◌++◌, length, Option, Some, None, Result, Ok, Err, refl, sym, ap, ap₂, ◌∙◌, subst, arith, Bool}
-use Rattle.std.specs.Prelude.{IfSome, IsSome, IsTrue, IsErrOf, IsErrAnd}
+use Rattle.std.proofs.Common.{◌≡◌, ℕ, zero, suc, ◌+◌, ◌≤◌, List, [], length, Option, Some, None, Result, Ok, Err, refl, sym, ap, ap₂, ◌∙◌, subst, arith, Bool}
+use Rattle.std.specs.Prelude.{IfSome, IsTrue, IsErrOf}
 use Rattle.tl_base.specs.Outside.{View, HostState, written_of, with_written}
 use Rattle.tl_base.specs.Using.{SinkState, Wrote, WritesOnly, MeetsFaults}
 use Rattle.tl_base.specs.Lending.{out_written, out_aside, out_state, room_of}
@@ -12,7 +12,6 @@ use Rattle.tl_base.proofs.Lends.{over_out, out_faults}
 use Rattle.box_server.specs.Servers.{new_server}
 use Rattle.box_world.specs.Worlds.{new_clients}
 use Rattle.wire_profile.specs.Places.{ProfileView}
-use Rattle.command_base.proofs.Faults.{NeverFails, safe}
 use Rattle.command_base.proofs.Views.{told_as}
 use Rattle.update_world.specs.Shown.{Shown}
 use Rattle.update_replay.specs.Replays.{EndsOn, IsNew, NeverFull, goes_on, seen_of}

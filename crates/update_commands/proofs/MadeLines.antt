@@ -19,7 +19,9 @@ use Rattle.command_base.proofs.Rests.{only_schema}
 use Rattle.command_base.proofs.Views.{told_as}
 use Rattle.schema_files.specs.Loaded.{IsSchemaText}
 use Rattle.schema_files.specs.Parts.{LoadsSchema, TellsSchema}
-use Rattle.fault_lines.specs.Profiled.{TellsProfile, no_profile, no_schema, profiled}
+use Rattle.schema_files.specs.Answering.{schema_of}
+use Rattle.schema_files.proofs.Answering.{no_schema_made}
+use Rattle.fault_lines.specs.Profiled.{OfProfile, TellsProfile, no_profile, profiled}
 use Rattle.update_commands.specs.Make.{MakeAnswer, OfMadeRun, make_job}
 
 -- the schema of these commands
@@ -46,27 +48,22 @@ module _ (s : List ℕ) (number count : ℕ) where
   refuses P unmade.ReadFault v w answers h only = only
   refuses P unmade.Memory v w answers h only = only
 
-  schema_stops : (e : Unmade) (v w : View) → LoadsIt s (Err e) v w → MakesOutput job (of_fault e) v w
-  schema_stops (unmade.Refused line) v w ((text, has, (cause, h, is)), only) = ((text, has, no_schema cause h (ap refused is)), only_schema v w only)
-  schema_stops unmade.ReadFault v w only = only_schema v w only
-  schema_stops unmade.Memory v w only = only_schema v w only
-
   pub no_schema_line : (e : Unmade) (r : Result (Vec ℕ Global) Unmade) (a b : Option View) → Told a b (LoadsIt s (Err e)) → IsErrAnd r (λ z. z ≡ e) → Told a b (MakesOutput job (making r))
-  no_schema_line e r a b h is = told_as a b (LoadsIt s (Err e)) (MakesOutput job (making r)) (λ v w l. stops job e r v w (schema_stops e v w l) is) h
+  no_schema_line = no_schema_made job (codes "schema") s (λ v. OfProfile (λ p b. OfMadeRun number count b)) (λ v a h. h) slots.Schema only_schema
 
   module _ (schema : Declared) (a b : Option View) (loaded : Told a b (LoadsIt s (Ok schema))) where
     pub no_profile_line : (e : Unmade) (r : Result (Vec ℕ Global) Unmade) → Refuses (TellsProfile schema) e → IsErrAnd r (λ z. z ≡ e) → Told a b (MakesOutput job (making r))
     no_profile_line e r h is =
         told_as a b (LoadsIt s (Ok schema)) (MakesOutput job (making r)) (λ v w l. stops job e r v w
-        (refuses (TellsProfile schema) e v w (λ line (fault, lacks, tells). (l.0.0, l.0.1, no_profile schema fault l.0.2 lacks (ap refused tells))) h (only_schema v w l.1)) is) loaded
+        (refuses (TellsProfile schema) e v w (λ line (fault, lacks, tells). (l.0.0, l.0.1, schema_of schema l.0.2 (no_profile fault lacks (ap refused tells)))) h (only_schema v w l.1)) is) loaded
 
     module _ (p : ProfileView) (has : IsAnswer schema (Ok p)) where
       pub no_run_line : (e : Unmade) (r : Result (Vec ℕ Global) Unmade) → Refuses (λ line. OfMadeRun number count (refused line)) e → IsErrAnd r (λ z. z ≡ e) → Told a b (MakesOutput job (making r))
       no_run_line e r h is =
           told_as a b (LoadsIt s (Ok schema)) (MakesOutput job (making r)) (λ v w l. stops job e r v w
-          (refuses (λ line. OfMadeRun number count (refused line)) e v w (λ line tells. (l.0.0, l.0.1, profiled p (record { schema = schema; read = l.0.2; is = has }) tells)) h (only_schema v w l.1)) is) loaded
+          (refuses (λ line. OfMadeRun number count (refused line)) e v w (λ line tells. (l.0.0, l.0.1, schema_of schema l.0.2 (profiled p has tells))) h (only_schema v w l.1)) is) loaded
 
       pub run_line : (out : List ℕ) → OfMadeRun number count (done out) → Told a b (MakesOutput job (made out))
       run_line out tells =
           told_as a b (LoadsIt s (Ok schema)) (MakesOutput job (made out))
-          (λ v w l. ((l.0.0, l.0.1, profiled p (record { schema = schema; read = l.0.2; is = has }) tells), only_schema v w l.1)) loaded
+          (λ v w l. ((l.0.0, l.0.1, schema_of schema l.0.2 (profiled p has tells)), only_schema v w l.1)) loaded

@@ -1,11 +1,9 @@
 -- Files have one answer to `make`.
-use Rattle.std.proofs.Common.{◌≡◌, ℕ, List, [], Result, Ok, Err, refl, sym, ap, ◌∙◌, subst}
+use Rattle.std.proofs.Common.{◌≡◌, ℕ, List, [], Result, Ok, Err, refl, sym, ap, ◌∙◌}
 use Rattle.tl_base.specs.Contents.{Files}
 use Rattle.tl_base.specs.Outside.{HasFile}
 use Rattle.command_base.specs.Answer.{Answer, done, refused}
-use Rattle.command_base.proofs.SameFiles.{same_file}
-use Rattle.fault_lines.specs.Profiled.{OfProfileText}
-use Rattle.fault_lines.proofs.Profiled.{each_text, one_text}
+use Rattle.fault_lines.proofs.Profiled.{each_profiled, one_profiled}
 use Rattle.update_replay.specs.MadeRuns.{MakesRun}
 use Rattle.update_replay.specs.declared.made_fault.MadeFault.{MadeFault}
 use Rattle.update_replay.specs.declared.made_fault.MadeFault.TheVariants.{PoolFull, Memory}
@@ -39,11 +37,10 @@ module _ (number count : ℕ) where
   -- ---- files
 
   pub one_make : (files : Files) (schema : List ℕ) (a b : Answer) → MakeAnswer files schema number count a → MakeAnswer files schema number count b → a ≡ b
-  one_make files schema a b (text, has, h) (other, also, k) =
-      one_text text (λ p c. OfMadeRun number count c) (λ p c d is. one_run c d) a b h (subst (λ (x : List ℕ). OfProfileText x (λ p c. OfMadeRun number count c) b) (same_file files schema other text also has) k)
+  one_make = one_profiled (λ p c. OfMadeRun number count c) (λ p good. one_run)
 
   pub each_make : (files : Files) (schema text : List ℕ) → HasFile files schema text → (a : Answer) × MakeAnswer files schema number count a
-  each_make files schema text has = let tells = each_text text (λ p c. OfMadeRun number count c) (λ p is read. each_run) in (tells.0, (text, has, tells.1))
+  each_make files schema text has = each_profiled (λ p c. OfMadeRun number count c) (λ p good. each_run) files schema (text, has)
 
 pub each_has_one_made : EachHasOneMade
 each_has_one_made files schema number count = record { one = one_make number count files schema; there = each_make number count files schema }

@@ -1,5 +1,5 @@
 -- The replay of a journal's file by a schema's file.
-use Rattle.std.proofs.Common.{◌≡◌, ℕ, List, Option, Some, None, Result, Ok, Err, codes, refl, sym, ap, ◌∙◌, subst, inl, inr}
+use Rattle.std.proofs.Common.{◌≡◌, ℕ, List, Option, Result, Ok, Err, codes, sym, ap, subst, inl, inr}
 use Rattle.std.specs.Prelude.{IsErrAnd, IsErrOf}
 use Rattle.tl_base.specs.Contents.{Files, HoldBytes}
 use Rattle.tl_base.specs.Outside.{View, HostState, HasFile, IsThere}
@@ -14,7 +14,7 @@ use Rattle.wire_profile.specs.Profiles.{IsProfile}
 use Rattle.wire_profile.specs.Faults.{IsAnswer}
 use Rattle.command_base.specs.Answer.{Answer, refused}
 use Rattle.command_base.specs.Jobs.{Works, MakesOutput, of_fault, of_unmade}
-use Rattle.command_base.specs.Kept.{KeepsRest, KeepsUnread, LeavesInput, OnlyReads}
+use Rattle.command_base.specs.Kept.{KeepsRest}
 use Rattle.command_base.specs.Loading.{Refuses}
 use Rattle.command_base.specs.Sound.{Fits, HasRoomFor, MeetsFaultsOf}
 use Rattle.command_base.specs.Telling.{status_of}
@@ -28,9 +28,10 @@ use Rattle.command_base.proofs.SameFiles.{same_file, file_bytes}
 use Rattle.command_base.proofs.Views.{told_as, told_then}
 use Rattle.schema_files.specs.Loaded.{IsSchemaText}
 use Rattle.schema_files.specs.Parts.{LoadsSchema, TellsSchema}
-use Rattle.fault_lines.specs.Profiled.{IsProfileText, OfProfileText, TellsProfile, no_schema, no_profile, profiled}
-use Rattle.fault_lines.proofs.Profiled.{are_profiles, each_text, never_profile, one_text, same_profile}
-use Rattle.schema_files.proofs.OneSchemaText.{never_schema}
+use Rattle.schema_files.specs.Answering.{schema_of}
+use Rattle.schema_files.proofs.Answering.{no_schema_there}
+use Rattle.fault_lines.specs.Profiled.{OfProfile, TellsProfile, no_profile, profiled}
+use Rattle.fault_lines.proofs.Profiled.{are_profiles, each_profiled, one_profiled, profile_tells}
 use Rattle.update_replay.proofs.Windows.{seen_bytes}
 use Rattle.update_commands.specs.Replay.{IsFile, OfJournal, OfJournalFile, ReplayAnswer, file_job, replay_job, EachHasOneReplay}
 use Rattle.update_commands.proofs.OneReplay.{answered, each_journal, one_journal}
@@ -39,27 +40,23 @@ use Rattle.command_base.proofs.StageFaults.{refused_faults, stage_faults, unmade
 
 -- ---- one answer
 
-profile_of_text : (text : List ℕ) (p : ProfileView) → IsProfileText text p → IsProfile p
-profile_of_text text p h = (are_profiles h.schema p h.read.good h.is).0
-
 module _ (files : Files) (good : HoldBytes files) (journal : List ℕ) (n : ℕ) where
-  one_file : (text : List ℕ) (p : ProfileView) (a b : Answer) → IsProfileText text p → OfJournalFile files journal n p a → OfJournalFile files journal n p b → a ≡ b
-  one_file text p a b h (bytes, has, first) (other, also, second) =
+  one_file : (p : ProfileView) → IsProfile p → (a b : Answer) → OfJournalFile files journal n p a → OfJournalFile files journal n p b → a ≡ b
+  one_file p is a b (bytes, has, first) (other, also, second) =
       let same : other ≡ bytes = same_file files journal other bytes also has in
-      one_journal p n bytes (profile_of_text text p h) (seen_bytes bytes (file_bytes files journal bytes good has)) a b first (subst (λ (x : List ℕ). OfJournal p n x b) same second)
+      one_journal p n bytes is (seen_bytes bytes (file_bytes files journal bytes good has)) a b first (subst (λ (x : List ℕ). OfJournal p n x b) same second)
 
   pub one_replay : (schema : List ℕ) (a b : Answer) → ReplayAnswer files schema journal n a → ReplayAnswer files schema journal n b → a ≡ b
-  one_replay schema a b (text, has, h) (other, also, k) =
-      let same : other ≡ text = same_file files schema other text also has in
-      one_text text (OfJournalFile files journal n) (one_file text) a b h (subst (λ (x : List ℕ). OfProfileText x (OfJournalFile files journal n) b) same k)
+  one_replay = one_profiled (OfJournalFile files journal n) one_file files
+
+  each_file : IsFile files journal → (p : ProfileView) → IsProfile p → (a : Answer) × OfJournalFile files journal n p a
+  each_file (bytes, holds) p is =
+      let all = each_journal p n bytes is (seen_bytes bytes (file_bytes files journal bytes good holds)) in
+      let told = answered p n bytes all.0 all.1 all.2 all.3 in
+      (told.0, (bytes, holds, told.1))
 
   pub each_replay : (schema : List ℕ) → IsFile files schema → IsFile files journal → (a : Answer) × ReplayAnswer files schema journal n a
-  each_replay schema (text, has) (bytes, holds) =
-      let told = each_text text (OfJournalFile files journal n)
-      (λ p is h. (let all = each_journal p n bytes is (seen_bytes bytes (file_bytes files journal bytes good holds)) in
-      let told = answered p n bytes all.0 all.1 all.2 all.3 in
-      (told.0, (bytes, holds, told.1)))) in
-      (told.0, (text, has, told.1))
+  each_replay schema text file = each_profiled (OfJournalFile files journal n) (each_file file) files schema text
 
 pub each_has_one : EachHasOneReplay
 each_has_one files good schema journal n = record { one = one_replay files good journal n schema; there = each_replay files good journal n schema }
@@ -71,9 +68,7 @@ module _ (s j : List ℕ) (n : ℕ) where
   LoadsIt r v w = LoadsSchema Schema (codes "schema") s r v w
 
   schema_stops : (e : Unmade) (v w : View) → LoadsIt (Err e) v w → MakesOutput (replay_job s j n) (of_fault e) v w
-  schema_stops (unmade.Refused line) v w ((text, has, (cause, h, is)), only) = ((text, has, no_schema cause h (ap refused is)), only_schema v w only)
-  schema_stops unmade.ReadFault v w only = only_schema v w only
-  schema_stops unmade.Memory v w only = only_schema v w only
+  schema_stops = no_schema_there (replay_job s j n) (codes "schema") s (λ v. OfProfile (OfJournalFile v.files j n)) (λ v a h. h) Schema only_schema
 
   pub no_schema_works : (W L : Type 0) (e : Unmade) (r : Result Status Stop) (a b : Option View) → Told a b (LoadsIt (Err e)) → IsErrAnd r (λ z. z ≡ of_unmade e) → Told a b (Works W L (replay_job s j n) r)
   no_schema_works W L e r a b loads is = told_as a b (LoadsIt (Err e)) (Works W L (replay_job s j n) r) (λ v w l. unmade_works W L (replay_job s j n) e r v w (schema_stops e v w l) is) loads
@@ -81,11 +76,11 @@ module _ (s j : List ℕ) (n : ℕ) where
   pub no_profile_works : (W L : Type 0) (S : Declared) (e : Unmade) (r : Result Status Stop) (a b : Option View) → Told a b (LoadsIt (Ok S)) → Refuses (TellsProfile S) e → IsErrAnd r (λ z. z ≡ of_unmade e) → Told a b (Works W L (replay_job s j n) r)
   no_profile_works W L S e r a b loads refuses is = told_as a b (LoadsIt (Ok S)) (Works W L (replay_job s j n) r)
       (λ v w l. unmade_works W L (replay_job s j n) e r v w
-      (refuses_so (replay_job s j n) (TellsProfile S) e v w (λ line (fault, answers, tells). (l.0.0, l.0.1, no_profile S fault l.0.2 answers (ap refused tells))) refuses (only_schema v w l.1)) is) loads
+      (refuses_so (replay_job s j n) (TellsProfile S) e v w (λ line (fault, answers, tells). (l.0.0, l.0.1, schema_of S l.0.2 (no_profile fault answers (ap refused tells)))) refuses (only_schema v w l.1)) is) loads
 
   carried : (S : Declared) (p : ProfileView) → IsAnswer S (Ok p) → (v u : View) → LoadsIt (Ok S) v u → Carries (file_job p j n) (replay_job s j n) v u
   carried S p is v u l = record {
-    answers = λ a (bytes, has, h). (l.0.0, l.0.1, profiled p (record { schema = S; read = l.0.2; is = is }) (bytes, subst (λ (fs : Files). HasFile fs j bytes) (ap (λ (x : View). x.files) l.1) has, h));
+    answers = λ a (bytes, has, h). (l.0.0, l.0.1, schema_of S l.0.2 (profiled p is (bytes, subst (λ (fs : Files). HasFile fs j bytes) (ap (λ (x : View). x.files) l.1) has, h)));
     broken = λ a h. absurd h;
     partial = λ a h. absurd h;
     pieces = λ x. x;
@@ -117,16 +112,9 @@ module _ (s j : List ℕ) (n : ℕ) where
   same_room : (v u : View) (a : Answer) → OnlySlot Schema v u → HasRoomFor a v → HasRoomFor a u
   same_room v u a only room = subst (λ (z : View). HasRoomFor a z) (sym only) (record { output = room.output; state = room.state; links = room.links; coming = room.coming; address = room.address })
 
-  -- the answer is that of the profile which was found
-  of_profile : (S : Declared) (p : ProfileView) (text : List ℕ) (files : Files) (a : Answer) → IsProfileText text p → OfProfileText text (OfJournalFile files j n) a → OfJournalFile files j n p a
-  of_profile S p text files a h (no_schema cause r is) = absurd (never_schema text h.schema cause h.read r)
-  of_profile S p text files a h (no_profile T fault read lacks is) = absurd (never_profile text p T fault h read lacks)
-  of_profile S p text files a h (profiled q k then) = subst (λ (x : ProfileView). OfJournalFile files j n x a) (same_profile text q p k h) then
-
   fits_then : (S : Declared) (p : ProfileView) → IsAnswer S (Ok p) → (v u : View) → LoadsIt (Ok S) v u → Fits (replay_job s j n) v → Fits (file_job p j n) u
-  fits_then S p is v u l (a, (text, has, h), room) =
-      let same : text ≡ l.0.0 = same_file v.files s text l.0.0 has l.0.1 in
-      let found = of_profile S p l.0.0 v.files a (record { schema = S; read = l.0.2; is = is }) (subst (λ (x : List ℕ). OfProfileText x (OfJournalFile v.files j n) a) same h) in
+  fits_then S p is v u l (a, h, room) =
+      let found = profile_tells (OfJournalFile v.files j n) v.files s l.0.0 S p a l.0.1 l.0.2 is h in
       (a, (found.0, subst (λ (fs : Files). HasFile fs j found.0) (sym (ap (λ (x : View). x.files) l.1)) found.1, found.2), same_room v u a l.1 room)
 
   pub replay_faults : (F : Type 0) (S : Declared) (p : ProfileView) (k : Status) (x y z : HostState) → IsAnswer S (Ok p) → MeetsFaults kinds.Reads x y F (IsThere s) → Told x.view y.view (LoadsIt (Ok S)) → MeetsFaultsOf (file_job p j n) y z k → MeetsFaultsOf (replay_job s j n) x z k

@@ -1,5 +1,5 @@
 -- A journal's replay, written to Output.
-use Rattle.std.proofs.Common.{◌≡◌, ◌≢◌, ℕ, ◌≤◌, List, [], ◌++◌, append-nil, length, Option, Some, None, Result, Ok, Err, Bool, Vec, Global, option_map, refl, sym, ap, ◌∙◌, subst, arith, inl, inr}
+use Rattle.std.proofs.Common.{◌≡◌, ◌≢◌, ℕ, List, [], ◌++◌, append-nil, length, Option, Some, None, Result, Ok, Err, Vec, Global, option_map, refl, sym, ap, ◌∙◌, subst, arith, inl, inr}
 use Rattle.std.specs.Prelude.{IfSome, IsErrOf, IsErrAnd, IsTrue}
 use Rattle.tl_base.specs.Contents.{AreBytes}
 use Rattle.tl_base.specs.Outside.{View, HostState, HasRoom, written_of, with_written}
@@ -15,12 +15,12 @@ use Rattle.command_base.specs.declared.stop.Stop.TheVariants as stop
 use Rattle.command_base.specs.declared.status.Status.{Status}
 use Rattle.command_base.specs.declared.status.Status.TheVariants as status
 use Rattle.command_base.specs.Answer.{Answer, done, refused_after}
-use Rattle.command_base.specs.Jobs.{GivesOutput, WritesSomeOf, Works}
+use Rattle.command_base.specs.Jobs.{WritesSomeOf, Works}
 use Rattle.command_base.specs.Kept.{KeepsRest}
 use Rattle.command_base.specs.Sound.{MeetsFaultsOf, Fits}
 use Rattle.command_base.specs.Telling.{status_of, stop_status}
 use Rattle.command_base.proofs.Rests.{output_rest, rest_left}
-use Rattle.command_base.proofs.Faults.{NeverFails, safe, fails_as, written_faults}
+use Rattle.command_base.proofs.Faults.{safe, fails_as, written_faults}
 use Rattle.command_base.proofs.Views.{told_as}
 use Rattle.fault_lines.specs.Messages.{step_line}
 use Rattle.box_world.specs.Possible.{StepCause, no_client, no_packet, wrong_end, pool_full}
@@ -33,8 +33,8 @@ use Rattle.update_replay.specs.declared.fault.ReplayFault.TheVariants as replay
 use Rattle.update_replay.proofs.ReplayPrefixes.{stopped_first}
 use Rattle.update_commands.specs.Replay.{OfJournal, ending_answer, journal_job, long_line}
 use Rattle.update_commands.specs.Replaying.{JournalFits, RefusesWith, TellsReplay, WritesReplay, ended}
-use Rattle.update_commands.specs.Steps.{cause_line, unmade_line}
-use Rattle.update_commands.proofs.OneReplay.{answered, each_journal, ending_told, output_is, some_is}
+use Rattle.update_commands.specs.Steps.{unmade_line}
+use Rattle.update_commands.proofs.OneReplay.{answered, each_journal, output_is}
 
 -- ---- endings as they are told
 

@@ -3,13 +3,12 @@ use Rattle.std.specs.Prelude.{◌≡◌, ℕ, List, ◌++◌, Result, Ok, Err, V
 use Rattle.std.specs.declared.alloc.Global.{Global}
 use Rattle.tl_base.specs.Contents.{Files}
 use Rattle.tl_base.specs.Outside.{HasFile}
-use Rattle.wire_profile.specs.Places.{ProfileView}
 use Rattle.command_base.specs.Answer.{Answer, done, placed_line, refused}
 use Rattle.command_base.specs.Jobs.{Job, unlinked_job}
 use Rattle.command_base.specs.Kept.{KeepsUnread}
 use Rattle.command_base.specs.Loading.{Refuses}
 use Rattle.command_base.specs.declared.stop.Unmade.{Unmade}
-use Rattle.fault_lines.specs.Profiled.{OfProfileText}
+use Rattle.fault_lines.specs.Profiled.{OfProfileFile}
 use Rattle.update_replay.specs.MadeRuns.{MakesRun}
 use Rattle.update_replay.specs.declared.made_fault.MadeFault.TheVariants.{PoolFull}
 
@@ -29,7 +28,7 @@ TellsRun number count (Err fault) = Refuses (λ line. OfMadeRun number count (re
 
 -- make's answer: by every profile the run is the same
 abbrev pub MakeAnswer : Files → List ℕ → ℕ → ℕ → Answer → Type 0
-MakeAnswer files schema number count a = (text : List ℕ) × HasFile files schema text × OfProfileText text (λ p b. OfMadeRun number count b) a
+MakeAnswer files schema number count a = OfProfileFile (λ p b. OfMadeRun number count b) files schema a
 
 -- files have one answer at most, and one where the schema's is there
 pub record HasOneMade (files : Files) (schema : List ℕ) (number count : ℕ) : Type 0 where

@@ -1,5 +1,5 @@
 -- What `replay` answers: the report of its journal, or where and why schema, profile or journal is refused. This project's own.
-use Rattle.std.specs.Prelude.{◌≡◌, ℕ, List, ◌++◌, Option, Some, option_map, codes}
+use Rattle.std.specs.Prelude.{◌≡◌, ℕ, List, Option, Some, option_map, codes}
 use Rattle.tl_base.specs.Contents.{Files, HoldBytes}
 use Rattle.tl_base.specs.Outside.{HasFile}
 use Rattle.box_events.specs.declared.steps.Step.{Step}
@@ -8,7 +8,7 @@ use Rattle.command_base.specs.Answer.{Answer, done, refused_after, placed_line}
 use Rattle.command_base.specs.Jobs.{Job, unlinked_job}
 use Rattle.command_base.specs.Kept.{KeepsRest, KeepsUnread}
 use Rattle.fault_lines.specs.Messages.{step_line}
-use Rattle.fault_lines.specs.Profiled.{HasProfile, OfProfileText}
+use Rattle.fault_lines.specs.Profiled.{HasProfile, OfProfileFile}
 use Rattle.update_replay.specs.Endings.{Ending, whole, no_step, not_made, too_long}
 use Rattle.update_replay.specs.Replays.{Replayed}
 use Rattle.update_commands.specs.Steps.{cause_line}
@@ -38,7 +38,7 @@ OfJournalFile files journal n p a = (bytes : List ℕ) × HasFile files journal 
 
 -- replay's answer
 abbrev pub ReplayAnswer : Files → List ℕ → List ℕ → ℕ → Answer → Type 0
-ReplayAnswer files schema journal n a = (text : List ℕ) × HasFile files schema text × OfProfileText text (OfJournalFile files journal n) a
+ReplayAnswer files schema journal n a = OfProfileFile (OfJournalFile files journal n) files schema a
 
 -- some file has this name
 abbrev pub IsFile : Files → List ℕ → Type 0

@@ -1,5 +1,5 @@
 -- What the parts of `replay` answer, and what they do to the outside. This project's own.
-use Rattle.std.specs.Prelude.{◌≡◌, ℕ, List, ◌++◌, length, Option, Some, None, Result, Ok, Err}
+use Rattle.std.specs.Prelude.{◌≡◌, ℕ, List, ◌++◌, length, Option, Some, Result, Ok, Err}
 use Rattle.tl_base.specs.Outside.{View, HasRoom, written_of, with_written}
 use Rattle.tl_base.specs.declared.host.Out.TheVariants.{Output}
 use Rattle.box_events.specs.declared.steps.Step.{Step}

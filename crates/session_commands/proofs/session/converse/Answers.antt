@@ -1,4 +1,4 @@
-use Rattle.std.proofs.Common.{◌≡◌, ap, rules}
+use Rattle.std.proofs.Common.{ap, rules}
 use Rattle.std.specs.Prelude.{IsErrOf}
 use Rattle.update_sessions.specs.Heard.{MayAsk}
 use Rattle.command_base.specs.declared.stop.Stop.TheVariants.{LinkFault}

@@ -1,4 +1,4 @@
-use Rattle.std.proofs.Common.{arith, ap}
+use Rattle.std.proofs.Common.{ap}
 use Rattle.update_commands.proofs.JournalFiles.{file_faults, file_works}
 use Rattle.command_base.proofs.StageFaults.{rose_kept}
 use Rattle.update_commands.proofs.replay.replay_file.Goals as goal

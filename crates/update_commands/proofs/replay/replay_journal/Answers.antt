@@ -1,4 +1,4 @@
-use Rattle.std.proofs.Common.{arith, ap}
+use Rattle.std.proofs.Common.{ap}
 use Rattle.update_commands.proofs.ProfiledFiles.{no_profile_works, no_schema_works, replay_faults, replay_kept, replay_works}
 use Rattle.command_base.proofs.StageFaults.{rose_kept}
 use Rattle.update_commands.proofs.replay.replay_journal.Goals as goal
