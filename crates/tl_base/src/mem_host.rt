@@ -1,7 +1,7 @@
 //! An outside in memory.
 ghost use Rattle.std.specs.Prelude.{◌≡◌, ◌<◌, ◌≤◌, ◌^◌, ◌∷◌, ◌++◌, [], IfOk, OnOk, OnErr, IsErr, IsSome, IsTrue, Ok, length, get_or};
 
-use crate::bytes::Bytes;
+use tl_numbers::Bytes;
 use crate::counts::{Counts, Kind};
 use crate::fault::{Failed, Memory};
 use crate::host::{Host, Out, Slot};

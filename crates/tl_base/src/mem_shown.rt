@@ -4,7 +4,7 @@ ghost use Rattle.tl_base.specs.MemoryBounds.{AreMoments};
 ghost use Rattle.std.specs.Prelude.{◌≡◌, ◌≤◌, ◌<◌, ◌^◌, ◌+◌, ◌-◌, ◌∷◌, ◌++◌, [], length, min, take, get_or, IfOk, OnOk, OnErr, IfSome, IfNone, IsErr, IsTrue, vec_capacity};
 ghost use Rattle.std.specs.List.{All};
 
-use crate::bytes::Bytes;
+use tl_numbers::Bytes;
 use crate::fault::{Failed, Memory};
 use crate::host::{Out, Slot};
 use crate::mem_contents::{MemFile, MemLink, Origin, Reading, Readings};

@@ -24,7 +24,7 @@ use crate::reading::{
 use crate::tree::TypeTree;
 use crate::types::expression_at;
 use std::alloc::Global;
-use tl_base::Bytes;
+use tl_numbers::Bytes;
 use tl_lexer::{Token, TokenKind};
 
 // `{X:Type}`.

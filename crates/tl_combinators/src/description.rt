@@ -10,7 +10,7 @@ use crate::reading::bytes_at;
 use crate::tree::is_plain;
 use std::alloc::{AllocError, Global};
 use std::marker::Model;
-use tl_base::Bytes;
+use tl_numbers::Bytes;
 use tl_lexer::{Token, TokenKind};
 
 /// What becomes of a token in a description.

@@ -18,7 +18,7 @@ use crate::reading::{
 use crate::tree::{TypeTree, is_plain};
 use crate::types::term_at;
 use std::alloc::Global;
-use tl_base::Bytes;
+use tl_numbers::Bytes;
 use tl_lexer::{Token, TokenKind};
 
 /// A declaration has at most so many variables and fields together.

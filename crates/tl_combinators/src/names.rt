@@ -11,7 +11,7 @@ use crate::reading::{
     unexpected_at,
 };
 use std::alloc::Global;
-use tl_base::Bytes;
+use tl_numbers::Bytes;
 use tl_lexer::{Token, TokenKind};
 
 /// A name, and the byte after it.

@@ -12,7 +12,7 @@ use crate::reading::{
 };
 use crate::tree::TypeTree;
 use std::alloc::Global;
-use tl_base::Bytes;
+use tl_numbers::Bytes;
 use tl_lexer::{Token, TokenKind};
 
 /// A type has at most so many levels.

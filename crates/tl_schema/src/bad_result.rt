@@ -4,7 +4,7 @@ ghost use Rattle.tl_combinators.specs.Program.{decl_text};
 ghost use Rattle.tl_combinators.specs.Trees.{plain, view, views};
 ghost use Rattle.tl_schema.specs.BadResult.{IsGoodResult};
 
-use tl_base::Bytes;
+use tl_numbers::Bytes;
 use tl_combinators::{Decl, TypeTree};
 use tl_names::{DeclTest, Index, MeantDecl, is_constructor, is_type_name, is_variable};
 

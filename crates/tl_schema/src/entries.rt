@@ -12,7 +12,7 @@ use crate::same_number::number_of;
 use crate::schema::{Entry, SchemaField, TypeRef};
 use crate::terms::{base_term, type_term};
 use std::alloc::{AllocError, Global};
-use tl_base::BOXED_VECTOR;
+use tl_numbers::BOXED_VECTOR;
 use tl_combinators::{Decl, Field, FieldKind};
 use tl_names::{Index, MeantCond, MeantDecl, MeantField, Scope, is_function};
 

@@ -8,7 +8,7 @@ ghost use Rattle.tl_schema.specs.SameNumber.{SameNumber};
 
 use std::alloc::{AllocError, Global};
 use std::collections::BTreeSet;
-use tl_base::{BOXED_VECTOR, PACKED};
+use tl_numbers::{BOXED_VECTOR, PACKED};
 use tl_combinators::{Decl, Program};
 use tl_numbers::crc32;
 

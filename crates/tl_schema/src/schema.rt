@@ -9,7 +9,7 @@ ghost use Rattle.tl_schema.specs.inner.SchemaParts.{IsSound};
 
 use std::collections::BTreeMap;
 use std::marker::Model;
-use tl_base::Bytes;
+use tl_numbers::Bytes;
 use tl_graph::is_marked;
 use tl_names::{Index, Names};
 

@@ -14,7 +14,7 @@ use crate::pass_type::pass_type;
 use crate::terms::type_term;
 use crate::{Schema, TypeFault, TypeRef};
 use std::alloc::Global;
-use tl_base::Bytes;
+use tl_numbers::Bytes;
 use tl_combinators::{Decl, TypeTree, parse_type};
 use tl_lexer::lex;
 use tl_names::{Index, Scope, resolve_type};
