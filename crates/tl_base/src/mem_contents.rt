@@ -2,8 +2,8 @@
 ghost use Rattle.std.specs.Prelude.{◌≡◌};
 ghost use Rattle.tl_numbers.specs.Bytes.{AreBytes};
 
-use tl_numbers::Bytes;
 use crate::host::Slot;
+use tl_numbers::Bytes;
 
 /// A file in memory.
 #[derive(Drop)]

@@ -6,10 +6,10 @@ ghost use Rattle.tl_base.specs.Causes.{count_after};
 ghost use Rattle.tl_numbers.specs.Bytes.{AreBytes};
 ghost use Rattle.tl_base.specs.Using.{Used};
 
-use tl_numbers::Bytes;
 use crate::fault::Failed;
 use crate::pieces::{give, most_at};
 use crate::source::Source;
+use tl_numbers::Bytes;
 
 /// Bytes in memory, given in pieces.
 #[derive(Drop)]

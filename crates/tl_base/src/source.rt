@@ -6,10 +6,10 @@ ghost use Rattle.tl_numbers.specs.Bytes.{AreBytes};
 ghost use Rattle.tl_base.specs.Using.{SourceState, Used};
 ghost use Rattle.tl_base.specs.Taking.{TakesBytes, TakesInto, TakesPiece, TakesUpTo, TakesText, TakesEnd, EndsBelow};
 
-use tl_numbers::Bytes;
 use crate::fault::Failed;
 use std::alloc::{AllocError, Global};
 use thiserror::Error;
+use tl_numbers::Bytes;
 
 /// Why no more bytes were taken.
 #[derive(Clone, Copy, Debug, Error)]
