@@ -3,6 +3,8 @@ ghost use Rattle.std.specs.Prelude.{◌≡◌, ◌^◌};
 ghost use Rattle.std.specs.Int.{w32, w64, cast_signed};
 ghost use Rattle.tl_numbers.specs.Numbers.{word, double_word, signed_word, signed_double, word_number, double_number, Determine};
 
+use byteorder::{ByteOrder, LittleEndian};
+
 /// The number of the boxed vector.
 pub const BOXED_VECTOR: u32 = 0x1cb5_c415;
 
@@ -14,7 +16,7 @@ pub fn u32_of(bytes: [u8; 4]) -> u32
     ensures number { result ≡ word_number bytes }
     ensures bytes { word result ≡ bytes }
 {
-    u32::from_le_bytes(bytes)
+    LittleEndian::read_u32(&bytes)
 }
 
 /// A number in four bytes.
@@ -22,7 +24,9 @@ pub fn bytes_of_u32(number: u32) -> [u8; 4]
     ensures bytes { result ≡ word number }
     ensures number { word_number result ≡ number }
 {
-    number.to_le_bytes()
+    let mut bytes = [0; 4];
+    LittleEndian::write_u32(&mut bytes, number);
+    bytes
 }
 
 /// The number with a sign that four bytes spell.
