@@ -5,7 +5,7 @@ use std::alloc::AllocError;
 use thiserror::Error;
 
 /// What came of an answer that isn't refused.
-#[derive(Clone, Copy, Debug, PartialEq, Eq)]
+#[derive(Clone, Copy)]
 pub enum Told {
     /// It was asked for, and is taken.
     Reply,
@@ -14,7 +14,7 @@ pub enum Told {
 }
 
 /// Why an answer is refused.
-#[derive(Clone, Copy, Debug, PartialEq, Eq, Error)]
+#[derive(Clone, Copy, Debug, Error)]
 pub enum ClientFault {
     /// The server refuses the request.
     #[error("the server answers error {code}")]
@@ -33,7 +33,7 @@ pub enum ClientFault {
 }
 
 /// Why a saved client isn't loaded.
-#[derive(Clone, Copy, Debug, PartialEq, Eq, Error)]
+#[derive(Clone, Copy, Debug, Error)]
 pub enum LoadFault {
     /// The number of the next request is 0 or above 2,000,000,000.
     #[error("request {next} is no next one")]

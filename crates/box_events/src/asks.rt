@@ -7,7 +7,7 @@ use crate::requests::{Numbered, Request};
 use std::marker::Model;
 
 // A request that takes no memory.
-#[derive(Clone, Copy, Debug)]
+#[derive(Clone, Copy)]
 enum Ask {
     Difference {
         number: u32,
@@ -23,7 +23,7 @@ enum Ask {
 }
 
 /// Up to 65 requests for differences, in the order in which they were put. They take no memory.
-#[derive(Debug, Drop)]
+#[derive(Drop)]
 pub struct Asks {
     places: [Ask; MAX_ASKS],
     len: u32,

@@ -9,7 +9,7 @@ use std::marker::Model;
 use tl_base::{Bytes, Memory};
 
 /// What an event does.
-#[derive(Clone, Copy, Debug, PartialEq, Eq)]
+#[derive(Clone, Copy)]
 pub enum EventKind {
     New,
     Edit,
@@ -18,7 +18,7 @@ pub enum EventKind {
     Read { max_id: i32 },
 }
 
-#[derive(Debug, Drop)]
+#[derive(Drop)]
 enum Change {
     New(Bytes),
     Edit(Bytes),
@@ -27,7 +27,7 @@ enum Change {
 }
 
 /// An event of a box: a new message, an edit, a delete of 1 to 4,096 ids, or a read mark. It counts for as many of the box's numbers as it has ids, the others for one ("Working with Updates", core.telegram.org/api/updates: pts_count).
-#[derive(Debug, Drop)]
+#[derive(Drop)]
 pub struct Event {
     change: Change,
 }

@@ -17,7 +17,7 @@ use std::marker::Model;
 use tl_base::Memory;
 
 /// A box: events in order, each of which counts for some of its numbers. It ends at the sum of their counts. The first events may have gone.
-#[derive(Debug, Drop)]
+#[derive(Drop)]
 pub struct EventBox {
     pages: Vec<Page>,
     // Events are appended to this page.

@@ -3,7 +3,7 @@ use std::alloc::{AllocError, AllocFailed};
 use thiserror::Error;
 
 /// Why a box does not take an event.
-#[derive(Clone, Copy, Debug, PartialEq, Eq, Error)]
+#[derive(Clone, Copy, Debug, Error)]
 pub enum BoxFault {
     /// The box ends at so many, and with the event it would end above 1,000,000.
     #[error("the box is full at {at}")]

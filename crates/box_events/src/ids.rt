@@ -6,7 +6,7 @@ use std::marker::Model;
 use tl_base::Memory;
 
 /// A list of ids.
-#[derive(Debug, Drop)]
+#[derive(Drop)]
 pub struct Ids {
     items: Vec<i32>,
 }

@@ -6,7 +6,7 @@ use std::marker::Model;
 use tl_base::Memory;
 
 /// A list of messages' parts.
-#[derive(Debug, Drop)]
+#[derive(Drop)]
 pub struct ListOf<T> {
     items: Vec<T>,
 }

@@ -12,7 +12,7 @@ use std::marker::Model;
 use tl_base::Memory;
 
 /// A box of at most 256 events: the number at which it begins, and where each event ends.
-#[derive(Debug, Drop)]
+#[derive(Drop)]
 pub struct Page {
     first: u32,
     ends: Vec<u32>,

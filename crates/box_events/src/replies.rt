@@ -8,7 +8,7 @@ use crate::updates::{Placed, Push};
 use tl_base::Bytes;
 
 /// What a server answers. `last` says that the answer reaches the end of each box that was asked for.
-#[derive(Debug, Drop)]
+#[derive(Drop)]
 pub enum Reply {
     State(State),
     /// Nothing is new since.
@@ -35,7 +35,7 @@ pub enum Reply {
 }
 
 /// What a server answers about a channel. `pts` is the position that a client reaches with it.
-#[derive(Debug, Drop)]
+#[derive(Drop)]
 pub enum ChannelReply {
     /// Nothing is new since.
     Empty {
@@ -58,7 +58,7 @@ pub enum ChannelReply {
 }
 
 /// What a server sends: a push, or the reply to the request of a number.
-#[derive(Debug, Drop)]
+#[derive(Drop)]
 pub enum Frame {
     Push(Push),
     Reply { number: u32, reply: Reply },

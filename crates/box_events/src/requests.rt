@@ -6,7 +6,7 @@ use crate::list_of::ListOf;
 use tl_base::Bytes;
 
 /// What a post appends to a box, or a setting that it sets.
-#[derive(Debug, Drop)]
+#[derive(Drop)]
 pub enum Post {
     Message { body: Bytes },
     Edit { body: Bytes },
@@ -21,7 +21,7 @@ pub enum Post {
 }
 
 /// What a client asks a server. Positions are as they were received: a server answers those that it doesn't have by an error.
-#[derive(Debug, Drop)]
+#[derive(Drop)]
 pub enum Request {
     State,
     /// What follows these positions of the common and the secret box, and the settings since a date in seconds.
@@ -33,7 +33,7 @@ pub enum Request {
 }
 
 /// A request with the number under which it is asked.
-#[derive(Debug, Drop)]
+#[derive(Drop)]
 pub struct Numbered {
     pub number: u32,
     pub request: Request,

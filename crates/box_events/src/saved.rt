@@ -6,7 +6,7 @@ use crate::settings::Setting;
 use tl_base::Bytes;
 
 /// A client without what it holds and what it asks.
-#[derive(Debug, Drop)]
+#[derive(Drop)]
 pub struct Saved {
     /// The number of the next request, from 1.
     pub next: u32,
@@ -22,7 +22,7 @@ pub struct Saved {
 }
 
 /// A lane: the events from the number `restart` to the number `at`.
-#[derive(Debug, Drop)]
+#[derive(Drop)]
 pub struct SavedLane {
     pub restart: u32,
     pub at: u32,
@@ -30,7 +30,7 @@ pub struct SavedLane {
 }
 
 /// A watched channel, with the bodies of the messages that were told when it was too far ahead.
-#[derive(Debug, Drop)]
+#[derive(Drop)]
 pub struct SavedChannel {
     pub id: i64,
     pub lane: SavedLane,

@@ -4,7 +4,7 @@ ghost use Rattle.std.specs.Prelude.{◌≡◌, IfOk};
 use tl_base::{Bytes, Memory};
 
 /// A value under a key: a key of at most 64 bytes and a value of at most 1,024 where a server keeps it.
-#[derive(Debug, Drop)]
+#[derive(Drop)]
 pub struct Setting {
     pub key: Bytes,
     pub value: Bytes,

@@ -4,7 +4,7 @@ use crate::list_of::ListOf;
 use crate::requests::Post;
 
 /// A step of a replay. Packets are numbered from 0 in the order in which they were sent, clients from 0.
-#[derive(Debug, Drop)]
+#[derive(Drop)]
 pub enum Step {
     /// The server receives posts, whose push is sent.
     Post { random_id: i64, posts: ListOf<Post> },

@@ -7,14 +7,14 @@ use crate::settings::Setting;
 use tl_base::Bytes;
 
 /// An event with the number at which it ends in its box.
-#[derive(Debug, Drop)]
+#[derive(Drop)]
 pub struct Placed {
     pub event: Event,
     pub pts: u32,
 }
 
 /// What is new for a client. `pts` and `qts` are the numbers at which the event ends in its box.
-#[derive(Debug, Drop)]
+#[derive(Drop)]
 pub enum Update {
     Common { event: Event, pts: u32 },
     Secret { body: Bytes, qts: u32 },
@@ -24,7 +24,7 @@ pub enum Update {
 }
 
 /// What a server sends unasked.
-#[derive(Debug, Drop)]
+#[derive(Drop)]
 pub enum Push {
     /// More is new than a push would carry.
     TooLong,

@@ -13,7 +13,7 @@ use std::alloc::Global;
 use tl_base::Memory;
 
 /// A channel and its box, of which the last 500 events are kept.
-#[derive(Debug, Drop)]
+#[derive(Drop)]
 pub struct Channel {
     pub id: i64,
     pub events: EventBox,

@@ -5,7 +5,7 @@ use box_events::Setting;
 use std::marker::Model;
 
 /// A setting and the server's date when it was set, in seconds.
-#[derive(Debug, Drop)]
+#[derive(Drop)]
 pub struct DatedSetting {
     pub setting: Setting,
     pub date: u32,

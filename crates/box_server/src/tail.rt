@@ -11,7 +11,7 @@ use std::alloc::Global;
 use std::marker::Model;
 
 /// Events that come to a box: the number at which it ends, and where it will end with them. A channel's have its id.
-#[derive(Debug, Drop)]
+#[derive(Drop)]
 pub struct Tail {
     id: i64,
     first: u32,

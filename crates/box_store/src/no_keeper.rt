@@ -6,7 +6,7 @@ use crate::keeper::Keeper;
 use tl_base::Failed;
 
 /// Keeps nothing and tells nothing, and never fails: the keeper of a server whose posts aren't kept.
-#[derive(Clone, Copy, Debug)]
+#[derive(Clone, Copy)]
 pub struct NoKeeper;
 
 impl Keeper for NoKeeper {

@@ -4,7 +4,7 @@ use thiserror::Error;
 use wire_checks::WireFault;
 
 /// Why a frame or a call is not spelled.
-#[derive(Clone, Copy, Debug, PartialEq, Eq, Error)]
+#[derive(Clone, Copy, Debug, Error)]
 pub enum SpellFault {
     /// The spelling has more than `MAX_FRAME_BYTES` bytes: so many.
     #[error("a spelling of {length} bytes")]
@@ -36,10 +36,10 @@ impl<T: Drop> From<AllocFailed<T>> for SpellFault {
 }
 
 /// Why no step is read.
-#[derive(Clone, Copy, Debug, PartialEq, Eq, Error)]
+#[derive(Clone, Copy, Debug, Error)]
 pub enum StepReadFault {
     /// The bytes are no step. It holds no `Memory`.
-    #[error("{0}")]
+    #[error(transparent)]
     Wire(WireFault),
     /// The source failed.
     #[error("read fault")]

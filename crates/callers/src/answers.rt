@@ -14,9 +14,9 @@ use tl_types::Value;
 /// Why an answer isn't taken.
 #[derive(Debug, Drop, Error)]
 pub enum TakeAnswerFault {
-    #[error("{0}")]
+    #[error(transparent)]
     Result(#[from] ResultFault),
-    #[error("{0}")]
+    #[error(transparent)]
     Answer(#[from] AnswerFault),
 }
 

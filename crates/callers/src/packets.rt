@@ -9,9 +9,9 @@ use tl_base::{Bytes, Link, PacketFault, WriteFault, read_packet, write_packet};
 /// Why a packet isn't sent back.
 #[derive(Debug, Drop, Error)]
 pub enum EchoFault {
-    #[error("{0}")]
+    #[error(transparent)]
     Read(#[from] PacketFault),
-    #[error("{0}")]
+    #[error(transparent)]
     Write(#[from] WriteFault),
 }
 

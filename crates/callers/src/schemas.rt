@@ -14,20 +14,20 @@ use tl_types::Value;
 /// Why a text declares no schema.
 #[derive(Debug, Drop, Error)]
 pub enum SchemaTextFault {
-    #[error("{0}")]
+    #[error(transparent)]
     Lex(#[from] LexFault),
-    #[error("{0}")]
+    #[error(transparent)]
     Parse(#[from] SyntaxFault),
-    #[error("{0}")]
+    #[error(transparent)]
     Check(#[from] CheckFault),
 }
 
 /// Why no value is read.
 #[derive(Debug, Drop, Error)]
 pub enum ValueFault {
-    #[error("{0}")]
+    #[error(transparent)]
     Type(#[from] TypeFault),
-    #[error("{0}")]
+    #[error(transparent)]
     Input(#[from] AnswerFault),
 }
 

@@ -3,7 +3,7 @@ ghost use Rattle.std.specs.Prelude.{◌<◌, ◌-◌, ◌^◌};
 ghost use Rattle.commands.specs.Numbers.{FindsDigit, FindsNumber, FindsValue};
 
 /// The numbers that a word of a row may be: of so many digits at most, zeros before others among them, and from the least to the most.
-#[derive(Clone, Copy, Debug, PartialEq, Eq)]
+#[derive(Clone, Copy)]
 pub struct Range {
     pub digits: u32,
     pub least: u64,

@@ -14,7 +14,7 @@ use std::alloc::Global;
 use tl_base::Host;
 
 /// The status of a run whose posts are kept.
-#[derive(Clone, Copy, Debug, PartialEq, Eq)]
+#[derive(Clone, Copy)]
 pub enum StoredStatus {
     /// As a run without a keeper ends.
     Run(Status),

@@ -3,7 +3,7 @@ use std::alloc::AllocError;
 use thiserror::Error;
 
 /// Why messages and other events make no list of events.
-#[derive(Clone, Copy, Debug, PartialEq, Eq, Error)]
+#[derive(Clone, Copy, Debug, Error)]
 pub enum WeaveFault {
     /// The other event that ends at `pts` starts below the end of the one before it or below `from`, or ends past `to`. It is the first such.
     #[error("an event that ends at {pts} overlaps")]

@@ -11,7 +11,7 @@ use tl_base::{Bytes, Memory};
 
 /// A list of events that starts at a number of its box and grows at its end, held as a difference gives it: the messages' bodies apart from the
 /// other events ("Working with Updates", core.telegram.org/api/updates: new_messages, other_updates).
-#[derive(Debug, Drop)]
+#[derive(Drop)]
 pub struct Parts {
     from: u32,
     at: u32,

@@ -1,7 +1,7 @@
 //! What came of an item that was to be held.
 
 /// What came of an item that was to be held. One that is not held is given back.
-#[derive(Debug, PartialEq, Eq, Drop)]
+#[derive(Drop)]
 pub enum Held<E> {
     Kept,
     /// One with its start is held.

@@ -3,7 +3,7 @@ ghost use Rattle.std.specs.Prelude.{◌≡◌, ◌&&◌, eqb};
 ghost use Rattle.pts_machine.specs.States.{is_live};
 
 /// Whether a lane waits for an answer.
-#[derive(Clone, Copy, Debug, PartialEq, Eq)]
+#[derive(Clone, Copy)]
 pub enum Mode {
     Live,
     /// It waits for the answer to the request of this number.

@@ -5,7 +5,7 @@ ghost use Rattle.pts_machine.specs.Outcomes.{seen_by, kept_by};
 use gap_buffer::Held;
 
 /// What came of an item.
-#[derive(Clone, Copy, Debug, PartialEq, Eq)]
+#[derive(Clone, Copy)]
 pub enum Seen {
     /// It was applied, and what was held and followed: the lane stands there now.
     Applied { to: u32 },

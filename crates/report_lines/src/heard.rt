@@ -1,7 +1,7 @@
 //! As what a client heard a packet.
 
 /// As what a client heard a packet.
-#[derive(Clone, Copy, Debug, PartialEq, Eq)]
+#[derive(Clone, Copy)]
 pub enum HeardAs {
     Push,
     /// A reply that it waited for.

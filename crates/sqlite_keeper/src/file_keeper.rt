@@ -8,7 +8,7 @@ use thiserror::Error;
 pub type FileKeeper = SqliteKeeper<FileStore<File>>;
 
 /// Why a file gives no keeper.
-#[derive(Clone, Copy, Debug, PartialEq, Eq, Error)]
+#[derive(Clone, Copy, Debug, Error)]
 pub enum OpenError {
     #[error("out of memory")]
     Memory,

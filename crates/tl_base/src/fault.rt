@@ -6,6 +6,6 @@ use thiserror::Error;
 pub type Memory = AllocError;
 
 /// A call to the outside failed. What it stands for is as before, and its count of faults has risen.
-#[derive(Clone, Copy, Debug, PartialEq, Eq, Error)]
+#[derive(Clone, Copy, Debug, Error)]
 #[error("a call to the outside failed")]
 pub struct Failed;

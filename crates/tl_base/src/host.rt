@@ -10,7 +10,7 @@ use crate::counts::Kind;
 use crate::fault::Failed;
 
 /// What is read.
-#[derive(Clone, Copy, Debug, PartialEq, Eq)]
+#[derive(Clone, Copy, PartialEq)]
 pub enum Slot {
     Schema,
     Input,
@@ -19,7 +19,7 @@ pub enum Slot {
 }
 
 /// What is written to.
-#[derive(Clone, Copy, Debug, PartialEq, Eq)]
+#[derive(Clone, Copy, PartialEq)]
 pub enum Out {
     Output,
     Errors,

@@ -7,7 +7,7 @@ use crate::host::{Out, Slot};
 use std::alloc::Global;
 
 /// A kind of call to a host.
-#[derive(Clone, Copy, Debug, PartialEq, Eq)]
+#[derive(Clone, Copy, PartialEq)]
 pub enum HostCall {
     Open,
     Read { slot: Slot },
@@ -19,7 +19,7 @@ pub enum HostCall {
 }
 
 /// A call that is to fail: the one of its kind with this number, from 0.
-#[derive(Clone, Copy, PartialEq, Eq)]
+#[derive(Clone, Copy, PartialEq)]
 pub struct Failing {
     pub call: HostCall,
     pub number: u64,

@@ -14,7 +14,7 @@ use thiserror::Error;
 pub const PACKET_BYTES: u32 = 1_048_576;
 
 /// Why no packet was read.
-#[derive(Clone, Copy, Debug, PartialEq, Eq, Error)]
+#[derive(Clone, Copy, Debug, Error)]
 pub enum PacketFault {
     /// No packet has so many bytes.
     #[error("a packet of {length} bytes")]

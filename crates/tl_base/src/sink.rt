@@ -9,7 +9,7 @@ use crate::fault::Failed;
 use thiserror::Error;
 
 /// A piece was not written whole.
-#[derive(Clone, Copy, Debug, PartialEq, Eq, Error)]
+#[derive(Clone, Copy, Debug, Error)]
 #[error("write fault")]
 pub struct WriteFault;
 

@@ -12,7 +12,7 @@ use std::alloc::{AllocError, Global};
 use thiserror::Error;
 
 /// Why no more bytes were taken.
-#[derive(Clone, Copy, Debug, PartialEq, Eq, Error)]
+#[derive(Clone, Copy, Debug, Error)]
 pub enum TakeFault {
     /// The input ended after so many of the bytes wanted.
     #[error("the input ended after {had} bytes")]
@@ -22,7 +22,7 @@ pub enum TakeFault {
 }
 
 /// Why a text was not taken.
-#[derive(Clone, Copy, Debug, PartialEq, Eq, Error)]
+#[derive(Clone, Copy, Debug, Error)]
 pub enum TextFault {
     #[error("read fault")]
     ReadFault,

@@ -4,7 +4,7 @@ use thiserror::Error;
 use tl_types::Cause;
 
 /// Why a call's result is no type that is answered in.
-#[derive(Clone, Copy, Debug, PartialEq, Eq, Error)]
+#[derive(Clone, Copy, Debug, Error)]
 pub enum ResultCause {
     /// It has more than 16 levels.
     #[error("a result deeper than 16 levels")]
@@ -15,28 +15,28 @@ pub enum ResultCause {
 }
 
 /// Why no result is made.
-#[derive(Clone, Copy, Debug, PartialEq, Eq, Error)]
+#[derive(Clone, Copy, Debug, Error)]
 pub enum ResultFault {
-    #[error("{0}")]
+    #[error(transparent)]
     Refused(ResultCause),
     #[error("out of memory")]
     Memory,
 }
 
 /// Why a call is not sent.
-#[derive(Clone, Copy, Debug, PartialEq, Eq, Error)]
+#[derive(Clone, Copy, Debug, Error)]
 pub enum SendFault {
     /// 1,024 calls are open.
     #[error("1,024 calls are open")]
     Full,
-    #[error("{0}")]
+    #[error(transparent)]
     Result(ResultCause),
     #[error("out of memory")]
     Memory,
 }
 
 /// Why the bytes are no answer to their call, which stays open.
-#[derive(Clone, Copy, Debug, PartialEq, Eq, Error)]
+#[derive(Clone, Copy, Debug, Error)]
 pub enum AnswerFault {
     /// They begin no spelling of a value of the call's result: the item at this offset is none, for this cause.
     #[error("refused at byte {place}: {cause}")]

@@ -18,7 +18,7 @@ use tl_base::Bytes;
 use tl_lexer::{Token, TokenKind};
 
 /// A type that the language has from the start.
-#[derive(Clone, Copy, Debug, PartialEq, Eq)]
+#[derive(Clone, Copy)]
 pub enum BuiltIn {
     Int,
     Long,

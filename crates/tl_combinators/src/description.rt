@@ -14,7 +14,7 @@ use tl_base::Bytes;
 use tl_lexer::{Token, TokenKind};
 
 /// What becomes of a token in a description.
-#[derive(Clone, Copy, Debug, PartialEq, Eq)]
+#[derive(Clone, Copy)]
 pub enum Showing {
     Itself,
     Nothing,
@@ -22,7 +22,7 @@ pub enum Showing {
 }
 
 /// How a field is described: not at all, with its type `bytes` as `string`, or as it is written.
-#[derive(Clone, Copy, Debug, PartialEq, Eq)]
+#[derive(Clone, Copy)]
 pub enum FieldShowing {
     Hidden,
     WithString,

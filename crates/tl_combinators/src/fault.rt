@@ -3,7 +3,7 @@ use std::alloc::{AllocError, AllocFailed};
 use thiserror::Error;
 
 /// A form of the language that this profile leaves out.
-#[derive(Clone, Copy, Debug, PartialEq, Eq)]
+#[derive(Clone, Copy, Debug)]
 pub enum Form {
     /// `#` after the colon in braces.
     DependentNumber,
@@ -26,7 +26,7 @@ pub enum Form {
 }
 
 /// The first fault of a text's tokens. A place is a byte of the text, or its length.
-#[derive(Clone, Copy, Debug, PartialEq, Eq, Error)]
+#[derive(Clone, Copy, Debug, Error)]
 pub enum SyntaxFault {
     /// No rule admits the token here, or the end of the text.
     #[error("unexpected at {at}")]

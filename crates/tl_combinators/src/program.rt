@@ -6,14 +6,14 @@ use crate::tree::TypeTree;
 use tl_base::Bytes;
 
 /// The condition `F.N?`: the field stands where bit N of the `#` field F is set.
-#[derive(Debug, Drop)]
+#[derive(Drop)]
 pub struct Cond {
     pub flags: Bytes,
     pub bit: u32,
 }
 
 /// What a field holds.
-#[derive(Debug, Drop)]
+#[derive(Drop)]
 pub enum FieldKind {
     /// `#`.
     Nat,
@@ -25,7 +25,7 @@ pub enum FieldKind {
 }
 
 /// A field of a declaration.
-#[derive(Debug, Drop)]
+#[derive(Drop)]
 pub struct Field {
     pub name: Bytes,
     pub cond: Option<Cond>,
@@ -33,7 +33,7 @@ pub struct Field {
 }
 
 /// A declaration of a constructor or a function, or the line of a built-in type.
-#[derive(Debug, Drop)]
+#[derive(Drop)]
 pub struct Decl {
     pub name: Bytes,
     /// The number that is written.
@@ -57,7 +57,7 @@ impl Decl {
 }
 
 /// The declarations of a text, in its order.
-#[derive(Debug, Drop)]
+#[derive(Drop)]
 pub struct Program {
     pub decls: Vec<Decl>,
 }

@@ -8,7 +8,7 @@ use crate::fault::{Form, SyntaxFault};
 use tl_lexer::{Token, TokenKind};
 
 /// Which first byte a Word is to have.
-#[derive(Clone, Copy, Debug, PartialEq, Eq)]
+#[derive(Clone, Copy)]
 pub enum First {
     Letter,
     Lower,

@@ -5,7 +5,7 @@ ghost use Rattle.tl_combinators.specs.Trees.{is_plain, view};
 use tl_base::Bytes;
 
 /// A type, parentheses aside: a name and the types that it is applied to, `%` and a type, or any call (`!` alone).
-#[derive(Debug, Drop)]
+#[derive(Drop)]
 pub enum TypeTree {
     Named { name: Bytes, args: Vec<TypeTree> },
     Percent { tree: Box<TypeTree> },

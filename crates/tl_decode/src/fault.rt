@@ -4,7 +4,7 @@ use thiserror::Error;
 use tl_types::Cause;
 
 /// Why no value is read.
-#[derive(Clone, Copy, Debug, PartialEq, Eq, Error)]
+#[derive(Clone, Copy, Debug, Error)]
 pub enum DecodeFault {
     /// The bytes begin no spelling of a value: the item at this offset is none, for this cause.
     #[error("refused at byte {place}: {cause}")]

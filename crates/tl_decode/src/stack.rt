@@ -110,7 +110,7 @@ pub enum Step {
 }
 
 /// What came of a piece.
-#[derive(Clone, Copy, Debug, PartialEq, Eq)]
+#[derive(Clone, Copy)]
 pub enum Fed {
     /// The value isn't whole yet; all of the piece is taken.
     More,

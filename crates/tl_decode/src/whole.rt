@@ -20,7 +20,7 @@ use tl_plan::Plan;
 use tl_types::{Cause, Value};
 
 /// Why bytes are no value of a type.
-#[derive(Clone, Copy, Debug, PartialEq, Eq, Error)]
+#[derive(Clone, Copy, Debug, Error)]
 pub enum WholeFault {
     /// They begin no spelling of a value: the item at this offset is none, for this cause.
     #[error("refused at byte {place}: {cause}")]

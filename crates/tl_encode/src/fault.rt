@@ -5,7 +5,7 @@ use tl_base::WriteFault;
 use tl_types::{FitFault, Misfit};
 
 /// Why the spelling of a value isn't written.
-#[derive(Debug, Drop, PartialEq, Eq, Error)]
+#[derive(Debug, Drop, Error)]
 pub enum EncodeFault {
     /// The value doesn't fit its type.
     #[error("a misfit: {}", .0.cause)]

@@ -1,7 +1,7 @@
 //! Tokens and their spans.
 
 /// What a token is.
-#[derive(Clone, Copy, Debug, PartialEq, Eq)]
+#[derive(Clone, Copy, PartialEq)]
 pub enum TokenKind {
     /// A longest run of ASCII letters, digits and `_`.
     Word,
@@ -48,7 +48,7 @@ pub enum TokenKind {
 }
 
 /// A token, and where it stands in its text: the byte at which it starts, and the one after it.
-#[derive(Clone, Copy, Debug, PartialEq, Eq)]
+#[derive(Clone, Copy)]
 pub struct Token {
     pub kind: TokenKind,
     pub start: u32,

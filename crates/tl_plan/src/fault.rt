@@ -9,7 +9,7 @@ pub const MAX_LEVELS: u32 = 16;
 pub const MAX_INSTANCES: u32 = 65_536;
 
 /// Why some types have no plan. The first 65,537 types that they reach are looked at.
-#[derive(Clone, Copy, Debug, PartialEq, Eq, Error)]
+#[derive(Clone, Copy, Debug, Error)]
 pub enum PlanFault {
     /// A type has more than 16 levels; decl is the index of the declaration whose field names the first such, or the number of declarations where none does.
     #[error("declaration {decl} names a type deeper than 16 levels")]

@@ -3,7 +3,7 @@
 use tl_schema::Form;
 
 /// A declaration of an instance's type, and the instance of each of its fields, in order.
-#[derive(Debug, Drop)]
+#[derive(Drop)]
 pub struct Member {
     /// The index of the declaration.
     pub entry: u32,
@@ -11,7 +11,7 @@ pub struct Member {
 }
 
 /// A closed type, by its number in a plan.
-#[derive(Debug, Drop)]
+#[derive(Drop)]
 pub struct Instance {
     pub form: Form,
     /// The instance of the elements, where the type is a vector.

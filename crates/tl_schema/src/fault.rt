@@ -5,7 +5,7 @@ use tl_combinators::SyntaxFault;
 use tl_lexer::LexFault;
 
 /// What is wrong with a declaration, in the order of the checks.
-#[derive(Clone, Copy, Debug, PartialEq, Eq)]
+#[derive(Clone, Copy, Debug)]
 pub enum CheckCause {
     /// A name that is taken, or a constructor of `Vector`.
     SameName,
@@ -30,7 +30,7 @@ pub enum CheckCause {
 }
 
 /// Why a program is no schema.
-#[derive(Clone, Copy, Debug, PartialEq, Eq, Error)]
+#[derive(Clone, Copy, Debug, Error)]
 pub enum CheckFault {
     /// The first cause, in the order of the checks, that any declaration has; decl is the first declaration that has it, counted from 0.
     #[error("declaration {decl} is refused: {cause:?}")]
@@ -40,7 +40,7 @@ pub enum CheckFault {
 }
 
 /// What is wrong with a type, in the order of the checks.
-#[derive(Clone, Copy, Debug, PartialEq, Eq)]
+#[derive(Clone, Copy, Debug)]
 pub enum TypeCause {
     /// A type that no constructor makes, or the name of no constructor.
     UnknownType,
@@ -53,13 +53,13 @@ pub enum TypeCause {
 }
 
 /// Why a text names no type.
-#[derive(Clone, Copy, Debug, PartialEq, Eq, Error)]
+#[derive(Clone, Copy, Debug, Error)]
 pub enum TypeFault {
     /// The text has no tokens.
-    #[error("{0}")]
+    #[error(transparent)]
     Lex(LexFault),
     /// The tokens are no type.
-    #[error("{0}")]
+    #[error(transparent)]
     Syntax(SyntaxFault),
     /// The first cause, in the order of the checks, that the type has.
     #[error("the type is refused: {cause:?}")]

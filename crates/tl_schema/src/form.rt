@@ -5,7 +5,7 @@ ghost use Rattle.tl_schema.specs.Seen.{shape};
 use crate::schema::TypeRef;
 
 /// The outermost part of a closed type.
-#[derive(Clone, Copy, Debug, PartialEq, Eq)]
+#[derive(Clone, Copy)]
 pub enum Form {
     /// 32 bits, signed.
     Int,

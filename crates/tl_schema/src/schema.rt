@@ -14,7 +14,7 @@ use tl_graph::is_marked;
 use tl_names::{Index, Names};
 
 /// A type. From "TL language" (core.telegram.org/mtproto/TL): its boxed and bare types.
-#[derive(Debug, Drop)]
+#[derive(Drop)]
 pub enum TypeRef {
     /// 32 bits, signed.
     Int,

@@ -10,7 +10,7 @@ use thiserror::Error;
 use tl_types::{FitFault, Misfit, Value};
 
 /// Why JSON isn't of the form of a type's values, its parts aside.
-#[derive(Clone, Copy, Debug, PartialEq, Eq, Error)]
+#[derive(Clone, Copy, Debug, Error)]
 pub enum FormCause {
     /// It is of another kind, among these a number that isn't whole, and text that isn't hexadecimal digits or not of the type's length.
     #[error("JSON of another kind")]
@@ -30,7 +30,7 @@ pub enum FormCause {
 }
 
 /// Why no value is read from JSON.
-#[derive(Debug, Drop, PartialEq, Eq, Error)]
+#[derive(Debug, Drop, Error)]
 pub enum JsonFault {
     /// The JSON isn't of the form of the type's values, for this cause at this part. The path is the way to the part, the outermost step first: a field
     /// by its index in the declaration, an element by its index in the list.
@@ -45,7 +45,7 @@ pub enum JsonFault {
 }
 
 /// Why a text is the form of no value.
-#[derive(Debug, Drop, PartialEq, Eq, Error)]
+#[derive(Debug, Drop, Error)]
 pub enum JsonTextFault {
     /// The text is no UTF-8, no JSON, or JSON of more than 127 levels.
     #[error("no JSON")]
@@ -59,7 +59,7 @@ pub enum JsonTextFault {
 }
 
 // Why JSON isn't of a form, and where.
-#[derive(Debug, Drop)]
+#[derive(Drop)]
 pub enum FormFault {
     Form { path: Vec<u32>, cause: FormCause },
     Memory,

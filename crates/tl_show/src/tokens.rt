@@ -15,7 +15,7 @@ use serde_json::{Map, Value};
 use std::alloc::{AllocError, AllocFailed, Global};
 
 /// It is left to another way of reading.
-#[derive(Debug, Drop)]
+#[derive(Drop)]
 pub struct GivenUp;
 
 impl From<AllocError> for GivenUp {

@@ -2,7 +2,7 @@
 use thiserror::Error;
 
 /// Why bytes begin no spelling of a type's values. A word in place of a number, and a count, are as they were read.
-#[derive(Clone, Copy, Debug, PartialEq, Eq, Error)]
+#[derive(Clone, Copy, Debug, Error)]
 pub enum Cause {
     /// A list, a record or a call would be the 121st level.
     #[error("a value deeper than 120 levels")]

@@ -3,7 +3,7 @@ use std::alloc::{AllocError, AllocFailed};
 use thiserror::Error;
 
 /// Why a value doesn't fit a type, its parts aside.
-#[derive(Clone, Copy, Debug, PartialEq, Eq, Error)]
+#[derive(Clone, Copy, Debug, Error)]
 pub enum MisfitCause {
     /// It is of another kind than the type's values. What isn't there is of the right kind in a field with a condition, and nowhere else.
     #[error("a value of another kind")]
@@ -26,7 +26,7 @@ pub enum MisfitCause {
 }
 
 /// Where a value doesn't fit, and why.
-#[derive(Debug, Drop, PartialEq, Eq)]
+#[derive(Debug, Drop)]
 pub struct Misfit {
     /// The way to the part, the outermost step first: a field by its index in the declaration, an element by its index in the list.
     pub path: Vec<u32>,
@@ -34,7 +34,7 @@ pub struct Misfit {
 }
 
 /// What is answered of a value that doesn't fit.
-#[derive(Debug, Drop, PartialEq, Eq, Error)]
+#[derive(Debug, Drop, Error)]
 pub enum FitFault {
     #[error("a misfit: {}", .0.cause)]
     Misfit(Misfit),

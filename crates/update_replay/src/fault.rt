@@ -6,7 +6,7 @@ use update_world::StepFault;
 use wire_checks::WireFault;
 
 /// Why lines are not written. A prefix of them may be.
-#[derive(Clone, Copy, Debug, PartialEq, Eq, Error)]
+#[derive(Clone, Copy, Debug, Error)]
 pub enum LineFault {
     #[error("write fault")]
     WriteFault,
@@ -37,7 +37,7 @@ impl From<WriteFault> for LineFault {
 }
 
 /// Why a replay stopped before its journal's end. `at` is the offset in the journal at which the step begins.
-#[derive(Clone, Copy, Debug, PartialEq, Eq, Error)]
+#[derive(Clone, Copy, Debug, Error)]
 pub enum ReplayFault {
     /// The bytes there are no step. It holds no `Memory`.
     #[error("no step at {at}: {fault}")]

@@ -9,7 +9,7 @@ const SUMMAND: u64 = 1_442_695_040_888_963_407;
 
 /// A linear congruential generator with the multiplier of Knuth's MMIX (The Art of Computer Programming, volume 2, 3.3.4): each draw leaves a
 /// number of 64 bits, and gives its upper 31 bits.
-#[derive(Clone, Copy, Debug)]
+#[derive(Clone, Copy)]
 pub struct Generator {
     pub number: u64,
 }

@@ -3,7 +3,7 @@ use std::alloc::AllocError;
 use thiserror::Error;
 
 /// Why a run is not made.
-#[derive(Clone, Copy, Debug, PartialEq, Eq, Error)]
+#[derive(Clone, Copy, Debug, Error)]
 pub enum MadeFault {
     /// By the step at this offset of the journal all packets would come to so many bytes, more than a world's may have.
     #[error("at {at}: the pool would have {bytes} bytes")]

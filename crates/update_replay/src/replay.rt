@@ -25,7 +25,7 @@ use wire_checks::WireFault;
 use wire_profile::Profile;
 
 // What comes next in a journal.
-#[derive(Debug, Drop)]
+#[derive(Drop)]
 enum NextStep {
     Read(Step),
     // No byte is left.
@@ -35,7 +35,7 @@ enum NextStep {
 }
 
 // Where the bytes that are looked at end, after so many steps: between two, or within one.
-#[derive(Clone, Copy, Debug)]
+#[derive(Clone, Copy)]
 struct Reached {
     at: u32,
     steps: u32,

@@ -8,7 +8,7 @@ ghost use Rattle.update_replay.specs.Wanting.{goes_to, is_wanted};
 use update_world::{End, World};
 
 /// The receiver of a packet that is looked for.
-#[derive(Clone, Copy, Debug, PartialEq, Eq)]
+#[derive(Clone, Copy)]
 pub enum Wanted {
     Client { client: u32 },
     Server,

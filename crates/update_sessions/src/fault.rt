@@ -9,16 +9,16 @@ use wire_checks::WireFault;
 pub const MAX_FRAMES: u64 = 1_048_576;
 
 /// Why a session ended.
-#[derive(Clone, Copy, Debug, PartialEq, Eq, Error)]
+#[derive(Clone, Copy, Debug, Error)]
 pub enum SessionFault {
     /// The next bytes are no packet; `Ended` with 0 bytes where the link has ended and a client still asks. It holds no `ReadFault` and no `Memory`.
-    #[error("{0}")]
+    #[error(transparent)]
     Packet(PacketFault),
     /// The next packet is no message. It holds no `Memory`.
-    #[error("{0}")]
+    #[error(transparent)]
     Wire(WireFault),
     /// The client refuses the next frame. It holds no `Memory`.
-    #[error("{0}")]
+    #[error(transparent)]
     Client(ClientFault),
     /// So many frames as a session takes were taken; a client still asks.
     #[error("too many frames")]

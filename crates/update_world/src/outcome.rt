@@ -5,7 +5,7 @@ use channel_box::WatchFault;
 use report_lines::HeardAs;
 
 /// What came of a step. A new packet is named by its number, which is the count of packets before it.
-#[derive(Clone, Copy, Debug, PartialEq, Eq)]
+#[derive(Clone, Copy)]
 pub enum Outcome {
     /// New posts were taken: where the server is with them, and the packet of the push.
     Posted {

@@ -2,7 +2,7 @@
 use tl_base::Bytes;
 
 /// To whom a packet goes.
-#[derive(Clone, Copy, Debug, PartialEq, Eq)]
+#[derive(Clone, Copy)]
 pub enum End {
     /// A push goes to every client.
     Clients,
@@ -13,7 +13,7 @@ pub enum End {
 }
 
 /// A packet: its bytes, and to whom it goes. Nothing else of its message is kept.
-#[derive(Debug, Drop)]
+#[derive(Drop)]
 pub struct Sent {
     pub bytes: Bytes,
     pub to: End,

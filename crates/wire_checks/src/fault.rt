@@ -4,7 +4,7 @@ use thiserror::Error;
 use tl_types::Cause;
 
 /// Why bytes are no message. Numbers are as they are spelled.
-#[derive(Clone, Copy, Debug, PartialEq, Eq, Error)]
+#[derive(Clone, Copy, Debug, Error)]
 pub enum WireFault {
     /// The bytes begin no spelling of a value: the item at this offset in bytes is none, for this cause.
     #[error("refused at byte {place}: {cause}")]

@@ -1,7 +1,7 @@
 //! What a form is.
 
 /// What stands in a field.
-#[derive(Clone, Copy, Debug, PartialEq, Eq)]
+#[derive(Clone, Copy)]
 pub enum Cell {
     /// `int`, read as 32 bits without a sign.
     Whole,
