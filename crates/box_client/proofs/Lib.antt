@@ -11,3 +11,4 @@ pub mod Savings
 pub mod Orders
 pub mod Loadings
 pub mod Restarts
+pub mod Takes

@@ -1,16 +1,19 @@
 -- Laws of clients. This project's own.
-use Rattle.std.specs.Prelude.{◌≡◌, ℕ, ◌+◌, ◌≤◌, ℤ, List, [], ◌∷◌, length}
+use Rattle.std.specs.Prelude.{◌≡◌, ℕ, ◌+◌, ◌≤◌, ℤ, List, [], ◌∷◌, length, Ok}
+use Rattle.box_events.specs.Events.{EventView}
 use Rattle.box_events.specs.declared.requests.Numbered.{Numbered}
 use Rattle.box_events.specs.declared.updates.Push.{Push}
 use Rattle.box_events.specs.declared.replies.Reply.{Reply}
 use Rattle.channel_box.specs.Steps.{watched, may_watch}
+use Rattle.difference.specs.Weaves.{woven_of}
+use Rattle.box_client.specs.declared.brought.Brought.{Brought}
 use Rattle.box_client.specs.declared.loading.TheConstants.{MAX_NEXT}
 use Rattle.box_client.specs.States.{ClientState, new_client}
 use Rattle.box_client.specs.Saving.{saved_of}
 use Rattle.box_client.specs.Loads.{IsRestartOf}
 use Rattle.box_client.specs.Savable.{IsSavable}
 use Rattle.box_client.specs.Pushes.{pushed}
-use Rattle.box_client.specs.Replies.{Outcome, ignored, refuses, becomes, replied}
+use Rattle.box_client.specs.Replies.{Outcome, ignored, refuses, becomes, brings, group_done, replied}
 use Rattle.box_client.specs.Asking.{ticks, wakes, restarted}
 use Rattle.box_client.specs.Numbers.{ClientNumbers, client_numbers, n_new_client, n_pushed, n_replied, n_ticks, n_wakes, n_client_restarted, n_watched_if}
 
@@ -53,3 +56,9 @@ pub record AreGivenOnce : Type 0 where
 -- what a client saves is loaded as the client after a restart
 abbrev pub SavedAreLoaded : Type 0
 SavedAreLoaded = (c : ClientState) → IsSavable c → c.next ≤ MAX_NEXT → IsRestartOf c (saved_of c)
+
+-- A difference whose lists can be woven, and whose seq isn't below the client's, is taken.
+abbrev pub TakesWhatFits : Type 0
+TakesWhatFits = (c : ClientState) (b : Brought) (xs ys : List EventView)
+    → woven_of c.common.at b.state.pts b.news b.others ≡ Ok xs → woven_of c.secret.at b.state.qts b.secrets [] ≡ Ok ys → c.settings.at ≤ b.state.seq
+    → brings c b ≡ becomes (group_done b.last c b xs ys)

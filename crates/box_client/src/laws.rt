@@ -1,5 +1,5 @@
 //! Laws of the definitions, carried by functions that do nothing.
-ghost use Rattle.box_client.specs.Laws.{FollowFromNumbers, AreGivenOnce, SavedAreLoaded};
+ghost use Rattle.box_client.specs.Laws.{FollowFromNumbers, AreGivenOnce, SavedAreLoaded, TakesWhatFits};
 
 /// A client's numbers after a step follow from its numbers alone: its events, values and recent messages say nothing of them.
 pub fn numbers_alone()
@@ -14,4 +14,9 @@ pub fn numbers_are_given_once()
 /// What is saved of a client is loaded as the client after a restart.
 pub fn what_is_saved_is_loaded()
     ensures { SavedAreLoaded }
+{}
+
+/// No difference is refused but for a cause: one that fits is taken.
+pub fn differences_that_fit_are_taken()
+    ensures { TakesWhatFits }
 {}

@@ -14,4 +14,6 @@ mod saving;
 
 pub use client::Client;
 pub use fault::{ClientFault, LoadFault, Told};
-pub use laws::{numbers_alone, numbers_are_given_once, what_is_saved_is_loaded};
+pub use laws::{
+    differences_that_fit_are_taken, numbers_alone, numbers_are_given_once, what_is_saved_is_loaded,
+};

@@ -14,3 +14,4 @@ pub mod Taken
 pub mod KeyPlaces
 pub mod KeyCounts
 pub mod Soundness
+pub mod LastParts

@@ -14,7 +14,7 @@ ghost use Rattle.box_server.specs.Receiving.{after_post};
 ghost use Rattle.box_server.specs.Runs.{events_after, run_of};
 ghost use Rattle.box_server.specs.Servers.{ChannelBox, ServerState, dated_at, new_server};
 ghost use Rattle.box_server.specs.Sound.{IsSound};
-ghost use Rattle.box_server.specs.Laws.{ChannelsGetTheirEvents, UpdatesLieInBoxes, SettingsAreDated, SettingsAreNumbered, UpdatesStayInBoxes, ChannelRunsLie};
+ghost use Rattle.box_server.specs.Laws.{ChannelsGetTheirEvents, UpdatesLieInBoxes, SettingsAreDated, SettingsAreNumbered, UpdatesStayInBoxes, ChannelRunsLie, LastPartsReachTheServer, KnownIdsPostNothing};
 
 /// Each box of a server only has more events after it, a channel's as a whole; its settings only get more that aren't dated before it, and its date never falls.
 pub fn servers_only_grow()
@@ -51,4 +51,11 @@ pub fn servers_stay_sound()
     ensures new { IsSound new_server }
     ensures date { (s : ServerState) (date : ℕ) → IsSound s → date < 2 ^ 31 → IsSound (dated_at s date) }
     ensures post { (s : ServerState) (random_id : ℤ) (posts : List Post) → IsSound s → IsSound (after_post s random_id posts) }
+{}
+
+/// A part of a difference is never told as the last, and a random id that is known posts nothing. (That settings of the date that is asked for are
+/// given is the clause `settings` of `differences_lie_in_boxes`.)
+pub fn answers_are_exact()
+    ensures last { LastPartsReachTheServer }
+    ensures known { KnownIdsPostNothing }
 {}

@@ -19,7 +19,8 @@ mod tail;
 
 pub use fault::PostFault;
 pub use laws::{
-    differences_lie_in_boxes, pushes_lie_in_boxes, servers_only_grow, servers_stay_sound,
+    answers_are_exact, differences_lie_in_boxes, pushes_lie_in_boxes, servers_only_grow,
+    servers_stay_sound,
 };
 pub use posted::Posted;
 pub use server::Server;

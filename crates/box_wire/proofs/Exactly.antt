@@ -1,7 +1,7 @@
 -- Bytes are one message of a kind, or are none for one cause; and what is answered of them.
 use Rattle.std.proofs.Common.{◌≡◌, ℕ, ◌<◌, List, [], ◌++◌, length, append-nil, length-append, Option, Some, None, Result, Ok, Err, sym, ap, ◌∙◌, subst, refl, inl, inr, arith}
 use Rattle.std.specs.Prelude.{◌⊎◌, IfOk, IfErr}
-use Rattle.tl_base.specs.Contents.{AreBytes}
+use Rattle.tl_numbers.specs.Bytes.{AreBytes}
 use Rattle.tl_schema.specs.Formed.{IsFormed}
 use Rattle.tl_types.specs.Values.{ValueView}
 use Rattle.tl_types.specs.Refusal as refusal

@@ -1,7 +1,7 @@
 -- Which step bytes begin with, or why they begin with none; and what is answered of them.
 use Rattle.std.proofs.Common.{◌≡◌, ℕ, ◌<◌, ◌≤◌, List, [], ◌++◌, length, length-append, Option, Some, None, Result, Ok, Err, sym, ap, ◌∙◌, subst, refl, inl, inr, arith}
 use Rattle.std.specs.Prelude.{IfSome}
-use Rattle.tl_base.specs.Contents.{AreBytes}
+use Rattle.tl_numbers.specs.Bytes.{AreBytes}
 use Rattle.tl_schema.specs.Types.{Shape}
 use Rattle.tl_plan.specs.Plans.{PlanView, InstanceView}
 use Rattle.tl_plan.specs.PlanLaws.{IsInstance, IsPlanOf}

@@ -1,6 +1,6 @@
 //! Values that are the whole of some bytes, and the bytes of values.
 ghost use Rattle.std.specs.Prelude.{◌≡◌, ◌≢◌, ◌<◌, IfOk};
-ghost use Rattle.tl_base.specs.Contents.{AreBytes};
+ghost use Rattle.tl_numbers.specs.Bytes.{AreBytes};
 ghost use Rattle.tl_schema.specs.Types.{Shape, call};
 ghost use Rattle.tl_schema.specs.Formed.{IsFormed};
 ghost use Rattle.tl_plan.specs.PlanLaws.{IsInstance};

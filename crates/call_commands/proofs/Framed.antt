@@ -2,8 +2,8 @@
 use Rattle.std.proofs.Common.{◌≡◌, ◌⊎◌, inl, inr, ℕ, ◌<◌, ◌≤◌, ◌%◌, ◌^◌, List, [], ◌∷◌, ◌++◌, append_assoc, length, length-append, take, drop, take-append-drop, refl, sym, ap, ◌∙◌, subst, arith}
 use Rattle.std.proofs.lemmas.Bool.{cases_eq, cases_lt}
 use Rattle.std.proofs.lemmas.List.{take_at, drop_at, length-take-le}
-use Rattle.tl_base.specs.Contents.{AreBytes}
-use Rattle.tl_base.specs.Numbers.{word}
+use Rattle.tl_numbers.specs.Bytes.{AreBytes}
+use Rattle.tl_numbers.specs.Numbers.{word}
 use Rattle.tl_base.specs.Packets.{IsPacketLength, IsCutShort, packet}
 use Rattle.tl_base.specs.declared.packet.TheConstants.{PACKET_BYTES}
 use Rattle.tl_types.proofs.Numbers.{short, whole, begins_word, same_number}

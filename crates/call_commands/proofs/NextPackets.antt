@@ -1,7 +1,7 @@
 -- The next packet of a file, as it is read.
 use Rattle.std.proofs.Common.{◌≡◌, ℕ, ◌+◌, ◌<◌, ◌≤◌, List, ◌++◌, length, length-append, codes, decimal, Bool, true, false, Option, Some, Ok, Err, refl, sym, ap, ◌∙◌, subst, arith}
 use Rattle.std.specs.Prelude.{IsErrOf}
-use Rattle.tl_base.specs.Numbers.{word}
+use Rattle.tl_numbers.specs.Numbers.{word}
 use Rattle.tl_base.specs.Outside.{View, HostState, left_of}
 use Rattle.tl_base.specs.Calls.{Told}
 use Rattle.tl_base.specs.Packets.{IsPacketLength, ReadsPacket, PacketInto, packet}
@@ -10,7 +10,7 @@ use Rattle.tl_base.specs.declared.counts.Kind.TheVariants as kinds
 use Rattle.tl_base.specs.declared.host.Slot.TheVariants.{Input}
 use Rattle.tl_base.specs.declared.packet.PacketFault.{PacketFault}
 use Rattle.tl_base.specs.declared.packet.PacketFault.TheVariants as fault
-use Rattle.tl_base.proofs.Spelled.{words}
+use Rattle.tl_numbers.proofs.Spelled.{words}
 use Rattle.tl_schema.specs.Schemas.{Declared}
 use Rattle.tl_calls.specs.Events.{Log}
 use Rattle.command_base.specs.Loading.{Refuses, RefusesAs}

@@ -1,8 +1,8 @@
 -- What is refused lies within the bytes.
 use Rattle.std.proofs.Common.{◌≡◌, ℕ, zero, suc, ◌+◌, ◌≤◌, List, [], ◌∷◌, ◌++◌, length, length-append, true, false, ap, arith, inl, inr}
-use Rattle.tl_base.specs.Numbers.{word}
-use Rattle.tl_base.specs.declared.numbers.TheConstants.{BOXED_VECTOR}
-use Rattle.tl_base.proofs.Spelled.{words}
+use Rattle.tl_numbers.specs.Numbers.{word}
+use Rattle.tl_numbers.specs.declared.numbers.TheConstants.{BOXED_VECTOR}
+use Rattle.tl_numbers.proofs.Spelled.{words}
 use Rattle.tl_schema.specs.Types.{Shape}
 use Rattle.tl_schema.specs.Types as type
 use Rattle.tl_schema.specs.Closing.{closed, list_of_shapes}

@@ -1,8 +1,8 @@
 -- A packet's content is told, or refused for one cause: one of the two, and in one way.
 use Rattle.std.proofs.Common.{◌≡◌, ◌≢◌, ◌⊎◌, inl, inr, ℕ, zero, suc, ◌+◌, ◌<◌, ◌≤◌, ◌^◌, List, [], ◌++◌, length, length-append, Option, Some, None, Bool, true, false, true≢false, refl, sym, ap, ◌∙◌, subst, arith}
 use Rattle.std.proofs.lemmas.Bool.{cases_eq, cases_lt}
-use Rattle.tl_base.specs.Contents.{AreBytes}
-use Rattle.tl_base.specs.Numbers.{word}
+use Rattle.tl_numbers.specs.Bytes.{AreBytes}
+use Rattle.tl_numbers.specs.Numbers.{word}
 use Rattle.tl_schema.specs.Types.{Shape}
 use Rattle.tl_schema.specs.Types as type
 use Rattle.tl_schema.specs.Schemas.{Declared}

@@ -1,7 +1,7 @@
 -- The packets of what is left of Input, told one by one.
 use Rattle.std.proofs.Common.{◌≡◌, ◌≢◌, ℕ, List, [], ◌∷◌, ◌++◌, append_assoc, append-nil, length, length-append, Option, Some, None, Result, Ok, Err, refl, sym, ap, ◌∙◌, subst, arith, inl, inr, ◌⊎◌}
 use Rattle.std.specs.Prelude.{IsErrAnd, IsErrOf, IfSome, IsTrue}
-use Rattle.tl_base.specs.Contents.{AreBytes}
+use Rattle.tl_numbers.specs.Bytes.{AreBytes}
 use Rattle.tl_base.specs.Outside.{View, HostState, ShowsBytes, left_of, with_left, written_of, with_written}
 use Rattle.tl_base.specs.Calls.{Told}
 use Rattle.tl_base.specs.declared.host.Slot.TheVariants.{Input}

@@ -1,6 +1,6 @@
 -- What `calls` writes of a file of packets, and where and why it refuses the file. This project's own.
 use Rattle.std.specs.Prelude.{◌≡◌, ◌≢◌, ℕ, suc, ◌+◌, ◌<◌, ◌≤◌, ◌^◌, List, [], ◌∷◌, ◌++◌, length, Some, None, codes, decimal}
-use Rattle.tl_base.specs.Numbers.{word}
+use Rattle.tl_numbers.specs.Numbers.{word}
 use Rattle.tl_base.specs.Packets.{IsPacketLength, IsCutShort, packet}
 use Rattle.tl_schema.specs.Types.{Shape}
 use Rattle.tl_schema.specs.Types as type

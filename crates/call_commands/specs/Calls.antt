@@ -1,7 +1,8 @@
 -- What `calls` answers: the lines of its packets, up to the file's end or to what is refused there, or where and why the schema is refused.
 -- This project's own.
 use Rattle.std.specs.Prelude.{◌≡◌, ℕ, List, [], codes}
-use Rattle.tl_base.specs.Contents.{AreBytes, Files, HoldBytes}
+use Rattle.tl_numbers.specs.Bytes.{AreBytes}
+use Rattle.tl_base.specs.Contents.{Files, HoldBytes}
 use Rattle.tl_base.specs.Outside.{HasFile}
 use Rattle.tl_schema.specs.CheckedPrograms.{IsSchema}
 use Rattle.tl_schema.specs.Schemas.{Declared}

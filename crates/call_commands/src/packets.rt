@@ -1,6 +1,6 @@
 //! One packet: a call that is sent, or an answer that came.
 ghost use Rattle.std.specs.Prelude.{◌≡◌, ◌≢◌, ◌<◌, ◌≤◌, ◌+◌, ◌++◌, ◌^◌, IfOk, length};
-ghost use Rattle.tl_base.specs.Numbers.{word};
+ghost use Rattle.tl_numbers.specs.Numbers.{word};
 ghost use Rattle.tl_base.specs.Packets.{IsPacketLength};
 ghost use Rattle.tl_schema.specs.Seen.{shape};
 ghost use Rattle.tl_calls.specs.Calling.{AreOpenIn};

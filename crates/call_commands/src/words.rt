@@ -1,8 +1,8 @@
 //! The first word of a packet.
 ghost use Rattle.std.specs.Prelude.{◌≡◌, ◌<◌, ◌^◌, ◌++◌, length, MatchOption};
-ghost use Rattle.tl_base.specs.Numbers.{word};
+ghost use Rattle.tl_numbers.specs.Numbers.{word};
 
-use tl_base::u32_of;
+use tl_numbers::u32_of;
 
 /// The number that the first four bytes spell, and the bytes after them; none where there are fewer.
 pub fn first_word(content: &[u8]) -> Option<(u32, &[u8])>

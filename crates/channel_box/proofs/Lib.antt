@@ -3,3 +3,4 @@ pub mod Ids
 pub mod Indexes
 pub mod Loops
 pub mod Whole
+pub mod Anew

@@ -5,3 +5,4 @@ pub mod Looks
 pub mod Finding
 pub mod Views
 pub mod ChannelViews
+pub mod Laws

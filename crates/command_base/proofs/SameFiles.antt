@@ -1,6 +1,7 @@
 -- A name has one file at most, and where all files are of bytes, so is its.
 use Rattle.std.proofs.Common.{◌≡◌, List, [], ◌∷◌, ℕ, sym, ◌∙◌, subst, inl, inr}
-use Rattle.tl_base.specs.Contents.{AreBytes, Files, HoldBytes}
+use Rattle.tl_numbers.specs.Bytes.{AreBytes}
+use Rattle.tl_base.specs.Contents.{Files, HoldBytes}
 use Rattle.tl_base.specs.Outside.{HasFile}
 
 pub same_file : (files : Files) (name a b : List ℕ) → HasFile files name a → HasFile files name b → a ≡ b

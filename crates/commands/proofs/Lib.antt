@@ -15,3 +15,4 @@ pub mod AnAnswer
 pub mod Endings
 pub mod StoredEnds
 mod Digits
+pub mod Waits

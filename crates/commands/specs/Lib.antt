@@ -4,3 +4,4 @@ pub mod Answers
 pub mod Runs
 pub mod Numbers
 pub mod Stored
+pub mod Laws

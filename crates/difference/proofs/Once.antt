@@ -7,7 +7,7 @@ use Rattle.box_events.specs.declared.updates.Placed.{Placed}
 use Rattle.difference.specs.declared.fault.WeaveFault.TheVariants.{Overlap, Uneven, Memory}
 use Rattle.difference.specs.Weaving.{Woven, bodies, others_from, ends_at}
 use Rattle.difference.specs.Refusal.{AreOthers, overlap, counts, covered}
-use Rattle.difference.specs.Laws.{IsOneList, EachFits, EachThatFitsIsWoven, HasOthers, IsNotRefused}
+use Rattle.difference.specs.Laws.{IsOneList, EachFits, EachThatFitsIsWoven, HasOthers, IsNotRefused, OthersKeepTheirNumbers}
 use Rattle.difference.specs.inner.Merging.{free, merged}
 use Rattle.difference.proofs.Apart.{apart_more, apart_lower}
 use Rattle.difference.proofs.Merged.{other_first, fitting_woven}
@@ -113,3 +113,36 @@ pub is_not_refused : IsNotRefused
 is_not_refused from to news others events (Overlap pts) w r = absurd (none_some (overlap from to others) pts (each_fits from to news others events w).apart r)
 is_not_refused from to news others events (Uneven a b c) w r = absurd (r.4 (each_fits from to news others events w).even)
 is_not_refused from to news others events Memory w r = refl
+
+-- ---- where the first of the other events stands
+
+at_once : (e : EventView) (p : ℕ) (l os : List Placed) (o : Placed) → ends_at e p ∷ l ≡ o ∷ os → ends_at e p ≡ o
+at_once e p l os o is = cc
+
+-- the first of the other events stands after what is before it
+stands_after : (p : ℕ) (es : List EventView) (o : Placed) (os : List Placed) → others_from p es ≡ o ∷ os → p + count_of o.event ≤ o.pts
+stands_after p [] o os is = absurd cc
+stands_after p (e ∷ es) o os is = elim (sort_of e) [
+  | message b eb ↦
+      let m = message_first e b es p eb in
+      let later : p + 1 + count_of o.event ≤ o.pts = stands_after (p + 1) es o os (sym m.1 ∙ is) in
+      omega (arith, later)
+  | other plain ↦
+      subst (λ (q : Placed). p + count_of q.event ≤ q.pts) (at_once e (p + count_of e) _ os o (sym (other_first e es p plain).1 ∙ is)) (omega arith)
+]
+
+first_of : (from : ℕ) (events : List EventView) (o : Placed) (os : List Placed) → others_from from events ≡ o ∷ os → o.pts ≡ from + count_of o.event
+    → (more : List EventView) × (events ≡ o.event ∷ more)
+first_of from [] o os is here = absurd cc
+first_of from (e ∷ es) o os is here = elim (sort_of e) [
+  | message b eb ↦
+      let m = message_first e b es from eb in
+      let later : from + 1 + count_of o.event ≤ o.pts = stands_after (from + 1) es o os (sym m.1 ∙ is) in
+      absurd (omega (arith, later, here))
+  | other plain ↦
+      let same = at_once e (from + count_of e) _ os o (sym (other_first e es from plain).1 ∙ is) in
+      (es, ap (λ (q : Placed). q.event ∷ es) same)
+]
+
+pub others_keep_their_numbers : OthersKeepTheirNumbers
+others_keep_their_numbers from to news o os events w here = first_of from events o os w.rest here

@@ -73,3 +73,8 @@ AreCountedOthers (o ∷ os) = (1 ≤ count_of o.event) × AreCountedOthers os
 abbrev pub KeepsCounts : Type 0
 KeepsCounts = (from to : ℕ) (news : List (List ℕ)) (others : List Placed) (events : List EventView)
     → AreCountedOthers others → Woven from to news others events → AreCounted events
+
+-- where another event stands first the list begins with it, however many messages there are
+abbrev pub OthersKeepTheirNumbers : Type 0
+OthersKeepTheirNumbers = (from to : ℕ) (news : List (List ℕ)) (o : Placed) (os : List Placed) (events : List EventView)
+    → Woven from to news (o ∷ os) events → o.pts ≡ from + count_of o.event → (more : List EventView) × (events ≡ o.event ∷ more)

@@ -6,3 +6,4 @@ pub mod Moves
 pub mod Parts
 pub mod Fitting
 pub mod Takings
+pub mod Turns

@@ -9,7 +9,7 @@ ghost use Rattle.pts_machine.specs.States.{LaneState, IsSound, StartAfter, is_li
 ghost use Rattle.pts_machine.specs.Chains.{EndsAfter};
 ghost use Rattle.pts_machine.specs.Steps.{hear, Hears, extend, restart_at, forget, asked, loaded, new_lane};
 ghost use Rattle.pts_machine.specs.Fitting.{Fits};
-ghost use Rattle.pts_machine.specs.Laws.{StaysSound, FitsAsItHears, FitsAsItExtends, ReachesTheEnd};
+ghost use Rattle.pts_machine.specs.Laws.{StaysSound, FitsAsItHears, FitsAsItExtends, ReachesTheEnd, WaitsAfterAGap, IsNextInTurn, IsHeldStill};
 
 /// What is said of a step by cases on its answer is the step, and each step is said so.
 pub fn hearing_is_told<E>()
@@ -59,4 +59,11 @@ pub fn lanes_lie_within_boxes()
     ensures after { (box : List EventView) (t : LaneState EventView) → AreCounted box → Fits box t → EndsAfter t.held }
     ensures reaches { ReachesTheEnd }
     ensures sound { (box : List EventView) (t : LaneState EventView) → AreCounted box → ending box ≤ 1000000 → Fits box t → (t.mode ≡ Live → StartAfter t.at t.held) → IsSound count_of t }
+{}
+
+/// A push over a gap is not applied, one in turn is not held back, and a part of an answer loses nothing that is held after it.
+pub fn lanes_go_in_turn<E>()
+    ensures gap { WaitsAfterAGap E }
+    ensures turn { IsNextInTurn E }
+    ensures part { IsHeldStill E }
 {}

@@ -14,7 +14,8 @@ pub use chains::follow;
 pub use counted::Counted;
 pub use lane::Lane;
 pub use laws::{
-    hearing_is_told, lanes_fit_boxes, lanes_lie_within_boxes, lanes_move_on, lanes_stay_sound,
+    hearing_is_told, lanes_fit_boxes, lanes_go_in_turn, lanes_lie_within_boxes, lanes_move_on,
+    lanes_stay_sound,
 };
 pub use mode::{Mode, is_next};
 pub use seen::{Seen, outcome_of};

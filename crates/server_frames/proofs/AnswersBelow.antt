@@ -28,7 +28,7 @@ use Rattle.wire_forms.specs.Forms.{forms}
 use Rattle.wire_forms.specs.Parts.{row}
 use Rattle.wire_values.specs.Updates.{placed_tree, setting_tree}
 use Rattle.wire_values.specs.Others.{joined}
-use Rattle.frame_sizes.specs.Sizes.{frame_size, sizes_of}
+use Rattle.server_frames.specs.Sizes.{frame_size, sizes_of}
 use Rattle.server_frames.specs.Sums.{IsBelow, most_of_answer, most_of_run}
 use Rattle.server_frames.specs.Laws.{AnswersAreBelow}
 use Rattle.server_frames.proofs.PartSizes.{IsSmallSetting, joined_size, limited_length, limited_sum, run_size, settings_size, text_size, texts_size}

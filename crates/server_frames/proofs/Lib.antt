@@ -1,3 +1,11 @@
+pub mod Fields
+pub mod MessageForms
+pub mod Lengths
+pub mod Multiples
+pub mod PartsFit
+pub mod MessagesFit
+pub mod SpelledMessages
+pub mod Least
 pub mod ClearUpdates
 pub mod Carried
 pub mod ClearReplies

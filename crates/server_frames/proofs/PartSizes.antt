@@ -21,7 +21,7 @@ use Rattle.wire_forms.specs.Forms.{forms}
 use Rattle.wire_forms.specs.Parts.{row}
 use Rattle.wire_values.specs.Updates.{common_tree, channel_tree, placed_tree, setting_tree}
 use Rattle.wire_values.specs.Others.{joined}
-use Rattle.frame_sizes.specs.Sizes.{size_in, sizes_of}
+use Rattle.server_frames.specs.Sizes.{size_in, sizes_of}
 
 -- ---- texts
 

@@ -23,7 +23,7 @@ use Rattle.wire_forms.specs.declared.numbers.TheConstants.{UPDATE_TYPE}
 use Rattle.wire_forms.specs.Forms.{forms}
 use Rattle.wire_forms.specs.Parts.{row}
 use Rattle.wire_values.specs.Updates.{update_tree}
-use Rattle.frame_sizes.specs.Sizes.{call_size, frame_size, size_in, sizes_of}
+use Rattle.server_frames.specs.Sizes.{call_size, frame_size, size_in, sizes_of}
 use Rattle.server_frames.specs.Laws.{AsksAreBelow, PushesAreBelow, ReceiptsAreBelow, RefusalsAreBelow, WarningsAreBelow}
 use Rattle.server_frames.proofs.PartSizes.{channel_size, common_size, setting_size, text_size}
 use Rattle.server_frames.proofs.AnswersBelow.{error_size, receipt_size}

@@ -22,7 +22,7 @@ use Rattle.wire_checks.proofs.ClearValues.{clear_of, clear_here, clear_fields, c
 use Rattle.wire_checks.proofs.RuleFacts.{end_is}
 use Rattle.box_wire.specs.Kinds.{saved_clients}
 use Rattle.box_wire.proofs.SavedLaws.{saved_laws}
-use Rattle.frame_sizes.proofs.SpelledMessages.{read_of}
+use Rattle.server_frames.proofs.SpelledMessages.{read_of}
 use Rattle.server_frames.specs.Laws.{ReadClientsAreTaken}
 
 lane_low : (t : ValueView) → IsOf (Bare LANE) t → IsClear Saved t → word_of (at 1 (parts_of t)) ≤ MAX_END

@@ -26,7 +26,7 @@ use Rattle.wire_checks.proofs.RuleFacts.{date_is}
 use Rattle.box_wire.specs.Kinds.{frames, saved_clients}
 use Rattle.box_wire.proofs.FrameLaws.{frame_laws}
 use Rattle.box_wire.proofs.SavedLaws.{saved_laws}
-use Rattle.frame_sizes.proofs.SpelledMessages.{read_of}
+use Rattle.server_frames.proofs.SpelledMessages.{read_of}
 use Rattle.server_frames.specs.Dated.{IsDatedFrame, IsDatedPush, IsDatedReply}
 use Rattle.server_frames.specs.Laws.{ReadClientsAreDated, ReadFramesAreDated}
 use Rattle.server_frames.proofs.ReadUpdates.{Holds}

@@ -38,8 +38,8 @@ use Rattle.wire_checks.proofs.ClearValues.{clear_of, clear_here, clear_fields, c
 use Rattle.wire_checks.proofs.RuleFacts.{Pack, end_is, container_is}
 use Rattle.box_wire.specs.Kinds.{frames}
 use Rattle.box_wire.proofs.FrameLaws.{frame_laws}
-use Rattle.frame_sizes.proofs.MessagesFit.{frame_in_fits}
-use Rattle.frame_sizes.proofs.SpelledMessages.{meant_fit, read_of}
+use Rattle.server_frames.proofs.MessagesFit.{frame_in_fits}
+use Rattle.server_frames.proofs.SpelledMessages.{meant_fit, read_of}
 use Rattle.server_frames.specs.Fitting.{IsHearable}
 use Rattle.server_frames.specs.Laws.{ReadFramesAreTaken}
 use Rattle.server_frames.proofs.ReadUpdates.{Holds, updates_taken, settings_counted}

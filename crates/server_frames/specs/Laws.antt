@@ -40,7 +40,7 @@ use Rattle.box_wire.specs.Framing.{Means}
 use Rattle.box_wire.specs.Kinds.{frames, saved_clients}
 use Rattle.box_events.specs.declared.steps.Step.{Step}
 use Rattle.box_world.specs.Worlds.{run}
-use Rattle.frame_sizes.specs.Sizes.{call_size, frame_size}
+use Rattle.server_frames.specs.Sizes.{call_size, frame_size}
 use Rattle.server_frames.specs.Dated.{IsDatedClient, IsDatedFrame, IsDatedPush, IsDatedReply}
 use Rattle.server_frames.specs.Fitting.{CallFits, FrameFits, IsHearable, IsNumber}
 use Rattle.server_frames.specs.Spelled.{FitsClient, FitsServer, IsNarrow}

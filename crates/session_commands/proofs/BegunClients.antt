@@ -39,8 +39,8 @@ use Rattle.wire_values.specs.SavedClients.{saved_in, saved_tree}
 use Rattle.box_wire.specs.Kinds.{saved_clients}
 use Rattle.box_wire.specs.Framing.{Means}
 use Rattle.box_wire.proofs.SavedLaws.{saved_laws}
-use Rattle.frame_sizes.proofs.MessagesFit.{saved_in_fits}
-use Rattle.frame_sizes.proofs.SpelledMessages.{meant_fit}
+use Rattle.server_frames.proofs.MessagesFit.{saved_in_fits}
+use Rattle.server_frames.proofs.SpelledMessages.{meant_fit}
 use Rattle.server_frames.specs.Spelled.{FitsChannel}
 use Rattle.server_frames.proofs.DatedClients.{clients_stay_dated}
 use Rattle.server_frames.proofs.FittingClients.{clients_keep, held_empty, new_all}

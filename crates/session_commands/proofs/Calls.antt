@@ -2,7 +2,7 @@
 use Rattle.std.proofs.Common.{◌≡◌, ◌⊎◌, ℕ, ◌<◌, ◌≤◌, ◌%◌, List, [], ◌++◌, length, Some, None, Result, Ok, Err, Vec, Global, codes, sym, ap, ◌∙◌, subst, arith, inl, inr}
 use Rattle.std.specs.Prelude.{⊤, IfOk, IsErrAnd}
 use Rattle.std.specs.declared.alloc.AllocError.{AllocError}
-use Rattle.tl_base.specs.Contents.{AreBytes}
+use Rattle.tl_numbers.specs.Bytes.{AreBytes}
 use Rattle.tl_schema.specs.Types.{Shape, call}
 use Rattle.tl_schema.specs.Schemas.{Declared}
 use Rattle.tl_types.specs.Values.{ValueView}
@@ -20,9 +20,9 @@ use Rattle.box_wire.specs.Kinds.{calls}
 use Rattle.box_wire.specs.Framing.{WireRefused}
 use Rattle.box_wire.specs.declared.fault.SpellFault.TheVariants.{TooLong}
 use Rattle.box_wire.proofs.CallLaws.{call_laws}
-use Rattle.frame_sizes.proofs.Lengths.{has_size}
-use Rattle.frame_sizes.proofs.Multiples.{is_whole, whole}
-use Rattle.frame_sizes.proofs.SpelledMessages.{read_of}
+use Rattle.server_frames.proofs.Lengths.{has_size}
+use Rattle.server_frames.proofs.Multiples.{is_whole, whole}
+use Rattle.server_frames.proofs.SpelledMessages.{read_of}
 use Rattle.update_sessions.specs.Packed.{MeansCall}
 use Rattle.command_base.specs.Jobs.{RefusedBy}
 use Rattle.command_base.specs.Loading.{Refuses, RefusesAs}

@@ -7,8 +7,9 @@ use Rattle.std.specs.Prelude.{IsUtf8, ⊤}
 use Rattle.std.specs.Str.{is_utf8}
 use Rattle.serde_json.specs.Data.{Data}
 use Rattle.serde_json.specs.Read.{read as read_text}
-use Rattle.tl_base.specs.Contents.{AreBytes, Files, HoldBytes}
-use Rattle.tl_base.specs.Numbers.{word}
+use Rattle.tl_numbers.specs.Bytes.{AreBytes}
+use Rattle.tl_base.specs.Contents.{Files, HoldBytes}
+use Rattle.tl_numbers.specs.Numbers.{word}
 use Rattle.tl_base.specs.Packets.{IsPacketLength, packet}
 use Rattle.tl_base.specs.declared.packet.PacketFault.{PacketFault}
 use Rattle.tl_base.specs.declared.packet.PacketFault.TheVariants as packets

@@ -3,7 +3,7 @@ use Rattle.std.proofs.Common.{◌≡◌, ℕ, zero, suc, ℤ, ◌<◌, ◌^◌, 
 use Rattle.std.specs.Prelude.{⊤}
 use Rattle.std.specs.FinMap as map
 use Rattle.std.specs.List.{All, AllByRecursion}
-use Rattle.tl_base.specs.Contents.{AreBytes, ListsOfBytes}
+use Rattle.tl_numbers.specs.Bytes.{AreBytes, ListsOfBytes}
 use Rattle.tl_base.specs.Packets.{packet}
 use Rattle.tl_base.specs.declared.packet.PacketFault.{PacketFault}
 use Rattle.tl_types.proofs.Numbers.{begins_word}
@@ -35,8 +35,8 @@ use Rattle.box_wire.specs.Framing.{WireRefused}
 use Rattle.box_wire.proofs.CallLaws.{call_laws}
 use Rattle.box_wire.proofs.FrameLaws.{frame_laws}
 use Rattle.box_wire.proofs.ReadBack.{are_spelled}
-use Rattle.frame_sizes.proofs.MessagesFit.{call_in_fits}
-use Rattle.frame_sizes.proofs.SpelledMessages.{meant_fit}
+use Rattle.server_frames.proofs.MessagesFit.{call_in_fits}
+use Rattle.server_frames.proofs.SpelledMessages.{meant_fit}
 use Rattle.server_frames.specs.Spelled.{FitsServer}
 use Rattle.server_frames.proofs.FittingFrames.{answers_have, pushes_have, refusals_have}
 use Rattle.server_frames.proofs.FittingServers.{receipt_fits, servers_keep}

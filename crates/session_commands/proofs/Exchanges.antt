@@ -4,8 +4,8 @@ use Rattle.std.specs.Prelude.{IfSome}
 use Rattle.std.specs.Io.KnownBytes.{Appends, Consumes}
 use Rattle.tl_base.specs.Outside.{View, HostState}
 use Rattle.tl_base.specs.Calls.{Told, Connects}
-use Rattle.tl_base.specs.Numbers.{word}
-use Rattle.tl_base.proofs.Spelled.{words}
+use Rattle.tl_numbers.specs.Numbers.{word}
+use Rattle.tl_numbers.proofs.Spelled.{words}
 use Rattle.tl_base.specs.Packets.{IsPacketLength, packet, ReadsPacket, PacketInto}
 use Rattle.tl_base.specs.Using.{MeetsFaults, SourceState, SinkState, Wrote}
 use Rattle.tl_base.specs.Writing.{AppendsPrefix}

@@ -26,8 +26,8 @@ use Rattle.wire_values.specs.CarriedFrames.{FitsFrame, IsFrame}
 use Rattle.wire_values.specs.Frames.{frame_in, frame_tree}
 use Rattle.box_wire.specs.Kinds.{frames}
 use Rattle.box_wire.proofs.FrameLaws.{frame_laws}
-use Rattle.frame_sizes.proofs.MessagesFit.{frame_in_fits}
-use Rattle.frame_sizes.proofs.SpelledMessages.{meant_fit}
+use Rattle.server_frames.proofs.MessagesFit.{frame_in_fits}
+use Rattle.server_frames.proofs.SpelledMessages.{meant_fit}
 use Rattle.server_frames.specs.Dated.{IsDatedClient, IsDatedFrame}
 use Rattle.server_frames.specs.Fitting.{IsHearable}
 use Rattle.server_frames.specs.Spelled.{FitsChannel, FitsClient, IsNarrow, IsNarrowLane}

@@ -15,7 +15,7 @@ use Rattle.json.specs.Json as json
 use Rattle.json.specs.Json.{Json, Parse, after_end_array, items, items_step, members, members_step, parse_map, read_key, value, value_with}
 use Rattle.serde_json.specs.Data.{Num, Data, null, boolean, number, string, array, object, Items, no_items, item, Members, no_members, member, put}
 use Rattle.serde_json.specs.Read.{max_depth, number_of, of_items, of_json, of_members, read}
-use Rattle.tl_base.specs.Contents.{AreBytes}
+use Rattle.tl_numbers.specs.Bytes.{AreBytes}
 
 -- ---- lists of bytes
 

@@ -51,3 +51,4 @@ pub mod GoingClients
 pub mod CountedSettings
 pub mod BegunClients
 pub mod EachClient
+pub mod OneRun

@@ -1,7 +1,8 @@
 -- What is answered to an input is one.
 use Rattle.std.proofs.Common.{◌≡◌, ℕ, ◌≤◌, List, length, sym, ap, ◌∙◌, subst, codes, arith}
 use Rattle.std.specs.Prelude.{⊤}
-use Rattle.tl_base.specs.Contents.{AreBytes, Files}
+use Rattle.tl_numbers.specs.Bytes.{AreBytes}
+use Rattle.tl_base.specs.Contents.{Files}
 use Rattle.tl_base.specs.Packets.{packet}
 use Rattle.tl_schema.specs.Types.{call}
 use Rattle.tl_types.specs.Values.{ValueView}

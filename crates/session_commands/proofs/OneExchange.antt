@@ -1,6 +1,6 @@
 -- Two exchanges over the same bytes: the one goes on from where the other ends. So there is one that ends, and no other sends more.
 use Rattle.std.proofs.Common.{◌≡◌, ◌⊎◌, inl, inr, ℕ, ◌<◌, ◌≤◌, List, [], ◌∷◌, ◌++◌, length, length-append, append-nil, append_assoc, drop, refl, sym, ap, ap₂, ◌∙◌, subst, arith}
-use Rattle.tl_base.specs.Contents.{AreBytes}
+use Rattle.tl_numbers.specs.Bytes.{AreBytes}
 use Rattle.tl_base.specs.Packets.{IsPacketLength, packet}
 use Rattle.tl_types.proofs.Numbers.{bytes_after}
 use Rattle.update_sessions.specs.declared.fault.TheConstants.{MAX_FRAMES}

@@ -1,10 +1,10 @@
 -- Bytes begin with one packet at most, or with none for one cause.
 use Rattle.std.proofs.Common.{◌≡◌, ℕ, ◌<◌, ◌≤◌, ◌^◌, List, [], ◌∷◌, ◌++◌, append_assoc, length, length-append, get_or, drop, refl, sym, ap, ap₂, ◌∙◌, subst, arith, inl, inr}
-use Rattle.tl_base.specs.Numbers.{word, word_number}
+use Rattle.tl_numbers.specs.Numbers.{word, word_number}
 use Rattle.tl_base.specs.Packets.{IsPacketLength, packet, IsCutShort}
 use Rattle.tl_base.specs.declared.packet.PacketFault.{PacketFault}
 use Rattle.tl_base.specs.declared.packet.PacketFault.TheVariants as fault
-use Rattle.tl_base.proofs.Spelled.{words}
+use Rattle.tl_numbers.proofs.Spelled.{words}
 use Rattle.update_sessions.specs.Heard.{NoFrame}
 use Rattle.update_sessions.specs.Packed.{NoPacket}
 use Rattle.session_commands.specs.Post.{IsWordLong}

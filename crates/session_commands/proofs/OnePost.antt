@@ -1,6 +1,7 @@
 -- What `post` answers is one.
 use Rattle.std.proofs.Common.{◌≡◌, ℕ, List}
-use Rattle.tl_base.specs.Contents.{AreBytes, Files}
+use Rattle.tl_numbers.specs.Bytes.{AreBytes}
+use Rattle.tl_base.specs.Contents.{Files}
 use Rattle.command_base.specs.Answer.{Answer}
 use Rattle.fault_lines.proofs.Profiled.{one_profiled}
 use Rattle.session_commands.specs.Post.{OfInput, PostAnswer}

@@ -1,6 +1,7 @@
 -- What `client` answers is one.
 use Rattle.std.proofs.Common.{◌≡◌, ℕ, ℤ, List, Some, None, sym, ap, ◌∙◌, subst}
-use Rattle.tl_base.specs.Contents.{AreBytes, Files, HoldBytes}
+use Rattle.tl_numbers.specs.Bytes.{AreBytes}
+use Rattle.tl_base.specs.Contents.{Files, HoldBytes}
 use Rattle.box_client.specs.States.{ClientState}
 use Rattle.wire_profile.specs.Places.{ProfileView}
 use Rattle.wire_profile.specs.Profiles.{IsProfile}

@@ -1,7 +1,7 @@
 -- What comes of a call is one.
 use Rattle.std.proofs.Common.{◌≡◌, ℕ, zero, suc, List, [], ◌∷◌, ◌++◌, append-nil, append_assoc, length, Option, Some, sym, ap, ◌∙◌, subst, codes, arith}
-use Rattle.tl_base.specs.Contents.{AreBytes}
-use Rattle.tl_base.specs.Numbers.{word}
+use Rattle.tl_numbers.specs.Bytes.{AreBytes}
+use Rattle.tl_numbers.specs.Numbers.{word}
 use Rattle.tl_base.specs.Packets.{packet}
 use Rattle.tl_types.specs.Values.{ValueView}
 use Rattle.tl_types.specs.declared.value.TheConstants.{MAX_LEVELS}

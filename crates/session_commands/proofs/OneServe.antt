@@ -1,6 +1,7 @@
 -- What `serve` answers is one.
 use Rattle.std.proofs.Common.{◌≡◌, ℕ, List, sym, ap, ◌∙◌}
-use Rattle.tl_base.specs.Contents.{Files, ListsOfBytes}
+use Rattle.tl_numbers.specs.Bytes.{ListsOfBytes}
+use Rattle.tl_base.specs.Contents.{Files}
 use Rattle.box_server.specs.Servers.{ServerState, new_server}
 use Rattle.wire_profile.specs.Places.{ProfileView}
 use Rattle.wire_profile.specs.Profiles.{IsProfile}

@@ -1,6 +1,6 @@
 -- The client of a state file is one, or there is none for one line.
 use Rattle.std.proofs.Common.{◌≡◌, ℕ, ◌<◌, ◌≤◌, List, [], length, Option, Some, None, sym, ap, ◌∙◌, codes, arith}
-use Rattle.tl_base.specs.Contents.{AreBytes}
+use Rattle.tl_numbers.specs.Bytes.{AreBytes}
 use Rattle.box_events.specs.declared.saved.Saved.{Saved}
 use Rattle.box_client.specs.declared.fault.LoadFault.{LoadFault}
 use Rattle.box_client.specs.declared.fault.LoadFault.TheVariants as load

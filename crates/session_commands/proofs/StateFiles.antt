@@ -6,7 +6,7 @@ use Rattle.tl_base.specs.Hosted.{Puts}
 use Rattle.tl_base.specs.Using.{MeetsFaults}
 use Rattle.tl_base.specs.declared.counts.Kind.TheVariants as kinds
 use Rattle.tl_base.specs.declared.host.Out.TheVariants as outs
-use Rattle.command_base.proofs.Faults.{safe, fails_as, then_fails}
+use Rattle.command_base.proofs.Faults.{met_as, met_then}
 use Rattle.command_base.proofs.Views.{told_as, told_then}
 use Rattle.session_commands.specs.inner.StateFiles.{StateBegun, WritesState, WritesBoth, HasStateRoom, HasBothRoom}
 
@@ -25,35 +25,16 @@ module _ (E F : Type 0) (name bytes : List ℕ) where
 
 -- ---- two calls that write
 
--- one after another
-two_written : (x y z : HostState) (F G : Type 0) (P R S : View → Type 0) (Q : View → View → Type 0) → Told x.view y.view Q → MeetsFaults kinds.Writes x y G P → MeetsFaults kinds.Writes y z F R → ((v u : View) → Q v u → S v → R u)
-    → MeetsFaults kinds.Writes x z F S
-two_written x y z F G P R S Q told first second known =
-    let n = then_fails x.view y.view x.sound y.sound z.sound F S R Q told first.stays (safe second) known in
-    record {
-      later = omega (arith, first.later, second.later);
-      cause = λ f. omega (arith, first.later, second.cause f);
-      others = second.others ∙ first.others;
-      stays = n.stays;
-      never = n.never;
-    }
-
--- the first failed
-pub first_written : (x y : HostState) (F G : Type 0) (P S : View → Type 0) → (F → G) → ((v : View) → S v → P v) → MeetsFaults kinds.Writes x y G P → MeetsFaults kinds.Writes x y F S
-first_written x y F G P S to known met =
-    let n = fails_as x.view x.sound y.sound G F P S (safe met) to known in
-    record { later = met.later; cause = λ f. met.cause (to f); others = met.others; stays = met.stays; never = n.never }
-
 state_room : (E : Type 0) (name bytes : List ℕ) (v u : View) → Creates {E = E} outs.State name (Ok tt) v u → HasStateRoom name bytes v → HasRoom outs.State (length bytes) u
 state_room E name bytes v u made room = omega (arith, ap (λ (x : View). length x.written.state) made, ap (λ (x : View). x.room) made, room.bytes_fit)
 
 pub created_faults : (E : Type 0) (name bytes : List ℕ) (x y z : HostState) (F G : Type 0) → Told x.view y.view (Creates {E = E} outs.State name (Ok tt)) → MeetsFaults kinds.Writes x y G (λ v. length name ≤ v.room)
     → MeetsFaults kinds.Writes y z F (HasRoom outs.State (length bytes)) → MeetsFaults kinds.Writes x z F (HasStateRoom name bytes)
 created_faults E name bytes x y z F G told first second =
-    two_written x y z F G (λ v. length name ≤ v.room) (HasRoom outs.State (length bytes)) (HasStateRoom name bytes) (Creates {E = E} outs.State name (Ok tt)) told first second (λ v u made room. state_room E name bytes v u made room)
+    met_then x y z G F (λ v. length name ≤ v.room) (HasRoom outs.State (length bytes)) (HasStateRoom name bytes) (Creates {E = E} outs.State name (Ok tt)) told first second (λ v u made room. state_room E name bytes v u made room)
 
 pub not_created_faults : (name bytes : List ℕ) (x y : HostState) (F G : Type 0) → (F → G) → MeetsFaults kinds.Writes x y G (λ v. length name ≤ v.room) → MeetsFaults kinds.Writes x y F (HasStateRoom name bytes)
-not_created_faults name bytes x y F G to met = first_written x y F G (λ v. length name ≤ v.room) (HasStateRoom name bytes) to (λ v room. room.name_fits) met
+not_created_faults name bytes x y F G to met = met_as met to (λ v room. room.name_fits)
 
 -- ---- State and a line
 
@@ -78,4 +59,4 @@ module _ (E F : Type 0) (name bytes line : List ℕ) where
   pub both_faults : (x y z : HostState) (G H : Type 0) → Told x.view y.view (WritesState {E = E} name bytes (Ok tt)) → MeetsFaults kinds.Writes x y H (HasStateRoom name bytes)
       → MeetsFaults kinds.Writes y z G (HasRoom outs.Output (length line)) → MeetsFaults kinds.Writes x z G (HasBothRoom name bytes line)
   both_faults x y z G H told first second =
-      two_written x y z G H (HasStateRoom name bytes) (HasRoom outs.Output (length line)) (HasBothRoom name bytes line) (WritesState {E = E} name bytes (Ok tt)) told first second (λ v u state room. line_room v u state room)
+      met_then x y z H G (HasStateRoom name bytes) (HasRoom outs.Output (length line)) (HasBothRoom name bytes line) (WritesState {E = E} name bytes (Ok tt)) told first second (λ v u state room. line_room v u state room)

@@ -2,7 +2,8 @@
 -- what the other end of the link does wrong. This project's own.
 use Rattle.std.specs.Prelude.{◌≡◌, ℕ, ◌<◌, ◌≤◌, ◌^◌, ℤ, List, [], ◌∷◌, ◌++◌, length, ltb, cond, codes, Option, Some, None, option_and_then, Ok, Err}
 use Rattle.std.specs.List.{AllByRecursion}
-use Rattle.tl_base.specs.Contents.{AreBytes, Files, HoldBytes}
+use Rattle.tl_numbers.specs.Bytes.{AreBytes}
+use Rattle.tl_base.specs.Contents.{Files, HoldBytes}
 use Rattle.tl_base.specs.Outside.{View, HasFile}
 use Rattle.box_events.specs.declared.limits.TheConstants.{MAX_CHANNELS}
 use Rattle.box_events.specs.declared.saved.Saved.{Saved}

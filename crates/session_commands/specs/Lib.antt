@@ -6,3 +6,4 @@ pub mod Serve
 pub mod Keep
 pub mod Client
 pub mod inner
+pub mod KeptRuns

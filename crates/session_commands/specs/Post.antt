@@ -1,7 +1,8 @@
 -- What `post` answers: the reply to the call that the input's JSON is, or where and why schema, profile or input is refused, or what the other end of the
 -- link does wrong. This project's own.
 use Rattle.std.specs.Prelude.{◌≡◌, ℕ, ◌<◌, ◌≤◌, ◌^◌, List, [], ◌++◌, length, codes, Some}
-use Rattle.tl_base.specs.Contents.{AreBytes, Files, HoldBytes}
+use Rattle.tl_numbers.specs.Bytes.{AreBytes}
+use Rattle.tl_base.specs.Contents.{Files, HoldBytes}
 use Rattle.tl_base.specs.Outside.{View, HasFile}
 use Rattle.tl_base.specs.Packets.{IsPacketLength, packet}
 use Rattle.tl_base.specs.declared.packet.PacketFault.{PacketFault}

@@ -8,6 +8,7 @@ mod connection;
 mod ending;
 mod exchange;
 mod keep;
+mod kept_laws;
 mod laws;
 mod leaving;
 mod post;
@@ -23,6 +24,7 @@ mod telling;
 
 pub use client::recover_client;
 pub use keep::serve_kept;
+pub use kept_laws::runs_of_keep_are_one_of_serve;
 pub use laws::{client_has_one_answer, post_has_one_answer};
 pub use post::post_call;
 pub use serve::serve_sessions;

@@ -1,6 +1,6 @@
 //! The call that an input's value is, as the bytes that are sent.
 ghost use Rattle.std.specs.Prelude.{List, ℕ};
-ghost use Rattle.tl_base.specs.Contents.{AreBytes};
+ghost use Rattle.tl_numbers.specs.Bytes.{AreBytes};
 ghost use Rattle.command_base.specs.Loading.{RefusesAs};
 ghost use Rattle.tl_schema.specs.Types.{call};
 ghost use Rattle.tl_types.specs.Seen.{view};

@@ -2,7 +2,8 @@
 use box_events::{Ids, Post};
 use sqlite::{Alter, Connection, Error, Statement, params};
 use std::alloc::{AllocError, Global};
-use tl_base::{Bytes, bytes_of_i32, i32_of};
+use tl_base::Bytes;
+use tl_numbers::{bytes_of_i32, i32_of};
 
 /// A row of the table of posts, its number aside.
 #[derive(Drop)]

@@ -4,7 +4,7 @@ use Rattle.std.specs.Prelude.{IfSome}
 use Rattle.std.specs.Io.KnownBytes.{Consumes}
 use Rattle.std.proofs.KnownBytes.{Consumes-trans}
 use Rattle.std.proofs.lemmas.List.{nil_from_length, length-append}
-use Rattle.tl_base.specs.Numbers.{word}
+use Rattle.tl_numbers.specs.Numbers.{word}
 use Rattle.tl_base.specs.Taking.{TakesBytes, TakesUpTo}
 use Rattle.tl_base.specs.Packets.{IsPacketLength, ReadsPacket, as_packet_fault}
 use Rattle.tl_base.specs.declared.source.TakeFault.TheVariants as take

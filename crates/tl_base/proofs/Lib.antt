@@ -8,7 +8,6 @@ pub mod Parts
 pub mod Lends
 pub mod Opened
 pub mod Linked
-pub mod Spelled
 pub mod Sending
 pub mod Showing
 pub mod Hosting

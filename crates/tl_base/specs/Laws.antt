@@ -1,7 +1,7 @@
 -- No reading matter: proofs of the laws of what a host lends.
 use Rattle.std.specs.Prelude.{◌≡◌, ℕ, List, [], Option, Some, None, IfSome, option_map, refl}
 use Rattle.std.proofs.Common.{ap, sym, ◌∙◌}
-use Rattle.tl_base.specs.Contents.{AreBytes}
+use Rattle.tl_numbers.specs.Bytes.{AreBytes}
 use Rattle.tl_base.specs.Outside.{View, HostState, ShowsBytes, with_left, with_written}
 use Rattle.tl_base.specs.Using.{Aside}
 use Rattle.tl_base.specs.Lending.{slot_left, out_written, slot_aside, out_aside, room_of, without_link, link_beside}

@@ -9,7 +9,6 @@ pub mod Taking
 pub mod Writing
 pub mod Hosted
 pub mod Limits
-pub mod Numbers
 pub mod Packets
 pub mod Cuts
 pub mod Scripts

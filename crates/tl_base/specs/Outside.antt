@@ -1,7 +1,8 @@
 -- What an outside shows where it tells its contents: files, what is left of each slot, what was written to each out, links and moments to come.
 -- This project's own.
 use Rattle.std.specs.Prelude.{◌≡◌, ℕ, ◌+◌, ◌-◌, ◌≤◌, List, [], ◌∷◌, length, get_or, set, Bool, Option, ◌⊎◌}
-use Rattle.tl_base.specs.Contents.{AreBytes, Files, HoldBytes, ListsOfBytes}
+use Rattle.tl_numbers.specs.Bytes.{AreBytes, ListsOfBytes}
+use Rattle.tl_base.specs.Contents.{Files, HoldBytes}
 use Rattle.tl_base.specs.declared.counts.Counts.{Counts}
 use Rattle.tl_base.specs.declared.host.Slot.{Slot}
 use Rattle.tl_base.specs.declared.host.Slot.TheVariants as slots

@@ -1,7 +1,7 @@
 -- Packets: a length in four bytes, and so many bytes. This project's own.
 use Rattle.std.specs.Prelude.{◌≡◌, ℕ, ◌+◌, ◌%◌, ◌<◌, ◌≤◌, ◌⊎◌, List, [], ◌++◌, length, Bool, true, false, Option, Some, Result, Ok, Err}
 use Rattle.std.specs.Io.KnownBytes.{Consumes}
-use Rattle.tl_base.specs.Numbers.{word}
+use Rattle.tl_numbers.specs.Numbers.{word}
 use Rattle.tl_base.specs.declared.packet.TheConstants.{PACKET_BYTES}
 use Rattle.tl_base.specs.declared.packet.PacketFault.{PacketFault}
 use Rattle.tl_base.specs.declared.packet.PacketFault.TheVariants.{BadLength, Ended, ReadFault, Memory}

@@ -1,7 +1,8 @@
 -- No reading matter: what a host in memory shows are bytes.
 use Rattle.std.specs.Prelude.{ℕ, zero, suc, List, [], ◌∷◌, drop, map, get_or, Option, Some, None}
 use Rattle.std.proofs.Common.{arith}
-use Rattle.tl_base.specs.Contents.{AreBytes, HoldBytes, ListsOfBytes}
+use Rattle.tl_numbers.specs.Bytes.{AreBytes, ListsOfBytes}
+use Rattle.tl_base.specs.Contents.{HoldBytes}
 use Rattle.tl_base.specs.Outside.{ShowsBytes, left_of}
 use Rattle.tl_base.specs.MemoryContents.{file_view, file_bytes, link_bytes, origin_bytes, left_by}
 use Rattle.tl_base.specs.MemoryLaws.{rest_bytes}

@@ -1,7 +1,6 @@
 //! Lists of bytes, sources, sinks, links and packets, and the outside of a program.
 #![tactic(auto)]
 
-mod bytes;
 mod counts;
 mod fault;
 mod files;
@@ -16,14 +15,12 @@ mod mem_script;
 mod mem_shown;
 mod mem_sink;
 mod mem_source;
-mod numbers;
 mod packet;
 mod pieces;
 mod sink;
 mod slices;
 mod source;
 
-pub use bytes::Bytes;
 pub use counts::{Counts, Kind};
 pub use fault::{Failed, Memory};
 pub use files::{read_file, write_out};
@@ -35,11 +32,8 @@ pub use mem_host::MemHost;
 pub use mem_script::HostCall;
 pub use mem_sink::MemSink;
 pub use mem_source::MemSource;
-pub use numbers::{
-    BOXED_VECTOR, PACKED, bytes_of_i32, bytes_of_i64, bytes_of_u32, bytes_of_u64, i32_of, i64_of,
-    numbers_and_bytes, u32_of, u64_of,
-};
 pub use packet::{PACKET_BYTES, PacketFault, read_packet, write_packet};
 pub use sink::{Sink, WriteFault, write_all};
 pub use slices::SliceSource;
 pub use source::{Source, TakeFault, TextFault, take_bytes, take_end, take_text, take_word};
+pub use tl_numbers::{BOXED_VECTOR, Bytes, PACKED};

@@ -1,9 +1,9 @@
 //! What a host in memory reads and links to: files, links, and where each slot stands in them.
 ghost use Rattle.std.specs.Prelude.{◌≡◌};
-ghost use Rattle.tl_base.specs.Contents.{AreBytes};
+ghost use Rattle.tl_numbers.specs.Bytes.{AreBytes};
 
-use crate::bytes::Bytes;
 use crate::host::Slot;
+use tl_numbers::Bytes;
 
 /// A file in memory.
 #[derive(Drop)]

@@ -1,7 +1,6 @@
 //! An outside in memory.
 ghost use Rattle.std.specs.Prelude.{◌≡◌, ◌<◌, ◌≤◌, ◌^◌, ◌∷◌, ◌++◌, [], IfOk, OnOk, OnErr, IsErr, IsSome, IsTrue, Ok, length, get_or};
 
-use crate::bytes::Bytes;
 use crate::counts::{Counts, Kind};
 use crate::fault::{Failed, Memory};
 use crate::host::{Host, Out, Slot};
@@ -9,6 +8,7 @@ use crate::mem_script::{Failing, HostCall, Script};
 use crate::mem_shown::MemShown;
 use crate::pieces::most_at;
 use std::alloc::Global;
+use tl_numbers::Bytes;
 
 /// Files, outs, links, moments and counts in memory. It tells its view.
 #[derive(Drop)]

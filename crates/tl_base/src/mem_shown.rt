@@ -4,13 +4,13 @@ ghost use Rattle.tl_base.specs.MemoryBounds.{AreMoments};
 ghost use Rattle.std.specs.Prelude.{◌≡◌, ◌≤◌, ◌<◌, ◌^◌, ◌+◌, ◌-◌, ◌∷◌, ◌++◌, [], length, min, take, get_or, IfOk, OnOk, OnErr, IfSome, IfNone, IsErr, IsTrue, vec_capacity};
 ghost use Rattle.std.specs.List.{All};
 
-use crate::bytes::Bytes;
 use crate::fault::{Failed, Memory};
 use crate::host::{Out, Slot};
 use crate::mem_contents::{MemFile, MemLink, Origin, Reading, Readings};
 use crate::mem_lists::{bytes_of, clear_at, index_of, put_at};
 use crate::pieces::{give, put};
 use std::alloc::Global;
+use tl_numbers::Bytes;
 
 /// A name that may be given.
 #[derive(Drop)]

@@ -3,13 +3,13 @@ ghost use Rattle.std.specs.Prelude.{◌≡◌, ◌<◌, ◌≤◌, IsErr, Ok, le
 ghost use Rattle.std.specs.Io.{ReadsAtMost};
 ghost use Rattle.std.specs.Io.KnownBytes.{ReadConsumes};
 ghost use Rattle.tl_base.specs.Causes.{count_after};
-ghost use Rattle.tl_base.specs.Contents.{AreBytes};
+ghost use Rattle.tl_numbers.specs.Bytes.{AreBytes};
 ghost use Rattle.tl_base.specs.Using.{Used};
 
-use crate::bytes::Bytes;
 use crate::fault::Failed;
 use crate::pieces::{give, most_at};
 use crate::source::Source;
+use tl_numbers::Bytes;
 
 /// Bytes in memory, given in pieces.
 #[derive(Drop)]

@@ -4,11 +4,10 @@ ghost use Rattle.tl_base.specs.Using.{Used, Wrote};
 ghost use Rattle.tl_base.specs.Writing.{WritesPiece};
 ghost use Rattle.tl_base.specs.Packets.{IsPacketLength, ReadsPacket, PacketInto, packet};
 
-use crate::bytes::Bytes;
-use crate::numbers::{bytes_of_u32, u32_of};
 use crate::sink::{Sink, WriteFault, write_all};
 use crate::source::{Source, TakeFault, TextFault, take_up_to, take_word};
 use thiserror::Error;
+use tl_numbers::{Bytes, bytes_of_u32, u32_of};
 
 /// How many bytes a packet has at most.
 pub const PACKET_BYTES: u32 = 1_048_576;

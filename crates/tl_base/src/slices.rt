@@ -1,6 +1,6 @@
 //! A source of bytes that lie in memory.
 ghost use Rattle.std.specs.Prelude.{◌≡◌, ◌<◌, [], ◌++◌, drop, take, length, min};
-ghost use Rattle.tl_base.specs.Contents.{AreBytes};
+ghost use Rattle.tl_numbers.specs.Bytes.{AreBytes};
 ghost use Rattle.tl_base.specs.Slices.{IsEnd};
 
 use crate::fault::Failed;

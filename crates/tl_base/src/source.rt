@@ -2,14 +2,14 @@
 ghost use Rattle.std.specs.Prelude.{◌≡◌, ◌≤◌, ◌<◌, ◌+◌, ◌^◌, [], IsErrOf, IsErr, IfSome, IfOk, Ok, length};
 ghost use Rattle.std.specs.Io.{ReadsAtMost};
 ghost use Rattle.std.specs.Io.KnownBytes.{ReadConsumes};
-ghost use Rattle.tl_base.specs.Contents.{AreBytes};
+ghost use Rattle.tl_numbers.specs.Bytes.{AreBytes};
 ghost use Rattle.tl_base.specs.Using.{SourceState, Used};
 ghost use Rattle.tl_base.specs.Taking.{TakesBytes, TakesInto, TakesPiece, TakesUpTo, TakesText, TakesEnd, EndsBelow};
 
-use crate::bytes::Bytes;
 use crate::fault::Failed;
 use std::alloc::{AllocError, Global};
 use thiserror::Error;
+use tl_numbers::Bytes;
 
 /// Why no more bytes were taken.
 #[derive(Clone, Copy, Debug, Error)]

@@ -1,6 +1,6 @@
 -- Each list of events has one log.
 use Rattle.std.proofs.Common.{◌≡◌, ◌⊎◌, inl, inr, ℕ, zero, suc, ◌≤◌, List, [], ◌∷◌, ◌++◌, length, append-nil, length-append, slice_get, Option, Some, None, Bool, true, false, true≢false, refl, ap, ap₂, sym, ◌∙◌, subst, arith}
-use Rattle.tl_base.specs.Contents.{AreBytes}
+use Rattle.tl_numbers.specs.Bytes.{AreBytes}
 use Rattle.tl_schema.specs.Schemas.{Declared}
 use Rattle.tl_schema.specs.CheckedPrograms.{IsSchema}
 use Rattle.tl_types.specs.Values.{ValueView, depth}

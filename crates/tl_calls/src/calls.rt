@@ -1,7 +1,7 @@
 //! Calls that are open.
 ghost use Rattle.std.specs.Prelude.{◌≡◌, ◌<◌, ◌^◌, [], length};
 ghost use Rattle.std.specs.Option.{option_copied, option_map};
-ghost use Rattle.tl_base.specs.Contents.{AreBytes};
+ghost use Rattle.tl_numbers.specs.Bytes.{AreBytes};
 ghost use Rattle.tl_schema.specs.Schemas.{Declared};
 ghost use Rattle.tl_types.specs.Seen.{view};
 ghost use Rattle.tl_calls.specs.Calling.{Answers, AreOpenIn, LogsCame, LogsSent, Sends, StandsFor, open_at};

@@ -2,7 +2,7 @@
 -- From "TL language" (core.telegram.org/mtproto/TL) and "Formal description of TL" (core.telegram.org/mtproto/TL-formal), its identifiers.
 use Rattle.std.specs.Prelude.{◌≡◌, ◌≢◌, ℕ, List, [], ◌∷◌, ◌++◌, Bool, Option, Some, None, codes}
 use Rattle.tl_numbers.specs.HexText.{IsHexText, hex_value}
-use Rattle.tl_base.specs.declared.numbers.TheConstants.{BOXED_VECTOR}
+use Rattle.tl_numbers.specs.declared.numbers.TheConstants.{BOXED_VECTOR}
 use Rattle.tl_lexer.specs.Rule.{Rule, gives, fails, one, chain, choice, Next}
 use Rattle.tl_lexer.specs.declared.token.Token.{Token}
 use Rattle.tl_lexer.specs.declared.token.TokenKind.TheVariants.{Word, Hash, Dot}

@@ -14,8 +14,8 @@ use crate::program::Decl;
 use crate::reading::{begins, not_profile_at, take_this, take_token};
 use crate::tree::TypeTree;
 use std::alloc::Global;
-use tl_base::Bytes;
 use tl_lexer::{Token, TokenKind};
+use tl_numbers::Bytes;
 
 /// A type that the language has from the start.
 #[derive(Clone, Copy)]

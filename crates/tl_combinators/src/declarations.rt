@@ -24,8 +24,8 @@ use crate::reading::{
 use crate::tree::TypeTree;
 use crate::types::expression_at;
 use std::alloc::Global;
-use tl_base::Bytes;
 use tl_lexer::{Token, TokenKind};
+use tl_numbers::Bytes;
 
 // `{X:Type}`.
 fn variable_at(

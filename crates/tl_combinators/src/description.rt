@@ -10,8 +10,8 @@ use crate::reading::bytes_at;
 use crate::tree::is_plain;
 use std::alloc::{AllocError, Global};
 use std::marker::Model;
-use tl_base::Bytes;
 use tl_lexer::{Token, TokenKind};
+use tl_numbers::Bytes;
 
 /// What becomes of a token in a description.
 #[derive(Clone, Copy)]

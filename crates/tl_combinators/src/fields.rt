@@ -18,8 +18,8 @@ use crate::reading::{
 use crate::tree::{TypeTree, is_plain};
 use crate::types::term_at;
 use std::alloc::Global;
-use tl_base::Bytes;
 use tl_lexer::{Token, TokenKind};
+use tl_numbers::Bytes;
 
 /// A declaration has at most so many variables and fields together.
 pub const PART_LIMIT: usize = 256;

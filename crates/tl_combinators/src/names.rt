@@ -11,8 +11,8 @@ use crate::reading::{
     unexpected_at,
 };
 use std::alloc::Global;
-use tl_base::Bytes;
 use tl_lexer::{Token, TokenKind};
+use tl_numbers::Bytes;
 
 /// A name, and the byte after it.
 #[derive(Drop)]

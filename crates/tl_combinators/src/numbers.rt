@@ -7,9 +7,8 @@ ghost use Rattle.tl_combinators.specs.Names.{IsHex, hex, IsOtherNumber, vector_h
 
 use crate::fault::{Form, SyntaxFault};
 use crate::reading::{begins_at, bytes_at, not_profile_at, same, take_token, unexpected_at};
-use tl_base::BOXED_VECTOR;
 use tl_lexer::{Token, TokenKind};
-use tl_numbers::read_hex;
+use tl_numbers::{BOXED_VECTOR, read_hex};
 
 // The number that a token is, if it adjoins the `#` before it.
 fn number_of(text: &[u8], token: Token, edge: u32) -> Option<u32>

@@ -3,7 +3,7 @@ ghost use Rattle.std.specs.Prelude.{◌≡◌};
 ghost use Rattle.tl_combinators.specs.Program.{decl_text};
 
 use crate::tree::TypeTree;
-use tl_base::Bytes;
+use tl_numbers::Bytes;
 
 /// The condition `F.N?`: the field stands where bit N of the `#` field F is set.
 #[derive(Drop)]

@@ -2,7 +2,7 @@
 ghost use Rattle.std.specs.Prelude.{◌≡◌};
 ghost use Rattle.tl_combinators.specs.Trees.{is_plain, view};
 
-use tl_base::Bytes;
+use tl_numbers::Bytes;
 
 /// A type, parentheses aside: a name and the types that it is applied to, `%` and a type, or any call (`!` alone).
 #[derive(Drop)]

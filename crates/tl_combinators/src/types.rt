@@ -12,8 +12,8 @@ use crate::reading::{
 };
 use crate::tree::TypeTree;
 use std::alloc::Global;
-use tl_base::Bytes;
 use tl_lexer::{Token, TokenKind};
+use tl_numbers::Bytes;
 
 /// A type has at most so many levels.
 pub const LEVEL_LIMIT: u32 = 16;

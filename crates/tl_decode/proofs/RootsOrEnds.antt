@@ -2,7 +2,7 @@
 use Rattle.std.proofs.Common.{◌≡◌, ℕ, zero, suc, ◌^◌, ◌<◌, ◌≤◌, List, [], ◌∷◌, ◌++◌, length, Option, Some, None, Result, Ok, Err, refl, ap, sym, ◌∙◌, subst, arith, inl, inr}
 use Rattle.std.specs.Prelude.{IfSome, slice_get}
 use Rattle.std.proofs.lemmas.List.{length-append}
-use Rattle.tl_base.specs.Contents.{AreBytes}
+use Rattle.tl_numbers.specs.Bytes.{AreBytes}
 use Rattle.tl_schema.specs.Types.{Shape}
 use Rattle.tl_schema.specs.Types as type
 use Rattle.tl_plan.specs.Plans.{InstanceView, IsPlan, PlanView}

@@ -2,7 +2,7 @@
 use Rattle.std.proofs.Common.{◌≡◌, ℕ, ◌+◌, ◌≤◌, List, [], ◌++◌, length, replicate, Bool, true, false, refl, ap, sym, subst, arith}
 use Rattle.std.specs.Prelude.{nat_le, if◌then◌else◌, ◌∷◌}
 use Rattle.std.proofs.lemmas.List.{length-append, length-replicate}
-use Rattle.tl_base.specs.Numbers.{word}
+use Rattle.tl_numbers.specs.Numbers.{word}
 use Rattle.tl_schema.specs.Types.{Shape, Shapes}
 use Rattle.tl_schema.specs.Schemas.{Declaration, Declared}
 use Rattle.tl_types.specs.Values.{ValueView, ValueViews, count}

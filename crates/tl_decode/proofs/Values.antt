@@ -11,7 +11,7 @@ use Rattle.tl_schema.specs.Types as type
 use Rattle.tl_schema.specs.Seen.{slot, declaration}
 use Rattle.tl_types.proofs.Members.{fields_there}
 use Rattle.tl_types.specs.Seen.{view}
-use Rattle.tl_base.specs.declared.numbers.TheConstants.{BOXED_VECTOR}
+use Rattle.tl_numbers.specs.declared.numbers.TheConstants.{BOXED_VECTOR}
 use Rattle.tl_types.specs.inner.Reading.{Spot, Read, Reader, ◌>>=◌, word_at, plain_at, deep_at, value_at, is_deep, long_list_at, wide_at, list_at, elements_at, each_at, fields_at, boxed_at, by_number_at, numbered_at, record_at, bare_at, fields_in, wrong_number}
 use Rattle.tl_types.specs.declared.cause.Cause.{Cause}
 use Rattle.tl_types.specs.declared.cause.Cause.TheVariants.{TooDeep, BadCount}

@@ -4,3 +4,4 @@ pub mod Endings
 pub mod Sizes
 pub mod Wholes
 pub mod inner
+pub mod Laws

@@ -1,6 +1,7 @@
 //! Laws of the definitions, each carried by a function that does nothing.
 ghost use Rattle.tl_decode.specs.Decoders.{EachRefusalStays};
 ghost use Rattle.tl_decode.specs.Endings.{EachItemTakesFour};
+ghost use Rattle.tl_decode.specs.Laws.{RefusesLooseStrings, RefusesNoValue, TakesNothingAfter};
 ghost use Rattle.tl_decode.specs.Sizes.{EachSizeIsBounded, FlagsHaveConditions, HasFewFields, HasWidths, HoldsOfTexts, HoldsOfTypes};
 
 /// A value that n bytes spell, of at most `MAX_LEVELS` levels, has at most 32,768 E (n / 4 + 1) nodes. E is at least 1, and bounds the nodes of those
@@ -24,4 +25,11 @@ pub fn each_item_takes_four()
 /// A decoder that has refused its bytes refuses all bytes that begin with them.
 pub fn each_refusal_stays()
     ensures { EachRefusalStays }
+{}
+
+/// Decoding refuses no value, takes no byte after one, and takes no string in a form that is longer than it need be.
+pub fn decoding_is_exact()
+    ensures spelled { RefusesNoValue }
+    ensures after { TakesNothingAfter }
+    ensures loose { RefusesLooseStrings }
 {}

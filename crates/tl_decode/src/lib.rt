@@ -25,7 +25,8 @@ mod whole_bytes;
 pub use endings::{decode_or_end, takes_four};
 pub use fault::DecodeFault;
 pub use laws::{
-    each_item_takes_four, each_refusal_stays, each_size_is_bounded, each_text_allows_the_bound,
+    decoding_is_exact, each_item_takes_four, each_refusal_stays, each_size_is_bounded,
+    each_text_allows_the_bound,
 };
 pub use piecewise::Decoder;
 pub use planned::decode;

@@ -1,6 +1,6 @@
 //! A decoder that takes its input in pieces.
 ghost use Rattle.std.specs.Prelude.{◌≡◌, ◌≢◌, ◌≤◌, ◌<◌, ◌++◌, ℕ, List, [], length, Some};
-ghost use Rattle.tl_base.specs.Contents.{AreBytes};
+ghost use Rattle.tl_numbers.specs.Bytes.{AreBytes};
 ghost use Rattle.tl_schema.specs.Types.{Shape};
 ghost use Rattle.tl_plan.specs.Plans.{IsPlan};
 ghost use Rattle.tl_plan.specs.PlanLaws.{IsInstance};

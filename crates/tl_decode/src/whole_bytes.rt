@@ -1,6 +1,6 @@
 //! Values that are the whole of bytes in memory.
 ghost use Rattle.std.specs.Prelude.{◌≢◌, ◌<◌, Err};
-ghost use Rattle.tl_base.specs.Contents.{AreBytes};
+ghost use Rattle.tl_numbers.specs.Bytes.{AreBytes};
 ghost use Rattle.tl_schema.specs.Types.{Shape};
 ghost use Rattle.tl_schema.specs.Formed.{IsFormed};
 ghost use Rattle.tl_schema.specs.Seen.{shape};

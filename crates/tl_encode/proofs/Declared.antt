@@ -1,7 +1,7 @@
 -- The spelling of a record and of a call.
 use Rattle.std.proofs.Common.{◌≡◌, ℕ, List, [], ◌++◌, slice_get, Some, Result, sym, ap, ◌∙◌, subst}
 use Rattle.std.specs.Prelude.{OnOk}
-use Rattle.tl_base.specs.Numbers.{word}
+use Rattle.tl_numbers.specs.Numbers.{word}
 use Rattle.tl_schema.specs.Types.{Shape, Shapes, no_shapes, shapes_of}
 use Rattle.tl_schema.specs.Types as type
 use Rattle.tl_schema.specs.Closing.{list_of_shapes}

@@ -1,6 +1,6 @@
 //! Items of a given number of bytes.
 ghost use Rattle.std.specs.Prelude.{◌≡◌, ◌++◌, OnOk};
-ghost use Rattle.tl_base.specs.Numbers.{double_word, word};
+ghost use Rattle.tl_numbers.specs.Numbers.{double_word, word};
 ghost use Rattle.tl_types.specs.Spelling.{vector_prefix};
 
 use std::alloc::AllocError;

@@ -13,8 +13,8 @@ use crate::names::Names;
 use crate::types::meant_type;
 use crate::writing::is_constructor;
 use std::alloc::{AllocError, Global};
-use tl_base::Bytes;
 use tl_combinators::{Decl, Program};
+use tl_numbers::Bytes;
 
 /// The declarations of a program in order, with each name resolved.
 pub fn resolve(

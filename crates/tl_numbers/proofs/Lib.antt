@@ -5,3 +5,4 @@ pub mod Polynomials
 pub mod Printed
 pub mod Register
 pub mod Remainders
+pub mod Spelled

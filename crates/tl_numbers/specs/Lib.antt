@@ -1,2 +1,4 @@
 pub mod Crc
 pub mod HexText
+pub mod Bytes
+pub mod Numbers

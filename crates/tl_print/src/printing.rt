@@ -6,9 +6,8 @@ ghost use Rattle.tl_combinators.specs.Trees.{view, views, trees_of};
 ghost use Rattle.tl_print.specs.Written.{opening, closing, written_tree, written_args, written_bit, written_condition, written_kind, written_field, written_fields, written_number, written_variable, written_variables, written_line, written_parts, written_declaration, section_after, written_mark, written_program};
 
 use std::alloc::{AllocError, Global};
-use tl_base::Bytes;
 use tl_combinators::{BuiltIn, Cond, Decl, Field, FieldKind, Program, TypeTree};
-use tl_numbers::print_hex;
+use tl_numbers::{Bytes, print_hex};
 
 fn put(out: &mut Vec<u8>, bytes: &[u8]) -> Result<(), AllocError>
     ensures { OnOk result (out.new.items ≡ out.old.items ++ bytes.now) }

@@ -1,6 +1,6 @@
 -- What a schema holds: its program, and for each declaration of this an entry. This project's own.
 use Rattle.std.specs.Prelude.{ℕ, Bool, List, Option}
-use Rattle.tl_base.specs.declared.numbers.TheConstants.{BOXED_VECTOR, PACKED}
+use Rattle.tl_numbers.specs.declared.numbers.TheConstants.{BOXED_VECTOR, PACKED}
 use Rattle.tl_combinators.specs.Program.{DeclText}
 use Rattle.tl_schema.specs.Types.{Shape}
 

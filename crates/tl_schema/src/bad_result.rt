@@ -4,9 +4,9 @@ ghost use Rattle.tl_combinators.specs.Program.{decl_text};
 ghost use Rattle.tl_combinators.specs.Trees.{plain, view, views};
 ghost use Rattle.tl_schema.specs.BadResult.{IsGoodResult};
 
-use tl_base::Bytes;
 use tl_combinators::{Decl, TypeTree};
 use tl_names::{DeclTest, Index, MeantDecl, is_constructor, is_type_name, is_variable};
+use tl_numbers::Bytes;
 
 /// Whether a declaration is an own constructor whose result isn't a type applied to the declaration's variables in order.
 #[derive(Clone, Copy)]

@@ -12,9 +12,9 @@ use crate::same_number::number_of;
 use crate::schema::{Entry, SchemaField, TypeRef};
 use crate::terms::{base_term, type_term};
 use std::alloc::{AllocError, Global};
-use tl_base::BOXED_VECTOR;
 use tl_combinators::{Decl, Field, FieldKind};
 use tl_names::{Index, MeantCond, MeantDecl, MeantField, Scope, is_function};
+use tl_numbers::BOXED_VECTOR;
 
 /// The entry of a declaration, of which the names of fields and of its own type are resolved.
 pub fn entry_of(

@@ -8,9 +8,8 @@ ghost use Rattle.tl_schema.specs.SameNumber.{SameNumber};
 
 use std::alloc::{AllocError, Global};
 use std::collections::BTreeSet;
-use tl_base::{BOXED_VECTOR, PACKED};
 use tl_combinators::{Decl, Program};
-use tl_numbers::crc32;
+use tl_numbers::{BOXED_VECTOR, PACKED, crc32};
 
 /// The first declaration with a number that is taken: an earlier declaration's, that of packed values, or that of `Vector`.
 pub fn first_same_number(alloc: Global, program: &Program) -> Result<Option<u32>, AllocError>

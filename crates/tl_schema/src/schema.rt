@@ -9,9 +9,9 @@ ghost use Rattle.tl_schema.specs.inner.SchemaParts.{IsSound};
 
 use std::collections::BTreeMap;
 use std::marker::Model;
-use tl_base::Bytes;
 use tl_graph::is_marked;
 use tl_names::{Index, Names};
+use tl_numbers::Bytes;
 
 /// A type. From "TL language" (core.telegram.org/mtproto/TL): its boxed and bare types.
 #[derive(Drop)]

@@ -14,10 +14,10 @@ use crate::pass_type::pass_type;
 use crate::terms::type_term;
 use crate::{Schema, TypeFault, TypeRef};
 use std::alloc::Global;
-use tl_base::Bytes;
 use tl_combinators::{Decl, TypeTree, parse_type};
 use tl_lexer::lex;
 use tl_names::{Index, Scope, resolve_type};
+use tl_numbers::Bytes;
 
 /// The type that a text names: a closed type of the schema, or `!` for a call of any of its functions.
 pub fn type_of(alloc: Global, schema: &Schema, text: &[u8]) -> Result<TypeRef, TypeFault>

@@ -1,6 +1,6 @@
 -- What is shown is read back. This project's own.
 use Rattle.std.specs.Prelude.{◌≡◌, ℕ, List, Ok, Some, slice_get}
-use Rattle.tl_base.specs.Contents.{AreBytes}
+use Rattle.tl_numbers.specs.Bytes.{AreBytes}
 use Rattle.tl_schema.specs.Types.{Shape}
 use Rattle.tl_schema.specs.Schemas.{Declaration, Declared}
 use Rattle.tl_lexer.specs.declared.token.Token.{Token}

@@ -13,7 +13,7 @@ use crate::fault::{FormCause, FormFault, refused};
 use hex::FromHexError;
 use serde_json::Map;
 use std::alloc::Global;
-use tl_base::Bytes;
+use tl_numbers::Bytes;
 use tl_schema::TypeRef;
 use tl_types::Value;
 

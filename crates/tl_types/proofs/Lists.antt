@@ -1,8 +1,8 @@
 -- Lists: how they are read, and where they are refused before their elements.
 use Rattle.std.proofs.Common.{◌≡◌, ◌≢◌, ℕ, ◌+◌, ◌≤◌, ◌<◌, ◌^◌, List, [], ◌++◌, length, Ok, Err, refl, ap, ◌∙◌, arith, lt-ltb, le-ltb, Bool, true, false}
 use Rattle.std.proofs.lemmas.Bool.{ne_eqb}
-use Rattle.tl_base.specs.Numbers.{word}
-use Rattle.tl_base.specs.declared.numbers.TheConstants.{BOXED_VECTOR, PACKED}
+use Rattle.tl_numbers.specs.Numbers.{word}
+use Rattle.tl_numbers.specs.declared.numbers.TheConstants.{BOXED_VECTOR, PACKED}
 use Rattle.tl_schema.specs.Types.{Shape}
 use Rattle.tl_schema.specs.Types as type
 use Rattle.tl_schema.specs.Schemas.{Declaration}

@@ -2,7 +2,7 @@
 use Rattle.std.proofs.Common.{◌≡◌, ◌≢◌, ℕ, zero, suc, ◌+◌, ◌<◌, ◌^◌, List, [], ◌∷◌, length, Some, None, refl, ap, sym, ◌∙◌, arith, Bool, true, false, true≢false, ◌&&◌}
 use Rattle.std.specs.Prelude.{slice_get}
 use Rattle.std.proofs.lemmas.Bool.{eqb-true, eq-eqb}
-use Rattle.tl_base.specs.declared.numbers.TheConstants.{PACKED}
+use Rattle.tl_numbers.specs.declared.numbers.TheConstants.{PACKED}
 use Rattle.tl_schema.specs.Schemas.{Declaration, Declared}
 use Rattle.tl_names.specs.Places.{types_of}
 use Rattle.tl_schema.specs.Formed.{IsMember, IsFunction, IsOwn}

@@ -4,8 +4,8 @@ use Rattle.std.specs.Int.{w32, w64, from_le_bytes}
 use Rattle.std.proofs.lemmas.List.{take_at, drop_at, length-append, length-take-le, get_or-take, get_or-append-add, get_or_past}
 use Rattle.std.proofs.lemmas.Nat.{from_le_bytes-to_le_bytes_4, from_le_bytes-to_le_bytes_8, le_bytes_4, le_bytes_8}
 use Rattle.std.proofs.lemmas.Bool.{cases_lt}
-use Rattle.tl_base.specs.Contents.{AreBytes}
-use Rattle.tl_base.specs.Numbers.{word, double_word}
+use Rattle.tl_numbers.specs.Bytes.{AreBytes}
+use Rattle.tl_numbers.specs.Numbers.{word, double_word}
 use Rattle.tl_types.specs.Offsets.{moved}
 use Rattle.tl_types.specs.inner.Reading.{spot, Fault, exact_at, word_at, double_at}
 use Rattle.tl_types.specs.declared.cause.Cause.{Cause}

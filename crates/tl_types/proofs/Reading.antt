@@ -1,6 +1,6 @@
 -- What is read was spelled, and what fails was refused.
 use Rattle.std.proofs.Common.{◌≡◌, inl, inr, ℕ, ◌^◌, ◌≤◌, ◌<◌, List, ◌++◌, length, Ok, Err, refl, sym, ap, ◌∙◌, subst}
-use Rattle.tl_base.specs.Contents.{AreBytes}
+use Rattle.tl_numbers.specs.Bytes.{AreBytes}
 use Rattle.tl_schema.specs.Types.{Shape}
 use Rattle.tl_schema.specs.Schemas.{Declared}
 use Rattle.tl_types.specs.Values.{ValueView, depth}

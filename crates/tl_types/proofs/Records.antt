@@ -1,8 +1,8 @@
 -- A number of a declaration, and what comes after it: how it is read, and where it is refused.
 use Rattle.std.proofs.Common.{◌≡◌, ℕ, ◌<◌, ◌^◌, List, ◌++◌, length, Option, Some, None, Ok, Err, refl, ap, ◌∙◌, arith}
 use Rattle.std.proofs.lemmas.Bool.{ne_eqb}
-use Rattle.tl_base.specs.Numbers.{word}
-use Rattle.tl_base.specs.declared.numbers.TheConstants.{PACKED}
+use Rattle.tl_numbers.specs.Numbers.{word}
+use Rattle.tl_numbers.specs.declared.numbers.TheConstants.{PACKED}
 use Rattle.tl_schema.specs.Schemas.{Slot, Declaration}
 use Rattle.tl_types.specs.declared.cause.Cause.{Cause}
 use Rattle.tl_types.specs.declared.cause.Cause.TheVariants.{Truncated, Packed, UnknownNumber}

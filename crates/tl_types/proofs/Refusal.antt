@@ -1,6 +1,6 @@
 -- What is refused is refused there.
 use Rattle.std.proofs.Common.{◌≡◌, ℕ, zero, suc, ◌^◌, ◌<◌, List, [], ◌∷◌, ◌++◌, length, None, Err, refl, ap, ◌∙◌, arith, true, false, inl, inr}
-use Rattle.tl_base.specs.declared.numbers.TheConstants.{PACKED}
+use Rattle.tl_numbers.specs.declared.numbers.TheConstants.{PACKED}
 use Rattle.tl_schema.specs.Types.{Shape}
 use Rattle.tl_schema.specs.Types as type
 use Rattle.tl_schema.specs.Closing.{closed, list_of_shapes}

@@ -2,8 +2,8 @@
 -- From "Binary data serialization" (core.telegram.org/mtproto/serialize).
 use Rattle.std.specs.Prelude.{◌≡◌, ◌⊎◌, ℕ, ◌<◌, ◌^◌, List, [], ◌∷◌, ◌++◌, length, Some, slice_get, Bool, true, false}
 use Rattle.std.specs.Int.{w32, w64, cast_signed}
-use Rattle.tl_base.specs.Numbers.{word, double_word}
-use Rattle.tl_base.specs.declared.numbers.TheConstants.{BOXED_VECTOR}
+use Rattle.tl_numbers.specs.Numbers.{word, double_word}
+use Rattle.tl_numbers.specs.declared.numbers.TheConstants.{BOXED_VECTOR}
 use Rattle.tl_schema.specs.Types.{Shape, Shapes}
 use Rattle.tl_schema.specs.Types as type
 use Rattle.tl_schema.specs.Closing.{closed, list_of_shapes}

@@ -3,7 +3,7 @@ ghost use Rattle.std.specs.Prelude.{◌≡◌, IfOk};
 ghost use Rattle.tl_types.specs.Seen.{view, views};
 
 use std::alloc::{AllocError, Global};
-use tl_base::Bytes;
+use tl_numbers::Bytes;
 
 /// The most levels of lists, records and calls, one in the other, that a value may have.
 pub const MAX_LEVELS: u32 = 120;

@@ -1,8 +1,7 @@
 -- What `make` makes of the schema, the profile and the run.
-use Rattle.std.proofs.Common.{◌≡◌, ℕ, List, Option, Result, Ok, Err, Vec, Global, codes, ap, sym, subst, inl}
+use Rattle.std.proofs.Common.{◌≡◌, ℕ, List, Option, Result, Ok, Err, Vec, Global, codes, ap, sym, subst}
 use Rattle.std.specs.Prelude.{IsErrAnd}
 use Rattle.tl_base.specs.Outside.{View}
-use Rattle.tl_base.specs.Hosted.{OnlySlot}
 use Rattle.tl_base.specs.Calls.{Told}
 use Rattle.tl_base.specs.declared.host.Slot.TheVariants as slots
 use Rattle.tl_schema.specs.Schemas.{Declared}
@@ -10,15 +9,13 @@ use Rattle.wire_profile.specs.Places.{ProfileView}
 use Rattle.wire_profile.specs.Faults.{IsAnswer}
 use Rattle.command_base.specs.Answer.{done, refused}
 use Rattle.command_base.specs.Jobs.{Job, MakesOutput, making, made, of_fault}
-use Rattle.command_base.specs.Kept.{LeavesInput, OnlyReads}
+use Rattle.command_base.specs.Kept.{OnlyReads}
 use Rattle.command_base.specs.Loading.{Refuses}
 use Rattle.command_base.specs.declared.stop.Unmade.{Unmade}
 use Rattle.command_base.specs.declared.stop.Unmade.TheVariants as unmade
-use Rattle.command_base.proofs.Loaded.{slot_only}
 use Rattle.command_base.proofs.Rests.{only_schema}
 use Rattle.command_base.proofs.Views.{told_as}
-use Rattle.schema_files.specs.Loaded.{IsSchemaText}
-use Rattle.schema_files.specs.Parts.{LoadsSchema, TellsSchema}
+use Rattle.schema_files.specs.Parts.{LoadsSchema}
 use Rattle.schema_files.specs.Answering.{schema_of}
 use Rattle.schema_files.proofs.Answering.{no_schema_made}
 use Rattle.fault_lines.specs.Profiled.{OfProfile, TellsProfile, no_profile, profiled}
@@ -27,11 +24,6 @@ use Rattle.update_commands.specs.Make.{MakeAnswer, OfMadeRun, make_job}
 -- the schema of these commands
 abbrev pub LoadsIt : List ℕ → Result Declared Unmade → View → View → Type 0
 LoadsIt s r v w = LoadsSchema slots.Schema (codes "schema") s r v w
-
--- loading it leaves Input
-pub leaves_input : (s : List ℕ) (r : Result Declared Unmade) (a b : Option View) → Told a b (LoadsIt s r) → Told a b (LeavesInput ⊥)
-leaves_input s r a b h =
-    told_as a b (OnlySlot slots.Schema) (LeavesInput ⊥) (λ v w only. inl (ap (λ (x : View). x.left.input) only)) (slot_only slots.Schema s IsSchemaText (TellsSchema (codes "schema")) r a b h)
 
 -- the exit of a `?`
 stops : (job : Job) (e : Unmade) (r : Result (Vec ℕ Global) Unmade) (v w : View) → MakesOutput job (of_fault e) v w → IsErrAnd r (λ z. z ≡ e) → MakesOutput job (making r) v w

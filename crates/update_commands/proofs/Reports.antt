@@ -1,7 +1,7 @@
 -- A journal's replay, written to Output.
 use Rattle.std.proofs.Common.{◌≡◌, ◌≢◌, ℕ, List, [], ◌++◌, append-nil, length, Option, Some, None, Result, Ok, Err, Vec, Global, option_map, refl, sym, ap, ◌∙◌, subst, arith, inl, inr}
 use Rattle.std.specs.Prelude.{IfSome, IsErrOf, IsErrAnd, IsTrue}
-use Rattle.tl_base.specs.Contents.{AreBytes}
+use Rattle.tl_numbers.specs.Bytes.{AreBytes}
 use Rattle.tl_base.specs.Outside.{View, HostState, HasRoom, written_of, with_written}
 use Rattle.tl_base.specs.Calls.{Told}
 use Rattle.tl_base.specs.Using.{MeetsFaults}

@@ -2,7 +2,7 @@
 ghost use Rattle.std.specs.Prelude.{◌≤◌, IsErrOf};
 ghost use Rattle.tl_base.specs.Calls.{Told};
 ghost use Rattle.tl_base.specs.Causes.{Rose};
-ghost use Rattle.tl_base.specs.Contents.{AreBytes};
+ghost use Rattle.tl_numbers.specs.Bytes.{AreBytes};
 ghost use Rattle.tl_base.specs.Outside.{IsThere};
 ghost use Rattle.tl_base.specs.Using.{MeetsFaults};
 ghost use Rattle.tl_base.specs.declared.counts.Kind.TheVariants as kinds;

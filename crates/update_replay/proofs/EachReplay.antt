@@ -5,7 +5,7 @@ use Rattle.std.specs.Prelude.{IsTrue, slice_get, ⊤}
 use Rattle.std.proofs.lemmas.Bool.{cases_lt}
 use Rattle.std.proofs.lemmas.List.Elements.{All-nil, All-push}
 use Rattle.std.proofs.lemmas.Option.{none-some}
-use Rattle.tl_base.specs.Contents.{AreBytes}
+use Rattle.tl_numbers.specs.Bytes.{AreBytes}
 use Rattle.tl_types.proofs.Numbers.{bytes_after}
 use Rattle.box_events.specs.declared.steps.Step.{Step}
 use Rattle.box_events.specs.declared.replies.Frame.TheVariants as frame
@@ -24,9 +24,9 @@ use Rattle.box_wire.proofs.CallLaws.{call_laws}
 use Rattle.box_wire.proofs.FrameLaws.{frame_laws}
 use Rattle.box_wire.proofs.ReadBack.{are_spelled}
 use Rattle.box_wire.proofs.StepLaws.{step_laws}
-use Rattle.frame_sizes.specs.Laws.{MeantFit}
-use Rattle.frame_sizes.proofs.MessagesFit.{step_in_fits}
-use Rattle.frame_sizes.proofs.SpelledMessages.{meant_fit}
+use Rattle.server_frames.specs.SizeLaws.{MeantFit}
+use Rattle.server_frames.proofs.MessagesFit.{step_in_fits}
+use Rattle.server_frames.proofs.SpelledMessages.{meant_fit}
 use Rattle.server_frames.specs.SpelledWorlds.{FitsPacket, IsStep}
 use Rattle.server_frames.proofs.FittingWorlds.{runs_fit}
 use Rattle.box_server.proofs.Carrying.{changed_overlays}

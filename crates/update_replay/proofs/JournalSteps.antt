@@ -1,7 +1,7 @@
 -- What bytes begin with: one step, or none for one cause.
 use Rattle.std.proofs.Common.{◌≡◌, ◌⊎◌, inl, inr, ℕ, ◌≤◌, List, [], ◌++◌, length, length-append, Option, Some, None, refl, sym, ap, ◌∙◌, arith}
 use Rattle.std.proofs.lemmas.List.{append_cancel_left}
-use Rattle.tl_base.specs.Contents.{AreBytes}
+use Rattle.tl_numbers.specs.Bytes.{AreBytes}
 use Rattle.tl_types.specs.Values.{ValueView}
 use Rattle.tl_types.specs.Exactly.{BeginsWith, ExactlyOne}
 use Rattle.tl_types.specs.Offsets.{moved}

@@ -1,7 +1,7 @@
 -- The ends of a replay, where a source tells its bytes.
 use Rattle.std.proofs.Common.{◌≡◌, ℕ, List, length, Bool, true, Option, Some, None, Result, Ok, Err, sym, subst}
 use Rattle.std.specs.Prelude.{IfSome, IsErrAnd, IsErrOf}
-use Rattle.tl_base.specs.Contents.{AreBytes}
+use Rattle.tl_numbers.specs.Bytes.{AreBytes}
 use Rattle.tl_base.specs.Taking.{TakesEnd}
 use Rattle.tl_base.specs.Using.{SinkState, Wrote, WritesOnly}
 use Rattle.tl_base.specs.Writing.{AppendsPrefix}

@@ -2,7 +2,7 @@
 use Rattle.std.proofs.Common.{◌≡◌, ℕ, ◌+◌, ◌≤◌, List, ◌++◌, length, length-append, Bool, Option, Some, None, Result, Ok, Err, true, refl, sym, ap, subst, arith}
 use Rattle.std.specs.Prelude.{IsTrue, IsSome, IfSome, IsErrOf, IsErrAnd}
 use Rattle.std.specs.Io.KnownBytes.{Appends}
-use Rattle.tl_base.specs.Contents.{AreBytes}
+use Rattle.tl_numbers.specs.Bytes.{AreBytes}
 use Rattle.tl_base.specs.Taking.{TakesEnd}
 use Rattle.tl_base.specs.Using.{SinkState, Wrote, WritesOnly}
 use Rattle.box_events.specs.declared.steps.Step.{Step}

@@ -2,7 +2,7 @@
 use Rattle.std.proofs.Common.{◌≡◌, ℕ, ◌+◌, ◌-◌, ◌≤◌, List, [], ◌++◌, length, drop, get_or, take, Bool, Option, Some, None, Result, Ok, Err, refl, sym, ap, ◌∙◌, subst, arith}
 use Rattle.std.specs.Prelude.{IfSome, IsErrAnd, IsErrOf, option_map}
 use Rattle.tl_base.specs.Limits.{after_limit, limited_state}
-use Rattle.tl_base.specs.Contents.{AreBytes}
+use Rattle.tl_numbers.specs.Bytes.{AreBytes}
 use Rattle.tl_base.specs.Using.{Aside, SinkState, SourceState, Used, WritesOnly}
 use Rattle.tl_base.proofs.Limiting.{limited_back}
 use Rattle.tl_base.proofs.Uses.{used_then, used_as}

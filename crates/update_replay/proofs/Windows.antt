@@ -2,7 +2,7 @@
 use Rattle.std.proofs.Common.{◌≡◌, ℕ, ◌+◌, ◌-◌, ◌≤◌, List, [], ◌∷◌, ◌++◌, length, length-drop, get_or, take, drop, take-append-drop, true, false, Option, Some, None, refl, sym, ap, ap₂, ◌∙◌, subst, arith, lt-ltb, le-ltb}
 use Rattle.std.specs.Prelude.{IsSome, option_map}
 use Rattle.std.specs.Io.KnownBytes.{Consumes}
-use Rattle.tl_base.specs.Contents.{AreBytes}
+use Rattle.tl_numbers.specs.Bytes.{AreBytes}
 use Rattle.tl_base.specs.LimitLaws.{prefix_bytes}
 use Rattle.tl_base.specs.Limits.{after_limit, limited_state}
 use Rattle.tl_base.specs.Using.{Aside, SourceState}

@@ -4,7 +4,7 @@ use Rattle.box_events.specs.declared.steps.Step.{Step}
 use Rattle.box_world.specs.NumberWorlds.{n_run}
 use Rattle.box_world.specs.Possible.{StepCause, pool_full, refusal}
 use Rattle.box_world.specs.Worlds.{World, happens, start}
-use Rattle.frame_sizes.specs.Sizes.{step_size}
+use Rattle.server_frames.specs.Sizes.{step_size}
 use Rattle.world_reports.specs.Made.{made_steps}
 use Rattle.world_reports.specs.Summaries.{summary}
 use Rattle.update_world.specs.Spelled.{packet_size}

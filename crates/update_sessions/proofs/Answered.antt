@@ -29,7 +29,7 @@ use Rattle.box_store.specs.Rebuilding.{kept_of}
 use Rattle.box_store.specs.Storing.{Takes}
 use Rattle.box_store.proofs.Rebuilt.{refused_adds_nothing}
 use Rattle.wire_profile.specs.Places.{ProfileView}
-use Rattle.frame_sizes.specs.Sizes.{frame_size}
+use Rattle.server_frames.specs.Sizes.{frame_size}
 use Rattle.server_frames.proofs.AnswersBelow.{answers_below}
 use Rattle.server_frames.proofs.PushesBelow.{pushes_below, receipts_below, refusals_below}
 use Rattle.update_sessions.specs.Kept.{kept_for}

@@ -21,9 +21,9 @@ use Rattle.box_wire.specs.Kinds.{calls, frames}
 use Rattle.box_wire.specs.declared.fault.SpellFault.TheVariants.{TooLong}
 use Rattle.box_wire.proofs.CallLaws.{call_laws}
 use Rattle.box_wire.proofs.FrameLaws.{frame_laws}
-use Rattle.frame_sizes.specs.Sizes.{call_size, frame_size}
-use Rattle.frame_sizes.proofs.MessageForms.{call_has, call_served, frame_has}
-use Rattle.frame_sizes.proofs.SpelledMessages.{of_their_size}
+use Rattle.server_frames.specs.Sizes.{call_size, frame_size}
+use Rattle.server_frames.proofs.MessageForms.{call_has, call_served, frame_has}
+use Rattle.server_frames.proofs.SpelledMessages.{of_their_size}
 use Rattle.server_frames.proofs.PushesBelow.{asks_below}
 use Rattle.update_sessions.specs.Packed.{Packed, SpellsCall, SpellsFrame}
 use Rattle.update_sessions.specs.inner.Steps.{Puts}

@@ -3,14 +3,15 @@ ghost use Rattle.std.specs.Prelude.{◌≡◌, ◌≤◌, ◌++◌, OnOk, length
 ghost use Rattle.std.specs.List.{All};
 ghost use Rattle.tl_base.specs.Packets.{packet};
 ghost use Rattle.box_events.specs.declared.limits.TheConstants.{MAX_ASKS};
-ghost use Rattle.frame_sizes.specs.Sizes.{call_size, frame_size};
+ghost use Rattle.server_frames.specs.Sizes.{call_size, frame_size};
 ghost use Rattle.update_sessions.specs.Packed.{Packed, SpellsCall, SpellsFrame};
 ghost use Rattle.update_sessions.specs.inner.Steps.{Puts};
 
 use box_events::{Asks, Frame, MAX_FRAME_BYTES, Numbered};
 use box_wire::{SpellFault, spell_call, spell_frame};
 use std::alloc::{AllocError, Global};
-use tl_base::{Bytes, Memory, bytes_of_u32};
+use tl_base::{Bytes, Memory};
+use tl_numbers::bytes_of_u32;
 use wire_profile::Profile;
 
 // Appends a packet of these bytes.

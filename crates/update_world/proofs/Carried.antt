@@ -20,7 +20,7 @@ use Rattle.box_wire.specs.Framing.{Framed, Means, WireRefused}
 use Rattle.box_wire.specs.Kinds.{calls, frames}
 use Rattle.box_wire.specs.declared.fault.SpellFault.{SpellFault}
 use Rattle.box_wire.specs.declared.fault.SpellFault.TheVariants.{TooLong, Memory as SpellMemory}
-use Rattle.frame_sizes.specs.Sizes.{call_size, frame_size}
+use Rattle.server_frames.specs.Sizes.{call_size, frame_size}
 use Rattle.server_frames.specs.Fitting.{CallFits, FrameFits, IsHearable}
 use Rattle.server_frames.proofs.ReadFrames.{frames_taken}
 use Rattle.update_world.specs.declared.sent.Sent.{Sent}

@@ -22,7 +22,7 @@ use Rattle.wire_profile.specs.Places.{ProfileView}
 use Rattle.wire_profile.specs.Profiles.{IsProfile}
 use Rattle.box_world.specs.Worlds.{Packet, push, World, sent, post_by, happens}
 use Rattle.server_frames.specs.Fitting.{FrameFits}
-use Rattle.frame_sizes.specs.Sizes.{frame_size}
+use Rattle.server_frames.specs.Sizes.{frame_size}
 use Rattle.server_frames.proofs.PushesBelow.{pushes_below}
 use Rattle.server_frames.proofs.PushesFit.{pushes_fit}
 use Rattle.update_world.specs.declared.fault.StepFault.{StepFault}

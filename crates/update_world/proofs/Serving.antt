@@ -29,7 +29,7 @@ use Rattle.tl_types.specs.Values.{ValueViews, values_of}
 use Rattle.wire_values.specs.Calls.{request_tree}
 use Rattle.box_world.specs.Worlds.{Packet, push, request, reply, World, served, happens, channel_too_long, run}
 use Rattle.box_world.specs.Possible.{is_served, wrong, no_packet, wrong_end, past}
-use Rattle.frame_sizes.specs.Sizes.{frame_size}
+use Rattle.server_frames.specs.Sizes.{frame_size}
 use Rattle.server_frames.specs.Fitting.{CallFits, FrameFits, IsNumber}
 use Rattle.server_frames.proofs.AnswersFit.{answers_fit}
 use Rattle.server_frames.proofs.AnswersBelow.{answers_below}

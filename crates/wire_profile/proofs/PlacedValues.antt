@@ -1,7 +1,7 @@
 -- Each value of the forms is spelled in a profile's schema, once its numbers are the schema's.
 use Rattle.std.proofs.Common.{◌≡◌, ℕ, ◌<◌, ◌^◌, List, [], ◌∷◌, ◌++◌, map, get_or, Option, Some, None, Bool, true, false, refl, sym, ap, ◌∙◌, subst, inl, inr, true≢false}
 use Rattle.std.specs.Prelude.{◌⊎◌}
-use Rattle.tl_base.specs.Numbers.{word, double_word}
+use Rattle.tl_numbers.specs.Numbers.{word, double_word}
 use Rattle.tl_schema.specs.Types.{Shape, Shapes, no_shapes}
 use Rattle.tl_schema.specs.Types as type
 use Rattle.tl_schema.specs.Closing.{closed}

@@ -1,7 +1,7 @@
 -- What the parts of `post` do. This project's own.
 use Rattle.std.specs.Prelude.{◌≡◌, ◌⊎◌, ℕ, ◌<◌, ◌≤◌, List, ◌++◌, length, codes, Some, Result, Ok, Err, Vec}
 use Rattle.std.specs.declared.alloc.Global.{Global}
-use Rattle.tl_base.specs.Contents.{AreBytes}
+use Rattle.tl_numbers.specs.Bytes.{AreBytes}
 use Rattle.tl_base.specs.Outside.{View, IsThere}
 use Rattle.tl_base.specs.Packets.{IsPacketLength, packet}
 use Rattle.tl_base.specs.declared.packet.PacketFault.{PacketFault}

@@ -1,7 +1,7 @@
 -- The spelling of a value as a function; of what doesn't fit its type it means nothing. This project's own.
 use Rattle.std.specs.Prelude.{ℕ, List, [], ◌∷◌, ◌++◌, Option, Some, None, slice_get}
 use Rattle.std.specs.Int.{w32, w64, cast_unsigned}
-use Rattle.tl_base.specs.Numbers.{word, double_word}
+use Rattle.tl_numbers.specs.Numbers.{word, double_word}
 use Rattle.tl_schema.specs.Types.{Shape}
 use Rattle.tl_schema.specs.Types as type
 use Rattle.tl_schema.specs.Closing.{closed}

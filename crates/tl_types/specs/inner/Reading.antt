@@ -1,7 +1,7 @@
 -- Reading from left to right, with the first fault that is met. This project's own.
 use Rattle.std.specs.Prelude.{ℕ, zero, suc, ◌+◌, ◌-◌, ◌*◌, ◌^◌, List, [], ◌∷◌, ◌++◌, length, take, drop, get_or, Option, Some, None, Result, Ok, Err, ◌&&◌, Bool, true, false, nat_lt, nat_le, ◌==◌, if◌then◌else◌}
 use Rattle.std.specs.Int.{w32, w64, from_le_bytes, cast_signed}
-use Rattle.tl_base.specs.declared.numbers.TheConstants.{BOXED_VECTOR, PACKED}
+use Rattle.tl_numbers.specs.declared.numbers.TheConstants.{BOXED_VECTOR, PACKED}
 use Rattle.tl_schema.specs.Types.{Shape, int, long, nat, opaque, str, raw, flag, call, vector, boxed, bare}
 use Rattle.tl_schema.specs.Closing.{closed, list_of_shapes}
 use Rattle.tl_schema.specs.Schemas.{Slot, Declaration}

@@ -1,4 +1,4 @@
-use Rattle.difference.proofs.Once.{is_one_list, each_fits, each_that_fits_is_woven, has_others, is_not_refused}
+use Rattle.difference.proofs.Once.{is_one_list, each_fits, each_that_fits_is_woven, has_others, is_not_refused, others_keep_their_numbers}
 use Rattle.difference.proofs.Joined.{joins, each_has_parts}
 use Rattle.difference.proofs.Made.{is_made, is_woven_of_others, reaches, is_why, keeps_counts}
 use Rattle.difference.proofs.laws.woven_lists.Goals as goal
@@ -38,3 +38,6 @@ returns-clause-why c = is_why
 
 pub returns-clause-counted : goal.returns-clause-counted
 returns-clause-counted c = keeps_counts
+
+pub returns-clause-numbered : goal.returns-clause-numbered
+returns-clause-numbered c = others_keep_their_numbers

@@ -1,5 +1,5 @@
 use Rattle.std.proofs.Common.{◌^◌, ◌++◌, ◌∙◌, sym, ap, arith, ltb-true, ℕ, List}
-use Rattle.tl_base.specs.Numbers.{word}
+use Rattle.tl_numbers.specs.Numbers.{word}
 use Rattle.tl_types.specs.Fitting.{is_in_range}
 use Rattle.tl_types.specs.Seen.{view, views}
 use Rattle.tl_types.specs.Values.{count}

@@ -1,10 +1,11 @@
-use Rattle.std.proofs.Common.{Ok, Err}
+use Rattle.std.proofs.Common.{Ok, Err, codes}
 use Rattle.command_base.proofs.Faults.{read_on}
 use Rattle.command_base.proofs.Loaded.{refusal_unread}
 use Rattle.command_base.specs.Answer.{refused}
+use Rattle.schema_files.proofs.Answering.{leaves_input}
 use Rattle.fault_lines.specs.Profiled.{TellsProfile}
 use Rattle.update_commands.specs.Make.{OfMadeRun}
-use Rattle.update_commands.proofs.MadeLines.{leaves_input, no_profile_line, no_run_line, no_schema_line, run_line}
+use Rattle.update_commands.proofs.MadeLines.{no_profile_line, no_run_line, no_schema_line, run_line}
 use Rattle.update_commands.proofs.make.made_summary.Goals as goal
 
 pub returns-in_err-schema-clause-makes : goal.returns-in_err-schema-clause-makes
@@ -23,16 +24,16 @@ returns-clause-makes g c =
     run_line c.args.schema.now c.args.number c.args.steps c.in_ok-schema.schema _ _ c.in_ok-schema.ensures.loads c.in_ok-profile.profile c.in_ok-profile.ensures c.in_ok-text.text.items c.in_ok-text.ensures
 
 pub returns-in_err-schema-clause-unread : goal.returns-in_err-schema-clause-unread
-returns-in_err-schema-clause-unread g c = leaves_input c.args.schema.now (Err c.in_err-schema.field-0.0) _ _ c.in_err-schema.ensures.loads
+returns-in_err-schema-clause-unread g c = leaves_input (codes "schema") c.args.schema.now (λ v. ⊥) (Err c.in_err-schema.field-0.0) _ _ c.in_err-schema.ensures.loads
 
 pub returns-in_err-profile-clause-unread : goal.returns-in_err-profile-clause-unread
-returns-in_err-profile-clause-unread g c = leaves_input c.args.schema.now (Ok c.in_ok-schema.schema) _ _ c.in_ok-schema.ensures.loads
+returns-in_err-profile-clause-unread g c = leaves_input (codes "schema") c.args.schema.now (λ v. ⊥) (Ok c.in_ok-schema.schema) _ _ c.in_ok-schema.ensures.loads
 
 pub returns-in_err-text-clause-unread : goal.returns-in_err-text-clause-unread
-returns-in_err-text-clause-unread g c = leaves_input c.args.schema.now (Ok c.in_ok-schema.schema) _ _ c.in_ok-schema.ensures.loads
+returns-in_err-text-clause-unread g c = leaves_input (codes "schema") c.args.schema.now (λ v. ⊥) (Ok c.in_ok-schema.schema) _ _ c.in_ok-schema.ensures.loads
 
 pub returns-clause-unread : goal.returns-clause-unread
-returns-clause-unread g c = leaves_input c.args.schema.now (Ok c.in_ok-schema.schema) _ _ c.in_ok-schema.ensures.loads
+returns-clause-unread g c = leaves_input (codes "schema") c.args.schema.now (λ v. ⊥) (Ok c.in_ok-schema.schema) _ _ c.in_ok-schema.ensures.loads
 
 pub returns-in_err-profile-clause-faults : goal.returns-in_err-profile-clause-faults
 returns-in_err-profile-clause-faults g c =

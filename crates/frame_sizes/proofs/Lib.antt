@@ -1,8 +1,0 @@
-pub mod Fields
-pub mod MessageForms
-pub mod Lengths
-pub mod Multiples
-pub mod PartsFit
-pub mod MessagesFit
-pub mod SpelledMessages
-pub mod Least
