@@ -2,7 +2,7 @@
 """Counts the instructions of calls of which no command makes many: searches in a box, items held in a gap, posts and differences of a server, plans
 of all calls of a schema, bytes that are fed to a decoder in small and large pieces, and messages as bytes.
 
-Each figure is the difference of two runs of crates/rows under callgrind, with the calls and without them, by the number of calls.
+Each figure is the difference of two runs of the program of the folder calls under callgrind, with the calls and without them, by the number of calls.
 """
 import os
 import sys
@@ -14,12 +14,12 @@ EVENTS, CALLS, ITEMS, DECLARATIONS, PUSHES = 1_000_000, 1_000, 1_024, 1_500, 100
 
 def each(program, words, more, fewer, count):
     """The instructions of one call."""
-    counted = [runs.instructions([program, "repeat", *words, str(number)]) for number in (more, fewer)]
+    counted = [runs.instructions([program, *words, str(number)]) for number in (more, fewer)]
     return "-" if None in counted else "%.0f" % ((counted[0] - counted[1]) / count)
 
 
 def main():
-    program = os.path.join(sys.argv[1], "..", "rows", "out", "rows")
+    program = os.path.join(sys.argv[1], "out", "calls")
     print(f"{'call':<44} {'instructions':>12}")
     for name, words, count in (
         ("at_boundary, of 1,000,000 events", ["boundary", str(EVENTS)], CALLS),
@@ -30,7 +30,7 @@ def main():
         print(f"{name:<44} {each(program, [word], ITEMS, 0, ITEMS):>12}")
     for posts in (10_000, 100_000):
         name = f"post of one message, of {posts:,}"
-        made = [runs.instructions([program, "repeat", "last", str(number), "0"]) for number in (posts, 0)]
+        made = [runs.instructions([program, "last", str(number), "0"]) for number in (posts, 0)]
         print(f"{name:<44} {'-' if None in made else '%.0f' % ((made[0] - made[1]) / posts):>12}")
         name = f"difference, the last 100 of {posts:,}"
         print(f"{name:<44} {each(program, ['last', str(posts)], CALLS, 0, CALLS):>12}")

@@ -6,7 +6,7 @@ It ends with status 1 where a call that changes something is not told there, or 
 or a clause that there is none of; and, with `check`, where docs/REFUSALS.md is another text than it would write.
 
 It reads what is public by `pub use` in each crate's src/lib.rt: functions, methods of types, and methods of traits. Programs, the host of the program
-(`real_host`), the examples of `callers`, and the libraries of tests (`case_files`, and those that end in `rows`), have no public calls.
+(`real_host`), the examples of `callers`, and the library of tests (`case_files`) have no public calls.
 """
 import fnmatch
 import glob
@@ -164,7 +164,7 @@ class Sources:
                 crate, _, below = line.partition(":")
                 crate, folder = crate.split()[0], os.path.join(TOP, "crates", crate.split()[0])
                 self.below[crate] = below.split()
-                if os.path.exists(f"{folder}/src/lib.rt") and crate not in ("real_host", "callers", "case_files") and not crate.endswith("rows"):
+                if os.path.exists(f"{folder}/src/lib.rt") and crate not in ("real_host", "callers", "case_files"):
                     folders.append((crate, folder))
         self.enums = faults_in(folders)
         self.calls = [call for crate, folder in folders for call in calls_of(crate, folder) if call.fault]
