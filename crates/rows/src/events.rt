@@ -73,6 +73,9 @@ pub fn split_call(row: &mut Row) {
     let Ok(events) = events_of(row) else {
         return row.short();
     };
+    if from > 500_000 {
+        return row.unknown();
+    }
     match split(row.alloc(), events.as_slice(), from) {
         Ok((news, others)) => {
             row.show(&news.as_slice());
