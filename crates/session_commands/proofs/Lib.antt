@@ -31,7 +31,6 @@ pub mod KeepParts
 pub mod ServeKept
 pub mod OneServe
 pub mod EachServe
-pub mod StateFiles
 pub mod ServerCalls
 pub mod Recovered
 pub mod OneSession
@@ -42,9 +41,7 @@ pub mod StateParts
 pub mod ClientParts
 pub mod OneRecovery
 pub mod ClientKept
-pub mod Endings
 pub mod StateBytes
-pub mod WatchedChannels
 pub mod ShownFaults
 pub mod LowClients
 pub mod GoingClients

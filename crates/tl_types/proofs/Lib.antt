@@ -15,7 +15,6 @@ pub mod Spelling
 pub mod FormedParts
 pub mod Refusal
 pub mod Deciding
-pub mod Reading
 pub mod SchemaNumbers
 pub mod SchemaTells
 pub mod Exactly
