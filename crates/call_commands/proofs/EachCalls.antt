@@ -1,12 +1,13 @@
 -- Files of bytes have an answer to `calls`.
 use Rattle.std.proofs.Common.{ℕ, List, codes}
+use Rattle.tl_base.specs.Outside.{IsFile}
 use Rattle.tl_base.specs.Contents.{Files, HoldBytes}
 use Rattle.tl_schema.specs.CheckedPrograms.{IsSchema}
 use Rattle.tl_schema.specs.Schemas.{Declared}
 use Rattle.command_base.specs.Answer.{Answer}
 use Rattle.command_base.proofs.SameFiles.{file_bytes}
 use Rattle.schema_files.proofs.Answering.{each_of_file}
-use Rattle.call_commands.specs.Calls.{CallsAnswer, EachFileHasOneAnswer, EachHasOneAnswer, IsFile, OfInputFile}
+use Rattle.call_commands.specs.Calls.{CallsAnswer, EachFileHasOneAnswer, EachHasOneAnswer, OfInputFile}
 use Rattle.call_commands.proofs.EachFile.{each_file}
 use Rattle.call_commands.proofs.OneCalls.{one_calls}
 use Rattle.call_commands.proofs.OneFile.{one_file}

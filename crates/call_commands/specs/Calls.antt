@@ -3,7 +3,7 @@
 use Rattle.std.specs.Prelude.{◌≡◌, ℕ, List, [], codes}
 use Rattle.tl_numbers.specs.Bytes.{AreBytes}
 use Rattle.tl_base.specs.Contents.{Files, HoldBytes}
-use Rattle.tl_base.specs.Outside.{HasFile}
+use Rattle.tl_base.specs.Outside.{HasFile, IsFile}
 use Rattle.tl_schema.specs.CheckedPrograms.{IsSchema}
 use Rattle.tl_schema.specs.Schemas.{Declared}
 use Rattle.command_base.specs.Answer.{Answer, done, refused_after}
@@ -51,10 +51,6 @@ pub record FileHasOneAnswer (schema : Declared) (file : List ℕ) : Type 0 where
 -- files of bytes have one answer, in each schema
 abbrev pub EachFileHasOneAnswer : Type 0
 EachFileHasOneAnswer = (schema : Declared) → IsSchema schema → (file : List ℕ) → AreBytes file → FileHasOneAnswer schema file
-
--- some file has this name
-abbrev pub IsFile : Files → List ℕ → Type 0
-IsFile files name = (bytes : List ℕ) × HasFile files name bytes
 
 -- files of bytes have one answer to `calls` at most, and one where both are there
 pub record HasOneAnswer (files : Files) (schema input : List ℕ) : Type 0 where

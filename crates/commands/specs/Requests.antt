@@ -2,7 +2,7 @@
 use Rattle.std.specs.Prelude.{◌≡◌, ◌≢◌, ◌<◌, ◌≤◌, ◌^◌, ℕ, ℤ, pos, negsuc, List, [], ◌∷◌, Option, Some, None, codes, length}
 use Rattle.std.specs.List.{AllByRecursion}
 use Rattle.tl_base.specs.Contents.{Files, HoldBytes}
-use Rattle.tl_base.specs.Outside.{View, HasFile, ShowsBytes}
+use Rattle.tl_base.specs.Outside.{View, ShowsBytes, IsFile}
 use Rattle.call_commands.specs.Calls.{calls_job}
 use Rattle.command_base.specs.Jobs.{Job}
 use Rattle.codec_commands.specs.Check.{check_job}
@@ -93,10 +93,6 @@ AsksNothing words = (r : RequestText) → AsksFor words r → ⊥
 -- the words are those of a request
 abbrev pub AskForOne : List (List ℕ) → Type 0
 AskForOne words = (r : RequestText) × AsksFor words r
-
--- some file has this name
-abbrev pub IsFile : Files → List ℕ → Type 0
-IsFile files name = (bytes : List ℕ) × HasFile files name bytes
 
 -- the files that the request names are there
 abbrev pub HasFilesOf : Files → RequestText → Type 0

@@ -1,5 +1,6 @@
 -- Files have an answer to `layers`.
 use Rattle.std.proofs.Common.{ℕ, List, codes, refl, inl, inr}
+use Rattle.tl_base.specs.Outside.{IsFile}
 use Rattle.tl_base.specs.Contents.{Files}
 use Rattle.tl_schema.specs.CheckedPrograms.{IsSchema}
 use Rattle.tl_schema.specs.Formed.{IsFormed}
@@ -11,7 +12,7 @@ use Rattle.schema_files.proofs.Answering.{each_of_file}
 use Rattle.schema_files.proofs.OneTypeName.{type_or_refused}
 use Rattle.tl_layers.proofs.EachBreaks.{each_is_unbroken_or_breaks}
 use Rattle.layer_commands.proofs.OneLayers.{one_layers}
-use Rattle.layer_commands.specs.Layers.{OfLayers, broken, whole, OfType, no_type, typed, LayersAnswer, IsFile, EachHasOneAnswer}
+use Rattle.layer_commands.specs.Layers.{OfLayers, broken, whole, OfType, no_type, typed, LayersAnswer, EachHasOneAnswer}
 
 each_told : (old : Declared) → IsSchema old → (T : Shape) → IsFormed old T → (new : Declared) → IsSchema new → (a : Answer) × OfLayers old new T a
 each_told old good T formed new sound =

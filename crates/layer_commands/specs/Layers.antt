@@ -2,7 +2,7 @@
 use Rattle.std.specs.Prelude.{◌≡◌, ℕ, List, ◌++◌, codes, decimal, Result, Ok, Err, Vec}
 use Rattle.std.specs.declared.alloc.Global.{Global}
 use Rattle.tl_base.specs.Contents.{Files}
-use Rattle.tl_base.specs.Outside.{HasFile}
+use Rattle.tl_base.specs.Outside.{HasFile, IsFile}
 use Rattle.tl_schema.specs.Types.{Shape}
 use Rattle.tl_schema.specs.Schemas.{Declared}
 use Rattle.tl_schema.specs.AskedTypes.{IsTypeText}
@@ -60,10 +60,6 @@ pub data OfType (old : Declared) (type new : List ℕ) (files : Files) (a : Answ
 -- layers' answer: the old schema's text is refused, or the type of its schema tells
 abbrev pub LayersAnswer : Files → List ℕ → List ℕ → List ℕ → Answer → Type 0
 LayersAnswer files old new type a = OfSchemaFile (codes "schema") (λ S. OfType S type new files) files old a
-
--- some file has this name
-abbrev pub IsFile : Files → List ℕ → Type 0
-IsFile files name = (bytes : List ℕ) × HasFile files name bytes
 
 -- files have one answer at most, and one where both are there
 pub record HasOneAnswer (files : Files) (old new type : List ℕ) : Type 0 where

@@ -4,6 +4,7 @@ use Rattle.std.specs.List.{All, AllByRecursion}
 use Rattle.std.proofs.lemmas.Bool.{cases_lt}
 use Rattle.std.proofs.lemmas.List.Elements.{All-head, All-tail}
 use Rattle.tl_numbers.specs.Bytes.{AreBytes}
+use Rattle.tl_base.specs.Outside.{IsFile}
 use Rattle.tl_base.specs.Contents.{Files, HoldBytes}
 use Rattle.tl_base.specs.Packets.{packet}
 use Rattle.tl_base.specs.declared.packet.PacketFault.{PacketFault}
@@ -56,7 +57,7 @@ use Rattle.fault_lines.specs.Messages.{wire_line}
 use Rattle.fault_lines.proofs.Profiled.{each_profiled}
 use Rattle.session_commands.specs.declared.state.TheConstants.{MAX_STATE_BYTES}
 use Rattle.session_commands.specs.Lines.{packet_line}
-use Rattle.session_commands.specs.Post.{IsFile, IsWordLong}
+use Rattle.session_commands.specs.Post.{IsWordLong}
 use Rattle.session_commands.specs.SessionEnds.{session_line, IsShort}
 use Rattle.session_commands.specs.Client.{ClientsAreAnswered, HasClient, HasSaved, OfSession, OfState, OfStateFile, TellsNoClient, begins, failed, loads, no_client, no_saved, not_loaded, recovered, too_long, too_many, watches}
 use Rattle.session_commands.proofs.BegunClients.{Watched, each_watched, going_loaded, going_new}

@@ -8,6 +8,7 @@ use Rattle.std.specs.Str.{is_utf8}
 use Rattle.serde_json.specs.Data.{Data}
 use Rattle.serde_json.specs.Read.{read as read_text}
 use Rattle.tl_numbers.specs.Bytes.{AreBytes}
+use Rattle.tl_base.specs.Outside.{IsFile}
 use Rattle.tl_base.specs.Contents.{Files, HoldBytes}
 use Rattle.tl_numbers.specs.Numbers.{word}
 use Rattle.tl_base.specs.Packets.{IsPacketLength, packet}
@@ -49,7 +50,7 @@ use Rattle.schema_files.specs.JsonInput.{IsJson, JsonRefused}
 use Rattle.schema_files.specs.declared.json_input.TheConstants.{JSON_BYTES}
 use Rattle.fault_lines.proofs.Profiled.{each_profiled}
 use Rattle.session_commands.specs.Lines.{packet_line}
-use Rattle.session_commands.specs.Post.{Outcome, IsReplyTo, OfBody, no_frame, another, reply, OfLink, no_packet, packet_of, IsWordLong, OfCall, no_call, long_call, sent, OfJson, no_json, json_of, OfInput, IsFile, PostsAreAnswered}
+use Rattle.session_commands.specs.Post.{Outcome, IsReplyTo, OfBody, no_frame, another, reply, OfLink, no_packet, packet_of, IsWordLong, OfCall, no_call, long_call, sent, OfJson, no_json, json_of, OfInput, PostsAreAnswered}
 use Rattle.session_commands.proofs.JsonBytes.{read_holds}
 use Rattle.session_commands.proofs.ReadBytes.{read_value_holds}
 use Rattle.session_commands.proofs.SpelledBytes.{spelled_are}

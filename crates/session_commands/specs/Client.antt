@@ -4,7 +4,7 @@ use Rattle.std.specs.Prelude.{◌≡◌, ℕ, ◌<◌, ◌≤◌, ◌^◌, ℤ, 
 use Rattle.std.specs.List.{AllByRecursion}
 use Rattle.tl_numbers.specs.Bytes.{AreBytes}
 use Rattle.tl_base.specs.Contents.{Files, HoldBytes}
-use Rattle.tl_base.specs.Outside.{View, HasFile}
+use Rattle.tl_base.specs.Outside.{View, HasFile, IsFile}
 use Rattle.box_events.specs.declared.limits.TheConstants.{MAX_CHANNELS}
 use Rattle.box_events.specs.declared.saved.Saved.{Saved}
 use Rattle.pts_machine.specs.Steps.{new_lane}
@@ -32,7 +32,7 @@ use Rattle.fault_lines.specs.Profiled.{OfProfileFile}
 use Rattle.fault_lines.specs.SavedClients.{load_line}
 use Rattle.session_commands.specs.declared.state.TheConstants.{MAX_STATE_BYTES}
 use Rattle.session_commands.specs.Linked.{over_link, saves_after, linking_job, next_link, KeepsFiles, LeavesLinks, LeavesState}
-use Rattle.session_commands.specs.Post.{IsFile, ReachesLink}
+use Rattle.session_commands.specs.Post.{ReachesLink}
 use Rattle.session_commands.specs.SessionEnds.{IsShort, session_line}
 
 -- ---- the state file

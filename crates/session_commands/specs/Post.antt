@@ -3,7 +3,7 @@
 use Rattle.std.specs.Prelude.{◌≡◌, ℕ, ◌<◌, ◌≤◌, ◌^◌, List, [], ◌++◌, length, codes, Some}
 use Rattle.tl_numbers.specs.Bytes.{AreBytes}
 use Rattle.tl_base.specs.Contents.{Files, HoldBytes}
-use Rattle.tl_base.specs.Outside.{View, HasFile}
+use Rattle.tl_base.specs.Outside.{View, HasFile, IsFile}
 use Rattle.tl_base.specs.Packets.{IsPacketLength, packet}
 use Rattle.tl_base.specs.declared.packet.PacketFault.{PacketFault}
 use Rattle.tl_base.specs.declared.packet.PacketFault.TheVariants as packet_fault
@@ -112,10 +112,6 @@ post_job schema address input = linking_job (λ v a. PostAnswer v.files (next_li
 abbrev pub PostHasOneAnswer : Type 0
 PostHasOneAnswer =
     (files : Files) (given : List ℕ) → AreBytes given → (schema address input : List ℕ) (a c : Answer) → PostAnswer files given schema address input a → PostAnswer files given schema address input c → a ≡ c
-
--- some file has this name
-abbrev pub IsFile : Files → List ℕ → Type 0
-IsFile files name = (bytes : List ℕ) × HasFile files name bytes
 
 -- where files hold bytes, and those of schema and input are there, there is one over a link that gives bytes
 abbrev pub PostsAreAnswered : Type 0

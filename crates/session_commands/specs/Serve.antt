@@ -3,7 +3,7 @@ use Rattle.std.specs.Prelude.{◌≡◌, ◌⊎◌, ℕ, zero, suc, ◌<◌, ◌
 use Rattle.std.specs.List.{AllByRecursion}
 use Rattle.tl_numbers.specs.Bytes.{ListsOfBytes}
 use Rattle.tl_base.specs.Contents.{Files, HoldBytes}
-use Rattle.tl_base.specs.Outside.{View}
+use Rattle.tl_base.specs.Outside.{View, IsFile}
 use Rattle.box_events.specs.declared.requests.Numbered.{Numbered}
 use Rattle.box_server.specs.Servers.{ServerState, new_server, dated_at}
 use Rattle.box_store.specs.declared.entry.Entry.{Entry}
@@ -20,7 +20,6 @@ use Rattle.fault_lines.specs.Profiled.{OfProfileFile, HasProfile}
 use Rattle.session_commands.specs.Linked.{LeavesLinks}
 use Rattle.session_commands.specs.Lines.{served_line}
 use Rattle.session_commands.specs.SessionEnds.{IsShort, session_line}
-use Rattle.session_commands.specs.Post.{IsFile}
 
 -- ---- one session
 

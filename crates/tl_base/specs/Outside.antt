@@ -114,9 +114,13 @@ abbrev pub HasFile : Files → List ℕ → List ℕ → Type 0
 HasFile [] name bytes = ⊥
 HasFile (f ∷ fs) name bytes = ((f.0 ≡ name) × (f.1 ≡ bytes)) ⊎ (¬ (f.0 ≡ name) × HasFile fs name bytes)
 
--- a file has this name
+-- some file has this name
+abbrev pub IsFile : Files → List ℕ → Type 0
+IsFile files name = (bytes : List ℕ) × HasFile files name bytes
+
+-- a file of the outside has it
 abbrev pub IsThere : List ℕ → View → Type 0
-IsThere name v = (bytes : List ℕ) × HasFile v.files name bytes
+IsThere name v = IsFile v.files name
 
 -- files, slots and links to come hold bytes
 pub record ShowsBytes (v : View) : Type 0 where

@@ -2,7 +2,7 @@
 use Rattle.std.proofs.Common.{◌≡◌, ℕ, List, Option, Result, Ok, Err, codes, sym, ap, subst, inl, inr}
 use Rattle.std.specs.Prelude.{IsErrAnd, IsErrOf}
 use Rattle.tl_base.specs.Contents.{Files, HoldBytes}
-use Rattle.tl_base.specs.Outside.{View, HostState, HasFile, IsThere}
+use Rattle.tl_base.specs.Outside.{View, HostState, HasFile, IsThere, IsFile}
 use Rattle.tl_base.specs.Hosted.{OnlySlot}
 use Rattle.tl_base.specs.Calls.{Told}
 use Rattle.tl_base.specs.Using.{MeetsFaults}
@@ -33,7 +33,7 @@ use Rattle.schema_files.proofs.Answering.{no_schema_there}
 use Rattle.fault_lines.specs.Profiled.{OfProfile, TellsProfile, no_profile, profiled}
 use Rattle.fault_lines.proofs.Profiled.{are_profiles, each_profiled, one_profiled, profile_tells}
 use Rattle.update_replay.proofs.Windows.{seen_bytes}
-use Rattle.update_commands.specs.Replay.{IsFile, OfJournal, OfJournalFile, ReplayAnswer, file_job, replay_job, EachHasOneReplay}
+use Rattle.update_commands.specs.Replay.{OfJournal, OfJournalFile, ReplayAnswer, file_job, replay_job, EachHasOneReplay}
 use Rattle.update_commands.proofs.OneReplay.{answered, each_journal, one_journal}
 use Rattle.command_base.proofs.Stages.{Carries, before, refuses_so, unmade_works, works_after}
 use Rattle.command_base.proofs.StageFaults.{refused_faults, stage_faults, unmade_faults}

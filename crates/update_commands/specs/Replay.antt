@@ -1,7 +1,7 @@
 -- What `replay` answers: the report of its journal, or where and why schema, profile or journal is refused. This project's own.
 use Rattle.std.specs.Prelude.{◌≡◌, ℕ, List, Option, Some, option_map, codes}
 use Rattle.tl_base.specs.Contents.{Files, HoldBytes}
-use Rattle.tl_base.specs.Outside.{HasFile}
+use Rattle.tl_base.specs.Outside.{HasFile, IsFile}
 use Rattle.box_events.specs.declared.steps.Step.{Step}
 use Rattle.wire_profile.specs.Places.{ProfileView}
 use Rattle.command_base.specs.Answer.{Answer, done, refused_after, placed_line}
@@ -39,10 +39,6 @@ OfJournalFile files journal n p a = (bytes : List ℕ) × HasFile files journal 
 -- replay's answer
 abbrev pub ReplayAnswer : Files → List ℕ → List ℕ → ℕ → Answer → Type 0
 ReplayAnswer files schema journal n a = OfProfileFile (OfJournalFile files journal n) files schema a
-
--- some file has this name
-abbrev pub IsFile : Files → List ℕ → Type 0
-IsFile files name = (bytes : List ℕ) × HasFile files name bytes
 
 -- files of bytes have one answer at most, and one where both are there
 pub record HasOneReplay (files : Files) (schema journal : List ℕ) (n : ℕ) : Type 0 where
