@@ -1,7 +1,7 @@
 #!/usr/bin/env python3
 """label.py [INPUT] [--clients N] [--schema FILE] [--bytes]: writes a journal whose JSON names packets, with their numbers in place of the names.
 
-    contrib/label.py named.json --bytes > gap.journal && tlbox replay data/profile.tl gap.journal 1
+    contrib/label.py named.json --bytes > gap.journal && tlbox replay crates/tlbox/data/profile.tl gap.journal 1
 
 A step may have a key `name`; a post without one is named by its first message, where that is text. Then `packet` may be, in place of a number,
 

@@ -1,7 +1,7 @@
 #!/usr/bin/env python3
 """make_journal.py NUMBER STEPS [--OPTION VALUE ..]: writes a journal that a number draws: posts, and a network that loses, repeats and reorders.
 
-    contrib/make_journal.py 7 300 --lose 20 > drawn.journal && tlbox replay data/profile.tl drawn.journal 2
+    contrib/make_journal.py 7 300 --lose 20 > drawn.journal && tlbox replay crates/tlbox/data/profile.tl drawn.journal 2
 
 The draw is this script's own, and not that of `tlbox make`; the same words write the same journal. Options, with what they are without being named:
 
