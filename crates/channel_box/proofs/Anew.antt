@@ -20,5 +20,5 @@ begins_at t pts = refl
 pub leaves_no_events : LeavesNoEvents
 leaves_no_events = record {
   same = λ c events pts recent last. ap (λ (t : LaneState EventView). Ok (record c { lane = t; recent = recent })) (anew c.lane events pts);
-  begins = λ c pts recent last. (record c { lane = restart_at count_of c.lane pts; recent = recent }, (refl, begins_at c.lane pts));
+  begins = λ c pts recent last. (record c { lane = restart_at count_of c.lane pts; recent = recent }, refl, begins_at c.lane pts);
 }
