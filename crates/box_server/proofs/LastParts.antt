@@ -1,14 +1,13 @@
 -- Last parts of differences, and random ids that are known.
 use Rattle.std.proofs.Common.{◌≡◌, ℕ, List, Option, Some, None, Bool, true, false, ◌&&◌, ap}
-use Rattle.std.specs.Prelude.{ℤ, pos, negsuc}
+use Rattle.std.specs.Prelude.{pos, negsuc}
 use Rattle.box_events.specs.declared.positions.Receipt.{Receipt}
 use Rattle.box_events.specs.declared.positions.State.{State}
 use Rattle.box_events.specs.declared.replies.Reply.TheVariants.{Difference}
-use Rattle.box_events.specs.declared.requests.Post.{Post}
 use Rattle.box_events.specs.declared.settings.Setting.{Setting}
 use Rattle.box_events.specs.declared.updates.Placed.{Placed}
 use Rattle.box_events.specs.Events.{EventView}
-use Rattle.box_server.specs.Answers.{last_by, carried, difference_by, difference_of, is_whole}
+use Rattle.box_server.specs.Answers.{last_by, carried, difference_by, is_whole}
 use Rattle.box_server.specs.LastEntries.{changed_since}
 use Rattle.box_server.specs.Laws.{LastPartsReachTheServer, KnownIdsPostNothing}
 use Rattle.box_server.specs.Receiving.{answer_by, state_by}
