@@ -22,6 +22,7 @@ pub struct Case {
 }
 
 // A run of `decode`: its words, and its input's bytes.
+#[derive(Drop)]
 struct Decoded<'c> {
     schema: &'c str,
     of: &'c str,
