@@ -21,7 +21,8 @@ Its status is 0, and 1 with a line where SCHEMA, TYPE or the JSON can't be read.
 """
 import json, re, struct, sys
 
-sys.dont_write_bytecode = True
+if __name__ == "__main__":
+    sys.dont_write_bytecode = True
 from tl_reading import Schema, Unread
 
 
@@ -108,13 +109,17 @@ def main(words):
         else:
             data = sys.stdin.buffer.read()
         filled = fill(schema, of, json.loads(data.decode("utf-8-sig"), parse_float=finite))
+        output = json.dumps(filled, ensure_ascii=False).encode("utf-8", "surrogatepass") + b"\n"
     except Unread:
         sys.stderr.write(f"fill.py: {what}: the schema doesn't have this type, or one that it names\n")
         return 1
-    except (OSError, ValueError, OverflowError, RecursionError) as fault:
-        sys.stderr.write(f"fill.py: {what}: {fault}\n")
+    except (OSError, ValueError, OverflowError, RecursionError, struct.error) as fault:
+        sys.stderr.write(f"fill.py: {what}: {' '.join(str(fault).split())}\n")
         return 1
-    sys.stdout.buffer.write(json.dumps(filled, ensure_ascii=False).encode("utf-8", "surrogatepass") + b"\n")
+    except (AttributeError, LookupError, TypeError):
+        sys.stderr.write(f"fill.py: {words[0]}: no schema; `tlbox check` tells where\n")
+        return 1
+    sys.stdout.buffer.write(output)
     return 0
 
 

@@ -56,15 +56,29 @@ STATUSES = {
     "PeerFault": "The other end of a link did something wrong.",
     "KeepFault": "The database of posts can't be opened, read or written.",
 }
-# The types that constructors make, in a text with a space on each side of each `=`. Names alone are let through: bash expands what it completes to.
-TYPES = r"""sed 's|//.*||' "$1" 2>/dev/null | awk '
-        BEGIN { RS = ";" }
-        $1 ~ /^(int|long|double|string|bytes|int128|int256|vector)(#.*)?$/ { next }
+# The types that constructors make, and the constructors, bare, in a text with a space on each side of each `=`. Comments are left out first. Names alone
+# are let through: bash expands what it completes to.
+TYPES = r"""awk '
+        BEGIN { RS = "\001" }
+        { text = text $0 }
+        END {
+            while (match(text, "//|/[*]")) {
+                mark = substr(text, RSTART, 2)
+                printf "%s ", substr(text, 1, RSTART - 1)
+                text = substr(text, RSTART + 2)
+                end = mark == "//" ? index(text, "\n") : index(text, "*/")
+                text = end ? substr(text, end + (mark == "//" ? 0 : 2)) : ""
+            }
+            print text
+        }' 2>/dev/null < "$1" | awk '
+        BEGIN { RS = ";"; name_alone = "^[A-Za-z][A-Za-z0-9_.]*$" }
         {
+            name = ""
             for (i = 1; i <= NF; i++) {
                 if ($i ~ /---functions---/) functions = 1
-                if ($i ~ /---types---/) functions = 0
-                if ($i == "=" && !functions && $(i + 1) ~ /^[A-Za-z][A-Za-z0-9_.]*$/) print $(i + 1)
+                else if ($i ~ /---types---/) functions = 0
+                else if (name == "") { name = $i; sub(/#.*/, "", name); if (name ~ /^(int|long|double|string|bytes|int128|int256|vector)$/) next }
+                else if ($i == "=" && !functions && $(i + 1) ~ name_alone) { print $(i + 1); if (name ~ name_alone) print name }
             }
         }' | sort -u"""
 
@@ -97,7 +111,7 @@ _tlbox_types() {{
 }}
 
 _tlbox() {{
-    local IFS=$'\\n' words=() word operands operand
+    local IFS=$'\\n' words=() word operands operand schema
     COMPREPLY=()
     # bash parts words at a colon, as in HOST:PORT: they are joined again.
     for word in "${{COMP_WORDS[@]:0:COMP_CWORD + 1}}"; do
@@ -118,7 +132,11 @@ _tlbox() {{
     operand=${{operands[${{#words[@]}} - 3]}}
     case $operand in
     {' | '.join(FILES)}) COMPREPLY=($(compgen -f -- "$word")) ;;
-    TYPE) COMPREPLY=($(compgen -W "$(_tlbox_types "${{words[2]}}")" -- "$word")) ;;
+    TYPE)
+        # xargs takes quotes and backslashes away, and expands nothing.
+        schema=$(printf '%s\\n' "${{words[2]}}" | xargs -n 1 printf '%s' 2>/dev/null)
+        COMPREPLY=($(compgen -W "$(_tlbox_types "${{schema/#~\//$HOME/}}")" -- "$word"))
+        ;;
     CLIENTS) COMPREPLY=($(IFS=' ' && compgen -W '{' '.join(str(n) for n in range(least, most + 1))}' -- "$word")) ;;
     esac
 }}

@@ -234,7 +234,7 @@ def declarations_of(data):
         one = Declaration(len(found), tokens[at:end], in_functions)
         try:
             Reader(one.tokens).declaration(one)
-        except (Unread, ValueError):
+        except (Unread, ValueError, RecursionError):
             pass
         found.append(one)
         at = end
