@@ -56,7 +56,7 @@ def empty(count):
 
 
 def colliding():
-    """Names that collide under the hash of `indexmap`, found by colliding.c."""
+    """Names that collide under the hash of `indexmap` while it has no key, found by colliding.c."""
     with open(os.path.join(os.path.dirname(__file__), "colliding.txt"), encoding="ascii") as file:
         return file.read().split()
 

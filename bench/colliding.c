@@ -1,5 +1,6 @@
-/* Prints names of eight letters that collide in Rattle's `indexmap` when it holds up to 18,432 keys: their hashes begin at one of
-   its 2,048 groups and have one tag, so that a look-up of one compares all those before it.
+/* Prints names of eight letters that collide in Rattle's `indexmap`, under its own hash, which has no key, when it holds up to
+   18,432 keys: their hashes begin at one of its 2,048 groups and have one tag, so that a look-up of one compares all those
+   before it.
 
    cc -O2 colliding.c -o colliding && ./colliding 16000 > colliding.txt        (half a minute) */
 #include <stdint.h>

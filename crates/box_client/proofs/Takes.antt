@@ -1,12 +1,10 @@
 -- Differences that fit are taken.
-use Rattle.std.proofs.Common.{◌≡◌, ℕ, ◌≤◌, List, [], Bool, true, false, ◌&&◌, ltb, Ok, refl, ap, ap₂, ◌∙◌, arith}
+use Rattle.std.proofs.Common.{◌≡◌, ℕ, ◌≤◌, List, Bool, true, false, ◌&&◌, ltb, refl, ap, ap₂, ◌∙◌, arith}
 use Rattle.std.specs.Prelude.{Result}
 use Rattle.std.proofs.lemmas.Bool.Decides.{nat_tests}
 use Rattle.box_events.specs.Events.{EventView}
-use Rattle.difference.specs.Weaves.{WeaveCause, woven_of}
-use Rattle.box_client.specs.declared.brought.Brought.{Brought}
-use Rattle.box_client.specs.States.{ClientState}
-use Rattle.box_client.specs.Replies.{becomes, group_taken, group_woven, group_done}
+use Rattle.difference.specs.Weaves.{WeaveCause}
+use Rattle.box_client.specs.Replies.{group_taken, group_woven}
 use Rattle.box_client.specs.Laws.{TakesWhatFits}
 
 not_below : (a b : ℕ) → a ≤ b → ltb b a ≡ false

@@ -1,19 +1,18 @@
 -- Last parts of differences, and random ids that are known.
-use Rattle.std.proofs.Common.{◌≡◌, ℕ, List, Option, Some, None, Bool, true, false, ap}
-use Rattle.std.specs.Prelude.{ℤ, pos, negsuc}
+use Rattle.std.proofs.Common.{◌≡◌, ℕ, List, Option, Some, None, Bool, true, false, ◌&&◌, ap}
+use Rattle.std.specs.Prelude.{pos, negsuc}
 use Rattle.box_events.specs.declared.positions.Receipt.{Receipt}
 use Rattle.box_events.specs.declared.positions.State.{State}
 use Rattle.box_events.specs.declared.replies.Reply.TheVariants.{Difference}
-use Rattle.box_events.specs.declared.requests.Post.{Post}
 use Rattle.box_events.specs.declared.settings.Setting.{Setting}
 use Rattle.box_events.specs.declared.updates.Placed.{Placed}
 use Rattle.box_events.specs.Events.{EventView}
-use Rattle.box_server.specs.Answers.{last_by, carried, difference_by, difference_of, is_whole}
+use Rattle.box_server.specs.Answers.{last_by, carried, difference_by, is_whole}
 use Rattle.box_server.specs.LastEntries.{changed_since}
 use Rattle.box_server.specs.Laws.{LastPartsReachTheServer, KnownIdsPostNothing}
 use Rattle.box_server.specs.Receiving.{answer_by, state_by}
 use Rattle.box_server.specs.Refusing.{post_cause}
-use Rattle.box_server.specs.Runs.{events_after}
+use Rattle.box_server.specs.Runs.{events_after, run_of}
 use Rattle.box_server.specs.Servers.{ServerState, state_of}
 
 last_reaches : (b : Bool) (s : ServerState) (pts : ℕ) (es fs : List EventView) (xs : List Setting)
@@ -33,7 +32,7 @@ by_reaches : (s : ServerState) (pts qts date : ℕ) (o p : Option (List EventVie
     → difference_by s pts qts date o p ≡ Difference news secrets others settings state true → state ≡ state_of s
 by_reaches s pts qts date None p news secrets others settings state is = absurd cc
 by_reaches s pts qts date (Some es) None news secrets others settings state is = absurd cc
-by_reaches s pts qts date (Some es) (Some fs) news secrets others settings state is = carried_reaches _ s pts qts date _ _ news secrets others settings state is
+by_reaches s pts qts date (Some es) (Some fs) news secrets others settings state is = carried_reaches (is_whole es && is_whole fs) s pts qts date (run_of es) (run_of fs) news secrets others settings state is
 
 pub last_parts_reach : LastPartsReachTheServer
 last_parts_reach s (negsuc n) qts date news secrets others settings state is = absurd cc

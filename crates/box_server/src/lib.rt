@@ -11,6 +11,7 @@ mod laws;
 mod opening;
 mod places;
 mod posted;
+mod receipts;
 mod room;
 mod runs;
 mod server;

@@ -3,15 +3,17 @@ ghost use Rattle.std.specs.Prelude.{◌≡◌, ◌≤◌, ◌++◌, IfOk, OnOk, 
 ghost use Rattle.box_server.specs.Posting.{cut};
 ghost use Rattle.box_server.specs.inner.Drafted.{AreAligned, joined_channels};
 ghost use Rattle.box_server.specs.inner.Insides.{channel_view};
-ghost use Rattle.box_server.specs.inner.Rooms.{HaveRoom, HaveEnds, IsRoomy, emptied, grown, blank_tail, numbers_of};
+ghost use Rattle.box_server.specs.inner.Rooms.{HaveRoom, HaveEnds, IsRoomy, IsSameBox, emptied, grown, blank_tail, numbers_of};
 
 use crate::channel::Channel;
+use crate::draft::Draft;
 use crate::tail::Tail;
+use box_events::EventBox;
 use std::alloc::Global;
 use tl_base::Memory;
 
-/// Takes memory in channels for what comes to them, and answers new channels, with room, for the tails that have none.
-pub fn make_room(channels: &mut Vec<Channel>, tails: &[Tail]) -> Result<Vec<Channel>, Memory>
+// Takes memory in channels for what comes to them, and answers new channels, with room, for the tails that have none.
+fn make_room(channels: &mut Vec<Channel>, tails: &[Tail]) -> Result<Vec<Channel>, Memory>
     requires { AreAligned (map channel_view channels.old.items) tails.now }
     ensures same { map channel_view channels.new.items ≡ map channel_view channels.old.items }
     ensures room { IfOk result (λ v. IsRoomy channels.new v tails.now) }
@@ -20,6 +22,26 @@ pub fn make_room(channels: &mut Vec<Channel>, tails: &[Tail]) -> Result<Vec<Chan
     let opened = open_each(*channels.allocator(), tails.split_at(channels.len()).1)?;
     channels.reserve(opened.len())?;
     Ok(opened)
+}
+
+/// Takes memory in boxes and channels for what a draft brings them, and answers new channels, with room, for the tails that have none.
+pub fn room_for(
+    common: &mut EventBox,
+    secret: &mut EventBox,
+    channels: &mut Vec<Channel>,
+    draft: &Draft,
+) -> Result<Vec<Channel>, Memory>
+    requires { AreAligned (map channel_view channels.old.items) draft.now.channels.items }
+    ensures common { IsSameBox common.old common.new }
+    ensures secret { IsSameBox secret.old secret.new }
+    ensures channels { map channel_view channels.new.items ≡ map channel_view channels.old.items }
+    ensures common_room { OnOk result (length draft.now.common.events ≤ common.new.spare) }
+    ensures secret_room { OnOk result (length draft.now.secret.events ≤ secret.new.spare) }
+    ensures room { IfOk result (λ v. IsRoomy channels.new v draft.now.channels.items) }
+{
+    common.reserve(draft.common.len() as u32)?;
+    secret.reserve(draft.secret.len() as u32)?;
+    make_room(channels, &draft.channels)
 }
 
 /// Adds new channels, and appends to each channel what comes. No memory is taken.

@@ -21,7 +21,8 @@ use crate::draft::Draft;
 use crate::fault::PostFault;
 use crate::opening::opens_too_many;
 use crate::posted::Posted;
-use crate::room::{blank_tails, grow, make_room, numbers};
+use crate::receipts::keep;
+use crate::room::{blank_tails, grow, numbers, room_for};
 use crate::runs::run_from;
 use crate::setting_list::SettingList;
 use crate::tail::Tail;
@@ -214,6 +215,12 @@ impl Server {
         requires sound { IsSound (with_draft self.old random_id draft) }
         ensures { Takes self.old random_id draft result self.new }
     {
+        let opened = room_for(
+            &mut self.common,
+            &mut self.secret,
+            &mut self.channels,
+            &draft,
+        )?;
         let Draft {
             date,
             common,
@@ -223,9 +230,6 @@ impl Server {
             settings,
             updates,
         } = draft;
-        self.common.reserve(common.len() as u32)?;
-        self.secret.reserve(secret.len() as u32)?;
-        let opened = make_room(&mut self.channels, &channels)?;
         let receipt = Receipt {
             pts: common.end(),
             qts: secret.end(),
@@ -233,14 +237,14 @@ impl Server {
             seq,
         };
         let (first, last) = numbers(self.settings.len() as u32, seq);
-        self.receipts.insert(random_id, receipt)?;
-        match self.settings.append_all(settings, keys) {
-            Ok(()) => {}
-            Err(_) => {
-                self.receipts.remove(&random_id);
-                return Err(PostFault::Memory);
-            }
-        }
+        keep(
+            &mut self.receipts,
+            random_id,
+            receipt,
+            &mut self.settings,
+            settings,
+            keys,
+        )?;
         append_all(&mut self.common, common.into_events());
         append_all(&mut self.secret, secret.into_events());
         grow(&mut self.channels, opened, channels);

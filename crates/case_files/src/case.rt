@@ -21,7 +21,27 @@ pub struct Case {
     wanted: Ending,
 }
 
+// A run of `decode`: its words, and its input's bytes.
+#[derive(Drop)]
+struct Decoded<'c> {
+    schema: &'c str,
+    of: &'c str,
+    input: &'c str,
+    bytes: &'c [u8],
+}
+
 impl Case {
+    // A run of no words, over nothing.
+    fn blank(alloc: Global) -> Case {
+        Case {
+            alloc,
+            title: String::new(alloc),
+            words: Vec::new(alloc),
+            setting: Setting::new(alloc),
+            wanted: Ending::new(alloc),
+        }
+    }
+
     /// A run that is to end with status 0 and write nothing, until lines say more.
     pub fn new(title: String, words: &str, setting: Setting) -> Result<Case, CaseFault> {
         let alloc = setting.alloc();
@@ -97,36 +117,43 @@ impl Case {
         }
     }
 
-    /// The way back, where the run is a `decode` that prints a value: `encode` of its line writes the input's bytes.
-    pub fn back(&self) -> Result<Option<Case>, AllocError> {
+    // What the run decodes, where it is a `decode` that prints a value.
+    fn decoded(&self) -> Option<Decoded<'_>> {
         let [command, schema, of, input] = self.words.as_slice() else {
-            return Ok(None);
+            return None;
         };
         if command.as_str() != "decode" || self.wanted.status != 0 {
-            return Ok(None);
+            return None;
         }
-        let Some(bytes) = self.setting.file(input.as_str()) else {
+        Some(Decoded {
+            schema: schema.as_str(),
+            of: of.as_str(),
+            input: input.as_str(),
+            bytes: self.setting.file(input.as_str())?,
+        })
+    }
+
+    // Makes a run that is to do nothing the way back of another.
+    fn turn(&mut self, case: &Case, run: &Decoded) -> Result<(), AllocError> {
+        self.title.push_str(case.title.as_str())?;
+        self.title.push_str(", back")?;
+        let words = ["encode", run.schema, run.of, run.input];
+        put_words(self.alloc, &mut self.words, &words)?;
+        self.setting.put_files(&case.setting)?;
+        let line = case.wanted.output.clone()?;
+        self.setting.begin(run.input, line)?;
+        self.wanted.output.extend_from_slice(run.bytes)?;
+        Ok(())
+    }
+
+    /// The way back, where the run is a `decode` that prints a value: `encode` of its line writes the input's bytes.
+    pub fn back(&self) -> Result<Option<Case>, AllocError> {
+        let Some(run) = self.decoded() else {
             return Ok(None);
         };
-        let mut wanted = Ending::new(self.alloc);
-        wanted.output.extend_from_slice(bytes)?;
-        let mut setting = self.setting.copy()?;
-        setting.calm();
-        setting.begin(input.as_str(), self.wanted.output.clone()?)?;
-        let mut words = Vec::new(self.alloc);
-        words.push(String::from_str(self.alloc, "encode")?)?;
-        for word in [schema, of, input] {
-            words.push(word.clone()?)?;
-        }
-        let mut title = self.title.clone()?;
-        title.push_str(", back")?;
-        Ok(Some(Case {
-            alloc: self.alloc,
-            title,
-            words,
-            setting,
-            wanted,
-        }))
+        let mut back = Case::blank(self.alloc);
+        back.turn(self, &run)?;
+        Ok(Some(back))
     }
 
     /// The words that the program is started with.
@@ -144,21 +171,33 @@ impl Case {
         self.setting.keeper()
     }
 
-    /// Tells where the run came to another end, with the place of the case.
-    pub fn difference(&self, got: &Ending) -> Result<String, AllocError> {
+    // Tells where the run came to another end.
+    fn put_differences(&self, text: &mut String, got: &Ending) -> Result<(), AllocError> {
         let alloc = self.alloc;
-        let mut text = self.title.clone()?;
         let (wanted, status) = (self.wanted.status, got.status);
         if wanted != status {
             text.push_str(&format!(in alloc; "; status wanted {wanted}, got {status}")?)?;
         }
-        put_difference(alloc, &mut text, "Output", &self.wanted.output, &got.output)?;
-        put_difference(alloc, &mut text, "Errors", &self.wanted.errors, &got.errors)?;
-        put_bytes_difference(alloc, &mut text, "State", &self.wanted.state, &got.state)?;
-        put_difference(alloc, &mut text, "entries", &self.wanted.kept, &got.kept)?;
-        put_traffic(alloc, &mut text, &self.wanted.traffic, &got.traffic)?;
+        put_difference(alloc, text, "Output", &self.wanted.output, &got.output)?;
+        put_difference(alloc, text, "Errors", &self.wanted.errors, &got.errors)?;
+        put_bytes_difference(alloc, text, "State", &self.wanted.state, &got.state)?;
+        put_difference(alloc, text, "entries", &self.wanted.kept, &got.kept)?;
+        put_traffic(alloc, text, &self.wanted.traffic, &got.traffic)
+    }
+
+    /// Tells where the run came to another end, with the place of the case.
+    pub fn difference(&self, got: &Ending) -> Result<String, AllocError> {
+        let mut text = self.title.clone()?;
+        self.put_differences(&mut text, got)?;
         Ok(text)
     }
+}
+
+fn put_words(alloc: Global, to: &mut Vec<String>, words: &[&str]) -> Result<(), AllocError> {
+    for word in words {
+        to.push(String::from_str(alloc, *word)?)?;
+    }
+    Ok(())
 }
 
 // The first index at which two lists of bytes differ, or the shorter one ends.

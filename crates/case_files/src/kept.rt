@@ -87,18 +87,14 @@ impl CaseKeeper {
         }
     }
 
-    /// The same keeper, for one run.
-    pub fn copy(&self) -> Result<CaseKeeper, AllocError> {
-        let mut entries = Vec::new(self.alloc);
-        for entry in self.entries.iter() {
-            entries.push(entry.copy()?)?;
+    /// Takes all that another keeper has, over none.
+    pub fn put_all(&mut self, other: &CaseKeeper) -> Result<(), AllocError> {
+        for entry in other.entries.iter() {
+            self.entries.push(entry.copy()?)?;
         }
-        Ok(CaseKeeper {
-            alloc: self.alloc,
-            entries,
-            room: self.room,
-            fails: Vec::from_slice(self.alloc, &self.fails)?,
-        })
+        self.room = other.room;
+        self.fails.extend_from_slice(&other.fails)?;
+        Ok(())
     }
 
     /// Makes it the keeper of no entries again.

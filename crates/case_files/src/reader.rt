@@ -152,12 +152,11 @@ impl Begun {
         Ok(())
     }
 
-    // The runs of the whole case.
-    fn close(mut self) -> Result<Vec<Case>, BadLine> {
+    // Ends the case, and moves its runs to the others.
+    fn close(&mut self, cases: &mut Vec<Case>) -> Result<(), BadLine> {
         check_closed(self.line, self.runs.len(), self.unused)?;
-        let line = self.both_ways;
-        at_line(line, self.turn_back())?;
-        Ok(self.runs)
+        at_line(self.both_ways, self.turn_back())?;
+        at_line(self.line, put_all(cases, &mut self.runs))
     }
 
     // Puts a run, whose end the lines after it say.
@@ -263,7 +262,7 @@ impl Begun {
 }
 
 impl Reader {
-    fn new(alloc: Global, file: &str) -> Result<Reader, AllocError> {
+    fn new(alloc: Global, file: &str) -> Result<Reader, CaseFault> {
         let place = Place {
             file: String::from_str(alloc, file)?,
             folder: String::from_str(alloc, folder_of(file))?,
@@ -279,12 +278,11 @@ impl Reader {
 
     // Ends the case that was begun last.
     fn close(&mut self) -> Result<(), BadLine> {
-        let Some(begun) = self.begun.take() else {
-            return Ok(());
-        };
-        let line = begun.line;
-        let mut runs = begun.close()?;
-        at_line(line, put_all(&mut self.cases, &mut runs))
+        if let Some(begun) = self.begun.as_mut() {
+            begun.close(&mut self.cases)?;
+        }
+        self.begun = None;
+        Ok(())
     }
 
     fn begin(&mut self, number: u64, name: &str) -> Result<(), BadLine> {
@@ -367,21 +365,19 @@ fn at_line<T: Drop>(line: u64, taken: Result<T, CaseFault>) -> Result<T, BadLine
     }
 }
 
-// The runs of the lines.
-fn read_lines(rt: &HostRuntime, mut reader: Reader, text: &str) -> Result<Vec<Case>, BadLine> {
+// Takes all lines.
+fn read_lines(rt: &HostRuntime, reader: &mut Reader, text: &str) -> Result<(), BadLine> {
     let mut number = 0u64;
     for line in text.lines() {
         number = number.saturating_add(1);
         reader.take_line(rt, number, line)?;
     }
-    reader.end()?;
-    Ok(reader.cases)
+    reader.end()
 }
 
 /// The runs of a case file, or its first line that can't be used. `name` is its path, from whose folder `load` goes.
 pub fn read_cases(rt: &HostRuntime, name: &str, text: &str) -> Result<Vec<Case>, BadLine> {
-    match Reader::new(rt.alloc(), name) {
-        Ok(reader) => read_lines(rt, reader, text),
-        Err(_) => at_line(0, Err(CaseFault::Memory)),
-    }
+    let mut reader = at_line(0, Reader::new(rt.alloc(), name))?;
+    read_lines(rt, &mut reader, text)?;
+    Ok(reader.cases)
 }

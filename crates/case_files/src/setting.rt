@@ -35,22 +35,27 @@ pub struct Setting {
     keeper: CaseKeeper,
 }
 
-fn copy_files(alloc: Global, files: &[CaseFile]) -> Result<Vec<CaseFile>, AllocError> {
-    let mut copies = Vec::new(alloc);
-    for file in files {
-        let name = file.name.clone()?;
-        let bytes = file.bytes.clone()?;
-        copies.push(CaseFile { name, bytes })?;
+impl CaseFile {
+    fn copy(&self) -> Result<CaseFile, AllocError> {
+        Ok(CaseFile {
+            name: self.name.clone()?,
+            bytes: self.bytes.clone()?,
+        })
     }
-    Ok(copies)
 }
 
-fn copy_links(alloc: Global, links: &[Vec<u8>]) -> Result<Vec<Vec<u8>>, AllocError> {
-    let mut copies = Vec::new(alloc);
-    for link in links {
-        copies.push(link.clone()?)?;
+fn put_copies(to: &mut Vec<CaseFile>, files: &[CaseFile]) -> Result<(), AllocError> {
+    for file in files {
+        to.push(file.copy()?)?;
     }
-    Ok(copies)
+    Ok(())
+}
+
+fn put_links(to: &mut Vec<Vec<u8>>, links: &[Vec<u8>]) -> Result<(), AllocError> {
+    for link in links {
+        to.push(link.clone()?)?;
+    }
+    Ok(())
 }
 
 // Appends a text so many times: a count, a space, and the text.
@@ -134,17 +139,26 @@ impl Setting {
 
     /// The same files, links, moments and calls, for one run.
     pub fn copy(&self) -> Result<Setting, AllocError> {
-        Ok(Setting {
-            alloc: self.alloc,
-            files: copy_files(self.alloc, &self.files)?,
-            links: copy_links(self.alloc, &self.links)?,
-            moments: Vec::from_slice(self.alloc, &self.moments)?,
-            in_link: self.in_link,
-            fails: Vec::from_slice(self.alloc, &self.fails)?,
-            most: Vec::from_slice(self.alloc, &self.most)?,
-            room: self.room,
-            keeper: self.keeper.copy()?,
-        })
+        let mut copy = Setting::new(self.alloc);
+        copy.put_all(self)?;
+        Ok(copy)
+    }
+
+    // Takes all that another setting has, over none.
+    fn put_all(&mut self, other: &Setting) -> Result<(), AllocError> {
+        self.put_files(other)?;
+        put_links(&mut self.links, &other.links)?;
+        self.moments.extend_from_slice(&other.moments)?;
+        self.in_link = other.in_link;
+        self.fails.extend_from_slice(&other.fails)?;
+        self.most.extend_from_slice(&other.most)?;
+        self.room = other.room;
+        self.keeper.put_all(&other.keeper)
+    }
+
+    /// Takes the files that another setting has, beside its own.
+    pub fn put_files(&mut self, other: &Setting) -> Result<(), AllocError> {
+        put_copies(&mut self.files, &other.files)
     }
 
     pub fn alloc(&self) -> Global {
@@ -262,7 +276,7 @@ impl Setting {
         all
     }
 
-    fn put_files(&self, host: &mut MemHost) -> Result<(), AllocError> {
+    fn host_files(&self, host: &mut MemHost) -> Result<(), AllocError> {
         for file in self.files.iter() {
             let bytes = Bytes::from_slice(self.alloc, &file.bytes)?;
             host.file(self.alloc, file.name.as_str(), bytes)?;
@@ -270,7 +284,7 @@ impl Setting {
         Ok(())
     }
 
-    fn put_links(&self, host: &mut MemHost) -> Result<(), AllocError> {
+    fn host_links(&self, host: &mut MemHost) -> Result<(), AllocError> {
         for link in self.links.iter() {
             let bytes = Bytes::from_slice(self.alloc, link)?;
             host.link(self.alloc, bytes)?;
@@ -278,14 +292,14 @@ impl Setting {
         Ok(())
     }
 
-    fn put_moments(&self, host: &mut MemHost) -> Result<(), AllocError> {
+    fn host_moments(&self, host: &mut MemHost) -> Result<(), AllocError> {
         for moment in self.moments.iter() {
             host.moment(moment.seconds)?;
         }
         Ok(())
     }
 
-    fn put_fails(&self, host: &mut MemHost) -> Result<(), AllocError> {
+    fn host_fails(&self, host: &mut MemHost) -> Result<(), AllocError> {
         for (call, number) in self.fails.iter() {
             host.fail(*call, *number)?;
         }
@@ -293,7 +307,7 @@ impl Setting {
     }
 
     // Says of each read of a file or link up to its end how many bytes it gives at most.
-    fn put_cuts(&self, host: &mut MemHost) -> Result<(), AllocError> {
+    fn host_cuts(&self, host: &mut MemHost) -> Result<(), AllocError> {
         let Some(last) = self.most.last() else {
             return Ok(());
         };
@@ -306,14 +320,18 @@ impl Setting {
         Ok(())
     }
 
+    fn put_into(&self, host: &mut MemHost) -> Result<(), AllocError> {
+        self.host_files(host)?;
+        self.host_links(host)?;
+        self.host_moments(host)?;
+        self.host_fails(host)?;
+        self.host_cuts(host)
+    }
+
     /// The outside of a run.
     pub fn host(&self) -> Result<MemHost, AllocError> {
         let mut host = MemHost::new(self.alloc, self.room)?;
-        self.put_files(&mut host)?;
-        self.put_links(&mut host)?;
-        self.put_moments(&mut host)?;
-        self.put_fails(&mut host)?;
-        self.put_cuts(&mut host)?;
+        self.put_into(&mut host)?;
         Ok(host)
     }
 }

@@ -51,10 +51,8 @@ fn put_links(alloc: Global, text: &mut String, traffic: &Traffic) -> Result<(), 
     Ok(())
 }
 
-/// What a run of these words did: its Output and Errors, and in brackets its status, where it isn't 0, what it sent over links, what it saved, and how many
-/// bytes of entries it kept.
-pub fn shown_run(alloc: Global, words: &[String], got: &Ending) -> Result<String, AllocError> {
-    let mut text = command_line(alloc, words)?;
+// What a run wrote, sent and saved, and how it ended.
+fn put_ending(alloc: Global, text: &mut String, got: &Ending) -> Result<(), AllocError> {
     if !got.output.is_empty() {
         text.push_str(&readable(alloc, &got.output)?)?;
     }
@@ -63,7 +61,7 @@ pub fn shown_run(alloc: Global, words: &[String], got: &Ending) -> Result<String
         let status = got.status;
         text.push_str(&format!(in alloc; "(status {status})\n")?)?;
     }
-    put_links(alloc, &mut text, &got.traffic)?;
+    put_links(alloc, text, &got.traffic)?;
     if !got.state.is_empty() {
         let digits = hex::encode(alloc, &got.state)?;
         text.push_str(&format!(in alloc; "(saved {digits})\n")?)?;
@@ -72,5 +70,13 @@ pub fn shown_run(alloc: Global, words: &[String], got: &Ending) -> Result<String
         let entries = readable(alloc, &got.kept)?;
         text.push_str(&format!(in alloc; "(kept, by date, id and number of posts) {entries}")?)?;
     }
+    Ok(())
+}
+
+/// What a run of these words did: its Output and Errors, and in brackets its status, where it isn't 0, what it sent over links, what it saved, and how many
+/// bytes of entries it kept.
+pub fn shown_run(alloc: Global, words: &[String], got: &Ending) -> Result<String, AllocError> {
+    let mut text = command_line(alloc, words)?;
+    put_ending(alloc, &mut text, got)?;
     Ok(text)
 }

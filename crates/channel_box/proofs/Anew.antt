@@ -1,12 +1,8 @@
 -- A channel that begins anew.
-use Rattle.std.proofs.Common.{◌≡◌, ℕ, List, Bool, Ok, refl, ap}
-use Rattle.std.specs.Prelude.{Result}
+use Rattle.std.proofs.Common.{◌≡◌, ℕ, List, Ok, refl, ap}
 use Rattle.box_events.specs.Events.{EventView, count_of}
-use Rattle.box_events.specs.declared.replies.ChannelReply.TheVariants.{TooLong}
 use Rattle.pts_machine.specs.States.{LaneState}
 use Rattle.pts_machine.specs.Steps.{settle, extend, restart_at}
-use Rattle.channel_box.specs.States.{ChannelState}
-use Rattle.channel_box.specs.Steps.{replied}
 use Rattle.channel_box.specs.Laws.{LeavesNoEvents}
 
 anew : (t : LaneState EventView) (events : List EventView) (pts : ℕ) → restart_at count_of (record t { events = events }) pts ≡ restart_at count_of t pts
@@ -20,5 +16,5 @@ begins_at t pts = refl
 pub leaves_no_events : LeavesNoEvents
 leaves_no_events = record {
   same = λ c events pts recent last. ap (λ (t : LaneState EventView). Ok (record c { lane = t; recent = recent })) (anew c.lane events pts);
-  begins = λ c pts recent last. (record c { lane = restart_at count_of c.lane pts; recent = recent }, (refl, begins_at c.lane pts));
+  begins = λ c pts recent last. (record c { lane = restart_at count_of c.lane pts; recent = recent }, refl, begins_at c.lane pts);
 }

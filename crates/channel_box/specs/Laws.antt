@@ -1,8 +1,7 @@
 -- Laws of channels. This project's own.
 use Rattle.std.specs.Prelude.{◌≡◌, ℕ, List, Bool, Ok}
-use Rattle.box_events.specs.Events.{EventView, count_of}
+use Rattle.box_events.specs.Events.{EventView}
 use Rattle.box_events.specs.declared.replies.ChannelReply.TheVariants.{TooLong}
-use Rattle.pts_machine.specs.Steps.{restart_at}
 use Rattle.channel_box.specs.States.{ChannelState}
 use Rattle.channel_box.specs.Steps.{replied}
 

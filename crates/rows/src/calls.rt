@@ -1,6 +1,5 @@
 //! What rows speak of, and which call a row's first word is.
 use crate::codec::call_by;
-use crate::events::split_call;
 use crate::layers::lift_call;
 use crate::pieces::{feed_call, next_call};
 use crate::row::Row;
@@ -41,7 +40,6 @@ impl Objects {
             "old" => made(&mut self.old, row),
             "new" => made(&mut self.new, row),
             "print" => print_call(row),
-            "split" => split_call(row),
             "next" => next_call(&self.new, &mut self.source, &mut self.at, row),
             "feed" => feed_call(&self.new, row),
             "lift" => lift_call(&self.old, &self.new, row),

@@ -3,7 +3,6 @@
 
 mod calls;
 mod codec;
-mod events;
 mod layers;
 mod pieces;
 mod report;

@@ -51,6 +51,14 @@ fn writes_over<S: Alter>(conn: &mut Connection<S>) -> Result<Writes, Error> {
     Ok(Writes { entry, post })
 }
 
+// The tables, where there are none, and the statements over them.
+fn made_over<S: Alter>(conn: &mut Connection<S>) -> Result<(Reads, Writes), Error> {
+    make_tables(conn)?;
+    let reads = reads_over(conn)?;
+    let writes = writes_over(conn)?;
+    Ok((reads, writes))
+}
+
 // The entry with this head and these posts, if they are as many as it says.
 fn entry_of(head: Head, posts: Option<Posts>) -> Option<Entry> {
     let posts = posts?;
@@ -68,9 +76,7 @@ impl<S: Alter + Drop> Database<S> {
     /// The database of a connection; its tables are made where there are none.
     pub fn over(alloc: Global, conn: Connection<S>) -> Result<Database<S>, Error> {
         let mut conn = conn;
-        make_tables(&mut conn)?;
-        let reads = reads_over(&mut conn)?;
-        let writes = writes_over(&mut conn)?;
+        let (reads, writes) = made_over(&mut conn)?;
         Ok(Database {
             alloc,
             conn,

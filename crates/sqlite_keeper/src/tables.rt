@@ -3,7 +3,7 @@
 use crate::rows::{PostRow, post_of, put_row};
 use box_events::ListOf;
 use box_store::{Entry, Posts};
-use sqlite::{Alter, Connection, Error, Statement, params};
+use sqlite::{Alter, Connection, Error, Row, Statement, params};
 use std::alloc::Global;
 
 const MAKE: &str =
@@ -46,25 +46,69 @@ pub fn make_tables<S: Alter>(conn: &mut Connection<S>) -> Result<(), Error> {
     command(conn, MAKE)
 }
 
+// The number of the last entry, and one.
+fn count_in(row: &Row) -> Result<u32, Error> {
+    let last: u32 = row.get(0)?;
+    Ok(last.saturating_add(1))
+}
+
 /// How many entries there are: the number of the last, and one.
 pub fn count_entries<S: Alter>(conn: &mut Connection<S>, count: &Statement) -> Result<u32, Error> {
     match count.query_row(conn, &[]) {
-        Ok(row) => {
-            let last: u32 = row.get(0)?;
-            Ok(last.saturating_add(1))
-        }
+        Ok(row) => count_in(&row),
         Err(Error::QueryReturnedNoRows) => Ok(0),
         Err(error) => Err(error),
     }
 }
 
-pub fn head_of<S: Alter>(conn: &mut Connection<S>, get: &Statement, n: u32) -> Result<Head, Error> {
-    let row = get.query_row(conn, params![n])?;
+fn head_in(row: &Row) -> Result<Head, Error> {
     Ok(Head {
         date: row.get(0)?,
         random_id: row.get(1)?,
         posts: row.get(2)?,
     })
+}
+
+pub fn head_of<S: Alter>(conn: &mut Connection<S>, get: &Statement, n: u32) -> Result<Head, Error> {
+    let row = get.query_row(conn, params![n])?;
+    head_in(&row)
+}
+
+fn cells_in(row: &Row) -> Result<PostRow, Error> {
+    Ok(PostRow {
+        kind: row.get(0)?,
+        number: row.get(1)?,
+        body: row.get(2)?,
+        more: row.get(3)?,
+    })
+}
+
+// Appends the post of a row; it answers whether the row is a post's.
+fn take_row(alloc: Global, row: &Row, posts: &mut Posts) -> Result<bool, Error> {
+    match post_of(alloc, cells_in(row)?)? {
+        Some(post) => {
+            posts.push(post)?;
+            Ok(true)
+        }
+        None => Ok(false),
+    }
+}
+
+// Appends the posts of rows; it answers whether each row is a post's.
+fn take_rows(alloc: Global, rows: &[Row], posts: &mut Posts) -> Result<bool, Error> {
+    for row in rows {
+        if !take_row(alloc, row, posts)? {
+            return Ok(false);
+        }
+    }
+    Ok(true)
+}
+
+// The posts of rows; none where a row is no post's.
+fn posts_in(alloc: Global, rows: &[Row]) -> Result<Option<Posts>, Error> {
+    let mut posts = ListOf::new(alloc);
+    let are_posts = take_rows(alloc, rows, &mut posts)?;
+    Ok(are_posts.then_some(posts))
 }
 
 /// The posts of an entry; none where a row is no post's.
@@ -75,20 +119,8 @@ pub fn posts_of<S: Alter>(
     n: u32,
 ) -> Result<Option<Posts>, Error> {
     let first = n as i64 * POSTS_OF_ENTRY;
-    let mut posts = ListOf::new(alloc);
-    for row in get.query_all(conn, params![first, first + POSTS_OF_ENTRY - 1])? {
-        let row = PostRow {
-            kind: row.get(0)?,
-            number: row.get(1)?,
-            body: row.get(2)?,
-            more: row.get(3)?,
-        };
-        match post_of(alloc, row)? {
-            Some(post) => posts.push(post)?,
-            None => return Ok(None),
-        }
-    }
-    Ok(Some(posts))
+    let rows = get.query_all(conn, params![first, first + POSTS_OF_ENTRY - 1])?;
+    posts_in(alloc, &rows)
 }
 
 pub fn put_head<S: Alter>(

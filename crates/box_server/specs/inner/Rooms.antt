@@ -1,10 +1,14 @@
 -- Channels with room for their tails. This project's own.
 use Rattle.std.specs.Prelude.{◌≡◌, ℕ, ◌+◌, ◌<◌, ◌≤◌, List, [], ◌∷◌, ◌++◌, length, get_or, drop, eqb, if◌then◌else◌, map as each, Vec, vec_len, vec_capacity}
-use Rattle.box_events.specs.BoxViews.{end_of}
+use Rattle.box_events.specs.BoxViews.{BoxView, end_of}
 use Rattle.box_server.specs.declared.channel.Channel.{Channel}
 use Rattle.box_server.specs.Posting.{cut}
 use Rattle.box_server.specs.Servers.{ChannelBox, channel_end, empty_channel}
 use Rattle.box_server.specs.inner.Insides.{channel_view}
+
+-- a box with the events that it had
+abbrev pub IsSameBox : BoxView → BoxView → Type 0
+IsSameBox b c = (c.first ≡ b.first) × (c.events ≡ b.events)
 
 -- the first n channels have room for their tails
 abbrev pub HaveRoom : ℕ → List Channel → List ChannelBox → Type 0
