@@ -10,7 +10,7 @@ The draw is this script's own, and not that of `tlbox make`; the same words writ
     --reorder 30                  of a hundred that are heard, how many are not the earliest
     --post 20  --hear 40  --tick 12  --serve 16  --wake 3  --restart 2  --date 5  --long 2
                                   how often each step is drawn, against the others; `long` is tooLong, of the boxes or of a channel
-    --large 3                     of a hundred posts, how many have 101 to 600 messages, so that slices and channels far behind come
+    --large 8                     of a hundred posts, how many have 101 to 600 messages, so that slices and channels far behind come
     --schema FILE                 the schema, crates/tlbox/data/profile.tl
     --json                        the steps as JSON, one on a line, in place of bytes
 
@@ -26,7 +26,7 @@ from script_ends import Usage, ended, number_of, options_of
 
 USAGE = "make_journal.py NUMBER STEPS [--OPTION VALUE ..]"
 WEIGHTS = {"post": 20, "hear": 40, "tick": 12, "serve": 16, "wake": 3, "restart": 2, "date": 5, "long": 2}
-OPTIONS = {**WEIGHTS, "clients": 2, "channels": 2, "lose": 10, "repeat": 10, "reorder": 30, "large": 3}
+OPTIONS = {**WEIGHTS, "clients": 2, "channels": 2, "lose": 10, "repeat": 10, "reorder": 30, "large": 8}
 LIMITS = {"clients": (1, 16), "channels": (0, 64)}
 KEYS = ("dark", "font", "mute", "sort")
 

@@ -1,5 +1,5 @@
 """A run of `tlbox replay`, read: the steps of its journal, each with its line and its packets, and the closing lines."""
-import os, re, subprocess, tempfile
+import contextlib, os, re, subprocess, tempfile
 from dataclasses import dataclass, field
 
 from script_ends import Refusal, read_bytes
@@ -104,17 +104,26 @@ def replayed(schema_path, journal_path, clients):
     return report
 
 
-def replayed_steps(schema_path, schema, steps, clients):
-    """What `replay` reports of steps given as JSON."""
+@contextlib.contextmanager
+def written(schema, steps):
+    """The path of a journal with these steps, for as long as it is needed."""
     with tempfile.NamedTemporaryFile(suffix=".journal") as file:
         file.write(journal_of(schema, steps))
         file.flush()
-        return replayed(schema_path, file.name, clients)
+        yield file.name
+
+
+def replayed_steps(schema_path, schema, steps, clients):
+    """What `replay` reports of steps given as JSON."""
+    with written(schema, steps) as path:
+        return replayed(schema_path, path, clients)
 
 
 def packets_of_last(schema_path, schema, steps, clients):
     """The numbers of the packets that the last of these steps sends: how many requests a tick has, the program alone knows."""
-    return [packet.number for packet in replayed_steps(schema_path, schema, steps, clients).steps[-1].packets]
+    with written(schema, steps) as path:
+        output = "\n" + run_program("replay", schema_path, path, str(clients))
+    return [int(number) for number in re.findall(r"^packet (\d+) ", output[output.rindex("\nstep ") :], re.MULTILINE)]
 
 
 def positions_of(line):

@@ -106,7 +106,7 @@ def encoded(schema, of, value):
     """The bytes of a value given as JSON."""
     try:
         return spelled(schema, of, value)
-    except (AttributeError, IndexError, KeyError, OverflowError, StopIteration, TypeError, ValueError):
+    except (AttributeError, LookupError, OverflowError, StopIteration, TypeError, ValueError):
         raise Unspelled(f"no value of {text_of(of)}: {str(value)[:80]}") from None
 
 
