@@ -1,4 +1,7 @@
 use Rattle.std.proofs.Common.{Ok, Err, codes}
+use Rattle.command_base.specs.declared.stop.Unmade.TheVariants.{Memory}
+use Rattle.command_base.proofs.Faults.{read_on}
+use Rattle.command_base.proofs.Loaded.{refusal_unread}
 use Rattle.codec_commands.proofs.Listings.{no_list, no_list_memory, schema_listed}
 use Rattle.schema_files.proofs.Answering.{leaves_input}
 use Rattle.codec_commands.proofs.check.made_listing.Goals as goal
@@ -20,3 +23,7 @@ returns-in_err-text-clause-unread g c = leaves_input (codes "schema") c.args.sch
 
 pub returns-clause-unread : goal.returns-clause-unread
 returns-clause-unread g c = leaves_input (codes "schema") c.args.schema.now (λ v. ⊥) (Ok c.in_ok-schema.schema) _ _ c.in_ok-schema.ensures.loads
+
+pub returns-in_err-text-clause-faults : goal.returns-in_err-text-clause-faults
+returns-in_err-text-clause-faults g c =
+    read_on c.in_ok-schema.ensures.faults (refusal_unread (λ line. ⊥) Memory c.from_residual-in_err-text.result tt c.from_residual-in_err-text.ensures.1)
