@@ -8,7 +8,6 @@ ghost use Rattle.tl_names.specs.Places.{types_of};
 ghost use Rattle.tl_names.specs.What.{base_what, constructor_named, declared_what, known_what, type_meant, type_named, unless_variable};
 ghost use Rattle.tl_names.specs.Writing.{own_type};
 
-use crate::name_hash::NameHash;
 use crate::names::Names;
 use crate::what::What;
 use crate::writing::{is_constructor, is_type_name, own_type};
@@ -31,7 +30,6 @@ pub struct Constructors {
 #[derive(Drop)]
 pub struct Index {
     program: Snapshot<Program>,
-    hash: NameHash,
     names: Names,
     types: Names,
     families: Vec<Constructors>,
@@ -60,9 +58,8 @@ impl Index {
         requires { length (program_text program.now) < 2 ^ 32 }
         ensures { IfOk result (λ x. x ≡ program_text program.now) }
     {
-        let hash = NameHash::of(program);
-        let mut names = Names::new(alloc, hash);
-        let mut types = Names::new(alloc, hash);
+        let mut names = Names::new(alloc);
+        let mut types = Names::new(alloc);
         let mut families = Vec::new(alloc);
         let mut vars = Vec::new(alloc);
         for (at, decl) in program.decls.iter().enumerate() {
@@ -72,17 +69,11 @@ impl Index {
         }
         Ok(Index {
             program: Snapshot::of(program),
-            hash,
             names,
             types,
             families,
             vars,
         })
-    }
-
-    /// The hash of the program's names and numbers.
-    pub fn hash(&self) -> NameHash {
-        self.hash
     }
 
     /// What a name means where a declaration with these variables writes it.

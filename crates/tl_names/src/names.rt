@@ -2,15 +2,14 @@
 ghost use Rattle.std.specs.Prelude.{◌≡◌, [], IfOk, OnOk, OnErr, is_none};
 ghost use Rattle.tl_names.specs.NamePlaces.{Notes, place_in};
 
-use crate::name_hash::NameHash;
-use indexmap::IndexMap;
 use std::alloc::{AllocError, Global};
+use std::collections::BTreeMap;
 use std::marker::Model;
 
-/// For each name its number, in a map whose hash no text can aim at: see [`NameHash`].
+/// For each name its number, in an ordered map: no text can make its look-ups slow.
 #[derive(Drop)]
 pub struct Names {
-    map: IndexMap<Vec<u8>, u32, NameHash>,
+    map: BTreeMap<Vec<u8>, u32>,
 }
 
 impl Model for Names {
@@ -23,11 +22,11 @@ impl Model for Names {
 }
 
 impl Names {
-    pub fn new(alloc: Global, hash: NameHash) -> Names
+    pub fn new(alloc: Global) -> Names
         ensures { result ≡ [] }
     {
         Names {
-            map: IndexMap::with_hasher(alloc, hash),
+            map: BTreeMap::new(alloc),
         }
     }
 
