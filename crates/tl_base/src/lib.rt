@@ -36,4 +36,6 @@ pub use packet::{PACKET_BYTES, PacketFault, read_packet, write_packet};
 pub use sink::{Sink, WriteFault, write_all};
 pub use slices::SliceSource;
 pub use source::{Source, TakeFault, TextFault, take_bytes, take_end, take_text, take_word};
-pub use tl_numbers::{BOXED_VECTOR, Bytes, PACKED};
+pub use tl_numbers::{
+    BOXED_VECTOR, Bytes, PACKED, bytes_of_i32, bytes_of_u32, i32_of, numbers_and_bytes, u32_of,
+};
