@@ -7,7 +7,7 @@ ghost use Rattle.tl_layers.specs.Breaks.{field_place};
 
 use std::alloc::{AllocError, Global};
 use std::marker::Model;
-use tl_names::Names;
+use tl_names::{NameHash, Names};
 use tl_schema::{Schema, SchemaField};
 use tl_types::slots_of;
 
@@ -39,7 +39,7 @@ impl<'s> Fields<'s> {
         ensures { IfOk result (λ f. f ≡ fields_in (slice_get schema.now.decls entry)) }
     {
         let fields = slots_of(schema, entry);
-        let names = names_of(alloc, fields)?;
+        let names = names_of(alloc, schema.hash(), fields)?;
         Ok(Fields { fields, names })
     }
 
@@ -67,11 +67,11 @@ impl<'s> Fields<'s> {
 }
 
 // The index of each field by its name.
-fn names_of(alloc: Global, fields: &[SchemaField]) -> Result<Names, AllocError>
+fn names_of(alloc: Global, hash: NameHash, fields: &[SchemaField]) -> Result<Names, AllocError>
     requires few { length fields.now < 2 ^ 32 }
     ensures { IfOk result (λ names. (name : List ℕ) → place_in names name ≡ field_place (map slot fields.now) name) }
 {
-    let mut names = Names::new(alloc);
+    let mut names = Names::new(alloc, hash);
     for (i, field) in fields.iter().enumerate() {
         names.note(alloc, field.name.as_slice(), i as u32)?;
     }

@@ -9,6 +9,7 @@ ghost use Rattle.tl_names.specs.Writing.{own_type};
 use crate::fields::meant_fields;
 use crate::index::Index;
 use crate::meant::{Meant, MeantDecl};
+use crate::name_hash::NameHash;
 use crate::names::Names;
 use crate::types::meant_type;
 use crate::writing::is_constructor;
@@ -36,7 +37,7 @@ fn meant_decl(alloc: Global, index: &Index, decl: &Decl) -> Result<MeantDecl, Al
     requires { HasFewParts (decl_text decl.now) }
     ensures { IfOk result (λ m. decl_view m ≡ meant_decl index.now (decl_text decl.now)) }
 {
-    let vars = numbered(alloc, &decl.vars)?;
+    let vars = numbered(alloc, index.hash(), &decl.vars)?;
     let result = meant_type(alloc, index, &vars, &decl.result)?;
     Ok(MeantDecl {
         vars: decl.vars.len() as u32,
@@ -49,11 +50,11 @@ fn meant_decl(alloc: Global, index: &Index, decl: &Decl) -> Result<MeantDecl, Al
 }
 
 /// The first index of each of the names.
-pub fn numbered(alloc: Global, names: &[Bytes]) -> Result<Names, AllocError>
+pub fn numbered(alloc: Global, hash: NameHash, names: &[Bytes]) -> Result<Names, AllocError>
     requires { length names.now ≤ part_limit }
     ensures { IfOk result (NumbersNames names.now) }
 {
-    let mut numbers = Names::new(alloc);
+    let mut numbers = Names::new(alloc, hash);
     for (at, name) in names.iter().enumerate() {
         numbers.note(alloc, name.as_slice(), at as u32)?;
     }

@@ -8,6 +8,7 @@ ghost use Rattle.tl_names.specs.Places.{types_of};
 ghost use Rattle.tl_names.specs.What.{base_what, constructor_named, declared_what, known_what, type_meant, type_named, unless_variable};
 ghost use Rattle.tl_names.specs.Writing.{own_type};
 
+use crate::name_hash::NameHash;
 use crate::names::Names;
 use crate::what::What;
 use crate::writing::{is_constructor, is_type_name, own_type};
@@ -30,6 +31,7 @@ pub struct Constructors {
 #[derive(Drop)]
 pub struct Index {
     program: Snapshot<Program>,
+    hash: NameHash,
     names: Names,
     types: Names,
     families: Vec<Constructors>,
@@ -58,8 +60,9 @@ impl Index {
         requires { length (program_text program.now) < 2 ^ 32 }
         ensures { IfOk result (λ x. x ≡ program_text program.now) }
     {
-        let mut names = Names::new(alloc);
-        let mut types = Names::new(alloc);
+        let hash = NameHash::of(program);
+        let mut names = Names::new(alloc, hash);
+        let mut types = Names::new(alloc, hash);
         let mut families = Vec::new(alloc);
         let mut vars = Vec::new(alloc);
         for (at, decl) in program.decls.iter().enumerate() {
@@ -69,11 +72,17 @@ impl Index {
         }
         Ok(Index {
             program: Snapshot::of(program),
+            hash,
             names,
             types,
             families,
             vars,
         })
+    }
+
+    /// The hash of the program's names and numbers.
+    pub fn hash(&self) -> NameHash {
+        self.hash
     }
 
     /// What a name means where a declaration with these variables writes it.

@@ -2,14 +2,15 @@
 ghost use Rattle.std.specs.Prelude.{◌≡◌, [], IfOk, OnOk, OnErr, is_none};
 ghost use Rattle.tl_names.specs.NamePlaces.{Notes, place_in};
 
+use crate::name_hash::NameHash;
+use indexmap::IndexMap;
 use std::alloc::{AllocError, Global};
-use std::collections::BTreeMap;
 use std::marker::Model;
 
-/// For each name its number, in an ordered map: no text can make its look-ups slow.
+/// For each name its number, in a map whose hash no text can aim at: see [`NameHash`].
 #[derive(Drop)]
 pub struct Names {
-    map: BTreeMap<Vec<u8>, u32>,
+    map: IndexMap<Vec<u8>, u32, NameHash>,
 }
 
 impl Model for Names {
@@ -22,11 +23,11 @@ impl Model for Names {
 }
 
 impl Names {
-    pub fn new(alloc: Global) -> Names
+    pub fn new(alloc: Global, hash: NameHash) -> Names
         ensures { result ≡ [] }
     {
         Names {
-            map: BTreeMap::new(alloc),
+            map: IndexMap::with_hasher(alloc, hash),
         }
     }
 

@@ -41,7 +41,7 @@ impl<'t> Scope<'t> {
         ensures program { IfOk result (λ s. s.0 ≡ index.now) }
         ensures decl { IfOk result (λ s. s.1 ≡ decl_text decl.now) }
     {
-        let vars = numbered(alloc, &decl.vars)?;
+        let vars = numbered(alloc, index.hash(), &decl.vars)?;
         Ok(Scope { index, decl, vars })
     }
 

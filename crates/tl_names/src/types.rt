@@ -15,7 +15,7 @@ use tl_combinators::TypeTree;
 pub fn resolve_type(alloc: Global, index: &Index, tree: &TypeTree) -> Result<Meant, AllocError>
     ensures { (d : DeclText) → d.vars ≡ [] → IfOk result (λ m. meant_view m ≡ meant index.now d (view tree.now)) }
 {
-    meant_type(alloc, index, &Names::new(alloc), tree)
+    meant_type(alloc, index, &Names::new(alloc, index.hash()), tree)
 }
 
 /// A type where a declaration with these variables writes it.

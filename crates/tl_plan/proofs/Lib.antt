@@ -6,6 +6,7 @@ pub mod EntryLists
 pub mod OwnDeclarations
 pub mod FormedReached
 pub mod NodeTypes
+pub mod OrderedEntries
 pub mod TableSteps
 pub mod QueueSteps
 pub mod ClosedNodes

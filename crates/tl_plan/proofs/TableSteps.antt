@@ -9,7 +9,7 @@ use Rattle.std.specs.Ordering.{is_eq, nat_cmp}
 use Rattle.std.specs.Cmp.Lexicographic.{slice_cmp}
 use Rattle.std.specs.BTreeMap.{insert_entry}
 use Rattle.tl_names.specs.NamePlaces.{place_in, places_in}
-use Rattle.tl_names.proofs.MapEntries.{found_inserted, place_in_entries}
+use Rattle.tl_plan.proofs.OrderedEntries.{found_inserted, place_in_entries}
 use Rattle.tl_schema.specs.Types.{Shape}
 use Rattle.tl_plan.specs.Types.{levels}
 use Rattle.tl_plan.specs.inner.Nodes.{AreBelow, AreDistinct, Grows, HasParts, NodeView, capped, key_of, levels_above, parts_of, type_at, type_by, types_after, types_at}

@@ -1,10 +1,9 @@
 -- Numbers of declarations: which are known, and whether one more is taken.
-use Rattle.std.proofs.Common.{◌≡◌, ◌⊎◌, inl, inr, ℕ, ◌+◌, ◌<◌, Bool, true, false, cond, not, List, length, Option, Some, None, ap, sym, ◌∙◌, subst, true≢false, arith}
+use Rattle.std.proofs.Common.{◌≡◌, ◌⊎◌, inl, inr, ℕ, nat_eq, ◌+◌, ◌<◌, Bool, true, false, cond, not, List, length, Option, Some, None, ap, sym, ◌∙◌, subst, true≢false, arith}
 use Rattle.std.specs.Bool.{Decides}
 use Rattle.std.proofs.lemmas.Bool.{cases_eq}
 use Rattle.std.proofs.lemmas.Option.{same_Some, slice_get_within}
-use Rattle.std.specs.Ordering.{is_eq, nat_cmp}
-use Rattle.std.specs.BTreeSet.{BTreeSet, contains}
+use Rattle.indexmap.specs.IndexSet.{IndexSet, contains}
 use Rattle.tl_numbers.proofs.Division.{one_crc}
 use Rattle.tl_combinators.specs.Program.{DeclText}
 use Rattle.tl_names.specs.Writing.{At}
@@ -32,8 +31,8 @@ IsKnown ds i n = (j : ℕ) × (j < i) × IsNumbered ds j n
 abbrev pub Knows : List DeclText → ℕ → (ℕ → Bool) → Type 0
 Knows ds i has = (n : ℕ) → Decides (has n) (IsKnown ds i n)
 
-abbrev pub KnowsNumbers : List DeclText → ℕ → BTreeSet ℕ → Type 0
-KnowsNumbers ds i known = Knows ds i (contains nat_cmp known)
+abbrev pub KnowsNumbers : {S : Type 0} → List DeclText → ℕ → IndexSet ℕ S → Type 0
+KnowsNumbers ds i known = Knows ds i (contains nat_eq known)
 
 pub knows_none : (ds : List DeclText) (has : ℕ → Bool) → ((n : ℕ) → has n ≡ false) → Knows ds 0 has
 knows_none ds has empty n = (λ h. absurd (true≢false (sym h ∙ empty n)), λ k. absurd (omega (arith, k.1)))
@@ -76,7 +75,7 @@ module _ (ds : List DeclText) (i : ℕ) (d : DeclText) (at : At ds i d) where
     only_number : (q : ℕ) → IsNumbered ds i q → n ≡ q
     only_number q x = one_number d n q number (subst (λ (c : DeclText). IsNumberOf c q) (same_here x.d x.here) x.number)
 
-    pub knows_more : (old new : ℕ → Bool) → ((q : ℕ) → new q ≡ cond (is_eq (nat_cmp n q)) true (old q)) → Knows ds i old → Knows ds (i + 1) new
+    pub knows_more : (old new : ℕ → Bool) → ((q : ℕ) → new q ≡ cond (nat_eq n q) true (old q)) → Knows ds i old → Knows ds (i + 1) new
     knows_more old new adds knows q =
         elim (cases_eq n q) [
           | inl e ↦ (λ h. (i, omega arith, subst (IsNumbered ds i) e has_number), λ k. adds q ∙ ap (λ b. cond b true (old q)) (number_same n q e))

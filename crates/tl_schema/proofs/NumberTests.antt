@@ -1,21 +1,17 @@
--- Tests of numbers by their order, and what an insertion tells.
-use Rattle.std.proofs.Common.{◌≡◌, ℕ, Bool, true, false, not, refl, ap, sym, ◌∙◌, true≢false, arith}
-use Rattle.std.specs.Ordering.{is_eq, nat_cmp}
-use Rattle.std.proofs.lemmas.Bool.Decides.{nat_tests}
+-- Tests of numbers, and what an insertion tells.
+use Rattle.std.proofs.Common.{◌≡◌, ℕ, nat_eq, Bool, true, false, not, refl, sym, ◌∙◌, true≢false}
+use Rattle.std.proofs.lemmas.Bool.Decides.{Decides-eqb}
 
-pub same_number : (m n : ℕ) → is_eq (nat_cmp m n) ≡ true → m ≡ n
-same_number m n h = grind (arith, nat_tests)
+pub same_number : (m n : ℕ) → nat_eq m n ≡ true → m ≡ n
+same_number m n = (Decides-eqb m n).0
 
-number_itself : (n : ℕ) → is_eq (nat_cmp n n) ≡ true
-number_itself n = grind (arith, nat_tests)
+pub number_same : (m n : ℕ) → m ≡ n → nat_eq m n ≡ true
+number_same m n = (Decides-eqb m n).1
 
-pub number_same : (m n : ℕ) → m ≡ n → is_eq (nat_cmp m n) ≡ true
-number_same m n same = ap (λ k. is_eq (nat_cmp m k)) (sym same) ∙ number_itself m
-
-pub number_other : (m n : ℕ) → (m ≡ n → ⊥) → is_eq (nat_cmp m n) ≡ false
-number_other m n other = by (is_eq (nat_cmp m n)) refl
+pub number_other : (m n : ℕ) → (m ≡ n → ⊥) → nat_eq m n ≡ false
+number_other m n other = by (nat_eq m n) refl
   where
-    by : (b : Bool) → is_eq (nat_cmp m n) ≡ b → is_eq (nat_cmp m n) ≡ false
+    by : (b : Bool) → nat_eq m n ≡ b → nat_eq m n ≡ false
     by true h = absurd (other (same_number m n h))
     by false h = h
 

@@ -1,7 +1,6 @@
 -- Which declaration has a number, as declarations come.
-use Rattle.std.proofs.Common.{◌≡◌, ◌⊎◌, inl, inr, ℕ, ◌+◌, ◌<◌, Bool, true, false, cond, List, [], ◌∷◌, length, slice_get, Option, Some, None, refl, ap, sym, subst, ◌∙◌, true≢false, arith, nat_lt, Ordering, Less, Equal, Greater}
-use Rattle.std.specs.Ordering.{is_eq, match_ordering, nat_cmp}
-use Rattle.std.specs.BTreeMap.{insert_entry}
+use Rattle.std.proofs.Common.{◌≡◌, ◌⊎◌, inl, inr, ℕ, ◌+◌, ◌<◌, Bool, true, false, cond, List, [], ◌∷◌, length, slice_get, Option, Some, None, refl, ap, sym, subst, ◌∙◌, true≢false, arith, nat_eq, nat_lt, if◌then◌else◌}
+use Rattle.indexmap.specs.IndexMap.{insert_entry}
 use borrow.Author.Tests.{ltb-true}
 use Rattle.std.proofs.lemmas.Bool.{ltb-false}
 use Rattle.std.proofs.lemmas.Option.{none-some, same_Some, slice_get_within}
@@ -13,14 +12,14 @@ use Rattle.tl_schema.specs.inner.SchemaParts.{AreNumbers, number_in}
 use Rattle.tl_schema.proofs.KnownNumbers.{one_number}
 use Rattle.tl_schema.proofs.NumberTests.{same_number, number_same, number_other}
 
--- ---- one number more in an ordered map
+-- ---- one number more in a map
 
 module _ (key v n : ℕ) where
   abbrev inserted : List (ℕ × ℕ) → List (ℕ × ℕ)
-  inserted es = insert_entry nat_cmp es key v
+  inserted es = insert_entry nat_eq es key v
 
-  abbrev placed : ℕ × ℕ → List (ℕ × ℕ) → Ordering → List (ℕ × ℕ)
-  placed e es o = match_ordering o ((key, v) ∷ e ∷ es) ((e.0, v) ∷ es) (e ∷ insert_entry nat_cmp es key v)
+  abbrev placed : ℕ × ℕ → List (ℕ × ℕ) → Bool → List (ℕ × ℕ)
+  placed e es b = if b then (e.0, v) ∷ es else e ∷ insert_entry nat_eq es key v
 
   -- a number at the head of a map
   here : (k w : ℕ) (es : List (ℕ × ℕ)) → n ≡ k → number_in ((k, w) ∷ es) n ≡ Some w
@@ -32,27 +31,25 @@ module _ (key v n : ℕ) where
   -- the number that was put in
   pub found_there : n ≡ key → (es : List (ℕ × ℕ)) → number_in (inserted es) n ≡ Some v
   found_there same [] = here key v [] same
-  found_there same (e ∷ es) = by (nat_cmp key e.0) refl (found_there same es)
+  found_there same (e ∷ es) = by (nat_eq key e.0) refl (found_there same es)
     where
-      by : (o : Ordering) → nat_cmp key e.0 ≡ o → number_in (inserted es) n ≡ Some v → number_in (placed e es (nat_cmp key e.0)) n ≡ Some v
-      by Less h rest = ap (λ o. number_in (placed e es o) n) h ∙ here key v (e ∷ es) same
-      by Equal h rest =
-          ap (λ o. number_in (placed e es o) n) h ∙ here e.0 v es (same ∙ same_number key e.0 (ap is_eq h))
-      by Greater h rest =
-          ap (λ o. number_in (placed e es o) n) h ∙ later e.0 e.1 (inserted es) (λ is. true≢false (sym (number_same key e.0 (sym same ∙ is)) ∙ ap is_eq h)) ∙ rest
+      by : (b : Bool) → nat_eq key e.0 ≡ b → number_in (inserted es) n ≡ Some v → number_in (placed e es (nat_eq key e.0)) n ≡ Some v
+      by true h rest =
+          ap (λ b. number_in (placed e es b) n) h ∙ here e.0 v es (same ∙ same_number key e.0 h)
+      by false h rest =
+          ap (λ b. number_in (placed e es b) n) h ∙ later e.0 e.1 (inserted es) (λ is. true≢false (sym (number_same key e.0 (sym same ∙ is)) ∙ h)) ∙ rest
 
   -- each other number
   pub found_elsewhere : (n ≡ key → ⊥) → (es : List (ℕ × ℕ)) → number_in (inserted es) n ≡ number_in es n
   found_elsewhere other [] = later key v [] other
-  found_elsewhere other (e ∷ es) = by (nat_cmp key e.0) refl (found_elsewhere other es)
+  found_elsewhere other (e ∷ es) = by (nat_eq key e.0) refl (found_elsewhere other es)
     where
-      by : (o : Ordering) → nat_cmp key e.0 ≡ o → number_in (inserted es) n ≡ number_in es n → number_in (placed e es (nat_cmp key e.0)) n ≡ number_in (e ∷ es) n
-      by Less h rest = ap (λ o. number_in (placed e es o) n) h ∙ later key v (e ∷ es) other
-      by Equal h rest =
-          let apart : n ≡ e.0 → ⊥ = λ is. other (is ∙ sym (same_number key e.0 (ap is_eq h))) in
-          ap (λ o. number_in (placed e es o) n) h ∙ later e.0 v es apart ∙ sym (later e.0 e.1 es apart)
-      by Greater h rest =
-          ap (λ o. number_in (placed e es o) n) h ∙ ap (cond (is_eq (nat_cmp n e.0)) (Some e.1)) rest
+      by : (b : Bool) → nat_eq key e.0 ≡ b → number_in (inserted es) n ≡ number_in es n → number_in (placed e es (nat_eq key e.0)) n ≡ number_in (e ∷ es) n
+      by true h rest =
+          let apart : n ≡ e.0 → ⊥ = λ is. other (is ∙ sym (same_number key e.0 h)) in
+          ap (λ b. number_in (placed e es b) n) h ∙ later e.0 v es apart ∙ sym (later e.0 e.1 es apart)
+      by false h rest =
+          ap (λ b. number_in (placed e es b) n) h ∙ ap (cond (nat_eq n e.0) (Some e.1)) rest
 
 -- ---- the first declarations
 
@@ -88,26 +85,26 @@ module _ (ds : List DeclText) (at : ℕ) (d : DeclText) (there : At ds at d) (nu
   }
 
   -- a declaration with a number
-  pub number_more : (key : ℕ) → d.builtin ≡ false → IsNumberOf d key → AreNumbersSoFar ds (at + 1) (insert_entry nat_cmp numbers key at)
+  pub number_more : (key : ℕ) → d.builtin ≡ false → IsNumberOf d key → AreNumbersSoFar ds (at + 1) (insert_entry nat_eq numbers key at)
   number_more key own is = record { found = found_more; all = all_more }
     where
       here_is : IsNumbered ds at key
       here_is = record { d = d; here = there; own = own; number = is }
 
-      found_more : (n i : ℕ) → number_in (insert_entry nat_cmp numbers key at) n ≡ Some i → IsNumbered ds i n
-      found_more n i found = by (is_eq (nat_cmp n key)) refl
+      found_more : (n i : ℕ) → number_in (insert_entry nat_eq numbers key at) n ≡ Some i → IsNumbered ds i n
+      found_more n i found = by (nat_eq n key) refl
         where
-          by : (b : Bool) → is_eq (nat_cmp n key) ≡ b → IsNumbered ds i n
+          by : (b : Bool) → nat_eq n key ≡ b → IsNumbered ds i n
           by true h =
               let same = same_number n key h in
               subst (IsNumbered ds i) (sym same) (subst (λ j. IsNumbered ds j key) (same_Some at i (sym (found_there key at n same numbers) ∙ found)) here_is)
           by false h =
               before.found n i (sym (found_elsewhere key at n (λ same. true≢false (sym (number_same n key same) ∙ h)) numbers) ∙ found)
 
-      all_more : (n i : ℕ) → i < at + 1 → IsNumbered ds i n → number_in (insert_entry nat_cmp numbers key at) n ≡ None → ⊥
-      all_more n i below has none = by (is_eq (nat_cmp n key)) refl
+      all_more : (n i : ℕ) → i < at + 1 → IsNumbered ds i n → number_in (insert_entry nat_eq numbers key at) n ≡ None → ⊥
+      all_more n i below has none = by (nat_eq n key) refl
         where
-          by : (b : Bool) → is_eq (nat_cmp n key) ≡ b → ⊥
+          by : (b : Bool) → nat_eq n key ≡ b → ⊥
           by true h = none-some at (sym none ∙ found_there key at n (same_number n key h) numbers)
           by false h =
               let other : n ≡ key → ⊥ = λ same. true≢false (sym (number_same n key same) ∙ h) in

@@ -4,16 +4,21 @@ ghost use Rattle.tl_combinators.specs.Program.{program_text};
 ghost use Rattle.tl_schema.specs.inner.SchemaParts.{AreNumbers};
 
 use crate::same_number::number_of;
+use indexmap::IndexMap;
 use std::alloc::{AllocError, Global};
-use std::collections::BTreeMap;
 use tl_combinators::Program;
+use tl_names::NameHash;
 
 /// For each number the index of the declaration that has it, the lines of built-in types aside.
-pub fn numbers_of(alloc: Global, program: &Program) -> Result<BTreeMap<u32, u32>, AllocError>
+pub fn numbers_of(
+    alloc: Global,
+    hash: NameHash,
+    program: &Program,
+) -> Result<IndexMap<u32, u32, NameHash>, AllocError>
     requires { length (program_text program.now) < 2 ^ 32 }
     ensures { IfOk result (λ numbers. AreNumbers (program_text program.now) numbers.entries) }
 {
-    let mut numbers = BTreeMap::new(alloc);
+    let mut numbers = IndexMap::with_hasher(alloc, hash);
     for (at, decl) in program.decls.iter().enumerate() {
         if !decl.builtin {
             numbers.insert(number_of(decl), at as u32)?;

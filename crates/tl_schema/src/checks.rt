@@ -15,10 +15,10 @@ use crate::by_number::numbers_of;
 use crate::entries::entry_of;
 use crate::pass_checks::pass_checks;
 use crate::{CheckFault, Entry, Schema};
+use indexmap::IndexMap;
 use std::alloc::{AllocError, Global};
-use std::collections::BTreeMap;
 use tl_combinators::{Decl, Program};
-use tl_names::{Index, MeantDecl, Names, is_function, resolve};
+use tl_names::{Index, MeantDecl, NameHash, Names, is_function, resolve};
 
 /// The indices of the declarations so far by their names.
 #[derive(Drop)]
@@ -74,14 +74,14 @@ fn declare(
     ensures { IfOk result (IsSchemaOf (program_text program.now)) }
 {
     let entered = entered_of(alloc, &index, program, meant)?;
-    let numbers = numbers_of(alloc, program)?;
+    let numbers = numbers_of(alloc, index.hash(), program)?;
     Ok(schema_of(index, entered, numbers, marks))
 }
 
 fn schema_of(
     index: Index,
     entered: Entered,
-    numbers: BTreeMap<u32, u32>,
+    numbers: IndexMap<u32, u32, NameHash>,
     marks: Vec<bool>,
 ) -> Schema
     requires { IsSound (record { program = index; decls = map declaration entered.entries.items }) entered.known.constructors entered.known.functions numbers.entries marks.items }
@@ -113,8 +113,8 @@ fn entered_of(
     let mut entered = Entered {
         entries: Vec::new(alloc),
         known: Known {
-            constructors: Names::new(alloc),
-            functions: Names::new(alloc),
+            constructors: Names::new(alloc, index.hash()),
+            functions: Names::new(alloc, index.hash()),
         },
     };
     for (at, decl) in program.decls.iter().enumerate() {

@@ -63,7 +63,10 @@ fn pass_names(
     requires resolved { AreResolved index.now (map decl_view meant.now) }
     ensures { ChecksBy index.now name_causes result }
 {
-    fault_at(first_same_name(alloc, program)?, CheckCause::SameName)?;
+    fault_at(
+        first_same_name(alloc, index.hash(), program)?,
+        CheckCause::SameName,
+    )?;
     fault_at(
         first_that_writes(index, program, meant, &UnknownName),
         CheckCause::UnknownType,
@@ -102,7 +105,10 @@ fn pass_meanings(
         first_that(index, program, meant, &BadCondition),
         CheckCause::BadFlag,
     )?;
-    fault_at(first_same_number(alloc, program)?, CheckCause::SameNumber)
+    fault_at(
+        first_same_number(alloc, index.hash(), program)?,
+        CheckCause::SameNumber,
+    )
 }
 
 // The checks of bare references: cycles, whose values would have no end, and arguments that take no bytes.

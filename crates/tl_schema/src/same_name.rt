@@ -9,7 +9,7 @@ ghost use Rattle.tl_schema.specs.inner.SameNameSteps.{AddsName, IsOf, MakesVecto
 
 use std::alloc::{AllocError, Global};
 use tl_combinators::{Decl, Program, TypeTree};
-use tl_names::{Names, is_variable};
+use tl_names::{NameHash, Names, is_variable};
 
 /// The names of the declarations so far.
 #[derive(Drop)]
@@ -20,17 +20,21 @@ struct Known {
 
 /// The first declaration with a name that is taken: an earlier constructor or function has its name, two of its
 /// variables and fields have one name, or it constructs `Vector`.
-pub fn first_same_name(alloc: Global, program: &Program) -> Result<Option<u32>, AllocError>
+pub fn first_same_name(
+    alloc: Global,
+    hash: NameHash,
+    program: &Program,
+) -> Result<Option<u32>, AllocError>
     requires { length (program_text program.now) < 2 ^ 32 }
     ensures { IfOk result (First (SameName (program_text program.now))) }
 {
     let mut known = Known {
-        constructors: Names::new(alloc),
-        functions: Names::new(alloc),
+        constructors: Names::new(alloc, hash),
+        functions: Names::new(alloc, hash),
     };
     for (k, decl) in program.decls.iter().enumerate() {
         let is_old = add_name(alloc, &mut known, decl)?;
-        let is_repeated = repeats_part(alloc, decl)?;
+        let is_repeated = repeats_part(alloc, hash, decl)?;
         if is_old || is_repeated || makes_vector(decl) {
             return Ok(Some(k as u32));
         }
@@ -71,17 +75,17 @@ fn part_name(decl: &Decl, i: usize) -> &[u8]
     }
 }
 
-// The most variables and fields whose names are compared pair by pair; more are noted in an ordered map.
+// The most variables and fields whose names are compared pair by pair; more are noted in a map.
 const FEW_PARTS: usize = 32;
 
 // Whether two variables or fields have one name.
-fn repeats_part(alloc: Global, decl: &Decl) -> Result<bool, AllocError>
+fn repeats_part(alloc: Global, hash: NameHash, decl: &Decl) -> Result<bool, AllocError>
     ensures { IfOk result (λ b. IsTrue b ↔ ((i : ℕ) × IsRepeat (part_names (decl_text decl.now)) i)) }
 {
     if decl.vars.len() + decl.fields.len() <= FEW_PARTS {
         Ok(repeats_one_of_few(decl))
     } else {
-        repeats_one_of_many(alloc, decl)
+        repeats_one_of_many(alloc, hash, decl)
     }
 }
 
@@ -110,10 +114,10 @@ fn repeats_one_of_few(decl: &Decl) -> bool
     false
 }
 
-fn repeats_one_of_many(alloc: Global, decl: &Decl) -> Result<bool, AllocError>
+fn repeats_one_of_many(alloc: Global, hash: NameHash, decl: &Decl) -> Result<bool, AllocError>
     ensures { IfOk result (λ b. IsTrue b ↔ ((i : ℕ) × IsRepeat (part_names (decl_text decl.now)) i)) }
 {
-    let mut names = Names::new(alloc);
+    let mut names = Names::new(alloc, hash);
     for i in 0..decl.vars.len() + decl.fields.len() {
         let is_old = add(alloc, &mut names, part_name(decl, i))?;
         if is_old {

@@ -6,17 +6,22 @@ ghost use Rattle.tl_schema.specs.inner.TakenNumbers.{IsTaken};
 ghost use Rattle.tl_schema.specs.Numbers.{IsNumberOf};
 ghost use Rattle.tl_schema.specs.SameNumber.{SameNumber};
 
+use indexmap::IndexSet;
 use std::alloc::{AllocError, Global};
-use std::collections::BTreeSet;
 use tl_combinators::{Decl, Program};
+use tl_names::NameHash;
 use tl_numbers::{BOXED_VECTOR, PACKED, crc32};
 
 /// The first declaration with a number that is taken: an earlier declaration's, that of packed values, or that of `Vector`.
-pub fn first_same_number(alloc: Global, program: &Program) -> Result<Option<u32>, AllocError>
+pub fn first_same_number(
+    alloc: Global,
+    hash: NameHash,
+    program: &Program,
+) -> Result<Option<u32>, AllocError>
     requires { length (program_text program.now) < 2 ^ 32 }
     ensures { IfOk result (First (SameNumber (program_text program.now))) }
 {
-    let mut numbers = BTreeSet::new(alloc);
+    let mut numbers = IndexSet::with_hasher(alloc, hash);
     for (k, decl) in program.decls.iter().enumerate() {
         if !decl.builtin {
             let number = number_of(decl);

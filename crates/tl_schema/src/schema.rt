@@ -7,10 +7,10 @@ ghost use Rattle.tl_names.specs.BareFields.{TakesNone};
 ghost use Rattle.tl_names.specs.Places.{types_of};
 ghost use Rattle.tl_schema.specs.inner.SchemaParts.{IsSound};
 
-use std::collections::BTreeMap;
+use indexmap::IndexMap;
 use std::marker::Model;
 use tl_graph::is_marked;
-use tl_names::{Index, Names};
+use tl_names::{Index, NameHash, Names};
 use tl_numbers::Bytes;
 
 /// A type. From "TL language" (core.telegram.org/mtproto/TL): its boxed and bare types.
@@ -78,7 +78,7 @@ pub struct Schema {
     entries: Vec<Entry>,
     constructors: Names,
     functions: Names,
-    numbers: BTreeMap<u32, u32>,
+    numbers: IndexMap<u32, u32, NameHash>,
     marks: Vec<bool>,
 }
 
@@ -104,7 +104,7 @@ impl Schema {
         entries: Vec<Entry>,
         constructors: Names,
         functions: Names,
-        numbers: BTreeMap<u32, u32>,
+        numbers: IndexMap<u32, u32, NameHash>,
         marks: Vec<bool>,
     ) -> Schema
         requires { IsSound (record { program = index; decls = map declaration entries.items }) constructors functions numbers.entries marks.items }
@@ -133,6 +133,11 @@ impl Schema {
         ensures { result ≡ length (types_of self.now.program) }
     {
         self.index.type_count()
+    }
+
+    /// The hash of its names and numbers.
+    pub fn hash(&self) -> NameHash {
+        self.index.hash()
     }
 
     /// The entry of the declaration at an index.

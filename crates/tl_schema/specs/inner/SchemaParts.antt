@@ -1,7 +1,6 @@
 -- What a schema keeps beside its entries: the indices of names and of numbers, and which constructors take no bytes. This project's own.
-use Rattle.std.specs.Prelude.{ℕ, List, Bool, true, false, Option}
+use Rattle.std.specs.Prelude.{ℕ, List, Bool, true, false, Option, nat_eq}
 use Rattle.std.specs.Map.{lookup}
-use Rattle.std.specs.Ordering.{is_eq, nat_cmp}
 use Rattle.tl_combinators.specs.Program.{DeclText}
 use Rattle.tl_names.specs.NamePlaces.{place_in}
 use Rattle.tl_names.specs.inner.BareSteps.{MarksEmpty}
@@ -13,7 +12,7 @@ abbrev pub ArePlaces : List Declaration → Bool → List (List ℕ × ℕ) → 
 ArePlaces es function places = (name : List ℕ) → Finds es name function (place_in places name)
 
 abbrev pub number_in : List (ℕ × ℕ) → ℕ → Option ℕ
-number_in numbers number = lookup (λ k. is_eq (nat_cmp number k)) numbers
+number_in numbers number = lookup (nat_eq number) numbers
 
 -- each number has the declaration that has it
 abbrev pub AreNumbers : List DeclText → List (ℕ × ℕ) → Type 0

@@ -7,7 +7,7 @@ use Rattle.tl_schema.proofs.by_number.numbers_of.Goals as goal
 use Rattle.tl_schema.proofs.by_number.numbers_of.Goals.{then-not-decl+in_ok-insert, else-not-decl}
 
 pub loop-at-init : goal.loop-at-init
-loop-at-init c = no_numbers (program_text c.args.program.now) _ c.new-numbers.ensures.empty
+loop-at-init c = no_numbers (program_text c.args.program.now) _ c.with_hasher-numbers.ensures.empty
 
 pub loop-at-preserved : goal.loop-at-preserved
 loop-at-preserved c =
