@@ -9,7 +9,6 @@ use pts_machine::{Lane, Mode};
 use seq_machine::Settings;
 
 /// What a client has.
-#[derive(Drop)]
 pub struct Parts {
     pub next: u32,
     pub common: Lane<Event>,
@@ -17,6 +16,20 @@ pub struct Parts {
     pub settings: Settings,
     pub flag: bool,
     pub channels: Channels,
+}
+
+// By hand, so that each exit of an owner has one call to prove.
+impl Drop for Parts {
+    fn drop(self) {
+        let Parts {
+            next: _,
+            common: _,
+            secret: _,
+            settings: _,
+            flag: _,
+            channels: _,
+        } = self;
+    }
 }
 
 /// Whether the common group is to ask.

@@ -17,7 +17,6 @@ use std::marker::Model;
 use tl_base::Memory;
 
 /// A box: events in order, each of which counts for some of its numbers. It ends at the sum of their counts. The first events may have gone.
-#[derive(Drop)]
 pub struct EventBox {
     pages: Vec<Page>,
     // Events are appended to this page.
@@ -28,6 +27,21 @@ pub struct EventBox {
     end: u32,
     len: u32,
     spare: u32,
+}
+
+// By hand, so that each exit of an owner has one call to prove.
+impl Drop for EventBox {
+    fn drop(self) {
+        let EventBox {
+            pages: _,
+            last: _,
+            spares: _,
+            first: _,
+            end: _,
+            len: _,
+            spare: _,
+        } = self;
+    }
 }
 
 impl Model for EventBox {

@@ -5,10 +5,19 @@ use box_events::Setting;
 use std::marker::Model;
 
 /// A setting and the server's date when it was set, in seconds.
-#[derive(Drop)]
 pub struct DatedSetting {
     pub setting: Setting,
     pub date: u32,
+}
+
+// By hand, so that each exit of an owner has one call to prove.
+impl Drop for DatedSetting {
+    fn drop(self) {
+        let DatedSetting {
+            setting: _,
+            date: _,
+        } = self;
+    }
 }
 
 impl Model for DatedSetting {

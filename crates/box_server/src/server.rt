@@ -33,7 +33,6 @@ use std::marker::Model;
 use tl_base::Memory;
 
 /// A server of updates: a common box, a secret box, a box for each channel, and settings ("Working with Updates", core.telegram.org/api/updates).
-#[derive(Drop)]
 pub struct Server {
     // In seconds.
     date: u32,
@@ -43,6 +42,20 @@ pub struct Server {
     channels: Vec<Channel>,
     settings: SettingList,
     receipts: BTreeMap<i64, Receipt>,
+}
+
+// By hand, so that each exit of an owner has one call to prove.
+impl Drop for Server {
+    fn drop(self) {
+        let Server {
+            date: _,
+            common: _,
+            secret: _,
+            channels: _,
+            settings: _,
+            receipts: _,
+        } = self;
+    }
 }
 
 impl Model for Server {

@@ -17,11 +17,21 @@ use tl_base::{Bytes, Memory};
 
 /// Settings in the order in which they were set. For each key the index of its last setting stands in an ordered map; a key that is yet to
 /// have its first has none. At most 256 keys have one.
-#[derive(Drop)]
 pub struct SettingList {
     settings: Vec<DatedSetting>,
     last: BTreeMap<Vec<u8>, Option<u32>>,
     keys: usize,
+}
+
+// By hand, so that each exit of an owner has one call to prove.
+impl Drop for SettingList {
+    fn drop(self) {
+        let SettingList {
+            settings: _,
+            last: _,
+            keys: _,
+        } = self;
+    }
 }
 
 impl Model for SettingList {

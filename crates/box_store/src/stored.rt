@@ -16,10 +16,19 @@ use std::alloc::Global;
 use std::marker::Model;
 
 /// A server, each of whose posts is kept before it is answered. The keeper's entries rebuild it, its date aside.
-#[derive(Drop)]
 pub struct Stored<K: Keeper> {
     keeper: K,
     server: Server,
+}
+
+// By hand, so that each exit of an owner has one call to prove.
+impl<K: Keeper + Drop> Drop for Stored<K> {
+    fn drop(self) {
+        let Stored {
+            keeper: _,
+            server: _,
+        } = self;
+    }
 }
 
 impl<K: Keeper> Model for Stored<K> {
@@ -108,7 +117,8 @@ impl<K: Keeper> Stored<K> {
         ensures keeper { result ≡ self.keeper }
         ensures rebuilt { Tells (K.state self.keeper).entries self.server }
     {
-        self.keeper
+        let Stored { keeper, server: _ } = self;
+        keeper
     }
 }
 
@@ -127,6 +137,7 @@ impl Stored<NoKeeper> {
     pub fn into_server(self) -> Server
         ensures { result ≡ self.server }
     {
-        self.server
+        let Stored { keeper: _, server } = self;
+        server
     }
 }

@@ -12,13 +12,25 @@ use tl_base::{MemHost, Memory};
 const SHOWN_BYTES: usize = 160;
 
 /// A run, and how it is to end.
-#[derive(Drop)]
 pub struct Case {
     alloc: Global,
     title: String,
     words: Vec<String>,
     setting: Setting,
     wanted: Ending,
+}
+
+// By hand, so that each exit of an owner has one call to prove.
+impl Drop for Case {
+    fn drop(self) {
+        let Case {
+            alloc: _,
+            title: _,
+            words: _,
+            setting: _,
+            wanted: _,
+        } = self;
+    }
 }
 
 // A run of `decode`: its words, and its input's bytes.

@@ -7,7 +7,6 @@ use crate::traffic::Traffic;
 use std::alloc::{AllocError, Global};
 
 /// How a run ends, and what it writes.
-#[derive(Drop)]
 pub struct Ending {
     /// The exit status.
     pub status: u8,
@@ -20,6 +19,20 @@ pub struct Ending {
     pub traffic: Traffic,
     /// A line for each entry that the keeper has, in a run of `keep`.
     pub kept: Vec<u8>,
+}
+
+// By hand, so that each exit of an owner has one call to prove.
+impl Drop for Ending {
+    fn drop(self) {
+        let Ending {
+            status: _,
+            output: _,
+            errors: _,
+            state: _,
+            traffic: _,
+            kept: _,
+        } = self;
+    }
 }
 
 impl Ending {

@@ -22,7 +22,6 @@ struct Place {
 }
 
 // A case so far.
-#[derive(Drop)]
 struct Begun {
     alloc: Global,
     name: String,
@@ -35,14 +34,41 @@ struct Begun {
     runs: Vec<Case>,
 }
 
+// By hand, so that each exit of an owner has one call to prove.
+impl Drop for Begun {
+    fn drop(self) {
+        let Begun {
+            alloc: _,
+            name: _,
+            line: _,
+            setting: _,
+            both_ways: _,
+            unused: _,
+            runs: _,
+        } = self;
+    }
+}
+
 // What stands before the next line.
-#[derive(Drop)]
 struct Reader {
     alloc: Global,
     place: Place,
     begun: Option<Begun>,
     block: Option<Block>,
     cases: Vec<Case>,
+}
+
+// By hand, so that each exit of an owner has one call to prove.
+impl Drop for Reader {
+    fn drop(self) {
+        let Reader {
+            alloc: _,
+            place: _,
+            begun: _,
+            block: _,
+            cases: _,
+        } = self;
+    }
 }
 
 // The part of a path up to its last `/`.
@@ -262,6 +288,18 @@ impl Begun {
 }
 
 impl Reader {
+    // The cases that were read.
+    fn into_cases(self) -> Vec<Case> {
+        let Reader {
+            alloc: _,
+            place: _,
+            begun: _,
+            block: _,
+            cases,
+        } = self;
+        cases
+    }
+
     fn new(alloc: Global, file: &str) -> Result<Reader, CaseFault> {
         let place = Place {
             file: String::from_str(alloc, file)?,
@@ -379,5 +417,5 @@ fn read_lines(rt: &HostRuntime, reader: &mut Reader, text: &str) -> Result<(), B
 pub fn read_cases(rt: &HostRuntime, name: &str, text: &str) -> Result<Vec<Case>, BadLine> {
     let mut reader = at_line(0, Reader::new(rt.alloc(), name))?;
     read_lines(rt, &mut reader, text)?;
-    Ok(reader.cases)
+    Ok(reader.into_cases())
 }

@@ -19,7 +19,6 @@ struct CaseFile {
 }
 
 /// The files, links and moments that a run finds, and how its calls go.
-#[derive(Drop)]
 pub struct Setting {
     alloc: Global,
     files: Vec<CaseFile>,
@@ -33,6 +32,23 @@ pub struct Setting {
     most: Vec<u32>,
     room: u32,
     keeper: CaseKeeper,
+}
+
+// By hand, so that each exit of an owner has one call to prove.
+impl Drop for Setting {
+    fn drop(self) {
+        let Setting {
+            alloc: _,
+            files: _,
+            links: _,
+            moments: _,
+            in_link: _,
+            fails: _,
+            most: _,
+            room: _,
+            keeper: _,
+        } = self;
+    }
 }
 
 impl CaseFile {

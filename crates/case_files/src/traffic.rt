@@ -6,7 +6,6 @@ use crate::ending::put_line;
 use std::alloc::{AllocError, Global};
 
 /// What a run does with links, and under which names it creates State.
-#[derive(Drop)]
 pub struct Traffic {
     /// The addresses that are used, each with a line feed.
     pub addresses: Vec<u8>,
@@ -16,6 +15,18 @@ pub struct Traffic {
     pub starts: Vec<usize>,
     /// The names under which State is created, each with a line feed.
     pub created: Vec<u8>,
+}
+
+// By hand, so that each exit of an owner has one call to prove.
+impl Drop for Traffic {
+    fn drop(self) {
+        let Traffic {
+            addresses: _,
+            sent: _,
+            starts: _,
+            created: _,
+        } = self;
+    }
 }
 
 impl Traffic {

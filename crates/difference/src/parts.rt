@@ -11,12 +11,23 @@ use tl_base::{Bytes, Memory};
 
 /// A list of events that starts at a number of its box and grows at its end, held as a difference gives it: the messages' bodies apart from the
 /// other events ("Working with Updates", core.telegram.org/api/updates: new_messages, other_updates).
-#[derive(Drop)]
 pub struct Parts {
     from: u32,
     at: u32,
     news: Vec<Bytes>,
     others: Vec<Placed>,
+}
+
+// By hand, so that each exit of an owner has one call to prove.
+impl Drop for Parts {
+    fn drop(self) {
+        let Parts {
+            from: _,
+            at: _,
+            news: _,
+            others: _,
+        } = self;
+    }
 }
 
 impl Model for Parts {
@@ -67,7 +78,13 @@ impl Parts {
     pub fn open(self) -> (ListOf<Bytes>, ListOf<Placed>)
         ensures { Woven self.from (self.from + ending self.events) result.0 result.1 self.events }
     {
-        (ListOf::from_vec(self.news), ListOf::from_vec(self.others))
+        let Parts {
+            from: _,
+            at: _,
+            news,
+            others,
+        } = self;
+        (ListOf::from_vec(news), ListOf::from_vec(others))
     }
 }
 

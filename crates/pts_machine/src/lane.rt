@@ -17,7 +17,6 @@ use std::marker::Model;
 use tl_base::Memory;
 
 /// The events of a box from a restart on, and held items.
-#[derive(Drop)]
 pub struct Lane<E: Counted> {
     restart: u32,
     events: Vec<E>,
@@ -26,6 +25,20 @@ pub struct Lane<E: Counted> {
     mode: Mode,
     // for how many more items memory was taken
     spare: u32,
+}
+
+// By hand, so that each exit of an owner has one call to prove.
+impl<E: Counted> Drop for Lane<E> {
+    fn drop(self) {
+        let Lane {
+            restart: _,
+            events: _,
+            at: _,
+            gap: _,
+            mode: _,
+            spare: _,
+        } = self;
+    }
 }
 
 impl<E: Counted> Model for Lane<E> {

@@ -11,7 +11,6 @@ use std::{fs, io};
 use tl_base::{Counts, Failed, Host, Kind, Out, Slot};
 
 /// Files and a link that are read through buffers, the file that State is written to, the standard streams and one listener.
-#[derive(Drop)]
 pub struct RealHost {
     rt: HostRuntime,
     schema: Option<BufReader<File>>,
@@ -24,6 +23,23 @@ pub struct RealHost {
     // The moment that was told last.
     moment: u32,
     ghost small: { moment < 2 ^ 31 },
+}
+
+// By hand, so that each exit of an owner has one call to prove.
+impl Drop for RealHost {
+    fn drop(self) {
+        let RealHost {
+            rt: _,
+            schema: _,
+            input: _,
+            state: _,
+            saved: _,
+            listener: _,
+            link: _,
+            counts: _,
+            moment: _,
+        } = self;
+    }
 }
 
 impl RealHost {

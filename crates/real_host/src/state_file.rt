@@ -6,10 +6,16 @@ use std::{fs, io, process};
 
 /// A file that is written, with the name that it has and the one that it will have. What can't be replaced, as a pipe or a device, is written in
 /// place, without these.
-#[derive(Drop)]
 pub struct StateFile {
     file: File,
     names: Option<Names>,
+}
+
+// By hand, so that each exit of an owner has one call to prove.
+impl Drop for StateFile {
+    fn drop(self) {
+        let StateFile { file: _, names: _ } = self;
+    }
 }
 
 #[derive(Drop)]
@@ -73,7 +79,7 @@ impl StateFile {
 
     /// Removes the file, where it has not taken its name.
     pub fn discard(self, rt: &HostRuntime) {
-        let StateFile { names, .. } = self;
+        let StateFile { file: _, names } = self;
         if let Some(names) = names {
             let _removed = fs::remove_file(rt, &names.now);
         }

@@ -25,7 +25,6 @@ use tl_base::Memory;
 const MOST: usize = 2_147_483_648;
 
 /// The settings of a client at a seq, and packs that came before their turn.
-#[derive(Drop)]
 pub struct Settings {
     at: u32,
     mode: Mode,
@@ -33,6 +32,19 @@ pub struct Settings {
     store: Store,
     // for how many more settings memory was taken
     spare: u32,
+}
+
+// By hand, so that each exit of an owner has one call to prove.
+impl Drop for Settings {
+    fn drop(self) {
+        let Settings {
+            at: _,
+            mode: _,
+            gap: _,
+            store: _,
+            spare: _,
+        } = self;
+    }
 }
 
 impl Model for Settings {

@@ -4,13 +4,23 @@ use crate::table::Table;
 use pts_machine::Takes;
 
 /// Settings that were applied.
-#[derive(Drop)]
 pub struct Store {
     pub table: Table,
     /// The date of the pack or answer that was applied last.
     pub date: u32,
     /// How many further settings are held.
     pub waiting: usize,
+}
+
+// By hand, so that each exit of an owner has one call to prove.
+impl Drop for Store {
+    fn drop(self) {
+        let Store {
+            table: _,
+            date: _,
+            waiting: _,
+        } = self;
+    }
 }
 
 impl Takes<HeldPack> for Store {

@@ -11,27 +11,54 @@ use std::alloc::Global;
 const TOO_BIG: Error = Error::SqliteFailure(ErrorCode::TooBig);
 
 // The statements that read.
-#[derive(Drop)]
 struct Reads {
     count: Statement,
     entry: Statement,
     posts: Statement,
 }
 
+// By hand, so that each exit of an owner has one call to prove.
+impl Drop for Reads {
+    fn drop(self) {
+        let Reads {
+            count: _,
+            entry: _,
+            posts: _,
+        } = self;
+    }
+}
+
 // The statements that write.
-#[derive(Drop)]
 struct Writes {
     entry: Statement,
     post: Statement,
 }
 
+// By hand, so that each exit of an owner has one call to prove.
+impl Drop for Writes {
+    fn drop(self) {
+        let Writes { entry: _, post: _ } = self;
+    }
+}
+
 /// A connection, with the statements that are used again and again.
-#[derive(Drop)]
 pub struct Database<S: Alter> {
     alloc: Global,
     conn: Connection<S>,
     reads: Reads,
     writes: Writes,
+}
+
+// By hand, so that each exit of an owner has one call to prove.
+impl<S: Alter + Drop> Drop for Database<S> {
+    fn drop(self) {
+        let Database {
+            alloc: _,
+            conn: _,
+            reads: _,
+            writes: _,
+        } = self;
+    }
 }
 
 fn reads_over<S: Alter>(conn: &mut Connection<S>) -> Result<Reads, Error> {
@@ -86,7 +113,13 @@ impl<S: Alter + Drop> Database<S> {
     }
 
     pub fn into_connection(self) -> Connection<S> {
-        self.conn
+        let Database {
+            alloc: _,
+            conn,
+            reads: _,
+            writes: _,
+        } = self;
+        conn
     }
 
     /// How many entries there are.

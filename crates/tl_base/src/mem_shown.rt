@@ -20,7 +20,6 @@ pub struct MemName {
 }
 
 /// Files, slots, outs, links and moments in memory, with all memory that calls need.
-#[derive(Drop)]
 pub struct MemShown {
     files: Vec<MemFile>,
     links: Vec<MemLink>,
@@ -46,6 +45,27 @@ pub struct MemShown {
     ghost opened: { AreOpenIn (length files.items) (length links.items) readings },
     ghost moments_fit: { AreMoments moments.items },
     ghost told_there: { told ≤ length moments.items },
+}
+
+// By hand, so that each exit of an owner has one call to prove.
+impl Drop for MemShown {
+    fn drop(self) {
+        let MemShown {
+            files: _,
+            links: _,
+            taken: _,
+            readings: _,
+            output: _,
+            errors: _,
+            state: _,
+            unlinked: _,
+            state_name: _,
+            address: _,
+            moments: _,
+            told: _,
+            room: _,
+        } = self;
+    }
 }
 
 impl MemName {

@@ -6,14 +6,19 @@ use crate::tree::TypeTree;
 use tl_numbers::Bytes;
 
 /// The condition `F.N?`: the field stands where bit N of the `#` field F is set.
-#[derive(Drop)]
 pub struct Cond {
     pub flags: Bytes,
     pub bit: u32,
 }
 
+// By hand, so that each exit of an owner has one call to prove.
+impl Drop for Cond {
+    fn drop(self) {
+        let Cond { flags: _, bit: _ } = self;
+    }
+}
+
 /// What a field holds.
-#[derive(Drop)]
 pub enum FieldKind {
     /// `#`.
     Nat,
@@ -24,16 +29,36 @@ pub enum FieldKind {
     Of { tree: TypeTree },
 }
 
+// By hand, so that each exit of an owner has one call to prove.
+impl Drop for FieldKind {
+    fn drop(self) {
+        match self {
+            FieldKind::Nat | FieldKind::Flag => {}
+            FieldKind::Call { var: _ } => {}
+            FieldKind::Of { tree: _ } => {}
+        }
+    }
+}
+
 /// A field of a declaration.
-#[derive(Drop)]
 pub struct Field {
     pub name: Bytes,
     pub cond: Option<Cond>,
     pub kind: FieldKind,
 }
 
+// By hand, so that each exit of an owner has one call to prove.
+impl Drop for Field {
+    fn drop(self) {
+        let Field {
+            name: _,
+            cond: _,
+            kind: _,
+        } = self;
+    }
+}
+
 /// A declaration of a constructor or a function, or the line of a built-in type.
-#[derive(Drop)]
 pub struct Decl {
     pub name: Bytes,
     /// The number that is written.
@@ -45,6 +70,22 @@ pub struct Decl {
     pub builtin: bool,
     /// The description, see [`Decl::description`].
     pub text: Bytes,
+}
+
+// By hand, so that each exit of an owner has one call to prove.
+impl Drop for Decl {
+    fn drop(self) {
+        let Decl {
+            name: _,
+            number: _,
+            vars: _,
+            fields: _,
+            result: _,
+            function: _,
+            builtin: _,
+            text: _,
+        } = self;
+    }
 }
 
 impl Decl {

@@ -5,11 +5,21 @@ ghost use Rattle.tl_combinators.specs.Trees.{is_plain, view};
 use tl_numbers::Bytes;
 
 /// A type, parentheses aside: a name and the types that it is applied to, `%` and a type, or any call (`!` alone).
-#[derive(Drop)]
 pub enum TypeTree {
     Named { name: Bytes, args: Vec<TypeTree> },
     Percent { tree: Box<TypeTree> },
     AnyCall,
+}
+
+// By hand, so that each exit of an owner has one call to prove.
+impl Drop for TypeTree {
+    fn drop(self) {
+        match self {
+            TypeTree::Named { name: _, args: _ } => {}
+            TypeTree::Percent { tree: _ } => {}
+            TypeTree::AnyCall => {}
+        }
+    }
 }
 
 /// Whether a type is a name alone.

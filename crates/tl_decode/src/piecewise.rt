@@ -24,13 +24,25 @@ use tl_plan::Plan;
 use tl_types::{MAX_LEVELS, Value};
 
 /// Reads the value of a root of a plan, of which the bytes come in pieces that may be cut anywhere.
-#[derive(Drop)]
 pub struct Decoder<'p, 's> {
     alloc: Global,
     plan: &'p Plan<'s>,
     root: u32,
     progress: Progress,
     at: u64,
+}
+
+// By hand, so that each exit of an owner has one call to prove.
+impl Drop for Decoder<'_, '_> {
+    fn drop(self) {
+        let Decoder {
+            alloc: _,
+            plan: _,
+            root: _,
+            progress: _,
+            at: _,
+        } = self;
+    }
 }
 
 impl<'p, 's> Model for Decoder<'p, 's> {
@@ -110,7 +122,13 @@ impl<'p, 's> Decoder<'p, 's> {
         // It has few nodes for the bytes that were taken.
         ensures bounded { (bytes : List ℕ) → AreBytes bytes → HasTaken self.entry bytes → (T : Shape) → IsInstance self.entry.plan self.entry.root T → HasFewNodes self.entry.plan.schema T (length bytes) (view result) }
     {
-        let Decoder { progress, .. } = self;
+        let Decoder {
+            alloc: _,
+            plan: _,
+            root: _,
+            progress,
+            at: _,
+        } = self;
         match progress {
             Progress::Done { value } => value,
             Progress::Reading { .. } => unreachable!(),

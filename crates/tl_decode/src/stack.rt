@@ -88,11 +88,21 @@ pub enum Found {
 }
 
 /// What reading goes on from where the bytes come in pieces: the lists and records that were begun, the item that is looked for, and its bytes so far.
-#[derive(Drop)]
 pub struct Reading {
     pub frames: Vec<Frame>,
     pub wanted: Wanted,
     pub held: Vec<u8>,
+}
+
+// By hand, so that each exit of an owner has one call to prove.
+impl Drop for Reading {
+    fn drop(self) {
+        let Reading {
+            frames: _,
+            wanted: _,
+            held: _,
+        } = self;
+    }
 }
 
 /// How far a value is whose bytes come in pieces.

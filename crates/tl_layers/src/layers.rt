@@ -19,7 +19,6 @@ use tl_schema::{Schema, TypeRef};
 use tl_types::Value;
 
 /// Two schemas, and a type of the old one whose bytes the new one reads.
-#[derive(Drop)]
 pub struct Layers<'s> {
     old: &'s Schema,
     new: &'s Schema,
@@ -27,6 +26,20 @@ pub struct Layers<'s> {
     image: TypeRef,
     moved: Vec<Option<Moved>>,
     count: u32,
+}
+
+// By hand, so that each exit of an owner has one call to prove.
+impl Drop for Layers<'_> {
+    fn drop(self) {
+        let Layers {
+            old: _,
+            new: _,
+            of: _,
+            image: _,
+            moved: _,
+            count: _,
+        } = self;
+    }
 }
 
 impl<'s> Model for Layers<'s> {

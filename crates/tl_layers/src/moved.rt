@@ -16,10 +16,16 @@ use std::alloc::{AllocError, Global};
 use tl_schema::Entry;
 
 /// The counterpart of a declaration, and for each of its fields the index of the old field of its name.
-#[derive(Drop)]
 pub struct Moved {
     pub entry: u32,
     pub from: Vec<Option<u32>>,
+}
+
+// By hand, so that each exit of an owner has one call to prove.
+impl Drop for Moved {
+    fn drop(self) {
+        let Moved { entry: _, from: _ } = self;
+    }
 }
 
 /// Where a declaration has moved, or its first break: the first in their order, at its first field.

@@ -28,7 +28,6 @@ pub struct Constructors {
 }
 
 /// The own constructors and the types of a program, to be found by name. It keeps the program's text for clauses alone.
-#[derive(Drop)]
 pub struct Index {
     program: Snapshot<Program>,
     hash: NameHash,
@@ -36,6 +35,20 @@ pub struct Index {
     types: Names,
     families: Vec<Constructors>,
     vars: Vec<usize>,
+}
+
+// By hand, so that each exit of an owner has one call to prove.
+impl Drop for Index {
+    fn drop(self) {
+        let Index {
+            program: _,
+            hash: _,
+            names: _,
+            types: _,
+            families: _,
+            vars: _,
+        } = self;
+    }
 }
 
 impl Model for Index {

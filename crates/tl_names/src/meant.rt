@@ -2,13 +2,23 @@
 use crate::what::What;
 
 /// A type with each name resolved.
-#[derive(Drop)]
 pub enum Meant {
     Named { what: What, args: Vec<Meant> },
     /// What stands after `%`.
     Percent { meant: Box<Meant> },
     /// `!` alone.
     AnyCall,
+}
+
+// By hand, so that each exit of an owner has one call to prove.
+impl Drop for Meant {
+    fn drop(self) {
+        match self {
+            Meant::Named { what: _, args: _ } => {}
+            Meant::Percent { meant: _ } => {}
+            Meant::AnyCall => {}
+        }
+    }
 }
 
 /// The condition of a field.
@@ -20,7 +30,6 @@ pub struct MeantCond {
 }
 
 /// What a field holds.
-#[derive(Drop)]
 pub enum MeantKind {
     /// `#`.
     Nat,
@@ -31,15 +40,30 @@ pub enum MeantKind {
     Of { meant: Meant },
 }
 
+// By hand, so that each exit of an owner has one call to prove.
+impl Drop for MeantKind {
+    fn drop(self) {
+        match self {
+            MeantKind::Nat | MeantKind::Flag | MeantKind::Call { variable: _ } => {}
+            MeantKind::Of { meant: _ } => {}
+        }
+    }
+}
+
 /// A field of a declaration. Its name stands in the program.
-#[derive(Drop)]
 pub struct MeantField {
     pub cond: Option<MeantCond>,
     pub kind: MeantKind,
 }
 
+// By hand, so that each exit of an owner has one call to prove.
+impl Drop for MeantField {
+    fn drop(self) {
+        let MeantField { cond: _, kind: _ } = self;
+    }
+}
+
 /// A declaration. Its name and those of its variables stand in the program.
-#[derive(Drop)]
 pub struct MeantDecl {
     pub vars: u32,
     pub fields: Vec<MeantField>,
@@ -48,4 +72,18 @@ pub struct MeantDecl {
     pub builtin: bool,
     /// The number of the type that it constructs, if it does.
     pub head: Option<u32>,
+}
+
+// By hand, so that each exit of an owner has one call to prove.
+impl Drop for MeantDecl {
+    fn drop(self) {
+        let MeantDecl {
+            vars: _,
+            fields: _,
+            result: _,
+            function: _,
+            builtin: _,
+            head: _,
+        } = self;
+    }
 }

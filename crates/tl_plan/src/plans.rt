@@ -12,13 +12,25 @@ use std::marker::Model;
 use tl_schema::Schema;
 
 /// The closed types that some types of a schema reach, by number; the first are those types, the roots.
-#[derive(Drop)]
 pub struct Plan<'s> {
     schema: &'s Schema,
     roots: u32,
     table: Table,
     queue: Queue,
     instances: Vec<Instance>,
+}
+
+// By hand, so that each exit of an owner has one call to prove.
+impl Drop for Plan<'_> {
+    fn drop(self) {
+        let Plan {
+            schema: _,
+            roots: _,
+            table: _,
+            queue: _,
+            instances: _,
+        } = self;
+    }
 }
 
 impl<'s> Model for Plan<'s> {

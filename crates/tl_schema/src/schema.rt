@@ -14,7 +14,6 @@ use tl_names::{Index, NameHash, Names};
 use tl_numbers::Bytes;
 
 /// A type. From "TL language" (core.telegram.org/mtproto/TL): its boxed and bare types.
-#[derive(Drop)]
 pub enum TypeRef {
     /// 32 bits, signed.
     Int,
@@ -45,8 +44,21 @@ pub enum TypeRef {
     Bare { entry: u32, args: Vec<TypeRef> },
 }
 
+// By hand, so that each exit of an owner has one call to prove.
+impl Drop for TypeRef {
+    fn drop(self) {
+        match self {
+            TypeRef::Int | TypeRef::Long | TypeRef::Nat | TypeRef::Double => {}
+            TypeRef::Int128 | TypeRef::Int256 | TypeRef::Str | TypeRef::Raw => {}
+            TypeRef::Flag | TypeRef::Call | TypeRef::Var { place: _ } => {}
+            TypeRef::Vector { boxed: _, item: _ } => {}
+            TypeRef::Boxed { head: _, args: _ } => {}
+            TypeRef::Bare { entry: _, args: _ } => {}
+        }
+    }
+}
+
 /// A field of a declaration.
-#[derive(Drop)]
 pub struct SchemaField {
     pub name: Bytes,
     /// The index of the `#` field and its bit, from 0, where the field has a condition.
@@ -56,8 +68,19 @@ pub struct SchemaField {
     pub of: TypeRef,
 }
 
+// By hand, so that each exit of an owner has one call to prove.
+impl Drop for SchemaField {
+    fn drop(self) {
+        let SchemaField {
+            name: _,
+            cond: _,
+            var: _,
+            of: _,
+        } = self;
+    }
+}
+
 /// A declaration: its name, its number, how many variables it has, its fields, and what it constructs or results in.
-#[derive(Drop)]
 pub struct Entry {
     pub name: Bytes,
     /// The line of a built-in type has the number 0, but that of `vector` 1cb5c415.
@@ -71,8 +94,22 @@ pub struct Entry {
     pub result: TypeRef,
 }
 
+// By hand, so that each exit of an owner has one call to prove.
+impl Drop for Entry {
+    fn drop(self) {
+        let Entry {
+            name: _,
+            number: _,
+            vars: _,
+            fields: _,
+            function: _,
+            head: _,
+            result: _,
+        } = self;
+    }
+}
+
 /// A schema: a program that passes the checks, and its entries. It keeps the program's text for clauses alone.
-#[derive(Drop)]
 pub struct Schema {
     index: Index,
     entries: Vec<Entry>,
@@ -80,6 +117,20 @@ pub struct Schema {
     functions: Names,
     numbers: IndexMap<u32, u32, NameHash>,
     marks: Vec<bool>,
+}
+
+// By hand, so that each exit of an owner has one call to prove.
+impl Drop for Schema {
+    fn drop(self) {
+        let Schema {
+            index: _,
+            entries: _,
+            constructors: _,
+            functions: _,
+            numbers: _,
+            marks: _,
+        } = self;
+    }
 }
 
 impl Model for Schema {

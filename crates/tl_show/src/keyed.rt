@@ -8,26 +8,51 @@ use std::marker::Model;
 use tl_schema::{Schema, SchemaField, TypeRef};
 
 /// A field, with its key: the text of its name.
-#[derive(Drop)]
 pub struct KeyedField<'a> {
     pub key: String,
     pub field: &'a SchemaField,
     ghost named: { string_bytes key ≡ name_text field.now.name },
 }
 
+// By hand, so that each exit of an owner has one call to prove.
+impl Drop for KeyedField<'_> {
+    fn drop(self) {
+        let KeyedField { key: _, field: _ } = self;
+    }
+}
+
 /// The text of a declaration's name, its fields with their keys, and whether these are known to differ from `_` and from each other.
-#[derive(Drop)]
 pub struct KeyedEntry<'a> {
     pub name: String,
     pub fields: Vec<KeyedField<'a>>,
     pub apart: bool,
 }
 
+// By hand, so that each exit of an owner has one call to prove.
+impl Drop for KeyedEntry<'_> {
+    fn drop(self) {
+        let KeyedEntry {
+            name: _,
+            fields: _,
+            apart: _,
+        } = self;
+    }
+}
+
 /// A schema, with the keys of its declarations' records.
-#[derive(Drop)]
 pub struct KeyedSchema<'a> {
     schema: &'a Schema,
     entries: Vec<KeyedEntry<'a>>,
+}
+
+// By hand, so that each exit of an owner has one call to prove.
+impl Drop for KeyedSchema<'_> {
+    fn drop(self) {
+        let KeyedSchema {
+            schema: _,
+            entries: _,
+        } = self;
+    }
 }
 
 impl<'a> Model for KeyedSchema<'a> {

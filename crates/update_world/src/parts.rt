@@ -4,9 +4,19 @@ use box_client::Client;
 use box_server::Server;
 
 /// A server, its clients, and all packets.
-#[derive(Drop)]
 pub struct Parts {
     pub server: Server,
     pub clients: Vec<Client>,
     pub pool: Pool,
+}
+
+// By hand, so that each exit of an owner has one call to prove.
+impl Drop for Parts {
+    fn drop(self) {
+        let Parts {
+            server: _,
+            clients: _,
+            pool: _,
+        } = self;
+    }
 }

@@ -16,11 +16,21 @@ use wire_forms::numbers::NO_FORM;
 use wire_forms::{Cell, Form, Part};
 
 /// A schema, the index of each form's declaration, and the number of each type.
-#[derive(Drop)]
 pub struct Layout<'s> {
     pub schema: &'s Schema,
     pub places: Vec<u32>,
     pub heads: Vec<u32>,
+}
+
+// By hand, so that each exit of an owner has one call to prove.
+impl Drop for Layout<'_> {
+    fn drop(self) {
+        let Layout {
+            schema: _,
+            places: _,
+            heads: _,
+        } = self;
+    }
 }
 
 impl<'s> Model for Layout<'s> {

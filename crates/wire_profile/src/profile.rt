@@ -20,12 +20,22 @@ use tl_types::Value;
 use wire_forms::numbers::NO_FORM;
 
 /// A schema that has the forms of the protocol, and the plan of its frames, steps and saved clients.
-#[derive(Drop)]
 pub struct Profile<'s> {
     layout: Layout<'s>,
     // The form of each declaration.
     table: Vec<u32>,
     plan: Plan<'s>,
+}
+
+// By hand, so that each exit of an owner has one call to prove.
+impl Drop for Profile<'_> {
+    fn drop(self) {
+        let Profile {
+            layout: _,
+            table: _,
+            plan: _,
+        } = self;
+    }
 }
 
 impl<'s> Model for Profile<'s> {

@@ -7,6 +7,7 @@ ghost use Rattle.wire_forms.specs.Parts.{first, rest};
 ghost use Rattle.wire_values.specs.Coming.{coming};
 
 use std::alloc::Global;
+use std::mem::replace;
 use std::vec::IntoIter;
 use tl_base::Bytes;
 use tl_types::Value;
@@ -17,15 +18,16 @@ use wire_forms::numbers::NO_FORM;
 pub type Fields = IntoIter<Value>;
 
 /// The number of the form of a record or call, and its fields; of a list the elements.
-pub fn opened(alloc: Global, value: Value) -> (u32, Fields)
+pub fn opened(alloc: Global, mut value: Value) -> (u32, Fields)
     ensures form { result.0 ≡ parts.entry_of (view value) }
     ensures fields { coming result.1 ≡ parts.parts_of (view value) }
 {
-    match value {
-        Value::List(items) => (NO_FORM, items.into_iter()),
-        Value::Node { entry, fields } => (entry, fields.into_iter()),
-        Value::Call { entry, fields } => (entry, fields.into_iter()),
-        _ => (NO_FORM, Vec::new(alloc).into_iter()),
+    let none = Vec::new(alloc);
+    match &mut value {
+        Value::List(items) => (NO_FORM, replace(items, none).into_iter()),
+        Value::Node { entry, fields } => (*entry, replace(fields, none).into_iter()),
+        Value::Call { entry, fields } => (*entry, replace(fields, none).into_iter()),
+        _ => (NO_FORM, none.into_iter()),
     }
 }
 
@@ -65,12 +67,13 @@ pub fn next_parts(alloc: Global, fields: &mut Fields) -> Fields
 }
 
 /// The bytes of a string or of bytes.
-pub fn text_of(alloc: Global, value: Value) -> Bytes
+pub fn text_of(alloc: Global, mut value: Value) -> Bytes
     ensures { result ≡ parts.text_of (view value) }
 {
-    match value {
-        Value::Text(text) => text,
-        _ => Bytes::new(alloc),
+    let none = Bytes::new(alloc);
+    match &mut value {
+        Value::Text(text) => replace(text, none),
+        _ => none,
     }
 }
 
@@ -101,8 +104,8 @@ pub fn next_long(fields: &mut Fields) -> i64
     ensures long { result ≡ parts.long_of (first (coming fields.old)) }
     ensures left { coming fields.new ≡ rest (coming fields.old) }
 {
-    match next_value(fields) {
-        Value::Long(n) => n,
+    match &next_value(fields) {
+        Value::Long(n) => *n,
         _ => 0,
     }
 }
@@ -112,8 +115,8 @@ pub fn next_bits(fields: &mut Fields) -> u32
     ensures bits { result ≡ conditions.bits_of (first (coming fields.old)) }
     ensures left { coming fields.new ≡ rest (coming fields.old) }
 {
-    match next_value(fields) {
-        Value::Nat(bits) => bits,
+    match &next_value(fields) {
+        Value::Nat(bits) => *bits,
         _ => 0,
     }
 }
