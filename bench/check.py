@@ -3,9 +3,11 @@
 
 Each text has so many declarations of about 120 bytes, with conditions, vectors, namespaces and comments. Then come texts that are
 hard in one way each: a million parentheses around one type, constructors of which each holds the next bare, in both orders, in
-one cycle, between two cycles, and without bytes, names that collide, and mentions among 255 variables.
+one cycle, between two cycles, and without bytes, names that collide, comments alone, and mentions among 255 variables.
 """
 import os
+import shutil
+import subprocess
 import sys
 import tempfile
 
@@ -61,6 +63,23 @@ def colliding():
         return file.read().split()
 
 
+def found(kind, count):
+    """Names that colliding.c finds, in a minute at most; none where there is no compiler of C."""
+    compiler = shutil.which("cc") or shutil.which("gcc")
+    if compiler is None:
+        return []
+    with tempfile.TemporaryDirectory() as folder:
+        program = os.path.join(folder, "colliding")
+        subprocess.run([compiler, "-O2", "-o", program, os.path.join(os.path.dirname(os.path.abspath(__file__)), "colliding.c")], check=True)
+        return subprocess.run([program, str(count), kind], check=True, stdout=subprocess.PIPE).stdout.decode().split()
+
+
+def comments(size):
+    """A text of one declaration, and of comments for the rest."""
+    line = "// nothing is declared in this line, which is as long as a declaration; so the time goes into the letters alone\n"
+    return "a = A;\n" + line * (size // len(line))
+
+
 def plain(count):
     return ["T%07x" % (number * 2654435761 % 2**28) for number in range(count)]
 
@@ -112,6 +131,11 @@ def texts(counts):
     names = colliding()
     yield "plain", mentioned(plain(len(names))), listed(len(names))
     yield "colliding", mentioned(names), listed(len(names))
+    for kind in ("fold", "sip"):
+        others = found(kind, len(names))
+        if others:
+            yield kind, mentioned(others), listed(len(others))
+    yield "comments", comments(2 * len(mentioned(names))), listed(1)
     yield "asking", asking(1_200), listed(1_200)
     yield "none", among_variables(0), listed(91)
     yield "255", among_variables(255), listed(91)
