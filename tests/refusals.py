@@ -247,7 +247,10 @@ def page(sources, rows, beside):
         if not name or crate not in sources.below or ((crate, name) not in names and not is_named(crate, name)):
             raise Bad(f"refusals.txt: beside {where}: there is no such call")
     lines = [HEAD, "| Crate | Calls | Refusals | What stays | By |", "|---|---|---|---|---|"]
-    lines += [f"| {' | '.join(cell)} |" for cell in cells]
+    above = ""
+    for crate, *cell in cells:
+        lines.append(f"|{'' if crate == above else f' {crate}'} | {' | '.join(cell)} |")
+        above = crate
     lines += ["", "No clause says this either, beside refusals:", ""]
     lines += [f"- `{where.partition(' ')[0]}` `{where.partition(' ')[2]}`: {text}" for where, text in beside]
     changing = sum(call.changes for call in sources.calls)
