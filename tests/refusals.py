@@ -223,11 +223,9 @@ def lines_of(call, faults, rows):
 
 HEAD = """# What stays after a refusal
 
-A call that refuses answers a fault. What stands then of what it was lent to change is a clause of its contract: that nothing changed, that it answers the same again, that a prefix was written. This page lists each public call that may refuse, by `tests/refusals.py`, which reads calls, faults and the names of clauses from the sources; what a clause says is told by `tests/refusals.txt`.
+A call that refuses answers a fault. What stands then of what it was lent to change (`&mut`) is a clause of its contract, the last column. `tests/refusals.py` makes this page: calls, faults and names of clauses are read from the sources, and what a clause says from `tests/refusals.txt`. **open**: no clause says what stays.
 
-A call that is lent nothing to change (`&mut`) changes nothing: of these the last table has only the names. What a call takes by value is gone, whatever it answers. Memory that a call has taken may stay taken (`spare`, room) where no clause says that nothing changed.
-
-In all of these a count of faults never falls, and rises where `Failed`, `ReadFault`, `WriteFault` or `LinkFault` is answered; what stands beside the slot, out or link that was lent is kept (`used`, `faults`, `beside`).
+A call that is lent nothing to change changes nothing, and isn't listed. What a call takes by value is gone, whatever it answers. Memory that a call has taken may stay taken (`spare`, room) where no clause says that nothing changed. A count of faults never falls, and rises where `Failed`, `ReadFault`, `WriteFault` or `LinkFault` is answered; what stands beside the slot, out or link that was lent is kept (`used`, `faults`, `beside`). Of `codec_commands`, `call_commands`, `layer_commands` and `update_commands` *the rest* is Errors, files, State, links, the address and moments, and what is left of Input, unless the work came to it.
 """
 
 
@@ -248,20 +246,15 @@ def page(sources, rows, beside):
         crate, _, name = where.partition(" ")
         if not name or crate not in sources.below or ((crate, name) not in names and not is_named(crate, name)):
             raise Bad(f"refusals.txt: beside {where}: there is no such call")
-    alone = {}
-    for call in sources.calls:
-        if not call.changes:
-            alone.setdefault(call.crate, []).append(f"`{call.name}` ({', '.join(sources.faults(call))})")
-    lines = [HEAD, "## Calls that are lent something to change", "", "| Crate | Calls | Refusals | What stays | By |", "|---|---|---|---|---|"]
-    lines += [f"| {' | '.join(cell)} |" for cell in cells]
-    lines += ["", "## Open", "", "No clause says what stays here:", ""]
-    lines += [f"- {crate} {names}, {faults}: {text}" for crate, names, faults, text, clauses in cells if clauses == "**open**"] + [""]
-    lines += ["And beside refusals:", "", *(f"- `{where.partition(' ')[0]}` `{where.partition(' ')[2]}`: {text}" for where, text in beside), ""]
-    lines += ["## Calls that are lent nothing to change", "", "| Crate | Calls, and what they refuse by |", "|---|---|"]
-    lines += [f"| `{crate}` | {', '.join(names)} |" for crate, names in alone.items()]
-    count = sum(len(names) for names in alone.values())
-    changing = len(sources.calls) - count
-    summary = f"{len(sources.calls)} public calls may refuse. {changing} are lent something to change: what stays is told in {told} rows, and open in {opened}. {count} are not"
+    lines = [HEAD, "| Crate | Calls | Refusals | What stays | By |", "|---|---|---|---|---|"]
+    above = ""
+    for crate, *cell in cells:
+        lines.append(f"|{'' if crate == above else f' {crate}'} | {' | '.join(cell)} |")
+        above = crate
+    lines += ["", "No clause says this either, beside refusals:", ""]
+    lines += [f"- `{where.partition(' ')[0]}` `{where.partition(' ')[2]}`: {text}" for where, text in beside]
+    changing = sum(call.changes for call in sources.calls)
+    summary = f"{len(sources.calls)} public calls may refuse. {changing} are lent something to change: what stays is told {told} times, and open {opened} times. {len(sources.calls) - changing} are not"
     return "\n".join([*lines, "", summary + ".", ""]), summary
 
 
