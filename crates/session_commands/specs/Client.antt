@@ -79,7 +79,8 @@ abbrev pub client_line : ClientState → List ℕ
 client_line c = codes "client " ++ client_positions (client_numbers c) ++ codes "\n"
 
 -- The server is asked for all that is new over a link that gives these bytes, and the client after that is saved and told; or the other end does something
--- wrong, and nothing is saved. The session is one that `HearsHonestly`: over an honest server's frames what is saved has that server's boxes.
+-- wrong, and nothing is saved. The session is one that `HearsHonestly`: over an honest server's frames each lane that is saved is what lies in that
+-- server's box from the lane's restart to its position.
 pub data OfSession (p : ProfileView) (address name : List ℕ) (c : ClientState) (given : List ℕ) (a : Answer) : Type 0 where
   failed : (fault : SessionFault) (sent line : List ℕ) (d : ClientState) → HearsHonestly p c given sent d (Err fault) → IsShort fault → session_line fault ≡ Some line → a ≡ over_link address sent PeerFault [] line
       → OfSession p address name c given a
