@@ -10,15 +10,15 @@ The draw is this script's own, and not that of `tlbox make`; the same words writ
     --reorder 30                  of a hundred that are heard, how many are not the earliest
     --post 20  --hear 40  --tick 12  --serve 16  --wake 3  --restart 2  --date 5  --long 2
                                   how often each step is drawn, against the others; `long` is tooLong, of the boxes or of a channel
-    --gap 9  --slice 7  --late 7  --behind 6  --begun 3  --flood 2
+    --gap 9  --slice 7  --late-answer 7  --far-behind 6  --anew 3  --flood 2
                                   how often each scene is drawn, against the steps; with 0 for all of them there are steps alone
     --schema FILE                 the schema, crates/tlbox/data/profile.tl
     --json                        the steps as JSON, one on a line, in place of bytes
 
 A scene is some steps of one client, with others between them. `gap`: pushes of one box come, and one before them later or never. `slice`: 101 to 300
-messages aren't heard, and the client asks till it has them. `late`: a push comes between an answer and its being heard, and the answer once more.
-`behind`: 501 to 600 messages of a channel aren't heard, one is before the answer. `begun`: the client is restarted between a request and its answer.
-`flood`: before the answer the client hears more than the 1,024 pushes that it may hold.
+messages aren't heard, and the client asks till it has them. `late-answer`: a push comes between an answer and its being heard, and the answer once more.
+`far-behind`: 501 to 600 messages of a channel aren't heard, and one comes before the answer. `anew`: the client is restarted, or woken, between a request
+and its answer. `flood`: before the answer the client hears more than the 1,024 pushes that it may hold.
 
 The requests of a tick are those of the program, which replays the steps so far at each tick: 200 steps take some seconds. The status is 0; 1 with a line
 where the program or the schema can't be used; 2 for other words.
@@ -32,7 +32,7 @@ from script_ends import Usage, ended, number_of, options_of
 
 USAGE = "make_journal.py NUMBER STEPS [--OPTION VALUE ..]"
 STEPS = {"post": 20, "hear": 40, "tick": 12, "serve": 16, "wake": 3, "restart": 2, "date": 5, "long": 2}
-SCENES = {"gap": 9, "slice": 7, "late": 7, "behind": 6, "begun": 3, "flood": 2}
+SCENES = {"gap": 9, "slice": 7, "late_answer": 7, "far_behind": 6, "anew": 3, "flood": 2}
 OPTIONS = {**STEPS, **SCENES, "clients": 2, "channels": 2, "lose": 10, "repeat": 10, "reorder": 30}
 LIMITS = {"clients": (1, 16), "channels": (0, 64)}
 BETWEEN = 40  # of a hundred steps of a scene, how many have another step before them
@@ -263,7 +263,7 @@ class Maker:
                 self.hear_now(client, packet)
             self.catch_up(client)
 
-    def late(self):
+    def late_answer(self):
         client = self.client()
         box = self.box_of(client)
         self.post_past(client, self.parts(box))
@@ -274,7 +274,7 @@ class Maker:
         for packet in answers + answers[: self.draw.below(2)]:
             self.hear_now(client, packet)
 
-    def behind(self):
+    def far_behind(self):
         client = self.client()
         if not self.channels_of(client):
             return
@@ -288,7 +288,7 @@ class Maker:
         for packet in answers:
             self.hear_now(client, packet)
 
-    def begun(self):
+    def anew(self):
         client = self.client()
         self.post_past(client, self.parts(self.box_of(client)))
         self.add("wake", client=client)
@@ -317,7 +317,7 @@ def main(words):
         raise Usage
     number, steps = number_of(left[0], 0, 2**63), number_of(left[1], 1, 100000)
     options = {name: number_of(values[name], *LIMITS.get(name, (0, 1000))) for name in OPTIONS}
-    if not any(options[name] for name in (*STEPS, *SCENES) if name not in ("hear", "serve", "behind")):
+    if not any(options[name] for name in (*STEPS, *SCENES) if name not in ("hear", "serve", "far_behind")):
         raise Usage
     maker = Maker(number, options, values["schema"])
     made = maker.make(steps)
