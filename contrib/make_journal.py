@@ -224,21 +224,29 @@ class Maker:
             answers.append(self.network.send([]))
         return answers
 
+    def wake_up(self, client):
+        """The client is woken and asks: the answers that it is still to hear."""
+        self.add("wake", client=client)
+        self.ask(client)
+        return self.serve_all(client)
+
+    def hear_all(self, client, packets):
+        for packet in packets:
+            self.hear_now(client, packet)
+
     def catch_up(self, client):
         """The client asks until nothing is asked any more, or it is disturbed."""
         for _ in range(8):
             self.between()
             if not self.ask(client) or self.draw.happens(self.options["lose"]):
                 return
-            for packet in self.serve_all(client):
-                self.hear_now(client, packet)
+            self.hear_all(client, self.serve_all(client))
 
     def gap(self):
         client = self.client()
         box = self.box_of(client)
         first, *later = [self.post_past(client, self.parts(box)) for _ in range(2 + self.draw.below(2))]
-        for packet in later:
-            self.hear_now(client, packet)
+        self.hear_all(client, later)
         what = self.draw.weighted({"asks": 5, "hears": 2, "is restarted": 3})
         if what == "asks":
             return self.catch_up(client)
@@ -259,20 +267,16 @@ class Maker:
         if self.ask(client):
             answers = self.serve_all(client)
             is_late = [self.draw.happens(30) for _ in range(2)]
-            for packet in [missed] * is_late[0] + answers + [missed] * is_late[1]:
-                self.hear_now(client, packet)
+            self.hear_all(client, [missed] * is_late[0] + answers + [missed] * is_late[1])
             self.catch_up(client)
 
     def late_answer(self):
         client = self.client()
         box = self.box_of(client)
         self.post_past(client, self.parts(box))
-        self.add("wake", client=client)
-        self.ask(client)
-        answers = self.serve_all(client)
+        answers = self.wake_up(client)
         self.hear_now(client, self.post_past(client, self.parts(box)))
-        for packet in answers + answers[: self.draw.below(2)]:
-            self.hear_now(client, packet)
+        self.hear_all(client, answers + answers[: self.draw.below(2)])
 
     def far_behind(self):
         client = self.client()
@@ -285,29 +289,27 @@ class Maker:
         self.ask(client)
         answers = self.serve_all(client)
         self.hear_now(client, self.post_past(client, self.parts(channel)))
-        for packet in answers:
-            self.hear_now(client, packet)
+        self.hear_all(client, answers)
 
     def anew(self):
         client = self.client()
         self.post_past(client, self.parts(self.box_of(client)))
-        self.add("wake", client=client)
-        self.ask(client)
-        answers = self.serve_all(client)
+        answers = self.wake_up(client)
         self.add("restart" if self.draw.happens(60) else "wake", client=client)
-        for packet in answers:
-            self.hear_now(client, packet)
+        self.hear_all(client, answers)
         self.catch_up(client)
 
     def flood(self):
         client = self.client()
-        self.add("wake", client=client)
-        self.ask(client)
-        answers = self.serve_all(client)
+        missed = [self.miss(client, COMMON, 101, 200)] if self.draw.happens(50) else []
+        answers = self.wake_up(client)
+        if missed:  # it holds what the first part brings
+            self.hear_all(client, missed + answers)
+            self.ask(client)
+            answers = self.serve_all(client)
         for _ in range(2):
             self.hear_now(client, self.push([self.message(COMMON) for _ in range(513 + self.draw.below(88))], self.others(client)))
-        for packet in answers:
-            self.hear_now(client, packet)
+        self.hear_all(client, answers)
         self.catch_up(client)
 
 
