@@ -1,0 +1,11 @@
+pub mod Forward
+pub mod Boxes
+pub mod CatchingUp
+pub mod Ending
+pub mod Answering
+pub mod Replay
+pub mod Client
+pub mod TwoPrograms
+pub mod Histories
+pub mod Meetings
+pub mod Instances
