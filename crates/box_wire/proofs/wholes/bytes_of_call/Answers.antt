@@ -7,12 +7,8 @@ use Rattle.box_wire.specs.inner.Wholes.{IsSpelling}
 use Rattle.box_wire.proofs.Called.{called, called_formed}
 use Rattle.box_wire.proofs.Spellings.{put_first, spelling_is}
 use Rattle.box_wire.proofs.wholes.bytes_of_call.Goals as goal
-use Rattle.box_wire.proofs.wholes.bytes_of_call.Goals.{in-Ok+in_ok-spell-in-Ok, in-Err}
 
-pub returns : goal.returns
-returns c = elim c.match-fits.branch [
-  | in-Ok+in_ok-spell-in-Ok w ↦ rw w.result-is (subst (λ (T : Shape). IsSpelling c.args.schema.now T (view c.args.value.now) w.spell.new.out.items) called
-      (spelling_is c.args.schema.now c.count-count.ensures.sound (shape ref.Call) (called_formed c.args.schema.now) (view c.args.value.now) w.spell.new.out.items w.in-Ok.ensures.fits
-      (λ b s. put_first w.new-bytes.result.items w.spell.new.out.items b w.new-bytes.ensures.items (w.in_ok-spell-in-Ok.ensures b s))))
-  | in-Err w ↦ rw w.result-is tt
-]
+pub returns-in-Ok : goal.returns-in-Ok
+returns-in-Ok c = subst (λ (T : Shape). IsSpelling c.args.schema.now T (view c.args.value.now) c.spell.new.out.items) called
+    (spelling_is c.args.schema.now c.count-count.ensures.sound (shape ref.Call) (called_formed c.args.schema.now) (view c.args.value.now) c.spell.new.out.items c.in-Ok.ensures.fits
+    (λ b s. put_first c.new-bytes.result.items c.spell.new.out.items b c.new-bytes.ensures.items (c.in_ok-spell-in-Ok.ensures b s)))
