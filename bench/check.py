@@ -64,7 +64,7 @@ def colliding():
 
 
 def found(kind, count):
-    """Names that colliding.c finds, in a minute at most; none where there is no compiler of C."""
+    """Names that colliding.c finds, in a minute or some; none where there is no compiler of C."""
     compiler = shutil.which("cc") or shutil.which("gcc")
     if compiler is None:
         return []
