@@ -135,7 +135,7 @@ def texts(counts):
         others = found(kind, len(names))
         if others:
             yield kind, mentioned(others), listed(len(others))
-    yield "comments", comments(2 * len(mentioned(names))), listed(1)
+    yield "comments", comments(len(mentioned(names))), listed(1)
     yield "asking", asking(1_200), listed(1_200)
     yield "none", among_variables(0), listed(91)
     yield "255", among_variables(255), listed(91)
