@@ -1,7 +1,7 @@
 //! The real outside: files, the standard streams, TCP and the clock. What they hold or take is not told: this is the trusted edge.
 ghost use Rattle.std.specs.Prelude.{None, false, IfSome, ◌≤◌, ◌<◌, ◌^◌, length};
 
-use crate::links::{Link, accept, connect};
+use crate::links::{Link, accept, connect, listen};
 use crate::state_file::StateFile;
 use std::fs::File;
 use std::io::{BufReader, ErrorKind, Read, Write};
@@ -200,7 +200,7 @@ impl Host for RealHost {
     }
 
     fn listen(&mut self, address: &str) -> Result<(), Failed> {
-        match TcpListener::bind(&self.rt, address) {
+        match listen(&self.rt, address) {
             Ok(listener) => {
                 self.listener = Some(listener);
                 Ok(())
