@@ -13,6 +13,9 @@ const PAUSE: u64 = 100;
 /// How many pauses a link is asked for where nobody listens: for three seconds.
 const CONNECT_PAUSES: u32 = 30;
 
+/// How many pauses there are while links can't be accepted: for a minute.
+const ACCEPT_PAUSES: u32 = 600;
+
 fn patience() -> Duration {
     Duration::from_secs(PATIENCE)
 }
@@ -104,13 +107,25 @@ pub fn listen(rt: &HostRuntime, address: &str) -> io::Result<TcpListener> {
     Err(last)
 }
 
-/// Waits for the next link that somebody makes. One whose other end gave up before it was accepted is passed over.
+/// Waits for the next link that somebody makes and that can be had. One that fails before is passed over. Where the system gives none, as when all
+/// descriptors are taken, it is asked again after a pause, for a minute.
 pub fn accept(rt: &HostRuntime, listener: &TcpListener) -> io::Result<Link> {
+    let mut pauses = ACCEPT_PAUSES;
     for _ in 0..u64::MAX {
         match listener.accept() {
-            Ok((stream, _)) => return Link::new(rt, stream),
+            Ok((stream, _)) => {
+                if let Ok(link) = Link::new(rt, stream) {
+                    return Ok(link);
+                }
+            }
             Err(fault) if fault.kind() == ErrorKind::ConnectionAborted => {}
-            Err(fault) => return Err(fault),
+            Err(fault) => {
+                let Some(left) = pauses.checked_sub(1) else {
+                    return Err(fault);
+                };
+                pauses = left;
+                pause(rt);
+            }
         }
     }
     Err(io::Error::from(ErrorKind::ConnectionAborted))
