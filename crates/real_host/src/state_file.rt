@@ -1,7 +1,7 @@
 //! The file that State is written to. It stands beside the name that it will have, and takes that name once it is whole.
-use std::fs::{File, OpenOptions, Permissions};
+use std::fs::{File, OpenOptions, Permissions, TryLockError};
 use std::io::{ErrorKind, Write};
-use std::os::unix::fs::OpenOptionsExt;
+use std::os::unix::fs::{MetadataExt, OpenOptionsExt};
 use std::path::Path;
 use std::{fs, io, process};
 
@@ -96,6 +96,24 @@ impl Write for StateFile {
 
     fn flush(&mut self) -> io::Result<()> {
         Ok(())
+    }
+}
+
+/// Holds a file of this name that was opened, until it is closed: it fails where another run holds it, or has given the name to a new one meanwhile.
+/// What is no file, and a file that the system locks for none, is held by nobody.
+pub fn hold(rt: &HostRuntime, name: &str, file: &File) -> io::Result<()> {
+    let held = file.metadata()?;
+    if !held.is_file() {
+        return Ok(());
+    }
+    if let Err(TryLockError::WouldBlock) = file.try_lock() {
+        return Err(io::Error::from(ErrorKind::ResourceBusy));
+    }
+    let named = fs::metadata(rt, name)?;
+    if held.ino() == named.ino() && held.dev() == named.dev() {
+        Ok(())
+    } else {
+        Err(io::Error::from(ErrorKind::ResourceBusy))
     }
 }
 
