@@ -80,7 +80,7 @@ def runs_of(path):
         elif word == "link":
             last = bytearray(digits(rest))
             links.append(last)
-        elif word in ("fails", "room", "reads-at-most"):
+        elif word in ("fails", "keeper-fails", "room", "reads-at-most"):
             plain = False
         elif word == "run":
             yield Run(f"{os.path.basename(path)}:{at}", words_in(rest), files, [bytes(link) for link in links], plain)

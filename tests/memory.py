@@ -189,7 +189,8 @@ class Runner:
         if gives is None:
             process = start("")
         elif words[0] == "serve":
-            process, came = called(start, [gives])
+            # A link whose buffer is refused is closed, and another one served.
+            process, came = called(start, [gives, gives])
             sent = b"".join(came)
         else:
             process, sent = over_link(start, gives)

@@ -3,7 +3,7 @@
 
 Each run takes one of the runs of the case files, damages one of its files, or what one of its links gives, and makes it with the built program, over
 files and over TCP on loopback. It looks at how the program ends: with a status of the table; with nothing on Errors where that is 0 and else one
-line, of `serve` one for each session at most; and within a memory of a gigabyte and a time that its bytes explain. It knows no right answers.
+line, of `serve` and `keep` one for each session at most; and within a memory of a gigabyte and a time that its bytes explain. It knows no right answers.
 
 The same seed and number damage the same bytes in the same way; numbers begin with FIRST, or with 0. The script prints how often each command ended
 with each status, and its longest run; it ends with status 1 where a run ended in another way, whose files it leaves and names. Each command of the case
@@ -13,6 +13,7 @@ import collections
 import os
 import random
 import resource
+import shutil
 import signal
 import struct
 import subprocess
@@ -33,6 +34,7 @@ FREE_SECONDS = 0.5
 SECONDS_A_BYTE = 0.000_002
 SECONDS_A_STEP = 0.000_02  # of a made run, whose steps are a word
 SESSIONS = 3
+SERVERS = ("serve", "keep")
 
 # The words that are put into texts: what schemas, JSON and journals are made of, and numbers at their limits.
 PIECES = [
@@ -115,9 +117,11 @@ def damaged_stream(chance, stream):
 class Trial:
     """A run of the program over one damaged input: its words, files and links."""
 
-    def __init__(self, number, chance, run):
+    def __init__(self, number, chance, run, database):
         self.number, self.where = number, run.where
         self.words, self.files, self.links = list(run.words), dict(run.files), list(run.links)
+        if self.command == "keep" and chance.random() < 0.7:
+            self.files[self.words[4]] = database
         targets = [name for name in self.files if name in self.words[1:]] + list(range(len(self.links))) * 2
         self.target = chance.choice(targets)
         if isinstance(self.target, int):
@@ -139,15 +143,12 @@ class Trial:
                 file.write(content)
 
     def start(self, tlbox, folder, address=None):
-        words = [*self.words[:2], address, *self.words[3:]] if address else self.words
-        return subprocess.Popen(
-            [tlbox, *words], cwd=folder, stdin=subprocess.DEVNULL, stdout=subprocess.DEVNULL, stderr=subprocess.PIPE, preexec_fn=limits
-        )
+        return started(tlbox, folder, [*self.words[:2], address, *self.words[3:]] if address else self.words)
 
     def run(self, tlbox, folder):
         """The status, the bytes on Errors, and the seconds of a processor."""
         self.write(folder)
-        if self.command == "serve":
+        if self.command in SERVERS:
             process, _ = called(lambda address: self.start(tlbox, folder, address), self.links)
         elif self.links:
             process, _ = over_link(lambda address: self.start(tlbox, folder, address), self.links[0])
@@ -164,15 +165,21 @@ class Trial:
 
     def is_right(self, status, errors):
         lines = errors.count(b"\n")
-        if status not in range(8) or (errors and not errors.endswith(b"\n")):
+        if status not in range(9 if self.command == "keep" else 8) or (errors and not errors.endswith(b"\n")):
             return False
-        if self.command == "serve":
+        if self.command in SERVERS:
             return (lines == 0) == (status == 0) and lines <= max(1, len(self.links))
         return lines == (0 if status == 0 else 1)
 
     def is_slow(self, seconds):
         steps = int(self.words[3]) if self.words[0] == "make" and self.words[3:] and self.words[3].isdigit() else 0
         return seconds > FREE_SECONDS + SECONDS_A_BYTE * self.size + SECONDS_A_STEP * min(steps, 100_000)
+
+
+def started(tlbox, folder, words):
+    return subprocess.Popen(
+        [tlbox, *words], cwd=folder, stdin=subprocess.DEVNULL, stdout=subprocess.DEVNULL, stderr=subprocess.PIPE, preexec_fn=limits
+    )
 
 
 def limits():
@@ -186,8 +193,8 @@ def is_seed(run):
     named = [name for name in run.files if name in run.words[1:]]
     if not run.plain or not named or any("/" in name or name in (".", "..") for name in run.files):
         return False
-    if run.words[0] == "serve":
-        return len(run.words) == 4 and 1 <= len(run.links) <= SESSIONS and run.words[3] == str(len(run.links))
+    if run.words[0] in SERVERS:
+        return len(run.words) == 4 + (run.words[0] == "keep") and 1 <= len(run.links) <= SESSIONS and run.words[3] == str(len(run.links))
     if run.words[0] in ("post", "client"):
         return len(run.words) >= 4 and len(run.links) == 1
     return not run.links
@@ -206,6 +213,22 @@ def seeds():
     return {command: runs for command, runs in sorted(found.items()) if len(runs) >= 10}
 
 
+def database_of(tlbox, place, runs):
+    """The database that `keep` has after the first of these runs, so that others find it damaged."""
+    folder = os.path.join(place, "database")
+    os.makedirs(folder)
+    for run in runs[:8]:
+        for name, content in run.files.items():
+            with open(os.path.join(folder, name), "wb") as file:
+                file.write(content)
+        process, _ = called(lambda address: started(tlbox, folder, [*run.words[:2], address, run.words[3], "posts.db"]), run.links)
+        process.communicate()
+    with open(os.path.join(folder, "posts.db"), "rb") as file:
+        database = file.read()
+    shutil.rmtree(folder)
+    return database
+
+
 def kept(trial, folder):
     """Leaves the files of a run, and what its links give, and tells where."""
     for number, link in enumerate(trial.links):
@@ -221,10 +244,11 @@ def main():
     sources = seeds()
     table, longest, wrong = collections.Counter(), {}, []
     place = tempfile.mkdtemp(prefix="tlbox-mutants-")
+    database = database_of(tlbox, place, sources["keep"])
     for number in range(first, first + count):
         chance = random.Random(f"{seed} {number}")
         command = chance.choice(list(sources))
-        trial = Trial(number, chance, chance.choice(sources[command]))
+        trial = Trial(number, chance, chance.choice(sources[command]), database)
         folder = os.path.join(place, str(number))
         status, errors, seconds = trial.run(tlbox, folder)
         table[command, status] += 1

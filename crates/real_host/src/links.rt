@@ -1,14 +1,27 @@
 //! Links: streams that give up in time, and send what they are given at once.
-use std::io;
 use std::io::{BufReader, ErrorKind, Read, Write};
 use std::net::{TcpListener, TcpStream, ToSocketAddrs};
 use std::time::Duration;
+use std::{io, thread};
 
 /// How many seconds one call on a link may wait for the other end.
 const PATIENCE: u64 = 30;
 
+/// How many milliseconds pass before a call that failed is made again.
+const PAUSE: u64 = 100;
+
+/// How many pauses a link is asked for where nobody listens: for three seconds.
+const CONNECT_PAUSES: u32 = 30;
+
+/// How many pauses there are while links can't be accepted: for a minute.
+const ACCEPT_PAUSES: u32 = 600;
+
 fn patience() -> Duration {
     Duration::from_secs(PATIENCE)
+}
+
+fn pause(rt: &HostRuntime) {
+    thread::sleep(rt, Duration::from_millis(PAUSE));
 }
 
 /// A stream that is read through a buffer.
@@ -46,25 +59,73 @@ impl Write for Link {
     }
 }
 
-/// Connects to the first address of the name that answers.
+/// Connects to the first address of the name that answers. Where nobody listens it is asked again for three seconds, since a server may just begin.
 pub fn connect(rt: &HostRuntime, address: &str) -> io::Result<Link> {
-    let mut last = io::Error::from(ErrorKind::InvalidInput);
+    for _ in 0..CONNECT_PAUSES {
+        match connect_once(rt, address) {
+            Err(fault) if fault.kind() == ErrorKind::ConnectionRefused => pause(rt),
+            ended => return ended,
+        }
+    }
+    connect_once(rt, address)
+}
+
+// Tries each address in turn. It was refused where nobody listens at any of them, and else fails as the last of the others did.
+fn connect_once(rt: &HostRuntime, address: &str) -> io::Result<Link> {
+    let mut last = io::Error::from(ErrorKind::ConnectionRefused);
     for address in address.to_socket_addrs(rt)? {
         match TcpStream::connect_timeout(rt, &address, patience()) {
+            Ok(stream) if leads_back(&stream) => {}
             Ok(stream) => return Link::new(rt, stream),
+            Err(fault) if fault.kind() == ErrorKind::ConnectionRefused => {}
             Err(fault) => last = fault,
         }
     }
     Err(last)
 }
 
-/// Waits for the next link that somebody makes. One whose other end gave up before it was accepted is passed over.
+// Whether a stream is its own other end. The system may give it the very port that it asks for, where nobody listens there.
+fn leads_back(stream: &TcpStream) -> bool {
+    match (stream.local_addr(), stream.peer_addr()) {
+        (Ok(own), Ok(other)) => own == other,
+        _ => false,
+    }
+}
+
+/// Listens at the first address of the name that can be had. Port 0 is refused: it means any port, and nobody would learn which.
+pub fn listen(rt: &HostRuntime, address: &str) -> io::Result<TcpListener> {
+    let mut last = io::Error::from(ErrorKind::InvalidInput);
+    for address in address.to_socket_addrs(rt)? {
+        if address.port() == 0 {
+            return Err(io::Error::from(ErrorKind::InvalidInput));
+        }
+        match TcpListener::bind(rt, address) {
+            Ok(listener) => return Ok(listener),
+            Err(fault) => last = fault,
+        }
+    }
+    Err(last)
+}
+
+/// Waits for the next link that somebody makes and that can be had. One that fails before is passed over. Where the system gives none, as when all
+/// descriptors are taken, it is asked again after a pause, for a minute.
 pub fn accept(rt: &HostRuntime, listener: &TcpListener) -> io::Result<Link> {
+    let mut pauses = ACCEPT_PAUSES;
     for _ in 0..u64::MAX {
         match listener.accept() {
-            Ok((stream, _)) => return Link::new(rt, stream),
+            Ok((stream, _)) => {
+                if let Ok(link) = Link::new(rt, stream) {
+                    return Ok(link);
+                }
+            }
             Err(fault) if fault.kind() == ErrorKind::ConnectionAborted => {}
-            Err(fault) => return Err(fault),
+            Err(fault) => {
+                let Some(left) = pauses.checked_sub(1) else {
+                    return Err(fault);
+                };
+                pauses = left;
+                pause(rt);
+            }
         }
     }
     Err(io::Error::from(ErrorKind::ConnectionAborted))

@@ -1,8 +1,8 @@
 //! The real outside: files, the standard streams, TCP and the clock. What they hold or take is not told: this is the trusted edge.
 ghost use Rattle.std.specs.Prelude.{None, false, IfSome, ◌≤◌, ◌<◌, ◌^◌, length};
 
-use crate::links::{Link, accept, connect};
-use crate::state_file::StateFile;
+use crate::links::{Link, accept, connect, listen};
+use crate::state_file::{StateFile, hold};
 use std::fs::File;
 use std::io::{BufReader, ErrorKind, Read, Write};
 use std::net::TcpListener;
@@ -143,7 +143,12 @@ impl Host for RealHost {
         match slot {
             Slot::Schema => self.schema = Some(file),
             Slot::Input => self.input = Some(file),
-            Slot::State => self.state = Some(file),
+            Slot::State => {
+                if hold(&self.rt, name, file.get_ref()).is_err() {
+                    return Err(self.counts.fail(slot.kind()));
+                }
+                self.state = Some(file);
+            }
             // A link is no file.
             Slot::Link => return Err(self.counts.fail(slot.kind())),
         }
@@ -200,7 +205,7 @@ impl Host for RealHost {
     }
 
     fn listen(&mut self, address: &str) -> Result<(), Failed> {
-        match TcpListener::bind(&self.rt, address) {
+        match listen(&self.rt, address) {
             Ok(listener) => {
                 self.listener = Some(listener);
                 Ok(())
