@@ -1,5 +1,5 @@
 -- A run of `client` that ends with status 0 has recovered its client.
-use Rattle.std.proofs.Common.{◌≡◌, ◌⊎◌, inl, inr, ℕ, ◌≤◌, ℤ, List, [], ◌++◌, length, Option, Some, Result, Ok, Err, refl, sym, ap, ◌∙◌, subst, codes}
+use Rattle.std.proofs.Common.{◌≡◌, inl, inr, ℕ, ℤ, List, ◌++◌, Option, Some, Ok, sym, ap, ◌∙◌, subst, codes}
 use Rattle.tl_base.specs.Calls.{Told}
 use Rattle.tl_base.specs.Causes.{Rose}
 use Rattle.tl_numbers.specs.Bytes.{AreBytes}
@@ -18,15 +18,14 @@ use Rattle.box_wire.specs.Framing.{Framed}
 use Rattle.box_wire.specs.Kinds.{saved_clients}
 use Rattle.command_base.specs.Answer.{Answer}
 use Rattle.command_base.specs.Kept.{Leaves, bytes_after, name_after}
-use Rattle.command_base.specs.declared.status.Status.{Status}
-use Rattle.command_base.specs.declared.status.Status.TheVariants.{Done, Refused, Usage, ReadFault, WriteFault, Memory, LinkFault, PeerFault}
+use Rattle.command_base.specs.declared.status.Status.TheVariants.{Done, Refused, ReadFault, WriteFault, Memory, LinkFault, PeerFault}
 use Rattle.command_base.proofs.SameFiles.{file_bytes, same_file}
 use Rattle.schema_files.specs.Answering.{OfSchemaText, no_schema, schema_of}
 use Rattle.schema_files.specs.Loaded.{IsSchemaText}
 use Rattle.fault_lines.specs.Profiled.{IsProfileText, OfProfile, no_profile, profiled}
 use Rattle.fault_lines.proofs.Profiled.{are_profiles}
-use Rattle.update_sessions.specs.Heard.{Hears, HearsOn, IsBrokenOff, asked, broke_off}
-use Rattle.update_sessions.specs.Honest.{HearsHonestly, told_all}
+use Rattle.update_sessions.specs.Heard.{Hears, IsBrokenOff, asked, broke_off}
+use Rattle.update_sessions.specs.Honest.{told_all}
 use Rattle.session_commands.specs.Client.{ClientAnswer, HasClient, OfSession, OfState, OfStateFile, client_line, failed, no_client, recovered, too_many, watch_all, watches}
 use Rattle.session_commands.specs.Linked.{next_link}
 use Rattle.commands.specs.Requests.{AsksFor, RequestText, client, job_of}

@@ -1,5 +1,5 @@
 -- A client that asks can be answered, and no more often than so many times.
-use Rattle.std.proofs.Common.{◌≡◌, ◌⊎◌, inl, inr, ℕ, zero, suc, ◌+◌, ◌≤◌, pos, List, [], ◌∷◌, length, Bool, true, false, ◌||◌, cond, eqb, Option, Some, None, refl, sym, ap, ◌∙◌, subst, arith}
+use Rattle.std.proofs.Common.{◌≡◌, ◌⊎◌, inl, inr, ℕ, zero, suc, ◌≤◌, pos, List, [], ◌∷◌, length, Bool, true, false, ◌||◌, cond, eqb, Some, refl, sym, ap, ◌∙◌, arith}
 use Rattle.std.proofs.lemmas.Bool.Decides.{nat_tests}
 use Rattle.std.proofs.lemmas.Option.{same_Some}
 use Rattle.box_events.specs.declared.replies.Reply.{Reply}
@@ -7,7 +7,7 @@ use Rattle.box_events.specs.declared.requests.Request.{Request}
 use Rattle.box_events.specs.declared.requests.Request.TheVariants.{Channel as Channel_of}
 use Rattle.pts_machine.specs.declared.mode.Mode.{Mode}
 use Rattle.pts_machine.specs.declared.mode.Mode.TheVariants.{Live, Asking, Again}
-use Rattle.channel_box.specs.Looks.{any_asks, is_waiting, waits}
+use Rattle.channel_box.specs.Looks.{any_asks, is_waiting}
 use Rattle.channel_box.specs.States.{ChannelState, first}
 use Rattle.channel_box.specs.Steps.{asks_number, is_asking}
 use Rattle.box_server.specs.Answers.{answer}
@@ -15,12 +15,11 @@ use Rattle.box_server.specs.Servers.{ServerState}
 use Rattle.box_server.proofs.Carrying.{changed_overlays}
 use Rattle.box_client.specs.Asking.{difference_of, is_one_asking}
 use Rattle.box_client.specs.States.{ClientState}
-use Rattle.box_world.specs.Agreeing.{Agrees}
 use Rattle.box_world.specs.Recovering.{AnswersEach, most_frames}
-use Rattle.box_world.specs.Streams.{Doing, Frame, Honest, Past, asked_by, begun, channel_request, heard_frame, past_of, told_reply}
+use Rattle.box_world.specs.Streams.{Doing, Honest, Past, asked_by, begun, channel_request, heard_frame, past_of, told_reply}
 use Rattle.box_world.proofs.Histories.{frames_are_bounded}
 use Rattle.headline.specs.CatchingUp.{heard_all}
-use Rattle.headline.specs.Ending.{EndsSession, SessionsEnd, told_replies}
+use Rattle.headline.specs.Ending.{SessionsEnd, told_replies}
 use Rattle.headline.proofs.LastAnswers.{by_true}
 use Rattle.headline.proofs.LastChannels.{channel_asked}
 

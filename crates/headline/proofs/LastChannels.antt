@@ -1,7 +1,6 @@
 -- Each channel of a client that hears an honest server until it asks no more has heard a last answer too, and stands at or past where the server was then.
-use Rattle.std.proofs.Common.{◌≡◌, ◌⊎◌, inl, inr, ℕ, zero, suc, ◌≤◌, ℤ, pos, List, [], ◌∷◌, ◌++◌, length, Bool, true, false, ◌||◌, cond, Option, Some, None, refl, sym, ap, ◌∙◌, subst, arith}
+use Rattle.std.proofs.Common.{◌≡◌, ◌⊎◌, inl, inr, ℕ, zero, suc, ◌≤◌, ℤ, pos, List, [], ◌∷◌, length, Bool, true, false, cond, Option, Some, refl, sym, ap, ◌∙◌, subst, arith}
 use Rattle.std.specs.Prelude.{slice_get}
-use Rattle.std.proofs.lemmas.Option.{none-some, same_Some}
 use Rattle.box_events.specs.declared.replies.ChannelReply.{ChannelReply}
 use Rattle.box_events.specs.declared.replies.Reply.{Reply}
 use Rattle.box_events.specs.declared.replies.Reply.TheVariants as reply_of
@@ -9,7 +8,7 @@ use Rattle.box_events.specs.declared.requests.Request.{Request}
 use Rattle.box_events.specs.declared.requests.Request.TheVariants.{Channel as Channel_of}
 use Rattle.channel_box.specs.Looks.{any_asks, is_waiting, waits}
 use Rattle.channel_box.specs.States.{ChannelState, first}
-use Rattle.channel_box.specs.Steps.{ask_of, asks_number, flagged, is_asking, woken}
+use Rattle.channel_box.specs.Steps.{asks_number, flagged, is_asking}
 use Rattle.box_server.specs.Answers.{answer, channel_difference}
 use Rattle.box_server.specs.Servers.{ServerState, channel_end, channel_in}
 use Rattle.box_server.proofs.Carrying.{changed_overlays}
@@ -18,7 +17,7 @@ use Rattle.box_client.specs.Asking.{difference_of, group_is_due, group_ticked, i
 use Rattle.box_client.specs.Pushes.{pushed}
 use Rattle.box_client.specs.Replies.{replied}
 use Rattle.box_client.specs.States.{ClientState}
-use Rattle.box_world.specs.Agreeing.{Agrees, Boxes, ChannelAgrees, is_last_part}
+use Rattle.box_world.specs.Agreeing.{ChannelAgrees, is_last_part}
 use Rattle.box_world.specs.Growing.{IsLedger}
 use Rattle.box_world.specs.Streams.{Doing, Frame, Honest, IsHonestFrame, Past, asked_by, begun, channel_request, heard_frame, past_of, told_push, told_reply}
 use Rattle.box_world.specs.Worlds.{after_reply}

@@ -1,6 +1,5 @@
 -- A loaded client waits for nothing, so what holds of one session holds of runs in turn.
-use Rattle.std.proofs.Common.{◌≡◌, ℕ, ◌<◌, ◌≤◌, ◌^◌, ℤ, List, [], ◌∷◌, ◌++◌, map, length, length-append, Bool, true, false, ◌||◌, cond, ltb, Option, Some, None, refl, sym, ap, ◌∙◌, subst, arith}
-use Rattle.tl_numbers.specs.Bytes.{AreBytes}
+use Rattle.std.proofs.Common.{◌≡◌, ℕ, ◌<◌, ◌^◌, ℤ, List, [], ◌∷◌, ◌++◌, map, length, length-append, Bool, true, false, ◌||◌, ltb, Some, refl, sym, ap, ◌∙◌, subst, arith}
 use Rattle.box_events.specs.declared.limits.TheConstants.{MAX_CHANNELS}
 use Rattle.box_events.specs.declared.saved.SavedChannel.{SavedChannel}
 use Rattle.pts_machine.specs.Steps.{new_lane}
@@ -8,15 +7,15 @@ use Rattle.channel_box.specs.Looks.{any_asks, is_waiting, waits}
 use Rattle.channel_box.specs.States.{ChannelState}
 use Rattle.channel_box.specs.Steps.{channel_of, is_watched}
 use Rattle.box_client.specs.Asking.{is_one_asking}
-use Rattle.box_client.specs.Saving.{channel_loaded, client_loaded}
-use Rattle.box_client.specs.States.{ClientState, new_client}
+use Rattle.box_client.specs.Saving.{channel_loaded}
+use Rattle.box_client.specs.States.{ClientState}
 use Rattle.box_server.specs.Servers.{ServerState, dated_at}
 use Rattle.box_server.specs.Sound.{IsSound}
 use Rattle.box_world.specs.Streams.{Doing, dates, past_of}
 use Rattle.box_world.proofs.Posting.{none_either}
 use Rattle.wire_profile.specs.Places.{ProfileView}
 use Rattle.wire_profile.specs.Profiles.{IsProfile}
-use Rattle.session_commands.specs.Client.{HasClient, HasSaved, begins, loads, watch_all, watch_one}
+use Rattle.session_commands.specs.Client.{HasClient, begins, loads, watch_all, watch_one}
 use Rattle.headline.specs.Answering.{IsUpToDate}
 use Rattle.headline.specs.Client.{StateAgrees}
 use Rattle.headline.specs.Histories.{HasHistory}
