@@ -8,4 +8,5 @@ pub mod Client
 pub mod TwoPrograms
 pub mod Histories
 pub mod Meetings
+pub mod ServedRuns
 pub mod Instances

@@ -8,6 +8,7 @@ ghost use Rattle.headline.specs.Histories.{HistoriesAreSound, KeptRunsGoOn, Sess
 ghost use Rattle.headline.specs.Instances.{ClientsHaveBoxes, StreamsAreSent, StretchesAreExact};
 ghost use Rattle.headline.specs.Meetings.{LoadedAskNothing, StatesMeetServers};
 ghost use Rattle.headline.specs.Replay.{ReplayHeadline};
+ghost use Rattle.headline.specs.ServedRuns.{ServedRunsMeet};
 ghost use Rattle.headline.specs.TwoPrograms.{TwoProgramsMeet};
 
 /// After every list of steps each client has the server's boxes from its restarts to its positions, its common and secret boxes whole; no position falls as
@@ -73,4 +74,10 @@ pub fn servers_have_histories()
 pub fn states_meet_servers()
     ensures calm { LoadedAskNothing }
     ensures meet { StatesMeetServers }
+{}
+
+/// A run of `client` over a link that a run of `serve` is on in one of its sessions: each is sent what the other's link gave. What the client saved is up to date
+/// with the server, and its state agrees with it.
+pub fn served_runs_meet()
+    ensures { ServedRunsMeet }
 {}
