@@ -31,7 +31,8 @@ use Rattle.commands.specs.Requests.{AsksFor, RequestText, client, job_of}
 use Rattle.commands.specs.Runs.{Ends, MayAnswer, answered, link_failed, out_of_memory, out_of_memory_later, read_failed, read_failed_later, write_failed}
 use Rattle.commands.proofs.OneAnswer.{answer_to}
 use Rattle.commands.proofs.Rows.{one_request}
-use Rattle.headline.specs.Client.{ClientEnds, ClientHeadline, Recovers}
+use Rattle.headline.specs.Client.{ClientEnds, ClientHeadline}
+use Rattle.headline.specs.Recovered.{Recovers}
 use Rattle.headline.proofs.Recoveries as recoveries
 use Rattle.headline.proofs.Recoveries.{heard_so}
 use Rattle.headline.proofs.Watching.{session_ids}

@@ -27,7 +27,8 @@ use Rattle.box_world.proofs.GoingOn.{agree_ticks, agree_wakes}
 use Rattle.box_world.proofs.Posting.{none_either}
 use Rattle.box_world.proofs.Telling.{channel_answer_is}
 use Rattle.box_world.proofs.Ticking.{stands_at}
-use Rattle.headline.specs.CatchingUp.{ChannelAsksNoMore, HonestSessionsCatchUpByChannel, IsPastAt, LastChannelAnswer, channel_waits, heard_all}
+use Rattle.headline.specs.CatchingUp.{heard_all}
+use Rattle.headline.specs.CatchingUpChannels.{ChannelAsksNoMore, HonestSessionsCatchUpByChannel, IsPastAt, LastChannelAnswer, channel_waits}
 use Rattle.headline.proofs.Channels.{Answered, HonestTo, Ticks, Took, map_index, pushed_stands, replied_answered, ticked_index}
 use Rattle.headline.proofs.Forward.{group_index}
 use Rattle.headline.proofs.HonestSteps.{hears, honest_lies, ordered}

@@ -21,7 +21,7 @@ use Rattle.box_wire.specs.Framing.{Framed}
 use Rattle.box_wire.specs.Kinds.{saved_clients}
 use Rattle.session_commands.specs.Client.{HasClient, begins, loads, watch_all, watch_one}
 use Rattle.headline.specs.Answering.{IsUpToDate}
-use Rattle.headline.specs.Client.{StateAgrees}
+use Rattle.headline.specs.Recovered.{StateAgrees}
 use Rattle.headline.specs.Histories.{HasHistory}
 use Rattle.headline.specs.Meetings.{LoadedAskNothing, Meets, StatesMeetServers}
 use Rattle.headline.specs.TwoPrograms.{Converse}

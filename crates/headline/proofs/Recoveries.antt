@@ -26,7 +26,8 @@ use Rattle.update_sessions.specs.Hearing.{client_side}
 use Rattle.update_sessions.specs.Honest.{told, told_all}
 use Rattle.session_commands.specs.Client.{HasClient, begins, loads, watch_all, watch_one}
 use Rattle.headline.specs.CatchingUp.{heard_all}
-use Rattle.headline.specs.Client.{ClientRun, ClientRuns, IsRecovered, Recovers, StateAgrees, StatesGoOn}
+use Rattle.headline.specs.Recovered.{IsRecovered, Recovers, StateAgrees}
+use Rattle.headline.specs.States.{ClientRun, ClientRuns, StatesGoOn}
 use Rattle.headline.proofs.Counts.{is_saved}
 use Rattle.headline.proofs.Held.{has_boxes}
 use Rattle.headline.proofs.LastAnswers.{AgreesAt, ends_agreeing, grown, honest_sessions_catch_up}

@@ -26,7 +26,8 @@ use Rattle.schema_files.specs.Loaded.{IsSchemaText}
 use Rattle.fault_lines.specs.Messages.{step_line}
 use Rattle.fault_lines.specs.Profiled.{IsProfileText, OfProfile, no_profile as no_profile_of, profiled}
 use Rattle.update_commands.specs.Replay.{OfJournalFile, ReplayAnswer, ending_answer}
-use Rattle.headline.specs.Replay.{AreBytesOf, AreLinesOf, Refuses, Reports, no_journal, no_profile, no_schema}
+use Rattle.headline.specs.Replay.{Refuses, no_journal, no_profile, no_schema}
+use Rattle.headline.specs.Reports.{AreBytesOf, AreLinesOf, Reports}
 use Rattle.headline.proofs.Finished.{finished_channels_reach, finished_reach}
 use Rattle.headline.proofs.Forward.{runs_are_whole}
 use Rattle.headline.proofs.Held.{runs_have_boxes}

@@ -13,7 +13,7 @@ use Rattle.box_server.specs.Servers.{ServerState, dated_at}
 use Rattle.box_world.specs.Streams.{Doing, dates}
 use Rattle.session_commands.specs.Client.{HasClient, watch_all}
 use Rattle.headline.specs.Answering.{IsUpToDate}
-use Rattle.headline.specs.Client.{StateAgrees}
+use Rattle.headline.specs.Recovered.{StateAgrees}
 use Rattle.headline.specs.Histories.{HasHistory}
 use Rattle.headline.specs.TwoPrograms.{Converse}
 

@@ -17,7 +17,7 @@ use Rattle.session_commands.specs.Serve.{IsAny, Sessions, Total}
 use Rattle.commands.specs.Requests.{AsksFor, client, serve}
 use Rattle.commands.specs.Runs.{EndsOver}
 use Rattle.headline.specs.Answering.{IsUpToDate}
-use Rattle.headline.specs.Client.{StateAgrees}
+use Rattle.headline.specs.Recovered.{StateAgrees}
 use Rattle.headline.specs.Histories.{AreMoments, HasHistory}
 
 -- A run of `serve SCHEMA ADDRESS SESSIONS` with this schema ended with status 0. In its session k, counted from 0, this came over the link, and that was sent.

@@ -1,8 +1,10 @@
 //! The laws, each carried by a function that does nothing.
 ghost use Rattle.headline.specs.Answering.{AnswersBringUpToDate};
 ghost use Rattle.headline.specs.Boxes.{RunsKeepBoxes};
-ghost use Rattle.headline.specs.CatchingUp.{HonestSessionsCatchUp, HonestSessionsCatchUpByChannel};
-ghost use Rattle.headline.specs.Client.{ClientHeadline, StatesGoOn};
+ghost use Rattle.headline.specs.CatchingUp.{HonestSessionsCatchUp};
+ghost use Rattle.headline.specs.CatchingUpChannels.{HonestSessionsCatchUpByChannel};
+ghost use Rattle.headline.specs.Client.{ClientHeadline};
+ghost use Rattle.headline.specs.States.{StatesGoOn};
 ghost use Rattle.headline.specs.Ending.{SessionsEnd};
 ghost use Rattle.headline.specs.Histories.{HistoriesAreSound, KeptRunsGoOn, SessionsGoOn};
 ghost use Rattle.headline.specs.Instances.{ClientsHaveBoxes, StreamsAreSent, StretchesAreExact};
