@@ -25,7 +25,7 @@ use Rattle.headline.proofs.LastChannels.{channel_asked}
 
 -- ---- who waits asks a number
 
-same : (n : ℕ) → eqb n n ≡ true
+pub same : (n : ℕ) → eqb n n ≡ true
 same n = grind (arith, nat_tests)
 
 -- a channel that waits, and the number that it asks
@@ -46,13 +46,13 @@ waiting [] w = absurd (let no : false ≡ true = w in cc)
 waiting (d ∷ ds) w = waiting_by d ds d.lane.mode refl w (waiting ds)
 
 -- a number that a client asks, and what by it
-abbrev Asks : ClientState → Type 0
+abbrev pub Asks : ClientState → Type 0
 Asks c = (n : ℕ) × (r : Request) × (asked_by c n ≡ Some r)
 
 asks_channel : (c : ClientState) → ((n : ℕ) → is_asking n c.common.mode ≡ false) → Waiting c.channels → Asks c
 asks_channel c free (n, d, f) = (n, Channel_of d.id (pos d.lane.at), channel_asked c n d (free n) f)
 
-asks_by : (c : ClientState) (m : Mode) → c.common.mode ≡ m → is_one_asking c ≡ true → Asks c
+pub asks_by : (c : ClientState) (m : Mode) → c.common.mode ≡ m → is_one_asking c ≡ true → Asks c
 asks_by c Live e w = asks_channel c (λ n. ap (is_asking n) e) (waiting c.channels (sym (ap (λ (m : Mode). is_waiting m || any_asks c.channels) e) ∙ w))
 asks_by c Again e w = asks_channel c (λ n. ap (is_asking n) e) (waiting c.channels (sym (ap (λ (m : Mode). is_waiting m || any_asks c.channels) e) ∙ w))
 asks_by c (Asking n) e w = (n, (difference_of c).request, by_true (is_asking n c.common.mode) (Some (difference_of c).request) (channel_request (first (asks_number n) c.channels)) (ap (is_asking n) e ∙ same n))
@@ -92,7 +92,7 @@ each_honest h c (f ∷ fs) a =
     let s : ServerState = (past_of h (length h)).server in
     (length h, omega arith, omega arith, λ q asks. a.0.2 ∙ ap (answer s) (same_Some a.0.0 q (sym a.0.1 ∙ asks)), each_honest h (heard_frame c (told_reply f.0 f.1)) fs a.1)
 
-done_by : (h : List Doing) (c : ClientState) (fs : List (ℕ × Reply)) → length fs ≤ most_frames (past_of h (length h)) c → (is_one_asking (heard_all (begun c) (told_replies fs)) ≡ false) ⊎ (length fs ≡ suc (most_frames (past_of h (length h)) c))
+pub done_by : (h : List Doing) (c : ClientState) (fs : List (ℕ × Reply)) → length fs ≤ most_frames (past_of h (length h)) c → (is_one_asking (heard_all (begun c) (told_replies fs)) ≡ false) ⊎ (length fs ≡ suc (most_frames (past_of h (length h)) c))
     → is_one_asking (heard_all (begun c) (told_replies fs)) ≡ false
 done_by h c fs few (inl e) = e
 done_by h c fs few (inr e) = absurd (omega (arith, few, e))

@@ -47,7 +47,7 @@ asked_free false r o x e f = ap channel_request f
 pub channel_asked : (c : ClientState) (n : ℕ) (x : ChannelState) → is_asking n c.common.mode ≡ false → first (asks_number n) c.channels ≡ Some x → asked_by c n ≡ Some (Channel_of x.id (pos x.lane.at))
 channel_asked c n x free f = asked_free (is_asking n c.common.mode) (Some (difference_of c).request) (first (asks_number n) c.channels) x free f
 
-stream_honest : (h : List Doing) (c : ClientState) (k n : ℕ) (v : Reply) → AgreesAt h k c → IsHonestFrame h c k (told_reply n v) → HonestTo (past_of h k).boxes c n v (past_of h k).boxes
+pub stream_honest : (h : List Doing) (c : ClientState) (k n : ℕ) (v : Reply) → AgreesAt h k c → IsHonestFrame h c k (told_reply n v) → HonestTo (past_of h k).boxes c n v (past_of h k).boxes
 stream_honest h c k n v a honest x free f =
     let p : Past = past_of h k in
     let ledger : IsLedger p.server p.boxes = ordered h k in

@@ -21,3 +21,4 @@ pub mod SessionHistories
 pub mod Meeting
 pub mod ServeEnding
 pub mod RunsMeeting
+pub mod InOrder

@@ -5,7 +5,7 @@ ghost use Rattle.headline.specs.CatchingUp.{HonestSessionsCatchUp};
 ghost use Rattle.headline.specs.CatchingUpChannels.{HonestSessionsCatchUpByChannel};
 ghost use Rattle.headline.specs.Client.{ClientHeadline};
 ghost use Rattle.headline.specs.States.{StatesGoOn};
-ghost use Rattle.headline.specs.Ending.{SessionsEnd};
+ghost use Rattle.headline.specs.Ending.{SessionsEnd, SessionsEndInOrder};
 ghost use Rattle.headline.specs.Histories.{HistoriesAreSound, KeptRunsGoOn, SessionsGoOn};
 ghost use Rattle.headline.specs.Instances.{ClientsHaveBoxes, StreamsAreSent, StretchesAreExact};
 ghost use Rattle.headline.specs.Meetings.{LoadedAskNothing, StatesMeetServers};
@@ -26,9 +26,11 @@ pub fn honest_sessions_catch_up()
     ensures channels { HonestSessionsCatchUpByChannel }
 {}
 
-/// For each client that agrees with its server there are answers of that server which end its session: an honest stream, of so many frames at most.
+/// For each client that agrees with its server there are answers of that server which end its session: an honest stream, of so many frames at most. The answers
+/// to all that it asks, in that order, are such.
 pub fn sessions_end()
-    ensures { SessionsEnd }
+    ensures some { SessionsEnd }
+    ensures in_order { SessionsEndInOrder }
 {}
 
 /// One server's answers to a client's own requests are an honest stream, and bring it up to date.
