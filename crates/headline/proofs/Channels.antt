@@ -1,9 +1,9 @@
 -- What each step does to the channel at an index: its id stays, and its pts doesn't fall.
-use Rattle.std.proofs.Common.{◌≡◌, ◌⊎◌, inl, inr, ℕ, zero, suc, ◌+◌, ◌-◌, ◌<◌, ◌≤◌, ℤ, pos, List, [], ◌∷◌, ◌++◌, map as each, Bool, true, false, cond, is_some, ltb, Option, Some, None, Result, Ok, Err, refl, sym, ap, ◌∙◌, subst, arith}
+use Rattle.std.proofs.Common.{◌≡◌, ◌⊎◌, inl, inr, ℕ, zero, suc, ◌+◌, ◌-◌, ◌<◌, ◌≤◌, ℤ, List, [], ◌∷◌, ◌++◌, map as each, Bool, true, false, cond, is_some, ltb, Option, Some, None, Result, Ok, Err, refl, sym, ap, ◌∙◌, subst, arith}
 use Rattle.std.specs.Prelude.{◌&&◌, slice_get}
 use Rattle.std.specs.FinMap.{len}
 use Rattle.std.proofs.lemmas.Option.{none-some, same_Some}
-use Rattle.box_events.specs.Events.{EventView, added, count_of}
+use Rattle.box_events.specs.Events.{EventView, count_of}
 use Rattle.box_events.specs.Boxes.{ending}
 use Rattle.box_events.specs.declared.replies.ChannelReply.{ChannelReply}
 use Rattle.box_events.specs.declared.replies.ChannelReply.TheVariants.{Empty as EmptyPart, Part, TooLong as FarPart}
@@ -25,12 +25,11 @@ use Rattle.pts_machine.proofs.Moves.{extend_up, hear_mode, hear_up}
 use Rattle.channel_box.specs.States.{ChannelState, first, has_id}
 use Rattle.channel_box.specs.Looks.{is_waiting}
 use Rattle.channel_box.specs.Steps.{asks_number, at_first, channel_asks, channel_is_due, channel_of, flagged, forgot, forgotten, grown, heard, heard_by, is_asking, is_due, may_watch, ticked, told_too_long, watched, watched_if, woken}
-use Rattle.channel_box.specs.Steps as channels
 use Rattle.box_server.specs.Servers.{ServerState}
 use Rattle.box_server.specs.Growing.{AllLie}
 use Rattle.box_client.specs.declared.brought.Brought.{Brought}
 use Rattle.box_client.specs.Pushes.{all_updated, pack_heard, pushed, settings_in, updated}
-use Rattle.box_client.specs.Replies.{Outcome, ignored, refuses, becomes, channel_replied, group_done, group_replied, group_taken, group_woven, nothing_new, replied}
+use Rattle.box_client.specs.Replies.{Outcome, ignored, becomes, channel_replied, group_done, group_replied, group_taken, group_woven, nothing_new, replied}
 use Rattle.box_client.specs.States.{ClientState}
 use Rattle.box_world.specs.Agreeing.{Agrees, Boxes, ChannelAgrees, Each, is_last_part}
 use Rattle.box_world.specs.Growing.{IsLedger}

@@ -2,13 +2,12 @@
 use Rattle.std.specs.Prelude.{⊤}
 use Rattle.std.specs.List.{All}
 use Rattle.std.proofs.lemmas.List.Elements.{All-head, All-tail}
-use Rattle.std.proofs.Common.{◌≡◌, ◌⊎◌, inl, inr, ℕ, zero, suc, ◌+◌, ◌<◌, ◌≤◌, List, [], ◌∷◌, ◌++◌, append-nil, length, length-append, Bool, true, false, cond, Option, Some, None, Result, Ok, Err, refl, sym, ap, ap₂, ◌∙◌, subst, arith}
+use Rattle.std.proofs.Common.{◌≡◌, inl, inr, ℕ, ◌+◌, ◌≤◌, List, [], ◌∷◌, ◌++◌, append-nil, length, length-append, Bool, true, false, Ok, refl, sym, ap, ap₂, ◌∙◌, subst, arith}
 use Rattle.tl_numbers.specs.Bytes.{AreBytes}
 use Rattle.tl_numbers.specs.Numbers.{word}
 use Rattle.tl_base.specs.Packets.{IsPacketLength, packet}
-use Rattle.tl_base.specs.declared.packet.TheConstants.{PACKET_BYTES}
 use Rattle.tl_numbers.proofs.Spelled.{words}
-use Rattle.tl_types.specs.Exactly.{BeginsWith, ExactlyOne}
+use Rattle.tl_types.specs.Exactly.{ExactlyOne}
 use Rattle.tl_types.specs.Values.{ValueView, depth}
 use Rattle.tl_types.specs.declared.value.TheConstants.{MAX_LEVELS}
 use Rattle.tl_types.proofs.Exactly.{exactly_one}
@@ -19,8 +18,8 @@ use Rattle.box_events.specs.declared.requests.Numbered.{Numbered}
 use Rattle.box_events.specs.declared.requests.Request.{Request}
 use Rattle.box_events.specs.declared.requests.Request.TheVariants as request
 use Rattle.channel_box.specs.States.{ChannelState}
-use Rattle.channel_box.specs.Steps.{and_asks, and_waits, channel_is_due, ticked}
-use Rattle.box_client.specs.Asking.{difference_of, group_is_due, group_ticked, is_one_asking, ticks, wakes}
+use Rattle.channel_box.specs.Steps.{channel_is_due, ticked}
+use Rattle.box_client.specs.Asking.{group_is_due, group_ticked, is_one_asking, ticks, wakes}
 use Rattle.box_client.specs.States.{ClientState}
 use Rattle.box_server.specs.Answers.{IsAnswered, answer}
 use Rattle.box_server.specs.Servers.{ServerState, dated_at}
@@ -28,10 +27,9 @@ use Rattle.box_server.specs.Sound.{IsSound}
 use Rattle.box_world.specs.Agreeing.{Agrees, Each}
 use Rattle.box_world.specs.Streams as streams
 use Rattle.box_world.specs.Streams.{Doing, Honest, Past, begun, dates, done, done_all, first_past, heard_frame, past_of, told_reply}
-use Rattle.wire_forms.specs.IsOf.{IsOf}
 use Rattle.wire_profile.specs.Places.{ProfileView, cell_shape, form_at, number_at}
 use Rattle.wire_profile.specs.Profiles.{IsProfile}
-use Rattle.wire_profile.specs.SpelledForms.{IsServed, owned, placed}
+use Rattle.wire_profile.specs.SpelledForms.{owned, placed}
 use Rattle.wire_profile.proofs.ProfileFacts.{own_again}
 use Rattle.wire_profile.proofs.Renamings.{HasForms, renamed_back}
 use Rattle.wire_values.specs.Calls.{call_in, call_tree}
@@ -44,13 +42,13 @@ use Rattle.box_wire.proofs.Exactly.{KindLaws}
 use Rattle.box_wire.proofs.FrameLaws.{frame_formed, frame_laws}
 use Rattle.box_wire.proofs.FrameLevels.{frame_levels}
 use Rattle.box_wire.proofs.Levels.{depth_same}
-use Rattle.server_frames.specs.Sizes.{call_size, frame_size}
+use Rattle.server_frames.specs.Sizes.{call_size}
 use Rattle.server_frames.proofs.MessageForms.{call_has, call_served, frame_has}
 use Rattle.server_frames.proofs.SpelledMessages.{are_whole, of_the_kind, read_of}
 use Rattle.server_frames.proofs.AnswersFit.{answers_fit}
 use Rattle.server_frames.proofs.PushesBelow.{asks_below}
 use Rattle.update_sessions.specs.Exchanges.{Exchanged, after_all, sends_all}
-use Rattle.update_sessions.specs.Heard.{Hears, HearsOn, IsBrokenOff, asked, broke_off}
+use Rattle.update_sessions.specs.Heard.{Hears, IsBrokenOff, asked, broke_off}
 use Rattle.update_sessions.specs.Hearing.{client_side}
 use Rattle.update_sessions.specs.Honest.{told, told_all}
 use Rattle.update_sessions.specs.Packed.{Came, MeansCall, MeansFrame, Packed, SpellsCall, SpellsFrame}
@@ -62,7 +60,7 @@ use Rattle.session_commands.proofs.OneExchange.{rest_bytes, same_rest}
 use Rattle.session_commands.proofs.OneReply.{body_bytes}
 use Rattle.headline.specs.Answering.{AreAnswers, IsUpToDate, all_asks, hears_one, session_asks}
 use Rattle.headline.specs.CatchingUp.{heard_all}
-use Rattle.headline.specs.TwoPrograms.{Converse, TwoProgramsMeet}
+use Rattle.headline.specs.TwoPrograms.{TwoProgramsMeet}
 use Rattle.headline.proofs.Answered.{answers_bring_up_to_date}
 use Rattle.headline.proofs.LastAnswers.{AgreesAt, grown}
 use Rattle.headline.proofs.Recoveries.{heard_so, past_front}

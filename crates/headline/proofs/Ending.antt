@@ -1,5 +1,5 @@
 -- A client that asks can be answered, and no more often than so many times.
-use Rattle.std.proofs.Common.{◌≡◌, ◌⊎◌, inl, inr, ℕ, zero, suc, ◌+◌, ◌≤◌, pos, List, [], ◌∷◌, length, Bool, true, false, ◌||◌, cond, eqb, Option, Some, None, refl, sym, ap, ◌∙◌, subst, arith}
+use Rattle.std.proofs.Common.{◌≡◌, ◌⊎◌, inl, inr, ℕ, zero, suc, ◌≤◌, pos, List, [], ◌∷◌, length, Bool, true, false, ◌||◌, cond, eqb, Some, refl, sym, ap, ◌∙◌, arith}
 use Rattle.std.proofs.lemmas.Bool.Decides.{nat_tests}
 use Rattle.std.proofs.lemmas.Option.{same_Some}
 use Rattle.box_events.specs.declared.replies.Reply.{Reply}
@@ -7,7 +7,7 @@ use Rattle.box_events.specs.declared.requests.Request.{Request}
 use Rattle.box_events.specs.declared.requests.Request.TheVariants.{Channel as Channel_of}
 use Rattle.pts_machine.specs.declared.mode.Mode.{Mode}
 use Rattle.pts_machine.specs.declared.mode.Mode.TheVariants.{Live, Asking, Again}
-use Rattle.channel_box.specs.Looks.{any_asks, is_waiting, waits}
+use Rattle.channel_box.specs.Looks.{any_asks, is_waiting}
 use Rattle.channel_box.specs.States.{ChannelState, first}
 use Rattle.channel_box.specs.Steps.{asks_number, is_asking}
 use Rattle.box_server.specs.Answers.{answer}
@@ -15,18 +15,17 @@ use Rattle.box_server.specs.Servers.{ServerState}
 use Rattle.box_server.proofs.Carrying.{changed_overlays}
 use Rattle.box_client.specs.Asking.{difference_of, is_one_asking}
 use Rattle.box_client.specs.States.{ClientState}
-use Rattle.box_world.specs.Agreeing.{Agrees}
 use Rattle.box_world.specs.Recovering.{AnswersEach, most_frames}
-use Rattle.box_world.specs.Streams.{Doing, Frame, Honest, Past, asked_by, begun, channel_request, heard_frame, past_of, told_reply}
+use Rattle.box_world.specs.Streams.{Doing, Honest, Past, asked_by, begun, channel_request, heard_frame, past_of, told_reply}
 use Rattle.box_world.proofs.Histories.{frames_are_bounded}
 use Rattle.headline.specs.CatchingUp.{heard_all}
-use Rattle.headline.specs.Ending.{EndsSession, SessionsEnd, told_replies}
+use Rattle.headline.specs.Ending.{SessionsEnd, told_replies}
 use Rattle.headline.proofs.LastAnswers.{by_true}
 use Rattle.headline.proofs.LastChannels.{channel_asked}
 
 -- ---- who waits asks a number
 
-same : (n : ℕ) → eqb n n ≡ true
+pub same : (n : ℕ) → eqb n n ≡ true
 same n = grind (arith, nat_tests)
 
 -- a channel that waits, and the number that it asks
@@ -47,13 +46,13 @@ waiting [] w = absurd (let no : false ≡ true = w in cc)
 waiting (d ∷ ds) w = waiting_by d ds d.lane.mode refl w (waiting ds)
 
 -- a number that a client asks, and what by it
-abbrev Asks : ClientState → Type 0
+abbrev pub Asks : ClientState → Type 0
 Asks c = (n : ℕ) × (r : Request) × (asked_by c n ≡ Some r)
 
 asks_channel : (c : ClientState) → ((n : ℕ) → is_asking n c.common.mode ≡ false) → Waiting c.channels → Asks c
 asks_channel c free (n, d, f) = (n, Channel_of d.id (pos d.lane.at), channel_asked c n d (free n) f)
 
-asks_by : (c : ClientState) (m : Mode) → c.common.mode ≡ m → is_one_asking c ≡ true → Asks c
+pub asks_by : (c : ClientState) (m : Mode) → c.common.mode ≡ m → is_one_asking c ≡ true → Asks c
 asks_by c Live e w = asks_channel c (λ n. ap (is_asking n) e) (waiting c.channels (sym (ap (λ (m : Mode). is_waiting m || any_asks c.channels) e) ∙ w))
 asks_by c Again e w = asks_channel c (λ n. ap (is_asking n) e) (waiting c.channels (sym (ap (λ (m : Mode). is_waiting m || any_asks c.channels) e) ∙ w))
 asks_by c (Asking n) e w = (n, (difference_of c).request, by_true (is_asking n c.common.mode) (Some (difference_of c).request) (channel_request (first (asks_number n) c.channels)) (ap (is_asking n) e ∙ same n))
@@ -93,7 +92,7 @@ each_honest h c (f ∷ fs) a =
     let s : ServerState = (past_of h (length h)).server in
     (length h, omega arith, omega arith, λ q asks. a.0.2 ∙ ap (answer s) (same_Some a.0.0 q (sym a.0.1 ∙ asks)), each_honest h (heard_frame c (told_reply f.0 f.1)) fs a.1)
 
-done_by : (h : List Doing) (c : ClientState) (fs : List (ℕ × Reply)) → length fs ≤ most_frames (past_of h (length h)) c → (is_one_asking (heard_all (begun c) (told_replies fs)) ≡ false) ⊎ (length fs ≡ suc (most_frames (past_of h (length h)) c))
+pub done_by : (h : List Doing) (c : ClientState) (fs : List (ℕ × Reply)) → length fs ≤ most_frames (past_of h (length h)) c → (is_one_asking (heard_all (begun c) (told_replies fs)) ≡ false) ⊎ (length fs ≡ suc (most_frames (past_of h (length h)) c))
     → is_one_asking (heard_all (begun c) (told_replies fs)) ≡ false
 done_by h c fs few (inl e) = e
 done_by h c fs few (inr e) = absurd (omega (arith, few, e))

@@ -1,9 +1,8 @@
 -- A difference that is finished reaches where the server was that answered.
-use Rattle.std.proofs.Common.{◌≡◌, ◌≤◌, ℕ, zero, suc, ℤ, List, [], ◌∷◌, ◌++◌, append_assoc, append-nil, length, Bool, true, false, cond, eqb, Option, Some, None, Result, Ok, Err, set, refl, sym, ap, ap₂, ◌∙◌, subst, inl, inr, arith}
+use Rattle.std.proofs.Common.{◌≡◌, ℕ, ℤ, List, [], ◌∷◌, ◌++◌, append_assoc, append-nil, length, Bool, true, false, cond, eqb, Some, Result, Ok, Err, set, refl, sym, ap, ap₂, ◌∙◌, subst, inl, inr, arith}
 use Rattle.std.specs.Prelude.{slice_get, ◌&&◌, ltb}
-use Rattle.std.specs.FinMap as map
 use Rattle.std.proofs.lemmas.Bool.Decides.{nat_tests}
-use Rattle.std.proofs.lemmas.Option.{same_Some, none-some}
+use Rattle.std.proofs.lemmas.Option.{same_Some}
 use Rattle.box_events.specs.Events.{EventView}
 use Rattle.box_events.specs.declared.replies.ChannelReply.{ChannelReply}
 use Rattle.box_events.specs.declared.replies.Reply.{Reply}
@@ -15,13 +14,13 @@ use Rattle.difference.specs.Weaves.{WeaveCause, woven_of}
 use Rattle.channel_box.specs.States.{ChannelState, first}
 use Rattle.channel_box.specs.Steps.{asks_number, at_first, is_asking}
 use Rattle.box_server.specs.Answers.{answer}
-use Rattle.box_server.specs.Servers.{ServerState, channel_end, channel_in}
+use Rattle.box_server.specs.Servers.{ServerState}
 use Rattle.box_server.proofs.Carrying.{changed_overlays}
 use Rattle.box_client.specs.declared.brought.Brought.{Brought}
 use Rattle.box_client.specs.Replies.{Outcome, ignored, refuses, becomes, nothing_new, group_taken, group_woven, group_replied, replied}
 use Rattle.box_client.specs.States.{ClientState}
 use Rattle.box_world.specs.Agreeing.{IsPast, is_final, is_last_part}
-use Rattle.box_world.specs.Worlds.{Packet, push, request, reply, World, after_reply, happens, heard, received, run, run_from, sent, served, start}
+use Rattle.box_world.specs.Worlds.{Packet, request, reply, World, after_reply, heard, received, run, sent, served}
 use Rattle.box_world.proofs.Reaching.{channels_catch_up, clients_catch_up, replies_are_taken}
 use Rattle.box_world.proofs.Lists.{written}
 use Rattle.box_world.proofs.OneMore.{runs_go_on}

@@ -1,10 +1,9 @@
 -- No step moves a restart of the common and the secret box, and no position falls.
-use Rattle.std.proofs.Common.{◌≡◌, ◌⊎◌, inl, inr, ℕ, zero, suc, ◌+◌, ◌-◌, ◌<◌, ◌≤◌, ℤ, pos, List, [], ◌∷◌, ◌++◌, length, set, Bool, true, false, cond, eqb, is_some, ltb, Option, Some, None, Result, Ok, Err, refl, sym, ap, ◌∙◌, subst, arith}
+use Rattle.std.proofs.Common.{◌≡◌, ◌⊎◌, inl, inr, ℕ, zero, suc, ◌-◌, ◌<◌, ◌≤◌, ℤ, pos, List, [], ◌∷◌, ◌++◌, length, set, Bool, true, false, cond, eqb, is_some, ltb, Option, Some, None, Result, Ok, Err, refl, sym, ap, ◌∙◌, subst, arith}
 use Rattle.std.specs.Prelude.{◌&&◌, slice_get}
 use Rattle.std.specs.FinMap as map
 use Rattle.std.proofs.lemmas.Option.{none-some, same_Some}
 use Rattle.box_events.specs.Events.{EventView, added, count_of}
-use Rattle.box_events.specs.Boxes.{ending}
 use Rattle.box_events.specs.declared.positions.Receipt.{Receipt}
 use Rattle.box_events.specs.declared.replies.Reply.{Reply}
 use Rattle.box_events.specs.declared.replies.Reply.TheVariants as reply_of
@@ -22,7 +21,7 @@ use Rattle.pts_machine.specs.States.{LaneState}
 use Rattle.pts_machine.specs.Steps.{extend, forget, settle}
 use Rattle.pts_machine.proofs.Moves.{hear_restart}
 use Rattle.channel_box.specs.States.{ChannelState, first}
-use Rattle.channel_box.specs.Steps.{asks_number, is_asking, ticked}
+use Rattle.channel_box.specs.Steps.{asks_number, is_asking}
 use Rattle.box_server.specs.Answers.{answer, channel_difference}
 use Rattle.box_server.specs.Refusing.{post_cause}
 use Rattle.box_server.specs.Servers.{ServerState, channel_in}
@@ -32,7 +31,7 @@ use Rattle.box_client.specs.declared.brought.Brought.{Brought}
 use Rattle.box_client.specs.Asking as asking
 use Rattle.box_client.specs.Asking.{group_is_due, group_ticked, restarted, ticks, wakes}
 use Rattle.box_client.specs.Pushes.{all_updated, pack_heard, pushed, settings_in, updated}
-use Rattle.box_client.specs.Replies.{Outcome, ignored, becomes, refuses, channel_replied, group_done, group_replied, group_taken, group_woven, nothing_new, replied}
+use Rattle.box_client.specs.Replies.{Outcome, ignored, channel_replied, group_done, group_replied, group_taken, group_woven, nothing_new, replied}
 use Rattle.box_client.specs.States.{ClientState, new_client}
 use Rattle.box_world.specs.Agreeing.{Agrees, Boxes, ChannelAgrees, IsPast}
 use Rattle.box_world.specs.Awaiting.{ChannelAsksBy}
@@ -47,7 +46,7 @@ use Rattle.box_world.proofs.Telling.{channel_answer_is, channel_fits}
 use Rattle.headline.specs.Forward.{ChannelsGoOn, GoesForward, IsWhole}
 use Rattle.headline.specs.Boxes.{ClientsGoForward}
 use Rattle.headline.proofs.Channels.{HonestTo, forgotten_up, pushed_stands, replied_answered, ticked_index, watched_stands, woken_stands}
-use Rattle.headline.proofs.Upward.{After, Up, after_of, same_unasked, up_pushed, up_replied, up_ticks}
+use Rattle.headline.proofs.Upward.{Up, after_of, same_unasked, up_pushed, up_replied, up_ticks}
 
 -- ---- restarts
 

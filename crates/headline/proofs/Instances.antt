@@ -1,5 +1,5 @@
 -- The small cases, by computing.
-use Rattle.std.proofs.Common.{◌≡◌, ◌⊎◌, inl, inr, ℕ, zero, suc, ◌+◌, ◌*◌, ◌<◌, ◌≤◌, ℤ, pos, List, [], ◌∷◌, ◌++◌, length, map as each, codes, Bool, true, false, eqb, ltb, Option, Some, None, refl, sym, ap, ◌∙◌, subst, arith}
+use Rattle.std.proofs.Common.{◌≡◌, ◌⊎◌, inl, inr, ℕ, zero, suc, ◌+◌, ◌*◌, ◌<◌, ◌≤◌, ℤ, pos, List, [], ◌∷◌, length, map as each, codes, true, eqb, ltb, Option, Some, None, refl, sym, ap, ◌∙◌, arith}
 use Rattle.std.specs.Prelude.{slice_get, take}
 use Rattle.std.specs.FinMap as map
 use Rattle.std.specs.Ordering.{int_cmp, nat_cmp}
@@ -7,7 +7,7 @@ use Rattle.std.specs.Cmp.Lexicographic.{slice_cmp}
 use Rattle.std.proofs.lemmas.Option.{none-some, same_Some}
 use Rattle.std.proofs.lemmas.List.{length-append}
 use Rattle.box_events.specs.Boxes.{AreCounted, Between, ending}
-use Rattle.box_events.specs.Events.{EventView, added, body_of, count_of, deleted}
+use Rattle.box_events.specs.Events.{EventView, added, body_of, deleted}
 use Rattle.box_events.specs.SettingLists.{Dated, Values, last_of, or_else, value_of}
 use Rattle.box_events.specs.declared.replies.Reply.{Reply}
 use Rattle.box_events.specs.declared.limits.TheConstants.{MAX_CHANNELS, MAX_KEYS}
@@ -21,7 +21,7 @@ use Rattle.box_events.specs.declared.updates.Push.{Push}
 use Rattle.box_events.specs.declared.updates.Push.TheVariants.{Container, TooLong}
 use Rattle.box_events.specs.declared.updates.Update.{Update}
 use Rattle.box_events.specs.declared.updates.Update.TheVariants.{Common, Secret, Channel, ChannelTooLong, Setting}
-use Rattle.box_events.proofs.Boundaries.{boundary_past, ending-append}
+use Rattle.box_events.proofs.Boundaries.{boundary_past}
 use Rattle.box_events.proofs.Stretches.{between_one, stops_at, stretch_counts}
 use Rattle.seq_machine.specs.Latest.{latest}
 use Rattle.seq_machine.proofs.Growing.{latest_is}
@@ -32,15 +32,11 @@ use Rattle.box_server.specs.Refusing.{first_cause, post_cause}
 use Rattle.box_server.specs.Runs.{limited}
 use Rattle.box_server.specs.Servers.{ServerState, new_server}
 use Rattle.box_server.specs.declared.fault.PostFault.TheVariants.{TooManyChannels, TooManySettings}
-use Rattle.box_client.specs.Asking.{difference_of}
-use Rattle.box_client.specs.States.{ClientState, new_client}
-use Rattle.box_world.specs.Agreeing.{IsPast}
-use Rattle.box_world.specs.Streams.{Doing, Frame, Honest, IsHonestPush, Past, begun, channel_too_long, first_past, of_post, past_of, posts, told_push, told_reply, too_long}
-use Rattle.headline.specs.Answering.{IsUpToDate}
-use Rattle.headline.specs.Boxes.{HasBoxes}
+use Rattle.box_client.specs.States.{new_client}
+use Rattle.box_world.specs.Streams.{IsHonestPush, Past, begun, channel_too_long, first_past, of_post, past_of, posts, told_reply, too_long}
 use Rattle.headline.specs.CatchingUp.{LastAnswer}
 use Rattle.headline.proofs.HonestSteps.{new_post}
-use Rattle.headline.specs.Instances.{ClientsHaveBoxes, StreamsAreSent, StretchesAreExact, box, client, history, no_channels, one, server, two}
+use Rattle.headline.specs.Instances.{ClientsHaveBoxes, StreamsAreSent, StretchesAreExact, box, history, one, server, two}
 
 -- ---- stretches
 

@@ -1,8 +1,6 @@
 -- A client that hears an honest server until it asks no more has heard a last answer, and stands at or past where the server was then.
-use Rattle.std.proofs.Common.{◌≡◌, ◌⊎◌, inl, inr, ℕ, ◌≤◌, pos, List, [], ◌∷◌, ◌++◌, length, Bool, true, false, ◌||◌, cond, Option, Some, None, refl, sym, ap, ◌∙◌, subst, arith}
+use Rattle.std.proofs.Common.{◌≡◌, ◌⊎◌, inl, inr, ℕ, ◌≤◌, pos, List, [], ◌∷◌, length, Bool, true, false, cond, Some, refl, sym, ap, ◌∙◌, subst, arith}
 use Rattle.box_events.specs.declared.replies.Reply.{Reply}
-use Rattle.box_events.specs.declared.requests.Request.{Request}
-use Rattle.box_events.specs.declared.updates.Push.{Push}
 use Rattle.channel_box.specs.Looks.{any_asks, is_waiting}
 use Rattle.channel_box.specs.Steps.{is_asking}
 use Rattle.channel_box.specs.States.{first}
@@ -11,14 +9,14 @@ use Rattle.box_server.specs.Servers.{ServerState}
 use Rattle.box_server.specs.Answers.{answer}
 use Rattle.box_server.specs.Answers as server
 use Rattle.box_server.proofs.Carrying.{changed_overlays}
-use Rattle.box_client.specs.Asking.{difference_of, is_one_asking, ticks, wakes}
+use Rattle.box_client.specs.Asking.{difference_of, ticks, wakes}
 use Rattle.box_client.specs.Pushes.{pushed}
-use Rattle.box_client.specs.Replies.{Outcome, ignored, refuses, becomes, group_replied, replied}
+use Rattle.box_client.specs.Replies.{group_replied, replied}
 use Rattle.box_client.specs.States.{ClientState}
 use Rattle.box_world.specs.Agreeing.{Agrees, Boxes, IsPast, Reaches, is_final}
 use Rattle.box_world.specs.Growing.{IsLedger}
 use Rattle.box_world.specs.Requesting.{GroupFits}
-use Rattle.box_world.specs.Streams.{AgreesThrough, Doing, Frame, Honest, IsHonestFrame, Past, asked_by, begun, channel_request, first_past, heard_frame, past_of, told_push, told_reply}
+use Rattle.box_world.specs.Streams.{AgreesThrough, Doing, Frame, Honest, IsHonestFrame, Past, begun, channel_request, first_past, heard_frame, past_of, told_push, told_reply}
 use Rattle.box_world.specs.Worlds.{after_reply}
 use Rattle.box_world.proofs.Continuing.{continues_same}
 use Rattle.box_world.proofs.GoingOn.{agree_ticks, agree_wakes}
@@ -31,7 +29,7 @@ use Rattle.box_world.proofs.Ticking.{stands_at}
 use Rattle.headline.specs.CatchingUp.{AsksNoMore, HonestSessionsCatchUp, LastAnswer, heard_all}
 use Rattle.headline.proofs.Finished.{group_some}
 use Rattle.headline.proofs.HonestSteps.{goes_later, hears, honest_lies}
-use Rattle.headline.proofs.Upward.{After, Up, after_of, again_group, again_ticks, flagged_ticks, past_up, pushed_mode, same_unasked, up_pushed, up_replied, up_then, up_ticks, waiting_ticks}
+use Rattle.headline.proofs.Upward.{Up, after_of, again_group, again_ticks, flagged_ticks, past_up, pushed_mode, same_unasked, up_pushed, up_replied, up_then, up_ticks, waiting_ticks}
 
 -- ---- one frame
 

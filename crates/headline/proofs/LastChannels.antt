@@ -1,7 +1,6 @@
 -- Each channel of a client that hears an honest server until it asks no more has heard a last answer too, and stands at or past where the server was then.
-use Rattle.std.proofs.Common.{◌≡◌, ◌⊎◌, inl, inr, ℕ, zero, suc, ◌≤◌, ℤ, pos, List, [], ◌∷◌, ◌++◌, length, Bool, true, false, ◌||◌, cond, Option, Some, None, refl, sym, ap, ◌∙◌, subst, arith}
+use Rattle.std.proofs.Common.{◌≡◌, ◌⊎◌, inl, inr, ℕ, zero, suc, ◌≤◌, ℤ, pos, List, [], ◌∷◌, length, Bool, true, false, cond, Option, Some, refl, sym, ap, ◌∙◌, subst, arith}
 use Rattle.std.specs.Prelude.{slice_get}
-use Rattle.std.proofs.lemmas.Option.{none-some, same_Some}
 use Rattle.box_events.specs.declared.replies.ChannelReply.{ChannelReply}
 use Rattle.box_events.specs.declared.replies.Reply.{Reply}
 use Rattle.box_events.specs.declared.replies.Reply.TheVariants as reply_of
@@ -9,7 +8,7 @@ use Rattle.box_events.specs.declared.requests.Request.{Request}
 use Rattle.box_events.specs.declared.requests.Request.TheVariants.{Channel as Channel_of}
 use Rattle.channel_box.specs.Looks.{any_asks, is_waiting, waits}
 use Rattle.channel_box.specs.States.{ChannelState, first}
-use Rattle.channel_box.specs.Steps.{ask_of, asks_number, flagged, is_asking, woken}
+use Rattle.channel_box.specs.Steps.{asks_number, flagged, is_asking}
 use Rattle.box_server.specs.Answers.{answer, channel_difference}
 use Rattle.box_server.specs.Servers.{ServerState, channel_end, channel_in}
 use Rattle.box_server.proofs.Carrying.{changed_overlays}
@@ -18,7 +17,7 @@ use Rattle.box_client.specs.Asking.{difference_of, group_is_due, group_ticked, i
 use Rattle.box_client.specs.Pushes.{pushed}
 use Rattle.box_client.specs.Replies.{replied}
 use Rattle.box_client.specs.States.{ClientState}
-use Rattle.box_world.specs.Agreeing.{Agrees, Boxes, ChannelAgrees, is_last_part}
+use Rattle.box_world.specs.Agreeing.{ChannelAgrees, is_last_part}
 use Rattle.box_world.specs.Growing.{IsLedger}
 use Rattle.box_world.specs.Streams.{Doing, Frame, Honest, IsHonestFrame, Past, asked_by, begun, channel_request, heard_frame, past_of, told_push, told_reply}
 use Rattle.box_world.specs.Worlds.{after_reply}
@@ -28,7 +27,8 @@ use Rattle.box_world.proofs.GoingOn.{agree_ticks, agree_wakes}
 use Rattle.box_world.proofs.Posting.{none_either}
 use Rattle.box_world.proofs.Telling.{channel_answer_is}
 use Rattle.box_world.proofs.Ticking.{stands_at}
-use Rattle.headline.specs.CatchingUp.{ChannelAsksNoMore, HonestSessionsCatchUpByChannel, IsPastAt, LastChannelAnswer, channel_waits, heard_all}
+use Rattle.headline.specs.CatchingUp.{heard_all}
+use Rattle.headline.specs.CatchingUpChannels.{ChannelAsksNoMore, HonestSessionsCatchUpByChannel, IsPastAt, LastChannelAnswer, channel_waits}
 use Rattle.headline.proofs.Channels.{Answered, HonestTo, Ticks, Took, map_index, pushed_stands, replied_answered, ticked_index}
 use Rattle.headline.proofs.Forward.{group_index}
 use Rattle.headline.proofs.HonestSteps.{hears, honest_lies, ordered}
@@ -47,7 +47,7 @@ asked_free false r o x e f = ap channel_request f
 pub channel_asked : (c : ClientState) (n : ℕ) (x : ChannelState) → is_asking n c.common.mode ≡ false → first (asks_number n) c.channels ≡ Some x → asked_by c n ≡ Some (Channel_of x.id (pos x.lane.at))
 channel_asked c n x free f = asked_free (is_asking n c.common.mode) (Some (difference_of c).request) (first (asks_number n) c.channels) x free f
 
-stream_honest : (h : List Doing) (c : ClientState) (k n : ℕ) (v : Reply) → AgreesAt h k c → IsHonestFrame h c k (told_reply n v) → HonestTo (past_of h k).boxes c n v (past_of h k).boxes
+pub stream_honest : (h : List Doing) (c : ClientState) (k n : ℕ) (v : Reply) → AgreesAt h k c → IsHonestFrame h c k (told_reply n v) → HonestTo (past_of h k).boxes c n v (past_of h k).boxes
 stream_honest h c k n v a honest x free f =
     let p : Past = past_of h k in
     let ledger : IsLedger p.server p.boxes = ordered h k in

@@ -19,3 +19,6 @@ pub mod ClientEnding
 pub mod Conversing
 pub mod SessionHistories
 pub mod Meeting
+pub mod ServeEnding
+pub mod RunsMeeting
+pub mod InOrder

@@ -1,24 +1,21 @@
 -- A client that is recovered over an honest link is up to date with its server, and what is saved of it goes on so.
-use Rattle.std.proofs.Common.{◌≡◌, ◌⊎◌, inl, inr, ℕ, zero, suc, ◌+◌, ◌<◌, ◌≤◌, ℤ, List, [], ◌∷◌, ◌++◌, append-nil, length, length-append, Bool, true, false, cond, ltb, Option, Some, None, refl, sym, ap, ◌∙◌, subst, arith}
+use Rattle.std.proofs.Common.{◌≡◌, ℕ, zero, suc, ◌≤◌, ℤ, List, [], ◌∷◌, ◌++◌, length, length-append, Bool, true, false, cond, ltb, Option, Some, None, refl, sym, ap, ◌∙◌, subst, arith}
 use Rattle.std.specs.Prelude.{option_and_then}
 use Rattle.tl_numbers.specs.Bytes.{AreBytes}
 use Rattle.box_events.specs.declared.limits.TheConstants.{MAX_CHANNELS}
 use Rattle.box_events.specs.declared.replies.Frame.{Frame}
 use Rattle.box_events.specs.declared.replies.Frame.TheVariants.{Push, Reply}
-use Rattle.box_events.specs.declared.saved.Saved.{Saved}
 use Rattle.pts_machine.specs.Steps.{new_lane}
-use Rattle.channel_box.specs.States.{ChannelState}
-use Rattle.channel_box.specs.Steps.{channel_of, is_watched, may_watch, watched_if}
-use Rattle.box_client.specs.Asking.{is_one_asking, restarted}
+use Rattle.channel_box.specs.Steps.{channel_of, is_watched, watched_if}
+use Rattle.box_client.specs.Asking.{is_one_asking}
 use Rattle.box_client.specs.Saving.{saved_of}
-use Rattle.box_client.specs.States.{ClientState, new_client}
+use Rattle.box_client.specs.States.{ClientState}
 use Rattle.box_client.proofs.Restarts.{loads_again}
 use Rattle.box_server.specs.Servers.{ServerState}
 use Rattle.box_world.specs.Agreeing.{Agrees, Boxes}
 use Rattle.box_world.specs.Streams.{Doing, Honest, Past, begun, done, done_all, first_past, heard_frame, past_of}
-use Rattle.box_world.specs.Worlds.{watches}
 use Rattle.box_world.proofs.GoingOn.{agree_restarts, agree_watches}
-use Rattle.box_world.proofs.Growing.{agree_as_servers_grow, new_clients_agree}
+use Rattle.box_world.proofs.Growing.{new_clients_agree}
 use Rattle.wire_profile.specs.Places.{ProfileView}
 use Rattle.wire_profile.specs.Profiles.{IsProfile}
 use Rattle.wire_values.specs.SavedClients.{saved_tree}
@@ -27,12 +24,12 @@ use Rattle.box_wire.specs.Kinds.{saved_clients}
 use Rattle.update_sessions.specs.Exchanges.{after_all}
 use Rattle.update_sessions.specs.Hearing.{client_side}
 use Rattle.update_sessions.specs.Honest.{told, told_all}
-use Rattle.session_commands.specs.Client.{HasClient, HasSaved, begins, loads, watch_all, watch_one}
-use Rattle.headline.specs.CatchingUp.{LastAnswer, heard_all}
-use Rattle.headline.specs.Client.{ClientRun, ClientRuns, IsRecovered, Recovers, StateAgrees, StatesGoOn}
+use Rattle.session_commands.specs.Client.{HasClient, begins, loads, watch_all, watch_one}
+use Rattle.headline.specs.CatchingUp.{heard_all}
+use Rattle.headline.specs.Recovered.{IsRecovered, Recovers, StateAgrees}
+use Rattle.headline.specs.States.{ClientRun, ClientRuns, StatesGoOn}
 use Rattle.headline.proofs.Counts.{is_saved}
 use Rattle.headline.proofs.Held.{has_boxes}
-use Rattle.headline.proofs.HonestSteps.{goes_later}
 use Rattle.headline.proofs.LastAnswers.{AgreesAt, ends_agreeing, grown, honest_sessions_catch_up}
 use Rattle.headline.proofs.LastChannels.{channels_catch_up}
 use Rattle.headline.proofs.SavedAgain.{saved_again}

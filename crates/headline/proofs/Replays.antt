@@ -1,17 +1,14 @@
 -- What a replay of a journal's bytes reports.
-use Rattle.std.proofs.Common.{◌≡◌, ◌⊎◌, inl, inr, ℕ, zero, suc, ◌+◌, ◌-◌, ◌<◌, ◌≤◌, List, [], ◌∷◌, ◌++◌, append-nil, append_assoc, length, length-append, take, drop, take-append-drop, length-drop, ltb, Bool, true, false, cond, ◌&&◌, Option, Some, None, option_map, refl, sym, ap, ap₂, ◌∙◌, subst, arith, codes}
-use Rattle.std.specs.Prelude.{Err, Ok}
+use Rattle.std.proofs.Common.{◌≡◌, ℕ, ◌≤◌, List, [], ◌∷◌, ◌++◌, append-nil, append_assoc, length, length-append, take, drop, take-append-drop, length-drop, Bool, true, false, cond, ◌&&◌, Option, Some, None, option_map, refl, sym, ap, ◌∙◌, subst, arith, codes}
 use Rattle.std.proofs.lemmas.Bool.Decides.{nat_tests}
 use Rattle.tl_base.specs.Contents.{Files}
-use Rattle.tl_base.specs.Outside.{HasFile, View}
+use Rattle.tl_base.specs.Outside.{HasFile}
 use Rattle.tl_schema.specs.Schemas.{Declared}
 use Rattle.box_events.specs.declared.steps.Step.{Step}
-use Rattle.wire_profile.specs.Faults.{FaultView, IsAnswer}
 use Rattle.wire_profile.specs.Places.{ProfileView}
-use Rattle.box_server.specs.Servers.{state_of}
 use Rattle.box_world.specs.NumberWorlds.{n_run}
-use Rattle.box_world.specs.Possible.{AllPossible, StepCause}
-use Rattle.box_world.specs.Worlds.{run, start}
+use Rattle.box_world.specs.Possible.{AllPossible}
+use Rattle.box_world.specs.Worlds.{start}
 use Rattle.box_world.proofs.OneMore.{clients_stay, possible_go_on}
 use Rattle.wire_checks.specs.declared.fault.WireFault.{WireFault}
 use Rattle.world_reports.specs.Closings.{closing_lines}
@@ -19,18 +16,18 @@ use Rattle.world_reports.specs.StepLines.{StepLines}
 use Rattle.world_reports.proofs.OwnLines.{closings_are_own}
 use Rattle.update_world.specs.Spelled.{IsSpelled, packet_size}
 use Rattle.update_replay.specs.Endings.{Ending, is_cut_short, no_step, not_made, of_refusal, too_long, whole}
-use Rattle.update_replay.specs.Replays.{Began, BeginsStep, Replayed, Replays, StepFollows, at_its_end, goes_on, no_step_follows, none, not_possible, one_more, one_too_many, seen_of}
+use Rattle.update_replay.specs.Replays.{Began, BeginsStep, Replayed, StepFollows, at_its_end, goes_on, no_step_follows, none, not_possible, one_more, one_too_many, seen_of}
 use Rattle.update_replay.specs.declared.limits.TheConstants.{MAX_JOURNAL_BYTES, MAX_STEPS}
-use Rattle.command_base.specs.Answer.{Answer, done, printed, refused, refused_after}
-use Rattle.command_base.specs.declared.status.Status.{Status}
-use Rattle.command_base.specs.declared.status.Status.TheVariants.{Done, Refused}
+use Rattle.command_base.specs.Answer.{Answer, done, refused_after}
+use Rattle.command_base.specs.declared.status.Status.TheVariants.{Refused}
 use Rattle.command_base.proofs.SameFiles.{same_file}
 use Rattle.schema_files.specs.Answering.{OfSchemaText, no_schema as no_schema_text, schema_of}
 use Rattle.schema_files.specs.Loaded.{IsSchemaText}
 use Rattle.fault_lines.specs.Messages.{step_line}
 use Rattle.fault_lines.specs.Profiled.{IsProfileText, OfProfile, no_profile as no_profile_of, profiled}
-use Rattle.update_commands.specs.Replay.{OfJournal, OfJournalFile, ReplayAnswer, ending_answer}
-use Rattle.headline.specs.Replay.{AreBytesOf, AreLinesOf, IsRefusal, Refuses, Reports, no_journal, no_profile, no_schema}
+use Rattle.update_commands.specs.Replay.{OfJournalFile, ReplayAnswer, ending_answer}
+use Rattle.headline.specs.Replay.{Refuses, no_journal, no_profile, no_schema}
+use Rattle.headline.specs.Reports.{AreBytesOf, AreLinesOf, Reports}
 use Rattle.headline.proofs.Finished.{finished_channels_reach, finished_reach}
 use Rattle.headline.proofs.Forward.{runs_are_whole}
 use Rattle.headline.proofs.Held.{runs_have_boxes}

@@ -1,8 +1,8 @@
 -- A saved client that is read again is the one that was saved.
-use Rattle.std.proofs.Common.{◌≡◌, ℕ, ◌≤◌, List, [], ◌++◌, append-nil, refl, sym, ap, ◌∙◌, subst}
+use Rattle.std.proofs.Common.{◌≡◌, ℕ, ◌≤◌, List, [], append-nil, sym, ap, ◌∙◌, subst}
 use Rattle.tl_numbers.specs.Bytes.{AreBytes}
 use Rattle.tl_types.specs.Exactly.{BeginsWith, ExactlyOne}
-use Rattle.tl_types.specs.Values.{ValueView, depth}
+use Rattle.tl_types.specs.Values.{ValueView}
 use Rattle.tl_types.specs.declared.value.TheConstants.{MAX_LEVELS}
 use Rattle.tl_types.proofs.Exactly.{exactly_one}
 use Rattle.box_events.specs.declared.saved.Saved.{Saved}

@@ -1,5 +1,5 @@
 -- The server after sessions is one with a history.
-use Rattle.std.proofs.Common.{◌≡◌, ◌⊎◌, inl, inr, ℕ, zero, suc, ◌<◌, ◌≤◌, ◌^◌, max, ℤ, List, [], ◌∷◌, ◌++◌, append-nil, append_assoc, length, Option, Some, None, Result, Ok, Err, refl, sym, ap, ◌∙◌, subst, arith}
+use Rattle.std.proofs.Common.{◌≡◌, ℕ, zero, suc, ◌<◌, ◌≤◌, ◌^◌, max, ℤ, List, [], ◌∷◌, ◌++◌, append-nil, append_assoc, length, Option, Some, None, Result, Ok, Err, refl, sym, ap, ◌∙◌, subst, arith}
 use Rattle.std.specs.Prelude.{get_or}
 use Rattle.std.specs.FinMap as map
 use Rattle.box_events.specs.declared.positions.Receipt.{Receipt}
@@ -9,7 +9,7 @@ use Rattle.box_events.specs.declared.requests.Request.{Request}
 use Rattle.box_events.specs.declared.requests.Request.TheVariants as request
 use Rattle.box_server.specs.Receiving.{after_post, state_by}
 use Rattle.box_server.specs.Refusing.{post_cause}
-use Rattle.box_server.specs.Servers.{ServerState, dated_at, new_server}
+use Rattle.box_server.specs.Servers.{ServerState, dated_at}
 use Rattle.box_server.specs.Sound.{IsSound}
 use Rattle.box_server.specs.declared.fault.PostFault.{PostFault}
 use Rattle.box_server.proofs.NewServers.{sound_new}
@@ -25,7 +25,7 @@ use Rattle.update_sessions.specs.Serving.{after_request, server_side}
 use Rattle.update_sessions.specs.declared.fault.SessionFault.{SessionFault}
 use Rattle.update_sessions.specs.declared.fault.SessionFault.TheVariants as fault
 use Rattle.update_sessions.proofs.Exchanging.{broken_ends}
-use Rattle.session_commands.specs.Serve.{IsAny, Session, SessionEnd, Sessions, Total, no_sessions, with_session}
+use Rattle.session_commands.specs.Serve.{IsAny, Session, SessionEnd, Sessions, Total}
 use Rattle.headline.specs.Histories.{AreDated, AreMoments, HasHistory, HistoriesAreSound, KeptRunsGoOn, SessionsGoOn}
 use Rattle.headline.proofs.Conversing.{past_last}
 

@@ -1,9 +1,7 @@
 -- No frame of an honest server moves a client back, and it waits until the last part of an answer comes.
-use Rattle.std.proofs.Common.{◌≡◌, ◌⊎◌, inl, inr, ℕ, ◌+◌, ◌-◌, ◌<◌, ◌≤◌, pos, List, [], ◌∷◌, ◌++◌, length, Bool, true, false, ◌&&◌, cond, is_some, ltb, Option, Some, None, Result, Ok, Err, refl, sym, ap, ◌∙◌, subst, arith}
+use Rattle.std.proofs.Common.{◌≡◌, ℕ, ◌+◌, ◌-◌, ◌<◌, ◌≤◌, List, [], ◌∷◌, ◌++◌, Bool, true, false, ◌&&◌, cond, is_some, ltb, Result, Ok, Err, refl, sym, ap, ◌∙◌, subst, arith}
 use Rattle.std.specs.FinMap.{len}
-use Rattle.std.specs.List.{sum_by}
 use Rattle.std.proofs.lemmas.Bool.Decides.{nat_tests}
-use Rattle.gap_buffer.specs.Holding.{Items}
 use Rattle.box_events.specs.Events.{EventView, added, count_of}
 use Rattle.box_events.specs.Boxes.{AreCounted, Between}
 use Rattle.box_events.proofs.Stretches.{counted_right, stretch_counts}
@@ -18,21 +16,21 @@ use Rattle.difference.specs.Weaves.{WeaveCause, woven_of}
 use Rattle.pts_machine.specs.Chains.{EndsAfter}
 use Rattle.pts_machine.specs.declared.mode.Mode.{Mode}
 use Rattle.pts_machine.specs.declared.mode.Mode.TheVariants.{Live, Asking, Again}
-use Rattle.pts_machine.specs.Steps.{extend, hear, settle}
+use Rattle.pts_machine.specs.Steps.{settle}
 use Rattle.pts_machine.proofs.Ends.{reach_up}
 use Rattle.pts_machine.proofs.Fitting.{fits_after}
 use Rattle.pts_machine.proofs.Moves.{extend_up, hear_mode, hear_up}
 use Rattle.seq_machine.specs.Packs.{Pack, pack_of}
 use Rattle.seq_machine.specs.States.{SettingsState, hear_pack, lane_of, overlaid}
-use Rattle.channel_box.specs.States.{ChannelState, first}
+use Rattle.channel_box.specs.States.{first}
 use Rattle.channel_box.specs.Looks.{is_waiting}
 use Rattle.channel_box.specs.Steps.{Answered, answered, asks_number, is_asking, is_due, refused, stale, taken}
 use Rattle.box_server.specs.Servers.{ServerState}
 use Rattle.box_server.specs.Growing.{AllLie}
 use Rattle.box_client.specs.declared.brought.Brought.{Brought}
-use Rattle.box_client.specs.Asking.{group_asks, group_is_due, group_ticked, ticks}
+use Rattle.box_client.specs.Asking.{group_is_due, group_ticked, ticks}
 use Rattle.box_client.specs.Pushes.{all_updated, pack_heard, pushed, settings_in, updated}
-use Rattle.box_client.specs.Replies.{Outcome, ignored, refuses, becomes, by_channels, channel_replied, group_done, group_replied, group_taken, group_woven, nothing_new, replied}
+use Rattle.box_client.specs.Replies.{ignored, becomes, by_channels, channel_replied, group_done, group_replied, group_taken, group_woven, nothing_new, replied}
 use Rattle.box_client.specs.States.{ClientState}
 use Rattle.box_world.specs.Agreeing.{Agrees, Boxes, IsPast, is_final}
 use Rattle.box_world.specs.Growing.{IsLedger}

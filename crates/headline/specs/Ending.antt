@@ -6,6 +6,7 @@ use Rattle.box_client.specs.States.{ClientState}
 use Rattle.box_world.specs.Agreeing.{Agrees}
 use Rattle.box_world.specs.Recovering.{AnswersEach, most_frames}
 use Rattle.box_world.specs.Streams.{Doing, Frame, Honest, begun, past_of, told_reply}
+use Rattle.headline.specs.Answering.{AreAnswers, session_asks}
 use Rattle.headline.specs.CatchingUp.{heard_all}
 
 -- replies by their numbers, as frames
@@ -25,3 +26,16 @@ pub record EndsSession (h : List Doing) (c : ClientState) : Type 0 where
 -- There are such replies for each client that agrees with the server and asks for nothing yet. So an honest stream that ends a session is there, always.
 abbrev pub SessionsEnd : Type 0
 SessionsEnd = (h : List Doing) (c : ClientState) → Agrees (past_of h (length h)).server (past_of h (length h)).boxes c → is_one_asking c ≡ false → EndsSession h c
+
+-- The server's answers to all that a client's session asks, in the order in which it asks, end the session: the client hears each of them, asks no more after
+-- the last, and they are so many at most.
+pub record EndsInOrder (h : List Doing) (c : ClientState) : Type 0 where
+  pub frames : List Frame
+  pub answers : AreAnswers (past_of h (length h)).server (session_asks c frames) frames
+  pub all : length (session_asks c frames) ≡ length frames
+  pub done : is_one_asking (heard_all (begun c) frames) ≡ false
+  pub few : length frames ≤ most_frames (past_of h (length h)) c
+
+-- They do for each such client, however many channels it asks for at once.
+abbrev pub SessionsEndInOrder : Type 0
+SessionsEndInOrder = (h : List Doing) (c : ClientState) → Agrees (past_of h (length h)).server (past_of h (length h)).boxes c → is_one_asking c ≡ false → EndsInOrder h c

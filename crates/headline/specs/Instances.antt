@@ -1,5 +1,5 @@
 -- Small cases, each worked out by hand, that a wrong definition would turn round. This project's own.
-use Rattle.std.specs.Prelude.{◌≡◌, ℕ, pos, List, [], ◌∷◌, codes, true}
+use Rattle.std.specs.Prelude.{ℕ, pos, List, [], ◌∷◌, codes, true}
 use Rattle.box_events.specs.Boxes.{Between}
 use Rattle.box_events.specs.Events.{EventView, added, deleted}
 use Rattle.box_events.specs.SettingLists.{Dated, Values}

@@ -1,11 +1,16 @@
 pub mod Forward
 pub mod Boxes
 pub mod CatchingUp
+pub mod CatchingUpChannels
 pub mod Ending
 pub mod Answering
+pub mod Reports
 pub mod Replay
+pub mod Recovered
 pub mod Client
+pub mod States
 pub mod TwoPrograms
 pub mod Histories
 pub mod Meetings
+pub mod ServedRuns
 pub mod Instances

@@ -10,10 +10,10 @@ use Rattle.box_client.specs.Asking.{is_one_asking}
 use Rattle.box_client.specs.Saving.{saved_of}
 use Rattle.box_client.specs.States.{ClientState}
 use Rattle.box_server.specs.Servers.{ServerState, dated_at}
-use Rattle.box_world.specs.Streams.{Doing, dates, past_of}
+use Rattle.box_world.specs.Streams.{Doing, dates}
 use Rattle.session_commands.specs.Client.{HasClient, watch_all}
 use Rattle.headline.specs.Answering.{IsUpToDate}
-use Rattle.headline.specs.Client.{StateAgrees}
+use Rattle.headline.specs.Recovered.{StateAgrees}
 use Rattle.headline.specs.Histories.{HasHistory}
 use Rattle.headline.specs.TwoPrograms.{Converse}
 

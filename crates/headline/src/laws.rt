@@ -1,13 +1,16 @@
 //! The laws, each carried by a function that does nothing.
 ghost use Rattle.headline.specs.Answering.{AnswersBringUpToDate};
 ghost use Rattle.headline.specs.Boxes.{RunsKeepBoxes};
-ghost use Rattle.headline.specs.CatchingUp.{HonestSessionsCatchUp, HonestSessionsCatchUpByChannel};
-ghost use Rattle.headline.specs.Client.{ClientHeadline, StatesGoOn};
-ghost use Rattle.headline.specs.Ending.{SessionsEnd};
+ghost use Rattle.headline.specs.CatchingUp.{HonestSessionsCatchUp};
+ghost use Rattle.headline.specs.CatchingUpChannels.{HonestSessionsCatchUpByChannel};
+ghost use Rattle.headline.specs.Client.{ClientHeadline};
+ghost use Rattle.headline.specs.States.{StatesGoOn};
+ghost use Rattle.headline.specs.Ending.{SessionsEnd, SessionsEndInOrder};
 ghost use Rattle.headline.specs.Histories.{HistoriesAreSound, KeptRunsGoOn, SessionsGoOn};
 ghost use Rattle.headline.specs.Instances.{ClientsHaveBoxes, StreamsAreSent, StretchesAreExact};
 ghost use Rattle.headline.specs.Meetings.{LoadedAskNothing, StatesMeetServers};
 ghost use Rattle.headline.specs.Replay.{ReplayHeadline};
+ghost use Rattle.headline.specs.ServedRuns.{ServedRunsMeet};
 ghost use Rattle.headline.specs.TwoPrograms.{TwoProgramsMeet};
 
 /// After every list of steps each client has the server's boxes from its restarts to its positions, its common and secret boxes whole; no position falls as
@@ -23,9 +26,11 @@ pub fn honest_sessions_catch_up()
     ensures channels { HonestSessionsCatchUpByChannel }
 {}
 
-/// For each client that agrees with its server there are answers of that server which end its session: an honest stream, of so many frames at most.
+/// For each client that agrees with its server there are answers of that server which end its session: an honest stream, of so many frames at most. The answers
+/// to all that it asks, in that order, are such.
 pub fn sessions_end()
-    ensures { SessionsEnd }
+    ensures some { SessionsEnd }
+    ensures in_order { SessionsEndInOrder }
 {}
 
 /// One server's answers to a client's own requests are an honest stream, and bring it up to date.
@@ -73,4 +78,10 @@ pub fn servers_have_histories()
 pub fn states_meet_servers()
     ensures calm { LoadedAskNothing }
     ensures meet { StatesMeetServers }
+{}
+
+/// A run of `client` over a link that a run of `serve` is on in one of its sessions: each is sent what the other's link gave. What the client saved is up to date
+/// with the server, and its state agrees with it.
+pub fn served_runs_meet()
+    ensures { ServedRunsMeet }
 {}
