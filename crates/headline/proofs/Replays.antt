@@ -11,9 +11,9 @@ use Rattle.box_world.specs.Possible.{AllPossible}
 use Rattle.box_world.specs.Worlds.{start}
 use Rattle.box_world.proofs.OneMore.{clients_stay, possible_go_on}
 use Rattle.wire_checks.specs.declared.fault.WireFault.{WireFault}
-use Rattle.world_reports.specs.Closings.{closing_lines}
-use Rattle.world_reports.specs.StepLines.{StepLines}
-use Rattle.world_reports.proofs.OwnLines.{closings_are_own}
+use Rattle.update_replay.specs.Closings.{closing_lines}
+use Rattle.update_replay.specs.StepLines.{StepLines}
+use Rattle.update_replay.proofs.OwnLines.{closings_are_own}
 use Rattle.update_world.specs.Spelled.{IsSpelled, packet_size}
 use Rattle.update_replay.specs.Endings.{Ending, is_cut_short, no_step, not_made, of_refusal, too_long, whole}
 use Rattle.update_replay.specs.Replays.{Began, BeginsStep, Replayed, StepFollows, at_its_end, goes_on, no_step_follows, none, not_possible, one_more, one_too_many, seen_of}

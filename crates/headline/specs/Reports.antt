@@ -12,8 +12,8 @@ use Rattle.box_world.specs.Possible.{AllPossible}
 use Rattle.box_world.specs.Reached.{boxes_of}
 use Rattle.box_world.specs.Worlds.{run, start}
 use Rattle.report_lines.specs.Closing.{server_line}
-use Rattle.world_reports.specs.StepLines.{StepLines}
-use Rattle.world_reports.specs.Told.{all_own_lines}
+use Rattle.update_replay.specs.StepLines.{StepLines}
+use Rattle.update_replay.specs.Told.{all_own_lines}
 use Rattle.update_world.specs.Spelled.{IsSpelled, packet_size}
 use Rattle.update_replay.specs.Endings.{whole}
 use Rattle.update_replay.specs.declared.limits.TheConstants.{MAX_JOURNAL_BYTES, MAX_STEPS}

@@ -6,8 +6,8 @@ use Rattle.box_server.specs.Servers.{ServerState}
 use Rattle.box_world.specs.NumberWorlds.{numbers_of}
 use Rattle.box_world.specs.Possible.{is_for}
 use Rattle.box_world.specs.Worlds.{Packet, World}
-use Rattle.world_reports.specs.Draws.{drawn, draw_of}
-use Rattle.world_reports.specs.Made.{Chosen, drawn_hear, drawn_last, hears_drawn, hears_if, hears_last, last_where, or_date, served_last, serves_last}
+use Rattle.update_replay.specs.Draws.{drawn, draw_of}
+use Rattle.update_replay.specs.Made.{Chosen, drawn_hear, drawn_last, hears_drawn, hears_if, hears_last, last_where, or_date, served_last, serves_last}
 use Rattle.update_world.specs.declared.sent.Sent.{Sent}
 use Rattle.update_world.specs.Shown.{Shown, StandsFor}
 use Rattle.update_replay.specs.Making.{Chooses}

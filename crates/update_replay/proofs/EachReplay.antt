@@ -35,10 +35,10 @@ use Rattle.box_world.specs.Possible.{StepCause, bytes_in, refusal}
 use Rattle.box_world.specs.Worlds.{Packet, push, request, reply, World, happens, run}
 use Rattle.box_world.proofs.NumberWorlds.{numbers_follow}
 use Rattle.box_world.proofs.OneMore.{runs_go_on}
-use Rattle.world_reports.specs.Closings.{closing_lines}
-use Rattle.world_reports.specs.StepLines as reports
-use Rattle.world_reports.specs.StepLines.{StepLines, new_packets, step_lines}
-use Rattle.world_reports.proofs.NextNumbers.{steps_are_of_runs}
+use Rattle.update_replay.specs.Closings.{closing_lines}
+use Rattle.update_replay.specs.StepLines as reports
+use Rattle.update_replay.specs.StepLines.{StepLines, new_packets, step_lines}
+use Rattle.update_replay.proofs.NextNumbers.{steps_are_of_runs}
 use Rattle.update_world.specs.Spelled.{IsSpelled, packet_size}
 use Rattle.update_world.proofs.Refusals.{not_full}
 use Rattle.update_world.proofs.WireLaws.{calls_long, frames_long}

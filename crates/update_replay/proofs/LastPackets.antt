@@ -4,7 +4,7 @@ use Rattle.std.specs.Prelude.{slice_get}
 use Rattle.std.proofs.lemmas.Option.{none-some}
 use Rattle.wire_profile.specs.Places.{ProfileView}
 use Rattle.box_world.specs.Worlds.{Packet, push, request, reply, World}
-use Rattle.world_reports.specs.Made.{last_where, or_last}
+use Rattle.update_replay.specs.Made.{last_where, or_last}
 use Rattle.update_world.specs.declared.sent.Sent.{Sent}
 use Rattle.update_world.specs.Shown.{Shown, StandsFor}
 use Rattle.update_world.specs.Spelled.{IsSent}

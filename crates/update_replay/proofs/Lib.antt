@@ -1,3 +1,10 @@
+mod Stretching
+mod Telling
+pub mod OwnLines
+pub mod NextNumbers
+pub mod Drawing
+pub mod Dates
+pub mod Summing
 pub mod LineLists
 pub mod Packets
 pub mod StepTexts

@@ -5,8 +5,8 @@ use Rattle.std.proofs.lemmas.Option.{none-some, same_Some}
 use Rattle.box_client.specs.States.{ClientState}
 use Rattle.report_lines.specs.Closing.{own_lines}
 use Rattle.report_lines.specs.Texts.{packet_line}
-use Rattle.world_reports.specs.StepLines.{packet_lines}
-use Rattle.world_reports.specs.Told.{all_own_lines}
+use Rattle.update_replay.specs.StepLines.{packet_lines}
+use Rattle.update_replay.specs.Told.{all_own_lines}
 use Rattle.update_world.specs.declared.sent.Sent.{Sent}
 use Rattle.update_replay.specs.WorldLines.{bytes_from}
 

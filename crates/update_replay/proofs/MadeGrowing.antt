@@ -2,7 +2,7 @@
 use Rattle.std.proofs.Common.{◌≡◌, ℕ, zero, suc, ◌+◌, List, [], ◌∷◌, ◌++◌, ap, ap₂, ◌∙◌, arith}
 use Rattle.box_events.specs.declared.steps.Step.{Step}
 use Rattle.box_world.specs.NumberWorlds.{NumberWorld, n_happens, n_run, n_run_from}
-use Rattle.world_reports.specs.Made.{Chosen, made_from, made_step, made_steps}
+use Rattle.update_replay.specs.Made.{Chosen, made_from, made_step, made_steps}
 
 -- the generator's number after so many steps
 abbrev pub number_from : ℕ → NumberWorld → ℕ → ℕ → ℕ

@@ -10,11 +10,11 @@ use Rattle.box_world.specs.Worlds.{World, happens, run, run_from, start}
 use Rattle.box_world.proofs.NumberWorlds.{numbers_follow}
 use Rattle.box_world.proofs.OneMore.{clients_stay, runs_go_on}
 use Rattle.server_frames.specs.Sizes.{step_size}
-use Rattle.world_reports.specs.Laws.{IsPoolFull}
-use Rattle.world_reports.specs.Made.{made_from, made_step, made_steps}
-use Rattle.world_reports.specs.Summaries.{summary}
-use Rattle.world_reports.proofs.Drawing.{made_steps_are_refused_by_bytes}
-use Rattle.world_reports.proofs.NextNumbers.{steps_are_of_runs}
+use Rattle.update_replay.specs.Laws.{IsPoolFull}
+use Rattle.update_replay.specs.Made.{made_from, made_step, made_steps}
+use Rattle.update_replay.specs.Summaries.{summary}
+use Rattle.update_replay.proofs.Drawing.{made_steps_are_refused_by_bytes}
+use Rattle.update_replay.proofs.NextNumbers.{steps_are_of_runs}
 use Rattle.update_world.specs.Spelled.{packet_size}
 use Rattle.update_replay.specs.MadeLaws.{EachIsMade, IsAnswer, MadeOffsetsAreLow, OneIsMade}
 use Rattle.update_replay.specs.MadeRuns.{MakesRun, Refusal, first_refused, made_refusal, refused_or}

@@ -20,10 +20,10 @@ use Rattle.server_frames.specs.SizeLaws.{SpelledHaveTheirSize}
 use Rattle.server_frames.specs.Sizes.{step_size}
 use Rattle.server_frames.proofs.MessageForms.{step_has}
 use Rattle.server_frames.proofs.SpelledMessages.{of_their_size}
-use Rattle.world_reports.specs.Laws.{IsPoolFull}
-use Rattle.world_reports.specs.Made.{Chosen, made_step, made_steps}
-use Rattle.world_reports.proofs.Dates.{made_dates_stay_below}
-use Rattle.world_reports.proofs.Drawing.{made_steps_are_refused_by_bytes}
+use Rattle.update_replay.specs.Laws.{IsPoolFull}
+use Rattle.update_replay.specs.Made.{Chosen, made_step, made_steps}
+use Rattle.update_replay.proofs.Dates.{made_dates_stay_below}
+use Rattle.update_replay.proofs.Drawing.{made_steps_are_refused_by_bytes}
 use Rattle.update_world.specs.declared.fault.StepFault.{StepFault}
 use Rattle.update_world.specs.declared.fault.StepFault.TheVariants as step_fault
 use Rattle.update_world.specs.declared.outcome.Outcome.{Outcome}

@@ -11,8 +11,8 @@ use Rattle.wire_profile.specs.Profiles.{IsProfile}
 use Rattle.box_world.specs.NumberWorlds.{n_run}
 use Rattle.box_world.specs.Possible.{StepCause, refusal}
 use Rattle.box_world.specs.Worlds.{run}
-use Rattle.world_reports.specs.Closings.{closing_lines}
-use Rattle.world_reports.specs.StepLines.{StepLines}
+use Rattle.update_replay.specs.Closings.{closing_lines}
+use Rattle.update_replay.specs.StepLines.{StepLines}
 use Rattle.update_world.specs.Spelled.{IsSpelled, packet_size}
 use Rattle.update_replay.specs.Endings.{Ending, whole, not_made, too_long, of_refusal}
 use Rattle.update_replay.specs.Replays.{BeginsStep, StepFollows, Began, none, one_more, NoStepFollows, Replays, no_step_follows, one_too_many, not_possible, at_its_end}

@@ -13,7 +13,7 @@ use Rattle.box_client.specs.States.{ClientState}
 use Rattle.box_client.specs.Asking.{restarted, wakes}
 use Rattle.wire_profile.specs.Places.{ProfileView}
 use Rattle.box_world.specs.Worlds.{Packet, World, client_steps, happens, heard, post_by, watches}
-use Rattle.world_reports.specs.StepLines.{AreSpelled}
+use Rattle.update_replay.specs.StepLines.{AreSpelled}
 use Rattle.update_world.specs.declared.sent.Sent.{Sent}
 use Rattle.update_world.specs.Outcomes.{outcome_of, post_outcome}
 use Rattle.update_world.specs.Shown.{Shown}

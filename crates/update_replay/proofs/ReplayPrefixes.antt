@@ -5,7 +5,7 @@ use Rattle.box_events.specs.declared.steps.Step.{Step}
 use Rattle.wire_profile.specs.Places.{ProfileView}
 use Rattle.wire_profile.specs.Profiles.{IsProfile}
 use Rattle.box_world.specs.NumberWorlds.{n_run}
-use Rattle.world_reports.specs.Closings.{closing_lines}
+use Rattle.update_replay.specs.Closings.{closing_lines}
 use Rattle.update_replay.specs.Endings.{Ending}
 use Rattle.update_replay.specs.Replays.{Began, one_more, Next, nothing, a_step, the_end, Stopped, Replays}
 use Rattle.update_replay.proofs.JournalSteps.{none_begins}

@@ -9,7 +9,7 @@ use Rattle.box_events.specs.declared.steps.Step.{Step}
 use Rattle.wire_profile.specs.Places.{ProfileView}
 use Rattle.wire_profile.specs.Profiles.{IsProfile}
 use Rattle.box_world.specs.NumberWorlds.{n_run}
-use Rattle.world_reports.specs.StepLines.{StepLines}
+use Rattle.update_replay.specs.StepLines.{StepLines}
 use Rattle.update_world.specs.Shown.{Shown}
 use Rattle.update_world.specs.Spelled.{IsSpelled}
 use Rattle.update_replay.specs.Endings.{Ending}

@@ -14,7 +14,7 @@ use Rattle.wire_profile.specs.Places.{ProfileView}
 use Rattle.box_wire.specs.StepReading.{StepRefused, no_value}
 use Rattle.box_world.specs.NumberWorlds.{n_run}
 use Rattle.box_world.specs.Possible.{StepCause, no_client, no_packet, wrong_end, pool_full}
-use Rattle.world_reports.specs.Closings.{closing_lines}
+use Rattle.update_replay.specs.Closings.{closing_lines}
 use Rattle.update_world.specs.Shown.{Shown}
 use Rattle.update_world.specs.Spelled.{AreSent}
 use Rattle.update_world.specs.declared.sent.Sent.{Sent}

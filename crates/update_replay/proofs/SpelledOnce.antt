@@ -10,7 +10,7 @@ use Rattle.wire_values.specs.Frames.{frame_tree}
 use Rattle.box_wire.specs.Kinds.{calls, frames}
 use Rattle.box_world.specs.NumberWorlds.{NumberWorld}
 use Rattle.box_world.specs.Worlds.{Packet, push, request, reply}
-use Rattle.world_reports.specs.StepLines.{AreSpelled, StepLines, new_packets, step_lines}
+use Rattle.update_replay.specs.StepLines.{AreSpelled, StepLines, new_packets, step_lines}
 use Rattle.update_world.specs.Spelled.{IsSpelled}
 
 packet_once : (p : ProfileView) (m : Packet) (x y : List ℕ) → IsSpelled p m x → IsSpelled p m y → x ≡ y

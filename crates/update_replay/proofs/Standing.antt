@@ -8,8 +8,8 @@ use Rattle.box_world.specs.NumberWorlds.{n_run}
 use Rattle.box_world.specs.Worlds.{run}
 use Rattle.report_lines.specs.Closing.{server_line}
 use Rattle.report_lines.specs.Texts.{made_line, standing_line}
-use Rattle.world_reports.specs.Summaries.{standing_lines, summary}
-use Rattle.world_reports.proofs.Summing.{summaries_are_of_runs}
+use Rattle.update_replay.specs.Summaries.{standing_lines, summary}
+use Rattle.update_replay.proofs.Summing.{summaries_are_of_runs}
 use Rattle.wire_profile.specs.Profiles.{IsProfile}
 use Rattle.box_events.specs.declared.positions.State.{State}
 use Rattle.box_events.specs.declared.steps.Step.{Step}

@@ -25,7 +25,7 @@ use Rattle.box_world.proofs.NumberWorlds.{requests_numbers}
 use Rattle.report_lines.specs.Texts.{heard_text, ticked_text, watched_text}
 use Rattle.report_lines.specs.declared.heard.HeardAs.{HeardAs}
 use Rattle.report_lines.specs.declared.heard.HeardAs.TheVariants as told
-use Rattle.world_reports.specs.StepLines as reports
+use Rattle.update_replay.specs.StepLines as reports
 use Rattle.update_world.specs.Outcomes as outcomes
 use Rattle.update_world.specs.Outcomes.{outcome_of}
 use Rattle.update_world.specs.Shown.{Shown}

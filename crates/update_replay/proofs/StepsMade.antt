@@ -17,7 +17,7 @@ use Rattle.box_world.specs.NumberWorlds.{n_run}
 use Rattle.box_world.specs.Possible.{client_of, no_client, no_packet, wrong_end, pool_full}
 use Rattle.box_world.specs.Worlds.{World, run}
 use Rattle.box_world.proofs.OneMore.{clients_stay, runs_go_on}
-use Rattle.world_reports.specs.StepLines.{StepLines}
+use Rattle.update_replay.specs.StepLines.{StepLines}
 use Rattle.update_world.specs.Outcomes.{outcome_of, post_outcome}
 use Rattle.update_world.specs.Shown.{Shown, StandsFor}
 use Rattle.update_world.specs.Spelled.{IsSpelled, packet_size}

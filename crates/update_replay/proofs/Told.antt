@@ -12,11 +12,11 @@ use Rattle.box_world.proofs.NumberWorlds.{numbers_follow}
 use Rattle.box_world.proofs.OneMore.{clients_stay, runs_go_on}
 use Rattle.report_lines.specs.Closing.{server_line}
 use Rattle.report_lines.specs.Texts.{step_line}
-use Rattle.world_reports.specs.Closings.{closing_lines}
-use Rattle.world_reports.specs.StepLines.{AreSpelled, StepLines, new_packets, packet_lines, step_lines, step_text}
-use Rattle.world_reports.specs.Told.{all_own_lines}
-use Rattle.world_reports.proofs.NextNumbers.{steps_are_of_runs}
-use Rattle.world_reports.proofs.OwnLines.{closings_are_own}
+use Rattle.update_replay.specs.Closings.{closing_lines}
+use Rattle.update_replay.specs.StepLines.{AreSpelled, StepLines, new_packets, packet_lines, step_lines, step_text}
+use Rattle.update_replay.specs.Told.{all_own_lines}
+use Rattle.update_replay.proofs.NextNumbers.{steps_are_of_runs}
+use Rattle.update_replay.proofs.OwnLines.{closings_are_own}
 use Rattle.update_world.specs.Outcomes.{outcome_of}
 use Rattle.update_world.specs.Shown.{Shown, StandsFor}
 use Rattle.update_world.specs.Spelled.{AreSent, IsSpelled, packet_size}

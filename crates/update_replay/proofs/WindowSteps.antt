@@ -11,7 +11,7 @@ use Rattle.wire_checks.specs.declared.fault.WireFault.{WireFault}
 use Rattle.wire_profile.specs.Places.{ProfileView}
 use Rattle.wire_profile.specs.Profiles.{IsProfile}
 use Rattle.box_world.specs.NumberWorlds.{n_run}
-use Rattle.world_reports.specs.StepLines.{StepLines}
+use Rattle.update_replay.specs.StepLines.{StepLines}
 use Rattle.update_world.specs.Spelled.{IsSpelled}
 use Rattle.update_world.specs.Shown.{Shown}
 use Rattle.update_replay.specs.ReplayParts.{FitsInto, HasRun, Makes, NextRead, ComesOn}

@@ -4,8 +4,8 @@ use Rattle.box_events.specs.declared.steps.Step.{Step}
 use Rattle.box_world.specs.NumberWorlds.{n_run}
 use Rattle.box_world.specs.Possible.{refusal}
 use Rattle.box_world.specs.Worlds.{run}
-use Rattle.world_reports.specs.Closings.{closing_lines}
-use Rattle.world_reports.specs.StepLines.{StepLines}
+use Rattle.update_replay.specs.Closings.{closing_lines}
+use Rattle.update_replay.specs.StepLines.{StepLines}
 use Rattle.update_world.specs.Outcomes.{outcome_of}
 use Rattle.update_world.specs.Shown.{Shown, StandsFor}
 use Rattle.update_world.specs.Spelled.{IsSpelled, packet_size}

@@ -5,8 +5,8 @@ use Rattle.box_world.specs.NumberWorlds.{n_run}
 use Rattle.box_world.specs.Possible.{StepCause, pool_full, refusal}
 use Rattle.box_world.specs.Worlds.{World, happens, start}
 use Rattle.server_frames.specs.Sizes.{step_size}
-use Rattle.world_reports.specs.Made.{made_steps}
-use Rattle.world_reports.specs.Summaries.{summary}
+use Rattle.update_replay.specs.Made.{made_steps}
+use Rattle.update_replay.specs.Summaries.{summary}
 use Rattle.update_world.specs.Spelled.{packet_size}
 use Rattle.update_replay.specs.declared.made_fault.MadeFault.{MadeFault}
 use Rattle.update_replay.specs.declared.made_fault.MadeFault.TheVariants.{PoolFull, Memory}

@@ -8,8 +8,8 @@ use Rattle.box_world.specs.Worlds.{World, happens, run}
 use Rattle.server_frames.specs.Sizes.{step_size}
 use Rattle.report_lines.specs.Closing.{server_line}
 use Rattle.report_lines.specs.Texts.{made_line}
-use Rattle.world_reports.specs.Made.{Chosen, made_steps}
-use Rattle.world_reports.specs.Summaries.{standing_lines}
+use Rattle.update_replay.specs.Made.{Chosen, made_steps}
+use Rattle.update_replay.specs.Summaries.{standing_lines}
 use Rattle.wire_profile.specs.Profiles.{IsProfile}
 use Rattle.update_world.specs.Shown.{Shown, StandsFor, bytes_of}
 use Rattle.update_world.specs.Spelled.{packet_size}

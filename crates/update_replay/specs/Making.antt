@@ -1,6 +1,6 @@
 -- What the calls that draw answer, by what is drawn. Out of memory is free here. This project's own.
 use Rattle.std.specs.Prelude.{◌≡◌, ℕ, Result, Ok, Err}
-use Rattle.world_reports.specs.Made.{Chosen}
+use Rattle.update_replay.specs.Made.{Chosen}
 
 -- what was chosen is answered, and the generator has the number after the draws
 abbrev pub Chooses : {A : Type 0} → Chosen A → A → ℕ → Type 0

@@ -11,7 +11,7 @@ use Rattle.box_wire.specs.StepReading.{IsDated, StepRefused}
 use Rattle.box_world.specs.NumberWorlds.{n_run}
 use Rattle.box_world.specs.Possible.{StepCause, pool_full, refusal}
 use Rattle.box_world.specs.Worlds.{run}
-use Rattle.world_reports.specs.StepLines.{StepLines}
+use Rattle.update_replay.specs.StepLines.{StepLines}
 use Rattle.update_world.specs.Shown.{Shown}
 use Rattle.update_world.specs.Spelled.{IsSpelled, packet_size}
 use Rattle.update_world.specs.declared.fault.StepFault.{StepFault}

@@ -12,8 +12,8 @@ use Rattle.box_server.specs.Servers.{new_server}
 use Rattle.box_world.specs.NumberWorlds.{n_run}
 use Rattle.box_world.specs.Possible.{StepCause, pool_full, refusal}
 use Rattle.box_world.specs.Worlds.{run, new_clients}
-use Rattle.world_reports.specs.Closings.{closing_lines}
-use Rattle.world_reports.specs.StepLines.{StepLines}
+use Rattle.update_replay.specs.Closings.{closing_lines}
+use Rattle.update_replay.specs.StepLines.{StepLines}
 use Rattle.update_world.specs.Shown.{Shown, StandsFor}
 use Rattle.update_world.specs.Spelled.{IsSpelled, packet_size}
 use Rattle.update_replay.specs.Endings.{Ending, whole, not_made, too_long, answer_of, of_refusal}

@@ -6,8 +6,8 @@ use Rattle.box_client.specs.Numbers.{client_numbers}
 use Rattle.report_lines.specs.Closing.{server_line}
 use Rattle.report_lines.specs.Texts.{step_line, posted_text, again_text, refused_text, date_text, served_text, heard_text, ticked_text, woken_text, watched_text, restarted_text, too_long_text, channel_too_long_text}
 use Rattle.report_lines.specs.declared.heard.HeardAs.{HeardAs}
-use Rattle.world_reports.specs.StepLines.{packet_lines}
-use Rattle.world_reports.specs.Told.{all_own_lines}
+use Rattle.update_replay.specs.StepLines.{packet_lines}
+use Rattle.update_replay.specs.Told.{all_own_lines}
 use Rattle.update_world.specs.declared.outcome.Outcome.{Outcome}
 use Rattle.update_world.specs.declared.outcome.Outcome.TheVariants.{Posted, Again, PostRefused, Date, Served, Heard, Ticked, Woken, Watched, Restarted, Pushed}
 use Rattle.update_world.specs.declared.sent.Sent.{Sent}

@@ -3,7 +3,7 @@ ghost use Rattle.std.specs.Prelude.{◌≡◌, ◌<◌, IfOk, IfSome};
 ghost use Rattle.box_world.specs.NumberWorlds.{numbers_of};
 ghost use Rattle.box_world.specs.Worlds as worlds;
 ghost use Rattle.box_wire.specs.StepReading.{IsDated};
-ghost use Rattle.world_reports.specs.Made.{drawn_hear, drawn_last, drawn_posted, drawn_rest, hears_drawn, hears_last, made_step, or_date, served_last, serves_last};
+ghost use Rattle.update_replay.specs.Made.{drawn_hear, drawn_last, drawn_posted, drawn_rest, hears_drawn, hears_last, made_step, or_date, served_last, serves_last};
 ghost use Rattle.update_world.specs.Shown.{StandsFor};
 ghost use Rattle.update_replay.specs.Making.{Chooses, Draws};
 

@@ -1,5 +1,5 @@
 //! Posts that are drawn.
-ghost use Rattle.world_reports.specs.Made.{drawn_body, drawn_ids, drawn_message, drawn_delete, drawn_secret, drawn_setting, drawn_post};
+ghost use Rattle.update_replay.specs.Made.{drawn_body, drawn_ids, drawn_message, drawn_delete, drawn_secret, drawn_setting, drawn_post};
 ghost use Rattle.update_replay.specs.Making.{Draws};
 
 use crate::generator::Generator;

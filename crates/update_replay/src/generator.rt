@@ -1,7 +1,7 @@
 //! The draws of a made run.
 ghost use Rattle.std.specs.Prelude.{◌≡◌, ◌<◌, ◌%◌, ◌^◌};
-ghost use Rattle.world_reports.specs.Draws.{drawn, draw_of};
-ghost use Rattle.world_reports.specs.Made.{drawn_below};
+ghost use Rattle.update_replay.specs.Draws.{drawn, draw_of};
+ghost use Rattle.update_replay.specs.Made.{drawn_below};
 
 const FACTOR: u64 = 6_364_136_223_846_793_005;
 

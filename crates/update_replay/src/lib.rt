@@ -14,6 +14,7 @@ mod replay;
 mod replay_laws;
 mod summary;
 mod wanted;
+mod world_laws;
 
 pub use choosing::make_step;
 pub use drawing::draw_post;
@@ -26,3 +27,6 @@ pub use made_fault::MadeFault;
 pub use making::{MAX_MADE_STEPS, made_run};
 pub use replay::replay_steps;
 pub use replay_laws::{each_journal_is_replayed, journals_are_replayed_in_one_way};
+pub use world_laws::{
+    clients_are_told, made_steps_are_possible, steps_are_told, summaries_are_of_runs,
+};

@@ -2,8 +2,8 @@
 ghost use Rattle.std.specs.Prelude.{◌≡◌, ◌++◌, IsErrOf, OnOk, length};
 ghost use Rattle.tl_base.specs.Using.{Wrote};
 ghost use Rattle.tl_base.specs.Writing.{WritesPiece};
-ghost use Rattle.world_reports.specs.StepLines.{packet_lines};
-ghost use Rattle.world_reports.specs.Told.{all_own_lines};
+ghost use Rattle.update_replay.specs.StepLines.{packet_lines};
+ghost use Rattle.update_replay.specs.Told.{all_own_lines};
 ghost use Rattle.update_replay.specs.WorldLines.{Stands, bytes_from, end_lines, first_new, outcome_lines, outcome_text, pushed_text};
 
 use crate::fault::LineFault;

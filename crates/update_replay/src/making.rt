@@ -5,7 +5,7 @@ ghost use Rattle.box_world.specs.NumberWorlds.{numbers_of};
 ghost use Rattle.box_world.specs.Worlds as worlds;
 ghost use Rattle.box_world.specs.Worlds.{start};
 ghost use Rattle.server_frames.specs.Sizes.{step_size};
-ghost use Rattle.world_reports.specs.Made.{made_step};
+ghost use Rattle.update_replay.specs.Made.{made_step};
 ghost use Rattle.update_world.specs.Shown.{StandsFor};
 ghost use Rattle.update_replay.specs.MadeRuns.{MakesRun};
 ghost use Rattle.update_replay.specs.MadeSteps.{GoesOn, GoesThrough};

@@ -5,7 +5,7 @@ ghost use Rattle.box_events.specs.declared.steps.Step as steps;
 ghost use Rattle.box_wire.specs.StepReading.{IsDated};
 ghost use Rattle.box_world.specs.NumberWorlds.{n_run};
 ghost use Rattle.wire_profile.specs.Profiles.{IsProfile};
-ghost use Rattle.world_reports.specs.StepLines.{StepLines};
+ghost use Rattle.update_replay.specs.StepLines.{StepLines};
 ghost use Rattle.update_world.specs.Spelled.{IsSpelled};
 ghost use Rattle.update_replay.specs.Endings.{is_cut_short};
 ghost use Rattle.update_replay.specs.ReplayParts.{ComesOn, FitsInto, HasRun, IsDatedNext, IsRefused, Makes, NextRead, next_of, of_step};

@@ -1,7 +1,7 @@
 //! The summary of a made run.
 ghost use Rattle.std.specs.Prelude.{◌≡◌, ◌++◌, IfOk, OnOk, map};
 ghost use Rattle.box_client.specs.Numbers.{client_numbers};
-ghost use Rattle.world_reports.specs.Summaries.{standing_lines};
+ghost use Rattle.update_replay.specs.Summaries.{standing_lines};
 ghost use Rattle.update_replay.specs.MadeSteps.{shown_summary};
 
 use report_lines::{put_made, put_server, put_standing};

@@ -1,7 +1,7 @@
 //! Packets that are looked for in a world.
 ghost use Rattle.std.specs.Prelude.{◌≡◌};
 ghost use Rattle.box_world.specs.Worlds as worlds;
-ghost use Rattle.world_reports.specs.Made.{last_where};
+ghost use Rattle.update_replay.specs.Made.{last_where};
 ghost use Rattle.update_world.specs.Shown.{StandsFor};
 ghost use Rattle.update_replay.specs.Wanting.{goes_to, is_wanted};
 

@@ -1,5 +1,5 @@
 use Rattle.std.proofs.Common.{◌≡◌, ◌-◌, ◌≤◌, ◌++◌}
-use Rattle.world_reports.specs.Made.{drawn_ids}
+use Rattle.update_replay.specs.Made.{drawn_ids}
 use Rattle.update_replay.proofs.drawing.draw_ids.Given as goal
 
 abbrev pub invariant-loop : goal.invariant-loop

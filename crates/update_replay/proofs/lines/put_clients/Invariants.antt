@@ -1,5 +1,5 @@
 use Rattle.std.proofs.Common.{◌≡◌, ◌++◌, drop}
-use Rattle.world_reports.specs.Told.{all_own_lines}
+use Rattle.update_replay.specs.Told.{all_own_lines}
 use Rattle.update_replay.proofs.lines.put_clients.Given as goal
 
 abbrev pub invariant-loop-client : goal.invariant-loop-client

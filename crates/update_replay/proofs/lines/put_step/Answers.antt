@@ -1,6 +1,6 @@
 use Rattle.std.proofs.Common.{◌≡◌, ◌++◌, ℕ, subst}
 use Rattle.std.proofs.lemmas.Result.{on_ok_weaker}
-use Rattle.world_reports.specs.StepLines.{packet_lines}
+use Rattle.update_replay.specs.StepLines.{packet_lines}
 use Rattle.update_replay.specs.WorldLines.{bytes_from}
 use Rattle.update_replay.proofs.LineLists.{step_puts}
 use Rattle.update_replay.proofs.lines.put_step.Goals as goal

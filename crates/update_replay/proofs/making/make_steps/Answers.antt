@@ -1,6 +1,6 @@
 use Rattle.std.proofs.Common.{arith}
 use Rattle.box_world.specs.Worlds.{run}
-use Rattle.world_reports.specs.Made.{made_steps}
+use Rattle.update_replay.specs.Made.{made_steps}
 use Rattle.update_replay.proofs.MadeStepping.{begins, early, goes_further, goes_through, stops_so}
 use Rattle.update_replay.proofs.making.make_steps.Goals as goal
 

@@ -1,6 +1,6 @@
 use Rattle.std.proofs.Common.{◌≡◌, ◌-◌, None, drop, length}
 use Rattle.box_world.specs.Worlds.{World}
-use Rattle.world_reports.specs.Made.{last_where}
+use Rattle.update_replay.specs.Made.{last_where}
 use Rattle.update_world.specs.Shown.{StandsFor}
 use Rattle.update_replay.specs.Wanting.{is_wanted}
 use Rattle.update_replay.proofs.wanted.last_packet.Given as goal

@@ -1,5 +1,5 @@
 use Rattle.std.proofs.Common.{◌≡◌, ◌+◌, ◌*◌, ◌%◌, ℕ, ◌/◌, ap, arith}
-use Rattle.world_reports.specs.Draws.{drawn, draw_of}
+use Rattle.update_replay.specs.Draws.{drawn, draw_of}
 use Rattle.update_replay.proofs.generator.Generator.draw.Goals as goal
 
 -- one remainder in place of two

@@ -16,10 +16,10 @@ use Rattle.box_world.specs.Agreeing.{Agrees, ChannelAgrees, Each, Boxes}
 use Rattle.box_world.specs.Growing.{IsLedger}
 use Rattle.box_world.specs.Reached.{boxes_of}
 use Rattle.box_world.proofs.Reaching.{clients_agree, servers_keep_order}
-use Rattle.world_reports.specs.Laws.{ClientsAreTold}
-use Rattle.world_reports.specs.Told.{LaneIsTold, ChannelIsTold, IsTold}
-use Rattle.world_reports.specs.Stretches.{stretch}
-use Rattle.world_reports.proofs.Stretching.{stretch_is}
+use Rattle.update_replay.specs.Laws.{ClientsAreTold}
+use Rattle.update_replay.specs.Told.{LaneIsTold, ChannelIsTold, IsTold}
+use Rattle.update_replay.specs.Stretches.{stretch}
+use Rattle.update_replay.proofs.Stretching.{stretch_is}
 
 lane_told : (box : List EventView) (t : LaneState EventView) → AreCounted box → Fits box t → LaneIsTold box t
 lane_told box t c f = stretch_is box t.restart t.at t.events c f.events

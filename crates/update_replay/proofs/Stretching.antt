@@ -4,7 +4,7 @@ use Rattle.box_events.specs.Events.{EventView, count_of}
 use Rattle.box_events.specs.Boxes.{ending, Between, AreCounted}
 use Rattle.box_events.proofs.Boundaries.{ending-append}
 use Rattle.box_events.proofs.Stretches.{counted_left, counted_right}
-use Rattle.world_reports.specs.Stretches.{events_from, events_to, stretch}
+use Rattle.update_replay.specs.Stretches.{events_from, events_to, stretch}
 
 from_one : (e : EventView) (es : List EventView) (k : ℕ) → 0 < k → events_from (e ∷ es) k ≡ events_from es (k - count_of e)
 from_one e es zero less = absurd (omega (arith, less))

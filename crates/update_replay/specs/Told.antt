@@ -10,7 +10,7 @@ use Rattle.box_client.specs.States.{ClientState}
 use Rattle.box_world.specs.Agreeing.{Boxes, Each}
 use Rattle.box_world.specs.WholeBoxes.{kept_of}
 use Rattle.report_lines.specs.Closing.{own_lines}
-use Rattle.world_reports.specs.Stretches.{stretch}
+use Rattle.update_replay.specs.Stretches.{stretch}
 
 -- a lane's events are what lies in its box between its restart and its position
 abbrev pub LaneIsTold : List EventView → LaneState EventView → Type 0

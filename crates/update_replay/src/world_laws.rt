@@ -1,5 +1,5 @@
 //! Laws of reports, each carried by a function that does nothing.
-ghost use Rattle.world_reports.specs.Laws.{NewPacketsAreAdded, StepsAreOfRuns, ClientsAreTold, ClosingsAreOwn, DrawsAreSmall, FirstDraw, MadeStepsAreRefusedByBytes, MadeDatesAreNext, MadeDatesStayBelow, SummariesAreOfRuns};
+ghost use Rattle.update_replay.specs.Laws.{NewPacketsAreAdded, StepsAreOfRuns, ClientsAreTold, ClosingsAreOwn, DrawsAreSmall, FirstDraw, MadeStepsAreRefusedByBytes, MadeDatesAreNext, MadeDatesStayBelow, SummariesAreOfRuns};
 
 /// The lines of a step tell all packets that it sends, and after every list of steps they are of the numbers of the world after it.
 pub fn steps_are_told()

@@ -13,10 +13,10 @@ use Rattle.box_world.specs.Reached.{boxes_of}
 use Rattle.box_world.specs.Worlds.{run}
 use Rattle.box_world.proofs.NumberWorlds.{numbers_follow}
 use Rattle.report_lines.specs.Closing.{server_line, lane_lines, channel_lines, settings_lines, own_channel, own_channels, own_lines}
-use Rattle.world_reports.specs.Closings.{channel_told, channels_told, client_told, clients_told, closing_lines}
-use Rattle.world_reports.specs.Laws.{ClosingsAreOwn}
-use Rattle.world_reports.specs.Told.{ChannelIsTold, IsTold, all_own_lines}
-use Rattle.world_reports.proofs.Telling.{clients_are_told}
+use Rattle.update_replay.specs.Closings.{channel_told, channels_told, client_told, clients_told, closing_lines}
+use Rattle.update_replay.specs.Laws.{ClosingsAreOwn}
+use Rattle.update_replay.specs.Told.{ChannelIsTold, IsTold, all_own_lines}
+use Rattle.update_replay.proofs.Telling.{clients_are_told}
 
 channel_same : (k : ℕ) (box : List EventView) (d : ChannelState) → ChannelIsTold box d → channel_told k box (channel_numbers d) ≡ own_channel k d
 channel_same k box d t = let recent = sym t.recent in let lane = sym t.lane in λ i. channel_lines k d.id d.lane.restart d.lane.at (recent i) (lane i)

@@ -15,10 +15,10 @@ use Rattle.box_client.specs.Numbers.{ClientNumbers, n_wakes, n_client_restarted}
 use Rattle.box_world.specs.NumberWorlds.{NumberWorld, n_happens, n_post_by, n_served, n_heard, n_asks, n_steps, n_watches, n_run, n_run_from}
 use Rattle.box_world.specs.Possible.{is_for, is_served}
 use Rattle.box_world.specs.Worlds.{Packet, push, request, reply}
-use Rattle.world_reports.specs.Draws.{drawn, draw_of}
-use Rattle.world_reports.specs.Laws.{IsNextDate, MadeDatesAreNext, MadeDatesStayBelow}
-use Rattle.world_reports.specs.Made.{hears_drawn, hears_if, hears_last, serves_last, last_where, or_date, or_dated, drawn_rest, made_step, made_from}
-use Rattle.world_reports.proofs.Drawing.{either}
+use Rattle.update_replay.specs.Draws.{drawn, draw_of}
+use Rattle.update_replay.specs.Laws.{IsNextDate, MadeDatesAreNext, MadeDatesStayBelow}
+use Rattle.update_replay.specs.Made.{hears_drawn, hears_if, hears_last, serves_last, last_where, or_date, or_dated, drawn_rest, made_step, made_from}
+use Rattle.update_replay.proofs.Drawing.{either}
 
 -- ---- the steps
 

@@ -17,7 +17,7 @@ use Rattle.box_client.specs.Numbers.{ClientNumbers}
 use Rattle.box_world.specs.NumberWorlds.{NumberWorld, n_happens, n_post_by, n_served, n_heard, n_asks, n_steps, n_requests, n_run, n_run_from}
 use Rattle.box_world.proofs.NumberWorlds.{numbers_follow}
 use Rattle.box_world.specs.Worlds.{Packet, push, request, reply, channel_too_long}
-use Rattle.world_reports.specs.Laws.{NewPacketsAreAdded, StepsAreOfRuns}
+use Rattle.update_replay.specs.Laws.{NewPacketsAreAdded, StepsAreOfRuns}
 
 -- ---- what a step adds
 

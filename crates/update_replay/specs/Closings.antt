@@ -11,7 +11,7 @@ use Rattle.box_world.specs.Agreeing.{Boxes}
 use Rattle.box_world.specs.WholeBoxes.{whole_box, kept_of}
 use Rattle.box_world.specs.NumberWorlds.{NumberWorld}
 use Rattle.report_lines.specs.Closing.{server_line, lane_lines, channel_lines, settings_lines}
-use Rattle.world_reports.specs.Stretches.{stretch}
+use Rattle.update_replay.specs.Stretches.{stretch}
 
 -- a lane of client k in its box
 abbrev pub lane_told : ℕ → List ℕ → List EventView → LaneNumbers → List ℕ

@@ -9,9 +9,9 @@ use Rattle.box_events.specs.declared.steps.Step.TheVariants as step
 use Rattle.box_world.specs.NumberWorlds.{numbers_of}
 use Rattle.box_world.specs.Possible.{StepCause, no_client, no_packet, pool_full, past, client_of, packet_of, goes_wrong, is_for, is_served, or_else, overfull, most_bytes, bytes_in, refusal}
 use Rattle.box_world.specs.Worlds.{Packet, World, happens}
-use Rattle.world_reports.specs.Draws.{drawn, draw_of}
-use Rattle.world_reports.specs.Laws.{DrawsAreSmall, FirstDraw, IsPoolFull, MadeStepsAreRefusedByBytes}
-use Rattle.world_reports.specs.Made.{Chosen, drawn_rest, hears_drawn, hears_if, hears_last, serves_last, last_where, or_last, or_date, or_dated, made_step}
+use Rattle.update_replay.specs.Draws.{drawn, draw_of}
+use Rattle.update_replay.specs.Laws.{DrawsAreSmall, FirstDraw, IsPoolFull, MadeStepsAreRefusedByBytes}
+use Rattle.update_replay.specs.Made.{Chosen, drawn_rest, hears_drawn, hears_if, hears_last, serves_last, last_where, or_last, or_date, or_dated, made_step}
 
 pub draws_are_small : DrawsAreSmall
 unfolding drawn draw_of

@@ -11,12 +11,12 @@ use Rattle.box_world.specs.Reached.{boxes_of}
 use Rattle.box_world.specs.Worlds.{Packet, World, run}
 use Rattle.report_lines.specs.Closing.{server_line}
 use Rattle.report_lines.specs.Texts.{made_line}
-use Rattle.world_reports.specs.Closings.{closing_lines}
-use Rattle.world_reports.specs.Draws.{drawn, draw_of}
-use Rattle.world_reports.specs.Made.{made_step, made_steps}
-use Rattle.world_reports.specs.StepLines.{new_packets}
-use Rattle.world_reports.specs.Summaries.{standing_lines, summary}
-use Rattle.world_reports.specs.Told.{IsTold, all_own_lines}
+use Rattle.update_replay.specs.Closings.{closing_lines}
+use Rattle.update_replay.specs.Draws.{drawn, draw_of}
+use Rattle.update_replay.specs.Made.{made_step, made_steps}
+use Rattle.update_replay.specs.StepLines.{new_packets}
+use Rattle.update_replay.specs.Summaries.{standing_lines, summary}
+use Rattle.update_replay.specs.Told.{IsTold, all_own_lines}
 
 -- ---- lines of steps
 

@@ -8,7 +8,7 @@ use Rattle.box_events.specs.declared.steps.Step.TheVariants as step
 use Rattle.box_world.specs.Worlds.{Packet}
 use Rattle.box_world.specs.Possible.{is_for, is_served}
 use Rattle.box_world.specs.NumberWorlds.{NumberWorld, n_happens, n_run}
-use Rattle.world_reports.specs.Draws.{drawn, draw_of}
+use Rattle.update_replay.specs.Draws.{drawn, draw_of}
 
 -- what was chosen, and the generator's number after the draws that it took
 pub record Chosen (A : Type 0) : Type 0 where
