@@ -18,7 +18,7 @@ use Rattle.box_world.specs.Worlds.{Packet, push, request, reply}
 use Rattle.update_replay.specs.Draws.{drawn, draw_of}
 use Rattle.update_replay.specs.Laws.{IsNextDate, MadeDatesAreNext, MadeDatesStayBelow}
 use Rattle.update_replay.specs.Made.{hears_drawn, hears_if, hears_last, serves_last, last_where, or_date, or_dated, drawn_rest, made_step, made_from}
-use Rattle.update_replay.proofs.Drawing.{either}
+use Rattle.update_replay.proofs.DrawLaws.{either}
 
 -- ---- the steps
 

@@ -2,7 +2,7 @@ mod Stretching
 mod Telling
 pub mod OwnLines
 pub mod NextNumbers
-pub mod Drawing
+pub mod DrawLaws
 pub mod Dates
 pub mod Summing
 pub mod LineLists

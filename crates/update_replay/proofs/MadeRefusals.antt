@@ -13,7 +13,7 @@ use Rattle.server_frames.specs.Sizes.{step_size}
 use Rattle.update_replay.specs.Laws.{IsPoolFull}
 use Rattle.update_replay.specs.Made.{made_from, made_step, made_steps}
 use Rattle.update_replay.specs.Summaries.{summary}
-use Rattle.update_replay.proofs.Drawing.{made_steps_are_refused_by_bytes}
+use Rattle.update_replay.proofs.DrawLaws.{made_steps_are_refused_by_bytes}
 use Rattle.update_replay.proofs.NextNumbers.{steps_are_of_runs}
 use Rattle.update_world.specs.Spelled.{packet_size}
 use Rattle.update_replay.specs.MadeLaws.{EachIsMade, IsAnswer, MadeOffsetsAreLow, OneIsMade}

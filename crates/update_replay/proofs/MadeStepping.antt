@@ -23,7 +23,7 @@ use Rattle.server_frames.proofs.SpelledMessages.{of_their_size}
 use Rattle.update_replay.specs.Laws.{IsPoolFull}
 use Rattle.update_replay.specs.Made.{Chosen, made_step, made_steps}
 use Rattle.update_replay.proofs.Dates.{made_dates_stay_below}
-use Rattle.update_replay.proofs.Drawing.{made_steps_are_refused_by_bytes}
+use Rattle.update_replay.proofs.DrawLaws.{made_steps_are_refused_by_bytes}
 use Rattle.update_world.specs.declared.fault.StepFault.{StepFault}
 use Rattle.update_world.specs.declared.fault.StepFault.TheVariants as step_fault
 use Rattle.update_world.specs.declared.outcome.Outcome.{Outcome}

@@ -1,5 +1,5 @@
 use Rattle.update_replay.proofs.Dates.{made_dates_are_next, made_dates_stay_below}
-use Rattle.update_replay.proofs.Drawing.{draws_are_small, first_draw, made_steps_are_refused_by_bytes}
+use Rattle.update_replay.proofs.DrawLaws.{draws_are_small, first_draw, made_steps_are_refused_by_bytes}
 use Rattle.update_replay.proofs.world_laws.made_steps_are_possible.Goals as goal
 
 pub returns-clause-small : goal.returns-clause-small
