@@ -74,8 +74,8 @@ module _ (schema state_name state asks answers : List ℕ) (channels : List ℤ)
     d = r.d;
     saves = r.spelled;
     meets = λ h m own le agrees.
-    let met = meets_by r.p (profile_is schema r.p r.text) h a.before.server now channels state y.written.state a.server r.opened r.c r.d are own (low k) (later_state r.p h m (length h) state le agrees) r.has r.watches c r.spelled in
-    (met.2, met.3);
+        let met = meets_by r.p (profile_is schema r.p r.text) h a.before.server now channels state y.written.state a.server r.opened r.c r.d are own (low k) (later_state r.p h m (length h) state le agrees) r.has r.watches c r.spelled in
+        (met.2, met.3);
   }
 
 met : (schema state_name state asks answers : List ℕ) (channels : List ℤ) (k : ℕ) (v w x y : View) → AreBytes state → AreBytes asks → AreBytes answers → AreMoments v.moments → (r : Ran schema state_name channels state x y) (s : Served schema k v w) → get_or v.links k [] ≡ asks

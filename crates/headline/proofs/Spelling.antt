@@ -152,18 +152,20 @@ module _ (p : ProfileView) (good : IsProfile p) where
       let done_asking : is_one_asking d ≡ false = ap is_one_asking (heard_so p (begun c) gs ∙ ap (heard_all (begun c)) told_is) ∙ e.done in
       let long = long_frames e.replies in
       let same = e.all in
-      let few = sp.few in
-      (d, record {
-        asked = sp.asked;
-        answered = sp.answered;
-        bytes = sp.bytes;
-        calls = qs;
-        number = length qs;
-        serves = (serves, refl, few);
-        frames = gs;
-        many = length gs;
-        hears = asked parts.0 parts.1 parts.3 parts.2 ([], hearing, done_asking, refl, omega (arith, long, same, few), refl);
-      })
+      let few = sp.few in (
+        d,
+        record {
+          asked = sp.asked;
+          answered = sp.answered;
+          bytes = sp.bytes;
+          calls = qs;
+          number = length qs;
+          serves = (serves, refl, few);
+          frames = gs;
+          many = length gs;
+          hears = asked parts.0 parts.1 parts.3 parts.2 ([], hearing, done_asking, refl, omega (arith, long, same, few), refl);
+        },
+      )
 
 pub conversations_end : ConversationsEnd
 conversations_end p good h now c sound a calm e sp = conversation p good h now c sound a calm e sp
