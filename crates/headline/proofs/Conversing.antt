@@ -60,6 +60,7 @@ use Rattle.session_commands.proofs.OneExchange.{rest_bytes, same_rest}
 use Rattle.session_commands.proofs.OneReply.{body_bytes}
 use Rattle.headline.specs.Answering.{AreAnswers, IsUpToDate, all_asks, hears_one, session_asks}
 use Rattle.headline.specs.CatchingUp.{heard_all}
+use Rattle.headline.specs.Conversations.{answers_of}
 use Rattle.headline.specs.TwoPrograms.{TwoProgramsMeet}
 use Rattle.headline.proofs.Answered.{answers_bring_up_to_date}
 use Rattle.headline.proofs.LastAnswers.{AgreesAt, grown}
@@ -67,7 +68,7 @@ use Rattle.headline.proofs.Recoveries.{heard_so, past_front}
 
 -- ---- requests of clients are no posts
 
-abbrev NoPost : Numbered → Type 0
+abbrev pub NoPost : Numbered → Type 0
 NoPost q = IsAnswered q.request
 
 channel_asks_none : (d : ChannelState) (n : ℕ) (ds : List ChannelState) (b : Bool) → channel_is_due d ≡ b → ((m : ℕ) → Each NoPost (ticked m ds).asks) → Each NoPost (ticked n (d ∷ ds)).asks
@@ -97,24 +98,19 @@ session_no_post : (c : ClientState) (fs : List streams.Frame) → Each NoPost (s
 session_no_post c fs = each_both NoPost (ticks (wakes c)).asks (all_asks (begun c) fs) (tick_no_post (wakes c)) (all_no_post (begun c) fs)
 
 -- a client asks for what its definition says
-sent_so : (p : ProfileView) (c : ClientState) (fs : List Frame) → sends_all (client_side p) c fs ≡ all_asks c (told_all fs)
+pub sent_so : (p : ProfileView) (c : ClientState) (fs : List Frame) → sends_all (client_side p) c fs ≡ all_asks c (told_all fs)
 sent_so p c [] = refl
 sent_so p c (Push q ∷ fs) = ap (λ (l : List Numbered). (ticks (hears_one c (told (Push q)))).asks ++ l) (sent_so p (heard_frame c (told (Push q))) fs)
 sent_so p c (Reply n r ∷ fs) = ap (λ (l : List Numbered). (ticks (hears_one c (told (Reply n r)))).asks ++ l) (sent_so p (heard_frame c (told (Reply n r))) fs)
 
 -- ---- a server's answers to them
 
-replies : ServerState → List Numbered → List Frame
-replies s [] = []
-replies s (q ∷ qs) = Reply q.number (answer s q.request) ∷ replies s qs
-
-replies_so : (p : ProfileView) (s : ServerState) (qs : List Numbered) → Each NoPost qs → sends_all (server_side p) s qs ≡ replies s qs
-unfolding replies
+pub replies_so : (p : ProfileView) (s : ServerState) (qs : List Numbered) → Each NoPost qs → sends_all (server_side p) s qs ≡ answers_of s qs
 replies_so p s [] h = refl
 replies_so p s (q ∷ qs) h =
     ap₂ (λ (l k : List Frame). l ++ k) (sent_answer s q.number q.request h.0) (ap (λ (t : ServerState). sends_all (server_side p) t qs) (after_answer s q.request h.0) ∙ replies_so p s qs h.1)
 
-stays_so : (p : ProfileView) (s : ServerState) (qs : List Numbered) → Each NoPost qs → after_all (server_side p) s qs ≡ s
+pub stays_so : (p : ProfileView) (s : ServerState) (qs : List Numbered) → Each NoPost qs → after_all (server_side p) s qs ≡ s
 stays_so p s [] h = refl
 stays_so p s (q ∷ qs) h = ap (λ (t : ServerState). after_all (server_side p) t qs) (after_answer s q.request h.0) ∙ stays_so p s qs h.1
 
@@ -145,7 +141,7 @@ no_packet : (b rest : List ℕ) → [] ≡ packet b ++ rest → ⊥
 no_packet b rest e = omega (arith, ap length e, length-append (packet b) rest, length-append (word (length b)) b, words.long (length b))
 
 -- a request of a client: no post, of 24 bytes
-record IsAsk (q : Numbered) : Type 0 where
+pub record IsAsk (q : Numbered) : Type 0 where
   pub none : NoPost q
   pub size : call_size q ≡ 24
 
@@ -164,18 +160,18 @@ all_are_asks : (c : ClientState) (fs : List streams.Frame) → Each IsAsk (all_a
 all_are_asks c [] = tt
 all_are_asks c (f ∷ fs) = each_both IsAsk (ticks (hears_one c f)).asks (all_asks (heard_frame c f) fs) (tick_asks (hears_one c f)) (all_are_asks (heard_frame c f) fs)
 
-session_are_asks : (c : ClientState) (fs : List streams.Frame) → Each IsAsk (session_asks c fs)
+pub session_are_asks : (c : ClientState) (fs : List streams.Frame) → Each IsAsk (session_asks c fs)
 session_are_asks c fs = each_both IsAsk (ticks (wakes c)).asks (all_asks (begun c) fs) (tick_asks (wakes c)) (all_are_asks (begun c) fs)
 
-none_of : (qs : List Numbered) → Each IsAsk qs → Each NoPost qs
+pub none_of : (qs : List Numbered) → Each IsAsk qs → Each NoPost qs
 none_of [] h = tt
 none_of (q ∷ qs) h = (h.0.none, none_of qs h.1)
 
 module _ (p : ProfileView) (good : IsProfile p) where
-  call_fits : (q : Numbered) (b : List ℕ) → IsAsk q → SpellsCall p q b → IsPacketLength (length b)
+  pub call_fits : (q : Numbered) (b : List ℕ) → IsAsk q → SpellsCall p q b → IsPacketLength (length b)
   call_fits q b h s = (are_whole calls call_tree call_in (λ _. ⊤) call_laws call_has call_served p good q b s, omega (arith, call_sized p good q b s, h.size))
 
-  frame_fits : (s : ServerState) (q : Numbered) (b : List ℕ) → IsSound s → SpellsFrame p (Reply q.number (answer s q.request)) b → IsPacketLength (length b)
+  pub frame_fits : (s : ServerState) (q : Numbered) (b : List ℕ) → IsSound s → SpellsFrame p (Reply q.number (answer s q.request)) b → IsPacketLength (length b)
   frame_fits s q b sound spells =
       (are_whole frames frame_tree frame_in IsFrame frame_laws frame_has (λ m. tt) p good (Reply q.number (answer s q.request)) b spells, omega (arith, frame_sized p good (Reply q.number (answer s q.request)) b spells, answer_short s q.number q.request (answer s q.request) sound refl))
 
@@ -204,8 +200,7 @@ module _ (p : ProfileView) (good : IsProfile p) where
       ap₂ (λ (x : Numbered) (l : List Numbered). x ∷ l) first (calls_are qs ks rest (rest_bytes bytes b rest is are) all.1 more (subst (λ (l : List ℕ). Came (MeansCall p) l ks []) same.1 further))
 
   -- the client hears just the server's answers
-  frames_are : (s : ServerState) → IsSound s → (qs : List Numbered) (fs : List Frame) (bytes left : List ℕ) → AreBytes bytes → Each IsAsk qs → Packed (SpellsFrame p) (replies s qs) bytes → Came (MeansFrame p) bytes fs left → AreAnswers s qs (told_all fs)
-  unfolding replies
+  frames_are : (s : ServerState) → IsSound s → (qs : List Numbered) (fs : List Frame) (bytes left : List ℕ) → AreBytes bytes → Each IsAsk qs → Packed (SpellsFrame p) (answers_of s qs) bytes → Came (MeansFrame p) bytes fs left → AreAnswers s qs (told_all fs)
   frames_are s sound qs [] bytes left are all wrote came = none_are s qs
   frames_are s sound [] (f ∷ fs) bytes left are all wrote (b, rest, fits, is, means, more) = absurd (no_packet b rest (sym wrote ∙ is))
   frames_are s sound (q ∷ qs) (f ∷ fs) bytes left are all (b, rest, spells, is, more) (d, behind, fits, at, means, further) =
@@ -244,7 +239,7 @@ module _ (p : ProfileView) (good : IsProfile p) (h : List Doing) (now : ℕ) (c 
       let qs : List Numbered = session_asks c (told_all fs) in
       let all = session_are_asks c (told_all fs) in
       let same : calls_heard ≡ qs = calls_are p good qs calls_heard asks are all packed e.came in
-      let wrote : Packed (SpellsFrame p) (replies server qs) answers = subst (λ (l : List Frame). Packed (SpellsFrame p) l answers) (ap (sends_all (server_side p) server) same ∙ replies_so p server qs (none_of qs all)) e.wrote in
+      let wrote : Packed (SpellsFrame p) (answers_of server qs) answers = subst (λ (l : List Frame). Packed (SpellsFrame p) l answers) (ap (sends_all (server_side p) server) same ∙ replies_so p server qs (none_of qs all)) e.wrote in
       let answered = frames_are p good server sound qs fs answers left also all wrote came in
       let last : past_of after (length after) ≡ done (past_of h (length h)) (dates now) = past_last first_past h (dates now) in
       let here : AreAnswers (past_of after (length after)).server qs (told_all fs) = subst (λ (q : Past). AreAnswers q.server qs (told_all fs)) (sym last) answered in

@@ -92,7 +92,7 @@ each_honest h c (f ∷ fs) a =
     let s : ServerState = (past_of h (length h)).server in
     (length h, omega arith, omega arith, λ q asks. a.0.2 ∙ ap (answer s) (same_Some a.0.0 q (sym a.0.1 ∙ asks)), each_honest h (heard_frame c (told_reply f.0 f.1)) fs a.1)
 
-pub done_by : (h : List Doing) (c : ClientState) (fs : List (ℕ × Reply)) → length fs ≤ most_frames (past_of h (length h)) c → (is_one_asking (heard_all (begun c) (told_replies fs)) ≡ false) ⊎ (length fs ≡ suc (most_frames (past_of h (length h)) c))
+done_by : (h : List Doing) (c : ClientState) (fs : List (ℕ × Reply)) → length fs ≤ most_frames (past_of h (length h)) c → (is_one_asking (heard_all (begun c) (told_replies fs)) ≡ false) ⊎ (length fs ≡ suc (most_frames (past_of h (length h)) c))
     → is_one_asking (heard_all (begun c) (told_replies fs)) ≡ false
 done_by h c fs few (inl e) = e
 done_by h c fs few (inr e) = absurd (omega (arith, few, e))

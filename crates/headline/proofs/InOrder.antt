@@ -179,6 +179,14 @@ calm_by : (c : ClientState) (b : Bool) → is_one_asking c ≡ b → ((n : ℕ) 
 calm_by c true e none = absurd (asks_none c none (asks_by c c.common.mode refl e))
 calm_by c false e none = e
 
+waits_by : (c : ClientState) (n : ℕ) (b : Bool) → is_one_asking c ≡ b → 1 ≤ asks_of n c → is_one_asking c ≡ true
+waits_by c n true e some = e
+waits_by c n false e some = let none = free_client n c e in absurd (omega (arith, none, some))
+
+-- a client that asks a number waits
+pub asked_waits : (c : ClientState) (n : ℕ) (r : Request) → asked_by c n ≡ Some r → is_one_asking c ≡ true
+asked_waits c n r is = waits_by c n (is_one_asking c) refl (asked_counts c n r (is_asking n c.common.mode) refl is)
+
 -- ---- an answer
 
 either_free : (n : ℕ) (m : Mode) → (m ≡ Live) ⊎ (m ≡ Again) → one (is_asking n m) ≡ 0
@@ -298,10 +306,6 @@ in_order h (suc k) c (q ∷ qs) a b known counts =
       ends = more_ends (length ((qs ++ (ticks d).asks) ++ all_asks e fs)) (length (q ∷ (qs ++ ((ticks d).asks ++ all_asks e fs)))) (length rest.replies) k (is_one_asking (heard_all e fs) ≡ false) rest.ends (let long = ap length parts in omega (arith, long));
     }
 
-told_long : (fs : List (ℕ × Reply)) → length (told_replies fs) ≡ length fs
-told_long [] = refl
-told_long (f ∷ fs) = let rest = told_long fs in omega (arith, rest)
-
 ended_by : (A : Type 0) (x k : ℕ) → x ≤ k → A ⊎ (x ≡ suc k) → A
 ended_by A x k few (inl e) = e
 ended_by A x k few (inr e) = absurd (omega (arith, few, e))
@@ -318,5 +322,4 @@ sessions_end_in_order h c a calm =
     let few = frames_are_bounded changed_overlays h (length h) c t.replies a calm t.each in
     let fs : List Frame = told_replies t.replies in
     let ended = ended_by ((is_one_asking (heard_all (begun c) fs) ≡ false) × (length (session_asks c fs) ≡ length t.replies)) (length t.replies) (most_frames s c) few t.ends in
-    let long = told_long t.replies in
-    record { frames = fs; answers = t.answers; all = ended.1 ∙ sym long; done = ended.0; few = omega (arith, long, few) }
+    record { replies = t.replies; answers = t.answers; all = ended.1; each = t.each; done = ended.0; few = few }

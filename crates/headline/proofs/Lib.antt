@@ -22,3 +22,4 @@ pub mod Meeting
 pub mod ServeEnding
 pub mod RunsMeeting
 pub mod InOrder
+pub mod Spelling

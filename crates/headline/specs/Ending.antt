@@ -27,14 +27,15 @@ pub record EndsSession (h : List Doing) (c : ClientState) : Type 0 where
 abbrev pub SessionsEnd : Type 0
 SessionsEnd = (h : List Doing) (c : ClientState) → Agrees (past_of h (length h)).server (past_of h (length h)).boxes c → is_one_asking c ≡ false → EndsSession h c
 
--- The server's answers to all that a client's session asks, in the order in which it asks, end the session: the client hears each of them, asks no more after
--- the last, and they are so many at most.
+-- The server's answers to all that a client's session asks, in the order in which it asks, end the session: each is to a number that the client asks then, the
+-- client asks no more after the last, and they are so many at most.
 pub record EndsInOrder (h : List Doing) (c : ClientState) : Type 0 where
-  pub frames : List Frame
-  pub answers : AreAnswers (past_of h (length h)).server (session_asks c frames) frames
-  pub all : length (session_asks c frames) ≡ length frames
-  pub done : is_one_asking (heard_all (begun c) frames) ≡ false
-  pub few : length frames ≤ most_frames (past_of h (length h)) c
+  pub replies : List (ℕ × Reply)
+  pub answers : AreAnswers (past_of h (length h)).server (session_asks c (told_replies replies)) (told_replies replies)
+  pub all : length (session_asks c (told_replies replies)) ≡ length replies
+  pub each : AnswersEach (past_of h (length h)).server (begun c) replies
+  pub done : is_one_asking (heard_all (begun c) (told_replies replies)) ≡ false
+  pub few : length replies ≤ most_frames (past_of h (length h)) c
 
 -- They do for each such client, however many channels it asks for at once.
 abbrev pub SessionsEndInOrder : Type 0

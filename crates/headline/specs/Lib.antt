@@ -10,6 +10,7 @@ pub mod Recovered
 pub mod Client
 pub mod States
 pub mod TwoPrograms
+pub mod Conversations
 pub mod Histories
 pub mod Meetings
 pub mod ServedRuns

@@ -15,7 +15,6 @@ use Rattle.report_lines.specs.Closing.{server_line}
 use Rattle.update_replay.specs.StepLines.{StepLines}
 use Rattle.update_replay.specs.Told.{all_own_lines}
 use Rattle.update_world.specs.Spelled.{IsSpelled, packet_size}
-use Rattle.update_replay.specs.Endings.{whole}
 use Rattle.update_replay.specs.declared.limits.TheConstants.{MAX_JOURNAL_BYTES, MAX_STEPS}
 use Rattle.headline.specs.Boxes.{FinishedChannelsReach, FinishedReach, HasBoxes}
 use Rattle.headline.specs.Forward.{IsWhole}

@@ -5,6 +5,7 @@ ghost use Rattle.headline.specs.CatchingUp.{HonestSessionsCatchUp};
 ghost use Rattle.headline.specs.CatchingUpChannels.{HonestSessionsCatchUpByChannel};
 ghost use Rattle.headline.specs.Client.{ClientHeadline};
 ghost use Rattle.headline.specs.States.{StatesGoOn};
+ghost use Rattle.headline.specs.Conversations.{ConversationsEnd};
 ghost use Rattle.headline.specs.Ending.{SessionsEnd, SessionsEndInOrder};
 ghost use Rattle.headline.specs.Histories.{HistoriesAreSound, KeptRunsGoOn, SessionsGoOn};
 ghost use Rattle.headline.specs.Instances.{ClientsHaveBoxes, StreamsAreSent, StretchesAreExact};
@@ -62,9 +63,11 @@ pub fn what_client_promises()
     ensures { ClientHeadline }
 {}
 
-/// What a server's session sends to a client's session that asks it is an honest stream, and brings the client up to date.
+/// What a server's session sends to a client's session that asks it is an honest stream, and brings the client up to date; and where what both send has a
+/// spelling, there are two such sessions, each of which comes to its end.
 pub fn two_programs_meet()
-    ensures { TwoProgramsMeet }
+    ensures meet { TwoProgramsMeet }
+    ensures end { ConversationsEnd }
 {}
 
 /// The server after sessions of `serve`, or of `keep`, has more of the history that it had, however the sessions ended; and such servers are sound.
