@@ -1,0 +1,4 @@
+pub mod Growing
+pub mod Piecewise
+pub mod Running
+pub mod Printed

@@ -1,0 +1,6 @@
+pub mod Events
+pub mod Grown
+pub mod Steps
+pub mod Pieces
+pub mod Printing
+pub mod Runs
