@@ -9,4 +9,5 @@ mod spelling;
 mod typed;
 
 pub use check::check_schema;
+pub use listing::listing;
 pub use typed::{decode_input, encode_input};

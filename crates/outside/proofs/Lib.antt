@@ -2,3 +2,4 @@ pub mod Growing
 pub mod Piecewise
 pub mod Running
 pub mod Printed
+pub mod Causing

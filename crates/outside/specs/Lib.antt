@@ -4,3 +4,4 @@ pub mod Steps
 pub mod Pieces
 pub mod Printing
 pub mod Runs
+pub mod Laws

@@ -11,7 +11,7 @@ mod type_word;
 
 pub use json_input::{JSON_BYTES, fit_unmade, load_form, load_json};
 pub use lines::cause_text;
-pub use schema_text::load_schema;
+pub use schema_text::{SCHEMA_BYTES, load_schema, schema_of};
 pub use shown::{printed_line, value_line};
 pub use type_plan::plan_of;
 pub use type_word::type_named;

@@ -16,7 +16,7 @@ loop-slot-preserved g c =
     record {
       few = omega (arith, e.len, length-take c.in-Ok.size (c.read.new.into ++ drop c.min-most.result c.loop-slot.piece), b.0, c.read.auto.into, length-take c.min-most.result c.loop-slot.piece, c.min-most.ensures, c.len-in-loop-slot.ensures, c.len.ensures, c.loop-slot-test.true);
       room = omega (arith, length-append c.read.new.into (drop c.min-most.result c.loop-slot.piece), length-drop c.min-most.result c.loop-slot.piece, c.read.auto.into, length-take c.min-most.result c.loop-slot.piece, c.min-most.ensures, c.loop-slot.invariant.room);
-      taken = took_more c.args.slot _ (g.H.Host.state c.loop-slot.host) _ c.loop-slot.text.items c.read.new.into _ _ c.in-Ok.size c.loop-slot.invariant.taken (omega (arith, c.in-Ok.size-test.1)) b.0 e.items
+      taken = took_more c.args.slot _ (g.H.Host.state c.loop-slot.host) _ c.loop-slot.text.items c.read.new.into (drop c.min-most.result c.loop-slot.piece) c.extend_from_slice.new.self.items c.in-Ok.size c.loop-slot.invariant.taken (omega (arith, c.in-Ok.size-test.1)) b.0 e.items
           (read_grew c.args.slot c.read.new.into _ _ _ (omega (arith, c.in-Ok.size-test.1, b.0)) c.in-Ok.ensures.past);
     }
 
