@@ -1,1 +1,2 @@
-mod Noting
+pub mod Noting
+pub mod Fitting
