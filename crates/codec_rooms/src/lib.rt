@@ -2,5 +2,7 @@
 #![tactic(auto)]
 
 mod check;
+mod laws;
 
 pub use check::{check_schema, run_check};
+pub use laws::{check_answers, check_has_cause, check_reads, check_touches};
