@@ -6,9 +6,11 @@ mod host;
 mod pieces;
 mod printing;
 mod reading;
+mod untold;
 
 pub use ending::finish;
 pub use host::Host;
 pub use pieces::{Taken, take_bytes, tell, write_out};
 pub use printing::{print, print_made};
 pub use reading::read_file;
+pub use untold::Untold;
