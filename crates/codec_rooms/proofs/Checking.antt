@@ -1,28 +1,25 @@
 -- Laws of `check`.
-use Rattle.std.proofs.Common.{◌≡◌, ℕ, ◌+◌, ◌<◌, ◌≤◌, List, [], ◌++◌, length, take, drop, Bool, true, false, Option, Some, None, codes, refl, sym, ap, ◌∙◌, subst, inl, inr, arith}
+use Rattle.std.proofs.Common.{◌≡◌, ℕ, ◌+◌, ◌<◌, List, [], ◌++◌, length, take, drop, Bool, true, false, Option, Some, None, refl, sym, ap, ◌∙◌, subst, inl, inr, arith}
 use Rattle.std.proofs.lemmas.Bool.{cases_lt}
 use Rattle.std.proofs.lemmas.List.{take_all, take-append-drop, length-take}
-use Rattle.tl_base.specs.Contents.{Files}
-use Rattle.tl_base.specs.Outside.{HasFile, IsThere}
+use Rattle.tl_base.specs.Outside.{IsThere}
 use Rattle.tl_base.specs.declared.host.Slot.TheVariants.{Schema}
-use Rattle.tl_base.specs.declared.host.Out.TheVariants as outs
-use Rattle.tl_schema.specs.Schemas.{Declared}
-use Rattle.command_base.specs.Answer.{Answer, done, refused, write_fault_line}
+use Rattle.command_base.specs.Answer.{Answer, write_fault_line}
 use Rattle.command_base.specs.declared.status.Status.{Status}
 use Rattle.command_base.specs.declared.status.Status.TheVariants as status
 use Rattle.outside.specs.Events.{Event, Outside}
-use Rattle.outside.specs.Laws.{Happened, Throughout, Keeps, Explains, HasCause}
-use Rattle.outside.specs.Pieces.{ReadsFile, Writes, Tells}
-use Rattle.outside.specs.Printing.{Prints, after_output, Answers, Unread}
+use Rattle.outside.specs.Laws.{Throughout, Keeps, Explains}
+use Rattle.outside.specs.Pieces.{ReadsFile}
+use Rattle.outside.specs.Printing.{after_output}
 use Rattle.outside.specs.Runs as runs
 use Rattle.outside.proofs.Causing.{keeps_then, keeps_file, keeps_tell, keeps_answer, keeps_begun, throughout_both, cause_then, cause_answer, cause_run, cause_tell, told_status, explains_last, unread_file}
 use Rattle.mem_host.specs.Fits.{Fits}
 use Rattle.mem_host.specs.Reliable.{IsReliable}
 use Rattle.mem_host.proofs.Fitting.{fits_both, files_are_read, files_can_be_read}
-use Rattle.schema_files.specs.Answering.{OfSchemaText, no_schema, schema_of}
+use Rattle.schema_files.specs.Answering.{no_schema, schema_of}
 use Rattle.schema_files.specs.declared.schema_text.TheConstants.{SCHEMA_BYTES}
 use Rattle.schema_files.proofs.Schemas.{long_schema}
-use Rattle.codec_commands.specs.Check.{CheckAnswer, listing}
+use Rattle.codec_commands.specs.Check.{CheckAnswer}
 use Rattle.codec_rooms.specs.Check.{OfText, after_schema, checks}
 use Rattle.codec_rooms.specs.CheckLaws.{IsOfCheck, CheckTouches, CheckHasCause, IsAnswer, CheckAnswers, CheckReads}
 

@@ -1,5 +1,5 @@
 -- What `check` makes of a text, and that it can go on to its end.
-use Rattle.std.proofs.Common.{◌≡◌, ℕ, List, [], Option, Some, None, Ok, Err, codes, refl, ap}
+use Rattle.std.proofs.Common.{◌≡◌, ℕ, List, [], Option, Some, None, Err, codes, refl, ap}
 use Rattle.tl_schema.specs.Schemas.{Declared}
 use Rattle.command_base.specs.Answer.{Answer, done, refused}
 use Rattle.command_base.specs.Jobs.{of_fault}

@@ -1,22 +1,21 @@
 -- What fits the files of an outside: what was read of them, and why a call failed.
-use Rattle.std.proofs.Common.{◌≡◌, ℕ, ◌+◌, ◌<◌, ◌≤◌, ◌⊎◌, length, take, List, [], ◌∷◌, ◌++◌, map, Bool, true, false, Option, Some, None, refl, sym, ap, ◌∙◌, subst, arith, inl, inr, append_assoc, append-nil}
+use Rattle.std.proofs.Common.{◌≡◌, ℕ, ◌+◌, ◌<◌, length, take, List, [], ◌∷◌, ◌++◌, map, Bool, true, false, Option, Some, None, refl, sym, ap, ◌∙◌, subst, arith, inl, inr, append_assoc, append-nil}
 use Rattle.std.specs.Prelude.{IfSome}
 use Rattle.std.proofs.lemmas.List.{take_all, take-append-le}
 use Rattle.tl_base.proofs.Parts.{left_back}
-use Rattle.tl_base.specs.Kinds.{slot_kind, out_kind}
+use Rattle.tl_base.specs.Kinds.{out_kind}
 use Rattle.tl_base.specs.Outside.{View, HasFile, IsFile, IsThere, left_of, with_left, written_of, with_written}
 use Rattle.tl_base.specs.Calls.{with_name, link_taken}
-use Rattle.tl_base.specs.Scripts.{ScriptView, FailsNext}
+use Rattle.tl_base.specs.Scripts.{ScriptView}
 use Rattle.tl_base.specs.declared.counts.Kind.TheVariants as kinds
 use Rattle.tl_base.specs.declared.host.Slot.{Slot}
-use Rattle.tl_base.specs.declared.host.Slot.TheVariants as slots
 use Rattle.tl_base.specs.declared.host.Out.{Out}
 use Rattle.tl_base.specs.declared.host.Out.TheVariants as outs
 use Rattle.tl_base.specs.declared.mem_script.HostCall.{HostCall}
 use Rattle.tl_base.specs.declared.mem_script.HostCall.TheVariants.{Open, Read, Create, Write, Listen, Connect, Accept}
 use Rattle.outside.specs.Events.{Event, Outside, opened, took, ended, read_failed, created, put, write_failed, listened, connected, accepted, told}
 use Rattle.outside.specs.Laws.{Happened, IsFailure}
-use Rattle.outside.specs.Pieces.{joined, InPieces, TakenView, full, short, broken, Takes, ReadsSlot, ReadsFile, after_open, text_of}
+use Rattle.outside.specs.Pieces.{joined, InPieces, TakenView, full, short, broken, Takes, ReadsSlot, after_open, text_of}
 use Rattle.mem_host.specs.Fits.{Happens, Fits, IsToFail, Made}
 use Rattle.mem_host.specs.Reliable.{IsReliable, IsMissing, FilesAreRead, ReadsFailAlone, FilesCanBeRead}
 

@@ -1,5 +1,5 @@
 -- An event more: what a call did fits what it was told to do.
-use Rattle.std.proofs.Common.{◌≡◌, ℕ, ◌<◌, ◌≤◌, Bool, true, false, length, take, List, [], ◌∷◌, ◌++◌, Option, Some, None, Result, Ok, Err, refl, sym, ap, ◌∙◌, subst, arith, length-take-le}
+use Rattle.std.proofs.Common.{◌≡◌, ℕ, ◌<◌, ◌≤◌, Bool, length, take, List, [], ◌∷◌, ◌++◌, Option, Some, None, Result, Ok, Err, refl, sym, ap, ◌∙◌, subst, arith, length-take-le}
 use Rattle.std.specs.Prelude.{IfSome, is_ok}
 use Rattle.tl_base.specs.Calls.{Opens, Gives, Creates, Listens, Connects, Accepts}
 use Rattle.tl_base.specs.MemoryHost.{AnswersAsTold, host_view, host_script, host_counts}
@@ -11,8 +11,8 @@ use Rattle.tl_base.specs.declared.host.Slot.TheVariants as slots
 use Rattle.tl_base.specs.declared.host.Out.{Out}
 use Rattle.tl_base.specs.declared.mem_host.MemHost.{MemHost}
 use Rattle.tl_base.specs.declared.mem_script.HostCall.{HostCall}
-use Rattle.tl_base.specs.declared.mem_script.HostCall.TheVariants.{Open, Read, Create, Write, Listen, Connect, Accept}
-use Rattle.outside.specs.Events.{Event, Outside, HostState, counted, given_event, read_event, read_events, write_event, write_events, opened, read_failed, created, put, write_failed, listened, connected, accepted}
+use Rattle.tl_base.specs.declared.mem_script.HostCall.TheVariants.{Open, Read, Create, Listen, Connect, Accept}
+use Rattle.outside.specs.Events.{Event, Outside, HostState, counted, given_event, read_event, read_events, write_event, write_events, opened, created, listened, connected, accepted}
 use Rattle.outside.specs.Grown.{PastGrew, Grew}
 use Rattle.mem_host.specs.Fits.{Happens, Fits, Answers, HasRoomFor, IsToFail, Made}
 use Rattle.mem_host.specs.Logs.{LogsAs, Notes}

@@ -1,5 +1,5 @@
 -- What a host in memory stands for. This project's own.
-use Rattle.std.specs.Prelude.{◌≡◌, ℕ, List, [], ◌∷◌, ◌++◌, Option, Some, None, IfSome}
+use Rattle.std.specs.Prelude.{ℕ, List, [], ◌∷◌, ◌++◌, Option, Some, None, IfSome}
 use Rattle.tl_base.specs.MemoryHost.{host_view, host_script, host_counts}
 use Rattle.tl_base.specs.MemoryShown.{nothing_shown}
 use Rattle.tl_base.specs.Kinds.{no_faults}

@@ -1,5 +1,5 @@
 -- What is read of files, and which calls fail where none was told to. This project's own.
-use Rattle.std.specs.Prelude.{◌≡◌, ℕ, ◌+◌, List, length, take, true, false, Option, Some, None}
+use Rattle.std.specs.Prelude.{◌≡◌, ℕ, ◌+◌, List, length, take, true, false, Some, None}
 use Rattle.tl_base.specs.Outside.{IsThere, HasFile}
 use Rattle.tl_base.specs.declared.host.Slot.{Slot}
 use Rattle.tl_base.specs.declared.counts.Kind.TheVariants as kinds

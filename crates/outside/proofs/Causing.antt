@@ -1,22 +1,18 @@
 -- Which events a step can have, and what a fault's status comes of: by the parts that it is made of.
-use Rattle.std.proofs.Common.{◌≡◌, ℕ, ◌+◌, ◌<◌, ◌≤◌, ◌^◌, ◌-◌, min, ◌⊎◌, inl, inr, List, [], ◌∷◌, ◌++◌, map, Bool, true, false, Option, Some, None, refl, sym, ap, ◌∙◌, subst, arith}
-use Rattle.tl_base.specs.Causes.{Rose, one_more}
-use Rattle.tl_base.specs.Kinds.{count_of, with_count, slot_kind, out_kind}
-use Rattle.tl_base.specs.declared.counts.Counts.{Counts}
-use Rattle.tl_base.specs.declared.counts.Kind.{Kind}
+use Rattle.std.proofs.Common.{◌≡◌, ℕ, ◌+◌, inl, inr, List, [], ◌∷◌, ◌++◌, map, Bool, true, false, Option, Some, None, refl, sym, subst}
+use Rattle.tl_base.specs.Kinds.{slot_kind, out_kind}
 use Rattle.tl_base.specs.declared.counts.Kind.TheVariants as kinds
 use Rattle.tl_base.specs.declared.host.Slot.{Slot}
-use Rattle.tl_base.specs.declared.host.Slot.TheVariants as slots
 use Rattle.tl_base.specs.declared.host.Out.{Out}
 use Rattle.tl_base.specs.declared.host.Out.TheVariants as outs
 use Rattle.command_base.specs.Answer.{Answer, write_fault_line}
 use Rattle.command_base.specs.declared.status.Status.{Status}
 use Rattle.command_base.specs.declared.status.Status.TheVariants.{Done, Refused, Usage, ReadFault, WriteFault, Memory, LinkFault, PeerFault}
-use Rattle.outside.specs.Events.{Event, HostState, opened, took, ended, read_failed, created, put, write_failed, listened, connected, accepted, told, counted, counted_as, counted_all}
-use Rattle.outside.specs.Laws.{Happened, Throughout, Keeps, failure, IsFailure, Explains, HasCause}
-use Rattle.outside.specs.Pieces.{InPieces, TakenView, full, short, broken, Takes, Writes, Tells, ReadsSlot, ReadsFile, after_open, text_of}
-use Rattle.outside.specs.Printing.{Prints, after_output, Answers, Unread}
-use Rattle.outside.specs.Runs.{Runs, done, out_of_memory, Ran}
+use Rattle.outside.specs.Events.{Event, opened, took, ended, read_failed, put, write_failed}
+use Rattle.outside.specs.Laws.{Happened, Throughout, Keeps, IsFailure, Explains, HasCause}
+use Rattle.outside.specs.Pieces.{InPieces, TakenView, full, short, broken, Takes, Writes, Tells, ReadsFile, after_open, text_of}
+use Rattle.outside.specs.Printing.{Prints, after_output, Answers}
+use Rattle.outside.specs.Runs.{Runs, done, out_of_memory}
 use Rattle.outside.specs.Steps.{Step, Ends, Calls, Then, Begins}
 
 -- ---- what happened in a part happened

@@ -4,10 +4,10 @@ use Rattle.std.proofs.lemmas.List.{append-nil, append_assoc, map_push, take-appe
 use Rattle.std.proofs.lemmas.Bool.{cases_lt}
 use Rattle.tl_base.specs.declared.host.Slot.{Slot}
 use Rattle.tl_base.specs.declared.host.Out.{Out}
-use Rattle.outside.specs.Events.{Event, HostState, took, ended, read_failed, put, write_failed, given_event, read_event, read_events, write_event, write_events}
+use Rattle.outside.specs.Events.{Event, HostState, opened, took, ended, read_failed, put, write_failed, given_event, read_event, read_events, write_event, write_events}
 use Rattle.outside.specs.Grown.{Grew}
 use Rattle.outside.specs.Steps.{Begins, Grows, Did}
-use Rattle.outside.specs.Pieces.{joined, InPieces, full, short, broken, Takes, Writes, Tells}
+use Rattle.outside.specs.Pieces.{joined, InPieces, full, short, broken, Takes, Writes, Tells, ReadsFile}
 use Rattle.outside.proofs.Growing.{grew_none, grows_call, did_grow, can_then, can_end}
 
 joined_push : (pieces : List (List ℕ)) (piece : List ℕ) → joined (pieces ++ piece ∷ []) ≡ joined pieces ++ piece
@@ -74,6 +74,10 @@ took_part slot count a b text g le = record { trace = g.trace; grew = g.grew; ho
 
 pub can_take : (slot : Slot) (count : ℕ) → Begins (Takes slot count) []
 can_take slot count = begins_taking slot count [] [] (omega arith) (no_pieces (took slot) [])
+
+-- a file may be missing
+pub can_read_file : (slot : Slot) (name : List ℕ) (limit : ℕ) → Begins (ReadsFile slot name limit) []
+can_read_file slot name limit = record { rest = opened slot name false ∷ []; answer = None; whole = record { first = opened slot name false ∷ []; rest = []; between = false; splits = refl; does = refl; goes = (refl, refl) } }
 
 -- ---- writing
 

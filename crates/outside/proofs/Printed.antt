@@ -1,16 +1,16 @@
 -- Laws of answers that are printed.
-use Rattle.std.proofs.Common.{◌≡◌, ℕ, List, [], ◌++◌, Bool, true, false, Option, Some, None, refl, sym, ◌∙◌, subst}
+use Rattle.std.proofs.Common.{◌≡◌, ℕ, List, [], Bool, true, false, Option, Some, None, sym, subst}
 use Rattle.tl_base.specs.declared.host.Out.{Out}
 use Rattle.tl_base.specs.declared.host.Out.TheVariants.{Output}
 use Rattle.command_base.specs.Answer.{Answer, done, refused}
 use Rattle.command_base.specs.Jobs.{Making, made, refused_by, unread, no_memory}
 use Rattle.command_base.specs.declared.status.Status.{Status}
 use Rattle.command_base.specs.declared.status.Status.TheVariants.{Refused}
-use Rattle.outside.specs.Events.{Event, HostState}
-use Rattle.outside.specs.Steps.{Step, Begins, Did}
+use Rattle.outside.specs.Events.{HostState}
+use Rattle.outside.specs.Steps.{Begins, Did}
 use Rattle.outside.specs.Pieces.{Writes, Tells}
 use Rattle.outside.specs.Printing.{Prints, after_output, Answers, Makes, PrintsMade}
-use Rattle.outside.proofs.Growing.{grew_none, did_then, did_nothing, did_none, can_then, can_end}
+use Rattle.outside.proofs.Growing.{grew_none, did_then, did_nothing, did_none, can_then}
 use Rattle.outside.proofs.Piecewise.{no_pieces, can_write, can_tell}
 
 pub wrote_nothing : (out : Out) (p : HostState) → Did (Writes out []) p p (Some true)

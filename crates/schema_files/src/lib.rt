@@ -9,7 +9,7 @@ mod text;
 mod type_plan;
 mod type_word;
 
-pub use json_input::{JSON_BYTES, fit_unmade, load_form, load_json};
+pub use json_input::{JSON_BYTES, fit_unmade, formed_value, load_form, load_json};
 pub use lines::cause_text;
 pub use schema_text::{SCHEMA_BYTES, load_schema, schema_of};
 pub use shown::{printed_line, value_line};

@@ -1,6 +1,6 @@
 use Rattle.std.proofs.Common.{codes, ◌≡◌}
 use Rattle.std.proofs.lemmas.Result.{err_from_is_err_and}
-use Rattle.command_base.specs.Answer.{Answer, done}
+use Rattle.command_base.specs.Answer.{done}
 use Rattle.codec_commands.specs.Check.{listing}
 use Rattle.codec_rooms.proofs.Listing.{listed, no_schema_made}
 use Rattle.codec_rooms.proofs.check.made_listing.Goals as goal

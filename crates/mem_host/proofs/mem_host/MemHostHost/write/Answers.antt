@@ -1,4 +1,4 @@
-use Rattle.std.proofs.Common.{rules, Ok, ap, arith, refl, take}
+use Rattle.std.proofs.Common.{rules, Ok, ap, refl, take}
 use Rattle.outside.specs.Events.{put, write_failed}
 use Rattle.mem_host.specs.Logs.{log_events}
 use Rattle.mem_host.specs.Memory.{outside_of}
