@@ -7,8 +7,11 @@ use std::fs::OpenOptions;
 use std::os::unix::fs::OpenOptionsExt;
 use thiserror::Error;
 
-/// A keeper over a file. A commit supposes nothing of a write that a crash tore, for a second sync.
-pub type FileKeeper = SqliteKeeper<FileStore<FileFrom<Wary>>>;
+// A commit there supposes nothing of a write that a crash tore, for a second sync.
+type Store = FileStore<FileFrom<Wary>>;
+
+/// A keeper over a file.
+pub type FileKeeper = SqliteKeeper<Store>;
 
 /// Why a file gives no keeper.
 #[derive(Clone, Copy, Debug, Error)]
@@ -50,18 +53,10 @@ fn count_file(rt: &HostRuntime, path: &str, is_new: bool, entries: u32) -> Optio
     (file.get().ok()? <= entries).then_some(file)
 }
 
-/// Opens the database of this name, or makes it; a new one has sums of its pages, by which a changed one is found. One that has fewer entries than
-/// the file beside it says is refused: its log lost them.
-pub fn open_keeper(rt: &HostRuntime, path: &str) -> Result<FileKeeper, OpenError> {
-    if !is_file_name(path) {
-        return Err(OpenError::Fault);
-    }
-    let is_new = begin_file(rt, path);
+// The connection to the database of this name, which is made with sums of its pages where nothing stands there, or an empty file.
+fn connect(rt: &HostRuntime, path: &str) -> Result<Connection<Store>, OpenError> {
     match Connection::open_from(rt, path, true, Wary) {
-        Ok(conn) => {
-            let keeper = SqliteKeeper::over(rt.alloc(), conn)?;
-            counted(keeper, rt, path, is_new)
-        }
+        Ok(conn) => Ok(conn),
         Err((error, _left)) => Err(OpenError::from(error)),
     }
 }
@@ -84,6 +79,18 @@ fn counted(
             Err(OpenError::Fault)
         }
     }
+}
+
+/// Opens the database of this name, or makes it; a new one has sums of its pages, by which a changed one is found. One that has fewer entries than
+/// the file beside it says is refused: its log lost them.
+pub fn open_keeper(rt: &HostRuntime, path: &str) -> Result<FileKeeper, OpenError> {
+    if !is_file_name(path) {
+        return Err(OpenError::Fault);
+    }
+    let is_new = begin_file(rt, path);
+    let conn = connect(rt, path)?;
+    let keeper = SqliteKeeper::over(rt.alloc(), conn)?;
+    counted(keeper, rt, path, is_new)
 }
 
 /// Closes the database: what its log has goes into the file. Where that fails the log stays beside the file, and the next open finds all in both.
