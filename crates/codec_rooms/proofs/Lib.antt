@@ -4,3 +4,5 @@ mod Typing
 mod Encoding
 mod TypedLaws
 mod EncodingLaws
+mod Decoding
+mod InputTaken

@@ -3,3 +3,5 @@ pub mod CheckLaws
 pub mod Typed
 pub mod Encode
 pub mod EncodeLaws
+pub mod Decode
+pub mod inner

@@ -1,0 +1,44 @@
+-- A decoder that is fed with an input. This project's own.
+use Rattle.std.specs.Prelude.{◌≡◌, ℕ, List, [], ◌∷◌, Option, Some, None, Result, Ok, Err}
+use Rattle.tl_base.specs.declared.host.Slot.TheVariants.{Input}
+use Rattle.tl_schema.specs.Types.{Shape}
+use Rattle.tl_schema.specs.Schemas.{Declared}
+use Rattle.tl_types.specs.Values.{ValueView}
+use Rattle.tl_decode.specs.Decoders.{DecoderView, HasValue}
+use Rattle.tl_decode.specs.declared.whole.WholeFault.{WholeFault}
+use Rattle.tl_decode.specs.declared.whole.WholeFault.TheVariants.{Refused, Trailing, ReadFault, Memory}
+use Rattle.command_base.specs.Answer.{Answer}
+use Rattle.command_base.specs.Jobs.{Making, unread, no_memory}
+use Rattle.outside.specs.Events.{HostState, took, ended, read_failed}
+use Rattle.outside.specs.Grown.{Grew}
+use Rattle.outside.specs.Printing.{Makes}
+use Rattle.outside.specs.Steps.{Did}
+use Rattle.codec_rooms.specs.Decode.{ReadsValue, Verdict, answer_of}
+
+-- the decoder has the value that the input is, or it is none
+abbrev pub FeedsInput : Declared → Shape → HostState → HostState → DecoderView → Result (Unit {0}) WholeFault → Type 0
+FeedsInput schema T p q d (Ok u) = (v : ValueView) × HasValue d v × Did (ReadsValue schema T) p q (Some (Ok v))
+FeedsInput schema T p q d (Err (Refused place cause)) = Did (ReadsValue schema T) p q (Some (Err (Refused place cause)))
+FeedsInput schema T p q d (Err (Trailing place)) = Did (ReadsValue schema T) p q (Some (Err (Trailing place)))
+FeedsInput schema T p q d (Err ReadFault) = Did (ReadsValue schema T) p q (Some (Err ReadFault))
+FeedsInput schema T p q d (Err Memory) = Did (ReadsValue schema T) p q None
+
+-- a read more after a value: the end, or a byte of which the place is told, or it failed
+abbrev pub EndsInput : ℕ → HostState → HostState → Result (Unit {0}) WholeFault → Type 0
+EndsInput place p q (Ok u) = Grew p (ended Input ∷ []) q
+EndsInput place p q (Err (Trailing at)) = (at ≡ place) × (b : ℕ) × Grew p (took Input (b ∷ []) ∷ []) q
+EndsInput place p q (Err (Refused at cause)) = ⊥
+EndsInput place p q (Err ReadFault) = Grew p (read_failed Input ∷ []) q
+EndsInput place p q (Err Memory) = ⊥
+
+-- ---- what is made of a verdict
+
+-- this answer, or that the input can't be read
+abbrev pub MakesAs : Option Answer → Making → Type 0
+MakesAs (Some a) m = Makes (λ b. b ≡ a) m
+MakesAs None m = m ≡ unread
+
+-- the verdict's, or out of memory
+abbrev pub MakesVerdict : Declared → Shape → Option Verdict → Making → Type 0
+MakesVerdict schema T (Some r) m = MakesAs (answer_of schema T r) m
+MakesVerdict schema T None m = m ≡ no_memory

@@ -1,0 +1,172 @@
+//! `decode`: a schema's file is read, its type is looked for, the input is read piece by piece, and the line of its value is written.
+ghost use Rattle.std.specs.Prelude.{◌<◌, true};
+ghost use Rattle.outside.specs.Runs.{Ran, answered};
+ghost use Rattle.outside.specs.Steps.{Did};
+ghost use Rattle.tl_schema.specs.Formed.{IsFormed};
+ghost use Rattle.tl_schema.specs.Seen.{shape};
+ghost use Rattle.tl_schema.specs.Types.{Shape};
+ghost use Rattle.tl_plan.specs.PlanLaws.{IsInstance};
+ghost use Rattle.command_base.specs.Jobs.{making};
+ghost use Rattle.command_base.specs.Loading.{RefusesAs};
+ghost use Rattle.schema_files.specs.Lines.{cause_text, input_line};
+ghost use Rattle.codec_rooms.specs.Decode.{OfBytes, after_opening, decodes, decodes_by, verdict};
+ghost use Rattle.codec_rooms.specs.Typed.{OfPlan, OfText};
+ghost use Rattle.codec_rooms.specs.inner.Feeding.{MakesVerdict};
+
+use crate::feeding::read_value;
+use command_base::{Status, Unmade};
+use outside::{Host, finish, print_made, read_file, tell};
+use schema_files::{SCHEMA_BYTES, cause_text, plan_of, schema_of, type_named, value_line};
+use std::alloc::{AllocError, Global};
+use tl_base::Slot;
+use tl_decode::WholeFault;
+use tl_plan::Plan;
+use tl_schema::{Schema, TypeRef};
+use tl_types::{Cause, Value};
+
+// What is told of bytes that are no spelling.
+fn cause_unmade(alloc: Global, place: u64, cause: Cause) -> Unmade
+    ensures { RefusesAs (input_line place (cause_text cause)) result }
+{
+    match cause_text(alloc, cause) {
+        Ok(why) => Unmade::placed(alloc, "input", place, why.as_str()),
+        Err(_) => Unmade::Memory,
+    }
+}
+
+// The line of a value, or what is told of an input that is none.
+fn made_line(
+    alloc: Global,
+    schema: &Schema,
+    of: &TypeRef,
+    got: Result<Value, WholeFault>,
+) -> Result<Vec<u8>, Unmade>
+    ensures { MakesVerdict schema.now (shape of.now) (verdict got) (making result) }
+{
+    match got {
+        Ok(value) => match value_line(alloc, schema, of, &value) {
+            Ok(line) => Ok(line),
+            Err(_) => Err(Unmade::Memory),
+        },
+        Err(WholeFault::Refused { place, cause }) => Err(cause_unmade(alloc, place, cause)),
+        Err(WholeFault::Trailing { place }) => {
+            Err(Unmade::placed(alloc, "input", place, "Trailing"))
+        }
+        Err(WholeFault::ReadFault) => Err(Unmade::ReadFault),
+        Err(WholeFault::Memory) => Err(Unmade::Memory),
+    }
+}
+
+// What follows of an input that is open.
+fn decode_open<H: Host>(
+    alloc: Global,
+    host: &mut H,
+    plan: &Plan,
+    of: &TypeRef,
+) -> Result<Status, AllocError>
+    requires root { 0 < plan.now.roots }
+    requires instance { IsInstance plan.now 0 (shape of.now) }
+    requires formed { (T : Shape) → IsInstance plan.now 0 T → IsFormed plan.now.schema T }
+    ensures { Did (after_opening plan.now.schema (shape of.now) true) (H.state host.old) (H.state host.new) (answered result) }
+{
+    let got = read_value(alloc, host, plan);
+    print_made(host, made_line(alloc, plan.schema(), of, got))
+}
+
+// What follows of a type with its plan.
+fn decode_file<H: Host>(
+    alloc: Global,
+    host: &mut H,
+    plan: &Plan,
+    of: &TypeRef,
+    input: &str,
+) -> Result<Status, AllocError>
+    requires root { 0 < plan.now.roots }
+    requires instance { IsInstance plan.now 0 (shape of.now) }
+    requires formed { (T : Shape) → IsInstance plan.now 0 T → IsFormed plan.now.schema T }
+    ensures { Did (OfBytes input.now plan.now.schema (shape of.now)) (H.state host.old) (H.state host.new) (answered result) }
+{
+    match host.open_slot(Slot::Input, input) {
+        Ok(()) => decode_open(alloc, host, plan, of),
+        Err(_) => Ok(tell(host, b"tlbox: read fault\n", Status::ReadFault)),
+    }
+}
+
+// What follows of a type.
+fn decode_planned<H: Host>(
+    alloc: Global,
+    host: &mut H,
+    schema: &Schema,
+    of: &TypeRef,
+    input: &str,
+) -> Result<Status, AllocError>
+    requires { IsFormed schema.now (shape of.now) }
+    ensures { Did (OfPlan (OfBytes input.now) (shape of.now) schema.now) (H.state host.old) (H.state host.new) (answered result) }
+{
+    match plan_of(alloc, schema, of) {
+        Ok(plan) => decode_file(alloc, host, &plan, of, input),
+        Err(fault) => print_made(host, Err(fault)),
+    }
+}
+
+// What follows of a schema.
+fn decode_typed<H: Host>(
+    alloc: Global,
+    host: &mut H,
+    schema: &Schema,
+    of: &str,
+    input: &str,
+) -> Result<Status, AllocError>
+    ensures { Did (decodes_by of.now input.now schema.now) (H.state host.old) (H.state host.new) (answered result) }
+{
+    match type_named(alloc, schema, of) {
+        Ok(of) => decode_planned(alloc, host, schema, &of, input),
+        Err(fault) => print_made(host, Err(fault)),
+    }
+}
+
+// What follows of the schema's text.
+fn decode_text<H: Host>(
+    alloc: Global,
+    host: &mut H,
+    text: &[u8],
+    of: &str,
+    input: &str,
+) -> Result<Status, AllocError>
+    ensures { Did (OfText (decodes_by of.now input.now) text.now) (H.state host.old) (H.state host.new) (answered result) }
+{
+    match schema_of(alloc, "schema", text) {
+        Ok(schema) => decode_typed(alloc, host, &schema, of, input),
+        Err(fault) => print_made(host, Err(fault)),
+    }
+}
+
+/// Decodes the input's one value, and writes its line.
+pub fn decode_input<H: Host>(
+    alloc: Global,
+    host: &mut H,
+    schema: &str,
+    of: &str,
+    input: &str,
+) -> Result<Status, AllocError>
+    ensures { Did (decodes schema.now of.now input.now) (H.state host.old) (H.state host.new) (answered result) }
+{
+    match read_file(alloc, host, Slot::Schema, schema, SCHEMA_BYTES)? {
+        Some(text) => decode_text(alloc, host, &text, of, input),
+        None => Ok(tell(host, b"tlbox: read fault\n", Status::ReadFault)),
+    }
+}
+
+/// Likewise, to the end of the run: out of memory is told.
+pub fn run_decode<H: Host>(
+    alloc: Global,
+    host: &mut H,
+    schema: &str,
+    of: &str,
+    input: &str,
+) -> Status
+    ensures { Ran (decodes schema.now of.now input.now) (H.state host.old) (H.state host.new) result }
+{
+    let done = decode_input(alloc, host, schema, of, input);
+    finish(host, done)
+}
