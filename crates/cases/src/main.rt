@@ -3,7 +3,7 @@
 
 use box_store::MemKeeper;
 use case_files::{BadLine, Case, Ending, TracedHost, entries_text, read_cases, shown_run};
-use codec_rooms::{run_check, run_encode};
+use codec_rooms::{run_check, run_decode, run_encode};
 use commands::{keep_in, run, run_stored};
 use outside::Untold;
 use std::alloc::{AllocError, Global};
@@ -89,6 +89,10 @@ fn status_in_order(
     match words {
         [command, schema] if command.as_str() == "check" => {
             Some(run_check(alloc, host, schema.as_str()).code())
+        }
+        [command, schema, of, input] if command.as_str() == "decode" => {
+            let status = run_decode(alloc, host, schema.as_str(), of.as_str(), input.as_str());
+            Some(status.code())
         }
         [command, schema, of, input] if command.as_str() == "encode" => {
             let status = run_encode(alloc, host, schema.as_str(), of.as_str(), input.as_str());

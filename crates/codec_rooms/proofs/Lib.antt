@@ -6,3 +6,4 @@ mod TypedLaws
 mod EncodingLaws
 mod Decoding
 mod InputTaken
+mod DecodingLaws

@@ -4,4 +4,5 @@ pub mod Typed
 pub mod Encode
 pub mod EncodeLaws
 pub mod Decode
+pub mod DecodeLaws
 pub mod inner

@@ -1,4 +1,5 @@
-//! Laws of what `check` and `encode` do.
+//! Laws of what `check`, `decode` and `encode` do.
+ghost use Rattle.codec_rooms.specs.DecodeLaws.{DecodeHasCause, DecodeTouches};
 ghost use Rattle.codec_rooms.specs.EncodeLaws.{EncodeHasCause, EncodeTouches};
 ghost use Rattle.codec_rooms.specs.CheckLaws.{CheckAnswers, CheckHasCause, CheckReads, CheckTouches};
 
@@ -30,4 +31,14 @@ pub fn encode_touches()
 /// It ends by the status of a fault only where a call of that kind failed.
 pub fn encode_has_cause()
     ensures { EncodeHasCause }
+{}
+
+/// A run of `decode` does nothing that one of `encode` doesn't.
+pub fn decode_touches()
+    ensures { DecodeTouches }
+{}
+
+/// It ends by the status of a fault only where a call of that kind failed.
+pub fn decode_has_cause()
+    ensures { DecodeHasCause }
 {}

@@ -13,14 +13,14 @@ use Rattle.outside.specs.Laws.{Happened, Throughout, Keeps, IsFailure, Explains,
 use Rattle.outside.specs.Pieces.{InPieces, TakenView, full, short, broken, Takes, Writes, Tells, ReadsFile, after_open, text_of}
 use Rattle.outside.specs.Printing.{Prints, after_output, Answers}
 use Rattle.outside.specs.Runs.{Runs, done, out_of_memory}
-use Rattle.outside.specs.Steps.{Step, Ends, Calls, Then, Begins}
+use Rattle.outside.specs.Steps.{Step, Ends, Calls, Then, Turn, again, leave, Reaches, here, turn, Loops, Begins}
 
 -- ---- what happened in a part happened
 
 module _ (P : Event → Type 0) where
   pub happened_first : (t u : List Event) → Happened P t → Happened P (t ++ u)
   happened_first [] u h = absurd h
-  happened_first (e ∷ t) u (inl here) = inl here
+  happened_first (e ∷ t) u (inl first) = inl first
   happened_first (e ∷ t) u (inr later) = inr (happened_first t u later)
 
   pub happened_last : (t u : List Event) → Happened P u → Happened P (t ++ u)
@@ -45,6 +45,14 @@ module _ (P : Event → Type 0) where
 
   pub keeps_then : {A B : Type 0} (S : Step A) (W : A → Step B) → Keeps P S → ((a : A) → Keeps P (W a)) → Keeps P (Then S W)
   keeps_then S W first rest t b h = subst (Throughout P) (sym h.splits) (throughout_both h.first h.rest (first h.first h.between h.does) (rest h.between h.rest b h.goes))
+
+  -- turns of a loop, and the one by which it is left
+  keeps_turns : {S A : Type 0} (body : S → Step (Turn S A)) → ((s : S) → Keeps P (body s)) → (start : S) (t : List Event) (s : S) → Reaches body start t s → Throughout P t
+  keeps_turns body each start t s (here _ _ none is) = subst (Throughout P) (sym none) tt
+  keeps_turns body each start t s (turn _ first rest between _ splits before this) = subst (Throughout P) (sym splits) (throughout_both first rest (keeps_turns body each start first between before) (each between rest (again s) this))
+
+  pub keeps_loop : {S A : Type 0} (body : S → Step (Turn S A)) → ((s : S) → Keeps P (body s)) → (start : S) → Keeps P (Loops body start)
+  keeps_loop body each start t a h = subst (Throughout P) (sym h.splits) (throughout_both h.first h.rest (keeps_turns body each start h.first h.between h.does) (each h.between h.rest (leave a) h.goes))
 
   throughout_pieces : (event : List ℕ → Event) → ((bytes : List ℕ) → P (event bytes)) → (pieces : List (List ℕ)) (last : List Event) → Throughout P last → Throughout P (map event pieces ++ last)
   throughout_pieces event each [] last end = end
