@@ -1,7 +1,7 @@
 -- Laws of `decode`.
 use Rattle.std.proofs.Common.{◌≡◌, ℕ, List, [], ◌∷◌, ◌++◌, Bool, true, false, Option, Some, None, Result, Ok, Err, codes, refl, sym, ap, ◌∙◌, subst, inl, inr}
 use Rattle.tl_base.specs.declared.counts.Kind.TheVariants as kinds
-use Rattle.tl_base.specs.declared.host.Slot.TheVariants.{Input}
+use Rattle.tl_base.specs.declared.host.Slot.TheVariants.{Schema, Input}
 use Rattle.tl_schema.specs.Schemas.{Declared}
 use Rattle.tl_schema.specs.Types.{Shape}
 use Rattle.tl_decode.specs.declared.whole.WholeFault.{WholeFault}
@@ -49,7 +49,7 @@ module _ (schema input : List ℕ) where
     keeps_bytes = keeps_then P (Calls (opened Input input)) (after_opening D T) (keeps_call P (opened Input input) (λ _. inr (refl, refl))) keeps_opened
 
   keeps_decode : (type : List ℕ) → Keeps P (decodes schema type input)
-  keeps_decode type = keeps_of_file P (λ _. tt) tt (λ _. tt) tt (decodes_by type input) schema (λ _. inl (refl, refl)) (λ _. inl refl) (inl refl) (inl refl) (keeps_word P (λ _. tt) tt (λ _. tt) tt (OfBytes input) type keeps_bytes)
+  keeps_decode type = keeps_of_file P (λ _. tt) tt (λ _. tt) tt Schema (codes "schema") (decodes_by type input) schema (λ _. inl (refl, refl)) (λ _. inl refl) (inl refl) (inl refl) (keeps_word P (λ _. tt) tt (λ _. tt) tt (OfBytes input) type keeps_bytes)
 
 pub decode_touches : DecodeTouches
 decode_touches schema type input t s (runs.done h) = keeps_decode schema input type t s h
@@ -114,4 +114,4 @@ module _ (D : Declared) (T : Shape) where
   cause_bytes input = cause_then (Calls (opened Input input)) (after_opening D T) (cause_opened input)
 
 pub decode_has_cause : DecodeHasCause
-decode_has_cause schema type input = cause_run (decodes schema type input) (cause_of_file (decodes_by type input) schema (cause_word (OfBytes input) type (λ D T. cause_bytes D T input)))
+decode_has_cause schema type input = cause_run (decodes schema type input) (cause_of_file Schema refl (codes "schema") (decodes_by type input) schema (cause_word (OfBytes input) type (λ D T. cause_bytes D T input)))

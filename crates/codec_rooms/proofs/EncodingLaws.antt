@@ -1,5 +1,6 @@
 -- Laws of `encode`.
-use Rattle.std.proofs.Common.{ℕ, List, [], refl, sym, subst, inl, inr}
+use Rattle.std.proofs.Common.{codes, ℕ, List, [], refl, sym, subst, inl, inr}
+use Rattle.tl_base.specs.declared.host.Slot.TheVariants.{Schema}
 use Rattle.tl_schema.specs.Schemas.{Declared}
 use Rattle.tl_schema.specs.Types.{Shape}
 use Rattle.command_base.specs.Answer.{Answer}
@@ -16,7 +17,7 @@ use Rattle.codec_rooms.proofs.TypedLaws.{keeps_word, keeps_input, keeps_of_file,
 keeps_encode : (schema type input : List ℕ) → Keeps (IsOfEncode schema input) (encodes schema type input)
 keeps_encode schema type input =
     let P = IsOfEncode schema input in
-    keeps_of_file P (λ _. tt) tt (λ _. tt) tt (encodes_by type input) schema (λ _. inl (refl, refl)) (λ _. inl refl) (inl refl) (inl refl)
+    keeps_of_file P (λ _. tt) tt (λ _. tt) tt Schema (codes "schema") (encodes_by type input) schema (λ _. inl (refl, refl)) (λ _. inl refl) (inl refl) (inl refl)
     (keeps_word P (λ _. tt) tt (λ _. tt) tt (OfInput OfJson input JSON_BYTES) type (keeps_input P (λ _. tt) tt (λ _. tt) tt OfJson input JSON_BYTES (λ _. inr (refl, refl)) (λ _. inr refl) (inr refl) (inr refl)))
 
 pub encode_touches : EncodeTouches
@@ -33,4 +34,4 @@ plain schema s bytes a (misfit d v path cause json reads has is) = subst (λ (b 
 plain schema s bytes a (spelled d v x json reads spells few is) = subst (λ (b : Answer). Explains b.status []) (sym is) tt
 
 pub encode_has_cause : EncodeHasCause
-encode_has_cause schema type input = cause_run (encodes schema type input) (cause_of_file (encodes_by type input) schema (cause_word (OfInput OfJson input JSON_BYTES) type (cause_input OfJson plain input JSON_BYTES)))
+encode_has_cause schema type input = cause_run (encodes schema type input) (cause_of_file Schema refl (codes "schema") (encodes_by type input) schema (cause_word (OfInput OfJson input JSON_BYTES) type (cause_input OfJson plain input JSON_BYTES)))

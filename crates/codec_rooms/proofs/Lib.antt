@@ -7,3 +7,4 @@ mod EncodingLaws
 mod Decoding
 mod InputTaken
 mod DecodingLaws
+mod Layering

@@ -1,6 +1,10 @@
 -- Which events what follows of a schema and of a type can have, and what a fault's status comes of.
-use Rattle.std.proofs.Common.{ℕ, List, [], ◌++◌, Bool, codes, Option, Some, None}
-use Rattle.tl_base.specs.declared.host.Slot.TheVariants.{Schema, Input}
+use Rattle.std.proofs.Common.{◌≡◌, ℕ, List, [], ◌++◌, Bool, codes, Option, Some, None, subst}
+use Rattle.tl_base.specs.Kinds.{slot_kind}
+use Rattle.tl_base.specs.declared.counts.Kind.{Kind}
+use Rattle.tl_base.specs.declared.counts.Kind.TheVariants.{Reads}
+use Rattle.tl_base.specs.declared.host.Slot.{Slot}
+use Rattle.tl_base.specs.declared.host.Slot.TheVariants.{Input}
 use Rattle.tl_base.specs.declared.host.Out.TheVariants as outs
 use Rattle.tl_schema.specs.Schemas.{Declared}
 use Rattle.tl_schema.specs.Types.{Shape}
@@ -8,7 +12,7 @@ use Rattle.command_base.specs.Answer.{Answer, refused}
 use Rattle.command_base.specs.declared.status.Status.{Status}
 use Rattle.command_base.specs.declared.status.Status.TheVariants.{ReadFault}
 use Rattle.outside.specs.Events.{Event, opened, took, ended, read_failed, put, write_failed}
-use Rattle.outside.specs.Laws.{Keeps, Explains, HasCause}
+use Rattle.outside.specs.Laws.{Happened, IsFailure, Keeps, Explains, HasCause}
 use Rattle.outside.specs.Pieces.{ReadsFile}
 use Rattle.outside.specs.Printing.{Prints}
 use Rattle.outside.proofs.Causing.{keeps_then, keeps_file, keeps_tell, keeps_print, keeps_answer, cause_then, cause_print, cause_answer, cause_tell, explains_last, unread_file}
@@ -23,13 +27,13 @@ module _ (P : Event → Type 0) (errors : (piece : List ℕ) → P (put outs.Err
   refusal : (line : List ℕ) → Keeps P (Prints (refused line))
   refusal line = keeps_print P errors unwritten output lost (refused line)
 
-  keeps_text : (Rest : OfSchema) → ((schema : Declared) → Keeps P (Rest schema)) → (text : List ℕ) → Keeps P (OfText Rest text)
-  keeps_text Rest rest text t s (no_schema cause r h) = refusal (schema_line (codes "schema") cause) t s h
-  keeps_text Rest rest text t s (schema_of schema is h) = rest schema t s h
+  keeps_text : (what : List ℕ) (Rest : OfSchema) → ((schema : Declared) → Keeps P (Rest schema)) → (text : List ℕ) → Keeps P (OfText what Rest text)
+  keeps_text what Rest rest text t s (no_schema cause r h) = refusal (schema_line what cause) t s h
+  keeps_text what Rest rest text t s (schema_of schema is h) = rest schema t s h
 
-  keeps_schema : (Rest : OfSchema) → ((schema : Declared) → Keeps P (Rest schema)) → (text : Option (List ℕ)) → Keeps P (after_schema Rest text)
-  keeps_schema Rest rest (Some text) = keeps_text Rest rest text
-  keeps_schema Rest rest None = keeps_tell P errors unwritten _ _
+  keeps_schema : (what : List ℕ) (Rest : OfSchema) → ((schema : Declared) → Keeps P (Rest schema)) → (text : Option (List ℕ)) → Keeps P (after_schema what Rest text)
+  keeps_schema what Rest rest (Some text) = keeps_text what Rest rest text
+  keeps_schema what Rest rest None = keeps_tell P errors unwritten _ _
 
   keeps_plan : (Rest : OfType) (s : Shape) (schema : Declared) → Keeps P (Rest schema s) → Keeps P (OfPlan Rest s schema)
   keeps_plan Rest s schema rest t status (no_plan cause r h) = refusal (plan_line cause) t status h
@@ -46,21 +50,21 @@ module _ (P : Event → Type 0) (errors : (piece : List ℕ) → P (put outs.Err
   pub keeps_input : (Tells : ToInput) (input : List ℕ) (limit : ℕ) → ((ok : Bool) → P (opened Input input ok)) → ((bytes : List ℕ) → P (took Input bytes)) → P (ended Input) → P (read_failed Input) → (schema : Declared) (s : Shape) → Keeps P (OfInput Tells input limit schema s)
   keeps_input Tells input limit opens each end fail schema s = keeps_then P _ _ (keeps_file P Input input limit opens each end fail) (keeps_told Tells schema s)
 
-  pub keeps_of_file : (Rest : OfSchema) (name : List ℕ) → ((ok : Bool) → P (opened Schema name ok)) → ((bytes : List ℕ) → P (took Schema bytes)) → P (ended Schema) → P (read_failed Schema) → ((schema : Declared) → Keeps P (Rest schema)) → Keeps P (OfFile Rest name)
-  keeps_of_file Rest name opens each end fail rest = keeps_then P _ _ (keeps_file P Schema name SCHEMA_BYTES opens each end fail) (keeps_schema Rest rest)
+  pub keeps_of_file : (slot : Slot) (what : List ℕ) (Rest : OfSchema) (name : List ℕ) → ((ok : Bool) → P (opened slot name ok)) → ((bytes : List ℕ) → P (took slot bytes)) → P (ended slot) → P (read_failed slot) → ((schema : Declared) → Keeps P (Rest schema)) → Keeps P (OfFile slot what Rest name)
+  keeps_of_file slot what Rest name opens each end fail rest = keeps_then P _ _ (keeps_file P slot name SCHEMA_BYTES opens each end fail) (keeps_schema what Rest rest)
 
 -- ---- causes
 
-cause_text : (Rest : OfSchema) → ((schema : Declared) → HasCause (Rest schema)) → (text : List ℕ) → HasCause (OfText Rest text)
-cause_text Rest rest text t s (no_schema cause r h) = cause_print (refused (schema_line (codes "schema") cause)) tt t s h
-cause_text Rest rest text t s (schema_of schema is h) = rest schema t s h
+cause_text : (what : List ℕ) (Rest : OfSchema) → ((schema : Declared) → HasCause (Rest schema)) → (text : List ℕ) → HasCause (OfText what Rest text)
+cause_text what Rest rest text t s (no_schema cause r h) = cause_print (refused (schema_line what cause)) tt t s h
+cause_text what Rest rest text t s (schema_of schema is h) = rest schema t s h
 
-after_file : (Rest : OfSchema) (name : List ℕ) → ((schema : Declared) → HasCause (Rest schema)) → (text : Option (List ℕ)) (t u : List Event) (status : Status) → ReadsFile Schema name SCHEMA_BYTES t text → after_schema Rest text u status → Explains status (t ++ u)
-after_file Rest name rest (Some text) t u status read h = explains_last status t u (cause_text Rest rest text u status h)
-after_file Rest name rest None t u status read h = cause_tell _ ReadFault t u status (unread_file Schema name SCHEMA_BYTES t read) h
+after_file : (slot : Slot) → slot_kind slot ≡ Reads → (what : List ℕ) (Rest : OfSchema) (name : List ℕ) → ((schema : Declared) → HasCause (Rest schema)) → (text : Option (List ℕ)) (t u : List Event) (status : Status) → ReadsFile slot name SCHEMA_BYTES t text → after_schema what Rest text u status → Explains status (t ++ u)
+after_file slot kind what Rest name rest (Some text) t u status read h = explains_last status t u (cause_text what Rest rest text u status h)
+after_file slot kind what Rest name rest None t u status read h = cause_tell _ ReadFault t u status (subst (λ (k : Kind). Happened (IsFailure k) t) kind (unread_file slot name SCHEMA_BYTES t read)) h
 
-pub cause_of_file : (Rest : OfSchema) (name : List ℕ) → ((schema : Declared) → HasCause (Rest schema)) → HasCause (OfFile Rest name)
-cause_of_file Rest name rest = cause_then (ReadsFile Schema name SCHEMA_BYTES) (after_schema Rest) (after_file Rest name rest)
+pub cause_of_file : (slot : Slot) → slot_kind slot ≡ Reads → (what : List ℕ) (Rest : OfSchema) (name : List ℕ) → ((schema : Declared) → HasCause (Rest schema)) → HasCause (OfFile slot what Rest name)
+cause_of_file slot kind what Rest name rest = cause_then (ReadsFile slot name SCHEMA_BYTES) (after_schema what Rest) (after_file slot kind what Rest name rest)
 
 cause_plan : (Rest : OfType) (s : Shape) (schema : Declared) → HasCause (Rest schema s) → HasCause (OfPlan Rest s schema)
 cause_plan Rest s schema rest t status (no_plan cause r h) = cause_print (refused (plan_line cause)) tt t status h

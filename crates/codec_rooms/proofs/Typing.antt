@@ -36,35 +36,35 @@ did_as S W p q (Some a) into h = record { trace = h.trace; grew = h.grew; holds 
 did_as S W p q None into h = record { trace = h.trace; grew = h.grew; holds = record { rest = h.holds.rest; answer = h.holds.answer; whole = into (h.trace ++ h.holds.rest) h.holds.answer h.holds.whole } }
 
 -- a refusal that is printed, or out of memory
-refusal_done : (W : Step Status) (Tells : List ℕ → Type 0) (u : Unmade) (p q : HostState) (answer : Option Status) → Begins W []
+pub refusal_done : (W : Step Status) (Tells : List ℕ → Type 0) (u : Unmade) (p q : HostState) (answer : Option Status) → Begins W []
     → ((line : List ℕ) → Tells line → (t : List Event) (status : Status) → Prints (refused line) t status → W t status) → Refuses Tells u → PrintsMade (of_fault u) p q answer → Did W p q answer
 refusal_done W Tells (unmade.Refused line) p q answer can into h d = did_as (Prints (refused line.items)) W p q answer (into line.items h) d
 refusal_done W Tells unmade.ReadFault p q answer can into h d = absurd h
 refusal_done W Tells unmade.Memory p q answer can into h d = subst (λ (o : Option Status). Did W p q o) (sym d.0) (subst (λ (s : HostState). Did W p s None) (sym d.1) (did_none W p can))
 
-begun_as : {A : Type 0} (S W : Step A) → ((t : List Event) (a : A) → S t a → W t a) → Begins S [] → Begins W []
+pub begun_as : {A : Type 0} (S W : Step A) → ((t : List Event) (a : A) → S t a → W t a) → Begins S [] → Begins W []
 begun_as S W into m = record { rest = m.rest; answer = m.answer; whole = into m.rest m.answer m.whole }
 
 -- ---- a schema's text
 
-module _ (Rest : OfSchema) where
+module _ (what : List ℕ) (Rest : OfSchema) where
   module _ (can : (schema : Declared) → IsSchema schema → Begins (Rest schema) []) where
-    pub can_text : (text : List ℕ) → Begins (OfText Rest text) []
+    pub can_text : (text : List ℕ) → Begins (OfText what Rest text) []
     can_text text = elim (schema_or_refused text) [
-      | inl (schema, is) ↦ begun_as (Rest schema) (OfText Rest text) (λ t status h. schema_of schema is h) (can schema is.good)
-      | inr (cause, r) ↦ begun_as (Prints (refused (schema_line (codes "schema") cause))) (OfText Rest text) (λ t status h. no_schema cause r h) (can_print (refused (schema_line (codes "schema") cause)))
+      | inl (schema, is) ↦ begun_as (Rest schema) (OfText what Rest text) (λ t status h. schema_of schema is h) (can schema is.good)
+      | inr (cause, r) ↦ begun_as (Prints (refused (schema_line what cause))) (OfText what Rest text) (λ t status h. no_schema cause r h) (can_print (refused (schema_line what cause)))
     ]
 
-    pub can_schema : (text : Option (List ℕ)) → Begins (after_schema Rest text) []
+    pub can_schema : (text : Option (List ℕ)) → Begins (after_schema what Rest text) []
     can_schema (Some text) = can_text text
     can_schema None = can_tell _ _
 
-    pub text_refused : (text : List ℕ) (u : Unmade) (p q : HostState) (answer : Option Status) → ReadsSchema (codes "schema") text (Err u) → PrintsMade (of_fault u) p q answer → Did (OfText Rest text) p q answer
-    text_refused text u p q answer = refusal_done (OfText Rest text) (TellsSchema (codes "schema") text) u p q answer (can_text text)
+    pub text_refused : (text : List ℕ) (u : Unmade) (p q : HostState) (answer : Option Status) → ReadsSchema what text (Err u) → PrintsMade (of_fault u) p q answer → Did (OfText what Rest text) p q answer
+    text_refused text u p q answer = refusal_done (OfText what Rest text) (TellsSchema what text) u p q answer (can_text text)
         (λ line (cause, r, is) t status h. no_schema cause r (subst (λ (l : List ℕ). Prints (refused l) t status) is h))
 
-  pub text_read : (text : List ℕ) (schema : Declared) (p q : HostState) (answer : Option Status) → IsSchemaText text schema → Did (Rest schema) p q answer → Did (OfText Rest text) p q answer
-  text_read text schema p q answer is = did_as (Rest schema) (OfText Rest text) p q answer (λ t status h. schema_of schema is h)
+  pub text_read : (text : List ℕ) (schema : Declared) (p q : HostState) (answer : Option Status) → IsSchemaText text schema → Did (Rest schema) p q answer → Did (OfText what Rest text) p q answer
+  text_read text schema p q answer is = did_as (Rest schema) (OfText what Rest text) p q answer (λ t status h. schema_of schema is h)
 
 -- ---- a type
 

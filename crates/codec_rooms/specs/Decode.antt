@@ -20,7 +20,7 @@ use Rattle.outside.specs.Events.{Event, opened, took, ended, read_failed}
 use Rattle.outside.specs.Printing.{Prints, Unread}
 use Rattle.outside.specs.Steps.{Step, Turn, again, leave, Calls, Ends, Loops, Then}
 use Rattle.schema_files.specs.Lines.{cause_text, input_line, line_text}
-use Rattle.codec_rooms.specs.Typed.{OfFile, OfSchema, OfType, OfWord}
+use Rattle.codec_rooms.specs.Typed.{OfCommand, OfSchema, OfType, OfWord}
 
 -- the value that an input is, or why it is none
 abbrev pub Verdict : Type 0
@@ -87,7 +87,7 @@ decodes_by type input = OfWord (OfBytes input) type
 
 -- `decode SCHEMA TYPE INPUT`
 abbrev pub decodes : List ℕ → List ℕ → List ℕ → Step Status
-decodes schema type input = OfFile (decodes_by type input) schema
+decodes schema type input = OfCommand (decodes_by type input) schema
 
 -- ---- what calls answer
 

@@ -5,4 +5,5 @@ pub mod Encode
 pub mod EncodeLaws
 pub mod Decode
 pub mod DecodeLaws
+pub mod Layers
 pub mod inner

@@ -1,5 +1,6 @@
 -- What follows of a schema's text and of a type's word, where an input comes after them. This project's own.
 use Rattle.std.specs.Prelude.{ℕ, List, Option, Some, None, codes}
+use Rattle.tl_base.specs.declared.host.Slot.{Slot}
 use Rattle.tl_base.specs.declared.host.Slot.TheVariants.{Schema, Input}
 use Rattle.tl_schema.specs.Types.{Shape}
 use Rattle.tl_schema.specs.Schemas.{Declared}
@@ -24,10 +25,10 @@ OfSchema = Declared → Step Status
 abbrev pub OfType : Type 1
 OfType = Declared → Shape → Step Status
 
--- the text is refused, and its line is told; or it is a schema's, and then the rest
-pub data OfText (Rest : OfSchema) (text : List ℕ) (t : List Event) (status : Status) : Type 0 where
-  no_schema : (cause : SchemaCause) → SchemaRefused text cause → Prints (refused (schema_line (codes "schema") cause)) t status → OfText Rest text t status
-  schema_of : (schema : Declared) → IsSchemaText text schema → Rest schema t status → OfText Rest text t status
+-- the text is refused, and its line is told, which calls it so; or it is a schema's, and then the rest
+pub data OfText (what : List ℕ) (Rest : OfSchema) (text : List ℕ) (t : List Event) (status : Status) : Type 0 where
+  no_schema : (cause : SchemaCause) → SchemaRefused text cause → Prints (refused (schema_line what cause)) t status → OfText what Rest text t status
+  schema_of : (schema : Declared) → IsSchemaText text schema → Rest schema t status → OfText what Rest text t status
 
 -- the type has no plan, and its line is told; or it has one, and then the rest
 pub data OfPlan (Rest : OfType) (s : Shape) (schema : Declared) (t : List Event) (status : Status) : Type 0 where
@@ -39,13 +40,17 @@ pub data OfWord (Rest : OfType) (word : List ℕ) (schema : Declared) (t : List 
   no_type : (cause : TypeNameCause) → TypeNameRefused schema word cause → Prints (refused (type_line cause)) t status → OfWord Rest word schema t status
   typed : (s : Shape) → IsTypeText schema.program word s → OfPlan Rest s schema t status → OfWord Rest word schema t status
 
-abbrev pub after_schema : OfSchema → Option (List ℕ) → Step Status
-after_schema Rest (Some text) = OfText Rest text
-after_schema Rest None = Unread
+abbrev pub after_schema : List ℕ → OfSchema → Option (List ℕ) → Step Status
+after_schema what Rest (Some text) = OfText what Rest text
+after_schema what Rest None = Unread
 
--- the schema's file is read, and then the rest
-abbrev pub OfFile : OfSchema → List ℕ → Step Status
-OfFile Rest schema = Then (ReadsFile Schema schema SCHEMA_BYTES) (after_schema Rest)
+-- a schema's file is read by a slot, and then the rest
+abbrev pub OfFile : Slot → List ℕ → OfSchema → List ℕ → Step Status
+OfFile slot what Rest name = Then (ReadsFile slot name SCHEMA_BYTES) (after_schema what Rest)
+
+-- a command of one schema: its file is read by the slot Schema
+abbrev pub OfCommand : OfSchema → List ℕ → Step Status
+OfCommand = OfFile Schema (codes "schema")
 
 abbrev pub after_input : ToInput → Declared → Shape → Option (List ℕ) → Step Status
 after_input Tells schema s (Some bytes) = Answers (Tells schema s bytes)

@@ -1,5 +1,5 @@
 //! `decode`: a schema's file is read, its type is looked for, the input is read piece by piece, and the line of its value is written.
-ghost use Rattle.std.specs.Prelude.{◌<◌, true};
+ghost use Rattle.std.specs.Prelude.{codes, ◌<◌, true};
 ghost use Rattle.outside.specs.Runs.{Ran, answered};
 ghost use Rattle.outside.specs.Steps.{Did};
 ghost use Rattle.tl_schema.specs.Formed.{IsFormed};
@@ -133,7 +133,7 @@ fn decode_text<H: Host>(
     of: &str,
     input: &str,
 ) -> Result<Status, AllocError>
-    ensures { Did (OfText (decodes_by of.now input.now) text.now) (H.state host.old) (H.state host.new) (answered result) }
+    ensures { Did (OfText (codes "schema") (decodes_by of.now input.now) text.now) (H.state host.old) (H.state host.new) (answered result) }
 {
     match schema_of(alloc, "schema", text) {
         Ok(schema) => decode_typed(alloc, host, &schema, of, input),

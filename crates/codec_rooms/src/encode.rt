@@ -1,5 +1,5 @@
 //! `encode`: a schema's file is read, its type is looked for, the input's file is read, and the spelling of its value is written.
-ghost use Rattle.std.specs.Prelude.{◌<◌, ℕ, List};
+ghost use Rattle.std.specs.Prelude.{codes, ◌<◌, ℕ, List};
 ghost use Rattle.command_base.specs.Jobs.{making};
 ghost use Rattle.outside.specs.Printing.{Makes};
 ghost use Rattle.outside.specs.Runs.{Ran, answered};
@@ -116,7 +116,7 @@ fn encode_text<H: Host>(
     of: &str,
     input: &str,
 ) -> Result<Status, AllocError>
-    ensures { Did (OfText (encodes_by of.now input.now) text.now) (H.state host.old) (H.state host.new) (answered result) }
+    ensures { Did (OfText (codes "schema") (encodes_by of.now input.now) text.now) (H.state host.old) (H.state host.new) (answered result) }
 {
     match schema_of(alloc, "schema", text) {
         Ok(schema) => encode_typed(alloc, host, &schema, of, input),

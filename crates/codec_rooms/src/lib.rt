@@ -1,4 +1,4 @@
-//! The commands over schemas and the values that are spelled in them, by what happens in order: `check`, `decode` and `encode`.
+//! The commands over schemas and the values that are spelled in them, by what happens in order: `check`, `decode`, `encode` and `layers`.
 #![tactic(auto)]
 
 mod check;
@@ -6,6 +6,7 @@ mod decode;
 mod encode;
 mod feeding;
 mod laws;
+mod layers;
 
 pub use check::{check_schema, run_check};
 pub use decode::{decode_input, run_decode};
@@ -14,3 +15,4 @@ pub use laws::{
     check_answers, check_has_cause, check_reads, check_touches, decode_has_cause, decode_touches,
     encode_has_cause, encode_touches,
 };
+pub use layers::{compare_schemas, run_layers};

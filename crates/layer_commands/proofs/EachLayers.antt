@@ -14,7 +14,7 @@ use Rattle.tl_layers.proofs.EachBreaks.{each_is_unbroken_or_breaks}
 use Rattle.layer_commands.proofs.OneLayers.{one_layers}
 use Rattle.layer_commands.specs.Layers.{OfLayers, broken, whole, OfType, no_type, typed, LayersAnswer, EachHasOneAnswer}
 
-each_told : (old : Declared) → IsSchema old → (T : Shape) → IsFormed old T → (new : Declared) → IsSchema new → (a : Answer) × OfLayers old new T a
+pub each_told : (old : Declared) → IsSchema old → (T : Shape) → IsFormed old T → (new : Declared) → IsSchema new → (a : Answer) × OfLayers old new T a
 each_told old good T formed new sound =
     let law = each_is_unbroken_or_breaks old new T good sound formed in
     elim law.either [

@@ -8,3 +8,4 @@ mod verdict;
 
 pub use laws::files_have_one_answer;
 pub use layers::compare_schemas;
+pub use verdict::verdict_line;

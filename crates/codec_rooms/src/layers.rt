@@ -1,0 +1,111 @@
+//! `layers`: an old schema's file is read, a type of it is looked for, the new schema's file is read, and it is told what the type reaches or what breaks.
+ghost use Rattle.std.specs.Prelude.{codes};
+ghost use Rattle.outside.specs.Runs.{Ran, answered};
+ghost use Rattle.outside.specs.Steps.{Did};
+ghost use Rattle.tl_base.specs.declared.host.Slot.TheVariants.{Input};
+ghost use Rattle.tl_schema.specs.CheckedPrograms.{IsSchema};
+ghost use Rattle.tl_schema.specs.Formed.{IsFormed};
+ghost use Rattle.tl_schema.specs.Seen.{shape};
+ghost use Rattle.codec_rooms.specs.Layers.{OfOld, compared, compares};
+ghost use Rattle.codec_rooms.specs.Typed.{OfFile, OfText};
+
+use command_base::Status;
+use layer_commands::verdict_line;
+use outside::{Host, finish, print_made, read_file, tell};
+use schema_files::{SCHEMA_BYTES, schema_of, type_named};
+use std::alloc::{AllocError, Global};
+use tl_base::Slot;
+use tl_schema::{Schema, TypeRef};
+
+// What follows of the new schema's text.
+fn compare_text<H: Host>(
+    alloc: Global,
+    host: &mut H,
+    old: &Schema,
+    of: &TypeRef,
+    text: &[u8],
+) -> Result<Status, AllocError>
+    requires formed { IsFormed old.now (shape of.now) }
+    requires good { IsSchema old.now }
+    ensures { Did (OfText (codes "new") (compared old.now (shape of.now)) text.now) (H.state host.old) (H.state host.new) (answered result) }
+{
+    match schema_of(alloc, "new", text) {
+        Ok(new) => print_made(host, verdict_line(alloc, old, &new, of)),
+        Err(fault) => print_made(host, Err(fault)),
+    }
+}
+
+// What follows of a type of the old schema.
+fn compare_file<H: Host>(
+    alloc: Global,
+    host: &mut H,
+    old: &Schema,
+    of: &TypeRef,
+    new: &str,
+) -> Result<Status, AllocError>
+    requires formed { IsFormed old.now (shape of.now) }
+    requires good { IsSchema old.now }
+    ensures { Did (OfFile Input (codes "new") (compared old.now (shape of.now)) new.now) (H.state host.old) (H.state host.new) (answered result) }
+{
+    match read_file(alloc, host, Slot::Input, new, SCHEMA_BYTES)? {
+        Some(text) => compare_text(alloc, host, old, of, &text),
+        None => Ok(tell(host, b"tlbox: read fault\n", Status::ReadFault)),
+    }
+}
+
+// What follows of the old schema.
+fn compare_old<H: Host>(
+    alloc: Global,
+    host: &mut H,
+    old: &Schema,
+    new: &str,
+    of: &str,
+) -> Result<Status, AllocError>
+    requires { IsSchema old.now }
+    ensures { Did (OfOld new.now of.now old.now) (H.state host.old) (H.state host.new) (answered result) }
+{
+    match type_named(alloc, old, of) {
+        Ok(of) => compare_file(alloc, host, old, &of, new),
+        Err(fault) => print_made(host, Err(fault)),
+    }
+}
+
+// What follows of the old schema's text.
+fn compare_old_text<H: Host>(
+    alloc: Global,
+    host: &mut H,
+    text: &[u8],
+    new: &str,
+    of: &str,
+) -> Result<Status, AllocError>
+    ensures { Did (OfText (codes "schema") (OfOld new.now of.now) text.now) (H.state host.old) (H.state host.new) (answered result) }
+{
+    match schema_of(alloc, "schema", text) {
+        Ok(old) => compare_old(alloc, host, &old, new, of),
+        Err(fault) => print_made(host, Err(fault)),
+    }
+}
+
+/// Compares two schemas by a type of the old one, and writes how many declarations it reaches, or tells what breaks.
+pub fn compare_schemas<H: Host>(
+    alloc: Global,
+    host: &mut H,
+    old: &str,
+    new: &str,
+    of: &str,
+) -> Result<Status, AllocError>
+    ensures { Did (compares old.now new.now of.now) (H.state host.old) (H.state host.new) (answered result) }
+{
+    match read_file(alloc, host, Slot::Schema, old, SCHEMA_BYTES)? {
+        Some(text) => compare_old_text(alloc, host, &text, new, of),
+        None => Ok(tell(host, b"tlbox: read fault\n", Status::ReadFault)),
+    }
+}
+
+/// Likewise, to the end of the run: out of memory is told.
+pub fn run_layers<H: Host>(alloc: Global, host: &mut H, old: &str, new: &str, of: &str) -> Status
+    ensures { Ran (compares old.now new.now of.now) (H.state host.old) (H.state host.new) result }
+{
+    let done = compare_schemas(alloc, host, old, new, of);
+    finish(host, done)
+}
