@@ -3,7 +3,7 @@
 
 use box_store::MemKeeper;
 use case_files::{BadLine, Case, Ending, TracedHost, entries_text, read_cases, shown_run};
-use codec_rooms::{run_check, run_decode, run_encode};
+use codec_rooms::{run_check, run_decode, run_encode, run_layers};
 use commands::{keep_in, run, run_stored};
 use outside::Untold;
 use std::alloc::{AllocError, Global};
@@ -96,6 +96,10 @@ fn status_in_order(
         }
         [command, schema, of, input] if command.as_str() == "encode" => {
             let status = run_encode(alloc, host, schema.as_str(), of.as_str(), input.as_str());
+            Some(status.code())
+        }
+        [command, old, new, of] if command.as_str() == "layers" => {
+            let status = run_layers(alloc, host, old.as_str(), new.as_str(), of.as_str());
             Some(status.code())
         }
         _ => None,

@@ -8,3 +8,4 @@ mod Decoding
 mod InputTaken
 mod DecodingLaws
 mod Layering
+mod LayeringLaws

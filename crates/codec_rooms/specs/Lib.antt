@@ -6,4 +6,5 @@ pub mod EncodeLaws
 pub mod Decode
 pub mod DecodeLaws
 pub mod Layers
+pub mod LayersLaws
 pub mod inner

@@ -1,5 +1,6 @@
-//! Laws of what `check`, `decode` and `encode` do.
+//! Laws of what `check`, `decode`, `encode` and `layers` do.
 ghost use Rattle.codec_rooms.specs.DecodeLaws.{DecodeHasCause, DecodeTouches};
+ghost use Rattle.codec_rooms.specs.LayersLaws.{LayersHasCause, LayersTouches};
 ghost use Rattle.codec_rooms.specs.EncodeLaws.{EncodeHasCause, EncodeTouches};
 ghost use Rattle.codec_rooms.specs.CheckLaws.{CheckAnswers, CheckHasCause, CheckReads, CheckTouches};
 
@@ -41,4 +42,14 @@ pub fn decode_touches()
 /// It ends by the status of a fault only where a call of that kind failed.
 pub fn decode_has_cause()
     ensures { DecodeHasCause }
+{}
+
+/// A run of `layers` does nothing that one of `encode` doesn't.
+pub fn layers_touches()
+    ensures { LayersTouches }
+{}
+
+/// It ends by the status of a fault only where a call of that kind failed.
+pub fn layers_has_cause()
+    ensures { LayersHasCause }
 {}
