@@ -83,7 +83,8 @@ fn status_in_order(
     words: &[String],
     host: &mut Untold<TracedHost<MemHost>>,
 ) -> Option<u8> {
-    if words.iter().any(|word| word.as_str().starts_with("-")) {
+    // These are no words of a row.
+    if words.iter().any(|word| word.as_str().is_empty() || word.as_str().starts_with("-")) {
         return None;
     }
     match words {
