@@ -1,5 +1,6 @@
 pub mod Events
 pub mod Grown
+pub mod Unseen
 pub mod Steps
 pub mod Pieces
 pub mod Printing
