@@ -1,8 +1,8 @@
 -- What fits the files of an outside: what was read of them, and why a call failed.
 use Rattle.std.proofs.Common.{◌≡◌, ℕ, ◌+◌, ◌<◌, length, take, List, [], ◌∷◌, ◌++◌, map, Bool, true, false, Option, Some, None, refl, sym, ap, ◌∙◌, subst, arith, inl, inr, append_assoc, append-nil}
 use Rattle.std.specs.Prelude.{IfSome}
-use Rattle.std.proofs.lemmas.List.{take_all, take-append-le}
-use Rattle.tl_base.proofs.Parts.{left_back}
+use Rattle.std.proofs.lemmas.List.{length-append, take_all, take-append-le}
+use Rattle.tl_base.proofs.Parts.{left_back, written_back}
 use Rattle.tl_base.specs.Kinds.{out_kind}
 use Rattle.tl_base.specs.Outside.{View, HasFile, IsFile, IsThere, left_of, with_left, written_of, with_written}
 use Rattle.tl_base.specs.Calls.{with_name, link_taken}
@@ -15,9 +15,9 @@ use Rattle.tl_base.specs.declared.mem_script.HostCall.{HostCall}
 use Rattle.tl_base.specs.declared.mem_script.HostCall.TheVariants.{Open, Read, Create, Write, Listen, Connect, Accept}
 use Rattle.outside.specs.Events.{Event, Outside, opened, took, ended, read_failed, created, put, write_failed, listened, connected, accepted, told}
 use Rattle.outside.specs.Laws.{Happened, IsFailure}
-use Rattle.outside.specs.Pieces.{joined, InPieces, TakenView, full, short, broken, Takes, ReadsSlot, after_open, text_of}
+use Rattle.outside.specs.Pieces.{joined, InPieces, TakenView, full, short, broken, Takes, Writes, ReadsSlot, after_open, text_of}
 use Rattle.mem_host.specs.Fits.{Happens, Fits, IsToFail, Made}
-use Rattle.mem_host.specs.Reliable.{IsReliable, IsMissing, FilesAreRead, ReadsFailAlone, FilesCanBeRead}
+use Rattle.mem_host.specs.Reliable.{IsReliable, IsMissing, FilesAreRead, ReadsFailAlone, FilesCanBeRead, WritesAppend, WritesFailFull}
 
 pub fits_both : (t u : List Event) (s n : Outside) → Fits (t ++ u) s n → (m : Outside) × Fits t s m × Fits u m n
 fits_both [] u s n f = (s, refl, f)
@@ -25,16 +25,17 @@ fits_both (e ∷ t) u s n f = let r = fits_both t u f.0 n f.2 in (r.0, (f.0, f.1
 
 -- ---- what no event changes
 
--- the same files, and the same calls that are to fail
+-- the same files, the same room, and the same calls that are to fail
 pub record Keeps (s n : Outside) : Type 0 where
   pub files : n.view.files ≡ s.view.files
+  pub room : n.view.room ≡ s.view.room
   pub fails : n.script.fails ≡ s.script.fails
 
 kept_both : (s m n : Outside) → Keeps s m → Keeps m n → Keeps s n
-kept_both s m n a b = record { files = b.files ∙ a.files; fails = b.fails ∙ a.fails }
+kept_both s m n a b = record { files = b.files ∙ a.files; room = b.room ∙ a.room; fails = b.fails ∙ a.fails }
 
-viewed : (s n : Outside) (view : View) → n.view ≡ view → view.files ≡ s.view.files → n.script.fails ≡ s.script.fails → Keeps s n
-viewed s n view is same fails = record { files = ap (λ (v : View). v.files) is ∙ same; fails = fails }
+viewed : (s n : Outside) (view : View) → n.view ≡ view → view.files ≡ s.view.files → view.room ≡ s.view.room → n.script.fails ≡ s.script.fails → Keeps s n
+viewed s n view is same room fails = record { files = ap (λ (v : View). v.files) is ∙ same; room = ap (λ (v : View). v.room) is ∙ room; fails = fails }
 
 made : (call : HostCall) (s n : Outside) → Made call s n → n.script.fails ≡ s.script.fails
 made call s n h = ap (λ (x : ScriptView). x.fails) h
@@ -45,26 +46,32 @@ named_files outs.Errors name v = refl
 named_files outs.State name v = refl
 named_files outs.Link name v = refl
 
+named_room : (out : Out) (name : List ℕ) (v : View) → (with_name out name (with_written out [] v)).room ≡ v.room
+named_room outs.Output name v = refl
+named_room outs.Errors name v = refl
+named_room outs.State name v = refl
+named_room outs.Link name v = refl
+
 happens_keeps : (e : Event) (s n : Outside) → Happens e s n → Keeps s n
-happens_keeps (opened slot name true) s n h = viewed s n (with_left slot h.0.0 s.view) h.0.2 refl (made Open s n h.1.1)
-happens_keeps (opened slot name false) s n h = viewed s n s.view h.0 refl (made Open s n h.1.1)
-happens_keeps (took slot bytes) s n h = viewed s n (with_left slot (left_of slot n.view) s.view) h.1 refl (made (Read slot) s n h.3)
-happens_keeps (ended slot) s n h = viewed s n s.view h.1 refl (made (Read slot) s n h.3)
-happens_keeps (read_failed slot) s n h = viewed s n s.view h.0 refl (made (Read slot) s n h.2)
-happens_keeps (created out name true) s n h = viewed s n (with_name out name (with_written out [] s.view)) h.0 (named_files out name s.view) (made Create s n h.1.1)
-happens_keeps (created out name false) s n h = viewed s n s.view h.0 refl (made Create s n h.1.1)
-happens_keeps (put out bytes) s n h = viewed s n (with_written out (written_of out s.view ++ bytes) s.view) h.0 refl (made (Write out) s n h.2)
-happens_keeps (write_failed out) s n h = viewed s n s.view h.0 refl (made (Write out) s n h.2)
-happens_keeps (listened address true) s n h = viewed s n (record s.view { address = Some address }) h.0 refl (made Listen s n h.1.1)
-happens_keeps (listened address false) s n h = viewed s n s.view h.0 refl (made Listen s n h.1.1)
-happens_keeps (connected address true) s n h = viewed s n (record (link_taken s.view) { address = Some address }) h.0.1 refl (made Connect s n h.1.1)
-happens_keeps (connected address false) s n h = viewed s n s.view h.0 refl (made Connect s n h.1.1)
-happens_keeps (accepted true) s n h = viewed s n (link_taken s.view) h.0.1 refl (made Accept s n h.1.1)
-happens_keeps (accepted false) s n h = viewed s n s.view h.0 refl (made Accept s n h.1.1)
-happens_keeps (told moment) s n h = record { files = ap (λ (v : View). v.files) h.0.1; fails = ap (λ (x : ScriptView). x.fails) h.1 }
+happens_keeps (opened slot name true) s n h = viewed s n (with_left slot h.0.0 s.view) h.0.2 refl refl (made Open s n h.1.1)
+happens_keeps (opened slot name false) s n h = viewed s n s.view h.0 refl refl (made Open s n h.1.1)
+happens_keeps (took slot bytes) s n h = viewed s n (with_left slot (left_of slot n.view) s.view) h.1 refl refl (made (Read slot) s n h.3)
+happens_keeps (ended slot) s n h = viewed s n s.view h.1 refl refl (made (Read slot) s n h.3)
+happens_keeps (read_failed slot) s n h = viewed s n s.view h.0 refl refl (made (Read slot) s n h.2)
+happens_keeps (created out name true) s n h = viewed s n (with_name out name (with_written out [] s.view)) h.0 (named_files out name s.view) (named_room out name s.view) (made Create s n h.1.1)
+happens_keeps (created out name false) s n h = viewed s n s.view h.0 refl refl (made Create s n h.1.1)
+happens_keeps (put out bytes) s n h = viewed s n (with_written out (written_of out s.view ++ bytes) s.view) h.0 refl refl (made (Write out) s n h.2)
+happens_keeps (write_failed out) s n h = viewed s n s.view h.0 refl refl (made (Write out) s n h.2)
+happens_keeps (listened address true) s n h = viewed s n (record s.view { address = Some address }) h.0 refl refl (made Listen s n h.1.1)
+happens_keeps (listened address false) s n h = viewed s n s.view h.0 refl refl (made Listen s n h.1.1)
+happens_keeps (connected address true) s n h = viewed s n (record (link_taken s.view) { address = Some address }) h.0.1 refl refl (made Connect s n h.1.1)
+happens_keeps (connected address false) s n h = viewed s n s.view h.0 refl refl (made Connect s n h.1.1)
+happens_keeps (accepted true) s n h = viewed s n (link_taken s.view) h.0.1 refl refl (made Accept s n h.1.1)
+happens_keeps (accepted false) s n h = viewed s n s.view h.0 refl refl (made Accept s n h.1.1)
+happens_keeps (told moment) s n h = record { files = ap (λ (v : View). v.files) h.0.1; room = ap (λ (v : View). v.room) h.0.1; fails = ap (λ (x : ScriptView). x.fails) h.1 }
 
 pub fits_keeps : (t : List Event) (s n : Outside) → Fits t s n → Keeps s n
-fits_keeps [] s n f = record { files = ap (λ (o : Outside). o.view.files) f; fails = ap (λ (o : Outside). o.script.fails) f }
+fits_keeps [] s n f = record { files = ap (λ (o : Outside). o.view.files) f; room = ap (λ (o : Outside). o.view.room) f; fails = ap (λ (o : Outside). o.script.fails) f }
 fits_keeps (e ∷ t) s n f = kept_both s f.0 n (happens_keeps e s f.0 f.1) (fits_keeps t f.0 n f.2)
 
 reliable_on : (s n : Outside) → Keeps s n → IsReliable s → IsReliable n
@@ -77,7 +84,7 @@ never_fails call s r fails = absurd (omega (arith, fails.1, r))
 
 took_pieces : (slot : Slot) (pieces : List (List ℕ)) (last : List Event) (s n : Outside) → Fits (map (took slot) pieces ++ last) s n
     → (m : Outside) × (left_of slot s.view ≡ joined pieces ++ left_of slot m.view) × Keeps s m × Fits last m n
-took_pieces slot [] last s n f = (s, refl, record { files = refl; fails = refl }, f)
+took_pieces slot [] last s n f = (s, refl, record { files = refl; room = refl; fails = refl }, f)
 took_pieces slot (p ∷ pieces) last s n f =
     let r = took_pieces slot pieces last f.0 n f.2 in
     (r.0, f.1.0 ∙ (ap (λ (l : List ℕ). p ++ l) r.1 ∙ sym (append_assoc p (joined pieces) (left_of slot r.0.view))), kept_both s f.0 r.0 (happens_keeps (took slot p) s f.0 f.1) r.2, r.3)
@@ -185,3 +192,32 @@ can_be_read slot name limit false t u s n is h f r there =
 
 pub files_can_be_read : FilesCanBeRead
 files_can_be_read slot name limit t s n h f r there = can_be_read slot name limit h.between h.first h.rest s n h.does h.goes (subst (λ (l : List Event). Fits l s n) h.splits f) r there
+
+-- ---- outs
+
+put_pieces : (out : Out) (pieces : List (List ℕ)) (last : List Event) (s n : Outside) → Fits (map (put out) pieces ++ last) s n
+    → (m : Outside) × (written_of out m.view ≡ written_of out s.view ++ joined pieces) × Keeps s m × Fits last m n
+put_pieces out [] last s n f = (s, sym (append-nil (written_of out s.view)), record { files = refl; room = refl; fails = refl }, f)
+put_pieces out (p ∷ pieces) last s n f =
+    let r = put_pieces out pieces last f.0 n f.2 in
+    let one : written_of out f.0.view ≡ written_of out s.view ++ p = ap (written_of out) f.1.0 ∙ written_back out (written_of out s.view ++ p) s.view in
+    (r.0, r.1 ∙ (ap (λ (l : List ℕ). l ++ joined pieces) one ∙ append_assoc (written_of out s.view) p (joined pieces)), kept_both s f.0 r.0 (happens_keeps (put out p) s f.0 f.1) r.2, r.3)
+
+put_bytes : (out : Out) (bytes : List ℕ) (last t : List Event) (s n : Outside) → InPieces (put out) bytes last t → Fits t s n → (m : Outside) × (written_of out m.view ≡ written_of out s.view ++ bytes) × Keeps s m × Fits last m n
+put_bytes out bytes last t s n q f =
+    let r = put_pieces out q.pieces last s n (subst (λ (l : List Event). Fits l s n) q.events f) in
+    (r.0, r.1 ∙ ap (λ (l : List ℕ). written_of out s.view ++ l) q.join, r.2, r.3)
+
+pub writes_append : WritesAppend
+writes_append out bytes t s n h f = let r = put_bytes out bytes [] t s n h f in ap (λ (o : Outside). written_of out o.view) r.3 ∙ r.1
+
+no_room_for : (out : Out) (before after bytes : List ℕ) (s m n : Outside) → Happens (write_failed out) m n → before ++ after ≡ bytes → 0 < length after → written_of out m.view ≡ written_of out s.view ++ before → m.view.room ≡ s.view.room → IsReliable m → s.view.room < length (written_of out s.view) + length bytes
+no_room_for out before after bytes s m n h join some wrote room r = elim h.1 [
+  | inl fails ↦ absurd (never_fails (Write out) m r fails)
+  | inr no_room ↦ omega (arith, no_room, room, some, ap length join, length-append before after, ap length wrote, length-append (written_of out s.view) before)
+]
+
+pub writes_fail_full : WritesFailFull
+writes_fail_full out bytes t s n (before, after, q, join, some) f r =
+    let g = put_bytes out before (write_failed out ∷ []) t s n q f in
+    no_room_for out before after bytes s g.0 g.3.0 g.3.1 join some g.1 g.2.room (reliable_on s g.0 g.2 r)

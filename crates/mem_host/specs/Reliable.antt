@@ -1,11 +1,12 @@
 -- What is read of files, and which calls fail where none was told to. This project's own.
-use Rattle.std.specs.Prelude.{◌≡◌, ℕ, ◌+◌, List, length, take, true, false, Some, None}
-use Rattle.tl_base.specs.Outside.{IsThere, HasFile}
+use Rattle.std.specs.Prelude.{◌≡◌, ℕ, ◌+◌, ◌<◌, List, ◌++◌, length, take, true, false, Some, None}
+use Rattle.tl_base.specs.Outside.{IsThere, HasFile, written_of}
+use Rattle.tl_base.specs.declared.host.Out.{Out}
 use Rattle.tl_base.specs.declared.host.Slot.{Slot}
 use Rattle.tl_base.specs.declared.counts.Kind.TheVariants as kinds
 use Rattle.outside.specs.Events.{Event, Outside, opened, took, ended, read_failed, created, put, write_failed, listened, connected, accepted, told}
 use Rattle.outside.specs.Laws.{Happened, IsFailure}
-use Rattle.outside.specs.Pieces.{ReadsFile}
+use Rattle.outside.specs.Pieces.{ReadsFile, Writes}
 use Rattle.mem_host.specs.Fits.{Fits}
 
 -- it was told to fail at no call
@@ -35,6 +36,14 @@ FilesAreRead = (slot : Slot) (name : List ℕ) (limit : ℕ) (t : List Event) (t
 -- where no call was told to fail, one that reads fails only because a file is missing
 abbrev pub ReadsFailAlone : Type 0
 ReadsFailAlone = (t : List Event) (s n : Outside) → Fits t s n → IsReliable s → Happened (IsFailure kinds.Reads) t → Happened (IsMissing s) t
+
+-- what is written is appended
+abbrev pub WritesAppend : Type 0
+WritesAppend = (out : Out) (bytes : List ℕ) (t : List Event) (s n : Outside) → Writes out bytes t true → Fits t s n → written_of out n.view ≡ written_of out s.view ++ bytes
+
+-- where no call was told to fail, what is written fails only where there is no room for it
+abbrev pub WritesFailFull : Type 0
+WritesFailFull = (out : Out) (bytes : List ℕ) (t : List Event) (s n : Outside) → Writes out bytes t false → Fits t s n → IsReliable s → s.view.room < length (written_of out s.view) + length bytes
 
 -- so a file that is there is read
 abbrev pub FilesCanBeRead : Type 0

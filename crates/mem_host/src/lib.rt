@@ -5,5 +5,7 @@ mod laws;
 mod logged;
 mod mem_host;
 
-pub use laws::{files_are_read, files_can_be_read, reads_fail_alone};
+pub use laws::{
+    files_are_read, files_can_be_read, reads_fail_alone, writes_append, writes_fail_full,
+};
 pub use mem_host::MemHost;
