@@ -1,27 +1,31 @@
 -- Laws of `check`.
-use Rattle.std.proofs.Common.{◌≡◌, ℕ, ◌+◌, ◌<◌, List, [], ◌++◌, length, take, drop, Bool, true, false, Option, Some, None, refl, sym, ap, ◌∙◌, subst, inl, inr, arith}
+use Rattle.std.proofs.Common.{◌≡◌, ℕ, ◌+◌, ◌<◌, ◌≤◌, List, [], ◌++◌, length, take, drop, Bool, true, false, Option, Some, None, refl, sym, ap, ap₂, ◌∙◌, subst, inl, inr, arith}
 use Rattle.std.proofs.lemmas.Bool.{cases_lt}
 use Rattle.std.proofs.lemmas.List.{take_all, take-append-drop, length-take}
-use Rattle.tl_base.specs.Outside.{IsThere}
+use Rattle.tl_base.specs.Contents.{Files}
+use Rattle.tl_base.specs.Outside.{IsThere, written_of}
+use Rattle.tl_base.specs.declared.host.Out.TheVariants as outs
 use Rattle.tl_base.specs.declared.host.Slot.TheVariants.{Schema}
 use Rattle.command_base.specs.Answer.{Answer, write_fault_line}
 use Rattle.command_base.specs.declared.status.Status.{Status}
 use Rattle.command_base.specs.declared.status.Status.TheVariants as status
 use Rattle.outside.specs.Events.{Event, Outside}
 use Rattle.outside.specs.Laws.{Throughout, Keeps, Explains}
-use Rattle.outside.specs.Pieces.{ReadsFile}
+use Rattle.outside.specs.Pieces.{ReadsFile, Writes}
 use Rattle.outside.specs.Printing.{after_output}
 use Rattle.outside.specs.Runs as runs
 use Rattle.outside.proofs.Causing.{keeps_then, keeps_file, keeps_tell, keeps_answer, keeps_begun, throughout_both, cause_then, cause_answer, cause_run, cause_tell, told_status, explains_last, unread_file}
 use Rattle.mem_host.specs.Fits.{Fits}
 use Rattle.mem_host.specs.Reliable.{IsReliable}
-use Rattle.mem_host.proofs.Fitting.{fits_both, files_are_read, files_can_be_read}
+use Rattle.mem_host.proofs.Fitting.{fits_both, fits_keeps, files_are_read, files_can_be_read, reliable_on, writes_append, writes_fail_full}
+use Rattle.mem_host.proofs.Sparing.{Spares, output_spared}
+use Rattle.codec_commands.proofs.OneCheck.{one_check}
 use Rattle.schema_files.specs.Answering.{no_schema, schema_of}
 use Rattle.schema_files.specs.declared.schema_text.TheConstants.{SCHEMA_BYTES}
 use Rattle.schema_files.proofs.Schemas.{long_schema}
 use Rattle.codec_commands.specs.Check.{CheckAnswer}
 use Rattle.codec_rooms.specs.Check.{OfText, after_schema, checks}
-use Rattle.codec_rooms.specs.CheckLaws.{IsOfCheck, CheckTouches, CheckHasCause, IsAnswer, CheckAnswers, CheckReads}
+use Rattle.codec_rooms.specs.CheckLaws.{IsOfCheck, CheckTouches, CheckHasCause, IsAnswer, CheckAnswers, CheckReads, CheckEnds, EndsAs}
 
 -- ---- what it does
 
@@ -97,3 +101,33 @@ pub check_reads : CheckReads
 check_reads schema t b n h f r there =
     let parts = fits_both h.first h.rest b n (subst (λ (l : List Event). Fits l b n) h.splits f) in
     unread_after schema h.between h.first h.rest b parts.0 h.does h.goes parts.1 r there
+
+-- ---- a run that nothing stops
+
+one_of : (files : Files) (schema : List ℕ) (a b : Answer) → CheckAnswer files schema a → CheckAnswer files schema b → a ≡ b
+one_of = one_check
+
+-- an answer is printed where there is room for it
+room_printed : (a : Answer) (ok : Bool) (first rest : List Event) (status : Status) (m k n : Outside) → Writes outs.Output a.output first ok → after_output a ok rest status → Fits first m k → Fits rest k n → IsReliable m → length (written_of outs.Output m.view) + length a.output ≤ m.view.room → EndsAs a status m n
+room_printed a true first rest status m k n w h f g r room = record {
+  ends = told_status a.errors a.status rest status h;
+  output = output_spared rest k n g (keeps_tell Spares (λ _. tt) tt a.errors a.status rest status h) ∙ writes_append outs.Output a.output first m k w f;
+}
+room_printed a false first rest status m k n w h f g r room = absurd (omega (arith, room, writes_fail_full outs.Output a.output first m k w f r))
+
+ends_after : (schema : List ℕ) (text : Option (List ℕ)) (t u : List Event) (status : Status) (s m n : Outside) (a : Answer) → ReadsFile Schema schema SCHEMA_BYTES t text → after_schema text u status → Fits t s m → Fits u m n → IsReliable s → IsThere schema s.view → CheckAnswer s.view.files schema a
+    → length (written_of outs.Output s.view) + length a.output ≤ s.view.room → EndsAs a status s n
+ends_after schema (Some text) t u status s m n a read (b, of, h) f g r there is room =
+    let file = files_are_read Schema schema SCHEMA_BYTES t text s m read f in
+    let same : b ≡ a = one_of s.view.files schema b a (file.0, file.1, of_file file.0 b (subst (λ (l : List ℕ). OfText l b) file.2 of)) is in
+    let kept = fits_keeps t s m f in
+    let unchanged = output_spared t s m f (keeps_file Spares Schema schema SCHEMA_BYTES (λ _. tt) (λ _. tt) tt tt t (Some text) read) in
+    let parts = fits_both h.first h.rest m n (subst (λ (l : List Event). Fits l m n) h.splits g) in
+    let e = room_printed b h.between h.first h.rest status m parts.0 n h.does h.goes parts.1 parts.2 (reliable_on s m kept r) (omega (arith, room, ap length unchanged, ap (λ (x : Answer). length x.output) same, kept.room)) in
+    record { ends = e.ends ∙ ap (λ (x : Answer). x.status) same; output = e.output ∙ ap₂ (λ (x y : List ℕ). x ++ y) unchanged (ap (λ (x : Answer). x.output) same) }
+ends_after schema None t u status s m n a read h f g r there is room = absurd (files_can_be_read Schema schema SCHEMA_BYTES t s m read f r there)
+
+pub check_ends : CheckEnds
+check_ends schema t status s n a h f r there is room =
+    let parts = fits_both h.first h.rest s n (subst (λ (l : List Event). Fits l s n) h.splits f) in
+    ends_after schema h.between h.first h.rest status s parts.0 n a h.does h.goes parts.1 parts.2 r there is room

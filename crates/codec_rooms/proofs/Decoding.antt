@@ -1,24 +1,20 @@
 -- `decode`: what is printed of a verdict, and that each of its parts can go on to its end.
-use Rattle.std.proofs.Common.{◌≡◌, ℕ, ◌+◌, ◌<◌, ◌≤◌, List, [], ◌∷◌, ◌++◌, length, append-nil, Bool, true, false, Option, Some, None, Result, Ok, Err, refl, sym, ap, ◌∙◌, subst, inl, inr, arith}
+use Rattle.std.proofs.Common.{◌≡◌, ℕ, List, [], ◌∷◌, false, Option, Some, None, refl, sym, ap, subst}
 use Rattle.tl_base.specs.declared.host.Slot.TheVariants.{Input}
-use Rattle.tl_schema.specs.CheckedPrograms.{IsSchema}
 use Rattle.tl_schema.specs.Schemas.{Declared}
 use Rattle.tl_schema.specs.Types.{Shape}
-use Rattle.tl_schema.specs.AskedTypes.{IsTypeText}
 use Rattle.command_base.specs.Answer.{Answer, refused}
-use Rattle.command_base.specs.Jobs.{Making, of_fault, unread, no_memory}
+use Rattle.command_base.specs.Jobs.{Making, of_fault}
 use Rattle.command_base.specs.Loading.{RefusesAs}
 use Rattle.command_base.specs.declared.status.Status.{Status}
 use Rattle.command_base.specs.declared.stop.Unmade.{Unmade}
-use Rattle.command_base.specs.declared.stop.Unmade.TheVariants as unmade
 use Rattle.outside.specs.Events.{Event, HostState, opened}
-use Rattle.outside.specs.Printing.{Answers, Makes, Prints, PrintsMade, Unread}
-use Rattle.outside.specs.Steps.{Step, Begins, Did, Then}
-use Rattle.outside.proofs.Growing.{can_then, did_none, did_stop, did_then}
+use Rattle.outside.specs.Printing.{Answers, Makes, Prints, PrintsMade}
+use Rattle.outside.specs.Steps.{Begins, Did, Then}
+use Rattle.outside.proofs.Growing.{did_stop, did_then}
 use Rattle.outside.proofs.Piecewise.{can_tell}
 use Rattle.outside.proofs.Printed.{can_print, made_printed}
-use Rattle.codec_rooms.specs.Decode.{Verdict, ReadsValue, answer_of, printed, after_reading, after_opening, OfBytes, decodes_by}
-use Rattle.codec_rooms.specs.Typed.{OfPlan, OfText}
+use Rattle.codec_rooms.specs.Decode.{Verdict, ReadsValue, answer_of, printed, after_reading, OfBytes, decodes_by}
 use Rattle.codec_rooms.specs.inner.Feeding.{MakesAs, MakesVerdict}
 use Rattle.codec_rooms.proofs.Typing.{did_as, refused_made, can_word}
 

@@ -1,5 +1,5 @@
 -- Laws of `decode`.
-use Rattle.std.proofs.Common.{◌≡◌, ℕ, List, [], ◌∷◌, ◌++◌, Bool, true, false, Option, Some, None, Result, Ok, Err, codes, refl, sym, ap, ◌∙◌, subst, inl, inr}
+use Rattle.std.proofs.Common.{◌≡◌, ℕ, List, [], ◌∷◌, ◌++◌, Bool, true, false, Option, Some, None, Ok, Err, codes, refl, sym, ap, subst, inl, inr}
 use Rattle.tl_base.specs.declared.counts.Kind.TheVariants as kinds
 use Rattle.tl_base.specs.declared.host.Slot.TheVariants.{Schema, Input}
 use Rattle.tl_schema.specs.Schemas.{Declared}
@@ -9,10 +9,10 @@ use Rattle.tl_decode.specs.declared.whole.WholeFault.TheVariants as whole
 use Rattle.command_base.specs.Answer.{Answer, done, refused}
 use Rattle.command_base.specs.declared.status.Status.{Status}
 use Rattle.command_base.specs.declared.status.Status.TheVariants as status
-use Rattle.outside.specs.Events.{Event, opened, took, ended, read_failed}
+use Rattle.outside.specs.Events.{Event, opened}
 use Rattle.outside.specs.Laws.{Happened, Throughout, Keeps, IsFailure, Explains, HasCause}
 use Rattle.outside.specs.Runs as runs
-use Rattle.outside.specs.Steps.{Turn, again, leave, Calls, Then, Loops}
+use Rattle.outside.specs.Steps.{Turn, again, leave, Calls}
 use Rattle.outside.proofs.Causing.{happened_last, keeps_then, keeps_call, keeps_loop, keeps_tell, keeps_print, keeps_begun, throughout_both, cause_then, cause_print, cause_tell, cause_run, explains_last}
 use Rattle.schema_files.specs.Lines.{cause_text, input_line, line_text}
 use Rattle.codec_rooms.specs.Decode.{Verdict, Decides, faulty, longer, EndsAs, cut_off, is_value, ReadsOn, more, decided, at_end, failed, ReadsValue, at_once, reads, answer_of, printed, after_reading, after_opening, OfBytes, decodes, decodes_by}

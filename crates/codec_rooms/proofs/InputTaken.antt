@@ -1,5 +1,5 @@
 -- An input that is read piece by piece into a decoder.
-use Rattle.std.proofs.Common.{◌≡◌, ◌⊎◌, ℕ, zero, suc, ◌+◌, ◌-◌, ◌<◌, ◌≤◌, List, [], ◌∷◌, ◌++◌, length, take, drop, append-nil, Bool, true, false, Option, Some, None, Result, Ok, Err, refl, sym, ap, ◌∙◌, subst, inl, inr, arith, length-take-le}
+use Rattle.std.proofs.Common.{◌≡◌, ◌⊎◌, ℕ, zero, suc, ◌-◌, ◌<◌, ◌≤◌, List, [], ◌∷◌, ◌++◌, length, take, drop, append-nil, Option, Some, None, Result, Ok, Err, refl, sym, ap, ◌∙◌, subst, inl, inr, arith, length-take-le}
 use Rattle.std.specs.Prelude.{◌≢◌}
 use Rattle.std.proofs.lemmas.Bool.{cases_lt}
 use Rattle.std.proofs.lemmas.List.{length-append, take-append-le, take_at, take-append-drop}
@@ -33,10 +33,10 @@ use Rattle.tl_decode.proofs.FedWhole.{IsCut, feeds_more, feeds_fault}
 use Rattle.tl_base.specs.declared.fault.Failed.{Failed}
 use Rattle.outside.specs.Events.{Event, HostState, took, ended, read_failed, given_event, read_events}
 use Rattle.outside.specs.Grown.{Grew}
-use Rattle.outside.specs.Steps.{Turn, again, leave, Reaches, here, turn, Loops, Begins, Grows, Did, Then}
-use Rattle.outside.proofs.Growing.{grew_none, grew_more, Leaves, can_loop, did_none, did_call, loop_left, loop_stopped, reached_none, reached_turn}
+use Rattle.outside.specs.Steps.{Turn, again, leave, Reaches, Loops, Begins, Grows, Did}
+use Rattle.outside.proofs.Growing.{grew_none, Leaves, can_loop, did_none, loop_left, loop_stopped, reached_none, reached_turn}
 use Rattle.outside.proofs.Piecewise.{read_grew}
-use Rattle.codec_rooms.specs.Decode.{Verdict, IsOpen, cut, whole as spelled, Decides, faulty, longer, EndsAs, cut_off, is_value, ReadsOn, more, decided, at_end, failed, ReadsValue, at_once, reads, verdict}
+use Rattle.codec_rooms.specs.Decode.{Verdict, IsOpen, cut, whole as spelled, Decides, faulty, longer, cut_off, is_value, ReadsOn, more, decided, at_end, failed, ReadsValue, at_once, reads, verdict}
 use Rattle.codec_rooms.specs.inner.Feeding.{FeedsInput, EndsInput}
 use Rattle.codec_rooms.proofs.Typing.{did_as}
 

@@ -1,5 +1,5 @@
 -- `layers`: what is made of both schemas, and that each of its parts can go on to its end.
-use Rattle.std.proofs.Common.{◌≡◌, ℕ, List, [], Option, Some, None, Result, Ok, Err, Vec, Global, codes, subst, inl, inr}
+use Rattle.std.proofs.Common.{ℕ, List, [], Option, Result, Ok, Err, Vec, Global, codes, subst, inl, inr}
 use Rattle.tl_base.specs.declared.host.Slot.TheVariants.{Input}
 use Rattle.tl_schema.specs.AskedTypes.{IsTypeText}
 use Rattle.tl_schema.specs.CheckedPrograms.{IsSchema}
@@ -11,7 +11,7 @@ use Rattle.command_base.specs.Jobs.{making, of_fault}
 use Rattle.command_base.specs.Loading.{Refuses}
 use Rattle.command_base.specs.declared.status.Status.{Status}
 use Rattle.command_base.specs.declared.stop.Unmade.{Unmade}
-use Rattle.outside.specs.Events.{Event, HostState}
+use Rattle.outside.specs.Events.{HostState}
 use Rattle.outside.specs.Printing.{Makes, Prints, PrintsMade}
 use Rattle.outside.specs.Steps.{Begins, Did}
 use Rattle.outside.proofs.Growing.{can_then}

@@ -1,5 +1,5 @@
 -- Which events what follows of a schema and of a type can have, and what a fault's status comes of.
-use Rattle.std.proofs.Common.{◌≡◌, ℕ, List, [], ◌++◌, Bool, codes, Option, Some, None, subst}
+use Rattle.std.proofs.Common.{◌≡◌, ℕ, List, [], ◌++◌, Bool, Option, Some, None, subst}
 use Rattle.tl_base.specs.Kinds.{slot_kind}
 use Rattle.tl_base.specs.declared.counts.Kind.{Kind}
 use Rattle.tl_base.specs.declared.counts.Kind.TheVariants.{Reads}

@@ -1,5 +1,5 @@
 -- What is made of a schema, a type and an input, and that each of these can go on to its end.
-use Rattle.std.proofs.Common.{ℕ, List, [], Option, Some, None, Err, ◌++◌, codes, sym, subst, inl, inr}
+use Rattle.std.proofs.Common.{ℕ, List, [], Option, Some, None, Err, ◌++◌, sym, subst, inl, inr}
 use Rattle.tl_schema.specs.AskedTypes.{IsTypeText}
 use Rattle.tl_schema.specs.CheckedPrograms.{IsSchema}
 use Rattle.tl_schema.specs.Schemas.{Declared}

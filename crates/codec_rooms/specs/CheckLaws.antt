@@ -1,6 +1,6 @@
 -- What can be said of `check` whatever happens, and over files. This project's own.
-use Rattle.std.specs.Prelude.{◌≡◌, ℕ, List}
-use Rattle.tl_base.specs.Outside.{IsThere}
+use Rattle.std.specs.Prelude.{◌≡◌, ℕ, ◌+◌, ◌≤◌, List, ◌++◌, length}
+use Rattle.tl_base.specs.Outside.{IsThere, written_of}
 use Rattle.tl_base.specs.declared.host.Slot.TheVariants.{Schema}
 use Rattle.tl_base.specs.declared.host.Out.{Out}
 use Rattle.tl_base.specs.declared.host.Out.TheVariants as outs
@@ -56,3 +56,12 @@ CheckAnswers = (schema : List ℕ) (t : List Event) (status : Status) (s n : Out
 -- where the file is there and no call was told to fail, no read fault ends it
 abbrev pub CheckReads : Type 0
 CheckReads = (schema : List ℕ) (t : List Event) (s n : Outside) → checks schema t ReadFault → Fits t s n → IsReliable s → IsThere schema s.view → ⊥
+
+-- where the file is there, no call was told to fail, and Output has room for the answer: that is the status, and Output has grown by it
+pub record EndsAs (a : Answer) (status : Status) (s n : Outside) : Type 0 where
+  pub ends : status ≡ a.status
+  pub output : written_of outs.Output n.view ≡ written_of outs.Output s.view ++ a.output
+
+abbrev pub CheckEnds : Type 0
+CheckEnds = (schema : List ℕ) (t : List Event) (status : Status) (s n : Outside) (a : Answer) → checks schema t status → Fits t s n → IsReliable s → IsThere schema s.view → CheckAnswer s.view.files schema a
+    → length (written_of outs.Output s.view) + length a.output ≤ s.view.room → EndsAs a status s n

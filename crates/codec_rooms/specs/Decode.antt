@@ -18,7 +18,7 @@ use Rattle.command_base.specs.Answer.{Answer, done, refused}
 use Rattle.command_base.specs.declared.status.Status.{Status}
 use Rattle.outside.specs.Events.{Event, opened, took, ended, read_failed}
 use Rattle.outside.specs.Printing.{Prints, Unread}
-use Rattle.outside.specs.Steps.{Step, Turn, again, leave, Calls, Ends, Loops, Then}
+use Rattle.outside.specs.Steps.{Step, Turn, again, leave, Calls, Loops, Then}
 use Rattle.schema_files.specs.Lines.{cause_text, input_line, line_text}
 use Rattle.codec_rooms.specs.Typed.{OfCommand, OfSchema, OfType, OfWord}
 

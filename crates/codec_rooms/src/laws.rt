@@ -2,7 +2,7 @@
 ghost use Rattle.codec_rooms.specs.DecodeLaws.{DecodeHasCause, DecodeTouches};
 ghost use Rattle.codec_rooms.specs.LayersLaws.{LayersHasCause, LayersTouches};
 ghost use Rattle.codec_rooms.specs.EncodeLaws.{EncodeHasCause, EncodeTouches};
-ghost use Rattle.codec_rooms.specs.CheckLaws.{CheckAnswers, CheckHasCause, CheckReads, CheckTouches};
+ghost use Rattle.codec_rooms.specs.CheckLaws.{CheckAnswers, CheckEnds, CheckHasCause, CheckReads, CheckTouches};
 
 /// A run of `check` opens and reads the schema's file by the slot Schema, and writes to Output and Errors. It does nothing else, also where memory runs out.
 pub fn check_touches()
@@ -52,4 +52,9 @@ pub fn layers_touches()
 /// It ends by the status of a fault only where a call of that kind failed.
 pub fn layers_has_cause()
     ensures { LayersHasCause }
+{}
+
+/// Where the file is there, no call was told to fail, and Output has room for the answer to it, `check` ends by that answer.
+pub fn check_ends()
+    ensures { CheckEnds }
 {}

@@ -12,7 +12,7 @@ pub use check::{check_schema, run_check};
 pub use decode::{decode_input, run_decode};
 pub use encode::{encode_input, run_encode};
 pub use laws::{
-    check_answers, check_has_cause, check_reads, check_touches, decode_has_cause, decode_touches,
-    encode_has_cause, encode_touches, layers_has_cause, layers_touches,
+    check_answers, check_ends, check_has_cause, check_reads, check_touches, decode_has_cause,
+    decode_touches, encode_has_cause, encode_touches, layers_has_cause, layers_touches,
 };
 pub use layers::{compare_schemas, run_layers};

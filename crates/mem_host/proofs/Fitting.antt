@@ -74,7 +74,7 @@ pub fits_keeps : (t : List Event) (s n : Outside) → Fits t s n → Keeps s n
 fits_keeps [] s n f = record { files = ap (λ (o : Outside). o.view.files) f; room = ap (λ (o : Outside). o.view.room) f; fails = ap (λ (o : Outside). o.script.fails) f }
 fits_keeps (e ∷ t) s n f = kept_both s f.0 n (happens_keeps e s f.0 f.1) (fits_keeps t f.0 n f.2)
 
-reliable_on : (s n : Outside) → Keeps s n → IsReliable s → IsReliable n
+pub reliable_on : (s n : Outside) → Keeps s n → IsReliable s → IsReliable n
 reliable_on s n k r = ap length k.fails ∙ r
 
 never_fails : (call : HostCall) (s : Outside) → IsReliable s → IsToFail call s → ⊥
