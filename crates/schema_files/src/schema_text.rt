@@ -33,8 +33,8 @@ fn check_unmade(alloc: Global, what: &str, fault: CheckFault) -> Unmade
     }
 }
 
-// The schema that a text spells.
-fn schema_of(alloc: Global, what: &str, text: &[u8]) -> Result<Schema, Unmade>
+/// The schema that a text spells. `what` is what lines call the text.
+pub fn schema_of(alloc: Global, what: &str, text: &[u8]) -> Result<Schema, Unmade>
     ensures { ReadsSchema what.now text.now result }
 {
     let tokens = match lex(alloc, text) {
