@@ -33,7 +33,12 @@ pub fn bytes_of(
 }
 
 // The spelling of a value, or what is told of one that doesn't fit.
-fn spelling_of(alloc: Global, schema: &Schema, of: &TypeRef, value: &Value) -> Result<Vec<u8>, Unmade>
+fn spelling_of(
+    alloc: Global,
+    schema: &Schema,
+    of: &TypeRef,
+    value: &Value,
+) -> Result<Vec<u8>, Unmade>
     requires formed { IsFormed schema.now (shape of.now) }
     ensures { SpellsAll schema.now (shape of.now) (view value.now) result }
 {
