@@ -1,9 +1,10 @@
 #!/usr/bin/env python3
-"""Times how tlbox takes texts and bytes that are made to be slow: nesting, long names, types without bytes, and JSON of each shape.
+"""Times how tlbox takes texts and bytes that are made to be slow: nesting, long names, types without bytes, JSON of each shape, and journals.
 
 Each input is about as long as inputs of its kind may be. A run has to end with the status that is told, and its line on Errors is printed.
 """
 import os
+import struct
 import subprocess
 import tempfile
 
@@ -63,6 +64,19 @@ def jsons():
     yield "white space", "int", " " * (JSON - 1) + "1", 0
 
 
+def posted(number, kind, bodies):
+    return struct.pack("<IqII", 0xB0C50501, number, 0x1CB5C415, len(bodies)) + b"".join(struct.pack("<I", kind) + body for body in bodies)
+
+
+def journals():
+    """A name, the journal, the status. All have one length."""
+    ids = struct.pack("<II4096i", 0x1CB5C415, 4_096, *range(4_096))
+    again = posted(0, 0xB0C50413, 15 * [ids]) + 200 * struct.pack("<III", 0xB0C50504, 0, 0)
+    yield "one push of deletes", again, 0
+    message = bytes([251]) + bytes(251)
+    yield "messages", b"".join(posted(number, 0xB0C50411, [message]) for number in range(len(again) // 276)), 0
+
+
 def timed(words, status, name):
     """The processor time of a run, and its line on Errors."""
     begin = runs.spent()
@@ -81,7 +95,7 @@ def tell(name, size, words, status):
 
 
 def main():
-    tlbox, _, _ = runs.arguments()
+    tlbox, data, _ = runs.arguments()
     print(f"{'input':>24} {'bytes':>9} {'seconds':>8} {'ns/byte':>8} {'MB':>6}  line")
     with tempfile.TemporaryDirectory() as folder:
         schema, given = (os.path.join(folder, name) for name in ("schema", "input"))
@@ -96,6 +110,9 @@ def main():
         for name, kind, text, status in jsons():
             runs.write(given, text.encode())
             tell("encode, " + name, len(text), [tlbox, "encode", schema, kind, given], status)
+        for name, content, status in journals():
+            runs.write(given, content)
+            tell("replay, " + name, len(content), [tlbox, "replay", os.path.join(data, "profile.tl"), given, "1"], status)
 
 
 main()

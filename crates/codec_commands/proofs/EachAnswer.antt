@@ -93,8 +93,11 @@ module _ (schema : Declared) (good : IsSchema schema) (T : Shape) (formed : IsFo
   of_few few true is = of_text few (IsUtf8-from_is_utf8 bytes is) _ refl
   of_few few false is = (_, no_json (few, λ utf8. absurd (true≢false (sym (is_utf8-from_IsUtf8 bytes utf8) ∙ is))) refl)
 
-  each_json : AreBytes bytes → (a : Answer) × OfJson schema T bytes a
-  each_json are = elim (cases_lt JSON_BYTES (length bytes)) [ inl long ↦ (_, too_long long refl) | inr few ↦ of_few (omega (arith, few)) _ refl ]
+  pub each_text : (a : Answer) × OfJson schema T bytes a
+  each_text = elim (cases_lt JSON_BYTES (length bytes)) [ inl long ↦ (_, too_long long refl) | inr few ↦ of_few (omega (arith, few)) _ refl ]
+
+each_json : TellsEach OfJson
+each_json schema good T formed bytes are = each_text schema good T formed bytes
 
 pub each_encode : (files : Files) → HoldBytes files → (schema type input : List ℕ) → IsFile files schema → IsFile files input → (a : Answer) × EncodeAnswer files schema type input a
 each_encode = each_typed OfJson each_json

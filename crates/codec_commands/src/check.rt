@@ -9,7 +9,7 @@ ghost use Rattle.command_base.specs.Sound.{Answered, MeetsFaultsOf};
 ghost use Rattle.command_base.specs.Telling.{status_of};
 ghost use Rattle.codec_commands.specs.Check.{check_job};
 
-use crate::listing::listing;
+use crate::listed::listing;
 use command_base::{Status, Stop, Unmade, write_made};
 use schema_files::load_schema;
 use std::alloc::Global;

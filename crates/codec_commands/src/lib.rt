@@ -4,9 +4,10 @@
 mod check;
 mod input;
 mod line;
-mod listing;
+mod listed;
 mod spelling;
 mod typed;
 
 pub use check::check_schema;
+pub use listed::listing;
 pub use typed::{decode_input, encode_input};

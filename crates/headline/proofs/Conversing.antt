@@ -2,7 +2,7 @@
 use Rattle.std.specs.Prelude.{⊤}
 use Rattle.std.specs.List.{All}
 use Rattle.std.proofs.lemmas.List.Elements.{All-head, All-tail}
-use Rattle.std.proofs.Common.{◌≡◌, inl, inr, ℕ, ◌+◌, ◌≤◌, List, [], ◌∷◌, ◌++◌, append-nil, length, length-append, Bool, true, false, Ok, refl, sym, ap, ap₂, ◌∙◌, subst, arith}
+use Rattle.std.proofs.Common.{◌≡◌, inl, inr, ℕ, ◌+◌, ◌≤◌, List, [], ◌∷◌, ◌++◌, append-nil, append_assoc, length, length-append, Bool, true, false, Result, Ok, Err, refl, sym, ap, ap₂, ◌∙◌, subst, arith}
 use Rattle.tl_numbers.specs.Bytes.{AreBytes}
 use Rattle.tl_numbers.specs.Numbers.{word}
 use Rattle.tl_base.specs.Packets.{IsPacketLength, packet}
@@ -26,7 +26,7 @@ use Rattle.box_server.specs.Servers.{ServerState, dated_at}
 use Rattle.box_server.specs.Sound.{IsSound}
 use Rattle.box_world.specs.Agreeing.{Agrees, Each}
 use Rattle.box_world.specs.Streams as streams
-use Rattle.box_world.specs.Streams.{Doing, Honest, Past, begun, dates, done, done_all, first_past, heard_frame, past_of, told_reply}
+use Rattle.box_world.specs.Streams.{Doing, Honest, Past, begun, dates, done, done_all, first_past, heard_frame, past_of}
 use Rattle.wire_profile.specs.Places.{ProfileView, cell_shape, form_at, number_at}
 use Rattle.wire_profile.specs.Profiles.{IsProfile}
 use Rattle.wire_profile.specs.SpelledForms.{owned, placed}
@@ -47,14 +47,17 @@ use Rattle.server_frames.proofs.MessageForms.{call_has, call_served, frame_has}
 use Rattle.server_frames.proofs.SpelledMessages.{are_whole, of_the_kind, read_of}
 use Rattle.server_frames.proofs.AnswersFit.{answers_fit}
 use Rattle.server_frames.proofs.PushesBelow.{asks_below}
-use Rattle.update_sessions.specs.Exchanges.{Exchanged, after_all, sends_all}
+use Rattle.update_sessions.specs.Exchanges.{Broken, Exchanged, after_all, sends_all}
 use Rattle.update_sessions.specs.Heard.{Hears, IsBrokenOff, asked, broke_off}
 use Rattle.update_sessions.specs.Hearing.{client_side}
 use Rattle.update_sessions.specs.Honest.{told, told_all}
-use Rattle.update_sessions.specs.Packed.{Came, MeansCall, MeansFrame, Packed, SpellsCall, SpellsFrame}
+use Rattle.update_sessions.specs.Packed.{Came, MeansCall, MeansFrame, Packed, PartlyPacked, SpellsCall, SpellsFrame}
+use Rattle.update_sessions.specs.Served.{Serves}
 use Rattle.update_sessions.specs.Serving.{server_side}
+use Rattle.update_sessions.specs.declared.fault.SessionFault.{SessionFault}
+use Rattle.update_sessions.specs.declared.fault.SessionFault.TheVariants as fault
 use Rattle.update_sessions.proofs.Answered.{after_answer, answer_short, sent_answer}
-use Rattle.update_sessions.proofs.Packets.{packed_then}
+use Rattle.update_sessions.proofs.Packets.{packed_then, partly_of}
 use Rattle.update_sessions.proofs.Sizes.{call_sized, frame_sized}
 use Rattle.session_commands.proofs.OneExchange.{rest_bytes, same_rest}
 use Rattle.session_commands.proofs.OneReply.{body_bytes}
@@ -79,7 +82,7 @@ channels_no_post : (ds : List ChannelState) (n : ℕ) → Each NoPost (ticked n 
 channels_no_post [] n = tt
 channels_no_post (d ∷ ds) n = channel_asks_none d n ds (channel_is_due d) refl (λ m. channels_no_post ds m)
 
-each_both : (P : Numbered → Type 0) (xs ys : List Numbered) → Each P xs → Each P ys → Each P (xs ++ ys)
+pub each_both : (P : Numbered → Type 0) (xs ys : List Numbered) → Each P xs → Each P ys → Each P (xs ++ ys)
 each_both P [] ys h g = g
 each_both P (x ∷ xs) ys h g = (h.0, each_both P xs ys h.1 g)
 
@@ -137,6 +140,10 @@ flat_by n (request.Post random_id posts) h = absurd h
 
 -- ---- packets
 
+none_first : (xs ys : List ℕ) → xs ++ ys ≡ [] → xs ≡ []
+none_first [] ys e = refl
+none_first (x ∷ xs) ys e = absurd cc
+
 no_packet : (b rest : List ℕ) → [] ≡ packet b ++ rest → ⊥
 no_packet b rest e = omega (arith, ap length e, length-append (packet b) rest, length-append (word (length b)) b, words.long (length b))
 
@@ -145,7 +152,7 @@ pub record IsAsk (q : Numbered) : Type 0 where
   pub none : NoPost q
   pub size : call_size q ≡ 24
 
-each_of_all : (P : Numbered → Type 0) (qs : List Numbered) → All P qs → Each P qs
+pub each_of_all : (P : Numbered → Type 0) (qs : List Numbered) → All P qs → Each P qs
 each_of_all P [] a = tt
 each_of_all P (q ∷ qs) a = (All-head P q qs a, each_of_all P qs (All-tail P q qs a))
 
@@ -189,26 +196,114 @@ module _ (p : ProfileView) (good : IsProfile p) where
   none_are s [] = tt
   none_are s (q ∷ qs) = tt
 
-  -- the server hears just the client's requests
-  calls_are : (qs calls_heard : List Numbered) (bytes : List ℕ) → AreBytes bytes → Each IsAsk qs → Packed (SpellsCall p) qs bytes → Came (MeansCall p) bytes calls_heard [] → calls_heard ≡ qs
-  calls_are [] [] bytes are all wrote came = refl
-  calls_are [] (k ∷ ks) bytes are all wrote (b, rest, fits, is, means, more) = absurd (no_packet b rest (sym wrote ∙ is))
-  calls_are (q ∷ qs) [] bytes are all (b, rest, spells, is, more) came = absurd (no_packet b rest (sym came ∙ is))
-  calls_are (q ∷ qs) (k ∷ ks) bytes are all (b, rest, spells, is, more) (d, left, fits, at, means, further) =
-      let same = same_rest d b left rest fits (call_fits q b all.0 spells) (sym at ∙ is) in
+  -- the server hears the first of the client's requests
+  calls_begin : (qs ks : List Numbered) (bytes left : List ℕ) → AreBytes bytes → Each IsAsk qs → Packed (SpellsCall p) qs bytes → Came (MeansCall p) bytes ks left → (others : List Numbered) × (qs ≡ ks ++ others) × Packed (SpellsCall p) others left × AreBytes left
+  calls_begin qs [] bytes left are all wrote is = (qs, refl, subst (Packed (SpellsCall p) qs) is wrote, subst AreBytes is are)
+  calls_begin [] (k ∷ ks) bytes left are all wrote (b, rest, fits, is, means, more) = absurd (no_packet b rest (sym wrote ∙ is))
+  calls_begin (q ∷ qs) (k ∷ ks) bytes left are all (b, rest, spells, is, more) (d, behind, fits, at, means, further) =
+      let same = same_rest d b behind rest fits (call_fits q b all.0 spells) (sym at ∙ is) in
       let first : k ≡ q = one_call b (body_bytes bytes b rest is are) q k all.0.none spells (subst (MeansCall p k) same.0 means) in
-      ap₂ (λ (x : Numbered) (l : List Numbered). x ∷ l) first (calls_are qs ks rest (rest_bytes bytes b rest is are) all.1 more (subst (λ (l : List ℕ). Came (MeansCall p) l ks []) same.1 further))
+      let (others, parts, wrote, bytes_left) = calls_begin qs ks rest left (rest_bytes bytes b rest is are) all.1 more (subst (λ (l : List ℕ). Came (MeansCall p) l ks left) same.1 further) in
+      (others, ap₂ (λ (x : Numbered) (l : List Numbered). x ∷ l) (sym first) parts, wrote, bytes_left)
 
-  -- the client hears just the server's answers
-  frames_are : (s : ServerState) → IsSound s → (qs : List Numbered) (fs : List Frame) (bytes left : List ℕ) → AreBytes bytes → Each IsAsk qs → Packed (SpellsFrame p) (answers_of s qs) bytes → Came (MeansFrame p) bytes fs left → AreAnswers s qs (told_all fs)
-  frames_are s sound qs [] bytes left are all wrote came = none_are s qs
+  -- after a packet that was cut no frame comes
+  nothing_comes : (s : ServerState) (q : Numbered) (ks : List Numbered) (f : Frame) (fs : List Frame) (behind left : List ℕ) → behind ≡ [] → Came (MeansFrame p) behind fs left → told f ≡ told (Reply q.number (answer s q.request)) → AreAnswers s (q ∷ ks) (told_all (f ∷ fs))
+  nothing_comes s q ks f [] behind left none came is = (is, none_are s ks)
+  nothing_comes s q ks f (g ∷ gs) behind left none (b, rest, fits, at, means, more) is = absurd (no_packet b rest (sym none ∙ at))
+
+  -- the client hears the first of the server's answers
+  frames_are : (s : ServerState) → IsSound s → (ks : List Numbered) (fs : List Frame) (bytes left : List ℕ) → AreBytes bytes → Each IsAsk ks → PartlyPacked (SpellsFrame p) (answers_of s ks) bytes → Came (MeansFrame p) bytes fs left → AreAnswers s ks (told_all fs)
+  frames_are s sound ks [] bytes left are all wrote came = none_are s ks
   frames_are s sound [] (f ∷ fs) bytes left are all wrote (b, rest, fits, is, means, more) = absurd (no_packet b rest (sym wrote ∙ is))
-  frames_are s sound (q ∷ qs) (f ∷ fs) bytes left are all (b, rest, spells, is, more) (d, behind, fits, at, means, further) =
+  frames_are s sound (q ∷ ks) (f ∷ fs) bytes left are all (inl none) (d, behind, fits, at, means, further) = absurd (no_packet d behind (sym none ∙ at))
+  frames_are s sound (q ∷ ks) (f ∷ fs) bytes left are all (inr (b, rest, spells, inl part)) (d, behind, fits, at, means, further) =
+      let whole : packet d ++ (behind ++ rest) ≡ packet b ++ [] = sym (append_assoc (packet d) behind rest) ∙ ap (λ (l : List ℕ). l ++ rest) (sym at) ∙ part ∙ sym (append-nil (packet b)) in
+      let same = same_rest d b (behind ++ rest) [] fits (frame_fits s q b sound spells) whole in
+      let body : AreBytes b = subst AreBytes same.0 (body_bytes bytes d behind at are) in
+      let first : f ≡ Reply q.number (answer s q.request) = one_frame s sound b body q f all.0.none spells (subst (MeansFrame p f) same.0 means) in
+      nothing_comes s q ks f fs behind left (none_first behind rest same.1) further (ap told first)
+  frames_are s sound (q ∷ ks) (f ∷ fs) bytes left are all (inr (b, rest, spells, inr (is, more))) (d, behind, fits, at, means, further) =
       let same = same_rest d b behind rest fits (frame_fits s q b sound spells) (sym at ∙ is) in
       let first : f ≡ Reply q.number (answer s q.request) = one_frame s sound b (body_bytes bytes b rest is are) q f all.0.none spells (subst (MeansFrame p f) same.0 means) in (
         ap told first,
-        frames_are s sound qs fs rest left (rest_bytes bytes b rest is are) all.1 more (subst (λ (l : List ℕ). Came (MeansFrame p) l fs left) same.1 further),
+        frames_are s sound ks fs rest left (rest_bytes bytes b rest is are) all.1 more (subst (λ (l : List ℕ). Came (MeansFrame p) l fs left) same.1 further),
       )
+
+-- ---- what a session of the server sent, however it ended
+
+each_front : (P : Numbered → Type 0) (xs ys : List Numbered) → Each P (xs ++ ys) → Each P xs
+each_front P [] ys h = tt
+each_front P (x ∷ xs) ys h = (h.0, each_front P xs ys h.1)
+
+each_back : (P : Numbered → Type 0) (xs ys : List Numbered) → Each P (xs ++ ys) → Each P ys
+each_back P [] ys h = h
+each_back P (x ∷ xs) ys h = each_back P xs ys h.1
+
+partly_then : {M : Type 0} (Spells : M → List ℕ → Type 0) (ms ns : List M) (x y : List ℕ) → Packed Spells ms x → PartlyPacked Spells ns y → PartlyPacked Spells (ms ++ ns) (x ++ y)
+partly_then Spells [] ns x y is q = subst (PartlyPacked Spells ns) (sym (ap (λ (l : List ℕ). l ++ y) is)) q
+partly_then Spells (m ∷ ms) ns x y (b, rest, s, is, p) q = inr (b, rest ++ y, s, inr (ap (λ (l : List ℕ). l ++ y) is ∙ append_assoc (packet b) rest y, partly_then Spells ms ns rest y p q))
+
+answers_then : (s : ServerState) (xs ys : List Numbered) → answers_of s (xs ++ ys) ≡ answers_of s xs ++ answers_of s ys
+answers_then s [] ys = refl
+answers_then s (x ∷ xs) ys = ap (λ (l : List Frame). Reply x.number (answer s x.request) ∷ l) (answers_then s xs ys)
+
+answers_more : (s : ServerState) (ks others : List Numbered) (fs : List streams.Frame) → AreAnswers s ks fs → AreAnswers s (ks ++ others) fs
+answers_more s [] [] [] a = tt
+answers_more s [] (q ∷ qs) [] a = tt
+answers_more s [] others (f ∷ fs) a = absurd a
+answers_more s (k ∷ ks) others [] a = tt
+answers_more s (k ∷ ks) others (f ∷ fs) (is, a) = (is, answers_more s ks others fs a)
+
+-- it heard the first of these requests, wrote a prefix of its answers to them, and is as it was
+record SentOf (p : ProfileView) (s : ServerState) (qs : List Numbered) (out : List ℕ) (t : ServerState) : Type 0 where
+  pub heard : List Numbered
+  pub others : List Numbered
+  pub parts : qs ≡ heard ++ others
+  pub wrote : PartlyPacked (SpellsFrame p) (answers_of s heard) out
+  pub stays : t ≡ s
+
+module _ (p : ProfileView) (good : IsProfile p) (s : ServerState) (qs : List Numbered) (bytes : List ℕ) (are : AreBytes bytes) (all : Each IsAsk qs) (packed : Packed (SpellsCall p) qs bytes) where
+  of_exchange : (out left : List ℕ) (t : ServerState) (ks : List Numbered) → Exchanged (server_side p) s bytes left out t ks → SentOf p s qs out t
+  of_exchange out left t ks e =
+      let (others, parts, rest, left_bytes) = calls_begin p good qs ks bytes left are all packed e.came in
+      let none : Each NoPost ks = none_of ks (each_front IsAsk ks others (subst (Each IsAsk) parts all)) in
+      record {
+        heard = ks;
+        others = others;
+        parts = parts;
+        wrote = partly_of (SpellsFrame p) (answers_of s ks) out out [] (subst (λ (l : List Frame). Packed (SpellsFrame p) l out) (replies_so p s ks none) e.wrote) (append-nil out);
+        stays = e.ends ∙ stays_so p s ks none;
+      }
+
+  of_broken : (out : List ℕ) (t : ServerState) (ks : List Numbered) → Broken (server_side p) s bytes out t ks → SentOf p s qs out t
+  of_broken out t ks b =
+      let (after, parts, rest, left_bytes) = calls_begin p good qs b.first bytes b.rest are all packed b.exchanged.came in
+      let both : Each IsAsk (b.first ++ after) = subst (Each IsAsk) parts all in
+      let then_asked : Each IsAsk after = each_back IsAsk b.first after both in
+      let (others, further, more, none_left) = calls_begin p good after b.last b.rest b.cut.left left_bytes then_asked rest b.cut.came in
+      let first : Each NoPost b.first = none_of b.first (each_front IsAsk b.first after both) in
+      let last : Each NoPost b.last = none_of b.last (each_front IsAsk b.last others (subst (Each IsAsk) further then_asked)) in
+      let same : b.between ≡ s = b.exchanged.ends ∙ stays_so p s b.first first in
+      let wrote : Packed (SpellsFrame p) (answers_of s b.first) b.wrote = subst (λ (l : List Frame). Packed (SpellsFrame p) l b.wrote) (replies_so p s b.first first) b.exchanged.wrote in
+      let part : PartlyPacked (SpellsFrame p) (answers_of s b.last) b.part =
+      subst (λ (l : List Frame). PartlyPacked (SpellsFrame p) l b.part) (ap (λ (z : ServerState). sends_all (server_side p) z b.last) same ∙ replies_so p s b.last last) b.cut.wrote in
+      let joined = partly_then (SpellsFrame p) (answers_of s b.first) (answers_of s b.last) b.wrote b.part wrote part in
+      record {
+        heard = b.first ++ b.last;
+        others = others;
+        parts = parts ∙ ap (λ (l : List Numbered). b.first ++ l) further ∙ sym (append_assoc b.first b.last others);
+        wrote = subst (λ (l : List Frame). PartlyPacked (SpellsFrame p) l out) (sym (answers_then s b.first b.last)) (subst (PartlyPacked (SpellsFrame p) (answers_of s b.first ++ answers_of s b.last)) (sym b.out_is) joined);
+        stays = b.cut.ends ∙ ap (λ (z : ServerState). after_all (server_side p) z b.last) same ∙ stays_so p s b.last last;
+      }
+
+  sent_of : (out : List ℕ) (t : ServerState) (r : Result ℕ SessionFault) (ks : List Numbered) → Serves p s bytes out t r ks → SentOf p s qs out t
+  sent_of out t (Ok n) ks h = of_exchange out [] t ks h.0
+  sent_of out t (Err (fault.Packet f)) ks h = of_exchange out h.0 t ks h.1
+  sent_of out t (Err (fault.Wire f)) ks h = of_exchange out h.0 t ks h.1
+  sent_of out t (Err (fault.Client f)) ks h = absurd h
+  sent_of out t (Err fault.TooManyFrames) ks h = of_exchange out h.0 t ks h.1
+  sent_of out t (Err fault.LinkFault) ks h = of_broken out t ks h
+  sent_of out t (Err fault.Memory) ks h = of_broken out t ks h
 
 -- ---- both together
 
@@ -233,14 +328,15 @@ module _ (p : ProfileView) (good : IsProfile p) (h : List Doing) (now : ℕ) (c 
   abbrev after : List Doing
   after = h ++ dates now ∷ []
 
-  met_by : (asks answers left : List ℕ) (calls_heard : List Numbered) (fs : List Frame) → AreBytes asks → AreBytes answers → Exchanged (server_side p) server asks [] answers t calls_heard
-      → Packed (SpellsCall p) (session_asks c (told_all fs)) asks → Came (MeansFrame p) answers fs left → d ≡ after_all (client_side p) (begun c) fs → is_one_asking d ≡ false → Met h now c d t fs
-  met_by asks answers left calls_heard fs are also e packed came heard done_asking =
+  met_by : (asks answers left : List ℕ) (r : Result ℕ SessionFault) (calls_heard : List Numbered) (fs : List Frame) → AreBytes asks → AreBytes answers → Serves p server asks answers t r calls_heard → Packed (SpellsCall p) (session_asks c (told_all fs)) asks
+      → Came (MeansFrame p) answers fs left → d ≡ after_all (client_side p) (begun c) fs → is_one_asking d ≡ false → Met h now c d t fs
+  met_by asks answers left r calls_heard fs are also serves packed came heard done_asking =
       let qs : List Numbered = session_asks c (told_all fs) in
       let all = session_are_asks c (told_all fs) in
-      let same : calls_heard ≡ qs = calls_are p good qs calls_heard asks are all packed e.came in
-      let wrote : Packed (SpellsFrame p) (answers_of server qs) answers = subst (λ (l : List Frame). Packed (SpellsFrame p) l answers) (ap (sends_all (server_side p) server) same ∙ replies_so p server qs (none_of qs all)) e.wrote in
-      let answered = frames_are p good server sound qs fs answers left also all wrote came in
+      let sent = sent_of p good server qs asks are all packed answers t r calls_heard serves in
+      let asked_first : Each IsAsk sent.heard = each_front IsAsk sent.heard sent.others (subst (Each IsAsk) sent.parts all) in
+      let some = answers_more server sent.heard sent.others (told_all fs) (frames_are p good server sound sent.heard fs answers left also asked_first sent.wrote came) in
+      let answered : AreAnswers server qs (told_all fs) = subst (λ (l : List Numbered). AreAnswers server l (told_all fs)) (sym sent.parts) some in
       let last : past_of after (length after) ≡ done (past_of h (length h)) (dates now) = past_last first_past h (dates now) in
       let here : AreAnswers (past_of after (length after)).server qs (told_all fs) = subst (λ (q : Past). AreAnswers q.server qs (told_all fs)) (sym last) answered in
       let far : length h ≤ length after = omega (arith, length-append h (dates now ∷ [])) in
@@ -248,19 +344,19 @@ module _ (p : ProfileView) (good : IsProfile p) (h : List Doing) (now : ℕ) (c 
       let agrees : AgreesAt after (length after) c = grown after c (length h) (length after) far first in
       let is : d ≡ heard_all (begun c) (told_all fs) = heard ∙ heard_so p (begun c) fs in
       record {
-        server = e.ends ∙ ap (after_all (server_side p) server) same ∙ stays_so p server qs (none_of qs all);
+        server = sent.stays;
         honest = answers_bring_up_to_date.honest after c (told_all fs) agrees calm here;
         up_to_date = subst (IsUpToDate after) (sym is) (answers_bring_up_to_date.up_to_date after c (told_all fs) agrees calm here (ap is_one_asking (sym is) ∙ done_asking));
       }
 
-  met : (asks answers : List ℕ) (calls_heard : List Numbered) (many : ℕ) (fs : List Frame) → AreBytes asks → AreBytes answers → Exchanged (server_side p) server asks [] answers t calls_heard → Hears p c answers asks d (Ok many) fs [] → Met h now c d t fs
-  met asks answers calls_heard many fs are also e (broke_off why wrote is none nothing) = absurd (unbroken many why)
-  met asks answers calls_heard many fs are also e (asked first more packed parts (left, x, done_asking, number, few, none)) =
+  met : (asks answers : List ℕ) (r : Result ℕ SessionFault) (calls_heard : List Numbered) (many : ℕ) (fs : List Frame) → AreBytes asks → AreBytes answers → Serves p server asks answers t r calls_heard → Hears p c answers asks d (Ok many) fs [] → Met h now c d t fs
+  met asks answers r calls_heard many fs are also serves (broke_off why wrote is none nothing) = absurd (unbroken many why)
+  met asks answers r calls_heard many fs are also serves (asked first more packed parts (left, x, done_asking, number, few, none)) =
       let both = packed_then (SpellsCall p) (ticks (wakes c)).asks (sends_all (client_side p) (begun c) fs) first more packed x.wrote in
       let wrote : Packed (SpellsCall p) (session_asks c (told_all fs)) asks = subst (λ (l : List Numbered). Packed (SpellsCall p) ((ticks (wakes c)).asks ++ l) asks) (sent_so p (begun c) fs) (subst (Packed (SpellsCall p) ((ticks (wakes c)).asks ++ sends_all (client_side p) (begun c) fs)) (sym parts) both) in
-      met_by asks answers left calls_heard fs are also e wrote x.came x.ends done_asking
+      met_by asks answers left r calls_heard fs are also serves wrote x.came x.ends done_asking
 
 pub two_programs_meet : TwoProgramsMeet
 two_programs_meet p good h now c d t sound a calm m =
-    let r = met p good h now c d t sound a calm m.asked m.answered m.calls m.many m.frames m.bytes.0 m.bytes.1 m.serves.0 m.hears in
+    let r = met p good h now c d t sound a calm m.asked m.answered m.ended m.calls m.many m.frames m.bytes.0 m.bytes.1 m.serves m.hears in
     (r.server, r.honest, r.up_to_date)

@@ -21,5 +21,12 @@ pub mod SessionHistories
 pub mod Meeting
 pub mod ServeEnding
 pub mod RunsMeeting
+pub mod TwoClients
+pub mod KeepEnding
+pub mod Beginning
 pub mod InOrder
+pub mod TextBytes
+pub mod HeldTexts
+pub mod ReadServers
+pub mod SessionAsks
 pub mod Spelling

@@ -1,29 +1,30 @@
--- A run of `serve` that ends with status 0 has served each of its sessions.
-use Rattle.std.proofs.Common.{◌≡◌, inl, inr, ℕ, zero, suc, ◌+◌, ◌<◌, List, [], ◌∷◌, ◌++◌, length, length-append, get_or, Option, Some, None, option_map, Result, Ok, Err, refl, sym, ap, ◌∙◌, subst, codes, arith}
+-- A run of `serve` that ends with status 0 has had each of its sessions.
+use Rattle.std.proofs.Common.{◌≡◌, inl, inr, ℕ, zero, suc, ◌+◌, ◌<◌, List, [], ◌∷◌, ◌++◌, length, length-append, get_or, refl, sym, ap, ◌∙◌, subst, codes, arith}
 use Rattle.std.proofs.Math.Nat.{eq-or-lt_of_le}
 use Rattle.tl_base.specs.Outside.{View, HasFile}
 use Rattle.tl_schema.specs.Schemas.{Declared}
 use Rattle.box_server.specs.Servers.{ServerState, new_server}
 use Rattle.box_store.specs.declared.entry.Entry.{Entry}
+use Rattle.tl_numbers.specs.Bytes.{ListsOfBytes}
+use Rattle.box_world.specs.Streams.{Doing}
 use Rattle.wire_profile.specs.Places.{ProfileView}
-use Rattle.update_sessions.specs.declared.fault.SessionFault.{SessionFault}
-use Rattle.update_sessions.specs.declared.fault.SessionFault.TheVariants as fault
+use Rattle.wire_profile.specs.Profiles.{IsProfile}
 use Rattle.command_base.specs.Answer.{Answer}
 use Rattle.command_base.specs.Kept.{Leaves}
-use Rattle.command_base.specs.declared.status.Status.{Status}
-use Rattle.command_base.specs.declared.status.Status.TheVariants.{Done, Refused, Usage, ReadFault, WriteFault, Memory, LinkFault, PeerFault}
+use Rattle.command_base.specs.declared.status.Status.TheVariants.{Done}
 use Rattle.command_base.proofs.SameFiles.{same_file}
 use Rattle.schema_files.specs.Answering.{OfSchemaText, no_schema, schema_of}
 use Rattle.schema_files.specs.Loaded.{IsSchemaText}
 use Rattle.fault_lines.specs.Profiled.{IsProfileText, OfProfile, no_profile, profiled}
-use Rattle.session_commands.specs.Serve.{IsAny, IsWhole, OfSessions, ServeAnswer, Session, SessionEnd, Sessions, Total, end_of, end_status, first_fault, link_fault, peer_fault, served}
-use Rattle.session_commands.specs.SessionEnds.{session_line}
-use Rattle.session_commands.proofs.OneTotal.{any_of}
+use Rattle.session_commands.specs.Serve.{IsAny, IsWhole, OfSessions, ServeAnswer, Session, SessionEnd, Sessions, Total}
+use Rattle.session_commands.proofs.OneTotal.{any_of, given_bytes}
 use Rattle.commands.specs.Requests.{AsksFor, RequestText, job_of, serve}
 use Rattle.commands.specs.Runs.{Ends, MayAnswer, answered, link_failed, out_of_memory, out_of_memory_later, read_failed, read_failed_later, write_failed}
 use Rattle.commands.proofs.OneAnswer.{answer_to}
 use Rattle.commands.proofs.Rows.{one_request}
+use Rattle.headline.specs.Histories.{AreMoments, HasHistory}
 use Rattle.headline.proofs.ClientEnding.{not_link, not_memory, not_read, not_refused, not_write}
+use Rattle.headline.proofs.SessionHistories.{GoesOn, on_none, on_then, session_on}
 
 -- ---- lists of lists
 
@@ -37,51 +38,25 @@ below_length [] ys k lt = absurd (omega (arith, lt))
 below_length (x ∷ xs) ys zero lt = refl
 below_length (x ∷ xs) ys (suc k) lt = below_length xs ys k (omega (arith, lt))
 
--- ---- no fault in all is none in each
-
-first_done : (a b : Status) → first_fault a b ≡ Done → (a ≡ Done) × (b ≡ Done)
-first_done Done b e = (refl, e)
-first_done Refused b e = absurd cc
-first_done Usage b e = absurd cc
-first_done ReadFault b e = absurd cc
-first_done WriteFault b e = absurd cc
-first_done Memory b e = absurd cc
-first_done LinkFault b e = absurd cc
-first_done PeerFault b e = absurd cc
-
-end_done : (e : SessionEnd) → end_status e ≡ Done → (n : ℕ) × (e ≡ served n)
-end_done (served n) is = (n, refl)
-end_done (peer_fault line) is = absurd cc
-end_done link_fault is = absurd cc
-
-no_line : (o : Option (List ℕ)) (n : ℕ) → option_map (λ (line : List ℕ). peer_fault line) o ≡ Some (served n) → ⊥
-no_line None n e = cc
-no_line (Some line) n e = cc
-
--- a session that was served ended without a fault
-pub served_ok : (r : Result ℕ SessionFault) (n : ℕ) → end_of r ≡ Some (served n) → (m : ℕ) × (r ≡ Ok m)
-served_ok (Ok m) n e = (m, refl)
-served_ok (Err (fault.Packet f)) n e = absurd (no_line (session_line (fault.Packet f)) n e)
-served_ok (Err (fault.Wire f)) n e = absurd (no_line (session_line (fault.Wire f)) n e)
-served_ok (Err (fault.Client f)) n e = absurd (no_line (session_line (fault.Client f)) n e)
-served_ok (Err fault.TooManyFrames) n e = absurd (no_line (session_line fault.TooManyFrames) n e)
-served_ok (Err fault.LinkFault) n e = absurd cc
-served_ok (Err fault.Memory) n e = absurd (no_line (session_line fault.Memory) n e)
-
 -- ---- one of some sessions
 
--- the session with the number k, after those before it
-pub record IsAmong (p : ProfileView) (s : ServerState) (given : List (List ℕ)) (moments : List ℕ) (k : ℕ) (sent : List (List ℕ)) : Type 0 where
+-- the session with the number k, after those before it, and its server goes on to that after all
+pub record IsAmong (p : ProfileView) (s : ServerState) (given : List (List ℕ)) (moments : List ℕ) (k : ℕ) (r : Total) : Type 0 where
   pub before : Total
   pub sessions : Sessions IsAny p s given moments k before
   pub out : List ℕ
   pub server : ServerState
   pub more : List Entry
-  pub many : ℕ
-  pub session : Session p before.server (get_or moments k 0) (get_or given k []) out server more (served many)
-  pub at : get_or sent k [] ≡ out
+  pub ended : SessionEnd
+  pub session : Session p before.server (get_or moments k 0) (get_or given k []) out server more ended
+  pub at : get_or r.sent k [] ≡ out
+  pub earlier : (i : ℕ) → i < k → get_or r.sent i [] ≡ get_or before.sent i []
+  pub on : AreMoments moments → (h : List Doing) → HasHistory h server → GoesOn (IsProfile p × ListsOfBytes given) h r.server
 
 module _ (p : ProfileView) (s : ServerState) (given : List (List ℕ)) (moments : List ℕ) where
+  abbrev Read : Type 0
+  Read = IsProfile p × ListsOfBytes given
+
   sent_long : (n : ℕ) (r : Total) → Sessions IsAny p s given moments n r → length r.sent ≡ n
   sent_long zero r is = ap (λ (x : Total). length x.sent) is
   sent_long (suc n) r (q, e, out, t, more, h, any, session, is) =
@@ -89,31 +64,36 @@ module _ (p : ProfileView) (s : ServerState) (given : List (List ℕ)) (moments 
       let first = sent_long n q h in
       omega (arith, all, length-append q.sent (out ∷ []), first)
 
-  is_among : (n : ℕ) (r : Total) → Sessions IsAny p s given moments n r → r.status ≡ Done → (k : ℕ) → k < n → IsAmong p s given moments k r.sent
-  is_among zero r h done k less = absurd (omega (arith, less))
-  is_among (suc n) r (q, e, out, t, more, h, any, session, is) done k less =
-      let two = first_done q.status (end_status e) (sym (ap (λ (x : Total). x.status) is) ∙ done) in
+  pub is_among : (n : ℕ) (r : Total) → Sessions IsAny p s given moments n r → (k : ℕ) → k < n → IsAmong p s given moments k r
+  is_among zero r h k less = absurd (omega (arith, less))
+  is_among (suc n) r (q, e, out, t, more, h, any, session, is) k less =
       let long = sent_long n q h in
-      elim (eq-or-lt_of_le {n = k} {m = n} (omega (arith, less))) as (λ z. IsAmong p s given moments k r.sent) [
-        | inl same ↦ (let last = end_done e two.1 in subst (λ (z : ℕ). IsAmong p s given moments z r.sent) (sym same) (record {
+      let last : t ≡ r.server = sym (ap (λ (x : Total). x.server) is) in
+      elim (eq-or-lt_of_le {n = k} {m = n} (omega (arith, less))) as (λ z. IsAmong p s given moments k r) [
+        | inl same ↦ subst (λ (z : ℕ). IsAmong p s given moments z r) (sym same) (record {
           before = q;
           sessions = h;
           out = out;
           server = t;
           more = more;
-          many = last.0;
-          session = subst (λ (z : SessionEnd). Session p q.server (get_or moments n 0) (get_or given n []) out t more z) last.1 session;
+          ended = e;
+          session = session;
           at = ap (λ (x : Total). get_or x.sent n []) is ∙ at_length q.sent (out ∷ []) n 0 (omega (arith, long));
-        }))
-        | inr earlier ↦ (let a = is_among n q h two.0 k earlier in record {
+          earlier = λ i lt. ap (λ (x : Total). get_or x.sent i []) is ∙ below_length q.sent (out ∷ []) i (omega (arith, long, lt));
+          on = λ low f b. subst (GoesOn Read f) last (on_none Read f t b);
+        })
+        | inr sooner ↦ (let a = is_among n q h k sooner in record {
           before = a.before;
           sessions = a.sessions;
           out = a.out;
           server = a.server;
           more = a.more;
-          many = a.many;
+          ended = a.ended;
           session = a.session;
-          at = ap (λ (x : Total). get_or x.sent k []) is ∙ below_length q.sent (out ∷ []) k (omega (arith, long, earlier)) ∙ a.at;
+          at = ap (λ (x : Total). get_or x.sent k []) is ∙ below_length q.sent (out ∷ []) k (omega (arith, long, sooner)) ∙ a.at;
+          earlier = λ i lt. ap (λ (x : Total). get_or x.sent i []) is ∙ below_length q.sent (out ∷ []) i (omega (arith, long, sooner, lt)) ∙ a.earlier i lt;
+          on = λ low f b. (let (some, c, read) = a.on low f b in
+              subst (GoesOn Read f) last (on_then Read f some t read (session_on Read p (f ++ some) q.server q.server (get_or moments n 0) (get_or given n []) out t more e (λ z. (z.0, given_bytes given z.1 n)) (low n) c refl session)));
         })
       ]
 
@@ -123,23 +103,27 @@ module _ (p : ProfileView) (s : ServerState) (given : List (List ℕ)) (moments 
 pub record Served (schema : List ℕ) (k : ℕ) (v w : View) : Type 0 where
   pub p : ProfileView
   pub text : IsProfileText schema p
-  pub sents : List (List ℕ)
-  pub among : IsAmong p new_server v.links v.moments k sents
-  pub written : get_or w.written.links (length v.written.links + k) [] ≡ get_or sents k []
+  pub total : Total
+  pub among : IsAmong p new_server v.links v.moments k total
+  pub links : w.written.links ≡ v.written.links ++ total.sent
+
+-- what was written to the link of one of its sessions
+pub written_at : (v w : View) (total : Total) (i : ℕ) → w.written.links ≡ v.written.links ++ total.sent → get_or w.written.links (length v.written.links + i) [] ≡ get_or total.sent i []
+written_at v w total i is = ap (λ (l : List (List ℕ)). get_or l (length v.written.links + i) []) is ∙ at_length v.written.links total.sent (length v.written.links + i) i refl
 
 module _ (schema_name address : List ℕ) (n : ℕ) (schema : List ℕ) (v w : View) (has : HasFile v.files schema_name schema) (k : ℕ) (less : k < n) where
-  of_sessions : (p : ProfileView) → IsProfileText schema p → (a : Answer) → OfSessions new_server address IsAny n v.links v.moments p a → Done ≡ a.status → Leaves a v w → Served schema k v w
-  of_sessions p text a (r, sessions, is) ends leaves = record {
+  of_sessions : (p : ProfileView) → IsProfileText schema p → (a : Answer) → OfSessions new_server address IsAny n v.links v.moments p a → Leaves a v w → Served schema k v w
+  of_sessions p text a (r, sessions, is) leaves = record {
     p = p;
     text = text;
-    sents = r.sent;
-    among = is_among p new_server v.links v.moments n r sessions (sym (ends ∙ ap (λ (x : Answer). x.status) is)) k less;
-    written = ap (λ (l : List (List ℕ)). get_or l (length v.written.links + k) []) (leaves.links ∙ ap (λ (x : Answer). v.written.links ++ x.links) is) ∙ at_length v.written.links r.sent (length v.written.links + k) k refl;
+    total = r;
+    among = is_among p new_server v.links v.moments n r sessions k less;
+    links = leaves.links ∙ ap (λ (x : Answer). v.written.links ++ x.links) is;
   }
 
   of_profile : (a : Answer) (S : Declared) → IsSchemaText schema S → OfProfile (OfSessions new_server address IsWhole n v.links v.moments) S a → Done ≡ a.status → Leaves a v w → Served schema k v w
   of_profile a S read (no_profile f answers is) ends leaves = absurd (not_refused (ends ∙ ap (λ (x : Answer). x.status) is))
-  of_profile a S read (profiled p answers (r, sessions, is)) ends leaves = of_sessions p (record { schema = S; read = read; is = answers }) a (r, any_of p new_server v.links v.moments n r sessions, is) ends leaves
+  of_profile a S read (profiled p answers (r, sessions, is)) ends leaves = of_sessions p (record { schema = S; read = read; is = answers }) a (r, any_of p new_server v.links v.moments n r sessions, is) leaves
 
   of_text : (a : Answer) → OfSchemaText (codes "schema") (OfProfile (OfSessions new_server address IsWhole n v.links v.moments)) schema a → Done ≡ a.status → Leaves a v w → Served schema k v w
   of_text a (no_schema cause refuses is) ends leaves = absurd (not_refused (ends ∙ ap (λ (x : Answer). x.status) is))
@@ -150,7 +134,7 @@ module _ (schema_name address : List ℕ) (n : ℕ) (schema : List ℕ) (v w : V
       of_text a (subst (λ (t : List ℕ). OfSchemaText (codes "schema") (OfProfile (OfSessions new_server address IsWhole n v.links v.moments)) t a) (same_file v.files schema_name text schema there has) told) ends leaves
 
   of_broken : (a : Answer) → (job_of (serve schema_name address n)).broken v a → Done ≡ a.status → Leaves a v w → Served schema k v w
-  of_broken a (h, told) ends leaves = of_sessions h.p (subst (λ (t : List ℕ). IsProfileText t h.p) (same_file v.files schema_name h.text schema h.there has) h.is) a told ends leaves
+  of_broken a (h, told) ends leaves = of_sessions h.p (subst (λ (t : List ℕ). IsProfileText t h.p) (same_file v.files schema_name h.text schema h.there has) h.is) a told leaves
 
   module _ (words : List (List ℕ)) (R W L : Type 0) (asks : AsksFor words (serve schema_name address n)) where
     of_may : (a : Answer) → MayAnswer words L v a → Done ≡ a.status → Leaves a v w → Served schema k v w

@@ -1,16 +1,22 @@
--- Where what both send has a spelling, a server and a client come to their end over one link.
-use Rattle.std.specs.Prelude.{⊤}
-use Rattle.std.proofs.Common.{◌≡◌, ◌≢◌, ℕ, ◌≤◌, List, [], ◌∷◌, ◌++◌, append_assoc, length, length-append, false, None, refl, sym, ap, ap₂, ◌∙◌, subst, arith}
+-- What both send has a spelling, so a server and a client come to their end over one link.
+use Rattle.std.specs.Prelude.{⊤, IsOk}
+use Rattle.std.proofs.Common.{◌≡◌, ◌≢◌, ℕ, ◌<◌, ◌≤◌, ◌^◌, List, [], ◌∷◌, ◌++◌, append_assoc, length, length-append, false, None, Ok, refl, sym, ap, ap₂, ◌∙◌, subst, arith}
+use Rattle.std.proofs.lemmas.List.{length-map}
 use Rattle.std.proofs.lemmas.Option.{same_Some}
+use Rattle.tl_numbers.specs.Bytes.{AreBytes}
+use Rattle.tl_types.specs.Values.{ValueView}
 use Rattle.tl_base.specs.Packets.{packet}
 use Rattle.box_events.specs.declared.replies.Frame.{Frame}
 use Rattle.box_events.specs.declared.replies.Frame.TheVariants.{Reply}
 use Rattle.box_events.specs.declared.replies.Reply as replying
 use Rattle.box_events.specs.declared.requests.Numbered.{Numbered}
+use Rattle.box_events.specs.declared.requests.Request.{Request}
+use Rattle.box_events.specs.declared.requests.Request.TheVariants as request
+use Rattle.channel_box.specs.States.{ChannelState, ids_of}
 use Rattle.box_client.specs.Asking.{is_one_asking, ticks, wakes}
 use Rattle.box_client.specs.Replies.{Cause, Outcome, becomes, ignored, refuses, replied}
 use Rattle.box_client.specs.States.{ClientState}
-use Rattle.box_server.specs.Answers.{answer}
+use Rattle.box_server.specs.Answers.{IsAnswered, answer}
 use Rattle.box_server.specs.Servers.{ServerState, dated_at}
 use Rattle.box_server.specs.Sound.{IsSound}
 use Rattle.box_server.proofs.Carrying.{changed_overlays}
@@ -22,13 +28,23 @@ use Rattle.box_world.proofs.GoingOn.{agree_ticks, agree_wakes}
 use Rattle.wire_profile.specs.Places.{ProfileView}
 use Rattle.wire_profile.specs.Profiles.{IsProfile}
 use Rattle.wire_values.specs.Calls.{call_in, call_tree}
-use Rattle.wire_values.specs.CarriedFrames.{IsFrame}
+use Rattle.wire_values.specs.Carried.{FitsCall}
+use Rattle.wire_values.specs.CarriedFrames.{FitsFrame, IsFrame}
 use Rattle.wire_values.specs.Frames.{frame_in, frame_tree}
-use Rattle.box_wire.specs.Kinds.{calls, frames}
+use Rattle.wire_values.proofs.CallsAndValues as call_values
+use Rattle.wire_values.proofs.FitFrames as frame_values
+use Rattle.box_wire.specs.Framing.{Framed}
+use Rattle.box_wire.specs.Kinds.{Kind, calls, frames}
+use Rattle.box_wire.specs.Laws.{AreSpelled}
 use Rattle.box_wire.proofs.CallLaws.{call_laws, call_levels}
 use Rattle.box_wire.proofs.FrameLaws.{frame_laws}
 use Rattle.box_wire.proofs.FrameLevels.{frame_levels}
+use Rattle.box_wire.proofs.ReadBack.{are_spelled}
+use Rattle.server_frames.specs.Fitting.{CallFits, IsNumber}
+use Rattle.server_frames.specs.Spelled.{FitsServer}
 use Rattle.server_frames.proofs.AnswersFit.{answers_fit}
+use Rattle.server_frames.proofs.FittingFrames.{answers_have}
+use Rattle.server_frames.proofs.FittingServers.{servers_keep}
 use Rattle.server_frames.proofs.MessageForms.{call_has, call_served, frame_has}
 use Rattle.server_frames.proofs.SpelledMessages.{are_meant}
 use Rattle.update_sessions.specs.Exchanges.{Exchanged, TakesAll, after_all}
@@ -37,16 +53,39 @@ use Rattle.update_sessions.specs.Hearing.{cause_in, client_side}
 use Rattle.update_sessions.specs.Honest.{told_all}
 use Rattle.update_sessions.specs.Packed.{Came, MeansCall, MeansFrame, Packed, SpellsCall, SpellsFrame}
 use Rattle.update_sessions.specs.Serving.{after_request, server_side}
+use Rattle.update_sessions.specs.declared.fault.TheConstants.{MAX_FRAMES}
+use Rattle.session_commands.proofs.SpelledBytes.{ValueHolds}
 use Rattle.headline.specs.Answering.{AreAnswers, all_asks, session_asks}
 use Rattle.headline.specs.CatchingUp.{heard_all}
-use Rattle.headline.specs.Conversations.{ConversationsEnd, HasSpelling, IsRead, answers_of}
+use Rattle.headline.specs.Conversations.{CanBegin, ConversationsEnd, answers_of}
 use Rattle.headline.specs.Ending.{EndsInOrder, told_replies}
+use Rattle.headline.specs.Histories.{HasHistory}
+use Rattle.headline.specs.ReadHistories.{WereRead}
 use Rattle.headline.specs.TwoPrograms.{Converse}
 use Rattle.headline.proofs.Conversing.{IsAsk, call_fits, frame_fits, none_of, past_last, replies_so, sent_so, session_are_asks, stays_so}
+use Rattle.headline.proofs.HeldTexts.{ServerHolds, answers_have_bytes, dated_holds}
 use Rattle.headline.proofs.HonestSteps.{hears}
 use Rattle.headline.proofs.InOrder.{asked_waits}
 use Rattle.headline.proofs.LastAnswers.{AgreesAt, grown}
+use Rattle.headline.proofs.ReadServers.{read_servers}
 use Rattle.headline.proofs.Recoveries.{heard_so, past_front}
+use Rattle.headline.proofs.SessionAsks.{IsReady, session_ready}
+use Rattle.headline.proofs.SessionHistories.{dated_history, histories_are_sound}
+use Rattle.headline.proofs.TextBytes.{packed_are}
+
+-- a request that is read as it was spelled: its number is from 1, its number and its date have 31 bits
+abbrev IsRead : Numbered → Type 0
+IsRead q = IsNumber q.number × CallFits q
+
+-- These bytes are the packets of requests, and of a server's answers to them in order; they are fewer than a session may have.
+record HasSpelling (p : ProfileView) (s : ServerState) (qs : List Numbered) : Type 0 where
+  pub asked : List ℕ
+  pub answered : List ℕ
+  pub bytes : AreBytes asked × AreBytes answered
+  pub requests : Packed (SpellsCall p) qs asked
+  pub answers : Packed (SpellsFrame p) (answers_of s qs) answered
+  pub read : Each IsRead qs
+  pub few : length qs < MAX_FRAMES
 
 -- ---- replies as frames
 
@@ -118,7 +157,7 @@ module _ (p : ProfileView) (good : IsProfile p) where
   -- ---- both together
 
   conversation : (h : List Doing) (now : ℕ) (c : ClientState) → IsSound (dated_at (past_of h (length h)).server now) → AgreesAt h (length h) c → is_one_asking c ≡ false
-      → (e : EndsInOrder (h ++ dates now ∷ []) c) → HasSpelling p (dated_at (past_of h (length h)).server now) (session_asks c (told_replies e.replies)) → (d : ClientState) × Converse p (past_of h (length h)).server now c (dated_at (past_of h (length h)).server now) d
+      → (e : EndsInOrder (h ++ dates now ∷ []) c) → HasSpelling p (dated_at (past_of h (length h)).server now) (session_asks c (told_replies e.replies)) → (d : ClientState) × (m : Converse p (past_of h (length h)).server now c (dated_at (past_of h (length h)).server now) d) × IsOk m.ended
   conversation h now c sound a calm e sp =
       let g : List Doing = h ++ dates now ∷ [] in
       let server : ServerState = dated_at (past_of h (length h)).server now in
@@ -159,13 +198,87 @@ module _ (p : ProfileView) (good : IsProfile p) where
           answered = sp.answered;
           bytes = sp.bytes;
           calls = qs;
-          number = length qs;
+          ended = Ok (length qs);
           serves = (serves, refl, few);
           frames = gs;
           many = length gs;
           hears = asked parts.0 parts.1 parts.3 parts.2 ([], hearing, done_asking, refl, omega (arith, long, same, few), refl);
         },
+        refl,
       )
 
+  -- ---- they have a spelling
+
+  abbrev Spelled : {M : Type 0} → Kind → (M → ValueView) → List M → Type 0
+  Spelled kind tree ms = (bytes : List ℕ) × AreBytes bytes × Packed (λ m b. Framed p kind (tree m) b) ms bytes
+
+  all_spelled : {M : Type 0} (kind : Kind) (tree : M → ValueView) (Fits : M → Type 0) → AreSpelled kind tree Fits → (ms : List M) → Each Fits ms → Each (λ m. ValueHolds (tree m)) ms → Spelled kind tree ms
+  all_spelled {M} kind tree Fits law ms fits holds =
+      let packed = each_packed ms fits in
+      (packed.0, packed_are kind tree p ms packed.0 holds packed.1, packed.1)
+    where
+      each_packed : (ms : List M) → Each Fits ms → (bytes : List ℕ) × Packed (λ m b. Framed p kind (tree m) b) ms bytes
+      each_packed [] all = ([], refl)
+      each_packed (m ∷ ms) all = let first = law p good m all.0 in let rest = each_packed ms all.1 in (packet first.0 ++ rest.0, (first.0, rest.0, first.1, refl, rest.1))
+
+  request_holds : (n : ℕ) (r : Request) → IsAnswered r → ValueHolds (call_tree (record { number = n; request = r }))
+  request_holds n request.State none = (tt, (tt, tt))
+  request_holds n (request.Difference pts qts date) none = (tt, ((tt, (tt, (tt, tt))), tt))
+  request_holds n (request.Channel id pts) none = (tt, ((tt, (tt, tt)), tt))
+  request_holds n (request.Post random_id posts) none = absurd none
+
+  requests_hold : (qs : List Numbered) → Each IsAsk qs → Each (λ q. ValueHolds (call_tree q)) qs
+  requests_hold [] all = tt
+  requests_hold (q ∷ qs) all = (request_holds q.number q.request all.0.none, requests_hold qs all.1)
+
+  requests_fit : (qs : List Numbered) → Each IsReady qs → Each FitsCall qs
+  requests_fit [] all = tt
+  requests_fit (q ∷ qs) all = (all.0.fits, requests_fit qs all.1)
+
+  requests_read : (qs : List Numbered) → Each IsReady qs → Each IsRead qs
+  requests_read [] all = tt
+  requests_read (q ∷ qs) all = ((all.0.number, all.0.read), requests_read qs all.1)
+
+  module _ (s : ServerState) (sound : IsSound s) (fits : FitsServer s) (held : ServerHolds s) where
+    answers_fit_all : (qs : List Numbered) → Each IsReady qs → Each FitsFrame (answers_of s qs)
+    answers_fit_all [] all = tt
+    answers_fit_all (q ∷ qs) all = let low = all.0.number.1 in (answers_have s q.number q.request fits sound (omega (arith, low)), answers_fit_all qs all.1)
+
+    answers_hold : (qs : List Numbered) → Each (λ f. ValueHolds (frame_tree f)) (answers_of s qs)
+    answers_hold [] = tt
+    answers_hold (q ∷ qs) = (answers_have_bytes s q.number q.request held, answers_hold qs)
+
+    spelling : (qs : List Numbered) → Each IsAsk qs → Each IsReady qs → length qs < MAX_FRAMES → HasSpelling p s qs
+    spelling qs all ready few =
+        let asked_so = all_spelled calls call_tree FitsCall (are_spelled calls call_tree call_in (λ _. ⊤) FitsCall call_laws call_values.call_fits) qs (requests_fit qs ready) (requests_hold qs all) in
+        let told_so = all_spelled frames frame_tree FitsFrame (are_spelled frames frame_tree frame_in IsFrame FitsFrame frame_laws frame_values.frame_fits) (answers_of s qs) (answers_fit_all qs ready) (answers_hold qs) in
+        record { asked = asked_so.0; answered = told_so.0; bytes = (asked_so.1, told_so.1); requests = asked_so.2; answers = told_so.2; read = requests_read qs ready; few = few }
+
+  ended : (h : List Doing) (s : ServerState) (now : ℕ) (c : ClientState) → HasHistory h s → WereRead h → now < 2 ^ 31 → Agrees s (past_of h (length h)).boxes c → is_one_asking c ≡ false → CanBegin c → (e : EndsInOrder (h ++ dates now ∷ []) c) → length e.replies < MAX_FRAMES
+      → (d : ClientState) × (m : Converse p s now c (dated_at s now) d) × IsOk m.ended
+  ended h s now c a read lt agrees calm can e few =
+      let g : List Doing = h ++ dates now ∷ [] in
+      let t : ServerState = (past_of h (length h)).server in
+      let dated : HasHistory g (dated_at s now) = dated_history h s now lt a in
+      let here : dated_at s now ≡ dated_at t now = ap (λ (z : ServerState). dated_at z now) a.is in
+      let at_end : (past_of g (length g)).server ≡ dated_at t now = sym dated.is ∙ here in
+      let sound : IsSound (dated_at t now) = subst IsSound here (histories_are_sound.sound g (dated_at s now) dated) in
+      let first : AgreesAt h (length h) c = subst (λ (z : ServerState). Agrees z (past_of h (length h)).boxes c) a.is agrees in
+      let moved : AgreesAt g (length h) c = subst (λ (q : Past). Agrees q.server q.boxes c) (sym (past_front first_past h (dates now ∷ []) (length h) (omega arith))) first in
+      let last : AgreesAt g (length g) c = grown g c (length h) (length g) (omega (arith, length-append h (dates now ∷ []))) moved in
+      let qs : List Numbered = session_asks c (told_replies e.replies) in
+      let as_many = length-map c.channels (λ (d : ChannelState). d.id) in
+      let many = e.all in
+      let some = can.next.0 in
+      let most = can.next.1 in
+      let watched = can.few in
+      let ready = session_ready g (ids_of c.channels) can.ids (omega (arith, as_many, watched)) (subst IsSound (sym at_end) sound) c e.replies last refl some (omega (arith, many, few, most)) e.each in
+      let known = read_servers h (length h) a.dated read in
+      let fits : FitsServer (dated_at t now) = servers_keep.date t now known.fits in
+      let sp = spelling (dated_at t now) sound fits (dated_holds t now known.holds) qs (session_are_asks c (told_replies e.replies)) ready (omega (arith, many, few)) in
+      let both = conversation h now c sound first calm e sp in
+      let there = subst (λ (z : ServerState). (m : Converse p z now c (dated_at z now) both.0) × IsOk m.ended) (sym a.is) (both.1, both.2) in
+      (both.0, there.0, there.1)
+
 pub conversations_end : ConversationsEnd
-conversations_end p good h now c sound a calm e sp = conversation p good h now c sound a calm e sp
+conversations_end p good h s now c a read lt agrees calm can e few = ended p good h s now c a read lt agrees calm can e few

@@ -13,7 +13,7 @@ use Rattle.box_events.specs.declared.updates.Update.TheVariants.{Common, Secret,
 use Rattle.difference.specs.Weaves.{WeaveCause, woven_of}
 use Rattle.pts_machine.specs.Steps.{extend, hear, restart_at}
 use Rattle.channel_box.specs.States.{ChannelState, first, has_id, ids_of}
-use Rattle.channel_box.specs.Steps.{answered_by, asks_number, at_first, channel_is_due, flagged, grown, heard_by, is_asking, taken_by, ticked, woken}
+use Rattle.channel_box.specs.Steps.{answered_by, asks_number, at_first, channel_is_due, flagged, grown, heard_by, is_asking, taken_by, ticked}
 use Rattle.channel_box.specs.Steps as channels
 use Rattle.box_client.specs.Asking as asking
 use Rattle.box_client.specs.Asking.{group_is_due, group_ticked, ticks, wakes}
@@ -93,7 +93,7 @@ ids_one : (c : ClientState) (n : ℕ) (v : Reply) (b : Bool) → ids_of (after_r
 ids_one c n v true = ids_channel c n v
 ids_one c n v false = refl
 
-ids_whom : (c : ClientState) (n : ℕ) (v : Reply) (b : Bool) → ids_of (after_reply c (cond b (group_replied c v) (cond (is_some (first (asks_number n) c.channels)) (channel_replied c n v) ignored))).channels ≡ ids_of c.channels
+pub ids_whom : (c : ClientState) (n : ℕ) (v : Reply) (b : Bool) → ids_of (after_reply c (cond b (group_replied c v) (cond (is_some (first (asks_number n) c.channels)) (channel_replied c n v) ignored))).channels ≡ ids_of c.channels
 ids_whom c n v true = ap ids_of (group_channels c v)
 ids_whom c n v false = ids_one c n v (is_some (first (asks_number n) c.channels))
 
@@ -107,11 +107,11 @@ ids_ticked : (ds : List ChannelState) (n : ℕ) → ids_of (ticked n ds).channel
 ids_ticked [] n = refl
 ids_ticked (d ∷ ds) n = ids_ticked_by n d ds (channel_is_due d) refl (λ m. ids_ticked ds m)
 
-group_ids : (c : ClientState) (b : Bool) → group_is_due c ≡ b → ids_of (group_ticked c).client.channels ≡ ids_of c.channels
+pub group_ids : (c : ClientState) (b : Bool) → group_is_due c ≡ b → ids_of (group_ticked c).client.channels ≡ ids_of c.channels
 group_ids c true e = rw e refl
 group_ids c false e = rw e refl
 
-ids_ticks : (c : ClientState) → ids_of (ticks c).client.channels ≡ ids_of c.channels
+pub ids_ticks : (c : ClientState) → ids_of (ticks c).client.channels ≡ ids_of c.channels
 ids_ticks c = let g : asking.Asked = group_ticked c in ids_ticked g.client.channels g.client.next ∙ group_ids c (group_is_due c) refl
 
 -- ---- a session
@@ -124,5 +124,8 @@ ids_all : (c : ClientState) (fs : List Frame) → ids_of (heard_all c fs).channe
 ids_all c [] = refl
 ids_all c (f ∷ fs) = ids_all (heard_frame c f) fs ∙ ids_frame c f
 
+pub ids_wakes : (c : ClientState) → ids_of (wakes c).channels ≡ ids_of c.channels
+ids_wakes c = ids_map flagged (λ d. refl) c.channels
+
 pub session_ids : (c : ClientState) (fs : List Frame) → ids_of (heard_all (begun c) fs).channels ≡ ids_of c.channels
-session_ids c fs = ids_all (begun c) fs ∙ ids_ticks (wakes c) ∙ ids_map flagged (λ d. refl) c.channels
+session_ids c fs = ids_all (begun c) fs ∙ ids_ticks (wakes c) ∙ ids_wakes c

@@ -11,7 +11,10 @@ pub mod Client
 pub mod States
 pub mod TwoPrograms
 pub mod Conversations
+pub mod ReadHistories
 pub mod Histories
 pub mod Meetings
 pub mod ServedRuns
+pub mod TwoClients
+pub mod KeptRuns
 pub mod Instances

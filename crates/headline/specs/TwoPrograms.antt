@@ -1,5 +1,5 @@
 -- `client` against `serve`: what each hears is what the other sent. This project's own.
-use Rattle.std.specs.Prelude.{◌≡◌, ℕ, List, [], ◌∷◌, ◌++◌, length, false, Ok}
+use Rattle.std.specs.Prelude.{◌≡◌, ℕ, List, [], ◌∷◌, ◌++◌, length, false, Result, Ok}
 use Rattle.tl_numbers.specs.Bytes.{AreBytes}
 use Rattle.box_events.specs.declared.replies.Frame.{Frame}
 use Rattle.box_events.specs.declared.requests.Numbered.{Numbered}
@@ -14,17 +14,18 @@ use Rattle.wire_profile.specs.Profiles.{IsProfile}
 use Rattle.update_sessions.specs.Heard.{Hears}
 use Rattle.update_sessions.specs.Honest.{told_all}
 use Rattle.update_sessions.specs.Served.{Serves}
+use Rattle.update_sessions.specs.declared.fault.SessionFault.{SessionFault}
 use Rattle.headline.specs.Answering.{IsUpToDate}
 
--- A client and a server whose clock shows `now` over one link, each to its end without a fault: the server hears what the client asks, and the client what
--- the server answers. Then they are d and t.
+-- A client and a server whose clock shows `now` over one link: the server hears what the client asks, and the client what the server answers. The client
+-- comes to its end without a fault, the server to any end. Then they are d and t.
 pub record Converse (p : ProfileView) (s : ServerState) (now : ℕ) (c : ClientState) (t : ServerState) (d : ClientState) : Type 0 where
   pub asked : List ℕ
   pub answered : List ℕ
   pub bytes : AreBytes asked × AreBytes answered
   pub calls : List Numbered
-  pub number : ℕ
-  pub serves : Serves p (dated_at s now) asked answered t (Ok number) calls
+  pub ended : Result ℕ SessionFault
+  pub serves : Serves p (dated_at s now) asked answered t ended calls
   pub frames : List Frame
   pub many : ℕ
   pub hears : Hears p c answered asked d (Ok many) frames []

@@ -5,13 +5,15 @@ ghost use Rattle.headline.specs.CatchingUp.{HonestSessionsCatchUp};
 ghost use Rattle.headline.specs.CatchingUpChannels.{HonestSessionsCatchUpByChannel};
 ghost use Rattle.headline.specs.Client.{ClientHeadline};
 ghost use Rattle.headline.specs.States.{StatesGoOn};
-ghost use Rattle.headline.specs.Conversations.{ConversationsEnd};
+ghost use Rattle.headline.specs.Conversations.{ConversationsEnd, LoadedCanBegin};
 ghost use Rattle.headline.specs.Ending.{SessionsEnd, SessionsEndInOrder};
 ghost use Rattle.headline.specs.Histories.{HistoriesAreSound, KeptRunsGoOn, SessionsGoOn};
 ghost use Rattle.headline.specs.Instances.{ClientsHaveBoxes, StreamsAreSent, StretchesAreExact};
+ghost use Rattle.headline.specs.KeptRuns.{KeptClientsMeet, KeptRunsMeet};
 ghost use Rattle.headline.specs.Meetings.{LoadedAskNothing, StatesMeetServers};
 ghost use Rattle.headline.specs.Replay.{ReplayHeadline};
 ghost use Rattle.headline.specs.ServedRuns.{ServedRunsMeet};
+ghost use Rattle.headline.specs.TwoClients.{TwoClientsMeet};
 ghost use Rattle.headline.specs.TwoPrograms.{TwoProgramsMeet};
 
 /// After every list of steps each client has the server's boxes from its restarts to its positions, its common and secret boxes whole; no position falls as
@@ -63,14 +65,16 @@ pub fn what_client_promises()
     ensures { ClientHeadline }
 {}
 
-/// What a server's session sends to a client's session that asks it is an honest stream, and brings the client up to date; and where what both send has a
-/// spelling, there are two such sessions, each of which comes to its end.
+/// What a server's session sends to a client's session that asks it is an honest stream, and brings the client up to date, however the server's session ends;
+/// and for each client of a state file there are two such sessions, each of which comes to its end.
 pub fn two_programs_meet()
     ensures meet { TwoProgramsMeet }
+    ensures begin { LoadedCanBegin }
     ensures end { ConversationsEnd }
 {}
 
-/// The server after sessions of `serve`, or of `keep`, has more of the history that it had, however the sessions ended; and such servers are sound.
+/// The server after sessions of `serve`, or of `keep`, has more of the history that it had, of posts that came as bytes, however the sessions ended; and such
+/// servers are sound.
 pub fn servers_have_histories()
     ensures sound { HistoriesAreSound }
     ensures serve { SessionsGoOn }
@@ -84,7 +88,14 @@ pub fn states_meet_servers()
 {}
 
 /// A run of `client` over a link that a run of `serve` is on in one of its sessions: each is sent what the other's link gave. What the client saved is up to date
-/// with the server, and its state agrees with it.
+/// with the server, and its state agrees with it. Two such clients, in sessions one after the other, are up to date with one history.
 pub fn served_runs_meet()
-    ensures { ServedRunsMeet }
+    ensures one { ServedRunsMeet }
+    ensures two { TwoClientsMeet }
+{}
+
+/// The same of runs of `client` and one of `keep`, whose server is the one that the entries of its file rebuild.
+pub fn kept_runs_meet()
+    ensures one { KeptRunsMeet }
+    ensures two { KeptClientsMeet }
 {}

@@ -1,11 +1,14 @@
 //! Links: streams that give up in time, and send what they are given at once.
 use std::io::{BufReader, ErrorKind, Read, Write};
 use std::net::{TcpListener, TcpStream, ToSocketAddrs};
-use std::time::Duration;
+use std::time::{Duration, Instant};
 use std::{io, thread};
 
 /// How many seconds one call on a link may wait for the other end.
 const PATIENCE: u64 = 30;
+
+/// How many seconds a session may take: a call on its link that begins later fails.
+const SESSION: u64 = 600;
 
 /// How many milliseconds pass before a call that failed is made again.
 const PAUSE: u64 = 100;
@@ -24,10 +27,11 @@ fn pause(rt: &HostRuntime) {
     thread::sleep(rt, Duration::from_millis(PAUSE));
 }
 
-/// A stream that is read through a buffer.
+/// A stream that is read through a buffer, and the moment when its session began.
 #[derive(Drop)]
 pub struct Link {
     stream: BufReader<TcpStream>,
+    began: Instant,
 }
 
 impl Link {
@@ -38,7 +42,26 @@ impl Link {
         stream.set_write_timeout(Some(patience()))?;
         Ok(Link {
             stream: BufReader::new(rt.alloc(), stream)?,
+            began: Instant::now(rt)?,
         })
+    }
+
+    fn is_late(&self, rt: &HostRuntime) -> bool {
+        match self.began.elapsed(rt) {
+            Ok(time) => time.as_secs() >= SESSION,
+            Err(_) => true,
+        }
+    }
+}
+
+/// Lets a link go whose session has taken all of its time.
+pub fn end_late(rt: &HostRuntime, link: &mut Option<Link>) {
+    let is_late = match link {
+        Some(link) => link.is_late(rt),
+        None => false,
+    };
+    if is_late {
+        *link = None;
     }
 }
 

@@ -1,7 +1,7 @@
 //! The real outside: files, the standard streams, TCP and the clock. What they hold or take is not told: this is the trusted edge.
 ghost use Rattle.std.specs.Prelude.{None, false, IfSome, ◌≤◌, ◌<◌, ◌^◌, length};
 
-use crate::links::{Link, accept, connect, listen};
+use crate::links::{Link, accept, connect, end_late, listen};
 use crate::state_file::{StateFile, hold};
 use std::fs::File;
 use std::io::{BufReader, ErrorKind, Read, Write};
@@ -163,7 +163,10 @@ impl Host for RealHost {
             Slot::Schema => read_some(&mut self.schema, into),
             Slot::Input => read_some(&mut self.input, into),
             Slot::State => read_some(&mut self.state, into),
-            Slot::Link => read_some(&mut self.link, into),
+            Slot::Link => {
+                end_late(&self.rt, &mut self.link);
+                read_some(&mut self.link, into)
+            }
         };
         match got {
             Some(count) => Ok(count),
@@ -196,7 +199,10 @@ impl Host for RealHost {
             Out::Output => write_some(&mut self.rt.stdout(), piece),
             Out::Errors => write_some(&mut self.rt.stderr(), piece),
             Out::State => write_open(&mut self.saved, piece),
-            Out::Link => write_open(&mut self.link, piece),
+            Out::Link => {
+                end_late(&self.rt, &mut self.link);
+                write_open(&mut self.link, piece)
+            }
         };
         match wrote {
             Some(count) if count > 0 => Ok(count),

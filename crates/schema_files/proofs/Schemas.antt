@@ -60,7 +60,7 @@ long_text bytes read rest _ e long (unexpected ts at t r) = absurd (omega (arith
 long_text bytes read rest _ e long (not_profile ts at form t r) = absurd (omega (arith, t.0))
 long_text bytes read rest _ e long (too_many ts at t r) = absurd (omega (arith, t.0))
 
-long_schema : (bytes read rest : List ℕ) (cause : SchemaCause) → bytes ≡ read ++ rest → 4194304 < length read → SchemaRefused read cause → SchemaRefused bytes cause
+pub long_schema : (bytes read rest : List ℕ) (cause : SchemaCause) → bytes ≡ read ++ rest → 4194304 < length read → SchemaRefused read cause → SchemaRefused bytes cause
 long_schema bytes read rest _ e long (by_text cause r) = by_text cause (long_text bytes read rest cause e long r)
 long_schema bytes read rest _ e long (by_checks ts ds k c t r has) = absurd (omega (arith, t.0))
 

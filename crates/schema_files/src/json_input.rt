@@ -88,8 +88,13 @@ pub fn form_by(
     }
 }
 
-// The value that a text is the form of.
-fn formed_value(alloc: Global, schema: &Schema, of: &TypeRef, text: &[u8]) -> Result<Value, Unmade>
+/// The value that a text is the form of, whether it fits its type or not.
+pub fn formed_value(
+    alloc: Global,
+    schema: &Schema,
+    of: &TypeRef,
+    text: &[u8],
+) -> Result<Value, Unmade>
     ensures { ReadsForm schema.now (shape of.now) text.now result }
 {
     match JsonKeys::of(alloc, schema) {

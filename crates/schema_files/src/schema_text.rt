@@ -17,7 +17,7 @@ use tl_lexer::{TEXT_LIMIT, lex};
 use tl_schema::{CheckFault, Schema, check};
 
 /// The most bytes that a schema's text may have.
-const SCHEMA_BYTES: u32 = 4_194_304;
+pub const SCHEMA_BYTES: u32 = 4_194_304;
 
 const _: () = prove!(SCHEMA_BYTES as usize == TEXT_LIMIT);
 
@@ -33,7 +33,7 @@ fn check_unmade(alloc: Global, what: &str, fault: CheckFault) -> Unmade
     }
 }
 
-/// The schema that a text spells. `what` is what lines call the text.
+/// The schema that a text spells. `what` is what lines call the input.
 pub fn schema_of(alloc: Global, what: &str, text: &[u8]) -> Result<Schema, Unmade>
     ensures { ReadsSchema what.now text.now result }
 {

@@ -2,6 +2,7 @@
 ghost use Rattle.std.specs.Prelude.{None, false};
 ghost use Rattle.box_store.specs.Keeping.{KeeperState};
 
+use crate::count_file::CountFile;
 use crate::database::Database;
 use box_store::{Entry, GetFault, Keeper};
 use sqlite::{Alter, Connection, Error, ErrorCode};
@@ -13,7 +14,17 @@ pub struct SqliteKeeper<S: Alter> {
     database: Database<S>,
     // How many entries there are.
     entries: u32,
+    // Where their number is told as well.
+    count: Option<CountFile>,
     faults: u64,
+}
+
+// Tells the number of entries, where it is told.
+fn is_told(count: &Option<CountFile>, entries: u32) -> bool {
+    match count {
+        Some(file) => file.set(entries).is_ok(),
+        None => true,
+    }
 }
 
 impl<S: Alter + Drop> SqliteKeeper<S> {
@@ -24,18 +35,30 @@ impl<S: Alter + Drop> SqliteKeeper<S> {
         Ok(SqliteKeeper {
             database,
             entries,
+            count: None,
             faults: 0,
         })
     }
 
-    /// The connection, to be closed.
-    pub fn into_connection(self) -> Connection<S> {
+    /// How many entries there are.
+    pub fn entries(&self) -> u32 {
+        self.entries
+    }
+
+    /// Has each number of entries from the next one on told in this file as well.
+    pub fn count_in(&mut self, file: CountFile) {
+        self.count = Some(file);
+    }
+
+    /// The connection, to be closed, and the file in which the number of entries is told.
+    pub fn into_parts(self) -> (Connection<S>, Option<CountFile>) {
         let SqliteKeeper {
             database,
             entries: _,
+            count,
             faults: _,
         } = self;
-        database.into_connection()
+        (database.into_connection(), count)
     }
 }
 
@@ -59,16 +82,17 @@ impl<S: Alter + Drop> Keeper for SqliteKeeper<S> {
         }
     }
 
+    // After a fault the entry may stand at the next open, where its commit was written and not synced. Nothing more is added then: the next open finds
+    // what the disk has.
     fn add(&mut self, entry: Entry) -> Result<(), Failed> {
-        match self.database.add(self.entries, &entry) {
-            Ok(()) => {
-                self.entries = self.entries.saturating_add(1);
-                Ok(())
-            }
-            Err(_) => {
-                self.faults = self.faults.saturating_add(1);
-                Err(Failed)
-            }
+        let entries = self.entries.saturating_add(1);
+        let is_added = self.database.add(self.entries, &entry).is_ok();
+        if is_added && is_told(&self.count, entries) {
+            self.entries = entries;
+            Ok(())
+        } else {
+            self.faults = self.faults.saturating_add(1);
+            Err(Failed)
         }
     }
 }

@@ -3,12 +3,22 @@
 use crate::rows::{PostRow, post_of, put_row};
 use box_events::ListOf;
 use box_store::{Entry, Posts};
-use sqlite::{Alter, Connection, Error, Row, Statement, params};
+use sqlite::{Alter, Connection, Error, ErrorCode, Row, Statement, params};
 use std::alloc::Global;
 
-const MAKE: &str =
-    "CREATE TABLE IF NOT EXISTS entry (n INTEGER PRIMARY KEY, date INTEGER NOT NULL, random_id INTEGER NOT NULL, posts INTEGER NOT NULL) STRICT; \
-CREATE TABLE IF NOT EXISTS post (id INTEGER PRIMARY KEY, kind INTEGER NOT NULL, number INTEGER NOT NULL, body BLOB NOT NULL, more BLOB NOT NULL) STRICT;";
+const NOT_OURS: Error = Error::SqliteFailure(ErrorCode::NotADatabase);
+
+// In one transaction: a run that is killed leaves both tables or none.
+const MAKE: &str = "BEGIN; \
+CREATE TABLE IF NOT EXISTS entry (n INTEGER PRIMARY KEY, date INTEGER NOT NULL, random_id INTEGER NOT NULL, posts INTEGER NOT NULL) STRICT; \
+CREATE TABLE IF NOT EXISTS post (id INTEGER PRIMARY KEY, kind INTEGER NOT NULL, number INTEGER NOT NULL, body BLOB NOT NULL, more BLOB NOT NULL) STRICT; \
+COMMIT;";
+
+// The end of the text of the table of entries, by which a database of entries is known.
+const MARK: &str =
+    " entry (n INTEGER PRIMARY KEY, date INTEGER NOT NULL, random_id INTEGER NOT NULL, posts INTEGER NOT NULL) STRICT";
+
+const TEXTS: &str = "SELECT sql FROM sqlite_schema WHERE sql IS NOT NULL";
 
 pub const COUNT: &str = "SELECT n FROM entry ORDER BY n DESC LIMIT 1";
 
@@ -41,9 +51,34 @@ pub fn command<S: Alter>(conn: &mut Connection<S>, sql: &str) -> Result<(), Erro
     conn.execute_batch(sql)
 }
 
-/// Makes the tables where there are none.
+fn texts<S: Alter>(conn: &mut Connection<S>) -> Result<Vec<Row>, Error> {
+    let list = prepare(conn, TEXTS)?;
+    list.query_all(conn, &[])
+}
+
+fn is_marked(row: &Row) -> Result<bool, Error> {
+    let text: String = row.get(0)?;
+    Ok(text.ends_with(MARK))
+}
+
+// Whether a database with these texts in its schema is one of entries, or empty.
+fn are_ours(rows: &[Row]) -> Result<bool, Error> {
+    for row in rows {
+        if is_marked(row)? {
+            return Ok(true);
+        }
+    }
+    Ok(rows.is_empty())
+}
+
+/// Makes the tables in an empty database. One that has others alone is refused, and nothing is written there.
 pub fn make_tables<S: Alter>(conn: &mut Connection<S>) -> Result<(), Error> {
-    command(conn, MAKE)
+    let rows = texts(conn)?;
+    if are_ours(&rows)? {
+        command(conn, MAKE)
+    } else {
+        Err(NOT_OURS)
+    }
 }
 
 // The number of the last entry, and one.

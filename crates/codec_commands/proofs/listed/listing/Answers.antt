@@ -1,8 +1,8 @@
 use Rattle.std.proofs.Common.{rules}
 use Rattle.tl_schema.specs.Seen.{declaration}
 use Rattle.codec_commands.proofs.ListedLines.{unlisted, listed_function, listed_constructor}
-use Rattle.codec_commands.proofs.listing.listing.Goals as goal
-use Rattle.codec_commands.proofs.listing.listing.Goals.{then-is_listed+then-entry, then-is_listed+else-entry, else-is_listed}
+use Rattle.codec_commands.proofs.listed.listing.Goals as goal
+use Rattle.codec_commands.proofs.listed.listing.Goals.{then-is_listed+then-entry, then-is_listed+else-entry, else-is_listed}
 
 pub loop-i-preserved : goal.loop-i-preserved
 loop-i-preserved c =

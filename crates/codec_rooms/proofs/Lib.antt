@@ -1,0 +1,6 @@
+mod Listing
+mod Checking
+mod Typing
+mod Encoding
+mod TypedLaws
+mod EncodingLaws

@@ -1,0 +1,5 @@
+use Rattle.codec_rooms.proofs.Checking as checking
+use Rattle.codec_rooms.proofs.laws.check_answers.Goals as goal
+
+pub returns : goal.returns
+returns c = checking.check_answers

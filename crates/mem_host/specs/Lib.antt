@@ -1,0 +1,4 @@
+pub mod Logs
+pub mod Fits
+pub mod Memory
+pub mod Reliable

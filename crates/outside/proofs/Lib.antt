@@ -1,0 +1,5 @@
+pub mod Growing
+pub mod Piecewise
+pub mod Running
+pub mod Printed
+pub mod Causing

@@ -1,0 +1,63 @@
+-- What can be said of whatever is made of steps. This project's own.
+use Rattle.std.specs.Prelude.{◌≡◌, ◌⊎◌, List, [], ◌∷◌, true, false, Option, Some, None}
+use Rattle.tl_base.specs.Kinds.{slot_kind, out_kind}
+use Rattle.tl_base.specs.declared.counts.Kind.{Kind}
+use Rattle.tl_base.specs.declared.counts.Kind.TheVariants.{Reads, Writes, Links}
+use Rattle.command_base.specs.declared.status.Status.{Status}
+use Rattle.command_base.specs.declared.status.Status.TheVariants.{Done, Refused, Usage, ReadFault, WriteFault, Memory, LinkFault, PeerFault}
+use Rattle.outside.specs.Events.{Event, opened, took, ended, read_failed, created, put, write_failed, listened, connected, accepted, told}
+use Rattle.outside.specs.Steps.{Step}
+
+-- ---- what happened
+
+-- some event of the trace is such
+abbrev pub Happened : (Event → Type 0) → List Event → Type 0
+Happened P [] = ⊥
+Happened P (e ∷ t) = P e ⊎ Happened P t
+
+-- each is
+abbrev pub Throughout : (Event → Type 0) → List Event → Type 0
+Throughout P [] = Unit {0}
+Throughout P (e ∷ t) = P e × Throughout P t
+
+-- all that a step does is such
+abbrev pub Keeps : {A : Type 0} → (Event → Type 0) → Step A → Type 0
+Keeps {A} P S = (t : List Event) (a : A) → S t a → Throughout P t
+
+-- ---- failures
+
+-- what an event that is a failure was for
+abbrev pub failure : Event → Option Kind
+failure (opened slot name true) = None
+failure (opened slot name false) = Some (slot_kind slot)
+failure (took slot bytes) = None
+failure (ended slot) = None
+failure (read_failed slot) = Some (slot_kind slot)
+failure (created out name true) = None
+failure (created out name false) = Some (out_kind out)
+failure (put out bytes) = None
+failure (write_failed out) = Some (out_kind out)
+failure (listened address true) = None
+failure (listened address false) = Some Links
+failure (connected address true) = None
+failure (connected address false) = Some Links
+failure (accepted true) = None
+failure (accepted false) = Some Links
+failure (told moment) = None
+
+abbrev pub IsFailure : Kind → Event → Type 0
+IsFailure kind e = failure e ≡ Some kind
+
+-- a status that is a fault's comes only after such a failure
+abbrev pub Explains : Status → List Event → Type 0
+Explains ReadFault t = Happened (IsFailure Reads) t
+Explains WriteFault t = Happened (IsFailure Writes) t
+Explains LinkFault t = Happened (IsFailure Links) t
+Explains Done t = Unit {0}
+Explains Refused t = Unit {0}
+Explains Usage t = Unit {0}
+Explains Memory t = Unit {0}
+Explains PeerFault t = Unit {0}
+
+abbrev pub HasCause : Step Status → Type 0
+HasCause work = (t : List Event) (status : Status) → work t status → Explains status t

@@ -1,0 +1,16 @@
+//! The outside of a program as a list of events: a host that tells what has happened, and the steps that runs are made of.
+#![tactic(auto)]
+
+mod ending;
+mod host;
+mod pieces;
+mod printing;
+mod reading;
+mod untold;
+
+pub use ending::finish;
+pub use host::Host;
+pub use pieces::{Taken, take_bytes, tell, write_out};
+pub use printing::{print, print_made};
+pub use reading::read_file;
+pub use untold::Untold;

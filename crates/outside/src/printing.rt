@@ -1,0 +1,38 @@
+//! Answers, printed.
+ghost use Rattle.std.specs.Prelude.{Some};
+ghost use Rattle.command_base.specs.Answer.{done};
+ghost use Rattle.command_base.specs.Jobs.{making};
+ghost use Rattle.outside.specs.Steps.{Did};
+ghost use Rattle.outside.specs.Printing.{Prints, PrintsMade};
+ghost use Rattle.outside.specs.Runs.{answered};
+
+use crate::host::Host;
+use crate::pieces::{tell, write_out};
+use command_base::{Status, Unmade};
+use std::alloc::AllocError;
+use tl_base::Out;
+
+/// Writes a text to Output. A fault in that is told.
+pub fn print<H: Host>(host: &mut H, text: &[u8]) -> Status
+    ensures { Did (Prints (done text.now)) (H.state host.old) (H.state host.new) (Some result) }
+{
+    match write_out(host, Out::Output, text) {
+        Ok(()) => Status::Done,
+        Err(_) => tell(host, b"tlbox: write fault\n", Status::WriteFault),
+    }
+}
+
+/// Writes what was made to Output, or tells why it was not made.
+pub fn print_made<H: Host>(
+    host: &mut H,
+    made: Result<Vec<u8>, Unmade>,
+) -> Result<Status, AllocError>
+    ensures { PrintsMade (making made) (H.state host.old) (H.state host.new) (answered result) }
+{
+    match made {
+        Ok(text) => Ok(print(host, &text)),
+        Err(Unmade::Refused(line)) => Ok(tell(host, &line, Status::Refused)),
+        Err(Unmade::ReadFault) => Ok(tell(host, b"tlbox: read fault\n", Status::ReadFault)),
+        Err(Unmade::Memory) => Err(AllocError),
+    }
+}
