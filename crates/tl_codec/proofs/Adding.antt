@@ -1,6 +1,6 @@
 -- Types that are asked for, and those that are kept.
 use Rattle.std.proofs.Common.{◌≡◌, ℕ, zero, suc, List, [], ◌∷◌, ◌++◌, length, map, Option, None, Some, Result, Ok, Err, refl, sym, ap, ◌∙◌, subst, inl, inr}
-use Rattle.std.specs.Prelude.{slice_get}
+use Rattle.std.specs.Prelude.{slice_get, IsErrAnd}
 use Rattle.std.proofs.lemmas.List.{length-map, map_push}
 use Rattle.std.proofs.lemmas.Option.{same_Some}
 use Rattle.tl_schema.specs.Types.{Shape}
@@ -22,6 +22,11 @@ type_told schema name u told = refuses_as (TellsType schema name) (TellsName sch
 
 pub plan_told : (schema : Declared) (name : List ℕ) (T : Shape) (u : Unmade) → IsTypeText schema.program name T → Refuses (TellsPlan schema T) u → Refuses (TellsName schema name) u
 plan_told schema name T u means told = refuses_as (TellsPlan schema T) (TellsName schema name) u (λ line says. inr (T, means, says)) told
+
+-- at the exit of a `?`
+pub unnamed : (schema : Declared) (name : List ℕ) (old : List Shape) (fault : Unmade) (r : Result ℕ Unmade) → Refuses (TellsName schema name) fault → IsErrAnd r (λ z. z ≡ fault) → Adds schema name old old r
+unnamed schema name old fault (Ok n) told is = absurd is
+unnamed schema name old fault (Err z) told is = (refl, subst (Refuses (TellsName schema name)) (sym is) told)
 
 pub added : (schema : Declared) (name : List ℕ) (old new : List TypeRef) (of : TypeRef) (r : Result ℕ Unmade) → IsPlannedType schema name (shape of) → Pushes old of new r → Adds schema name (map shape old) (map shape new) r
 added schema name old new of (Ok n) is (count, more) = (count ∙ sym (length-map old shape), (shape of, ap (map shape) more ∙ map_push shape old of, is))
