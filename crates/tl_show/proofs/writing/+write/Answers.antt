@@ -63,14 +63,14 @@ write_members-returns t c =
 pub write_member-returns-in-Some : goal.write_member-returns-in-Some
 write_member-returns-in-Some t c =
     let at = c.in-Some.ensures.lookup in
-    let there = field_there (map form_view c.args.forms.now) (string_bytes c.args.form.now.name) (map shape c.args.args.now) c.args.fields.now c.args.key.now.part c.in-Field.index c.in-Field.of.now
+    let there = field_there (map form_view c.args.forms.now) (string_bytes c.args.form.now.name) (map shape c.args.args.now) c.args.fields.now c.args.key.now.part c.in-Field.index c.in-Field.of
     c.in-Some.value.now c.in-Field.is at.3.0 at.1 in
     rw there c.write_field.ensures
 
 pub write_member-returns-in-None : goal.write_member-returns-in-None
 write_member-returns-in-None t c =
     nothing_written c.args.later c.args.out.now.items (string_bytes c.args.key.now.name) _
-    (field_past (map form_view c.args.forms.now) (string_bytes c.args.form.now.name) (map shape c.args.args.now) c.args.fields.now c.args.key.now.part c.in-Field.index c.in-Field.of.now
+    (field_past (map form_view c.args.forms.now) (string_bytes c.args.form.now.name) (map shape c.args.args.now) c.args.fields.now c.args.key.now.part c.in-Field.index c.in-Field.of
     c.in-Field.is c.in-None.ensures.lookup.3)
 
 pub write_record-returns-in-Some : goal.write_record-returns-in-Some

@@ -9,10 +9,10 @@ returns-in_err-of-clause-adds c =
 
 pub invariant_of-self : goal.invariant_of-self
 invariant_of-self c = record {
-    forms_of = c.self.invariant.forms_of;
-    keys_of = c.self.invariant.keys_of;
-    formed = still_formed c.self.inside.schema c.self.inside.types.items c.push_type.new.types.items c.in_ok-of.of c.push_type.result c.self.invariant.formed c.in_ok-of.ensures.formed c.push_type.ensures
-  }
+  forms_of = c.self.invariant.forms_of;
+  keys_of = c.self.invariant.keys_of;
+  formed = still_formed c.self.inside.schema c.self.inside.types.items c.push_type.new.types.items c.in_ok-of.of c.push_type.result c.self.invariant.formed c.in_ok-of.ensures.formed c.push_type.ensures;
+}
 
 pub returns-clause-adds : goal.returns-clause-adds
 returns-clause-adds c =
