@@ -11,8 +11,8 @@ returns-in-Ok c text is =
     let S = c.args.schema.now in
     let T = shape c.args.of.now in
     let v = view c.args.value.now in
-    spelled_told S T text v c.spelled.result is ((each_fits_exactly S c.count.ensures.sound MAX_LEVELS T v c.requires).spelled c.in-Ok.ensures) c.spelled.ensures
+    spelled_told S T text v c.spelled.result is ((each_fits_exactly S c.count-count.ensures.sound MAX_LEVELS T v c.requires.formed).spelled c.in-Ok.ensures.fits) c.spelled.ensures
 
 pub returns-in-Err : goal.returns-in-Err
 returns-in-Err c text is =
-    unfit c.args.schema.now (shape c.args.of.now) text (view c.args.value.now) c.in-Err.fault c.fit_unmade.result is c.in-Err.ensures c.fit_unmade.ensures
+    unfit c.args.schema.now (shape c.args.of.now) text (view c.args.value.now) c.in-Err.fault c.fit_unmade.result is c.in-Err.ensures.fits c.fit_unmade.ensures
