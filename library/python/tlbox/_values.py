@@ -7,6 +7,8 @@ from typing import Any, Dict, Tuple
 from ._reading import Schema, Unread
 
 OPAQUE = {"double": 8, "int128": 16, "int256": 32}
+# The bits of Python's own NaN. Others are given as bytes: a float that has them doesn't keep them in each computation.
+NAN = struct.pack("<d", float("nan"))
 NAMES = {True: "boolTrue", False: "boolFalse"}
 
 
@@ -104,7 +106,7 @@ class Values:
         if kind == "double":
             data = bytes.fromhex(value)
             number = struct.unpack("<d", data)[0]
-            return number if struct.pack("<d", number) == data else data
+            return number if number == number or data == NAN else data
         if kind in OPAQUE or kind == "bytes":
             return bytes.fromhex(value)
         if kind == "string":
