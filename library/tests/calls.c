@@ -58,7 +58,7 @@ static int statuses(void) {
     len = 7;
     tlbox_last(&h, OUT);
     CHECK(5, len == 0 && memcmp(out, before, sizeof out) == 0);
-    CHECK(6, tlbox_open(&h, TEXT("a b"), OUT) == TLBOX_REFUSED && IS("tlbox: schema 2 Unexpected\n") && !h.at);
+    CHECK(6, tlbox_open(&h, TEXT("a x:int"), OUT) == TLBOX_REFUSED && IS("tlbox: schema 7 Unexpected\n") && !h.at);
     memset(out, 170, sizeof out);
     CHECK(7, tlbox_open(&h, TEXT(schema), OUT) == TLBOX_DONE && h.at && len == 0 && memcmp(out, before, sizeof out) == 0);
     CHECK(8, tlbox_decode(&h, 0, none, 0, OUT) == TLBOX_NO_TYPE && len == 0);
