@@ -1,5 +1,5 @@
 -- What is made of a value that is there.
-use Rattle.std.proofs.Common.{◌≡◌, ℕ, ◌≤◌, List, Ok, Err, sym, subst}
+use Rattle.std.proofs.Common.{ℕ, ◌≤◌, List, Ok, Err, sym, subst}
 use Rattle.tl_schema.specs.Types.{Shape}
 use Rattle.tl_schema.specs.Schemas.{Declared}
 use Rattle.tl_types.specs.Values.{ValueView, depth}

@@ -1,26 +1,21 @@
 -- What is made of a schema's text, of a type's name, of bytes and of JSON: what the program writes, or the line with which it refuses.
-use Rattle.std.specs.Prelude.{◌≡◌, ℕ, ◌<◌, ◌≤◌, List, [], ◌∷◌, ◌++◌, length, IfSome, slice_get, codes, Result, Ok, Err, Vec}
+use Rattle.std.specs.Prelude.{◌≡◌, ℕ, ◌<◌, ◌≤◌, List, ◌++◌, length, codes, Result, Vec}
 use Rattle.std.specs.declared.alloc.Global.{Global}
-use Rattle.serde_json.specs.Data.{Data}
 use Rattle.tl_schema.specs.Types.{Shape}
 use Rattle.tl_schema.specs.Schemas.{Declared}
 use Rattle.tl_types.specs.Values.{ValueView, depth}
 use Rattle.tl_types.specs.Spelling.{Spells}
 use Rattle.tl_types.specs.Refusal.{Refused}
 use Rattle.tl_types.specs.Offsets.{moved}
-use Rattle.tl_types.specs.Fitting as fitting
 use Rattle.tl_types.specs.declared.cause.Cause.{Cause}
-use Rattle.tl_types.specs.declared.misfit.MisfitCause.{MisfitCause}
 use Rattle.tl_types.specs.declared.value.TheConstants.{MAX_LEVELS}
 use Rattle.tl_decode.specs.declared.whole.WholeFault.{WholeFault}
 use Rattle.tl_decode.specs.declared.whole.WholeFault.TheVariants as whole
-use Rattle.tl_show.specs.Reading.{read}
 use Rattle.command_base.specs.declared.stop.Unmade.{Unmade}
 use Rattle.command_base.specs.declared.stop.Unmade.TheVariants as unmade
-use Rattle.command_base.specs.Loading.{Refuses, RefusesAs, Gives}
-use Rattle.schema_files.specs.Causes.{JsonCause, Misfit}
-use Rattle.schema_files.specs.JsonInput.{IsForm, IsJson}
-use Rattle.schema_files.specs.Lines.{line_text, input_line, cause_text, json_line}
+use Rattle.command_base.specs.Loading.{RefusesAs, Gives}
+use Rattle.schema_files.specs.JsonInput.{IsForm}
+use Rattle.schema_files.specs.Lines.{line_text, input_line, cause_text}
 use Rattle.schema_files.specs.Parts.{TellsJson}
 
 -- ---- bytes

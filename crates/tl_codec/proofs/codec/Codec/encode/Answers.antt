@@ -1,4 +1,4 @@
-use Rattle.std.proofs.Common.{ℕ, ◌<◌, List, length, map, sym, subst}
+use Rattle.std.proofs.Common.{◌<◌, length, map, sym, subst}
 use Rattle.tl_schema.specs.Seen.{shape}
 use Rattle.tl_codec.specs.Codings.{Encodes}
 use Rattle.tl_codec.specs.Typings.{Coder}
