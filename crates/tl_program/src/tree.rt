@@ -1,6 +1,6 @@
 //! Types as they are written.
 ghost use Rattle.std.specs.Prelude.{◌≡◌};
-ghost use Rattle.tl_combinators.specs.Trees.{is_plain, view};
+ghost use Rattle.tl_program.specs.Trees.{is_plain, view};
 
 use tl_numbers::Bytes;
 

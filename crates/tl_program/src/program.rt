@@ -1,6 +1,6 @@
 //! What a text declares.
 ghost use Rattle.std.specs.Prelude.{◌≡◌};
-ghost use Rattle.tl_combinators.specs.Program.{decl_text};
+ghost use Rattle.tl_program.specs.Program.{decl_text};
 
 use crate::tree::TypeTree;
 use tl_numbers::Bytes;

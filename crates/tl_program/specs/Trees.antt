@@ -2,8 +2,8 @@
 -- From "Formal description of TL" (core.telegram.org/mtproto/TL-formal), its terms and expressions.
 use Rattle.std.specs.Prelude.{ℕ, List, [], ◌∷◌, map, Bool, false, bytes_eq}
 use Rattle.std.specs.Box.{box_value}
-use Rattle.tl_combinators.specs.declared.tree.TypeTree.{TypeTree, fold-TypeTree}
-use Rattle.tl_combinators.specs.declared.tree.TypeTree.TheOpen.{TypeTree-F}
+use Rattle.tl_program.specs.declared.tree.TypeTree.{TypeTree, fold-TypeTree}
+use Rattle.tl_program.specs.declared.tree.TypeTree.TheOpen.{TypeTree-F}
 
 mutual
   -- a name and the types it is applied to, `%` and a type, or any call

@@ -2,8 +2,8 @@
 use Rattle.std.proofs.Common.{◌≡◌, List, [], ◌∷◌, ◌++◌, ℕ, Vec, Global, Box, ap, ◌∙◌, rules}
 use Rattle.std.proofs.lemmas.List.{map_push}
 use Rattle.std.specs.Box.{box_value}
-use Rattle.tl_combinators.specs.declared.tree.TypeTree.{TypeTree, Named, Percent, AnyCall, the_lemmas}
-use Rattle.tl_combinators.specs.Trees.{named, percent, any_call, plain, trees_of, view, views}
+use Rattle.tl_program.specs.declared.tree.TypeTree.{TypeTree, Named, Percent, AnyCall, the_lemmas}
+use Rattle.tl_program.specs.Trees.{named, percent, any_call, plain, trees_of, view, views}
 
 pub view-Named : (name : List ℕ) (args : Vec TypeTree Global) → view (Named name args) ≡ named name (trees_of (views args.items))
 view-Named name args = search (rules, the_lemmas)

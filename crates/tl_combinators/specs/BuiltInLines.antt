@@ -1,47 +1,18 @@
 -- Program text: the lines of the eight types that the language has from the start.
 -- From "TL language" (core.telegram.org/mtproto/TL), its built-in types. Which forms these lines may have is this project's own.
-use Rattle.std.specs.Prelude.{ℕ, List, [], true, false, Option, Some, None, bytes_eq, if◌then◌else◌, codes}
+use Rattle.std.specs.Prelude.{ℕ, List, [], true, false, Option, codes}
 use Rattle.tl_lexer.specs.Rule.{Rule, gives, fails, chain, choice, Next}
 use Rattle.tl_lexer.specs.declared.token.Token.{Token}
 use Rattle.tl_lexer.specs.declared.token.TokenKind.TheVariants.{Hash, Colon, Semi, Equals, Query, LBrace, RBrace, LBracket, RBracket, Star}
 use Rattle.tl_combinators.specs.declared.fault.SyntaxFault.{SyntaxFault}
 use Rattle.tl_combinators.specs.declared.fault.Form.TheVariants.{DependentNumber, ObjectType}
-use Rattle.tl_combinators.specs.declared.built_in.BuiltIn.{BuiltIn}
-use Rattle.tl_combinators.specs.declared.built_in.BuiltIn.TheVariants.{Int, Long, Double, Str, Bytes, Vector, Int128, Int256}
+use Rattle.tl_program.specs.declared.built_in.BuiltIn.{BuiltIn}
+use Rattle.tl_program.specs.declared.built_in.BuiltIn.TheVariants.{Int, Long, Double, Str, Bytes, Vector, Int128, Int256}
 use Rattle.tl_combinators.specs.Tokens.{not_profile, Begins, token, this_word}
 use Rattle.tl_combinators.specs.Names.{NameText, IsObject, number, vector_line_number}
-use Rattle.tl_combinators.specs.Trees.{plain}
-use Rattle.tl_combinators.specs.Program.{DeclText}
-
--- the name of the line
-abbrev pub own_name : BuiltIn → List ℕ
-own_name Int = codes "int"
-own_name Long = codes "long"
-own_name Double = codes "double"
-own_name Str = codes "string"
-own_name Bytes = codes "bytes"
-own_name Vector = codes "vector"
-own_name Int128 = codes "int128"
-own_name Int256 = codes "int256"
-
--- its boxed type, which stands after `=`
-abbrev pub boxed_name : BuiltIn → List ℕ
-boxed_name Int = codes "Int"
-boxed_name Long = codes "Long"
-boxed_name Double = codes "Double"
-boxed_name Str = codes "String"
-boxed_name Bytes = codes "Bytes"
-boxed_name Vector = codes "Vector"
-boxed_name Int128 = codes "Int128"
-boxed_name Int256 = codes "Int256"
-
--- the line that a name begins
-abbrev pub built_in : List ℕ → Option BuiltIn
-built_in name =
-    if bytes_eq name (own_name Int) then Some Int else if bytes_eq name (own_name Long) then Some Long
-    else if bytes_eq name (own_name Double) then Some Double else if bytes_eq name (own_name Str) then Some Str
-    else if bytes_eq name (own_name Bytes) then Some Bytes else if bytes_eq name (own_name Vector) then Some Vector
-    else if bytes_eq name (own_name Int128) then Some Int128 else if bytes_eq name (own_name Int256) then Some Int256 else None
+use Rattle.tl_program.specs.BuiltIns.{own_name, boxed_name}
+use Rattle.tl_program.specs.Trees.{plain}
+use Rattle.tl_program.specs.Program.{DeclText}
 
 -- this name, in the place of the result's type
 unfoldable pub this_type : List ℕ → List ℕ → Rule Token SyntaxFault Token

@@ -3,8 +3,8 @@ use Rattle.std.proofs.Common.{◌≡◌, List, [], ◌∷◌, ℕ, length, false
 use Rattle.std.specs.Prelude.{◌==◌}
 use Rattle.std.specs.Vec.{vec_len}
 use Rattle.std.proofs.lemmas.Bool.Decides.{nat_tests}
-use Rattle.tl_combinators.specs.declared.tree.TypeTree.{TypeTree, Named, the_lemmas}
-use Rattle.tl_combinators.specs.Trees.{Tree, Trees, tree, named, trees_of, view, views}
+use Rattle.tl_program.specs.declared.tree.TypeTree.{TypeTree, Named, the_lemmas}
+use Rattle.tl_program.specs.Trees.{Tree, Trees, tree, named, trees_of, view, views}
 
 module _ (P : Tree → Type 0) (name : List ℕ) (each : (t : Tree) (ts : Trees) → P (named name (tree t ts))) where
   holds_of : (ts : List TypeTree) (n : ℕ) → n ≡ length ts → false ≡ (n == 0) → P (named name (trees_of (views ts)))

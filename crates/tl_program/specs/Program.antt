@@ -2,13 +2,13 @@
 -- From "TL language" (core.telegram.org/mtproto/TL) and "Formal description of TL" (core.telegram.org/mtproto/TL-formal), its combinator declarations.
 use Rattle.std.specs.Prelude.{ℕ, ◌+◌, ◌≤◌, List, length, map, Bool, Option, Some, None}
 use Rattle.std.specs.List.{All}
-use Rattle.tl_combinators.specs.declared.program.FieldKind.{FieldKind}
-use Rattle.tl_combinators.specs.declared.program.FieldKind.TheVariants.{Nat, Flag, Call, Of}
-use Rattle.tl_combinators.specs.declared.program.Cond.{Cond}
-use Rattle.tl_combinators.specs.declared.program.Field.{Field}
-use Rattle.tl_combinators.specs.declared.program.Decl.{Decl}
-use Rattle.tl_combinators.specs.declared.program.Program.{Program}
-use Rattle.tl_combinators.specs.Trees.{Tree, view}
+use Rattle.tl_program.specs.declared.program.FieldKind.{FieldKind}
+use Rattle.tl_program.specs.declared.program.FieldKind.TheVariants.{Nat, Flag, Call, Of}
+use Rattle.tl_program.specs.declared.program.Cond.{Cond}
+use Rattle.tl_program.specs.declared.program.Field.{Field}
+use Rattle.tl_program.specs.declared.program.Decl.{Decl}
+use Rattle.tl_program.specs.declared.program.Program.{Program}
+use Rattle.tl_program.specs.Trees.{Tree, view}
 
 -- a program has at most so many declarations
 abbrev pub declaration_limit : ℕ
