@@ -1,6 +1,6 @@
 -- The type that a word means is formed.
 use Rattle.std.proofs.Common.{ℕ, ◌<◌, List, true≢false, sym, subst}
-use Rattle.tl_combinators.specs.Trees.{Tree, named, percent, any_call}
+use Rattle.tl_program.specs.Trees.{Tree, named, percent, any_call}
 use Rattle.tl_names.specs.Parts.{IsPart}
 use Rattle.tl_names.specs.Places.{variable_of}
 use Rattle.tl_names.proofs.HeadNames.{type_name}

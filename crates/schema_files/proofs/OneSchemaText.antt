@@ -5,7 +5,7 @@ use Rattle.tl_lexer.specs.Tokens.{Tokens}
 use Rattle.tl_lexer.specs.OneAnswer.{HasTokens, IsRefused}
 use Rattle.tl_lexer.proofs.WholePieces.{one_answer as lexer_law}
 use Rattle.tl_combinators.specs.declared.fault.SyntaxFault.{SyntaxFault}
-use Rattle.tl_combinators.specs.Program.{DeclText}
+use Rattle.tl_program.specs.Program.{DeclText}
 use Rattle.tl_combinators.specs.Sentences.{Reads, SyntaxRefused}
 use Rattle.tl_combinators.proofs.OneProgram.{one_program}
 use Rattle.tl_combinators.proofs.WrittenNumbers.{numbers_fit}

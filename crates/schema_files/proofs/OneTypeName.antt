@@ -1,7 +1,7 @@
 -- A word is a type or is refused: one of the two, and in one way.
 use Rattle.std.proofs.Common.{◌≡◌, ◌⊎◌, ℕ, List, ap, inl, inr}
 use Rattle.tl_combinators.specs.Sentences.{TypeRefused}
-use Rattle.tl_combinators.specs.Trees.{Tree}
+use Rattle.tl_program.specs.Trees.{Tree}
 use Rattle.tl_combinators.proofs.OneProgram.{one_type}
 use Rattle.tl_combinators.proofs.Causes.{no_memory_of_type}
 use Rattle.tl_schema.specs.Types.{Shape}

@@ -9,7 +9,7 @@ use Rattle.tl_lexer.specs.Lexed.{Lexes}
 use Rattle.tl_lexer.specs.Tokens.{Tokens}
 use Rattle.tl_combinators.specs.declared.fault.SyntaxFault.{SyntaxFault}
 use Rattle.tl_combinators.specs.declared.fault.SyntaxFault.TheVariants as syntax
-use Rattle.tl_combinators.specs.Program.{DeclText}
+use Rattle.tl_program.specs.Program.{DeclText}
 use Rattle.tl_combinators.specs.Sentences.{Reads, SyntaxRefused, FaultIs}
 use Rattle.tl_schema.specs.CheckedPrograms.{Checks}
 use Rattle.tl_schema.specs.declared.fault.CheckFault.{CheckFault}

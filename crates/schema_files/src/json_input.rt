@@ -5,6 +5,7 @@ ghost use Rattle.tl_base.specs.Outside.{IsThere};
 ghost use Rattle.tl_base.specs.Using.{MeetsFaults};
 ghost use Rattle.tl_base.specs.declared.counts.Kind.TheVariants as kinds;
 ghost use Rattle.tl_schema.specs.Seen.{shape};
+ghost use Rattle.tl_show.specs.inner.Kept.{AreKeysOf};
 ghost use Rattle.tl_types.specs.Fitting.{misfit};
 ghost use Rattle.tl_types.specs.Seen.{view};
 ghost use Rattle.tl_types.specs.declared.value.TheConstants.{MAX_LEVELS};
@@ -20,7 +21,7 @@ use command_base::Unmade;
 use std::alloc::Global;
 use tl_base::{Host, Slot, read_file};
 use tl_schema::{Schema, TypeRef};
-use tl_show::{FormCause, JsonTextFault, read_text};
+use tl_show::{FormCause, JsonKeys, JsonTextFault};
 use tl_types::{FitFault, MisfitCause, Value, fits};
 
 /// The most bytes that an input of JSON may have.
@@ -67,6 +68,26 @@ fn json_unmade(alloc: Global, fault: &JsonTextFault) -> Unmade
     }
 }
 
+/// The value that a text is the form of, whether it fits its type or not, by the keys that were made of the schema.
+pub fn form_by(
+    alloc: Global,
+    keys: &JsonKeys,
+    schema: &Schema,
+    of: &TypeRef,
+    text: &[u8],
+) -> Result<Value, Unmade>
+    requires made { AreKeysOf schema.now keys.now }
+    ensures { ReadsForm schema.now (shape of.now) text.now result }
+{
+    if text.len() > JSON_BYTES as usize {
+        return Err(Unmade::unplaced(alloc, "input", "TooLong"));
+    }
+    match keys.read(alloc, schema, of, text) {
+        Ok(value) => Ok(value),
+        Err(fault) => Err(json_unmade(alloc, &fault)),
+    }
+}
+
 /// The value that a text is the form of, whether it fits its type or not.
 pub fn formed_value(
     alloc: Global,
@@ -76,12 +97,9 @@ pub fn formed_value(
 ) -> Result<Value, Unmade>
     ensures { ReadsForm schema.now (shape of.now) text.now result }
 {
-    if text.len() > JSON_BYTES as usize {
-        return Err(Unmade::unplaced(alloc, "input", "TooLong"));
-    }
-    match read_text(alloc, schema, of, text) {
-        Ok(value) => Ok(value),
-        Err(fault) => Err(json_unmade(alloc, &fault)),
+    match JsonKeys::of(alloc, schema) {
+        Ok(keys) => form_by(alloc, &keys, schema, of, text),
+        Err(_) => Err(Unmade::Memory),
     }
 }
 

@@ -2,11 +2,12 @@
 ghost use Rattle.std.specs.Prelude.{◌≡◌, IfOk};
 ghost use Rattle.tl_schema.specs.Seen.{shape};
 ghost use Rattle.tl_types.specs.Seen.{view};
+ghost use Rattle.tl_show.specs.inner.Kept.{AreFormsOf};
 ghost use Rattle.schema_files.specs.Lines.{line_text};
 
 use std::alloc::{AllocError, Global};
 use tl_schema::{Schema, TypeRef};
-use tl_show::JsonPrinter;
+use tl_show::{JsonForms, JsonPrinter};
 use tl_types::Value;
 
 /// The line of a value of a type by the printer of its schema: its JSON, and a line feed.
@@ -19,6 +20,22 @@ pub fn printed_line(
     ensures { IfOk result (λ line. line.items ≡ line_text printer.now.schema.now.decls (shape of.now) (view value.now)) }
 {
     let mut line = printer.text(alloc, of, value)?;
+    line.push(b'\n')?;
+    Ok(line)
+}
+
+/// The line of a value of a type by the forms that were made of its schema.
+pub fn line_by(
+    alloc: Global,
+    forms: &JsonForms,
+    schema: &Schema,
+    of: &TypeRef,
+    value: &Value,
+) -> Result<Vec<u8>, AllocError>
+    requires made { AreFormsOf schema.now forms.now }
+    ensures { IfOk result (λ line. line.items ≡ line_text schema.now.decls (shape of.now) (view value.now)) }
+{
+    let mut line = forms.text(alloc, schema, of, value)?;
     line.push(b'\n')?;
     Ok(line)
 }

@@ -23,13 +23,21 @@ fn type_unmade(alloc: Global, fault: TypeFault) -> Unmade
     }
 }
 
+/// The type that a text means.
+pub fn type_spelled(alloc: Global, schema: &Schema, text: &[u8]) -> Result<TypeRef, Unmade>
+    ensures names { MeansType schema.now text.now result }
+    ensures formed { IfOk result (λ of. IsFormed schema.now (shape of)) }
+{
+    match type_of(alloc, schema, text) {
+        Ok(of) => Ok(of),
+        Err(fault) => Err(type_unmade(alloc, fault)),
+    }
+}
+
 /// The type that a word means.
 pub fn type_named(alloc: Global, schema: &Schema, text: &str) -> Result<TypeRef, Unmade>
     ensures names { MeansType schema.now text.now result }
     ensures formed { IfOk result (λ of. IsFormed schema.now (shape of)) }
 {
-    match type_of(alloc, schema, text.as_bytes()) {
-        Ok(of) => Ok(of),
-        Err(fault) => Err(type_unmade(alloc, fault)),
-    }
+    type_spelled(alloc, schema, text.as_bytes())
 }

@@ -5,7 +5,7 @@ use Rattle.std.proofs.lemmas.Bool.{cases_eq, false_from_ne_true}
 use Rattle.std.proofs.lemmas.List.Sums.{sum_by-append, position_or_len_is, passes_at_first}
 use Rattle.std.proofs.lemmas.Option.{none-some, same_Some, slice_get-map, slice_get_within, slice_get-get_or, get_or_from_slice_get, slice_get_cases}
 use Rattle.std.proofs.lemmas.Slice.Eq.{bytes_eq-Decides}
-use Rattle.tl_combinators.specs.Program.{KindText, nat, flag, call, of, FieldText, DeclText}
+use Rattle.tl_program.specs.Program.{KindText, nat, flag, call, of, FieldText, DeclText}
 use Rattle.tl_names.specs.Writing.{At}
 use Rattle.tl_names.specs.Places.{variable_of}
 use Rattle.tl_schema.specs.SameName.{part}

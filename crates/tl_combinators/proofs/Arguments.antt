@@ -7,7 +7,7 @@ use Rattle.tl_lexer.proofs.Steps.{then_ok, then_err, gives_ok}
 use Rattle.tl_lexer.proofs.Turns.{Came, came_none, came_more, loop_ok, loop_err}
 use Rattle.tl_combinators.specs.declared.fault.SyntaxFault.{SyntaxFault}
 use Rattle.tl_combinators.specs.Tokens.{fault_of, Begins}
-use Rattle.tl_combinators.specs.Trees.{Tree}
+use Rattle.tl_program.specs.Trees.{Tree}
 use Rattle.tl_combinators.specs.Types.{BeginsTerm, one_term, one_listed, listed}
 
 -- ---- one more term

@@ -5,16 +5,16 @@ use Rattle.tl_lexer.specs.declared.token.Token.{Token}
 use Rattle.tl_lexer.specs.declared.token.TokenKind.{TokenKind}
 use Rattle.tl_combinators.specs.declared.fault.SyntaxFault.{SyntaxFault}
 use Rattle.tl_combinators.specs.declared.fault.SyntaxFault.TheVariants.{Unexpected, NotProfile, TooMany, Memory}
-use Rattle.tl_combinators.specs.declared.built_in.BuiltIn.{BuiltIn}
-use Rattle.tl_combinators.specs.declared.built_in.BuiltIn.TheVariants.{Int, Long, Double, Str, Bytes, Vector, Int128, Int256}
+use Rattle.tl_program.specs.declared.built_in.BuiltIn.{BuiltIn}
+use Rattle.tl_program.specs.declared.built_in.BuiltIn.TheVariants.{Int, Long, Double, Str, Bytes, Vector, Int128, Int256}
 use Rattle.tl_combinators.specs.Taken.{taken}
 use Rattle.tl_combinators.specs.Tokens.{token, letter_word, this_word}
 use Rattle.tl_combinators.specs.Names.{NameText, name_from, name, declared_name, type_name, hex, vector_hex, number_by, number, vector_line_number}
-use Rattle.tl_combinators.specs.Trees.{Tree}
+use Rattle.tl_program.specs.Trees.{Tree}
 use Rattle.tl_combinators.specs.Types.{level_limit, one_opens, opens, closes, in_parens, one_term, terms, one_listed, listed, applied, application, no_level, after_percent, bare, core, term, expression, at_end, whole_type}
 use Rattle.tl_combinators.specs.Description.{Piece, description}
 use Rattle.tl_combinators.specs.Fields.{bit, condition, called, in_condition, held, where_field, field, field_too_many, one_field, fields}
-use Rattle.tl_combinators.specs.BuiltIns.{this_type, sort, boxed, opaque, bracketed, repeated, element, vector_result, vector, line_form, line_number, built_in_line}
+use Rattle.tl_combinators.specs.BuiltInLines.{this_type, sort, boxed, opaque, bracketed, repeated, element, vector_result, vector, line_form, line_number, built_in_line}
 use Rattle.tl_combinators.specs.Declarations.{variable, one_variable, variables, result_type, combinator, named_declaration, declaration, where_declaration, declaration_too_many}
 use Rattle.tl_combinators.specs.Sentences.{ProgramText, section, mark, one_declaration, item, program, SyntaxRefused, TypeRefused}
 

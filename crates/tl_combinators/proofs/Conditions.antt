@@ -6,7 +6,8 @@ use Rattle.tl_lexer.specs.declared.token.Token.{Token}
 use Rattle.tl_lexer.specs.declared.token.TokenKind.TheVariants.{Dot, Colon}
 use Rattle.tl_lexer.proofs.Steps.{front, of_next}
 use Rattle.tl_combinators.specs.declared.fault.SyntaxFault.{SyntaxFault}
-use Rattle.tl_combinators.specs.Tokens.{fault_of, unexpected, Begins, IsWord, is_letter, is_digit}
+use Rattle.tl_program.specs.Letters.{is_letter, is_digit}
+use Rattle.tl_combinators.specs.Tokens.{fault_of, unexpected, Begins, IsWord}
 use Rattle.tl_combinators.specs.Fields.{IsBit, HasBit, bit, BeginsCondition, IsLone}
 
 -- ---- the number of a bit

@@ -9,8 +9,9 @@ use Rattle.tl_lexer.specs.declared.token.Token.{Token}
 use Rattle.tl_lexer.specs.declared.token.TokenKind.{TokenKind}
 use Rattle.tl_lexer.specs.declared.token.TokenKind.TheVariants.{Word, Dashes, Hash, Colon, Semi, Equals, Query, Dot, Bang, Percent, LBrace, RBrace, LBracket, RBracket, Less, Greater, LParen, RParen, Star, Comma, Plus}
 use Rattle.tl_lexer.proofs.Whole.{Decided, next_decided}
-use Rattle.tl_combinators.specs.Tokens.{bytes_of, OfKind, Begins, IsAt, first_is, is_letter, is_lower, IsWord, IsThis}
-use Rattle.tl_combinators.specs.Tokens.{is_digit as is_decimal}
+use Rattle.tl_program.specs.Letters.{first_is, is_letter, is_lower}
+use Rattle.tl_combinators.specs.Tokens.{bytes_of, OfKind, Begins, IsAt, IsWord, IsThis}
+use Rattle.tl_program.specs.Letters.{is_digit as is_decimal}
 use Rattle.tl_combinators.specs.Names.{IsSpace, IsLast, IsHex, vector_number, IsOtherNumber}
 use Rattle.tl_combinators.specs.Types.{BeginsTerm, BeginsType}
 use Rattle.tl_combinators.specs.Fields.{bit_value, HasBit, BeginsBit, BeginsCondition, BeginsMultiplicity, IsLone, BeginsUnnamed}

@@ -8,13 +8,13 @@ use Rattle.tl_lexer.specs.declared.token.Token.{Token}
 use Rattle.tl_lexer.proofs.Turns.{Came}
 use Rattle.tl_combinators.specs.declared.description.FieldShowing.{FieldShowing}
 use Rattle.tl_combinators.specs.declared.description.FieldShowing.TheVariants.{Hidden, WithString, Written}
-use Rattle.tl_combinators.specs.declared.built_in.BuiltIn.{BuiltIn}
+use Rattle.tl_program.specs.declared.built_in.BuiltIn.{BuiltIn}
 use Rattle.tl_combinators.specs.declared.fault.SyntaxFault.{SyntaxFault}
-use Rattle.tl_combinators.specs.declared.program.Decl.{Decl}
+use Rattle.tl_program.specs.declared.program.Decl.{Decl}
 use Rattle.tl_lexer.specs.declared.token.TokenKind.TheVariants.{Equals}
 use Rattle.tl_combinators.specs.Tokens.{fault_of, Begins}
 use Rattle.tl_combinators.specs.Names.{NameText}
-use Rattle.tl_combinators.specs.Program.{FieldText, decl_text}
+use Rattle.tl_program.specs.Program.{FieldText, decl_text}
 use Rattle.tl_combinators.specs.Description.{Piece, omitted, piece, pieces, string_piece, string_pieces, left_out, field_showing, before_type, field_pieces, field_pieces_by}
 use Rattle.tl_combinators.specs.DescriptionSoFar.{Described, put, so_far, all_shown, all_as_string, all_left_out, field_shown, field_shown_by}
 use Rattle.tl_combinators.specs.Fields.{one_field, fields, fields_text, FieldsText}

@@ -5,12 +5,12 @@ use Rattle.tl_lexer.specs.declared.token.Token.{Token}
 use Rattle.tl_lexer.proofs.Sure.{Sure}
 use Rattle.tl_combinators.specs.declared.fault.SyntaxFault.{SyntaxFault}
 use Rattle.tl_combinators.specs.declared.fault.SyntaxFault.TheVariants.{Unexpected, NotProfile, TooMany, Memory}
-use Rattle.tl_combinators.specs.declared.program.Program.{Program}
-use Rattle.tl_combinators.specs.declared.tree.TypeTree.{TypeTree}
+use Rattle.tl_program.specs.declared.program.Program.{Program}
+use Rattle.tl_program.specs.declared.tree.TypeTree.{TypeTree}
 use Rattle.tl_combinators.specs.Tokens.{fault_of}
-use Rattle.tl_combinators.specs.Trees.{Tree, view}
+use Rattle.tl_program.specs.Trees.{Tree, view}
 use Rattle.tl_combinators.specs.Types.{whole_type}
-use Rattle.tl_combinators.specs.Program.{DeclText, program_text}
+use Rattle.tl_program.specs.Program.{DeclText, program_text}
 use Rattle.tl_combinators.specs.Sentences.{ProgramText, program_so_far, program, Reads, SyntaxRefused, ReadsType, TypeRefused, Accepts, Refuses}
 use Rattle.tl_combinators.proofs.LawfulProgram.{lawful_program, lawful_whole_type}
 

@@ -9,16 +9,18 @@ use Rattle.tl_lexer.specs.declared.token.TokenKind.TheVariants.{Dashes, Hash, Eq
 use Rattle.tl_lexer.proofs.Sure.{Sure}
 use Rattle.tl_lexer.proofs.Whole.{Outcome, Decided, next_decided}
 use Rattle.tl_combinators.specs.declared.fault.SyntaxFault.{SyntaxFault}
-use Rattle.tl_combinators.specs.declared.built_in.BuiltIn.{BuiltIn}
-use Rattle.tl_combinators.specs.declared.built_in.BuiltIn.TheVariants.{Int, Long, Double, Str, Bytes, Vector, Int128, Int256}
-use Rattle.tl_combinators.specs.Tokens.{bytes_of, unexpected, is_letter, is_lower, is_upper, token, letter_word, this_word}
+use Rattle.tl_program.specs.declared.built_in.BuiltIn.{BuiltIn}
+use Rattle.tl_program.specs.declared.built_in.BuiltIn.TheVariants.{Int, Long, Double, Str, Bytes, Vector, Int128, Int256}
+use Rattle.tl_program.specs.Letters.{is_letter, is_lower, is_upper}
+use Rattle.tl_combinators.specs.Tokens.{bytes_of, unexpected, token, letter_word, this_word}
 use Rattle.tl_combinators.specs.Names.{NameText, IsObject, name_from, name, declared_name, type_name, hex, vector_hex, number_by, number, vector_line_number}
-use Rattle.tl_combinators.specs.Trees.{Tree}
+use Rattle.tl_program.specs.Trees.{Tree}
 use Rattle.tl_combinators.specs.Types.{level_limit, one_opens, opens, closes, in_parens, one_term, terms, one_listed, listed, applied, application, no_level, after_percent, bare, core, type_in, term, expression, at_end, whole_type}
 use Rattle.tl_combinators.specs.Description.{Piece}
-use Rattle.tl_combinators.specs.Program.{declaration_limit, part_limit}
+use Rattle.tl_program.specs.Program.{declaration_limit, part_limit}
 use Rattle.tl_combinators.specs.Fields.{bit_value, IsBit, HasBit, bit, condition, called, in_condition, held, where_field, field, field_too_many, FieldsText, fields_text, one_field, fields}
-use Rattle.tl_combinators.specs.BuiltIns.{this_type, sort, boxed, opaque, bracketed, repeated, element, vector_result, vector, line_form, line_number, built_in, built_in_line}
+use Rattle.tl_program.specs.BuiltIns.{built_in}
+use Rattle.tl_combinators.specs.BuiltInLines.{this_type, sort, boxed, opaque, bracketed, repeated, element, vector_result, vector, line_form, line_number, built_in_line}
 use Rattle.tl_combinators.specs.Declarations.{variable, one_variable, variables, result_type, combinator, named_declaration, declaration, where_declaration, declaration_too_many}
 use Rattle.tl_combinators.specs.Sentences.{ProgramText, program_so_far, section, mark, one_declaration, item, program}
 use Rattle.tl_combinators.proofs.Rows.{Shorter, shorter_one, shorter_fails, shorter_choice, shorter_taken}

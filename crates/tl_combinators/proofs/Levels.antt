@@ -6,7 +6,7 @@ use Rattle.tl_lexer.specs.declared.token.TokenKind.TheVariants.{Percent}
 use Rattle.tl_lexer.proofs.Steps.{yes, no}
 use Rattle.tl_combinators.specs.declared.fault.SyntaxFault.{SyntaxFault}
 use Rattle.tl_combinators.specs.Tokens.{fault_of, Begins}
-use Rattle.tl_combinators.specs.Trees.{Tree}
+use Rattle.tl_program.specs.Trees.{Tree}
 use Rattle.tl_combinators.specs.Types.{core, no_level, bare, after_percent, application, in_parens}
 
 pub not_true : (x : Bool) → x ≡ false → IsTrue x → ⊥

@@ -2,11 +2,9 @@ mod OneToken
 mod Digits
 mod Parentheses
 mod Levels
-pub mod TreeViews
 mod Arguments
 mod BuiltInLines
 mod TokenParts
-pub mod AppliedNames
 mod Conditions
 mod Counts
 pub mod Describing

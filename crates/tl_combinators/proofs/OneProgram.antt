@@ -5,9 +5,9 @@ use Rattle.tl_lexer.specs.Rule.{gives, fails, chain, choice, loop}
 use Rattle.tl_lexer.specs.declared.token.Token.{Token}
 use Rattle.tl_lexer.proofs.Whole.{Outcome}
 use Rattle.tl_combinators.specs.declared.fault.SyntaxFault.{SyntaxFault}
-use Rattle.tl_combinators.specs.Trees.{Tree}
+use Rattle.tl_program.specs.Trees.{Tree}
 use Rattle.tl_combinators.specs.Types.{at_end, whole_type}
-use Rattle.tl_combinators.specs.Program.{DeclText}
+use Rattle.tl_program.specs.Program.{DeclText}
 use Rattle.tl_combinators.specs.Sentences.{ProgramText, program, Reads, SyntaxRefused, ReadsType, TypeRefused}
 use Rattle.tl_combinators.specs.OneReading.{HasOneProgram, HasOneType}
 use Rattle.tl_combinators.proofs.DecidedTokens.{cell_left}

@@ -4,12 +4,12 @@ use Rattle.std.proofs.lemmas.List.Elements.{All-nil, All-push}
 use Rattle.tl_lexer.specs.Rule.{Rule}
 use Rattle.tl_lexer.specs.declared.token.Token.{Token}
 use Rattle.tl_combinators.specs.declared.fault.SyntaxFault.{SyntaxFault}
-use Rattle.tl_combinators.specs.declared.built_in.BuiltIn.{BuiltIn}
+use Rattle.tl_program.specs.declared.built_in.BuiltIn.{BuiltIn}
 use Rattle.tl_combinators.specs.Names.{NameText}
-use Rattle.tl_combinators.specs.Program.{declaration_limit, part_limit, DeclText, HasFewParts, IsWithinLimits}
+use Rattle.tl_program.specs.Program.{declaration_limit, part_limit, DeclText, HasFewParts, IsWithinLimits}
 use Rattle.tl_combinators.specs.Description.{Piece}
 use Rattle.tl_combinators.specs.Fields.{FieldsText, where_field, field_too_many, one_field, fields}
-use Rattle.tl_combinators.specs.BuiltIns.{built_in_line}
+use Rattle.tl_combinators.specs.BuiltInLines.{built_in_line}
 use Rattle.tl_combinators.specs.Declarations.{one_variable, variables, combinator, named_declaration, declaration, where_declaration, declaration_too_many}
 use Rattle.tl_combinators.specs.Sentences.{ProgramText, one_declaration, item, program, Reads}
 use Rattle.tl_combinators.proofs.Values.{Only, only_gives, only_fails, only_chain, only_choice, only_loop, only_taken}

@@ -7,13 +7,13 @@ use Rattle.tl_numbers.proofs.Digits.{digit_below}
 use Rattle.tl_lexer.specs.Rule.{Rule, one}
 use Rattle.tl_lexer.specs.declared.token.Token.{Token}
 use Rattle.tl_combinators.specs.declared.fault.SyntaxFault.{SyntaxFault}
-use Rattle.tl_combinators.specs.declared.built_in.BuiltIn.{BuiltIn}
-use Rattle.tl_combinators.specs.declared.built_in.BuiltIn.TheVariants.{Int, Long, Double, Str, Bytes, Vector, Int128, Int256}
+use Rattle.tl_program.specs.declared.built_in.BuiltIn.{BuiltIn}
+use Rattle.tl_program.specs.declared.built_in.BuiltIn.TheVariants.{Int, Long, Double, Str, Bytes, Vector, Int128, Int256}
 use Rattle.tl_combinators.specs.Tokens.{bytes_of}
 use Rattle.tl_combinators.specs.Names.{NameText, hex, vector_hex, number_by, number, vector_line_number}
-use Rattle.tl_combinators.specs.Program.{DeclText}
+use Rattle.tl_program.specs.Program.{DeclText}
 use Rattle.tl_combinators.specs.Description.{Piece}
-use Rattle.tl_combinators.specs.BuiltIns.{line_number, built_in_line}
+use Rattle.tl_combinators.specs.BuiltInLines.{line_number, built_in_line}
 use Rattle.tl_combinators.specs.Declarations.{combinator, named_declaration, declaration, where_declaration, declaration_too_many}
 use Rattle.tl_combinators.specs.Sentences.{ProgramText, one_declaration, item, program, Reads}
 use Rattle.tl_combinators.proofs.Values.{Only, only_gives, only_fails, only_chain, only_choice, only_loop, only_taken}

@@ -6,16 +6,18 @@ use Rattle.tl_lexer.specs.declared.token.Token.{Token}
 use Rattle.tl_lexer.specs.declared.token.TokenKind.TheVariants.{Colon, Semi, Equals, LBrace, RBrace}
 use Rattle.tl_combinators.specs.declared.fault.SyntaxFault.{SyntaxFault}
 use Rattle.tl_combinators.specs.declared.fault.Form.TheVariants.{Lifecycle, PartialApplication, Anonymous}
-use Rattle.tl_combinators.specs.declared.built_in.BuiltIn.{BuiltIn}
+use Rattle.tl_program.specs.declared.built_in.BuiltIn.{BuiltIn}
 use Rattle.tl_combinators.specs.Taken.{taken}
-use Rattle.tl_combinators.specs.Tokens.{bytes_of, unexpected, not_profile, too_many, Begins, token, IsWord, IsThis, is_lower, is_upper, letter_word}
+use Rattle.tl_program.specs.Letters.{is_lower, is_upper}
+use Rattle.tl_combinators.specs.Tokens.{bytes_of, unexpected, not_profile, too_many, Begins, token, IsWord, IsThis, letter_word}
 use Rattle.tl_combinators.specs.Names.{NameText, declared_name, number}
-use Rattle.tl_combinators.specs.Trees.{Tree}
+use Rattle.tl_program.specs.Trees.{Tree}
 use Rattle.tl_combinators.specs.Types.{expression}
-use Rattle.tl_combinators.specs.Program.{part_limit, DeclText}
+use Rattle.tl_program.specs.Program.{part_limit, DeclText}
 use Rattle.tl_combinators.specs.Description.{Piece, pieces, left_out, description}
 use Rattle.tl_combinators.specs.Fields.{fields}
-use Rattle.tl_combinators.specs.BuiltIns.{sort, built_in, built_in_line}
+use Rattle.tl_program.specs.BuiltIns.{built_in}
+use Rattle.tl_combinators.specs.BuiltInLines.{sort, built_in_line}
 
 -- ---- variables
 

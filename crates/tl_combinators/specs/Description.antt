@@ -13,8 +13,8 @@ use Rattle.tl_combinators.specs.declared.description.FieldShowing.{FieldShowing}
 use Rattle.tl_combinators.specs.declared.description.FieldShowing.TheVariants.{Hidden, WithString, Written}
 use Rattle.tl_combinators.specs.declared.fault.SyntaxFault.{SyntaxFault}
 use Rattle.tl_combinators.specs.Tokens.{bytes_of}
-use Rattle.tl_combinators.specs.Trees.{is_plain}
-use Rattle.tl_combinators.specs.Program.{KindText, nat, flag, call, of, CondText, FieldText}
+use Rattle.tl_program.specs.Trees.{is_plain}
+use Rattle.tl_program.specs.Program.{KindText, nat, flag, call, of, CondText, FieldText}
 
 -- ---- pieces, and what describes them
 

@@ -7,7 +7,7 @@ use Rattle.tl_combinators.specs.declared.fault.SyntaxFault.{SyntaxFault}
 use Rattle.tl_combinators.specs.declared.description.FieldShowing.{FieldShowing}
 use Rattle.tl_combinators.specs.declared.description.FieldShowing.TheVariants.{Hidden, WithString, Written}
 use Rattle.tl_combinators.specs.Tokens.{fault_of}
-use Rattle.tl_combinators.specs.Program.{FieldText}
+use Rattle.tl_program.specs.Program.{FieldText}
 use Rattle.tl_combinators.specs.Description.{Piece, kept, omitted, spaced, piece, string_piece, field_showing, before_type}
 use Rattle.tl_combinators.specs.Fields.{fields, fields_text}
 

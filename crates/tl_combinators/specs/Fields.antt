@@ -7,11 +7,12 @@ use Rattle.tl_lexer.specs.declared.token.TokenKind.TheVariants.{Word, Hash, Colo
 use Rattle.tl_combinators.specs.declared.fault.SyntaxFault.{SyntaxFault}
 use Rattle.tl_combinators.specs.declared.fault.Form.TheVariants.{Multiplicity, UnnamedField, CallInConstructor}
 use Rattle.tl_combinators.specs.Taken.{taken}
-use Rattle.tl_combinators.specs.Tokens.{bytes_of, unexpected, not_profile, too_many, Begins, token, IsWord, is_letter, is_digit, letter_word}
-use Rattle.tl_combinators.specs.Trees.{Tree, is_plain}
+use Rattle.tl_program.specs.Letters.{is_letter, is_digit}
+use Rattle.tl_combinators.specs.Tokens.{bytes_of, unexpected, not_profile, too_many, Begins, token, IsWord, letter_word}
+use Rattle.tl_program.specs.Trees.{Tree, is_plain}
 use Rattle.tl_combinators.specs.Types.{term}
 use Rattle.tl_combinators.specs.declared.fields.Held.{Held}
-use Rattle.tl_combinators.specs.Program.{part_limit, KindText, nat, flag, call, of, CondText, FieldText, cond_texts, kind_text}
+use Rattle.tl_program.specs.Program.{part_limit, KindText, nat, flag, call, of, CondText, FieldText, cond_texts, kind_text}
 use Rattle.tl_combinators.specs.Description.{Piece, field_pieces}
 
 -- ---- conditions

@@ -1,13 +1,11 @@
 pub mod Taken
 pub mod Tokens
 pub mod Names
-pub mod Trees
 pub mod Types
-pub mod Program
 pub mod Description
 pub mod Fields
 pub mod DescriptionSoFar
-pub mod BuiltIns
+pub mod BuiltInLines
 pub mod Declarations
 pub mod Sentences
 pub mod OneReading

@@ -7,9 +7,9 @@ use Rattle.tl_lexer.specs.declared.token.TokenKind.TheVariants.{Dashes}
 use Rattle.tl_combinators.specs.declared.fault.SyntaxFault.{SyntaxFault}
 use Rattle.tl_combinators.specs.declared.fault.SyntaxFault.TheVariants.{Unexpected, NotProfile, TooMany, Memory}
 use Rattle.tl_combinators.specs.Tokens.{Begins, token, IsThis, this_word}
-use Rattle.tl_combinators.specs.Trees.{Tree}
+use Rattle.tl_program.specs.Trees.{Tree}
 use Rattle.tl_combinators.specs.Types.{whole_type}
-use Rattle.tl_combinators.specs.Program.{declaration_limit, DeclText}
+use Rattle.tl_program.specs.Program.{declaration_limit, DeclText}
 use Rattle.tl_combinators.specs.Declarations.{declaration, where_declaration, declaration_too_many}
 
 -- ---- programs

@@ -5,6 +5,7 @@ use Rattle.tl_lexer.specs.Rule.{Rule, one, Next}
 use Rattle.tl_lexer.specs.declared.token.Token.{Token}
 use Rattle.tl_lexer.specs.declared.token.TokenKind.{TokenKind}
 use Rattle.tl_lexer.specs.declared.token.TokenKind.TheVariants.{Word}
+use Rattle.tl_program.specs.Letters.{first_is, is_lower, is_upper, is_letter, is_digit}
 use Rattle.tl_combinators.specs.declared.fault.SyntaxFault.{SyntaxFault}
 use Rattle.tl_combinators.specs.declared.fault.SyntaxFault.TheVariants.{Unexpected, NotProfile, TooMany, Memory}
 use Rattle.tl_combinators.specs.declared.fault.Form.{Form}
@@ -66,27 +67,6 @@ pub record IsAt (edge : ℕ) (kind : TokenKind) (t : Token) : Type 0 where
   pub edge_is : t.start ≡ edge
 
 -- ---- Words
-
--- there is a first byte, and it passes the test
-abbrev pub first_is : (ℕ → Bool) → List ℕ → Bool
-first_is test [] = false
-first_is test (b ∷ bs) = test b
-
--- a letter of lower case
-abbrev pub is_lower : ℕ → Bool
-is_lower b = (nat_le 97 b) && (nat_le b 122)
-
--- a letter of upper case
-abbrev pub is_upper : ℕ → Bool
-is_upper b = (nat_le 65 b) && (nat_le b 90)
-
--- a letter
-abbrev pub is_letter : ℕ → Bool
-is_letter b = (is_lower b) || (is_upper b)
-
--- a decimal digit
-abbrev pub is_digit : ℕ → Bool
-is_digit b = (nat_le 48 b) && (nat_le b 57)
 
 -- the test that a first byte is to pass
 abbrev pub passes : First → ℕ → Bool

@@ -6,9 +6,10 @@ use Rattle.tl_lexer.specs.declared.token.Token.{Token}
 use Rattle.tl_lexer.specs.declared.token.TokenKind.TheVariants.{Word, Less, Greater, Comma, LParen, RParen, Percent, Bang}
 use Rattle.tl_combinators.specs.declared.fault.SyntaxFault.{SyntaxFault}
 use Rattle.tl_combinators.specs.declared.fault.Form.TheVariants.{ObjectType}
-use Rattle.tl_combinators.specs.Tokens.{unexpected, not_profile, too_many, Begins, token, IsWord, is_letter}
+use Rattle.tl_program.specs.Letters.{is_letter}
+use Rattle.tl_combinators.specs.Tokens.{unexpected, not_profile, too_many, Begins, token, IsWord}
 use Rattle.tl_combinators.specs.Names.{type_name, IsObject}
-use Rattle.tl_combinators.specs.Trees.{Tree, named, percent, any_call, trees_of, plain}
+use Rattle.tl_program.specs.Trees.{Tree, named, percent, any_call, trees_of, plain}
 
 -- a type has at most so many levels
 abbrev pub level_limit : ℕ

@@ -3,29 +3,28 @@ ghost use Rattle.std.specs.Prelude.{◌≡◌, Err, ◌≤◌, ◌<◌, ◌+◌,
 ghost use Rattle.tl_lexer.specs.Rule.{Parses, Next};
 ghost use Rattle.tl_combinators.specs.Tokens.{fault_of, Fits};
 ghost use Rattle.tl_combinators.specs.Names.{name_text};
-ghost use Rattle.tl_combinators.specs.Trees.{view};
-ghost use Rattle.tl_combinators.specs.Program.{decl_text};
+ghost use Rattle.tl_program.specs.Trees.{view};
+ghost use Rattle.tl_program.specs.Program.{decl_text};
 ghost use Rattle.tl_combinators.specs.Declarations.{variable, variables, result_type, combinator, declaration, IsLifecycle, where_declaration, declaration_too_many};
 ghost use Rattle.tl_combinators.specs.Description.{Piece};
 ghost use Rattle.tl_combinators.specs.DescriptionSoFar.{so_far};
 ghost use Rattle.tl_combinators.specs.Sentences.{ProgramText};
 
-use crate::built_in::{BuiltIn, built_in_line_at, sort_at};
+use crate::built_in::{built_in_line_at, sort_at};
 use crate::description::Description;
 use crate::fault::{Form, SyntaxFault};
 use crate::fields::{PART_LIMIT, fields_at};
 use crate::names::{Name, declared_name_at};
 use crate::numbers::number_at;
-use crate::program::Decl;
 use crate::reading::{
     First, begins, begins_this, begins_word, bytes_at, not_profile_at, take_token, take_word,
     too_many_at, unexpected_at,
 };
-use crate::tree::TypeTree;
 use crate::types::expression_at;
 use std::alloc::Global;
 use tl_lexer::{Token, TokenKind};
 use tl_numbers::Bytes;
+use tl_program::{BuiltIn, Decl, TypeTree};
 
 // `{X:Type}`.
 fn variable_at(

@@ -1,17 +1,16 @@
 //! Descriptions, on which unwritten numbers rest.
 ghost use Rattle.std.specs.Prelude.{◌≡◌, ◌≤◌, ◌+◌, ◌-◌, length, take, drop, OnOk, Option, None, Some};
 ghost use Rattle.tl_combinators.specs.Tokens.{bytes_of, Fits};
-ghost use Rattle.tl_combinators.specs.Program.{field_text, kind_text, cond_texts};
+ghost use Rattle.tl_program.specs.Program.{field_text, kind_text, cond_texts};
 ghost use Rattle.tl_combinators.specs.Description.{kept, omitted, spaced, showing, field_showing, before_type};
 ghost use Rattle.tl_combinators.specs.DescriptionSoFar.{undescribed, put, shown, shown_as_string, all_shown, all_as_string, all_left_out, field_shown};
 
-use crate::program::{Cond, Field, FieldKind};
 use crate::reading::bytes_at;
-use crate::tree::is_plain;
 use std::alloc::{AllocError, Global};
 use std::marker::Model;
 use tl_lexer::{Token, TokenKind};
 use tl_numbers::Bytes;
+use tl_program::{Cond, Field, FieldKind, is_plain};
 
 /// What becomes of a token in a description.
 #[derive(Clone, Copy)]

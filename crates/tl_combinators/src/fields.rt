@@ -2,24 +2,23 @@
 ghost use Rattle.std.specs.Prelude.{◌≡◌, Err, ◌≤◌, ◌<◌, ◌+◌, ℕ, List, length, drop, map, OnOk, IfOk, IfSome, IfNone, true, false};
 ghost use Rattle.tl_lexer.specs.Rule.{Parses, Next};
 ghost use Rattle.tl_combinators.specs.Tokens.{fault_of, Fits};
-ghost use Rattle.tl_combinators.specs.Trees.{view};
-ghost use Rattle.tl_combinators.specs.Program.{FieldText, cond_text, cond_texts, kind_text, field_text};
+ghost use Rattle.tl_program.specs.Trees.{view};
+ghost use Rattle.tl_program.specs.Program.{FieldText, cond_text, cond_texts, kind_text, field_text};
 ghost use Rattle.tl_combinators.specs.Description.{Piece, before_type};
 ghost use Rattle.tl_combinators.specs.DescriptionSoFar.{so_far, ParsesFields};
 ghost use Rattle.tl_combinators.specs.Fields.{digit, bit_value, IsBit, HasBit, bit, BeginsCondition, condition, conditional, held_text, called, in_condition, held, BeginsMultiplicity, IsLone, BeginsUnnamed, field, field_too_many, fields, FieldsText, fields_text};
 
 use crate::description::Description;
 use crate::fault::{Form, SyntaxFault};
-use crate::program::{Cond, Field, FieldKind};
 use crate::reading::{
     First, begins, begins_word, bytes_at, not_profile_at, same, take_token, take_word, too_many_at,
     unexpected_at,
 };
-use crate::tree::{TypeTree, is_plain};
 use crate::types::term_at;
 use std::alloc::Global;
 use tl_lexer::{Token, TokenKind};
 use tl_numbers::Bytes;
+use tl_program::{Cond, Field, FieldKind, TypeTree, is_plain};
 
 /// A declaration has at most so many variables and fields together.
 pub const PART_LIMIT: usize = 256;

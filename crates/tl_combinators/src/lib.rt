@@ -10,14 +10,10 @@ mod law;
 mod names;
 mod numbers;
 mod parser;
-mod program;
 mod reading;
-mod tree;
 mod types;
 
-pub use built_in::BuiltIn;
 pub use fault::{Form, SyntaxFault};
 pub use law::{each_list_of_pieces_has_one_description, each_list_of_tokens_is_read_or_refused};
 pub use parser::{parse, parse_type};
-pub use program::{Cond, Decl, Field, FieldKind, Program};
-pub use tree::TypeTree;
+pub use tl_program::{BuiltIn, Cond, Decl, Field, FieldKind, Program, TypeTree};

@@ -3,19 +3,18 @@ ghost use Rattle.std.specs.Prelude.{◌≡◌, ◌≤◌, ◌<◌, ◌+◌, [], 
 ghost use Rattle.tl_lexer.specs.Rule.{Parses};
 ghost use Rattle.tl_lexer.specs.Tokens.{Tokens};
 ghost use Rattle.tl_combinators.specs.Tokens.{fault_of, Fits};
-ghost use Rattle.tl_combinators.specs.Trees.{Tree, view};
-ghost use Rattle.tl_combinators.specs.Program.{decl_text, DeclText, program_text, IsWithinLimits};
+ghost use Rattle.tl_program.specs.Trees.{Tree, view};
+ghost use Rattle.tl_program.specs.Program.{decl_text, DeclText, program_text, IsWithinLimits};
 ghost use Rattle.tl_combinators.specs.Sentences.{program_so_far, section, mark, program, Reads, SyntaxRefused, ReadsType, TypeRefused, Answers, Accepts, Refuses};
 ghost use Rattle.tl_combinators.specs.declared.fault.SyntaxFault.{SyntaxFault};
 
 use crate::declarations::{declaration_too_many_at, where_declaration_at};
 use crate::fault::SyntaxFault;
-use crate::program::{Decl, Program};
 use crate::reading::{begins, begins_this, take_this, take_token};
-use crate::tree::TypeTree;
 use crate::types::whole_type_at;
 use std::alloc::Global;
 use tl_lexer::{Token, TokenKind};
+use tl_program::{Decl, Program, TypeTree};
 
 /// A program has at most so many declarations.
 pub const DECLARATION_LIMIT: usize = 16384;

@@ -2,7 +2,8 @@
 ghost use Rattle.std.specs.Prelude.{◌≡◌, ◌≤◌, ◌<◌, ◌+◌, ◌^◌, length, drop, OnOk, IfOk, IsTrue, ◌↔◌, true, false};
 ghost use Rattle.tl_lexer.specs.Rule.{Parses, Next, one};
 ghost use Rattle.tl_lexer.specs.declared.token.Token.{Token};
-ghost use Rattle.tl_combinators.specs.Tokens.{bytes_of, fault_of, Fits, place, unexpected, not_profile, too_many, Begins, token, IsAt, first_is, passes, IsWord, IsThis, this_word};
+ghost use Rattle.tl_program.specs.Letters.{first_is};
+ghost use Rattle.tl_combinators.specs.Tokens.{bytes_of, fault_of, Fits, place, unexpected, not_profile, too_many, Begins, token, IsAt, passes, IsWord, IsThis, this_word};
 
 use crate::fault::{Form, SyntaxFault};
 use tl_lexer::{Token, TokenKind};

@@ -2,7 +2,7 @@
 ghost use Rattle.std.specs.Prelude.{◌≡◌, ◌≤◌, ◌<◌, ◌+◌, ℕ, [], length, drop, OnOk, IfOk, true, false, ◌||◌, nat_lt};
 ghost use Rattle.tl_lexer.specs.Rule.{Parses};
 ghost use Rattle.tl_combinators.specs.Tokens.{fault_of, Fits, bytes_of};
-ghost use Rattle.tl_combinators.specs.Trees.{view, views};
+ghost use Rattle.tl_program.specs.Trees.{view, views};
 ghost use Rattle.tl_combinators.specs.Types.{opens, closes, BeginsTerm, BeginsType, terms, listed, applied, application, no_level, after_percent, bare, core, in_parens, type_in, term, expression, at_end, whole_type};
 
 use crate::fault::{Form, SyntaxFault};
@@ -10,10 +10,10 @@ use crate::names::{begins_object, type_name_at};
 use crate::reading::{
     First, begins, begins_word, not_profile_at, take_token, too_many_at, unexpected_at,
 };
-use crate::tree::TypeTree;
 use std::alloc::Global;
 use tl_lexer::{Token, TokenKind};
 use tl_numbers::Bytes;
+use tl_program::TypeTree;
 
 /// A type has at most so many levels.
 pub const LEVEL_LIMIT: u32 = 16;

@@ -4,11 +4,11 @@ use Rattle.std.specs.Prelude.{is_some}
 use Rattle.std.proofs.lemmas.Bool.{cases_Bool}
 use Rattle.std.proofs.lemmas.Option.{none-some, same_Some}
 use Rattle.std.proofs.lemmas.Slice.Eq.{bytes_eq-Decides}
-use Rattle.tl_combinators.specs.declared.built_in.BuiltIn.{BuiltIn}
-use Rattle.tl_combinators.specs.declared.built_in.BuiltIn.TheVariants.{Int, Long, Double, Str, Bytes, Vector, Int128, Int256}
-use Rattle.tl_combinators.specs.BuiltIns.{own_name, built_in}
-use Rattle.tl_combinators.specs.Trees.{Tree, Trees, named, percent, any_call}
-use Rattle.tl_combinators.specs.Program.{DeclText}
+use Rattle.tl_program.specs.declared.built_in.BuiltIn.{BuiltIn}
+use Rattle.tl_program.specs.declared.built_in.BuiltIn.TheVariants.{Int, Long, Double, Str, Bytes, Vector, Int128, Int256}
+use Rattle.tl_program.specs.BuiltIns.{own_name, built_in}
+use Rattle.tl_program.specs.Trees.{Tree, Trees, named, percent, any_call}
+use Rattle.tl_program.specs.Program.{DeclText}
 use Rattle.tl_names.specs.declared.what.What.{What}
 use Rattle.tl_names.specs.What.{what_of}
 use Rattle.tl_names.specs.Writing.{is_type_name, is_built_in, is_variable}

@@ -3,9 +3,9 @@ use Rattle.std.proofs.Common.{◌≡◌, ◌⊎◌, inl, inr, ℕ, zero, suc, �
 use Rattle.std.specs.Prelude.{nat_le}
 use Rattle.std.proofs.lemmas.Option.{none-some, same_Some}
 use Rattle.tl_numbers.specs.Numbers.{word}
-use Rattle.tl_combinators.specs.Trees.{Tree, named, percent, any_call}
-use Rattle.tl_combinators.specs.Program.{KindText, FieldText, DeclText}
-use Rattle.tl_combinators.specs.Program as kind
+use Rattle.tl_program.specs.Trees.{Tree, named, percent, any_call}
+use Rattle.tl_program.specs.Program.{KindText, FieldText, DeclText}
+use Rattle.tl_program.specs.Program as kind
 use Rattle.tl_names.specs.Writing.{is_constructor}
 use Rattle.tl_names.specs.Parts.{FieldAt, HeldBy, Writes, IsPart}
 use Rattle.tl_names.specs.BareFields.{HoldsBare, TakesNone, takes_none}

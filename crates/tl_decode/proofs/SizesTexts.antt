@@ -7,15 +7,16 @@ use Rattle.std.proofs.lemmas.Option.{none-some, same_Some, slice_get-map, get_or
 use Rattle.tl_lexer.specs.Rule.{Rule}
 use Rattle.tl_lexer.specs.declared.token.Token.{Token}
 use Rattle.tl_combinators.specs.declared.fault.SyntaxFault.{SyntaxFault}
-use Rattle.tl_combinators.specs.declared.built_in.BuiltIn.{BuiltIn}
-use Rattle.tl_combinators.specs.declared.built_in.BuiltIn.TheVariants.{Int, Long, Double, Str, Bytes, Vector, Int128, Int256}
+use Rattle.tl_program.specs.declared.built_in.BuiltIn.{BuiltIn}
+use Rattle.tl_program.specs.declared.built_in.BuiltIn.TheVariants.{Int, Long, Double, Str, Bytes, Vector, Int128, Int256}
 use Rattle.tl_combinators.specs.Names.{NameText}
-use Rattle.tl_combinators.specs.Trees.{Tree, named, percent, any_call}
-use Rattle.tl_combinators.specs.Program.{KindText, DeclText, FieldText, HasFewParts}
-use Rattle.tl_combinators.specs.Program as kind
+use Rattle.tl_program.specs.Trees.{Tree, named, percent, any_call}
+use Rattle.tl_program.specs.Program.{KindText, DeclText, FieldText, HasFewParts}
+use Rattle.tl_program.specs.Program as kind
 use Rattle.tl_combinators.specs.Description.{Piece}
 use Rattle.tl_combinators.specs.Fields.{HeldText, called, in_condition, held, FieldsText, field, field_too_many, one_field, fields, where_field}
-use Rattle.tl_combinators.specs.BuiltIns.{built_in, built_in_line}
+use Rattle.tl_program.specs.BuiltIns.{built_in}
+use Rattle.tl_combinators.specs.BuiltInLines.{built_in_line}
 use Rattle.tl_combinators.specs.Declarations.{combinator, named_declaration, declaration, where_declaration, declaration_too_many}
 use Rattle.tl_combinators.specs.Sentences.{ProgramText, item, one_declaration, program}
 use Rattle.tl_combinators.proofs.Values.{Only, only_gives, only_fails, only_chain, only_choice, only_loop, only_taken}

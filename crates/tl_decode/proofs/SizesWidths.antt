@@ -2,12 +2,12 @@
 use Rattle.std.proofs.Common.{◌≡◌, inl, inr, ℕ, zero, suc, List, get_or, slice_get, bytes_eq, codes, Bool, true, false, Option, Some, None, refl, sym, ap, ◌∙◌, subst, if◌then◌else◌}
 use Rattle.std.specs.Option.{option_map}
 use Rattle.std.proofs.lemmas.Option.{none-some, same_Some, slice_get-map}
-use Rattle.tl_combinators.specs.declared.built_in.BuiltIn.{BuiltIn}
-use Rattle.tl_combinators.specs.declared.built_in.BuiltIn.TheVariants.{Int, Long, Double, Str, Bytes, Vector, Int128, Int256}
-use Rattle.tl_combinators.specs.BuiltIns.{built_in}
-use Rattle.tl_combinators.specs.Trees.{Tree, Trees, named, percent, any_call, no_trees, tree}
-use Rattle.tl_combinators.specs.Program.{KindText, DeclText, FieldText}
-use Rattle.tl_combinators.specs.Program as kind
+use Rattle.tl_program.specs.declared.built_in.BuiltIn.{BuiltIn}
+use Rattle.tl_program.specs.declared.built_in.BuiltIn.TheVariants.{Int, Long, Double, Str, Bytes, Vector, Int128, Int256}
+use Rattle.tl_program.specs.BuiltIns.{built_in}
+use Rattle.tl_program.specs.Trees.{Tree, Trees, named, percent, any_call, no_trees, tree}
+use Rattle.tl_program.specs.Program.{KindText, DeclText, FieldText}
+use Rattle.tl_program.specs.Program as kind
 use Rattle.tl_names.specs.Writing.{is_type_name, is_variable}
 use Rattle.tl_schema.specs.Types.{Shape, Shapes}
 use Rattle.tl_schema.specs.Types as type

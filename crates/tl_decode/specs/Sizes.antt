@@ -2,7 +2,7 @@
 -- This project's own, over the values of "Binary data serialization" (core.telegram.org/mtproto/serialize).
 use Rattle.std.specs.Prelude.{◌≡◌, ◌⊎◌, ℕ, suc, ◌+◌, ◌*◌, ◌/◌, ◌≤◌, List, [], length, slice_get, Some, IsSome, Bool}
 use Rattle.tl_lexer.specs.declared.token.Token.{Token}
-use Rattle.tl_combinators.specs.Program.{part_limit, DeclText}
+use Rattle.tl_program.specs.Program.{part_limit, DeclText}
 use Rattle.tl_combinators.specs.Sentences.{Reads}
 use Rattle.tl_schema.specs.Types.{Shape, Shapes}
 use Rattle.tl_schema.specs.Types as type

@@ -4,10 +4,10 @@ use Rattle.std.specs.List.{fold, list_any, position_or_len}
 use Rattle.std.proofs.lemmas.List.{append_assoc}
 use Rattle.std.proofs.lemmas.Option.{none-some, same_Some, slice_get_within, get_or_from_slice_get}
 use Rattle.std.proofs.lemmas.Slice.Eq.{bytes_eq-Decides}
-use Rattle.tl_combinators.specs.declared.built_in.BuiltIn.{BuiltIn}
-use Rattle.tl_combinators.specs.BuiltIns.{built_in}
-use Rattle.tl_combinators.specs.Trees.{Tree, Trees, named, percent, any_call}
-use Rattle.tl_combinators.specs.Program.{KindText, nat, flag, call, of, FieldText, DeclText}
+use Rattle.tl_program.specs.declared.built_in.BuiltIn.{BuiltIn}
+use Rattle.tl_program.specs.BuiltIns.{built_in}
+use Rattle.tl_program.specs.Trees.{Tree, Trees, named, percent, any_call}
+use Rattle.tl_program.specs.Program.{KindText, nat, flag, call, of, FieldText, DeclText}
 use Rattle.tl_graph.specs.Firsts.{First}
 use Rattle.tl_graph.specs.Paths.{IsIn}
 use Rattle.tl_names.specs.BareFields.{HoldsBare, TakesNone, takes_none}

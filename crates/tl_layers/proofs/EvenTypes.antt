@@ -7,7 +7,7 @@ use Rattle.tl_schema.specs.Formed.{IsMember, AppliesType}
 use Rattle.tl_schema.specs.Meanings.{head_in}
 use Rattle.tl_schema.specs.Schemas.{Declaration, Declared}
 use Rattle.tl_schema.proofs.Members.{declaration_at, own_of, type_made, applies_type}
-use Rattle.tl_combinators.specs.Program.{DeclText}
+use Rattle.tl_program.specs.Program.{DeclText}
 
 -- the head of any other is the number of types
 constructs : (ds : List DeclText) (own : Bool) (head : Option (List ℕ)) → head_in ds (if own then head else None) < length (types_of ds) → own ≡ true

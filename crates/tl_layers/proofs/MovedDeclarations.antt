@@ -4,7 +4,7 @@ use Rattle.std.proofs.lemmas.Bool.{cases_eq, cases_order, or_cases, ltb-true}
 use Rattle.std.proofs.lemmas.List.Quantifiers.{position-Some}
 use Rattle.std.proofs.lemmas.Option.{none-some, same_Some, slice_get_within, slice_get-get_or}
 use Rattle.tl_graph.specs.Firsts.{First}
-use Rattle.tl_combinators.specs.Program.{DeclText, FieldText}
+use Rattle.tl_program.specs.Program.{DeclText, FieldText}
 use Rattle.tl_names.specs.Writing.{At}
 use Rattle.tl_names.specs.Places.{types_of}
 use Rattle.tl_names.proofs.Places.{IsPlace}

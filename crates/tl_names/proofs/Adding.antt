@@ -1,8 +1,8 @@
 -- Nodes to which those that types refer to were added.
 use Rattle.std.proofs.Common.{◌≡◌, ◌⊎◌, inl, inr, ℕ, List, [], ◌∷◌, ◌++◌, ◌↔◌, length, None, Some, refl, ap, subst}
 use Rattle.std.proofs.lemmas.Option.{none-some, same_Some}
-use Rattle.tl_combinators.specs.Trees.{Tree}
-use Rattle.tl_combinators.specs.Program.{DeclText}
+use Rattle.tl_program.specs.Trees.{Tree}
+use Rattle.tl_program.specs.Program.{DeclText}
 use Rattle.tl_graph.specs.Paths.{IsIn}
 use Rattle.tl_names.specs.BareReferences.{IsBareOf}
 use Rattle.tl_names.specs.inner.BareSteps.{BareIs, RefersIn, Adds}

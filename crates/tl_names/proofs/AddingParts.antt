@@ -3,8 +3,8 @@ use Rattle.std.proofs.Common.{◌≡◌, inl, inr, ℕ, ◌+◌, ◌<◌, ◌≤
 use Rattle.std.proofs.lemmas.Bool.{cases_eq}
 use Rattle.std.proofs.lemmas.Option.{none-some, same_Some, slice_get_within}
 use Rattle.std.proofs.lemmas.List.{take_all}
-use Rattle.tl_combinators.specs.Trees.{Tree, Trees, named, percent, any_call, trees_of}
-use Rattle.tl_combinators.specs.Program.{FieldText, DeclText}
+use Rattle.tl_program.specs.Trees.{Tree, Trees, named, percent, any_call, trees_of}
+use Rattle.tl_program.specs.Program.{FieldText, DeclText}
 use Rattle.tl_names.specs.Parts.{HeldBy, IsPart, IsPartOfOne}
 use Rattle.tl_names.specs.Writing.{is_constructor}
 use Rattle.tl_names.specs.inner.BareSteps.{Adds, Refers}

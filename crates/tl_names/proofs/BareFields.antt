@@ -2,7 +2,7 @@
 use Rattle.std.proofs.Common.{◌≡◌, ◌↔◌, inl, inr, ℕ, ◌+◌, true, List, [], ◌∷◌, ◌++◌, length, slice_get, Option, Some, None, refl, ap, sym, subst, ◌∙◌, arith}
 use Rattle.std.proofs.lemmas.List.{length_push}
 use Rattle.std.proofs.lemmas.Option.{none-some, same_Some, slice_get_cases, slice_get_within}
-use Rattle.tl_combinators.specs.Program.{FieldText, DeclText}
+use Rattle.tl_program.specs.Program.{FieldText, DeclText}
 use Rattle.tl_names.specs.Writing.{At, is_constructor}
 use Rattle.tl_names.specs.Parts.{FieldAt}
 use Rattle.tl_names.specs.BareFields.{HoldsBare, HasBareFields}

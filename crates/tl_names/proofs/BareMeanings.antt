@@ -1,7 +1,7 @@
 -- Which constructor a type is, bare.
 use Rattle.std.proofs.Common.{◌≡◌, ℕ, List, Option, Some, true, false, refl, ap, sym, subst}
-use Rattle.tl_combinators.specs.Trees.{Tree, Trees, named, percent, any_call}
-use Rattle.tl_combinators.specs.Program.{DeclText}
+use Rattle.tl_program.specs.Trees.{Tree, Trees, named, percent, any_call}
+use Rattle.tl_program.specs.Program.{DeclText}
 use Rattle.tl_names.proofs.HeadNames.{type_name}
 use Rattle.tl_names.specs.Writing.{is_type_name, is_built_in, is_variable}
 use Rattle.tl_names.specs.Constructors.{IsOnlyConstructor}

@@ -1,7 +1,7 @@
 -- Constructors that take no bytes are the nodes whose needs can be met.
 use Rattle.std.proofs.Common.{◌≡◌, ◌↔◌, inl, inr, ℕ, Bool, List, slice_get, Option, Some, None, arith}
 use Rattle.std.proofs.lemmas.Option.{slice_get_cases, slice_get_within}
-use Rattle.tl_combinators.specs.Program.{DeclText}
+use Rattle.tl_program.specs.Program.{DeclText}
 use Rattle.tl_graph.specs.Paths.{IsIn}
 use Rattle.tl_graph.specs.Needs.{IsMarked, CanBeMet, can_be_met}
 use Rattle.tl_names.specs.Writing.{At}

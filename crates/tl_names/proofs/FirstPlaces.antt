@@ -4,7 +4,7 @@ use Rattle.std.specs.Bool.{Decides}
 use Rattle.std.proofs.lemmas.Bool.Decides.{Decides-and, Decides-like}
 use Rattle.std.proofs.lemmas.Option.{none-some, same_Some}
 use Rattle.std.proofs.lemmas.Slice.Eq.{bytes_eq-Decides}
-use Rattle.tl_combinators.specs.Program.{DeclText}
+use Rattle.tl_program.specs.Program.{DeclText}
 use Rattle.tl_names.specs.Writing.{is_constructor, own_type, result_head, IsConstructorNamed, IsConstructorOf}
 use Rattle.tl_names.specs.Constructors.{FirstNamed, FirstOf}
 use Rattle.tl_names.specs.Places.{first_of, is_type, place_of}

@@ -2,10 +2,10 @@
 use Rattle.std.proofs.Common.{◌≡◌, ℕ, zero, suc, ◌<◌, List, [], ◌∷◌, map, length, get_or, slice_get, Option, Some, Vec, Global, Box, refl, ap, ap₂, sym, subst, ◌∙◌, rules}
 use Rattle.std.specs.Box.{box_value}
 use Rattle.std.proofs.lemmas.Option.{none-some, same_Some}
-use Rattle.tl_combinators.specs.Trees.{Tree, Trees, trees_of, no_trees, tree}
-use Rattle.tl_combinators.specs.Trees as written
-use Rattle.tl_combinators.specs.Program.{KindText, FieldText, DeclText}
-use Rattle.tl_combinators.specs.Program as kind
+use Rattle.tl_program.specs.Trees.{Tree, Trees, trees_of, no_trees, tree}
+use Rattle.tl_program.specs.Trees as written
+use Rattle.tl_program.specs.Program.{KindText, FieldText, DeclText}
+use Rattle.tl_program.specs.Program as kind
 use Rattle.tl_names.specs.What.{what_of, variable_named}
 use Rattle.tl_names.specs.declared.what.What.{What}
 use Rattle.tl_names.specs.Meants.{MeantView, named, percent, any_call, meants_of, meant, meants}

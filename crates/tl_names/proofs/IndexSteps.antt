@@ -4,7 +4,7 @@ use Rattle.std.specs.Option.{unwrap_or, is_some}
 use Rattle.std.proofs.lemmas.Option.{none-some, same_Some}
 use Rattle.std.proofs.lemmas.List.{map_push}
 use Rattle.std.proofs.lemmas.Slice.Eq.{bytes_eq-Decides}
-use Rattle.tl_combinators.specs.Program.{DeclText}
+use Rattle.tl_program.specs.Program.{DeclText}
 use Rattle.tl_names.specs.Writing.{At, is_constructor, result_head, own_type, IsConstructorOf}
 use Rattle.tl_names.specs.NamePlaces.{place_in, Notes}
 use Rattle.tl_names.specs.NameLists.{place, with_name}

@@ -1,8 +1,8 @@
 -- A type is one constructor, bare, at most, and a declaration has one list of bare fields at most.
 use Rattle.std.proofs.Common.{◌≡◌, inl, inr, ℕ, List, slice_get, Some, ap, sym, subst, ◌∙◌, arith}
 use Rattle.std.proofs.lemmas.Option.{same_Some, slice_get_cases, slice_get_within}
-use Rattle.tl_combinators.specs.Trees.{Tree}
-use Rattle.tl_combinators.specs.Program.{KindText, nat, flag, call, of, FieldText, DeclText}
+use Rattle.tl_program.specs.Trees.{Tree}
+use Rattle.tl_program.specs.Program.{KindText, nat, flag, call, of, FieldText, DeclText}
 use Rattle.tl_graph.specs.Firsts.{First}
 use Rattle.tl_graph.specs.Paths.{IsIn}
 use Rattle.tl_names.specs.Parts.{FieldAt}

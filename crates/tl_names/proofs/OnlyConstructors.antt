@@ -1,7 +1,7 @@
 -- The only constructor of a type, by what an index keeps of the type's constructors.
 use Rattle.std.proofs.Common.{◌≡◌, ℕ, true, false, List, Some, None, ap, sym, subst, ◌∙◌, true≢false}
 use Rattle.std.proofs.lemmas.Option.{none-some, same_Some}
-use Rattle.tl_combinators.specs.Program.{DeclText}
+use Rattle.tl_program.specs.Program.{DeclText}
 use Rattle.tl_names.specs.Constructors.{IsFamily, IsOnlyConstructor}
 use Rattle.tl_names.specs.declared.index.Constructors.{Constructors}
 use Rattle.tl_names.specs.inner.BareSteps.{OnlyOf}

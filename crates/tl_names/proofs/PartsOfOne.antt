@@ -3,7 +3,7 @@ use Rattle.std.proofs.Common.{◌≡◌, ◌⊎◌, inl, inr, ℕ, zero, suc, �
 use Rattle.std.proofs.lemmas.Option.{none-some, same_Some}
 use Rattle.std.proofs.lemmas.List.{take_all}
 use Rattle.std.specs.Prelude.{IsTrue}
-use Rattle.tl_combinators.specs.Trees.{Tree, Trees, named, percent, any_call, trees_of}
+use Rattle.tl_program.specs.Trees.{Tree, Trees, named, percent, any_call, trees_of}
 use Rattle.tl_names.specs.Parts.{IsPart, IsPartOfOne}
 use Rattle.tl_names.specs.Parts.{SomePart, SomePartOfOne}
 use Rattle.tl_names.proofs.Maps.{take_push}

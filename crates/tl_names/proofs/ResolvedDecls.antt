@@ -2,9 +2,9 @@
 use Rattle.std.proofs.Common.{◌≡◌, ℕ, ◌<◌, Bool, not, ◌&&◌, List, map, length, get_or, ap, sym, subst, ◌∙◌, arith}
 use Rattle.std.proofs.lemmas.List.{length-map}
 use Rattle.std.proofs.lemmas.Option.{same_Some, slice_get_within}
-use Rattle.tl_combinators.specs.Program.{DeclText}
-use Rattle.tl_combinators.specs.declared.program.Decl.{Decl}
-use Rattle.tl_combinators.specs.Program.{decl_text}
+use Rattle.tl_program.specs.Program.{DeclText}
+use Rattle.tl_program.specs.declared.program.Decl.{Decl}
+use Rattle.tl_program.specs.Program.{decl_text}
 use Rattle.tl_names.specs.Writing.{At, is_constructor}
 use Rattle.tl_names.specs.MeantDecls.{MeantDeclView, meant_decl}
 use Rattle.tl_names.specs.MeantViews.{decl_view}

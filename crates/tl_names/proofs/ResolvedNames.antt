@@ -1,9 +1,9 @@
 -- Names that are resolved alike give the same types and fields; and the numbers of a list of names, one name more.
 use Rattle.std.proofs.Common.{◌≡◌, ℕ, List, [], ◌∷◌, ◌++◌, length, map, bytes_eq, Option, Some, refl, ap, ap₂, sym, ◌∙◌, if◌then◌else◌}
 use Rattle.std.specs.Option.{option_map, unwrap_or}
-use Rattle.tl_combinators.specs.Trees.{Tree, Trees, named, percent, any_call, no_trees, tree, trees_of}
-use Rattle.tl_combinators.specs.Program.{KindText, FieldText, DeclText}
-use Rattle.tl_combinators.specs.Program as written
+use Rattle.tl_program.specs.Trees.{Tree, Trees, named, percent, any_call, no_trees, tree, trees_of}
+use Rattle.tl_program.specs.Program.{KindText, FieldText, DeclText}
+use Rattle.tl_program.specs.Program as written
 use Rattle.tl_names.specs.Writing.{own_type}
 use Rattle.tl_names.specs.NamePlaces.{place_in, Notes}
 use Rattle.tl_names.specs.What.{known_what, unless_variable, what_of, variable_named, field_named}

@@ -2,7 +2,7 @@
 use Rattle.std.proofs.Common.{◌≡◌, ◌⊎◌, inl, inr, ◌↔◌, ℕ, List, [], ◌∷◌, ◌++◌, length, Bool, IsTrue, true, false, not, ◌||◌, Some, ap, sym, ◌∙◌, subst}
 use Rattle.std.specs.Prelude.{◌==◌}
 use Rattle.std.proofs.lemmas.Bool.{cases_Bool, cases_eq, both_ways, or_cases, or_left, or_right, not-true, not_from_false, eqb-false, ne_eqb}
-use Rattle.tl_combinators.specs.Program.{DeclText}
+use Rattle.tl_program.specs.Program.{DeclText}
 use Rattle.tl_names.specs.Writing.{At, is_constructor, result_head, IsConstructorOf}
 use Rattle.tl_names.specs.Constructors.{IsUneven}
 use Rattle.tl_names.proofs.Places.{get_kept, get_last, get_cases}

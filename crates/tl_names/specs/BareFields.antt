@@ -1,7 +1,7 @@
 -- Which constructors take no bytes.
 -- This project's own, over the bare types of "TL language" (core.telegram.org/mtproto/TL).
 use Rattle.std.specs.Prelude.{◌≡◌, ℕ, List, length, slice_get, Some, true}
-use Rattle.tl_combinators.specs.Program.{KindText, nat, flag, call, of, FieldText, DeclText}
+use Rattle.tl_program.specs.Program.{KindText, nat, flag, call, of, FieldText, DeclText}
 use Rattle.tl_graph.specs.Paths.{IsIn}
 use Rattle.tl_names.specs.Writing.{At, is_constructor}
 use Rattle.tl_names.specs.Parts.{FieldAt}

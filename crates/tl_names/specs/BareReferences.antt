@@ -1,8 +1,8 @@
 -- Which constructors a declaration refers to bare.
 -- From "TL language" (core.telegram.org/mtproto/TL), its bare types: a constructor's name is a bare type, and so is `%` before a type with one constructor.
 use Rattle.std.specs.Prelude.{◌≡◌, ℕ, List, Some, true, false}
-use Rattle.tl_combinators.specs.Trees.{Tree, Trees, named, percent}
-use Rattle.tl_combinators.specs.Program.{DeclText}
+use Rattle.tl_program.specs.Trees.{Tree, Trees, named, percent}
+use Rattle.tl_program.specs.Program.{DeclText}
 use Rattle.tl_graph.specs.Firsts.{First}
 use Rattle.tl_names.specs.Writing.{At, is_constructor, is_type_name, is_built_in, is_variable, IsConstructorNamed}
 use Rattle.tl_names.specs.Parts.{InFields}

@@ -1,7 +1,7 @@
 -- The constructors of a name and of a type.
 -- From "TL language" (core.telegram.org/mtproto/TL): a type is what its constructors make.
 use Rattle.std.specs.Prelude.{◌≡◌, ◌≢◌, ℕ, List, length, map, IsTrue, ◌↔◌, Option, None, Some}
-use Rattle.tl_combinators.specs.Program.{DeclText}
+use Rattle.tl_program.specs.Program.{DeclText}
 use Rattle.tl_graph.specs.Firsts.{First}
 use Rattle.tl_names.specs.Writing.{At, IsConstructorOf, IsConstructorNamed}
 use Rattle.tl_names.specs.declared.index.Constructors.{Constructors}

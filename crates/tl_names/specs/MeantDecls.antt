@@ -2,8 +2,8 @@
 -- From "TL language" and "Formal description of TL" (core.telegram.org/mtproto/TL, /mtproto/TL-formal).
 use Rattle.std.specs.Prelude.{ℕ, List, length, map, Bool, Option, Some, None}
 use Rattle.std.specs.Option.{option_map}
-use Rattle.tl_combinators.specs.Program.{KindText, CondText, FieldText, DeclText}
-use Rattle.tl_combinators.specs.Program as written
+use Rattle.tl_program.specs.Program.{KindText, CondText, FieldText, DeclText}
+use Rattle.tl_program.specs.Program as written
 use Rattle.tl_names.specs.Writing.{own_type}
 use Rattle.tl_names.specs.What.{variable_named, field_named, type_named, what_of}
 use Rattle.tl_names.specs.Meants.{MeantView, meant, meant_by}

@@ -1,7 +1,7 @@
 -- The resolved types and declarations that the code's own stand for, and the names that its maps resolve. This project's own.
 use Rattle.std.specs.Prelude.{◌≡◌, ℕ, List, map, Option, bytes_eq, position}
 use Rattle.std.specs.Box.{box_value}
-use Rattle.tl_combinators.specs.Program.{FieldText, DeclText}
+use Rattle.tl_program.specs.Program.{FieldText, DeclText}
 use Rattle.tl_names.specs.What.{known_what, unless_variable}
 use Rattle.tl_names.specs.NamePlaces.{place_in}
 use Rattle.tl_names.specs.NameLists.{place}

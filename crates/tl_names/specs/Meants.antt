@@ -1,9 +1,9 @@
 -- Types with each name resolved.
 -- From "TL language" and "Formal description of TL" (core.telegram.org/mtproto/TL, /mtproto/TL-formal).
 use Rattle.std.specs.Prelude.{ℕ, List, [], ◌∷◌}
-use Rattle.tl_combinators.specs.Trees.{Tree, Trees}
-use Rattle.tl_combinators.specs.Trees as written
-use Rattle.tl_combinators.specs.Program.{DeclText}
+use Rattle.tl_program.specs.Trees.{Tree, Trees}
+use Rattle.tl_program.specs.Trees as written
+use Rattle.tl_program.specs.Program.{DeclText}
 use Rattle.tl_names.specs.What.{what_of}
 use Rattle.tl_names.specs.declared.what.What.{What}
 

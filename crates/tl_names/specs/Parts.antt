@@ -1,8 +1,8 @@
 -- Types and their parts, as a declaration writes them.
 -- From "Formal description of TL" (core.telegram.org/mtproto/TL-formal), its terms and expressions.
 use Rattle.std.specs.Prelude.{◌≡◌, ◌⊎◌, ℕ, List, false, slice_get, Some}
-use Rattle.tl_combinators.specs.Trees.{Tree, Trees, named, percent, any_call, no_trees, tree}
-use Rattle.tl_combinators.specs.Program.{KindText, nat, flag, call, of, FieldText, DeclText}
+use Rattle.tl_program.specs.Trees.{Tree, Trees, named, percent, any_call, no_trees, tree}
+use Rattle.tl_program.specs.Program.{KindText, nat, flag, call, of, FieldText, DeclText}
 
 abbrev mutual
   -- u is the type itself, or a part of it at any depth

@@ -2,7 +2,7 @@
 -- From "TL language" (core.telegram.org/mtproto/TL): a type is what its constructors make. The order of the numbers is this project's own.
 use Rattle.std.specs.Prelude.{ℕ, List, [], fold, Bool, false, ◌&&◌, bytes_eq, Option, Some, None}
 use Rattle.std.specs.List.{position_or_len}
-use Rattle.tl_combinators.specs.Program.{DeclText}
+use Rattle.tl_program.specs.Program.{DeclText}
 use Rattle.tl_names.specs.Writing.{is_constructor, own_type}
 use Rattle.tl_names.specs.NameLists.{with_name}
 

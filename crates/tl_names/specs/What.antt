@@ -1,9 +1,9 @@
 -- What a name means where a declaration writes it.
 -- From "TL language" and "Formal description of TL" (core.telegram.org/mtproto/TL, /mtproto/TL-formal).
 use Rattle.std.specs.Prelude.{ℕ, List, true, false, ◌&&◌, bytes_eq, codes, position, Option, Some, None, if◌then◌else◌}
-use Rattle.tl_combinators.specs.Program.{DeclText}
-use Rattle.tl_combinators.specs.BuiltIns.{built_in}
-use Rattle.tl_combinators.specs.declared.built_in.BuiltIn.{BuiltIn}
+use Rattle.tl_program.specs.Program.{DeclText}
+use Rattle.tl_program.specs.BuiltIns.{built_in}
+use Rattle.tl_program.specs.declared.built_in.BuiltIn.{BuiltIn}
 use Rattle.tl_names.specs.Writing.{is_constructor, is_type_name}
 use Rattle.tl_names.specs.NameLists.{place}
 use Rattle.tl_names.specs.Places.{types_of}

@@ -2,10 +2,10 @@
 -- From "TL language" and "Formal description of TL" (core.telegram.org/mtproto/TL, /mtproto/TL-formal).
 use Rattle.std.specs.Prelude.{◌≡◌, ℕ, List, [], ◌∷◌, Bool, ◌==◌, ◌&&◌, ◌||◌, not, true, bytes_eq, codes, slice_get, Option, Some, None, is_some, if◌then◌else◌}
 use Rattle.std.specs.List.{list_any}
-use Rattle.tl_combinators.specs.Tokens.{first_is, is_upper}
-use Rattle.tl_combinators.specs.Trees.{Tree, named, percent, any_call}
-use Rattle.tl_combinators.specs.Program.{DeclText}
-use Rattle.tl_combinators.specs.BuiltIns.{built_in}
+use Rattle.tl_program.specs.Letters.{first_is, is_upper}
+use Rattle.tl_program.specs.Trees.{Tree, named, percent, any_call}
+use Rattle.tl_program.specs.Program.{DeclText}
+use Rattle.tl_program.specs.BuiltIns.{built_in}
 
 -- ---- names
 

@@ -1,6 +1,6 @@
 //! Bare references of constructors.
 ghost use Rattle.std.specs.Prelude.{◌≡◌, ◌&&◌, IfOk, OnOk, map, not};
-ghost use Rattle.tl_combinators.specs.Trees.{percent, trees_of};
+ghost use Rattle.tl_program.specs.Trees.{percent, trees_of};
 ghost use Rattle.tl_graph.specs.Paths.{edges_in};
 ghost use Rattle.tl_names.specs.MeantViews.{decl_view, kind_view, meant_view};
 ghost use Rattle.tl_names.specs.Parts.{HeldBy, IsPart, IsPartOfOne};

@@ -1,6 +1,6 @@
 //! The first declaration that passes a test.
 ghost use Rattle.std.specs.Prelude.{◌≡◌, ◌<◌, ◌^◌, ◌↔◌, IsTrue, List, length, map};
-ghost use Rattle.tl_combinators.specs.Program.{DeclText, decl_text, program_text};
+ghost use Rattle.tl_program.specs.Program.{DeclText, decl_text, program_text};
 ghost use Rattle.tl_graph.specs.Firsts.{First};
 ghost use Rattle.tl_names.specs.MeantDecls.{meant_decl};
 ghost use Rattle.tl_names.specs.MeantViews.{decl_view};
@@ -11,7 +11,7 @@ ghost use Rattle.tl_names.specs.Writing.{DeclarationHas};
 use crate::index::Index;
 use crate::meant::MeantDecl;
 use crate::parts::{TypeTest, writes};
-use tl_combinators::{Decl, Program};
+use tl_program::{Decl, Program};
 
 /// A test of declarations.
 pub trait DeclTest {

@@ -1,6 +1,6 @@
 //! Declarations resolved.
 ghost use Rattle.std.specs.Prelude.{◌≡◌, ◌≤◌, IfOk, length, map};
-ghost use Rattle.tl_combinators.specs.Program.{HasFewParts, IsWithinLimits, decl_text, part_limit, program_text};
+ghost use Rattle.tl_program.specs.Program.{HasFewParts, IsWithinLimits, decl_text, part_limit, program_text};
 ghost use Rattle.tl_names.specs.MeantDecls.{head_number, meant_decl};
 ghost use Rattle.tl_names.specs.Meants.{meant};
 ghost use Rattle.tl_names.specs.MeantViews.{NumbersNames, decl_view, meant_view};
@@ -14,8 +14,8 @@ use crate::names::Names;
 use crate::types::meant_type;
 use crate::writing::is_constructor;
 use std::alloc::{AllocError, Global};
-use tl_combinators::{Decl, Program};
 use tl_numbers::Bytes;
+use tl_program::{Decl, Program};
 
 /// The declarations of a program in order, with each name resolved.
 pub fn resolve(

@@ -1,7 +1,7 @@
 //! Fields resolved.
 ghost use Rattle.std.specs.Prelude.{◌≡◌, ◌≤◌, IfOk, bytes_eq, length, map, position};
 ghost use Rattle.std.specs.Option.{option_map};
-ghost use Rattle.tl_combinators.specs.Program.{FieldText, cond_texts, field_text, kind_text, part_limit};
+ghost use Rattle.tl_program.specs.Program.{FieldText, cond_texts, field_text, kind_text, part_limit};
 ghost use Rattle.tl_names.specs.NamePlaces.{place_in};
 ghost use Rattle.tl_names.specs.MeantDecls.{cond_by, field_by, kind_by};
 ghost use Rattle.tl_names.specs.MeantViews.{field_in, field_view, kind_view, what_in};
@@ -11,7 +11,7 @@ use crate::meant::{MeantCond, MeantField, MeantKind};
 use crate::names::Names;
 use crate::types::meant_type;
 use std::alloc::{AllocError, Global};
-use tl_combinators::{Cond, Field, FieldKind};
+use tl_program::{Cond, Field, FieldKind};
 
 /// The fields of a declaration with these variables. A condition mostly asks for one of the first fields, and a declaration has 256 at most: a search from
 /// the first on takes less than a map of their names would.

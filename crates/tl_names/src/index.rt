@@ -1,6 +1,6 @@
 //! The declarations of a program by name.
 ghost use Rattle.std.specs.Prelude.{◌≡◌, ◌∷◌, [], ◌++◌, ◌<◌, ◌≤◌, ◌^◌, ℕ, List, length, slice_get, IfOk, OnOk, None, Some};
-ghost use Rattle.tl_combinators.specs.Program.{DeclText, decl_text, program_text};
+ghost use Rattle.tl_program.specs.Program.{DeclText, decl_text, program_text};
 ghost use Rattle.tl_names.specs.Constructors.{AreConstructors, IsFamily, var_counts};
 ghost use Rattle.tl_names.specs.inner.Indexed.{AreNumbered, Changes, IndexesNames, IndexesTypes, one_more};
 ghost use Rattle.tl_names.specs.NamePlaces.{place_in};
@@ -15,7 +15,7 @@ use crate::writing::{is_constructor, is_type_name, own_type};
 use std::alloc::{AllocError, Global};
 use std::marker::Model;
 use std::snapshot::Snapshot;
-use tl_combinators::{BuiltIn, Decl, Program};
+use tl_program::{BuiltIn, Decl, Program};
 
 /// The constructors of a type: the index of the first and how many variables it has, whether it is the only one, and whether
 /// another has another number of variables.
@@ -53,7 +53,7 @@ impl Drop for Index {
 
 impl Model for Index {
     ghost use Rattle.std.specs.Prelude.{List};
-    ghost use Rattle.tl_combinators.specs.Program.{DeclText, program_text};
+    ghost use Rattle.tl_program.specs.Program.{DeclText, program_text};
     ghost use Rattle.tl_names.specs.inner.DeclCodes.{decls_code};
 
     ghost Value = { List DeclText };

@@ -1,7 +1,7 @@
 //! The hash of names and numbers, whose key is made of a program.
 use md5::{Digest, Md5};
 use std::hash::{BuildHasher, FoldHasher, Hasher};
-use tl_combinators::{Decl, FieldKind, Program};
+use tl_program::{Decl, FieldKind, Program};
 
 /// How the names and numbers of a program are hashed: under a digest of what it declares, so that a text that is fitted to its hash
 /// has another one.

@@ -1,7 +1,7 @@
 //! Parts of types that pass a test.
 ghost use Rattle.std.specs.Prelude.{◌↔◌, IsTrue, List, map};
-ghost use Rattle.tl_combinators.specs.Trees.{Tree, trees_of};
-ghost use Rattle.tl_combinators.specs.Program.{DeclText};
+ghost use Rattle.tl_program.specs.Trees.{Tree, trees_of};
+ghost use Rattle.tl_program.specs.Program.{DeclText};
 ghost use Rattle.tl_names.specs.MeantViews.{decl_view, field_view, kind_view, meant_view};
 ghost use Rattle.tl_names.specs.Parts.{SomePart, SomePartOfOne, SomeHeld, SomeInFields, SomeWritten};
 ghost use Rattle.tl_names.specs.inner.Resolved.{ForDecl, ForFields, ForKind, ForType, ForTypes};

@@ -1,6 +1,6 @@
 //! What the names mean that a declaration writes.
 ghost use Rattle.std.specs.Prelude.{◌≡◌, IfOk, length};
-ghost use Rattle.tl_combinators.specs.Program.{HasFewParts, decl_text};
+ghost use Rattle.tl_program.specs.Program.{HasFewParts, decl_text};
 ghost use Rattle.tl_names.specs.Places.{first_of, head_of, place_of, variable_of};
 ghost use Rattle.tl_names.specs.Writing.{is_variable};
 
@@ -9,7 +9,7 @@ use crate::index::Index;
 use crate::names::Names;
 use std::alloc::{AllocError, Global};
 use std::marker::Model;
-use tl_combinators::Decl;
+use tl_program::Decl;
 
 /// A declaration with its variables by name, and the constructors and types of a program.
 #[derive(Drop)]
@@ -22,7 +22,7 @@ pub struct Scope<'t> {
 impl<'t> Model for Scope<'t> {
     ghost use Rattle.std.specs.Prelude.{List};
     ghost use Rattle.std.specs.Coded.{coded×};
-    ghost use Rattle.tl_combinators.specs.Program.{DeclText, decl_text};
+    ghost use Rattle.tl_program.specs.Program.{DeclText, decl_text};
     ghost use Rattle.tl_names.specs.inner.DeclCodes.{decl_code, decls_code};
     ghost use Rattle.tl_names.specs.inner.Scopes.{IsScope};
 

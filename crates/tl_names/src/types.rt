@@ -1,7 +1,7 @@
 //! Types resolved.
 ghost use Rattle.std.specs.Prelude.{◌≡◌, [], IfOk, map};
-ghost use Rattle.tl_combinators.specs.Trees.{trees_of, view, views};
-ghost use Rattle.tl_combinators.specs.Program.{DeclText};
+ghost use Rattle.tl_program.specs.Trees.{trees_of, view, views};
+ghost use Rattle.tl_program.specs.Program.{DeclText};
 ghost use Rattle.tl_names.specs.Meants.{meant, meant_by, meants_by, meants_of};
 ghost use Rattle.tl_names.specs.MeantViews.{meant_view, what_in};
 
@@ -9,7 +9,7 @@ use crate::index::Index;
 use crate::meant::Meant;
 use crate::names::Names;
 use std::alloc::{AllocError, Global};
-use tl_combinators::TypeTree;
+use tl_program::TypeTree;
 
 /// A type with no variables around it, with each name resolved.
 pub fn resolve_type(alloc: Global, index: &Index, tree: &TypeTree) -> Result<Meant, AllocError>

@@ -1,5 +1,5 @@
 //! What names mean.
-use tl_combinators::BuiltIn;
+use tl_program::BuiltIn;
 
 /// What a name means where a declaration writes it.
 #[derive(Clone, Copy)]

@@ -1,10 +1,10 @@
 //! What a declaration writes: constructors, variables and the names of types.
 ghost use Rattle.std.specs.Prelude.{◌≡◌, ◌==◌, ◌+◌, ◌<◌, drop, length, position};
 ghost use Rattle.std.specs.Option.{option_map};
-ghost use Rattle.tl_combinators.specs.Program.{decl_text};
+ghost use Rattle.tl_program.specs.Program.{decl_text};
 ghost use Rattle.tl_names.specs.Writing.{is_constructor, is_function, is_type_name, is_variable, last_word, own_type, result_head};
 
-use tl_combinators::{Decl, TypeTree};
+use tl_program::{Decl, TypeTree};
 
 /// Whether a declaration is a constructor, and no line of a built-in type.
 pub fn is_constructor(decl: &Decl) -> bool

@@ -1,14 +1,15 @@
 -- What declarations are like that some text reads as.
 use Rattle.std.proofs.Common.{◌≡◌, ℕ, suc, ◌+◌, ◌^◌, ◌<◌, ◌≤◌, List, length, Bool, true, false, IsTrue, Option, Some, None}
 use Rattle.std.specs.Prelude.{max, codes}
-use Rattle.tl_combinators.specs.declared.built_in.BuiltIn.{BuiltIn}
-use Rattle.tl_combinators.specs.declared.built_in.BuiltIn.TheVariants.{Int, Long, Double, Str, Bytes, Vector, Int128, Int256}
-use Rattle.tl_combinators.specs.Tokens.{first_is, is_lower, is_letter}
+use Rattle.tl_program.specs.declared.built_in.BuiltIn.{BuiltIn}
+use Rattle.tl_program.specs.declared.built_in.BuiltIn.TheVariants.{Int, Long, Double, Str, Bytes, Vector, Int128, Int256}
+use Rattle.tl_program.specs.Letters.{first_is, is_lower, is_letter}
 use Rattle.tl_combinators.specs.Names.{joined, vector_number}
-use Rattle.tl_combinators.specs.Trees.{Tree, Trees, named, percent, any_call, no_trees, tree}
-use Rattle.tl_combinators.specs.Program.{KindText, nat, flag, call, of, CondText, FieldText, DeclText}
+use Rattle.tl_program.specs.Trees.{Tree, Trees, named, percent, any_call, no_trees, tree}
+use Rattle.tl_program.specs.Program.{KindText, nat, flag, call, of, CondText, FieldText, DeclText}
 use Rattle.tl_combinators.specs.Fields.{conditional}
-use Rattle.tl_combinators.specs.BuiltIns.{built_in, line_text}
+use Rattle.tl_program.specs.BuiltIns.{built_in}
+use Rattle.tl_combinators.specs.BuiltInLines.{line_text}
 use Rattle.tl_print.proofs.Givens.{EachIs}
 use Rattle.tl_print.proofs.PrintedPieces.{is_run}
 

@@ -14,9 +14,10 @@ use Rattle.tl_lexer.specs.declared.token.TokenKind.{TokenKind}
 use Rattle.tl_lexer.specs.declared.token.TokenKind.TheVariants.{Word}
 use Rattle.tl_lexer.specs.Spelled.{SpellsKind, SpellsRow}
 use Rattle.tl_combinators.specs.declared.fault.SyntaxFault.{SyntaxFault}
-use Rattle.tl_combinators.specs.Tokens.{bytes_of, token, letter_word, this_word, IsWord, first_is, is_lower, is_letter}
+use Rattle.tl_program.specs.Letters.{first_is, is_lower, is_letter}
+use Rattle.tl_combinators.specs.Tokens.{bytes_of, token, letter_word, this_word, IsWord}
 use Rattle.tl_combinators.specs.Names.{NameText, joined, IsObject, name_from, name, declared_name, type_name, hex, vector_number, IsOtherNumber, vector_hex, number_by, number, vector_line_number}
-use Rattle.tl_combinators.specs.Trees.{Tree, named, percent, any_call, trees_of}
+use Rattle.tl_program.specs.Trees.{Tree, named, percent, any_call, trees_of}
 use Rattle.tl_combinators.specs.Types.{one_opens, opens, closes, in_parens, one_term, terms, one_listed, listed, applied, application, no_level, after_percent, bare, core, type_in, term, expression}
 use Rattle.tl_print.proofs.Givens.{EachIs, all_push, Gives, gives_gives, gives_fails, gives_one, gives_chain, gives_choice, gives_so, gives_loop}
 use Rattle.tl_print.proofs.PrintedPieces.{is_run, run_spelled}

@@ -8,15 +8,17 @@ use Rattle.tl_lexer.specs.Rule.{Rule}
 use Rattle.tl_lexer.specs.declared.token.Token.{Token}
 use Rattle.tl_lexer.proofs.SpelledPieces.{tokens_spell}
 use Rattle.tl_combinators.specs.declared.fault.SyntaxFault.{SyntaxFault}
-use Rattle.tl_combinators.specs.declared.built_in.BuiltIn.{BuiltIn}
-use Rattle.tl_combinators.specs.declared.built_in.BuiltIn.TheVariants.{Int, Long, Double, Str, Bytes, Vector, Int128, Int256}
-use Rattle.tl_combinators.specs.Tokens.{bytes_of, is_digit, is_letter, is_lower}
+use Rattle.tl_program.specs.declared.built_in.BuiltIn.{BuiltIn}
+use Rattle.tl_program.specs.declared.built_in.BuiltIn.TheVariants.{Int, Long, Double, Str, Bytes, Vector, Int128, Int256}
+use Rattle.tl_program.specs.Letters.{is_digit, is_letter, is_lower}
+use Rattle.tl_combinators.specs.Tokens.{bytes_of}
 use Rattle.tl_combinators.specs.Names.{NameText}
-use Rattle.tl_combinators.specs.Trees.{Tree, named, percent, any_call, no_trees, tree}
-use Rattle.tl_combinators.specs.Program.{flag, of, CondText, DeclText}
+use Rattle.tl_program.specs.Trees.{Tree, named, percent, any_call, no_trees, tree}
+use Rattle.tl_program.specs.Program.{flag, of, CondText, DeclText}
 use Rattle.tl_combinators.specs.Description.{Piece, description}
 use Rattle.tl_combinators.specs.Fields.{digit, two_digits, bit_value, bit, condition, conditional, called, in_condition, held, where_field, field, field_too_many, FieldsText, one_field, fields}
-use Rattle.tl_combinators.specs.BuiltIns.{built_in, this_type, sort, boxed, opaque, bracketed, repeated, element, vector_result, vector, line_form, line_number, built_in_line}
+use Rattle.tl_program.specs.BuiltIns.{built_in}
+use Rattle.tl_combinators.specs.BuiltInLines.{this_type, sort, boxed, opaque, bracketed, repeated, element, vector_result, vector, line_form, line_number, built_in_line}
 use Rattle.tl_combinators.specs.Declarations.{variable, one_variable, variables, result_type, combinator, named_declaration, declaration, where_declaration, declaration_too_many}
 use Rattle.tl_combinators.specs.Sentences.{ProgramText, program_so_far, section, mark, one_declaration, item, program}
 use Rattle.tl_print.specs.Printed.{CanBeRead}

@@ -17,11 +17,12 @@ use Rattle.tl_lexer.specs.declared.token.TokenKind.TheVariants.{Word, Hash, Colo
 use Rattle.tl_lexer.specs.Tokens.{is_word}
 use Rattle.tl_combinators.specs.declared.fault.SyntaxFault.{SyntaxFault}
 use Rattle.tl_combinators.specs.Taken.{taken}
-use Rattle.tl_combinators.specs.Tokens.{bytes_of, Begins, OfKind, IsAt, IsWord, first_is, is_letter, is_digit}
+use Rattle.tl_program.specs.Letters.{first_is, is_letter, is_digit}
+use Rattle.tl_combinators.specs.Tokens.{bytes_of, Begins, OfKind, IsAt, IsWord}
 use Rattle.tl_combinators.specs.Names.{IsHex, hex, number_by, number, vector_number, IsOtherNumber, vector_hex, vector_line_number}
-use Rattle.tl_combinators.specs.Trees.{Tree, named, percent, any_call, no_trees}
+use Rattle.tl_program.specs.Trees.{Tree, named, percent, any_call, no_trees}
 use Rattle.tl_combinators.specs.Types.{term}
-use Rattle.tl_combinators.specs.Program.{KindText, nat, flag, call, of, CondText, FieldText}
+use Rattle.tl_program.specs.Program.{KindText, nat, flag, call, of, CondText, FieldText}
 use Rattle.tl_combinators.specs.Description.{field_pieces}
 use Rattle.tl_combinators.specs.Fields.{bit_value, bit, BeginsBit, BeginsCondition, condition, conditional, HeldText, called, in_condition, held, BeginsMultiplicity, IsLone, BeginsUnnamed, where_field, field, FieldsText, fields_text, one_field}
 use Rattle.tl_print.specs.Written.{written_tree, written_bit, written_condition, written_kind, written_field, written_fields, written_number}

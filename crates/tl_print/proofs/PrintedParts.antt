@@ -8,7 +8,8 @@ use Rattle.tl_lexer.specs.declared.token.Token.{Token}
 use Rattle.tl_lexer.specs.declared.token.TokenKind.{TokenKind}
 use Rattle.tl_lexer.specs.declared.token.TokenKind.TheVariants.{Word, Dot}
 use Rattle.tl_combinators.specs.declared.fault.SyntaxFault.{SyntaxFault}
-use Rattle.tl_combinators.specs.Tokens.{bytes_of, unexpected, OfKind, Begins, token, IsAt, letter_word, this_word, IsWord, IsThis, first_is, is_lower, is_upper, is_letter, is_digit}
+use Rattle.tl_program.specs.Letters.{first_is, is_lower, is_upper, is_letter, is_digit}
+use Rattle.tl_combinators.specs.Tokens.{bytes_of, unexpected, OfKind, Begins, token, IsAt, letter_word, this_word, IsWord, IsThis}
 use Rattle.tl_combinators.specs.Names.{NameText, joined, IsObject, name_from, name, declared_name, type_name}
 use Rattle.tl_combinators.specs.Fields.{BeginsBit, BeginsCondition}
 use Rattle.tl_print.proofs.PrintedPieces.{Piece, word, sign, dashes, white, bytes_in, Stops, Good, first_kind, Front, Stands}

@@ -9,17 +9,19 @@ use Rattle.tl_lexer.specs.declared.token.Token.{Token}
 use Rattle.tl_lexer.specs.declared.token.TokenKind.{TokenKind}
 use Rattle.tl_lexer.specs.declared.token.TokenKind.TheVariants.{Word, Dashes, Hash, Colon, Semi, Equals, Query, Dot, LBrace, RBrace, LBracket, RBracket, Star}
 use Rattle.tl_combinators.specs.declared.fault.SyntaxFault.{SyntaxFault}
-use Rattle.tl_combinators.specs.declared.built_in.BuiltIn.{BuiltIn}
-use Rattle.tl_combinators.specs.declared.built_in.BuiltIn.TheVariants.{Int, Long, Double, Str, Bytes, Vector, Int128, Int256}
+use Rattle.tl_program.specs.declared.built_in.BuiltIn.{BuiltIn}
+use Rattle.tl_program.specs.declared.built_in.BuiltIn.TheVariants.{Int, Long, Double, Str, Bytes, Vector, Int128, Int256}
 use Rattle.tl_combinators.specs.Taken.{taken}
-use Rattle.tl_combinators.specs.Tokens.{Begins, OfKind, IsWord, IsThis, first_is, is_lower, is_upper, is_letter}
+use Rattle.tl_program.specs.Letters.{first_is, is_lower, is_upper, is_letter}
+use Rattle.tl_combinators.specs.Tokens.{Begins, OfKind, IsWord, IsThis}
 use Rattle.tl_combinators.specs.Names.{IsObject, declared_name, number, vector_number}
-use Rattle.tl_combinators.specs.Trees.{Tree}
+use Rattle.tl_program.specs.Trees.{Tree}
 use Rattle.tl_combinators.specs.Types.{expression}
-use Rattle.tl_combinators.specs.Program.{FieldText, DeclText}
+use Rattle.tl_program.specs.Program.{FieldText, DeclText}
 use Rattle.tl_combinators.specs.Description.{Piece as DescribedPiece, pieces, left_out}
 use Rattle.tl_combinators.specs.Fields.{FieldsText, fields_text, fields}
-use Rattle.tl_combinators.specs.BuiltIns.{own_name, built_in, this_type, sort, boxed, opaque, bracketed, repeated, element, vector_result, vector, line_form, line_number, line_text, built_in_line}
+use Rattle.tl_program.specs.BuiltIns.{own_name, built_in}
+use Rattle.tl_combinators.specs.BuiltInLines.{this_type, sort, boxed, opaque, bracketed, repeated, element, vector_result, vector, line_form, line_number, line_text, built_in_line}
 use Rattle.tl_combinators.specs.Declarations.{variable, one_variable, variables, result_type, combinator, named_declaration, declaration, IsLifecycle, where_declaration}
 use Rattle.tl_combinators.specs.Sentences.{ProgramText, program_so_far, section, mark, one_declaration, item, program}
 use Rattle.tl_combinators.proofs.Describing.{has_description}

@@ -9,7 +9,7 @@ use Rattle.tl_lexer.specs.declared.token.TokenKind.{TokenKind}
 use Rattle.tl_lexer.specs.declared.token.TokenKind.TheVariants.{Word, Dot, Less, Greater, Comma, LParen, Percent, Bang}
 use Rattle.tl_combinators.specs.declared.fault.SyntaxFault.{SyntaxFault}
 use Rattle.tl_combinators.specs.Tokens.{Begins, OfKind, token}
-use Rattle.tl_combinators.specs.Trees.{Tree, Trees, named, percent, any_call, no_trees, tree, trees_of}
+use Rattle.tl_program.specs.Trees.{Tree, Trees, named, percent, any_call, no_trees, tree, trees_of}
 use Rattle.tl_combinators.specs.Types.{opens, in_parens, one_term, terms, one_listed, listed, applied, application, after_percent, bare, core, type_in, term, expression}
 use Rattle.tl_combinators.specs.Fields.{BeginsCondition}
 use Rattle.tl_print.specs.Written.{written_tree, written_args}

@@ -2,11 +2,11 @@
 use Rattle.std.specs.Prelude.{ℕ, ◌+◌, ◌/◌, ◌%◌, List, [], ◌∷◌, ◌++◌, nat_lt, Bool, true, false, Option, Some, None, if◌then◌else◌, codes}
 use Rattle.std.specs.Int.{w32, to_be_bytes}
 use Rattle.hex.specs.Hex.{encode_lower}
-use Rattle.tl_combinators.specs.declared.built_in.BuiltIn.{BuiltIn}
-use Rattle.tl_combinators.specs.declared.built_in.BuiltIn.TheVariants.{Int, Long, Double, Str, Bytes, Vector, Int128, Int256}
-use Rattle.tl_combinators.specs.Trees.{Tree, Trees, named, percent, any_call, no_trees, tree}
-use Rattle.tl_combinators.specs.Program.{KindText, nat, flag, call, of, CondText, FieldText, DeclText}
-use Rattle.tl_combinators.specs.BuiltIns.{built_in}
+use Rattle.tl_program.specs.declared.built_in.BuiltIn.{BuiltIn}
+use Rattle.tl_program.specs.declared.built_in.BuiltIn.TheVariants.{Int, Long, Double, Str, Bytes, Vector, Int128, Int256}
+use Rattle.tl_program.specs.Trees.{Tree, Trees, named, percent, any_call, no_trees, tree}
+use Rattle.tl_program.specs.Program.{KindText, nat, flag, call, of, CondText, FieldText, DeclText}
+use Rattle.tl_program.specs.BuiltIns.{built_in}
 
 -- ---- types
 

@@ -1,8 +1,8 @@
 //! Programs as text.
 ghost use Rattle.std.specs.Prelude.{◌≡◌, ◌++◌, ◌∷◌, [], map, IfOk, OnOk, true, false};
 ghost use Rattle.tl_print.specs.Printed.{CanBeRead, ReadsBack};
-ghost use Rattle.tl_combinators.specs.Program.{kind_text, cond_texts, field_text, decl_text, program_text};
-ghost use Rattle.tl_combinators.specs.Trees.{view, views, trees_of};
+ghost use Rattle.tl_program.specs.Program.{kind_text, cond_texts, field_text, decl_text, program_text};
+ghost use Rattle.tl_program.specs.Trees.{view, views, trees_of};
 ghost use Rattle.tl_print.specs.Written.{opening, closing, written_tree, written_args, written_bit, written_condition, written_kind, written_field, written_fields, written_number, written_variable, written_variables, written_line, written_parts, written_declaration, section_after, written_mark, written_program};
 
 use std::alloc::{AllocError, Global};

@@ -1,9 +1,9 @@
 -- Types that are a name, applied to some types or none.
 use Rattle.std.proofs.Common.{◌≡◌, List, ℕ, true, Vec, Global, ap, sym, ◌∙◌, bytes_eq, ◌↔◌}
 use Rattle.std.proofs.lemmas.Slice.Eq.{bytes_eq-Decides}
-use Rattle.tl_combinators.specs.declared.tree.TypeTree.{TypeTree, Named}
-use Rattle.tl_combinators.specs.Trees.{Trees, named, trees_of, view, views}
-use Rattle.tl_combinators.proofs.TreeViews.{view-Named}
+use Rattle.tl_program.specs.declared.tree.TypeTree.{TypeTree, Named}
+use Rattle.tl_program.specs.Trees.{Trees, named, trees_of, view, views}
+use Rattle.tl_program.proofs.TreeViews.{view-Named}
 use Rattle.tl_schema.specs.inner.SameNameSteps.{IsOf}
 
 same_head : (m n : List ℕ) (ts us : Trees) → named m ts ≡ named n us → m ≡ n

@@ -1,7 +1,7 @@
 -- How many variables a name has, by what it means.
 use Rattle.std.proofs.Common.{◌≡◌, ℕ, true, false, List, length, Option, Some, None, ap, subst}
 use Rattle.std.proofs.lemmas.Option.{same_Some, none-some}
-use Rattle.tl_combinators.specs.Program.{DeclText}
+use Rattle.tl_program.specs.Program.{DeclText}
 use Rattle.tl_graph.specs.Firsts.{First}
 use Rattle.tl_names.specs.Writing.{is_type_name, is_built_in, is_variable, IsConstructorOf, IsConstructorNamed}
 use Rattle.tl_schema.specs.WrongArity.{HasArity}

@@ -1,7 +1,7 @@
 -- The type that a text asks for is formed.
 use Rattle.std.proofs.Common.{ℕ, ◌<◌, List, Result, Ok, Err, true≢false, sym, subst}
 use Rattle.std.specs.Prelude.{IfOk}
-use Rattle.tl_combinators.specs.Trees.{Tree, named, percent, any_call}
+use Rattle.tl_program.specs.Trees.{Tree, named, percent, any_call}
 use Rattle.tl_names.specs.Parts.{IsPart}
 use Rattle.tl_schema.specs.UnknownVariable.{NamesVariable}
 use Rattle.tl_schema.specs.Seen.{shape}

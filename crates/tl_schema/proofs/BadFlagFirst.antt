@@ -2,7 +2,7 @@
 use Rattle.std.proofs.Common.{◌≡◌, inl, inr, ℕ, ◌<◌, List, Option, Some, None, refl}
 use Rattle.tl_lexer.proofs.Whole.{Decided}
 use Rattle.tl_combinators.proofs.Decided.{decided_as, decided_not, decided_and, decided_or, text_decided}
-use Rattle.tl_combinators.specs.Program.{KindText, nat, flag, call, of, CondText, DeclText}
+use Rattle.tl_program.specs.Program.{KindText, nat, flag, call, of, CondText, DeclText}
 use Rattle.tl_graph.specs.Firsts.{First}
 use Rattle.tl_schema.specs.BadFlag.{IsFlagsBefore, IsBadCondition, HasBadCondition, BadFlag}
 use Rattle.tl_schema.proofs.PlacesDecided.{less_decided, some_decided}

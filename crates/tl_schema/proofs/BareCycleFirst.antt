@@ -1,6 +1,6 @@
 -- The first declaration that stands on a cycle of bare references.
 use Rattle.std.proofs.Common.{ℕ, ◌<◌, List, length, Option}
-use Rattle.tl_combinators.specs.Program.{DeclText}
+use Rattle.tl_program.specs.Program.{DeclText}
 use Rattle.tl_graph.specs.Firsts.{First}
 use Rattle.tl_graph.proofs.PathsDecided.{first_step, path_decided}
 use Rattle.tl_names.specs.BareReferences.{PointsTo}

@@ -4,8 +4,8 @@ use Rattle.std.proofs.lemmas.Bool.{cases_eq}
 use Rattle.std.proofs.lemmas.Option.{same_Some, slice_get_within}
 use Rattle.tl_lexer.proofs.Whole.{Decided}
 use Rattle.tl_combinators.proofs.Decided.{decided_as, decided_and, decided_or}
-use Rattle.tl_combinators.specs.Trees.{Tree, Trees, named, percent}
-use Rattle.tl_combinators.specs.Program.{DeclText}
+use Rattle.tl_program.specs.Trees.{Tree, Trees, named, percent}
+use Rattle.tl_program.specs.Program.{DeclText}
 use Rattle.tl_graph.specs.Firsts.{First}
 use Rattle.tl_names.specs.Writing.{is_constructor, is_type_name, is_built_in, is_variable, IsConstructorNamed}
 use Rattle.tl_names.specs.Parts.{InFields}

@@ -1,7 +1,7 @@
 -- Types with a bare form, and `%` before one that has none.
 use Rattle.std.proofs.Common.{◌≡◌, inl, inr, ℕ, List, Bool, true, false, not, IsTrue, ◌↔◌, codes, refl, ap, sym, ◌∙◌, subst, true≢false}
-use Rattle.tl_combinators.specs.Trees.{Tree, Trees, named, percent}
-use Rattle.tl_combinators.specs.Program.{DeclText}
+use Rattle.tl_program.specs.Trees.{Tree, Trees, named, percent}
+use Rattle.tl_program.specs.Program.{DeclText}
 use Rattle.tl_names.proofs.HeadNames.{type_name}
 use Rattle.tl_names.specs.Writing.{is_variable}
 use Rattle.tl_schema.specs.NotBare.{HasBare, vector, single, HasNoBare}

@@ -3,9 +3,9 @@ use Rattle.std.proofs.Common.{◌≡◌, ◌⊎◌, inl, inr, ℕ, Bool, true, f
 use Rattle.std.specs.Prelude.{is_some}
 use Rattle.std.proofs.lemmas.Option.{none-some}
 use Rattle.std.proofs.lemmas.Slice.Eq.{bytes_eq-Decides}
-use Rattle.tl_combinators.specs.declared.built_in.BuiltIn.{BuiltIn}
-use Rattle.tl_combinators.specs.declared.built_in.BuiltIn.TheVariants.{Int, Long, Double, Str, Bytes, Vector, Int128, Int256}
-use Rattle.tl_combinators.specs.BuiltIns.{own_name, built_in}
+use Rattle.tl_program.specs.declared.built_in.BuiltIn.{BuiltIn}
+use Rattle.tl_program.specs.declared.built_in.BuiltIn.TheVariants.{Int, Long, Double, Str, Bytes, Vector, Int128, Int256}
+use Rattle.tl_program.specs.BuiltIns.{own_name, built_in}
 use Rattle.tl_schema.specs.Types.{Shape, int, long, opaque, str, raw}
 use Rattle.tl_names.specs.Writing.{is_type_name, is_built_in}
 use Rattle.tl_schema.specs.Meanings.{base_shape, built_in_shape}

@@ -3,8 +3,8 @@ use Rattle.std.proofs.Common.{◌≡◌, ℕ, ◌+◌, Bool, cond, true, false, 
 use Rattle.std.specs.List.{count_by, list_any, flat_map}
 use Rattle.std.proofs.lemmas.List.Folds.{flat_map-map, list_any-append}
 use Rattle.std.proofs.lemmas.List.Sums.{sum_by-append, sum_by-cons}
-use Rattle.tl_combinators.specs.declared.program.Field.{Field}
-use Rattle.tl_combinators.specs.Program.{KindText, nat, flag, call, of, FieldText, field_text, kind_text}
+use Rattle.tl_program.specs.declared.program.Field.{Field}
+use Rattle.tl_program.specs.Program.{KindText, nat, flag, call, of, FieldText, field_text, kind_text}
 use Rattle.tl_schema.specs.UnknownVariable.{called_by}
 
 list_any-flat_map : {A B : Type 0} (p : B → Bool) (g : A → List B) (xs : List A) → list_any p (flat_map g xs) ≡ list_any (λ x. list_any p (g x)) xs

@@ -1,7 +1,7 @@
 -- The checks in their order: a program passes them or is refused, in one way.
 use Rattle.std.proofs.Common.{◌≡◌, ◌⊎◌, ℕ, List, [], ◌∷◌, Option, Some, None, refl, sym, ◌∙◌, inl, inr}
 use Rattle.std.proofs.lemmas.Option.{same_Some}
-use Rattle.tl_combinators.specs.Program.{DeclText}
+use Rattle.tl_program.specs.Program.{DeclText}
 use Rattle.tl_graph.specs.Firsts.{First}
 use Rattle.tl_schema.specs.CheckCauses.{HasCause, causes, PassesBy, RefusedBy, Passes, RefusedAt}
 use Rattle.tl_schema.specs.declared.fault.CheckCause.{CheckCause}

@@ -1,7 +1,7 @@
 -- Types that apply a name to a bare constructor without bytes, by the marks of these.
 use Rattle.std.proofs.Common.{◌↔◌, ℕ, Bool, List, Option}
-use Rattle.tl_combinators.specs.Trees.{Tree, named, percent, any_call}
-use Rattle.tl_combinators.specs.Program.{DeclText}
+use Rattle.tl_program.specs.Trees.{Tree, named, percent, any_call}
+use Rattle.tl_program.specs.Program.{DeclText}
 use Rattle.tl_graph.specs.Firsts.{First}
 use Rattle.tl_names.specs.Writing.{DeclarationHas}
 use Rattle.tl_names.specs.Parts.{SomePart, SomeWritten}

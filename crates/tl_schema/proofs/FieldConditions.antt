@@ -2,7 +2,7 @@
 use Rattle.std.proofs.Common.{◌≡◌, inl, inr, ℕ, ◌+◌, ◌<◌, ◌≤◌, List, length, slice_get, ap, sym, ◌∙◌, subst, arith}
 use Rattle.std.proofs.lemmas.Bool.{cases_eq}
 use Rattle.std.proofs.lemmas.Option.{slice_get_within, same_Some}
-use Rattle.tl_combinators.specs.Program.{FieldText, DeclText}
+use Rattle.tl_program.specs.Program.{FieldText, DeclText}
 use Rattle.tl_names.specs.Parts.{FieldAt}
 use Rattle.tl_schema.specs.BadFlag.{IsFlagsBefore, IsBadCondition, HasBadCondition}
 use Rattle.tl_schema.specs.inner.ConditionSteps.{IsFlags}

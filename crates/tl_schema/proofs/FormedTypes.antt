@@ -3,8 +3,8 @@ use Rattle.std.proofs.Common.{◌≡◌, inl, inr, ℕ, suc, ◌<◌, Bool, true
 use Rattle.std.proofs.lemmas.Bool.{both_ways, cases_eq, or_left, or_right}
 use Rattle.std.proofs.lemmas.Option.{slice_get_within}
 use Rattle.std.proofs.lemmas.Slice.Eq.{bytes_eq-Decides}
-use Rattle.tl_combinators.specs.Trees.{Tree, Trees, named, percent, any_call, no_trees, tree}
-use Rattle.tl_combinators.specs.Program.{DeclText}
+use Rattle.tl_program.specs.Trees.{Tree, Trees, named, percent, any_call, no_trees, tree}
+use Rattle.tl_program.specs.Program.{DeclText}
 use Rattle.tl_graph.specs.Firsts.{First}
 use Rattle.tl_names.specs.Writing.{is_type_name, is_vector_name, is_built_in, is_variable, IsConstructorOf, IsConstructorNamed}
 use Rattle.tl_names.specs.Parts.{IsPart, IsPartOfOne}

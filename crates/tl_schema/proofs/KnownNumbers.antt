@@ -5,7 +5,7 @@ use Rattle.std.proofs.lemmas.Bool.{cases_eq}
 use Rattle.std.proofs.lemmas.Option.{same_Some, slice_get_within}
 use Rattle.indexmap.specs.IndexSet.{IndexSet, contains}
 use Rattle.tl_numbers.proofs.Division.{one_crc}
-use Rattle.tl_combinators.specs.Program.{DeclText}
+use Rattle.tl_program.specs.Program.{DeclText}
 use Rattle.tl_names.specs.Writing.{At}
 use Rattle.tl_schema.specs.inner.TakenNumbers.{IsTaken}
 use Rattle.tl_schema.specs.Numbers.{IsWrittenOrCrc, IsNumberOf, IsNumbered}

@@ -3,8 +3,8 @@ use Rattle.std.proofs.Common.{◌≡◌, ◌⊎◌, inl, inr, ℕ, zero, suc, �
 use Rattle.std.specs.Prelude.{IsTrue}
 use Rattle.std.proofs.lemmas.List.{take_all}
 use Rattle.std.proofs.lemmas.Option.{none-some, same_Some}
-use Rattle.tl_combinators.specs.Trees.{Tree, trees_of}
-use Rattle.tl_combinators.specs.Program.{DeclText}
+use Rattle.tl_program.specs.Trees.{Tree, trees_of}
+use Rattle.tl_program.specs.Program.{DeclText}
 use Rattle.tl_graph.specs.Needs.{IsMarked}
 use Rattle.tl_schema.specs.EmptyElement.{IsOneOf}
 use Rattle.tl_names.specs.inner.BareSteps.{BareIs}

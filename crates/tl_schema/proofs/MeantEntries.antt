@@ -3,7 +3,7 @@ use Rattle.std.proofs.Common.{◌≡◌, Bool, ℕ, List, length, map, slice_get
 use Rattle.std.specs.Option.{option_map, unwrap_or}
 use Rattle.std.proofs.lemmas.List.{length-map}
 use Rattle.std.proofs.lemmas.Option.{none-some, same_Some}
-use Rattle.tl_combinators.specs.Program.{CondText, DeclText, FieldText}
+use Rattle.tl_program.specs.Program.{CondText, DeclText, FieldText}
 use Rattle.tl_names.specs.Places.{types_of}
 use Rattle.tl_names.specs.Writing.{is_function, own_type}
 use Rattle.tl_names.specs.MeantDecls.{cond_by, head_number}

@@ -1,7 +1,7 @@
 -- What several types mean, one after another.
 use Rattle.std.proofs.Common.{◌≡◌, List, [], ◌∷◌, map, refl, ap}
-use Rattle.tl_combinators.specs.Trees.{Tree, trees_of}
-use Rattle.tl_combinators.specs.Program.{DeclText}
+use Rattle.tl_program.specs.Trees.{Tree, trees_of}
+use Rattle.tl_program.specs.Program.{DeclText}
 use Rattle.tl_schema.specs.Types.{shape, shapes_of}
 use Rattle.tl_schema.specs.Meanings.{meaning, meanings}
 

@@ -1,7 +1,7 @@
 -- Names that are applied to a wrong number of types.
 use Rattle.std.proofs.Common.{◌≡◌, ◌↔◌, ◌∙◌, ℕ, suc, Bool, IsTrue, List, [], ◌∷◌, length, refl, sym, ap, subst, arith}
-use Rattle.tl_combinators.specs.Trees.{Tree, named, trees_of}
-use Rattle.tl_combinators.specs.Program.{DeclText}
+use Rattle.tl_program.specs.Trees.{Tree, named, trees_of}
+use Rattle.tl_program.specs.Program.{DeclText}
 use Rattle.tl_schema.specs.WrongArity.{count_of, IsMisapplied, Misapplies}
 
 count_of-trees_of : (ts : List Tree) → count_of (trees_of ts) ≡ length ts

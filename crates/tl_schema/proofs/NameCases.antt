@@ -5,9 +5,9 @@ use Rattle.std.proofs.lemmas.Bool.{both_ways}
 use Rattle.std.proofs.lemmas.Option.{none-some, same_Some, slice_get-map}
 use Rattle.std.proofs.lemmas.Slice.Eq.{bytes_eq-Decides}
 use Rattle.std.specs.Option.{option_map}
-use Rattle.tl_combinators.specs.Program.{DeclText}
-use Rattle.tl_combinators.specs.BuiltIns.{built_in}
-use Rattle.tl_combinators.specs.declared.built_in.BuiltIn.{BuiltIn}
+use Rattle.tl_program.specs.Program.{DeclText}
+use Rattle.tl_program.specs.BuiltIns.{built_in}
+use Rattle.tl_program.specs.declared.built_in.BuiltIn.{BuiltIn}
 use Rattle.tl_names.specs.Writing.{is_built_in, is_type_name, is_variable, is_vector_name, IsConstructorOf, IsConstructorNamed}
 use Rattle.tl_names.specs.Constructors.{IsSingle}
 use Rattle.tl_names.specs.What.{what_of}

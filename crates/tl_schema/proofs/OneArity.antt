@@ -6,7 +6,7 @@ use Rattle.std.proofs.lemmas.Option.{same_Some, slice_get_within}
 use Rattle.std.proofs.lemmas.Slice.Eq.{bytes_eq-Decides}
 use Rattle.tl_lexer.proofs.Whole.{Decided}
 use Rattle.tl_combinators.proofs.Decided.{decided_as, decided_not}
-use Rattle.tl_combinators.specs.Program.{DeclText}
+use Rattle.tl_program.specs.Program.{DeclText}
 use Rattle.tl_graph.specs.Firsts.{First}
 use Rattle.tl_names.specs.Writing.{At, is_type_name, is_vector_name, is_built_in, is_variable, IsConstructorOf, IsConstructorNamed}
 use Rattle.tl_schema.specs.WrongArity.{HasArity, variable, vector, built_in, type, constructor}

@@ -6,8 +6,8 @@ use Rattle.tl_lexer.specs.OneAnswer.{HasTokens, IsRefused}
 use Rattle.tl_lexer.proofs.Whole.{Decided}
 use Rattle.tl_lexer.proofs.WholePieces.{one_answer as lexer_law}
 use Rattle.tl_combinators.specs.declared.fault.SyntaxFault.{SyntaxFault}
-use Rattle.tl_combinators.specs.Trees.{Tree}
-use Rattle.tl_combinators.specs.Program.{DeclText}
+use Rattle.tl_program.specs.Trees.{Tree}
+use Rattle.tl_program.specs.Program.{DeclText}
 use Rattle.tl_combinators.specs.Sentences.{ReadsType, TypeRefused}
 use Rattle.tl_combinators.proofs.OneProgram.{one_type}
 use Rattle.tl_schema.specs.UnknownType.{BeginsUnknown}

@@ -1,8 +1,8 @@
 -- The cycles of bare references are those of the graph that was made of them.
 use Rattle.std.proofs.Common.{ℕ, ◌<◌, List, length, Option, arith}
 use Rattle.std.proofs.lemmas.Option.{slice_get_within}
-use Rattle.tl_combinators.specs.Trees.{Tree}
-use Rattle.tl_combinators.specs.Program.{DeclText}
+use Rattle.tl_program.specs.Trees.{Tree}
+use Rattle.tl_program.specs.Program.{DeclText}
 use Rattle.tl_graph.specs.Firsts.{First}
 use Rattle.tl_graph.specs.Paths.{Edge, IsGraph, IsOnCycle}
 use Rattle.tl_graph.proofs.GraphPaths.{along}

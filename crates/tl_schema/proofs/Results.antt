@@ -2,12 +2,12 @@
 use Rattle.std.proofs.Common.{◌≡◌, ◌≢◌, ℕ, ◌+◌, ◌==◌, List, [], ◌∷◌, ◌++◌, map, take, slice_get, Some, Vec, Global, Bool, true, false, not, IsTrue, ◌↔◌, refl, ap, ap₂, sym, ◌∙◌, true≢false}
 use Rattle.std.specs.Vec.{vec_len}
 use Rattle.std.proofs.lemmas.Option.{same_Some}
-use Rattle.tl_combinators.specs.declared.tree.TypeTree.{TypeTree, Named}
-use Rattle.tl_combinators.specs.declared.program.Decl.{Decl}
-use Rattle.tl_combinators.specs.Trees.{Tree, Trees, named, tree, plain, trees_of, view, views}
-use Rattle.tl_combinators.specs.Program.{DeclText, decl_text}
-use Rattle.tl_combinators.proofs.AppliedNames.{holds_of_applied}
-use Rattle.tl_combinators.proofs.TreeViews.{view-Named}
+use Rattle.tl_program.specs.declared.tree.TypeTree.{TypeTree, Named}
+use Rattle.tl_program.specs.declared.program.Decl.{Decl}
+use Rattle.tl_program.specs.Trees.{Tree, Trees, named, tree, plain, trees_of, view, views}
+use Rattle.tl_program.specs.Program.{DeclText, decl_text}
+use Rattle.tl_program.proofs.AppliedNames.{holds_of_applied}
+use Rattle.tl_program.proofs.TreeViews.{view-Named}
 use Rattle.tl_names.specs.Writing.{is_type_name, is_variable, is_constructor}
 use Rattle.tl_schema.specs.BadResult.{IsGoodResult, HasBadResult}
 use Rattle.tl_names.proofs.Maps.{take_push}

@@ -5,8 +5,8 @@ use Rattle.std.specs.Option.{is_none, is_some, unwrap_or}
 use Rattle.std.proofs.lemmas.Bool.{cases_eq, or_cases}
 use Rattle.std.proofs.lemmas.Option.{slice_get_within, same_Some}
 use Rattle.std.proofs.lemmas.Slice.Eq.{bytes_eq-Decides}
-use Rattle.tl_combinators.specs.Program.{DeclText, FieldText, field_text}
-use Rattle.tl_combinators.specs.declared.program.Field.{Field}
+use Rattle.tl_program.specs.Program.{DeclText, FieldText, field_text}
+use Rattle.tl_program.specs.declared.program.Field.{Field}
 use Rattle.tl_names.specs.Writing.{At}
 use Rattle.tl_names.specs.NameLists.{IsRepeat}
 use Rattle.tl_names.specs.NamePlaces.{Notes, place_in}

@@ -4,7 +4,7 @@ use Rattle.std.proofs.lemmas.Bool.{cases_eq}
 use Rattle.tl_lexer.proofs.Whole.{Decided}
 use Rattle.tl_numbers.proofs.Division.{some_crc, one_crc}
 use Rattle.tl_combinators.proofs.Decided.{decided_as, decided_and, decided_or}
-use Rattle.tl_combinators.specs.Program.{DeclText}
+use Rattle.tl_program.specs.Program.{DeclText}
 use Rattle.tl_graph.specs.Firsts.{First}
 use Rattle.tl_names.specs.Writing.{At}
 use Rattle.tl_schema.specs.Schemas.{packed_number, vector_number}

@@ -2,7 +2,7 @@
 use Rattle.std.proofs.Common.{ℕ, List, All, subst, arith}
 use Rattle.std.proofs.lemmas.List.Elements.{All-get_or}
 use Rattle.std.proofs.lemmas.Option.{get_or_from_slice_get, slice_get_within}
-use Rattle.tl_combinators.specs.Program.{DeclText, HasFewParts, IsWithinLimits}
+use Rattle.tl_program.specs.Program.{DeclText, HasFewParts, IsWithinLimits}
 use Rattle.tl_names.specs.Writing.{At}
 use Rattle.tl_schema.specs.Meanings.{IsSmall}
 

@@ -3,7 +3,7 @@ use Rattle.std.proofs.Common.{◌≡◌, inl, inr, ℕ, zero, suc, ◌<◌, Bool
 use Rattle.std.proofs.lemmas.Option.{none-some, same_Some, slice_get_within, slice_get_cases}
 use Rattle.tl_lexer.proofs.Whole.{Decided}
 use Rattle.tl_combinators.proofs.Decided.{decided_as, decided_not, decided_and}
-use Rattle.tl_combinators.specs.Program.{KindText, nat, flag, call, of, FieldText, DeclText}
+use Rattle.tl_program.specs.Program.{KindText, nat, flag, call, of, FieldText, DeclText}
 use Rattle.tl_graph.specs.Paths.{IsIn}
 use Rattle.tl_graph.specs.Needs.{IsMarked}
 use Rattle.tl_graph.proofs.Deciding.{below_decided}

@@ -1,8 +1,8 @@
 -- The checks of a type, one after another.
 use Rattle.std.proofs.Common.{◌≡◌, inl, inr, ℕ, List, Result, Ok, Err, refl, sym, subst}
 use Rattle.std.specs.Prelude.{IsErrAnd}
-use Rattle.tl_combinators.specs.Trees.{Tree}
-use Rattle.tl_combinators.specs.Program.{DeclText}
+use Rattle.tl_program.specs.Trees.{Tree}
+use Rattle.tl_program.specs.Program.{DeclText}
 use Rattle.tl_schema.specs.AskedTypes.{TypeHas, type_causes, RefusedTypeBy, AsksFor, NamesType}
 use Rattle.tl_schema.specs.inner.TypeSteps.{PassesType, ChecksType}
 use Rattle.tl_schema.specs.declared.schema.TypeRef.{TypeRef}

@@ -2,7 +2,7 @@
 use Rattle.std.proofs.Common.{◌≡◌, ◌==◌, true, false, not, bytes_eq, sym, ◌∙◌, true≢false}
 use Rattle.std.specs.List.{count_by}
 use Rattle.std.proofs.lemmas.Bool.{not-true, not-false, eqb-false, eqb-true}
-use Rattle.tl_combinators.specs.Program.{DeclText}
+use Rattle.tl_program.specs.Program.{DeclText}
 use Rattle.tl_names.specs.Writing.{is_variable}
 use Rattle.tl_names.specs.Parts.{SomeInFields}
 use Rattle.tl_schema.specs.UnknownVariable.{NamesVariable, MisusesVariable, uncalled, no_variable, in_field, calls}

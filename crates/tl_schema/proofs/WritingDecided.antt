@@ -4,8 +4,8 @@ use Rattle.std.proofs.lemmas.Bool.{cases_eq}
 use Rattle.std.proofs.lemmas.Option.{none-some, same_Some}
 use Rattle.tl_lexer.proofs.Whole.{Decided}
 use Rattle.tl_combinators.proofs.Decided.{decided_as, decided_not, decided_and, decided_or, text_decided}
-use Rattle.tl_combinators.specs.Trees.{Tree}
-use Rattle.tl_combinators.specs.Program.{KindText, nat, flag, call, of, DeclText}
+use Rattle.tl_program.specs.Trees.{Tree}
+use Rattle.tl_program.specs.Program.{KindText, nat, flag, call, of, DeclText}
 use Rattle.tl_names.specs.Writing.{At, is_constructor, result_head, IsConstructorOf, IsConstructorNamed}
 use Rattle.tl_names.specs.Parts.{IsPart, HeldBy, InFields, Writes}
 use Rattle.tl_names.specs.Constructors.{IsOnlyConstructor}

@@ -3,8 +3,8 @@ use Rattle.std.proofs.Common.{◌≢◌, inr, ℕ, List, length, Option}
 use Rattle.std.proofs.lemmas.Bool.{cases_eq}
 use Rattle.tl_lexer.proofs.Whole.{Decided}
 use Rattle.tl_combinators.proofs.Decided.{decided_as, decided_not, decided_or}
-use Rattle.tl_combinators.specs.Trees.{Tree, named, percent, any_call}
-use Rattle.tl_combinators.specs.Program.{DeclText}
+use Rattle.tl_program.specs.Trees.{Tree, named, percent, any_call}
+use Rattle.tl_program.specs.Program.{DeclText}
 use Rattle.tl_graph.specs.Firsts.{First}
 use Rattle.tl_names.specs.Writing.{own_type, IsConstructorOf}
 use Rattle.tl_schema.specs.WrongArity.{count_of, Misapplies, ConstructsUneven, IsWrong, WrongArity}

@@ -2,8 +2,8 @@
 use Rattle.std.specs.Prelude.{◌≡◌, ◌⊎◌, ℕ, List, [], ◌∷◌, true, false, None, Result, Ok, Err}
 use Rattle.tl_lexer.specs.declared.token.Token.{Token}
 use Rattle.tl_lexer.specs.Tokens.{Tokens, LexRefused}
-use Rattle.tl_combinators.specs.Trees.{Tree, any_call}
-use Rattle.tl_combinators.specs.Program.{DeclText}
+use Rattle.tl_program.specs.Trees.{Tree, any_call}
+use Rattle.tl_program.specs.Program.{DeclText}
 use Rattle.tl_combinators.specs.Sentences.{ReadsType, TypeRefused}
 use Rattle.tl_names.specs.Parts.{SomePart}
 use Rattle.tl_schema.specs.UnknownType.{BeginsUnknown}

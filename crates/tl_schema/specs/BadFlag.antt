@@ -1,7 +1,7 @@
 -- The seventh check: conditions.
 -- From "Formal description of TL" (core.telegram.org/mtproto/TL-formal), its conditional fields.
 use Rattle.std.specs.Prelude.{◌≡◌, ◌⊎◌, ℕ, ◌<◌, List, Option, Some, None}
-use Rattle.tl_combinators.specs.Program.{nat, CondText, FieldText, DeclText}
+use Rattle.tl_program.specs.Program.{nat, CondText, FieldText, DeclText}
 use Rattle.tl_names.specs.Parts.{FieldAt}
 use Rattle.tl_names.specs.Writing.{DeclarationHas}
 

@@ -1,8 +1,8 @@
 -- The fifth check: results of constructors.
 -- From "Formal description of TL" (core.telegram.org/mtproto/TL-formal), its combinator declarations.
 use Rattle.std.specs.Prelude.{◌≡◌, ℕ, List, map, true, false}
-use Rattle.tl_combinators.specs.Trees.{named, plain, trees_of}
-use Rattle.tl_combinators.specs.Program.{DeclText}
+use Rattle.tl_program.specs.Trees.{named, plain, trees_of}
+use Rattle.tl_program.specs.Program.{DeclText}
 use Rattle.tl_names.specs.Writing.{is_type_name, is_variable, is_constructor}
 use Rattle.tl_names.specs.Writing.{DeclarationHas}
 

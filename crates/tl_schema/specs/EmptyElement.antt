@@ -1,8 +1,8 @@
 -- The tenth check: arguments that take no bytes, of which a vector could hold any number in no space.
 -- This project's own, over the vectors and bare types of "TL language" (core.telegram.org/mtproto/TL).
 use Rattle.std.specs.Prelude.{◌≡◌, ◌⊎◌, ℕ, List}
-use Rattle.tl_combinators.specs.Trees.{Tree, Trees, named, percent, any_call, no_trees, tree}
-use Rattle.tl_combinators.specs.Program.{DeclText}
+use Rattle.tl_program.specs.Trees.{Tree, Trees, named, percent, any_call, no_trees, tree}
+use Rattle.tl_program.specs.Program.{DeclText}
 use Rattle.tl_names.specs.BareFields.{TakesNone}
 use Rattle.tl_names.specs.BareReferences.{IsBareOf}
 use Rattle.tl_names.specs.Parts.{SomeWritten}

@@ -1,8 +1,8 @@
 -- The sixth check: what stands after `%`.
 -- From "TL language" and "Formal description of TL" (core.telegram.org/mtproto/TL, /mtproto/TL-formal), their bare types.
 use Rattle.std.specs.Prelude.{◌≡◌, ℕ, List, true, false, codes}
-use Rattle.tl_combinators.specs.Trees.{Tree, Trees, named, percent, any_call}
-use Rattle.tl_combinators.specs.Program.{DeclText}
+use Rattle.tl_program.specs.Trees.{Tree, Trees, named, percent, any_call}
+use Rattle.tl_program.specs.Program.{DeclText}
 use Rattle.tl_names.specs.Constructors.{IsOnlyConstructor}
 use Rattle.tl_names.specs.Writing.{is_type_name, is_variable}
 use Rattle.tl_names.specs.Writing.{DeclarationHas}

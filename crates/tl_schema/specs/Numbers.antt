@@ -3,7 +3,7 @@
 -- What the description is, is this project's own, and stands in the grammar.
 use Rattle.std.specs.Prelude.{◌≡◌, ℕ, List, Option, Some, None, false}
 use Rattle.tl_numbers.specs.Crc.{IsCrc}
-use Rattle.tl_combinators.specs.Program.{DeclText}
+use Rattle.tl_program.specs.Program.{DeclText}
 use Rattle.tl_names.specs.Writing.{At}
 
 -- the written number, else the text's CRC32

@@ -1,8 +1,8 @@
 -- The first check: names.
 -- From "TL language" (core.telegram.org/mtproto/TL): a combinator goes by its name.
 use Rattle.std.specs.Prelude.{◌≡◌, ℕ, ◌<◌, List, ◌++◌, map, false, codes}
-use Rattle.tl_combinators.specs.Trees.{Trees, named}
-use Rattle.tl_combinators.specs.Program.{DeclText}
+use Rattle.tl_program.specs.Trees.{Trees, named}
+use Rattle.tl_program.specs.Program.{DeclText}
 use Rattle.tl_names.specs.Writing.{At, is_variable}
 use Rattle.tl_names.specs.NameLists.{IsRepeat}
 

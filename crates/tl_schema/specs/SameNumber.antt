@@ -2,7 +2,7 @@
 -- From "TL language" (core.telegram.org/mtproto/TL): a combinator goes by its number. The number of packed values is that of "Optional
 -- combinator parameters and packed types" (core.telegram.org/mtproto/TL-optargs).
 use Rattle.std.specs.Prelude.{ℕ, ◌<◌, List}
-use Rattle.tl_combinators.specs.Program.{DeclText}
+use Rattle.tl_program.specs.Program.{DeclText}
 use Rattle.tl_schema.specs.Schemas.{packed_number, vector_number}
 use Rattle.tl_schema.specs.Numbers.{IsNumbered}
 

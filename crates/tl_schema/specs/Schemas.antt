@@ -1,7 +1,7 @@
 -- What a schema holds: its program, and for each declaration of this an entry. This project's own.
 use Rattle.std.specs.Prelude.{ℕ, Bool, List, Option}
 use Rattle.tl_numbers.specs.declared.numbers.TheConstants.{BOXED_VECTOR, PACKED}
-use Rattle.tl_combinators.specs.Program.{DeclText}
+use Rattle.tl_program.specs.Program.{DeclText}
 use Rattle.tl_schema.specs.Types.{Shape}
 
 -- a field: its name, the place of the `#` field and the bit that it stands by, the place of its variable if it is a call, and its type

@@ -2,8 +2,8 @@
 -- From "Formal description of TL" (core.telegram.org/mtproto/TL-formal), its optional arguments and its functions.
 use Rattle.std.specs.Prelude.{◌≡◌, ◌≢◌, ℕ, List, [], ◌∷◌, true, false, bytes_eq, slice_get, Some, flat_map}
 use Rattle.std.specs.List.{count_by}
-use Rattle.tl_combinators.specs.Trees.{Tree, named, percent, any_call}
-use Rattle.tl_combinators.specs.Program.{KindText, nat, flag, call, of, DeclText}
+use Rattle.tl_program.specs.Trees.{Tree, named, percent, any_call}
+use Rattle.tl_program.specs.Program.{KindText, nat, flag, call, of, DeclText}
 use Rattle.tl_names.specs.Writing.{is_variable}
 use Rattle.tl_names.specs.Writing.{DeclarationHas}
 use Rattle.tl_names.specs.Parts.{SomeInFields}

@@ -1,8 +1,8 @@
 -- The fourth check: numbers of arguments.
 -- From "Formal description of TL" (core.telegram.org/mtproto/TL-formal), its type expressions.
 use Rattle.std.specs.Prelude.{◌≡◌, ◌≢◌, ◌⊎◌, ℕ, suc, ◌<◌, List, length, true, false, Some}
-use Rattle.tl_combinators.specs.Trees.{Tree, Trees, named, percent, any_call, no_trees, tree}
-use Rattle.tl_combinators.specs.Program.{DeclText}
+use Rattle.tl_program.specs.Trees.{Tree, Trees, named, percent, any_call, no_trees, tree}
+use Rattle.tl_program.specs.Program.{DeclText}
 use Rattle.tl_names.specs.Constructors.{IsUneven}
 use Rattle.tl_names.specs.Writing.{is_type_name, is_vector_name, is_built_in, is_variable, own_type, IsConstructorOf, IsConstructorNamed}
 use Rattle.tl_names.specs.Writing.{DeclarationHas}

@@ -1,6 +1,6 @@
 //! The seventh check: conditions.
 ghost use Rattle.std.specs.Prelude.{◌≤◌, ◌↔◌, IsTrue, length};
-ghost use Rattle.tl_combinators.specs.Program.{cond_texts, decl_text, field_text};
+ghost use Rattle.tl_program.specs.Program.{cond_texts, decl_text, field_text};
 ghost use Rattle.tl_schema.specs.BadFlag.{HasBadCondition, IsBadCondition, IsFlagsBefore};
 ghost use Rattle.tl_schema.specs.inner.ConditionSteps.{IsFlags};
 

@@ -1,7 +1,7 @@
 //! The fifth check: results of constructors.
 ghost use Rattle.std.specs.Prelude.{◌≡◌, ◌↔◌, IsTrue, map};
-ghost use Rattle.tl_combinators.specs.Program.{decl_text};
-ghost use Rattle.tl_combinators.specs.Trees.{plain, view, views};
+ghost use Rattle.tl_program.specs.Program.{decl_text};
+ghost use Rattle.tl_program.specs.Trees.{plain, view, views};
 ghost use Rattle.tl_schema.specs.BadResult.{IsGoodResult};
 
 use tl_combinators::{Decl, TypeTree};

@@ -1,6 +1,6 @@
 //! Declarations by their numbers.
 ghost use Rattle.std.specs.Prelude.{◌<◌, ◌^◌, IfOk, length};
-ghost use Rattle.tl_combinators.specs.Program.{program_text};
+ghost use Rattle.tl_program.specs.Program.{program_text};
 ghost use Rattle.tl_schema.specs.inner.SchemaParts.{AreNumbers};
 
 use crate::same_number::number_of;

@@ -1,6 +1,6 @@
 //! Checks of a program, and the schema that it declares.
 ghost use Rattle.std.specs.Prelude.{◌≡◌, ℕ, IfOk, OnOk, map};
-ghost use Rattle.tl_combinators.specs.Program.{HasFewParts, IsWithinLimits, decl_text, program_text};
+ghost use Rattle.tl_program.specs.Program.{HasFewParts, IsWithinLimits, decl_text, program_text};
 ghost use Rattle.tl_names.specs.MeantDecls.{meant_decl};
 ghost use Rattle.tl_names.specs.MeantViews.{decl_view};
 ghost use Rattle.tl_names.specs.inner.BareSteps.{MarksEmpty};

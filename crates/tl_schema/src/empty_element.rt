@@ -1,6 +1,6 @@
 //! The tenth check: arguments that take no bytes.
 ghost use Rattle.std.specs.Prelude.{◌↔◌, IsTrue, map};
-ghost use Rattle.tl_combinators.specs.Trees.{trees_of};
+ghost use Rattle.tl_program.specs.Trees.{trees_of};
 ghost use Rattle.tl_names.specs.MeantViews.{meant_view};
 ghost use Rattle.tl_schema.specs.inner.MarkedSteps.{HasMarkedArg, IsMarkedBare};
 ghost use Rattle.tl_names.specs.inner.Resolved.{ForType, ForTypes};

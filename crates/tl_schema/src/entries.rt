@@ -1,7 +1,7 @@
 //! Entries of declarations.
 ghost use Rattle.std.specs.Prelude.{◌≡◌, ◌<◌, ◌^◌, IfOk, map};
 ghost use Rattle.std.specs.Option.{option_map};
-ghost use Rattle.tl_combinators.specs.Program.{HasFewParts, cond_texts, decl_text, field_text, kind_text};
+ghost use Rattle.tl_program.specs.Program.{HasFewParts, cond_texts, decl_text, field_text, kind_text};
 ghost use Rattle.tl_names.specs.MeantDecls.{cond_by, meant_decl, meant_field};
 ghost use Rattle.tl_names.specs.MeantViews.{decl_view, field_view};
 ghost use Rattle.tl_names.specs.What.{field_named};

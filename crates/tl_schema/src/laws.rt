@@ -1,6 +1,6 @@
 //! Laws of the definitions, each carried by a function that does nothing.
 ghost use Rattle.std.specs.Prelude.{ℕ, List};
-ghost use Rattle.tl_combinators.specs.Program.{DeclText};
+ghost use Rattle.tl_program.specs.Program.{DeclText};
 ghost use Rattle.tl_schema.specs.FormedLaws.{ClosingKeepsFormed, FieldsAreFormed, ResultsAreFormed};
 ghost use Rattle.tl_schema.specs.Meanings.{IsSmall};
 ghost use Rattle.tl_schema.specs.OneAnswer.{IsOneSchemaOrRefused, IsOneTypeOrRefused, NumbersFit};

@@ -1,6 +1,6 @@
 //! The checks in their order.
 ghost use Rattle.std.specs.Prelude.{◌≡◌, ◌<◌, ◌^◌, Err, IfErr, IfOk, length, map};
-ghost use Rattle.tl_combinators.specs.Program.{program_text};
+ghost use Rattle.tl_program.specs.Program.{program_text};
 ghost use Rattle.tl_names.specs.MeantDecls.{meant_decl};
 ghost use Rattle.tl_names.specs.MeantViews.{decl_view};
 ghost use Rattle.tl_names.specs.inner.BareSteps.{MarksEmpty};

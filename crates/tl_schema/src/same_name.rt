@@ -1,7 +1,7 @@
 //! The first check: names.
 ghost use Rattle.std.specs.Prelude.{◌≡◌, ◌<◌, ◌^◌, ◌+◌, ◌↔◌, ℕ, IsTrue, IfOk, OnOk, Some, length, slice_get};
-ghost use Rattle.tl_combinators.specs.Program.{decl_text, program_text};
-ghost use Rattle.tl_combinators.specs.Trees.{view};
+ghost use Rattle.tl_program.specs.Program.{decl_text, program_text};
+ghost use Rattle.tl_program.specs.Trees.{view};
 ghost use Rattle.tl_graph.specs.Firsts.{First};
 ghost use Rattle.tl_names.specs.NameLists.{IsRepeat};
 ghost use Rattle.tl_schema.specs.SameName.{SameName, part_names};

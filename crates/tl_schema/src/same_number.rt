@@ -1,6 +1,6 @@
 //! The eighth check: numbers.
 ghost use Rattle.std.specs.Prelude.{◌<◌, ◌^◌, ◌↔◌, IsTrue, IfOk, length};
-ghost use Rattle.tl_combinators.specs.Program.{decl_text, program_text};
+ghost use Rattle.tl_program.specs.Program.{decl_text, program_text};
 ghost use Rattle.tl_graph.specs.Firsts.{First};
 ghost use Rattle.tl_schema.specs.inner.TakenNumbers.{IsTaken};
 ghost use Rattle.tl_schema.specs.Numbers.{IsNumberOf};

@@ -1,7 +1,7 @@
 //! What types mean where a declaration writes them.
 ghost use Rattle.std.specs.Prelude.{◌≡◌, IfOk, map};
 ghost use Rattle.std.specs.Option.{option_map};
-ghost use Rattle.tl_combinators.specs.Trees.{trees_of, view, views};
+ghost use Rattle.tl_program.specs.Trees.{trees_of, view, views};
 ghost use Rattle.tl_schema.specs.Types.{shapes_of, vector};
 ghost use Rattle.tl_schema.specs.Seen.{shape};
 ghost use Rattle.tl_schema.specs.Meanings.{bare_meaning, bare_shape, base_shape, declared_shape, item_of, meaning, meanings, named_shape};

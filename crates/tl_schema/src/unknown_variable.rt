@@ -1,7 +1,7 @@
 //! The third check: variables of functions, and calls.
 ghost use Rattle.std.specs.Prelude.{◌≡◌, bytes_eq, flat_map, map, not};
 ghost use Rattle.std.specs.List.{count_by, list_any};
-ghost use Rattle.tl_combinators.specs.Program.{decl_text, field_text, kind_text};
+ghost use Rattle.tl_program.specs.Program.{decl_text, field_text, kind_text};
 ghost use Rattle.tl_schema.specs.inner.WhatSteps.{means_variable};
 ghost use Rattle.tl_schema.specs.UnknownVariable.{called_by};
 ghost use Rattle.tl_schema.specs.inner.VariableSteps.{calls_another, leaves_uncalled};

@@ -1,5 +1,5 @@
 -- The values of a record by their places, and its form by its declaration's.
-use Rattle.std.proofs.Common.{◌≡◌, ℕ, zero, suc, ◌<◌, ◌≤◌, List, [], ◌∷◌, length, get_or, map, Option, None, refl, sym, ap, ◌∙◌, arith, Bor}
+use Rattle.std.proofs.Common.{◌≡◌, ℕ, zero, suc, ◌<◌, ◌≤◌, List, [], ◌∷◌, length, get_or, map, Option, None, refl, sym, ap, ◌∙◌, arith}
 use Rattle.std.specs.Prelude.{slice_get}
 use Rattle.std.proofs.lemmas.Option.{slice_get_past}
 use Rattle.std.proofs.lemmas.List.{length-map}
@@ -33,15 +33,15 @@ read_past fs T [] i past = refl
 read_past fs T (v ∷ vs) zero past = absurd (omega arith)
 read_past fs T (v ∷ vs) (suc i) past = read_past fs T vs i (omega arith)
 
-pub field_there : (fs : List FormView) (n : List ℕ) (args : List Shape) (vs : List Value) (p : Part) (i : ℕ) (of : Bor TypeRef) (v : Value) → p ≡ Field i of
+pub field_there : (fs : List FormView) (n : List ℕ) (args : List Shape) (vs : List Value) (p : Part) (i : ℕ) (of : TypeRef) (v : Value) → p ≡ Field i of
     → i < length vs → v ≡ get_or vs i v
-    → part_of n args (read_at fs (views vs)) (part_view p) ≡ unless_missing (is_absent (view v)) (written fs (closed args (shape of.now)) (view v))
+    → part_of n args (read_at fs (views vs)) (part_view p) ≡ unless_missing (is_absent (view v)) (written fs (closed args (shape of)) (view v))
 field_there fs n args vs p i of v is within at =
-    rw is (read_within fs (closed args (shape of.now)) vs i v within ∙ ap (there fs (closed args (shape of.now))) (sym at))
+    rw is (read_within fs (closed args (shape of)) vs i v within ∙ ap (there fs (closed args (shape of))) (sym at))
 
-pub field_past : (fs : List FormView) (n : List ℕ) (args : List Shape) (vs : List Value) (p : Part) (i : ℕ) (of : Bor TypeRef) → p ≡ Field i of → length vs ≤ i
+pub field_past : (fs : List FormView) (n : List ℕ) (args : List Shape) (vs : List Value) (p : Part) (i : ℕ) (of : TypeRef) → p ≡ Field i of → length vs ≤ i
     → part_of n args (read_at fs (views vs)) (part_view p) ≡ None
-field_past fs n args vs p i of is past = rw is (read_past fs (closed args (shape of.now)) vs i past)
+field_past fs n args vs p i of is past = rw is (read_past fs (closed args (shape of)) vs i past)
 
 pub form_there : (forms : List Form) (i : ℕ) (f : Form) → i < length forms → f ≡ get_or forms i f → form_in (slice_get (map form_view forms) i) ≡ form_view f
 form_there forms i f within at = ap form_in (slice_get_item form_view forms i f within at)

@@ -1,6 +1,6 @@
 -- Fields put one after the other.
 use Rattle.std.proofs.Common.{◌≡◌, ℕ, ◌+◌, ◌<◌, List, [], ◌∷◌, ◌++◌, length, map, take, get_or, Bool, true, false, Option, Some, None, is_some}
-use Rattle.std.proofs.Common.{String, Global, string_bytes, string_cmp, Bor, refl, sym, ap, ◌∙◌, arith}
+use Rattle.std.proofs.Common.{String, Global, string_bytes, string_cmp, refl, sym, ap, ◌∙◌, arith}
 use Rattle.std.specs.Prelude.{codes}
 use Rattle.std.specs.BTreeMap.{insert_entry, is_at}
 use Rattle.std.specs.List.Sorted.{IsStrictlySortedBy}
@@ -44,7 +44,7 @@ pub puts_name : (k : String Global) → string_bytes k ≡ codes "_" → PutsFie
 puts_name k is ds n args vs = rw is (sym (none_left ds args (named n) vs))
 
 -- one field more, whose key is new
-puts_next : (slots : List Slot) (f : Slot) (es : List Entry) (k : String Global) (i : ℕ) (of : Bor TypeRef) → length slots ≡ i → string_bytes k ≡ name_text f.name → shape of.now ≡ f.of
+puts_next : (slots : List Slot) (f : Slot) (es : List Entry) (k : String Global) (i : ℕ) (of : TypeRef) → length slots ≡ i → string_bytes k ≡ name_text f.name → shape of ≡ f.of
     → IsStrictlySortedBy string_cmp (keys_of es) → lookup (is_at (string_cmp k)) es ≡ None
     → PutsFields slots (entry_views es) → PutsFields (slots ++ f ∷ []) (entry_views (insert_entry string_cmp es k (Field i of)))
 puts_next slots f es k i of long is type sorted new before ds n args vs =
@@ -57,8 +57,8 @@ new_key None found is none = refl
 new_key (Some p) found is none = let clash : true ≡ false = sym is ∙ none in cc
 
 -- the same in the loop over the fields
-pub puts_more : (fields : List SchemaField) (i : ℕ) (f : SchemaField) (es now : List Entry) (k : String Global) (of : Bor TypeRef) (o : Option Part) (found : Bool)
-    → i < length fields → f ≡ get_or fields i f → string_bytes k ≡ name_text f.name → of.now ≡ f.of
+pub puts_more : (fields : List SchemaField) (i : ℕ) (f : SchemaField) (es now : List Entry) (k : String Global) (of : TypeRef) (o : Option Part) (found : Bool)
+    → i < length fields → f ≡ get_or fields i f → string_bytes k ≡ name_text f.name → shape of ≡ shape f.of
     → IsStrictlySortedBy string_cmp (keys_of es) → o ≡ lookup (is_at (string_cmp k)) es → found ≡ is_some o → found ≡ false → now ≡ insert_entry string_cmp es k (Field i of)
     → PutsFields (map slot (take i fields)) (entry_views es) → PutsFields (map slot (take (i + 1) fields)) (entry_views now)
 puts_more fields i f es now k of o found within at is type sorted looked known none after before =
@@ -67,4 +67,4 @@ puts_more fields i f es now k of o found within at is type sorted looked known n
     let there = slice_get_read fields (length fields) i f refl within at in
     let next = ap (map slot) (take_push fields i f there) ∙ map_push slot (take i fields) f in
     let new = sym looked ∙ new_key o found known none in
-    λ ds n args vs. rw (next, after) (puts_next slots (slot f) es k i of long is (ap shape type) sorted new before ds n args vs)
+    λ ds n args vs. rw (next, after) (puts_next slots (slot f) es k i of long is type sorted new before ds n args vs)

@@ -7,8 +7,8 @@ use Rattle.std.proofs.lemmas.List.Kept.{AllPairs-cons}
 use Rattle.std.proofs.lemmas.Option.{get_or_from_slice_get, none-some, same_Some, slice_get_cases}
 use Rattle.std.proofs.lemmas.Slice.Eq.{bytes_eq-Decides}
 use Rattle.std.proofs.lemmas.Str.{encodes_same}
-use Rattle.tl_combinators.specs.Program.{DeclText, FieldText}
-use Rattle.tl_combinators.specs.Tokens.{first_is, is_letter}
+use Rattle.tl_program.specs.Program.{DeclText, FieldText}
+use Rattle.tl_program.specs.Letters.{first_is, is_letter}
 use Rattle.tl_names.proofs.Maps.{slice_get_made}
 use Rattle.tl_names.specs.Writing.{At}
 use Rattle.tl_schema.proofs.Members.{declaration_at}

@@ -2,17 +2,19 @@
 use Rattle.std.proofs.Common.{◌≡◌, inl, inr, ℕ, Bool, true, false, List, [], ◌∷◌, ◌++◌, Option, Some, None, refl, sym, subst}
 use Rattle.tl_lexer.specs.Rule.{Rule, gives, fails, one, chain, choice, loop, Turns}
 use Rattle.tl_lexer.specs.declared.token.Token.{Token}
-use Rattle.tl_combinators.specs.BuiltIns.{built_in, built_in_line, line_text}
-use Rattle.tl_combinators.specs.declared.built_in.BuiltIn.{BuiltIn}
+use Rattle.tl_program.specs.BuiltIns.{built_in}
+use Rattle.tl_combinators.specs.BuiltInLines.{built_in_line, line_text}
+use Rattle.tl_program.specs.declared.built_in.BuiltIn.{BuiltIn}
 use Rattle.tl_combinators.specs.declared.fault.SyntaxFault.{SyntaxFault}
 use Rattle.tl_combinators.specs.Declarations.{combinator, declaration, declaration_too_many, named_declaration, where_declaration}
 use Rattle.tl_combinators.specs.Description.{Piece}
 use Rattle.tl_combinators.specs.Fields.{FieldsText, field, field_too_many, fields, fields_text, one_field, where_field}
 use Rattle.tl_combinators.specs.Names.{NameText}
-use Rattle.tl_combinators.specs.Program.{DeclText, FieldText}
+use Rattle.tl_program.specs.Program.{DeclText, FieldText}
 use Rattle.tl_combinators.specs.Sentences.{ProgramText, Reads, item, one_declaration, program, program_so_far}
 use Rattle.tl_combinators.specs.Taken.{taken}
-use Rattle.tl_combinators.specs.Tokens.{IsWord, first_is, is_letter, letter_word}
+use Rattle.tl_program.specs.Letters.{first_is, is_letter}
+use Rattle.tl_combinators.specs.Tokens.{IsWord, letter_word}
 
 -- each of the list is such
 abbrev pub EachIs : {A : Type 0} → (A → Type 0) → List A → Type 0

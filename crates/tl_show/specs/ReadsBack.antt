@@ -4,7 +4,7 @@ use Rattle.tl_numbers.specs.Bytes.{AreBytes}
 use Rattle.tl_schema.specs.Types.{Shape}
 use Rattle.tl_schema.specs.Schemas.{Declaration, Declared}
 use Rattle.tl_lexer.specs.declared.token.Token.{Token}
-use Rattle.tl_combinators.specs.Program.{DeclText}
+use Rattle.tl_program.specs.Program.{DeclText}
 use Rattle.tl_combinators.specs.Sentences.{Reads}
 use Rattle.tl_schema.specs.CheckedPrograms.{IsSchema, IsSchemaOf}
 use Rattle.tl_types.specs.Values.{ValueView}

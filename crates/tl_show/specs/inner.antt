@@ -5,4 +5,5 @@ pub mod FormTells
 pub mod Keyed
 pub mod Direct
 pub mod Lines
+pub mod Kept
 pub mod ReadFaults

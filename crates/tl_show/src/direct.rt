@@ -218,7 +218,7 @@ fn named_in(
 // The fields of a record, and what its type is applied to.
 #[derive(Clone, Copy)]
 struct AppliedFields<'a> {
-    fields: &'a [KeyedField<'a>],
+    fields: &'a [KeyedField],
     args: &'a [TypeRef],
 }
 
@@ -242,7 +242,7 @@ fn fields_in(
         let Some(i) = place_of(key, applied.fields, next) else {
             return Err(GivenUp);
         };
-        let field = applied.fields[i].field;
+        let field = &applied.fields[i].field;
         let value = closed_in(alloc, tokens, depth, schema, &field.of, applied.args)?;
         values[i] = value;
         next = i + 1;
@@ -263,7 +263,7 @@ fn none_there(alloc: Global, count: usize) -> Result<Vec<Value>, AllocError>
 
 // The place of the field with a key. It is looked for at a place and after that, and then before.
 #[inline(always)]
-fn place_of(key: &str, fields: &[KeyedField<'_>], first: usize) -> Option<usize>
+fn place_of(key: &str, fields: &[KeyedField], first: usize) -> Option<usize>
     ensures { IfSome result (λ i. IsSomeAnd (slice_get fields.now i) (λ f. string_bytes f.key ≡ key.now)) }
 {
     if first < fields.len() && key == fields[first].key.as_str() {
@@ -276,7 +276,7 @@ fn place_of(key: &str, fields: &[KeyedField<'_>], first: usize) -> Option<usize>
 }
 
 // The first place of the field with a key, from a place on.
-fn place_from(key: &str, fields: &[KeyedField<'_>], first: usize) -> Option<usize>
+fn place_from(key: &str, fields: &[KeyedField], first: usize) -> Option<usize>
     ensures { IfSome result (λ i. IsSomeAnd (slice_get fields.now i) (λ f. string_bytes f.key ≡ key.now)) }
 {
     for i in first..fields.len() {
@@ -288,7 +288,7 @@ fn place_from(key: &str, fields: &[KeyedField<'_>], first: usize) -> Option<usiz
 }
 
 // Whether a field isn't there that has no condition.
-fn lacks_field(fields: &[KeyedField<'_>], values: &[Value]) -> bool
+fn lacks_field(fields: &[KeyedField], values: &[Value]) -> bool
     ensures { result ≡ lacks_any fields.now values.now }
 {
     for (field, value) in fields.iter().zip(values.iter()) {
@@ -299,7 +299,7 @@ fn lacks_field(fields: &[KeyedField<'_>], values: &[Value]) -> bool
     false
 }
 
-fn lacks(field: &KeyedField<'_>, value: &Value) -> bool
+fn lacks(field: &KeyedField, value: &Value) -> bool
     ensures { result ≡ lacks field.now value.now }
 {
     is_absent(value) && field.field.cond.is_none()

@@ -6,24 +6,24 @@ use tl_schema::TypeRef;
 
 /// What stands at a key of a record.
 #[derive(Drop)]
-pub enum Part<'a> {
+pub enum Part {
     /// The name of its declaration.
     Name,
     /// The value at this index, of this type.
-    Field { index: usize, of: &'a TypeRef },
+    Field { index: usize, of: TypeRef },
 }
 
 /// A key of a record, and what stands at it.
-pub struct Key<'a> {
+pub struct Key {
     pub name: String,
-    pub part: Part<'a>,
+    pub part: Part,
     /// A comma, the key as JSON, and its colon.
     pub lead: Vec<u8>,
     ghost is_lead: { lead.items ≡ 44 ∷ (quoted (string_bytes name) ++ 58 ∷ []) },
 }
 
 // By hand, so that each exit of an owner has one call to prove.
-impl Drop for Key<'_> {
+impl Drop for Key {
     fn drop(self) {
         let Key {
             name: _,
@@ -34,16 +34,16 @@ impl Drop for Key<'_> {
 }
 
 /// How the records of a declaration are written: the text of its name, and the keys in the order of their bytes.
-pub struct Form<'a> {
+pub struct Form {
     pub name: String,
     /// The name as JSON.
     pub title: Vec<u8>,
-    pub keys: Vec<Key<'a>>,
+    pub keys: Vec<Key>,
     ghost is_title: { title.items ≡ quoted (string_bytes name) },
 }
 
 // By hand, so that each exit of an owner has one call to prove.
-impl Drop for Form<'_> {
+impl Drop for Form {
     fn drop(self) {
         let Form {
             name: _,

@@ -5,6 +5,7 @@ ghost use Rattle.tl_schema.specs.Seen.{declaration, slot};
 ghost use Rattle.tl_show.specs.inner.Forms.{AreForms, IsForm, PutsFields};
 ghost use Rattle.tl_show.specs.inner.FormViews.{entry_views, form_view, key_view, part_view};
 
+use crate::copying::copy_type;
 use crate::form::{Form, Key, Part};
 use crate::parts::name_text;
 use crate::quoting::quoted_of;
@@ -14,7 +15,7 @@ use std::collections::BTreeMap;
 use tl_schema::{Entry, Schema, SchemaField};
 
 /// The forms of a schema's declarations; none where one of these has two fields of one name, or a field named `_`.
-pub fn forms_of(alloc: Global, schema: &Schema) -> Result<Option<Vec<Form<'_>>>, AllocError>
+pub fn forms_of(alloc: Global, schema: &Schema) -> Result<Option<Vec<Form>>, AllocError>
     ensures { IfOk result (λ found. IfSome found (λ forms. AreForms schema.now.decls (map form_view forms.items))) }
 {
     let mut forms = Vec::with_capacity(alloc, schema.count() as usize)?;
@@ -28,7 +29,7 @@ pub fn forms_of(alloc: Global, schema: &Schema) -> Result<Option<Vec<Form<'_>>>,
 }
 
 // The form of a declaration; none where two keys are alike.
-fn form_of(alloc: Global, entry: &Entry) -> Result<Option<Form<'_>>, AllocError>
+fn form_of(alloc: Global, entry: &Entry) -> Result<Option<Form>, AllocError>
     ensures { IfOk result (λ found. IfSome found (λ form. IsForm (declaration entry.now) (form_view form))) }
 {
     let Some(parts) = parts_of(alloc, &entry.fields)? else {
@@ -41,8 +42,8 @@ fn form_of(alloc: Global, entry: &Entry) -> Result<Option<Form<'_>>, AllocError>
 }
 
 // The keys with what stands at them, in the same order.
-fn keys_of<'a>(alloc: Global, entries: Vec<(String, Part<'a>)>) -> Result<Vec<Key<'a>>, AllocError>
-    ensures { IfOk result (λ keys. map key_view keys.items ≡ entry_views entries.entry.items) }
+fn keys_of(alloc: Global, entries: Vec<(String, Part)>) -> Result<Vec<Key>, AllocError>
+    ensures { IfOk result (λ keys. map key_view keys.items ≡ entry_views entries.items) }
 {
     let mut keys = Vec::with_capacity(alloc, entries.len())?;
     for entry in entries {
@@ -53,8 +54,8 @@ fn keys_of<'a>(alloc: Global, entries: Vec<(String, Part<'a>)>) -> Result<Vec<Ke
 }
 
 // A key with what stands at it.
-fn key_of(alloc: Global, name: String, part: Part<'_>) -> Result<Key<'_>, AllocError>
-    ensures { IfOk result (λ key. key_view key ≡ (string_bytes name, part_view part.entry)) }
+fn key_of(alloc: Global, name: String, part: Part) -> Result<Key, AllocError>
+    ensures { IfOk result (λ key. key_view key ≡ (string_bytes name, part_view part)) }
 {
     let lead = lead_of(alloc, &name)?;
     Ok(Key { name, part, lead })
@@ -70,20 +71,18 @@ fn lead_of(alloc: Global, name: &str) -> Result<Vec<u8>, AllocError>
 }
 
 // What stands at the keys of a record with these fields, by the keys; none where two are alike.
-fn parts_of<'a>(
+fn parts_of(
     alloc: Global,
-    fields: &'a [SchemaField],
-) -> Result<Option<BTreeMap<String, Part<'a>>>, AllocError>
+    fields: &[SchemaField],
+) -> Result<Option<BTreeMap<String, Part>>, AllocError>
     ensures { IfOk result (λ found. IfSome found (λ parts. PutsFields (map slot fields.now) (entry_views parts.entries))) }
 {
     let mut parts = BTreeMap::new(alloc);
     parts.insert(String::from_str(alloc, "_")?, Part::Name)?;
     for (index, field) in fields.iter().enumerate() {
         let text = name_text(alloc, field.name.as_slice())?;
-        let part = Part::Field {
-            index,
-            of: &field.of,
-        };
+        let of = copy_type(alloc, &field.of)?;
+        let part = Part::Field { index, of };
         if parts.insert(text, part)?.is_some() {
             return Ok(None);
         }

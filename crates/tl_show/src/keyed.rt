@@ -2,34 +2,32 @@
 ghost use Rattle.std.specs.Prelude.{◌≡◌, string_bytes};
 ghost use Rattle.tl_show.specs.Shown.{name_text};
 
-use crate::keying::keyed_entries;
-use std::alloc::{AllocError, Global};
 use std::marker::Model;
 use tl_schema::{Schema, SchemaField, TypeRef};
 
 /// A field, with its key: the text of its name.
-pub struct KeyedField<'a> {
+pub struct KeyedField {
     pub key: String,
-    pub field: &'a SchemaField,
-    ghost named: { string_bytes key ≡ name_text field.now.name },
+    pub field: SchemaField,
+    ghost named: { string_bytes key ≡ name_text field.name },
 }
 
 // By hand, so that each exit of an owner has one call to prove.
-impl Drop for KeyedField<'_> {
+impl Drop for KeyedField {
     fn drop(self) {
         let KeyedField { key: _, field: _ } = self;
     }
 }
 
 /// The text of a declaration's name, its fields with their keys, and whether these are known to differ from `_` and from each other.
-pub struct KeyedEntry<'a> {
+pub struct KeyedEntry {
     pub name: String,
-    pub fields: Vec<KeyedField<'a>>,
+    pub fields: Vec<KeyedField>,
     pub apart: bool,
 }
 
 // By hand, so that each exit of an owner has one call to prove.
-impl Drop for KeyedEntry<'_> {
+impl Drop for KeyedEntry {
     fn drop(self) {
         let KeyedEntry {
             name: _,
@@ -42,7 +40,7 @@ impl Drop for KeyedEntry<'_> {
 /// A schema, with the keys of its declarations' records.
 pub struct KeyedSchema<'a> {
     schema: &'a Schema,
-    entries: Vec<KeyedEntry<'a>>,
+    entries: &'a Vec<KeyedEntry>,
 }
 
 // By hand, so that each exit of an owner has one call to prove.
@@ -66,28 +64,29 @@ impl<'a> Model for KeyedSchema<'a> {
 
     ghost view = { λ s. s.schema.now };
 
-    ghost invariant = { λ s. AreKeyed s.schema.now.decls s.entries.items };
+    ghost invariant = { λ s. AreKeyed s.schema.now.decls s.entries.now.items };
 }
 
 impl<'a> KeyedSchema<'a> {
-    ghost use Rattle.std.specs.Prelude.{◌≡◌, IfOk, bytes_eq, false, if◌then◌else◌, map, slice_get, true};
+    ghost use Rattle.std.specs.Prelude.{◌≡◌, bytes_eq, false, if◌then◌else◌, map, slice_get, true};
     ghost use Rattle.std.specs.List.{position_from};
     ghost use Rattle.tl_schema.specs.Seen.{shape};
     ghost use Rattle.tl_types.specs.Fitting.{constructs};
     ghost use Rattle.tl_types.specs.Parts.{fields_in, name_in};
     ghost use Rattle.tl_show.specs.Shown.{name_text};
     ghost use Rattle.tl_show.specs.Reading.{AreApart, declaration_named, is_named, of_type, record_keys};
-    ghost use Rattle.tl_show.specs.inner.Keyed.{is_named_at, keyed_slot};
+    ghost use Rattle.tl_show.specs.inner.Keyed.{AreKeyed, is_named_at, keyed_slot};
 
-    pub fn of(alloc: Global, schema: &'a Schema) -> Result<KeyedSchema<'a>, AllocError>
-        ensures { IfOk result (λ keyed. keyed ≡ schema.now) }
+    /// The schema with the keys that were made of it.
+    pub fn over(schema: &'a Schema, entries: &'a Vec<KeyedEntry>) -> KeyedSchema<'a>
+        requires { AreKeyed schema.now.decls entries.now.items }
+        ensures { result ≡ schema.now }
     {
-        let entries = keyed_entries(alloc, schema)?;
-        Ok(KeyedSchema { schema, entries })
+        KeyedSchema { schema, entries }
     }
 
     /// The fields of a declaration; none past the end of the schema.
-    pub fn fields(&self, entry: u32) -> &[KeyedField<'a>]
+    pub fn fields(&self, entry: u32) -> &[KeyedField]
         ensures { map keyed_slot result.now ≡ fields_in (slice_get self.now.decls entry) }
     {
         let Some(keyed) = self.entries.get(entry as usize) else {

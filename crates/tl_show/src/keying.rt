@@ -4,6 +4,7 @@ ghost use Rattle.tl_schema.specs.Seen.{declaration, slot};
 ghost use Rattle.tl_show.specs.Reading.{AreApart, record_keys};
 ghost use Rattle.tl_show.specs.inner.Keyed.{AreKeyed, IsKeyed, keyed_slot};
 
+use crate::copying::copy_field;
 use crate::keyed::{KeyedEntry, KeyedField};
 use crate::parts::name_text;
 use std::alloc::{AllocError, Global};
@@ -11,7 +12,7 @@ use std::collections::BTreeMap;
 use tl_schema::{Entry, Schema, SchemaField};
 
 /// The declarations of a schema, with the keys of their records.
-pub fn keyed_entries(alloc: Global, schema: &Schema) -> Result<Vec<KeyedEntry<'_>>, AllocError>
+pub fn keyed_entries(alloc: Global, schema: &Schema) -> Result<Vec<KeyedEntry>, AllocError>
     ensures { IfOk result (λ entries. AreKeyed schema.now.decls entries.items) }
 {
     let mut entries = Vec::with_capacity(alloc, schema.count() as usize)?;
@@ -22,7 +23,7 @@ pub fn keyed_entries(alloc: Global, schema: &Schema) -> Result<Vec<KeyedEntry<'_
 }
 
 // A declaration, with the keys of its records.
-fn keyed_entry(alloc: Global, entry: &Entry) -> Result<KeyedEntry<'_>, AllocError>
+fn keyed_entry(alloc: Global, entry: &Entry) -> Result<KeyedEntry, AllocError>
     ensures { IfOk result (λ keyed. IsKeyed (declaration entry.now) keyed) }
 {
     let name = name_text(alloc, entry.name.as_slice())?;
@@ -36,19 +37,27 @@ fn keyed_entry(alloc: Global, entry: &Entry) -> Result<KeyedEntry<'_>, AllocErro
 }
 
 // Fields, with their keys.
-fn keyed_fields(alloc: Global, fields: &[SchemaField]) -> Result<Vec<KeyedField<'_>>, AllocError>
+fn keyed_fields(alloc: Global, fields: &[SchemaField]) -> Result<Vec<KeyedField>, AllocError>
     ensures { IfOk result (λ keyed. map keyed_slot keyed.items ≡ map slot fields.now) }
 {
     let mut keyed = Vec::with_capacity(alloc, fields.len())?;
     for field in fields {
-        let key = name_text(alloc, field.name.as_slice())?;
-        keyed.push(KeyedField { key, field })?;
+        keyed.push(keyed_field(alloc, field)?)?;
     }
     Ok(keyed)
 }
 
+// A field, with its key.
+fn keyed_field(alloc: Global, field: &SchemaField) -> Result<KeyedField, AllocError>
+    ensures { IfOk result (λ keyed. keyed_slot keyed ≡ slot field.now) }
+{
+    let field = copy_field(alloc, field)?;
+    let key = name_text(alloc, field.name.as_slice())?;
+    Ok(KeyedField { key, field })
+}
+
 // Whether the keys of a record differ from each other, the one of its name among them.
-fn are_apart(alloc: Global, fields: &[KeyedField<'_>]) -> Result<bool, AllocError>
+fn are_apart(alloc: Global, fields: &[KeyedField]) -> Result<bool, AllocError>
     ensures { IfOk result (λ apart. apart ≡ true → AreApart (record_keys (map keyed_slot fields.now))) }
 {
     let mut keys: BTreeMap<&str, ()> = BTreeMap::new(alloc);

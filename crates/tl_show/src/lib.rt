@@ -1,11 +1,14 @@
 //! Values as JSON, and JSON as values.
 #![tactic(auto)]
 
+mod copying;
 mod direct;
 mod fault;
 mod form;
 mod forms;
 mod from_text;
+mod json_forms;
+mod json_keys;
 mod keyed;
 mod keying;
 mod laws;
@@ -21,7 +24,9 @@ mod tree;
 mod writing;
 
 pub use fault::{FormCause, JsonFault, JsonTextFault};
-pub use from_text::read_text;
+pub use from_text::{JsonReader, read_text};
+pub use json_forms::JsonForms;
+pub use json_keys::JsonKeys;
 pub use laws::{each_text_tells, each_value_reads_back};
 pub use line::{JsonPrinter, show_text};
 pub use reading::read;

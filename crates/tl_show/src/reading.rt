@@ -14,6 +14,7 @@ ghost use Rattle.tl_show.specs.inner.Keyed.{keyed_slot};
 
 use crate::fault::{FormCause, FormFault, JsonFault, at_part, refused};
 use crate::keyed::{KeyedField, KeyedSchema};
+use crate::keying::keyed_entries;
 use crate::plain::plain_of;
 use crate::records::{entry_of, fill_members, has_other, is_record, not_there, record_value};
 use serde_json::Map;
@@ -45,8 +46,8 @@ pub fn read_form(
 ) -> Result<Value, FormFault>
     ensures { Tells view (reading.read schema.now.decls (shape of.now) (data_of json.now)) result }
 {
-    let keyed = KeyedSchema::of(alloc, schema)?;
-    value_of(alloc, json, &keyed, of)
+    let entries = keyed_entries(alloc, schema)?;
+    value_of(alloc, json, &KeyedSchema::over(schema, &entries), of)
 }
 
 /// A value of a type.
@@ -157,7 +158,7 @@ fn fields_of(
     alloc: Global,
     members: &Map<String, serde_json::Value>,
     schema: &KeyedSchema<'_>,
-    fields: &[KeyedField<'_>],
+    fields: &[KeyedField],
     args: &[TypeRef],
 ) -> Result<Vec<Value>, FormFault>
     ensures { Tells (λ vs. map view vs.items) (each_field 0 (map shape args.now) [] (map keyed_slot fields.now) (parts schema.now.decls (members_view members.now.entries))) result }
@@ -176,7 +177,7 @@ fn field_of(
     alloc: Global,
     members: &Map<String, serde_json::Value>,
     schema: &KeyedSchema<'_>,
-    field: &KeyedField<'_>,
+    field: &KeyedField,
     args: &[TypeRef],
 ) -> Result<Value, FormFault>
     ensures { let ps = parts schema.now.decls (members_view members.now.entries) in

@@ -86,7 +86,7 @@ fn count_there(values: &[Value]) -> usize
 }
 
 /// Whether a key is neither `_` nor that of a field.
-pub fn has_other(members: &Map<String, serde_json::Value>, fields: &[KeyedField<'_>]) -> bool
+pub fn has_other(members: &Map<String, serde_json::Value>, fields: &[KeyedField]) -> bool
     ensures { result ≡ has_other (record_keys (map keyed_slot fields.now)) (members_view members.now.entries) }
 {
     for key in members.keys() {
@@ -98,14 +98,14 @@ pub fn has_other(members: &Map<String, serde_json::Value>, fields: &[KeyedField<
 }
 
 // Whether a key is `_` or that of a field.
-fn is_known(key: &str, fields: &[KeyedField<'_>]) -> bool
+fn is_known(key: &str, fields: &[KeyedField]) -> bool
     ensures { result ≡ list_any (bytes_eq key.now) (record_keys (map keyed_slot fields.now)) }
 {
     key == "_" || is_key(key, fields)
 }
 
 // Whether a key is that of a field.
-fn is_key(key: &str, fields: &[KeyedField<'_>]) -> bool
+fn is_key(key: &str, fields: &[KeyedField]) -> bool
     ensures { result ≡ list_any (λ f. bytes_eq key.now (string_bytes f.key)) fields.now }
 {
     fields.iter().any(|field| key == field.key.as_str())

@@ -24,7 +24,7 @@ pub fn write_value(
     alloc: Global,
     value: &Value,
     of: &TypeRef,
-    forms: &[Form<'_>],
+    forms: &[Form],
     out: &mut Vec<u8>,
 ) -> Result<(), AllocError>
     ensures { WritesData result out.old.items out.new.items (written (map form_view forms.now) (shape of.now) (view value.now)) }
@@ -65,7 +65,7 @@ fn write_items(
     alloc: Global,
     items: &[Value],
     of: &TypeRef,
-    forms: &[Form<'_>],
+    forms: &[Form],
     out: &mut Vec<u8>,
 ) -> Result<(), AllocError>
     ensures { WritesData result out.old.items out.new.items (array (written_each (map form_view forms.now) (shape of.now) (views items.now))) }
@@ -94,7 +94,7 @@ fn write_record(
     fields: &[Value],
     entry: u32,
     args: &[TypeRef],
-    forms: &[Form<'_>],
+    forms: &[Form],
     out: &mut Vec<u8>,
 ) -> Result<(), AllocError>
     ensures { WritesData result out.old.items out.new.items (record_by (map form_view forms.now) entry (map shape args.now) (read_at (map form_view forms.now) (views fields.now))) }
@@ -110,9 +110,9 @@ fn write_record(
 fn write_members(
     alloc: Global,
     fields: &[Value],
-    form: &Form<'_>,
+    form: &Form,
     args: &[TypeRef],
-    forms: &[Form<'_>],
+    forms: &[Form],
     out: &mut Vec<u8>,
 ) -> Result<(), AllocError>
     ensures { WritesData result out.old.items out.new.items (object (members_of (form_view form.now) (map shape args.now) (read_at (map form_view forms.now) (views fields.now)))) }
@@ -130,11 +130,11 @@ fn write_members(
 fn write_member(
     alloc: Global,
     fields: &[Value],
-    key: &Key<'_>,
-    form: &Form<'_>,
+    key: &Key,
+    form: &Form,
     later: bool,
     args: &[TypeRef],
-    forms: &[Form<'_>],
+    forms: &[Form],
     out: &mut Vec<u8>,
 ) -> Result<bool, AllocError>
     ensures { WritesMember result later out.old.items out.new.items (string_bytes key.now.name) (part_of (string_bytes form.now.name) (map shape args.now) (read_at (map form_view forms.now) (views fields.now)) (part_view key.now.part)) }
@@ -157,11 +157,11 @@ fn write_member(
 fn write_field(
     alloc: Global,
     value: &Value,
-    key: &Key<'_>,
+    key: &Key,
     later: bool,
     of: &TypeRef,
     args: &[TypeRef],
-    forms: &[Form<'_>],
+    forms: &[Form],
     out: &mut Vec<u8>,
 ) -> Result<bool, AllocError>
     ensures { let v = view value.now in WritesMember result later out.old.items out.new.items (string_bytes key.now.name) (unless_missing (is_absent v) (written (map form_view forms.now) (closed (map shape args.now) (shape of.now)) v)) }
@@ -175,7 +175,7 @@ fn write_field(
 }
 
 // Writes a key, after a comma where a member stands before it.
-fn write_key(key: &Key<'_>, later: bool, out: &mut Vec<u8>) -> Result<(), AllocError>
+fn write_key(key: &Key, later: bool, out: &mut Vec<u8>) -> Result<(), AllocError>
     ensures { WritesText result out.old.items out.new.items (key_text later (string_bytes key.now.name)) }
 {
     if later {
@@ -192,7 +192,7 @@ fn write_closed(
     value: &Value,
     of: &TypeRef,
     args: &[TypeRef],
-    forms: &[Form<'_>],
+    forms: &[Form],
     out: &mut Vec<u8>,
 ) -> Result<(), AllocError>
     ensures { WritesData result out.old.items out.new.items (written (map form_view forms.now) (closed (map shape args.now) (shape of.now)) (view value.now)) }

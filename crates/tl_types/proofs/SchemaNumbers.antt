@@ -2,7 +2,7 @@
 use Rattle.std.proofs.Common.{◌≡◌, ◌≢◌, inl, inr, ℕ, ◌<◌, ◌&&◌, not, Bool, true, false, List, length, bytes_eq, codes, slice_get, Option, Some, None, refl, ap, sym, ◌∙◌, subst, true≢false, arith, if◌then◌else◌}
 use Rattle.std.proofs.lemmas.Bool.{cases_Bool, cases_order}
 use Rattle.std.proofs.lemmas.Option.{slice_get_cases, slice_get_within}
-use Rattle.tl_combinators.specs.Program.{DeclText}
+use Rattle.tl_program.specs.Program.{DeclText}
 use Rattle.tl_names.specs.Writing.{At, is_constructor, result_head, own_type}
 use Rattle.tl_schema.specs.Numbers.{IsNumbered}
 use Rattle.tl_schema.specs.Schemas.{Declaration, Declared, vector_number, packed_number}

@@ -1,7 +1,7 @@
 -- The roots of a profile's plan are types with values.
 use Rattle.std.proofs.Common.{◌≡◌, ℕ, zero, suc, ◌<◌, List, [], ◌∷◌, length, Some, Ok, Err, refl, sym, ap, ◌∙◌, subst, inl, inr, arith, true≢false}
 use Rattle.std.specs.Prelude.{slice_get, IsTrue}
-use Rattle.tl_combinators.specs.Trees.{Tree, named, percent, any_call}
+use Rattle.tl_program.specs.Trees.{Tree, named, percent, any_call}
 use Rattle.tl_names.specs.Parts.{IsPart}
 use Rattle.tl_names.specs.Places.{types_of, variable_of}
 use Rattle.tl_names.proofs.HeadNames.{type_name}

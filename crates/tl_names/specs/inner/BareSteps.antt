@@ -1,7 +1,7 @@
 -- The graph of bare references, and the constructors that take no bytes, step by step. This project's own.
 use Rattle.std.specs.Prelude.{◌≡◌, ◌↔◌, ◌⊎◌, ℕ, List, length, Option, Some, None, Bool, true, slice_get}
-use Rattle.tl_combinators.specs.Trees.{Tree}
-use Rattle.tl_combinators.specs.Program.{KindText, DeclText}
+use Rattle.tl_program.specs.Trees.{Tree}
+use Rattle.tl_program.specs.Program.{KindText, DeclText}
 use Rattle.tl_graph.specs.Paths.{Edge, IsIn}
 use Rattle.tl_graph.specs.Needs.{IsMarked}
 use Rattle.tl_names.specs.Writing.{At, is_constructor}

@@ -1,7 +1,7 @@
 -- What an index of declarations holds: for each name its first constructor, for each type its number, and by that number its constructors.
 -- This project's own.
 use Rattle.std.specs.Prelude.{◌≡◌, ℕ, ◌<◌, ◌+◌, ◌^◌, List, is_some, length, bytes_eq, slice_get, Option, None, Some, true, false, not, ◌||◌, ◌==◌, if◌then◌else◌}
-use Rattle.tl_combinators.specs.Program.{DeclText}
+use Rattle.tl_program.specs.Program.{DeclText}
 use Rattle.tl_names.specs.Constructors.{IsFamily, var_counts}
 use Rattle.tl_names.specs.NamePlaces.{Notes, place_in}
 use Rattle.tl_names.specs.Places.{types_of}

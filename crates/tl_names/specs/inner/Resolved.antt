@@ -1,7 +1,7 @@
 -- What holds of each type and declaration that a resolved one stands for. This project's own.
 use Rattle.std.specs.Prelude.{◌≡◌, ℕ, List, map}
-use Rattle.tl_combinators.specs.Trees.{Tree}
-use Rattle.tl_combinators.specs.Program.{KindText, FieldText, DeclText}
+use Rattle.tl_program.specs.Trees.{Tree}
+use Rattle.tl_program.specs.Program.{KindText, FieldText, DeclText}
 use Rattle.tl_names.specs.What.{what_of, variable_named}
 use Rattle.tl_names.specs.declared.what.What.{What}
 use Rattle.tl_names.specs.Meants.{MeantView, meant}

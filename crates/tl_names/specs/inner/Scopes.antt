@@ -1,6 +1,6 @@
 -- What is kept beside a declaration: its variables by name. This project's own.
 use Rattle.std.specs.Prelude.{ℕ, List}
-use Rattle.tl_combinators.specs.Program.{DeclText, HasFewParts}
+use Rattle.tl_program.specs.Program.{DeclText, HasFewParts}
 use Rattle.tl_names.specs.MeantViews.{NumbersNames}
 
 -- the variables of a declaration of few parts, by name

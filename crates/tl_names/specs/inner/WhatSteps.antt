@@ -1,6 +1,6 @@
 -- Which constructor the meaning of a name is. This project's own.
 use Rattle.std.specs.Prelude.{◌≡◌, ℕ, List, Option, Some, None}
-use Rattle.tl_combinators.specs.Program.{DeclText}
+use Rattle.tl_program.specs.Program.{DeclText}
 use Rattle.tl_names.specs.What.{type_named}
 use Rattle.tl_names.specs.declared.what.What.{What}
 use Rattle.tl_names.specs.inner.BareSteps.{OnlyOf}

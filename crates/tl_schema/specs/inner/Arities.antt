@@ -1,6 +1,6 @@
 -- Steps of the fourth check: how many variables a name has, by the first constructor that it means. This project's own.
 use Rattle.std.specs.Prelude.{◌≡◌, ℕ, ◌<◌, ◌↔◌, List, length, Option, Some, None}
-use Rattle.tl_combinators.specs.Program.{DeclText}
+use Rattle.tl_program.specs.Program.{DeclText}
 use Rattle.tl_schema.specs.WrongArity.{HasArity}
 
 -- declaration k is c, and is the first that is such

@@ -1,7 +1,7 @@
 -- What holds of each type that a resolved one stands for, where a text asks for it. This project's own.
 use Rattle.std.specs.Prelude.{◌≡◌, List}
-use Rattle.tl_combinators.specs.Trees.{Tree}
-use Rattle.tl_combinators.specs.Program.{DeclText}
+use Rattle.tl_program.specs.Trees.{Tree}
+use Rattle.tl_program.specs.Program.{DeclText}
 use Rattle.tl_names.specs.Meants.{MeantView, meant}
 use Rattle.tl_schema.specs.AskedTypes.{asker}
 

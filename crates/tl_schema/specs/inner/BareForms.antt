@@ -1,6 +1,6 @@
 -- A step of the sixth check: the name after `%`. This project's own.
 use Rattle.std.specs.Prelude.{◌≡◌, ◌⊎◌, ℕ, List, true, false, codes}
-use Rattle.tl_combinators.specs.Program.{DeclText}
+use Rattle.tl_program.specs.Program.{DeclText}
 use Rattle.tl_names.specs.Writing.{is_type_name, is_variable}
 use Rattle.tl_names.specs.Constructors.{IsSingle}
 

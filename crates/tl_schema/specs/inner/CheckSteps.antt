@@ -1,6 +1,6 @@
 -- What the checks answer, one after another. This project's own.
 use Rattle.std.specs.Prelude.{◌≡◌, ℕ, List, Option, Some, None, Result, Ok, Err}
-use Rattle.tl_combinators.specs.Program.{DeclText}
+use Rattle.tl_program.specs.Program.{DeclText}
 use Rattle.tl_schema.specs.CheckCauses.{causes, PassesBy, RefusedBy}
 use Rattle.tl_schema.specs.declared.fault.CheckCause.{CheckCause}
 use Rattle.tl_schema.specs.declared.fault.CheckFault.{CheckFault}

@@ -1,7 +1,7 @@
 -- Steps of the tenth check: arguments that are marked. This project's own.
 use Rattle.std.specs.Prelude.{ℕ, List, Bool}
-use Rattle.tl_combinators.specs.Trees.{Tree, Trees, named, percent, any_call}
-use Rattle.tl_combinators.specs.Program.{DeclText}
+use Rattle.tl_program.specs.Trees.{Tree, Trees, named, percent, any_call}
+use Rattle.tl_program.specs.Program.{DeclText}
 use Rattle.tl_graph.specs.Needs.{IsMarked}
 use Rattle.tl_names.specs.BareReferences.{IsBareOf}
 use Rattle.tl_schema.specs.EmptyElement.{IsOneOf}

@@ -1,6 +1,6 @@
 -- What is kept of the declarations so far: their entries, and the places of their names. This project's own.
 use Rattle.std.specs.Prelude.{◌≡◌, ℕ, ◌<◌, ◌^◌, List, [], ◌∷◌, ◌++◌, length, map, Bool, true, false, not, slice_get, Some}
-use Rattle.tl_combinators.specs.Program.{DeclText}
+use Rattle.tl_program.specs.Program.{DeclText}
 use Rattle.tl_names.specs.Writing.{At, is_function}
 use Rattle.tl_schema.specs.Schemas.{Declaration}
 use Rattle.tl_schema.specs.Seen.{declaration}

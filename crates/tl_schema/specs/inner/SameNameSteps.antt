@@ -1,7 +1,7 @@
 -- Steps of the first check: the names that are known, and what one declaration adds. This project's own.
 use Rattle.std.specs.Prelude.{◌≡◌, ℕ, List, Bool, true, false, not, ◌||◌, is_some, bytes_eq, codes}
-use Rattle.tl_combinators.specs.Trees.{Tree, Trees, named}
-use Rattle.tl_combinators.specs.Program.{DeclText}
+use Rattle.tl_program.specs.Trees.{Tree, Trees, named}
+use Rattle.tl_program.specs.Program.{DeclText}
 use Rattle.tl_names.specs.Writing.{is_variable}
 use Rattle.tl_names.specs.NamePlaces.{place_in}
 use Rattle.tl_schema.specs.declared.same_name.Known.{Known}

@@ -4,7 +4,7 @@ use Rattle.std.proofs.Common.{ap, ap₂}
 use Rattle.std.specs.Coded.{Coded, code_by, coded×, coded_ℕ, coded_bool, coded_list, coded_option}
 use base.Stored.{Gv, gnil, gnum, gcons}
 use denote.Struct.Codes.{itself}
-use Rattle.tl_combinators.specs.Program.{DeclText}
+use Rattle.tl_program.specs.Program.{DeclText}
 use Rattle.tl_schema.specs.Types.{Shape, Shapes, int, long, nat, opaque, str, raw, flag, call, var, vector, boxed, bare, no_shapes, shape}
 use Rattle.tl_schema.specs.Schemas.{Slot, Declaration, Declared}
 use Rattle.tl_names.specs.inner.DeclCodes.{name_code, decls_code}

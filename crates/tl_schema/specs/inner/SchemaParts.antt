@@ -1,7 +1,7 @@
 -- What a schema keeps beside its entries: the indices of names and of numbers, and which constructors take no bytes. This project's own.
 use Rattle.std.specs.Prelude.{ℕ, List, Bool, true, false, Option, nat_eq}
 use Rattle.std.specs.Map.{lookup}
-use Rattle.tl_combinators.specs.Program.{DeclText}
+use Rattle.tl_program.specs.Program.{DeclText}
 use Rattle.tl_names.specs.NamePlaces.{place_in}
 use Rattle.tl_names.specs.inner.BareSteps.{MarksEmpty}
 use Rattle.tl_schema.specs.CheckedPrograms.{IsSchema, Finds, FindsNumber}

@@ -1,7 +1,7 @@
 -- What the checks of a type answer. This project's own.
 use Rattle.std.specs.Prelude.{◌≡◌, List, Result, Ok, Err}
-use Rattle.tl_combinators.specs.Trees.{Tree}
-use Rattle.tl_combinators.specs.Program.{DeclText}
+use Rattle.tl_program.specs.Trees.{Tree}
+use Rattle.tl_program.specs.Program.{DeclText}
 use Rattle.tl_schema.specs.Seen.{shape}
 use Rattle.tl_schema.specs.Meanings.{meaning}
 use Rattle.tl_schema.specs.AskedTypes.{asker, type_causes, PassesTypeBy, RefusedTypeBy}

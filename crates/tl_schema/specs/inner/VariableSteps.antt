@@ -1,7 +1,7 @@
 -- Steps of the third check: the tests of calls. This project's own.
 use Rattle.std.specs.Prelude.{◌==◌, Bool, not, bytes_eq}
 use Rattle.std.specs.List.{count_by, list_any}
-use Rattle.tl_combinators.specs.Program.{DeclText}
+use Rattle.tl_program.specs.Program.{DeclText}
 use Rattle.tl_names.specs.Writing.{is_variable}
 use Rattle.tl_schema.specs.UnknownVariable.{calls}
 

@@ -1,6 +1,6 @@
 -- Steps of the checks: what they ask of the meaning of a name. This project's own.
 use Rattle.std.specs.Prelude.{◌≡◌, ◌↔◌, ℕ, List, Bool, true, false, IsTrue, slice_get, Option, Some, None}
-use Rattle.tl_combinators.specs.Program.{DeclText}
+use Rattle.tl_program.specs.Program.{DeclText}
 use Rattle.tl_names.specs.Constructors.{IsSingle, var_counts}
 use Rattle.tl_names.specs.Writing.{IsConstructorOf}
 use Rattle.tl_names.specs.declared.what.What.{What}

@@ -11,7 +11,7 @@ use Rattle.tl_show.specs.declared.form.Form.{Form}
 
 abbrev pub part_view : Part → PartView
 part_view Name = form.name
-part_view (Field i of) = form.field i (shape of.now)
+part_view (Field i of) = form.field i (shape of)
 
 abbrev pub entry_view : String Global × Part → List ℕ × PartView
 entry_view e = (string_bytes e.0, part_view e.1)

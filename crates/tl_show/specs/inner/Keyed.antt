@@ -8,7 +8,7 @@ use Rattle.tl_show.specs.declared.keyed.KeyedField.{KeyedField}
 use Rattle.tl_show.specs.declared.keyed.KeyedEntry.{KeyedEntry}
 
 abbrev pub keyed_slot : KeyedField → Slot
-keyed_slot f = slot f.field.now
+keyed_slot f = slot f.field
 
 pub record IsKeyed (d : Declaration) (e : KeyedEntry) : Type 0 where
   pub text : string_bytes e.name ≡ name_text d.name

@@ -1,6 +1,6 @@
 use Rattle.std.proofs.Common.{refl}
 use Rattle.tl_lexer.proofs.Steps.{then_ok, then_err, gives_ok, as_err}
-use Rattle.tl_combinators.specs.BuiltIns.{boxed}
+use Rattle.tl_combinators.specs.BuiltInLines.{boxed}
 use Rattle.tl_combinators.proofs.built_in.boxed_at.Goals as goal
 
 pub returns-in_err-take_token-clause-read : goal.returns-in_err-take_token-clause-read

@@ -1,10 +1,10 @@
 use Rattle.std.proofs.Common.{ap, ◌∙◌, map}
 use Rattle.tl_lexer.proofs.Steps.{then_ok, then_err, gives_ok, as_err}
-use Rattle.tl_combinators.specs.BuiltIns.{built_in_line}
-use Rattle.tl_combinators.specs.Trees.{plain}
-use Rattle.tl_combinators.specs.Program.{field_text}
+use Rattle.tl_combinators.specs.BuiltInLines.{built_in_line}
+use Rattle.tl_program.specs.Trees.{plain}
+use Rattle.tl_program.specs.Program.{field_text}
 use Rattle.tl_combinators.proofs.BuiltInLines.{line_is}
-use Rattle.tl_combinators.proofs.TreeViews.{view-plain}
+use Rattle.tl_program.proofs.TreeViews.{view-plain}
 use Rattle.tl_combinators.proofs.built_in.built_in_line_at.Goals as goal
 
 pub returns-in_err-number-clause-read : goal.returns-in_err-number-clause-read

@@ -1,6 +1,6 @@
 use Rattle.std.proofs.Common.{refl}
 use Rattle.tl_lexer.proofs.Steps.{then_ok, then_err, gives_ok, as_err}
-use Rattle.tl_combinators.specs.BuiltIns.{element}
+use Rattle.tl_combinators.specs.BuiltInLines.{element}
 use Rattle.tl_combinators.proofs.built_in.element_at.Goals as goal
 
 pub returns-in_err-take_token-clause-read : goal.returns-in_err-take_token-clause-read

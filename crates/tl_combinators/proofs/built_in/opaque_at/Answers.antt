@@ -1,5 +1,5 @@
 use Rattle.tl_lexer.proofs.Steps.{then_ok, then_err, as_err}
-use Rattle.tl_combinators.specs.BuiltIns.{opaque}
+use Rattle.tl_combinators.specs.BuiltInLines.{opaque}
 use Rattle.tl_combinators.proofs.built_in.opaque_at.Goals as goal
 
 pub returns-in_err-take_token-clause-read : goal.returns-in_err-take_token-clause-read

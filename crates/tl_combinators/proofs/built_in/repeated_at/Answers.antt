@@ -1,5 +1,5 @@
 use Rattle.tl_lexer.proofs.Steps.{then_ok, then_err, as_err}
-use Rattle.tl_combinators.specs.BuiltIns.{repeated}
+use Rattle.tl_combinators.specs.BuiltInLines.{repeated}
 use Rattle.tl_combinators.proofs.built_in.repeated_at.Goals as goal
 
 pub returns-in_err-take_this-clause-read : goal.returns-in_err-take_this-clause-read

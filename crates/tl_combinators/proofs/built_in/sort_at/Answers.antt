@@ -1,7 +1,7 @@
 use Rattle.std.proofs.Common.{rules}
 use Rattle.tl_lexer.proofs.Steps.{yes, no, fails_here}
 use Rattle.tl_combinators.specs.Tokens.{fault_of}
-use Rattle.tl_combinators.specs.BuiltIns.{sort}
+use Rattle.tl_combinators.specs.BuiltInLines.{sort}
 use Rattle.tl_combinators.proofs.built_in.sort_at.Goals as goal
 
 pub returns-then-begins-clause-read : goal.returns-then-begins-clause-read

@@ -1,7 +1,7 @@
 use Rattle.std.proofs.Common.{rules}
 use Rattle.tl_lexer.proofs.Steps.{yes, no, fails_here}
 use Rattle.tl_combinators.specs.Tokens.{fault_of}
-use Rattle.tl_combinators.specs.BuiltIns.{this_type}
+use Rattle.tl_combinators.specs.BuiltInLines.{this_type}
 use Rattle.tl_combinators.proofs.built_in.this_type_at.Goals as goal
 
 pub returns-then-begins_object-clause-read : goal.returns-then-begins_object-clause-read

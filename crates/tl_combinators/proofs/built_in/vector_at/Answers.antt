@@ -1,5 +1,5 @@
 use Rattle.tl_lexer.proofs.Steps.{then_ok, then_err, as_err}
-use Rattle.tl_combinators.specs.BuiltIns.{vector}
+use Rattle.tl_combinators.specs.BuiltInLines.{vector}
 use Rattle.tl_combinators.proofs.built_in.vector_at.Goals as goal
 
 pub returns-in_err-element_at-clause-read : goal.returns-in_err-element_at-clause-read

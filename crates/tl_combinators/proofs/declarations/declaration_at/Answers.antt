@@ -1,8 +1,8 @@
 use Rattle.std.proofs.Common.{◌≡◌, ℕ, ◌-◌, take, drop, List, [], arith, sym, ap, ◌∙◌, Option}
 use Rattle.tl_lexer.proofs.Steps.{then_ok, then_err, as_err}
-use Rattle.tl_combinators.specs.declared.built_in.BuiltIn.{BuiltIn}
+use Rattle.tl_program.specs.declared.built_in.BuiltIn.{BuiltIn}
 use Rattle.tl_combinators.specs.Names.{name_text}
-use Rattle.tl_combinators.specs.BuiltIns.{built_in}
+use Rattle.tl_program.specs.BuiltIns.{built_in}
 use Rattle.tl_combinators.specs.Declarations.{declaration}
 use Rattle.tl_combinators.proofs.EqualDescriptions.{named_as, shown_on}
 use Rattle.tl_combinators.proofs.TokenParts.{taken_ok, taken_err}

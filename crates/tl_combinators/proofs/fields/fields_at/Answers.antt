@@ -3,7 +3,7 @@ use Rattle.std.specs.Prelude.{IsErrAnd}
 use Rattle.std.proofs.lemmas.List.{map_push}
 use Rattle.tl_lexer.proofs.Steps.{then_ok, then_err, as_err, yes, no, gives_ok}
 use Rattle.tl_lexer.proofs.Turns.{came_more, loop_ok, loop_err}
-use Rattle.tl_combinators.specs.Program.{FieldText, field_text}
+use Rattle.tl_program.specs.Program.{FieldText, field_text}
 use Rattle.tl_combinators.specs.Description.{field_pieces}
 use Rattle.tl_combinators.specs.Fields.{fields, one_field, FieldsText, fields_text}
 use Rattle.tl_combinators.proofs.EqualDescriptions.{field_on}

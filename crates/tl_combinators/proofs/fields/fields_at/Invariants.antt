@@ -1,6 +1,6 @@
 use Rattle.std.proofs.Common.{◌≡◌, ◌≤◌, ◌+◌, ◌-◌, List, length, drop, map}
 use Rattle.std.specs.Vec.{vec_len}
-use Rattle.tl_combinators.specs.Program.{field_text}
+use Rattle.tl_program.specs.Program.{field_text}
 use Rattle.tl_combinators.specs.Description.{Piece}
 use Rattle.tl_combinators.specs.DescriptionSoFar.{so_far}
 use Rattle.tl_combinators.proofs.EqualDescriptions.{CameDescribed}

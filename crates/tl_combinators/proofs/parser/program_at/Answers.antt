@@ -4,9 +4,9 @@ use Rattle.tl_lexer.specs.Rule.{Parses}
 use Rattle.tl_lexer.specs.declared.token.Token.{Token}
 use Rattle.tl_lexer.proofs.Steps.{then_ok, then_err, as_err, yes, no, gives_ok, err_any}
 use Rattle.tl_lexer.proofs.Turns.{came_more, loop_ok, loop_err}
-use Rattle.tl_combinators.specs.declared.program.Decl.{Decl}
+use Rattle.tl_program.specs.declared.program.Decl.{Decl}
 use Rattle.tl_combinators.specs.Tokens.{fault_of}
-use Rattle.tl_combinators.specs.Program.{decl_text}
+use Rattle.tl_program.specs.Program.{decl_text}
 use Rattle.tl_combinators.specs.Sentences.{program, item, one_declaration, ProgramText, program_so_far}
 use Rattle.tl_combinators.proofs.Counts.{count_is}
 use Rattle.tl_combinators.proofs.parser.program_at.Goals as goal

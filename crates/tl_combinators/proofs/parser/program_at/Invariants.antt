@@ -1,7 +1,7 @@
 use Rattle.std.proofs.Common.{◌≡◌, ◌≤◌, ◌-◌, length, drop, [], map, false}
 use Rattle.std.specs.Vec.{vec_len}
 use Rattle.tl_lexer.proofs.Turns.{Came}
-use Rattle.tl_combinators.specs.Program.{decl_text}
+use Rattle.tl_program.specs.Program.{decl_text}
 use Rattle.tl_combinators.specs.Sentences.{item, program_so_far}
 use Rattle.tl_combinators.proofs.parser.program_at.Given as goal
 

@@ -2,11 +2,11 @@ use Rattle.std.proofs.Common.{List, refl, ap, ◌∙◌, rules, arith, ◌-◌, 
 use Rattle.tl_lexer.proofs.Steps.{then_ok, then_err, gives_ok, yes, no, as_err}
 use Rattle.tl_combinators.specs.Types.{in_parens, after_percent, application, applied, bare, terms, one_listed, listed}
 use Rattle.tl_combinators.proofs.Levels.{core_as, after_as, core_none, core_bare, core_application, not_true}
-use Rattle.tl_combinators.proofs.TreeViews.{view-Named, view-plain, view-Percent, views_push}
+use Rattle.tl_program.proofs.TreeViews.{view-Named, view-plain, view-Percent, views_push}
 use Rattle.tl_combinators.proofs.Arguments.{term_ok, term_err, listed_one, listed_more, listed_ok, listed_err}
 use Rattle.tl_lexer.proofs.Turns.{came_none, came_more, loop_ok, loop_err}
-use Rattle.tl_combinators.specs.declared.tree.TypeTree.{TypeTree}
-use Rattle.tl_combinators.specs.Trees.{views, view, Tree}
+use Rattle.tl_program.specs.declared.tree.TypeTree.{TypeTree}
+use Rattle.tl_program.specs.Trees.{views, view, Tree}
 use Rattle.tl_combinators.proofs.types.+types.Goals as goal
 
 pub type_at-returns-in_err-count-clause-read : goal.type_at-returns-in_err-count-clause-read

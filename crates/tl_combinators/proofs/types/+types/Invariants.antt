@@ -1,5 +1,5 @@
 use Rattle.std.proofs.Common.{◌+◌, ◌*◌, ◌≤◌, ◌-◌, drop, length, true, false}
-use Rattle.tl_combinators.specs.Trees.{views}
+use Rattle.tl_program.specs.Trees.{views}
 use Rattle.tl_combinators.specs.Types.{type_in}
 use Rattle.tl_combinators.proofs.Arguments.{Listed, Further}
 use Rattle.tl_combinators.proofs.types.+types.Given as goal

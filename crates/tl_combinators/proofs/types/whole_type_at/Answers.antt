@@ -1,8 +1,8 @@
 use Rattle.std.proofs.Common.{drop, refl}
 use Rattle.tl_lexer.proofs.Steps.{then_ok, then_err, gives_ok, yes, no, as_err, err_any}
 use Rattle.tl_combinators.specs.Types.{whole_type}
-use Rattle.tl_combinators.proofs.TreeViews.{view-AnyCall}
-use Rattle.tl_combinators.specs.Trees.{view}
+use Rattle.tl_program.proofs.TreeViews.{view-AnyCall}
+use Rattle.tl_program.specs.Trees.{view}
 use Rattle.tl_combinators.proofs.types.whole_type_at.Goals as goal
 
 pub returns-in_err-take_token : goal.returns-in_err-take_token

@@ -1,7 +1,7 @@
 use Rattle.std.proofs.Common.{◌≤◌, length, ap, refl, sym, arith}
 use Rattle.std.proofs.lemmas.List.{length-map}
 use Rattle.std.proofs.lemmas.Result.{on_ok_weaker}
-use Rattle.tl_combinators.specs.Trees.{named, percent, any_call, trees_of}
+use Rattle.tl_program.specs.Trees.{named, percent, any_call, trees_of}
 use Rattle.tl_names.specs.Meants.{meant}
 use Rattle.tl_names.specs.MeantViews.{meant_view}
 use Rattle.tl_names.specs.Parts.{IsPart}

@@ -1,6 +1,6 @@
 use Rattle.std.proofs.Common.{◌∙◌, ap, sym, subst}
 use Rattle.std.proofs.lemmas.Result.{on_ok_weaker}
-use Rattle.tl_combinators.specs.Program.{KindText}
+use Rattle.tl_program.specs.Program.{KindText}
 use Rattle.tl_names.specs.MeantViews.{kind_view, meant_view}
 use Rattle.tl_names.specs.Parts.{HeldBy}
 use Rattle.tl_names.specs.What.{what_of, variable_named}

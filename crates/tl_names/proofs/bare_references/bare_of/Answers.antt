@@ -1,6 +1,6 @@
 use Rattle.std.proofs.Common.{sym, subst}
 use Rattle.std.specs.Prelude.{Option, ℕ}
-use Rattle.tl_combinators.specs.Trees.{named, trees_of}
+use Rattle.tl_program.specs.Trees.{named, trees_of}
 use Rattle.tl_names.specs.inner.BareSteps.{BareIs}
 use Rattle.tl_names.proofs.ForTypes.{for_named, for_percent}
 use Rattle.tl_names.proofs.BareNames.{name_bare}

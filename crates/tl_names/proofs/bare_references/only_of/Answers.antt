@@ -1,4 +1,4 @@
-use Rattle.tl_combinators.specs.Trees.{percent, trees_of}
+use Rattle.tl_program.specs.Trees.{percent, trees_of}
 use Rattle.tl_names.specs.inner.BareSteps.{BareIs}
 use Rattle.tl_names.proofs.ForTypes.{for_named}
 use Rattle.tl_names.proofs.BareNames.{name_only}

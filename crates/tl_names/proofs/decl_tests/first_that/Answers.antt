@@ -2,7 +2,7 @@ use Rattle.std.proofs.Common.{◌<◌, ◌∙◌, ap, length, sym, subst, below_
 use Rattle.std.proofs.lemmas.Bool.{iff_false}
 use Rattle.std.proofs.lemmas.List.{length-map}
 use Rattle.std.proofs.lemmas.Option.{same_Some, slice_get_within}
-use Rattle.tl_combinators.specs.Program.{decl_text}
+use Rattle.tl_program.specs.Program.{decl_text}
 use Rattle.tl_names.proofs.ResolvedDecls.{here, both}
 use Rattle.tl_names.proofs.decl_tests.first_that.Goals as goal
 

@@ -1,5 +1,5 @@
 use Rattle.std.proofs.Common.{◌∙◌, ap, sym}
-use Rattle.tl_combinators.specs.Program.{decl_text}
+use Rattle.tl_program.specs.Program.{decl_text}
 use Rattle.tl_names.specs.MeantViews.{meant_view}
 use Rattle.tl_names.proofs.BuiltMeants.{view-Named}
 use Rattle.tl_names.proofs.NameMeanings.{head_in_meant, no_own, own_meant}

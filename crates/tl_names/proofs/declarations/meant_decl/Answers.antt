@@ -1,6 +1,6 @@
 use Rattle.std.proofs.Common.{◌≡◌, ◌∙◌, length, map, arith}
-use Rattle.tl_combinators.specs.Trees.{view}
-use Rattle.tl_combinators.specs.Program.{decl_text}
+use Rattle.tl_program.specs.Trees.{view}
+use Rattle.tl_program.specs.Program.{decl_text}
 use Rattle.tl_names.specs.MeantDecls.{meant_field}
 use Rattle.tl_names.specs.MeantViews.{field_view}
 use Rattle.tl_names.proofs.ResolvedNames.{decl_same, fields_same, type_same}

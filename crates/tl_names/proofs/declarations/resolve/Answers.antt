@@ -1,4 +1,4 @@
-use Rattle.tl_combinators.specs.Program.{decl_text, program_text}
+use Rattle.tl_program.specs.Program.{decl_text, program_text}
 use Rattle.tl_names.specs.MeantDecls.{meant_decl}
 use Rattle.tl_names.specs.MeantViews.{decl_view}
 use Rattle.tl_names.proofs.Maps.{slice_get_item}

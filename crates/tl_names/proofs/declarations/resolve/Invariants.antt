@@ -1,5 +1,5 @@
 use Rattle.std.proofs.Common.{◌≡◌, map, take}
-use Rattle.tl_combinators.specs.Program.{program_text}
+use Rattle.tl_program.specs.Program.{program_text}
 use Rattle.tl_names.specs.MeantDecls.{meant_decl}
 use Rattle.tl_names.specs.MeantViews.{decl_view}
 use Rattle.tl_names.proofs.declarations.resolve.Given as goal

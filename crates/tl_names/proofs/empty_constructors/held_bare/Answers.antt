@@ -1,5 +1,5 @@
 use Rattle.std.proofs.Common.{◌∙◌, None, ap, sym, subst}
-use Rattle.tl_combinators.specs.Program.{KindText}
+use Rattle.tl_program.specs.Program.{KindText}
 use Rattle.tl_names.specs.MeantViews.{kind_view, meant_view}
 use Rattle.tl_names.specs.What.{what_of, variable_named}
 use Rattle.tl_names.specs.inner.BareSteps.{HeldIs}

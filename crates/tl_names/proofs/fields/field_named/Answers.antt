@@ -1,5 +1,5 @@
 use Rattle.std.proofs.Common.{◌∙◌, bytes_eq, sym}
-use Rattle.tl_combinators.specs.Program.{FieldText, field_text}
+use Rattle.tl_program.specs.Program.{FieldText, field_text}
 use Rattle.tl_names.proofs.Positions.{position_made}
 use Rattle.tl_names.proofs.fields.field_named.Goals as goal
 

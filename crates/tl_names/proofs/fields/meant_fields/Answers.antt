@@ -1,4 +1,4 @@
-use Rattle.tl_combinators.specs.Program.{field_text}
+use Rattle.tl_program.specs.Program.{field_text}
 use Rattle.std.proofs.Common.{map}
 use Rattle.tl_names.specs.NamePlaces.{place_in}
 use Rattle.tl_names.specs.MeantDecls.{field_by}

@@ -1,5 +1,5 @@
 use Rattle.std.proofs.Common.{◌≡◌, map, take}
-use Rattle.tl_combinators.specs.Program.{field_text}
+use Rattle.tl_program.specs.Program.{field_text}
 use Rattle.tl_names.specs.NamePlaces.{place_in}
 use Rattle.tl_names.specs.MeantDecls.{field_by}
 use Rattle.tl_names.specs.MeantViews.{field_in, field_view, what_in}

@@ -1,5 +1,5 @@
 use Rattle.std.proofs.Common.{◌∙◌, sym}
-use Rattle.tl_combinators.specs.Program.{decl_text}
+use Rattle.tl_program.specs.Program.{decl_text}
 use Rattle.tl_names.proofs.IndexSteps.{names_other, names_more}
 use Rattle.tl_names.proofs.index.note_name.Goals as goal
 

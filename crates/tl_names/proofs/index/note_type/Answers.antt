@@ -1,6 +1,6 @@
 use Rattle.std.proofs.Common.{◌≡◌, length, sym, arith}
 use Rattle.std.proofs.lemmas.Result.{on_ok_weaker}
-use Rattle.tl_combinators.specs.Program.{decl_text}
+use Rattle.tl_program.specs.Program.{decl_text}
 use Rattle.tl_names.proofs.IndexSteps.{types_other, types_more}
 use Rattle.tl_names.proofs.index.note_type.Goals as goal
 

@@ -2,7 +2,7 @@ use Rattle.std.proofs.Common.{◌≤◌, ◌↔◌, false, ap, length, refl, sym
 use Rattle.std.proofs.lemmas.Bool.{iff_false}
 use Rattle.std.proofs.lemmas.List.{length-map}
 use Rattle.std.specs.Prelude.{IsTrue}
-use Rattle.tl_combinators.specs.Trees.{named, percent, any_call, trees_of}
+use Rattle.tl_program.specs.Trees.{named, percent, any_call, trees_of}
 use Rattle.tl_names.specs.Meants.{meant}
 use Rattle.tl_names.specs.MeantViews.{meant_view}
 use Rattle.tl_names.specs.Parts.{SomePart}

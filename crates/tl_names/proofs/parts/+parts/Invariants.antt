@@ -1,5 +1,5 @@
 use Rattle.std.proofs.Common.{map, take}
-use Rattle.tl_combinators.specs.Trees.{trees_of}
+use Rattle.tl_program.specs.Trees.{trees_of}
 use Rattle.tl_names.specs.MeantViews.{meant_view}
 use Rattle.tl_names.specs.Parts.{SomePartOfOne}
 use Rattle.tl_names.specs.inner.Resolved.{ForTypes}

@@ -1,6 +1,6 @@
 use Rattle.std.proofs.Common.{◌↔◌, ◌∙◌, false, ap, sym, subst, true≢false}
 use Rattle.std.specs.Prelude.{IsTrue}
-use Rattle.tl_combinators.specs.Program.{KindText}
+use Rattle.tl_program.specs.Program.{KindText}
 use Rattle.tl_names.specs.What.{what_of, variable_named}
 use Rattle.tl_names.specs.MeantViews.{kind_view, meant_view}
 use Rattle.tl_names.specs.Parts.{SomeHeld}

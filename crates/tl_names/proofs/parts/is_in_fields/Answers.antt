@@ -2,7 +2,7 @@ use Rattle.std.proofs.Common.{◌<◌, ◌∙◌, ap, length, refl, sym, subst, 
 use Rattle.std.proofs.lemmas.Bool.{iff_false}
 use Rattle.std.proofs.lemmas.List.{length-map}
 use Rattle.std.proofs.lemmas.Option.{same_Some, slice_get_within}
-use Rattle.tl_combinators.specs.Program.{FieldText}
+use Rattle.tl_program.specs.Program.{FieldText}
 use Rattle.tl_names.specs.MeantDecls.{MeantFieldView, meant_field}
 use Rattle.tl_names.specs.MeantViews.{field_view}
 use Rattle.tl_names.specs.Parts.{SomeHeld}

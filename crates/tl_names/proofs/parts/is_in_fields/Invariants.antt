@@ -1,5 +1,5 @@
 use Rattle.std.proofs.Common.{◌≡◌, ℕ, ◌<◌, map, slice_get, Some}
-use Rattle.tl_combinators.specs.Program.{FieldText}
+use Rattle.tl_program.specs.Program.{FieldText}
 use Rattle.tl_names.specs.MeantViews.{field_view}
 use Rattle.tl_names.specs.Parts.{SomeHeld}
 use Rattle.tl_names.specs.inner.Resolved.{ForFields}

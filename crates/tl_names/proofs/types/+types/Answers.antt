@@ -1,6 +1,6 @@
 use Rattle.std.proofs.Common.{◌≤◌, ◌∙◌, ap, length, arith}
 use Rattle.std.proofs.lemmas.List.{length-map}
-use Rattle.tl_combinators.specs.Trees.{view, views}
+use Rattle.tl_program.specs.Trees.{view, views}
 use Rattle.tl_names.specs.Meants.{meant_by, meants_of}
 use Rattle.tl_names.specs.MeantViews.{meant_view, what_in}
 use Rattle.tl_names.proofs.Maps.{slice_get_item}

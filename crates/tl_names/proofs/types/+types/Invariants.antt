@@ -1,5 +1,5 @@
 use Rattle.std.proofs.Common.{◌≡◌, map, take}
-use Rattle.tl_combinators.specs.Trees.{views}
+use Rattle.tl_program.specs.Trees.{views}
 use Rattle.tl_names.specs.Meants.{meant_by}
 use Rattle.tl_names.specs.MeantViews.{meant_view, what_in}
 use Rattle.tl_names.proofs.types.+types.Given as goal

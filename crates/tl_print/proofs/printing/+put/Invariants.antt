@@ -1,5 +1,5 @@
 use Rattle.std.proofs.Common.{◌≡◌, ◌++◌, drop, map, true}
-use Rattle.tl_combinators.specs.Trees.{view, trees_of}
+use Rattle.tl_program.specs.Trees.{view, trees_of}
 use Rattle.tl_print.specs.Written.{written_args}
 use Rattle.tl_print.proofs.printing.+put.Given as goal
 

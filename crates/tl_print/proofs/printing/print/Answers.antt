@@ -1,5 +1,5 @@
 use Rattle.std.proofs.Common.{◌≡◌, List, ℕ, false, rules, sym, subst}
-use Rattle.tl_combinators.specs.Program.{program_text}
+use Rattle.tl_program.specs.Program.{program_text}
 use Rattle.tl_print.specs.Printed.{ReadsBack}
 use Rattle.tl_print.specs.Written.{written_program}
 use Rattle.tl_print.proofs.PrintedProgram.{reads_back}

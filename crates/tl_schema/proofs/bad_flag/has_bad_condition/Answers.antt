@@ -1,7 +1,7 @@
 use Rattle.std.proofs.Common.{◌≤◌, sym, length, true≢false, refl, arith}
 use Rattle.std.proofs.lemmas.Bool.{iff_false}
 use Rattle.std.proofs.lemmas.List.{length-map}
-use Rattle.tl_combinators.specs.Program.{decl_text, field_text}
+use Rattle.tl_program.specs.Program.{decl_text, field_text}
 use Rattle.tl_names.proofs.Maps.{slice_get_item}
 use Rattle.tl_schema.proofs.FieldConditions.{none_bad_more, none_bad}
 use Rattle.tl_schema.proofs.bad_flag.has_bad_condition.Goals as goal

@@ -1,5 +1,5 @@
 use Rattle.std.proofs.Common.{◌<◌}
-use Rattle.tl_combinators.specs.Program.{decl_text}
+use Rattle.tl_program.specs.Program.{decl_text}
 use Rattle.tl_schema.specs.BadFlag.{HasBadCondition}
 use Rattle.tl_schema.proofs.bad_flag.has_bad_condition.Given as goal
 

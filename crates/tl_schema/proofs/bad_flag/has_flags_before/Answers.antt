@@ -1,6 +1,6 @@
 use Rattle.std.proofs.Common.{refl}
 use Rattle.std.proofs.lemmas.Bool.{iff_false}
-use Rattle.tl_combinators.specs.Program.{decl_text, field_text}
+use Rattle.tl_program.specs.Program.{decl_text, field_text}
 use Rattle.tl_schema.proofs.ListParts.{front_item}
 use Rattle.tl_schema.proofs.FieldConditions.{flags_found, no_flags_more}
 use Rattle.tl_schema.proofs.bad_flag.has_flags_before.Goals as goal

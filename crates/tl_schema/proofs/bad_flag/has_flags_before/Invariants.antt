@@ -1,4 +1,4 @@
-use Rattle.tl_combinators.specs.Program.{decl_text}
+use Rattle.tl_program.specs.Program.{decl_text}
 use Rattle.tl_schema.specs.BadFlag.{IsFlagsBefore}
 use Rattle.tl_schema.proofs.bad_flag.has_flags_before.Given as goal
 

@@ -1,6 +1,6 @@
 use Rattle.std.proofs.Common.{◌<◌, length, true≢false, sym, arith}
 use Rattle.std.proofs.lemmas.Bool.{iff_false}
-use Rattle.tl_combinators.specs.Trees.{plain, view}
+use Rattle.tl_program.specs.Trees.{plain, view}
 use Rattle.tl_names.proofs.Maps.{slice_get_item}
 use Rattle.tl_schema.proofs.Results.{differ_at, agree_more}
 use Rattle.tl_schema.proofs.bad_result.are_names.Goals as goal

@@ -1,5 +1,5 @@
 use Rattle.std.proofs.Common.{◌≡◌, take, map}
-use Rattle.tl_combinators.specs.Trees.{plain, views}
+use Rattle.tl_program.specs.Trees.{plain, views}
 use Rattle.tl_schema.proofs.bad_result.are_names.Given as goal
 
 abbrev pub invariant-loop-i : goal.invariant-loop-i

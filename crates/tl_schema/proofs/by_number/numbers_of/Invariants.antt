@@ -1,4 +1,4 @@
-use Rattle.tl_combinators.specs.Program.{program_text}
+use Rattle.tl_program.specs.Program.{program_text}
 use Rattle.tl_schema.proofs.NumberedPlaces.{AreNumbersSoFar}
 use Rattle.tl_schema.proofs.by_number.numbers_of.Given as goal
 

@@ -1,4 +1,4 @@
-use Rattle.tl_combinators.specs.Program.{program_text}
+use Rattle.tl_program.specs.Program.{program_text}
 use Rattle.tl_schema.proofs.OneAnswer.{gives_schema, refuses_program}
 use Rattle.tl_schema.proofs.checks.check.Goals as goal
 

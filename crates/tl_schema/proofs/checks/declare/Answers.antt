@@ -1,5 +1,5 @@
 use Rattle.std.proofs.Common.{map}
-use Rattle.tl_combinators.specs.Program.{program_text}
+use Rattle.tl_program.specs.Program.{program_text}
 use Rattle.tl_schema.specs.Seen.{declaration}
 use Rattle.tl_schema.proofs.DeclaredEntries.{entered}
 use Rattle.tl_schema.proofs.checks.declare.Goals as goal

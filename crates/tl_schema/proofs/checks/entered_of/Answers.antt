@@ -1,7 +1,7 @@
 use Rattle.std.proofs.Common.{◌≡◌, ◌<◌, Some, length, refl, slice_get, subst, map, arith}
 use Rattle.std.proofs.lemmas.List.{length-map}
 use Rattle.std.proofs.lemmas.Option.{slice_get_read, slice_get_within}
-use Rattle.tl_combinators.specs.Program.{decl_text, program_text}
+use Rattle.tl_program.specs.Program.{decl_text, program_text}
 use Rattle.tl_names.specs.MeantDecls.{meant_decl}
 use Rattle.tl_names.specs.MeantViews.{decl_view}
 use Rattle.tl_names.proofs.FewParts.{few_parts_at}

@@ -1,5 +1,5 @@
 use Rattle.std.proofs.Common.{map}
-use Rattle.tl_combinators.specs.Program.{program_text}
+use Rattle.tl_program.specs.Program.{program_text}
 use Rattle.tl_schema.specs.Seen.{declaration}
 use Rattle.tl_schema.specs.inner.NamesNoted.{Enters}
 use Rattle.tl_schema.proofs.checks.entered_of.Given as goal

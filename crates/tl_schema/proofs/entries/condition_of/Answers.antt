@@ -1,5 +1,5 @@
 use Rattle.std.proofs.Common.{◌∙◌, sym}
-use Rattle.tl_combinators.specs.Program.{cond_texts}
+use Rattle.tl_program.specs.Program.{cond_texts}
 use Rattle.tl_schema.proofs.MeantEntries.{condition_meant, no_condition_meant}
 use Rattle.tl_schema.proofs.entries.condition_of.Goals as goal
 

@@ -1,7 +1,7 @@
 use Rattle.std.proofs.Common.{◌≡◌, ◌<◌, ◌∙◌, Some, ap, arith, length, map, refl, slice_get, sym}
 use Rattle.std.proofs.lemmas.List.{length-map}
 use Rattle.std.proofs.lemmas.Option.{slice_get_read}
-use Rattle.tl_combinators.specs.Program.{field_text}
+use Rattle.tl_program.specs.Program.{field_text}
 use Rattle.tl_names.specs.MeantDecls.{MeantFieldView, meant_field}
 use Rattle.tl_names.specs.MeantViews.{field_view}
 use Rattle.tl_names.specs.declared.meant.MeantField.{MeantField}

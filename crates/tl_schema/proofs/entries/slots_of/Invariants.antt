@@ -1,5 +1,5 @@
 use Rattle.std.proofs.Common.{◌≡◌, map, take}
-use Rattle.tl_combinators.specs.Program.{field_text}
+use Rattle.tl_program.specs.Program.{field_text}
 use Rattle.tl_schema.specs.Seen.{slot}
 use Rattle.tl_schema.specs.Meanings.{slot_of}
 use Rattle.tl_schema.proofs.entries.slots_of.Given as goal

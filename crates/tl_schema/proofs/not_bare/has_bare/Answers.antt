@@ -1,6 +1,6 @@
 use Rattle.std.proofs.Common.{◌↔◌}
 use Rattle.std.specs.Prelude.{IsTrue}
-use Rattle.tl_combinators.specs.Trees.{trees_of}
+use Rattle.tl_program.specs.Trees.{trees_of}
 use Rattle.tl_schema.specs.NotBare.{HasBare}
 use Rattle.tl_schema.proofs.BareParts.{bare_named}
 use Rattle.tl_names.proofs.ForTypes.{for_named}

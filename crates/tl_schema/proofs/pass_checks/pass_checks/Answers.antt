@@ -1,6 +1,6 @@
 use Rattle.std.proofs.Common.{◌++◌, List, Err, subst}
 use Rattle.std.specs.Prelude.{IfErr}
-use Rattle.tl_combinators.specs.Program.{DeclText, program_text}
+use Rattle.tl_program.specs.Program.{DeclText, program_text}
 use Rattle.tl_schema.specs.inner.CheckSteps.{ChecksBy}
 use Rattle.tl_names.specs.inner.BareSteps.{MarksEmpty}
 use Rattle.tl_schema.specs.CheckCauses.{name_causes, meaning_causes, reference_causes}

@@ -1,7 +1,7 @@
 use Rattle.std.proofs.Common.{◌≤◌, length, below_more, arith}
 use Rattle.std.proofs.lemmas.Bool.{iff_false}
 use Rattle.std.proofs.lemmas.List.{length-map}
-use Rattle.tl_combinators.specs.Program.{decl_text, program_text}
+use Rattle.tl_program.specs.Program.{decl_text, program_text}
 use Rattle.tl_graph.proofs.FirstNodes.{first_none}
 use Rattle.tl_schema.specs.SameName.{SameName, part}
 use Rattle.tl_names.proofs.Maps.{slice_get_item}

@@ -1,5 +1,5 @@
 use Rattle.std.proofs.Common.{◌<◌, ℕ}
-use Rattle.tl_combinators.specs.Program.{program_text}
+use Rattle.tl_program.specs.Program.{program_text}
 use Rattle.tl_schema.specs.SameName.{SameName}
 use Rattle.tl_schema.proofs.SameNames.{KnowsFirst}
 use Rattle.tl_schema.proofs.same_name.first_same_name.Given as goal

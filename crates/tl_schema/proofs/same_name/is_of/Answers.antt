@@ -1,5 +1,5 @@
 use Rattle.std.proofs.Common.{◌≡◌, ◌↔◌, sym, subst, Bool, true}
-use Rattle.tl_combinators.specs.Trees.{view}
+use Rattle.tl_program.specs.Trees.{view}
 use Rattle.tl_schema.specs.inner.SameNameSteps.{IsOf}
 use Rattle.tl_schema.proofs.AppliedTypes.{tests_head}
 use Rattle.tl_schema.proofs.same_name.is_of.Goals as goal

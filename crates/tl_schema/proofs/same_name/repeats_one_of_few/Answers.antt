@@ -2,7 +2,7 @@ use Rattle.std.proofs.Common.{sym, below_more, rules, true≢false, map, arith, 
 use Rattle.std.proofs.lemmas.Bool.{iff_false}
 use Rattle.std.proofs.lemmas.List.{length-map}
 use Rattle.std.proofs.lemmas.Option.{slice_get_within}
-use Rattle.tl_combinators.specs.Program.{decl_text, field_text, FieldText}
+use Rattle.tl_program.specs.Program.{decl_text, field_text, FieldText}
 use Rattle.tl_schema.specs.SameName.{part_names}
 use Rattle.tl_schema.proofs.same_name.repeats_one_of_few.Goals as goal
 

@@ -4,7 +4,7 @@ use Rattle.std.proofs.lemmas.List.{length-map}
 use Rattle.std.proofs.lemmas.List.Folds.{list_any-append}
 use Rattle.std.proofs.lemmas.Option.{slice_get_within}
 use Rattle.std.proofs.lemmas.Slice.Eq.{bytes_eq-Decides}
-use Rattle.tl_combinators.specs.Program.{decl_text, field_text, FieldText}
+use Rattle.tl_program.specs.Program.{decl_text, field_text, FieldText}
 use Rattle.tl_schema.specs.SameName.{part_names}
 use Rattle.tl_schema.specs.inner.SameNameSteps.{is_noted}
 use Rattle.tl_names.proofs.Maps.{take_push}

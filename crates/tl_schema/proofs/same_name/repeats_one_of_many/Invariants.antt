@@ -1,6 +1,6 @@
 use Rattle.std.proofs.Common.{◌≡◌, ◌<◌, ℕ, List, bytes_eq, take}
 use Rattle.std.specs.List.{list_any}
-use Rattle.tl_combinators.specs.Program.{decl_text}
+use Rattle.tl_program.specs.Program.{decl_text}
 use Rattle.tl_names.specs.NameLists.{IsRepeat}
 use Rattle.tl_schema.specs.SameName.{part_names}
 use Rattle.tl_schema.specs.inner.SameNameSteps.{is_noted}

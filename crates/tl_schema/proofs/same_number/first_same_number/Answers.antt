@@ -3,7 +3,7 @@ use Rattle.std.specs.List.{list_any}
 use Rattle.std.proofs.lemmas.Bool.{iff_false}
 use Rattle.std.proofs.lemmas.List.{length-map}
 use Rattle.indexmap.specs.IndexSet.{IndexSet, contains}
-use Rattle.tl_combinators.specs.Program.{decl_text, program_text}
+use Rattle.tl_program.specs.Program.{decl_text, program_text}
 use Rattle.tl_graph.proofs.FirstNodes.{first_none}
 use Rattle.tl_schema.specs.SameNumber.{SameNumber}
 use Rattle.tl_names.specs.declared.name_hash.NameHash.{NameHash}

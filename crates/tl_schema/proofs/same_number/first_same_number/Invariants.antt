@@ -1,5 +1,5 @@
 use Rattle.std.proofs.Common.{◌<◌, ℕ}
-use Rattle.tl_combinators.specs.Program.{program_text}
+use Rattle.tl_program.specs.Program.{program_text}
 use Rattle.tl_schema.specs.SameNumber.{SameNumber}
 use Rattle.tl_schema.proofs.KnownNumbers.{KnowsNumbers}
 use Rattle.tl_schema.proofs.same_number.first_same_number.Given as goal

@@ -1,6 +1,6 @@
 use Rattle.std.proofs.Common.{◌≤◌, ◌∙◌, ap, length, arith}
 use Rattle.std.proofs.lemmas.List.{length-map}
-use Rattle.tl_combinators.specs.Trees.{view, views}
+use Rattle.tl_program.specs.Trees.{view, views}
 use Rattle.tl_schema.specs.Types.{shapes_of}
 use Rattle.tl_schema.specs.Seen.{shape}
 use Rattle.tl_schema.specs.Meanings.{meaning}

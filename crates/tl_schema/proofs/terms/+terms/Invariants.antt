@@ -1,5 +1,5 @@
 use Rattle.std.proofs.Common.{◌≡◌, map, take}
-use Rattle.tl_combinators.specs.Trees.{views}
+use Rattle.tl_program.specs.Trees.{views}
 use Rattle.tl_schema.specs.Seen.{shape}
 use Rattle.tl_schema.specs.Meanings.{meaning}
 use Rattle.tl_schema.proofs.terms.+terms.Given as goal

@@ -1,5 +1,5 @@
 use Rattle.std.proofs.Common.{refl}
-use Rattle.tl_combinators.specs.Trees.{view}
+use Rattle.tl_program.specs.Trees.{view}
 use Rattle.tl_schema.specs.AskedTypes.{asker}
 use Rattle.tl_schema.proofs.TypeSteps.{stops, no_memory}
 use Rattle.tl_schema.proofs.types.checked_type.Goals as goal

@@ -1,4 +1,4 @@
-use Rattle.tl_combinators.specs.Trees.{view}
+use Rattle.tl_program.specs.Trees.{view}
 use Rattle.tl_schema.proofs.TypeSteps.{names_type}
 use Rattle.tl_schema.proofs.AskedFormed.{named_formed}
 use Rattle.tl_schema.proofs.types.named_type.Goals as goal

@@ -1,7 +1,7 @@
 use Rattle.std.proofs.Common.{◌≡◌, ◌∙◌, bytes_eq, rules}
 use Rattle.std.specs.List.{count_by, list_any}
-use Rattle.tl_combinators.specs.declared.program.Field.{Field}
-use Rattle.tl_combinators.specs.Program.{kind_text}
+use Rattle.tl_program.specs.declared.program.Field.{Field}
+use Rattle.tl_program.specs.Program.{kind_text}
 use Rattle.tl_schema.specs.UnknownVariable.{called_by}
 use Rattle.tl_schema.proofs.Calls.{calls_that_pass}
 use Rattle.tl_schema.proofs.unknown_variable.call_count.Goals as goal

@@ -2,8 +2,8 @@ use Rattle.std.proofs.Common.{◌∙◌, not, rules, tests}
 use Rattle.std.specs.List.{list_any}
 use Rattle.std.proofs.lemmas.Iterator.{YieldsList-from_slice}
 use Rattle.std.proofs.lemmas.Iterator.Search.{any_from_yields_List}
-use Rattle.tl_combinators.specs.declared.program.Field.{Field}
-use Rattle.tl_combinators.specs.Program.{decl_text, kind_text}
+use Rattle.tl_program.specs.declared.program.Field.{Field}
+use Rattle.tl_program.specs.Program.{decl_text, kind_text}
 use Rattle.tl_names.specs.Writing.{is_variable}
 use Rattle.tl_schema.specs.UnknownVariable.{called_by}
 use Rattle.tl_schema.proofs.Calls.{any_call_passes}

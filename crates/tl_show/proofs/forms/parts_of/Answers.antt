@@ -10,6 +10,6 @@ loop-index-init c =
 pub loop-index-preserved : goal.loop-index-preserved
 loop-index-preserved c =
     let insert = c.in_ok-insert-2.ensures in
-    puts_more c.args.fields.now c.loop-index.index c.index-fields-index.result c.loop-index.parts.entries c.insert-in-loop-index.new.self.entries c.in_ok-text.text _
-    c.in_ok-insert-2.field-0 c.is_some.result c.loop-index-test.true c.index-fields-index.is (c.in_ok-text.ensures ∙ ap name_text c.as_slice.ensures.value) refl
+    puts_more c.args.fields.now c.loop-index.index c.index-fields-index.result c.loop-index.parts.entries c.insert-in-loop-index.new.self.entries c.in_ok-text.text c.in_ok-of.of
+    c.in_ok-insert-2.field-0 c.is_some.result c.loop-index-test.true c.index-fields-index.is (c.in_ok-text.ensures ∙ ap name_text c.as_slice.ensures.value) c.in_ok-of.ensures
     insert.was_ordered insert.old c.is_some.ensures c.if-is_some.false insert.entries c.loop-index.invariant

@@ -1,5 +1,5 @@
 use Rattle.std.proofs.Common.{◌∙◌, subst, sym}
-use Rattle.tl_combinators.specs.Program.{program_text}
+use Rattle.tl_program.specs.Program.{program_text}
 use Rattle.tl_names.specs.Constructors.{IsFamily}
 use Rattle.tl_names.specs.inner.Indexed.{at_number}
 use Rattle.tl_names.proofs.index.Index.constructors_of.Goals as goal

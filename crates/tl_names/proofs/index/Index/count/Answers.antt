@@ -1,6 +1,6 @@
 use Rattle.std.proofs.Common.{arith, length, ap}
 use Rattle.std.proofs.lemmas.List.{length-map}
-use Rattle.tl_combinators.specs.Program.{DeclText, program_text}
+use Rattle.tl_program.specs.Program.{DeclText, program_text}
 use Rattle.tl_names.proofs.index.Index.count.Goals as goal
 
 pub overflow_cast-result : goal.overflow_cast-result

@@ -1,6 +1,6 @@
 use Rattle.std.proofs.Common.{◌≤◌, length, take, arith}
 use Rattle.std.proofs.lemmas.List.{length-map, length-take-le, length_push}
-use Rattle.tl_combinators.specs.Program.{decl_text, program_text}
+use Rattle.tl_program.specs.Program.{decl_text, program_text}
 use Rattle.tl_names.proofs.Maps.{slice_get_item, take_push}
 use Rattle.tl_names.proofs.IndexSteps.{counted_more}
 use Rattle.tl_names.proofs.TypeNumbers.{are_numbered, few_types}

@@ -1,5 +1,5 @@
 use Rattle.std.proofs.Common.{take}
-use Rattle.tl_combinators.specs.Program.{program_text}
+use Rattle.tl_program.specs.Program.{program_text}
 use Rattle.tl_names.specs.inner.Indexed.{IsIndex}
 use Rattle.tl_names.proofs.index.Index.of.Given as goal
 

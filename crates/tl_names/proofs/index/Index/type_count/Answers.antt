@@ -1,5 +1,5 @@
 use Rattle.std.proofs.Common.{arith}
-use Rattle.tl_combinators.specs.Program.{program_text}
+use Rattle.tl_program.specs.Program.{program_text}
 use Rattle.tl_names.proofs.TypeNumbers.{few_types}
 use Rattle.tl_names.proofs.index.Index.type_count.Goals as goal
 

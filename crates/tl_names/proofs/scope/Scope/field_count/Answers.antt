@@ -1,6 +1,6 @@
 use Rattle.std.proofs.Common.{arith}
 use Rattle.std.proofs.lemmas.List.{length-map}
-use Rattle.tl_combinators.specs.Program.{field_text}
+use Rattle.tl_program.specs.Program.{field_text}
 use Rattle.tl_names.proofs.scope.Scope.field_count.Goals as goal
 
 pub overflow_cast-result : goal.overflow_cast-result

@@ -1,5 +1,5 @@
 use Rattle.std.proofs.Common.{◌∙◌, ◌&&◌, sym, bytes_eq}
-use Rattle.tl_combinators.specs.Program.{DeclText}
+use Rattle.tl_program.specs.Program.{DeclText}
 use Rattle.tl_names.specs.Writing.{is_constructor}
 use Rattle.tl_names.proofs.TestedPlaces.{position_some, position_none}
 use Rattle.tl_names.proofs.scope.Scope.place.Goals as goal

@@ -1,5 +1,5 @@
 use Rattle.std.proofs.Common.{◌∙◌, sym, arith, bytes_eq}
-use Rattle.tl_combinators.specs.Program.{decl_text}
+use Rattle.tl_program.specs.Program.{decl_text}
 use Rattle.tl_names.proofs.TestedPlaces.{position_some, position_none}
 use Rattle.tl_names.proofs.scope.Scope.variable.Goals as goal
 

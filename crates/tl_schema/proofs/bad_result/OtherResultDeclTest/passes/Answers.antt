@@ -1,5 +1,5 @@
 use Rattle.std.proofs.Common.{◌∙◌, sym}
-use Rattle.tl_combinators.specs.Program.{decl_text}
+use Rattle.tl_program.specs.Program.{decl_text}
 use Rattle.tl_schema.proofs.Results.{bad_result, no_bad_result}
 use Rattle.tl_schema.proofs.bad_result.OtherResultDeclTest.passes.Goals as goal
 

@@ -1,5 +1,5 @@
 use Rattle.std.proofs.Common.{◌∙◌, ap, refl, sym, true≢false}
-use Rattle.tl_combinators.specs.Program.{decl_text}
+use Rattle.tl_program.specs.Program.{decl_text}
 use Rattle.tl_names.specs.MeantDecls.{MeantDeclView}
 use Rattle.tl_schema.specs.UnknownVariable.{in_field}
 use Rattle.tl_schema.proofs.UnknownVariables.{another_called, left_uncalled, no_function, only_in_field}

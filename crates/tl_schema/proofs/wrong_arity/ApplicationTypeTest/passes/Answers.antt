@@ -1,7 +1,7 @@
 use Rattle.std.proofs.Common.{◌≡◌, ◌↔◌, ap, length, refl, arith}
 use Rattle.std.specs.Prelude.{IsTrue}
 use Rattle.std.proofs.lemmas.List.{length-map}
-use Rattle.tl_combinators.specs.Trees.{named, trees_of}
+use Rattle.tl_program.specs.Trees.{named, trees_of}
 use Rattle.tl_names.specs.Meants.{meant}
 use Rattle.tl_names.specs.MeantViews.{meant_view}
 use Rattle.tl_schema.specs.WrongArity.{Misapplies}

@@ -1,6 +1,0 @@
-use Rattle.schema_files.proofs.TypeWords.{no_type_of}
-use Rattle.schema_files.proofs.type_word.type_named.Goals as goal
-
-pub returns-in-Err-clause-names : goal.returns-in-Err-clause-names
-returns-in-Err-clause-names c =
-    no_type_of c.args.schema.now c.args.text.now c.as_bytes.result.now c.in-Err.fault c.type_unmade.result c.as_bytes.ensures.value c.in-Err.ensures.names c.type_unmade.ensures

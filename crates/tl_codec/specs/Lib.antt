@@ -1,0 +1,3 @@
+pub mod Codings
+pub mod Typings
+pub mod inner

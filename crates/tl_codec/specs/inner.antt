@@ -1,0 +1,4 @@
+-- What private clauses alone cite.
+pub mod Kept
+pub mod Names
+pub mod Spellings

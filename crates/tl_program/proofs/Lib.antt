@@ -1,0 +1,2 @@
+pub mod TreeViews
+pub mod AppliedNames

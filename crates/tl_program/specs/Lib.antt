@@ -1,0 +1,4 @@
+pub mod Letters
+pub mod Trees
+pub mod Program
+pub mod BuiltIns

@@ -1,8 +1,0 @@
-use Rattle.std.proofs.Common.{Vec, Global, map}
-use Rattle.tl_show.specs.declared.form.Form.{Form}
-use Rattle.tl_show.specs.inner.FormViews.{form_view}
-use Rattle.tl_show.proofs.LineTexts.{print_as_shown}
-use Rattle.tl_show.proofs.line.JsonPrinter.new.Goals as goal
-
-pub invariant_of-result : goal.invariant_of-result
-invariant_of-result c = record { known = print_as_shown c.args.schema.now (λ (fs : Vec Form Global). map form_view fs.items) c.in_ok-forms.forms c.in_ok-forms.ensures }

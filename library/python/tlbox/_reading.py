@@ -1,0 +1,1 @@
+../../../contrib/tl_reading.py
