@@ -9,6 +9,8 @@ HERE = os.path.dirname(os.path.abspath(__file__))
 NAME, VERSION = "tlbox", "1"
 INFO = f"{NAME}-{VERSION}.dist-info"
 LIBRARY = "libtlbox.so.1"
+# The reader of schemas is kept once, beside the scripts that share it.
+READING, READER = "_reading.py", "../../contrib/tl_reading.py"
 METADATA = f"""Metadata-Version: 2.1
 Name: {NAME}
 Version: {VERSION}
@@ -28,7 +30,7 @@ def build_wheel(wheel_directory, config_settings=None, metadata_directory=None):
     names = sorted(name for name in os.listdir(f"{HERE}/{NAME}") if name.endswith(".py") or name in ("py.typed", LIBRARY))
     system = sysconfig.get_platform().replace("-", "_").replace(".", "_") if LIBRARY in names else "any"
     tag = f"py3-none-{system}"
-    files = {f"{NAME}/{name}": _read(f"{NAME}/{name}") for name in names}
+    files = {f"{NAME}/{name}": _read(READER if name == READING else f"{NAME}/{name}") for name in names}
     files[f"{INFO}/METADATA"] = METADATA.encode() + _read("README.md")
     files[f"{INFO}/WHEEL"] = f"Wheel-Version: 1.0\nGenerator: {NAME}\nRoot-Is-Purelib: {str(system == 'any').lower()}\nTag: {tag}\n".encode()
     record = ""
