@@ -1,7 +1,6 @@
-use Rattle.std.proofs.Common.{arith, ap, subst, ◌×◌}
+use Rattle.std.proofs.Common.{arith, ap, subst}
 use Rattle.std.proofs.lemmas.Result.{err_from_is_err_and}
 use Rattle.call_rooms.specs.inner.Turning.{GoesOn}
-use Rattle.call_rooms.specs.declared.turns.Turn.{Turn}
 use Rattle.call_rooms.proofs.Taking.{none_reached, one_reached, run_left, run_stopped}
 use Rattle.call_rooms.proofs.turns.tell_packets.Goals as goal
 
