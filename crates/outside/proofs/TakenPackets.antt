@@ -49,10 +49,10 @@ length_decided n = elim (cases_eq (n % 4) 0) [
 
 -- as the test of a length says
 pub length_fits : (is : Bool) (n : ℕ) → (IsTrue is ↔ IsPacketLength n) → is ≡ true → IsPacketLength n
-length_fits is n both yes = both.0 yes
+length_fits is n both said = both.0 said
 
 pub length_misfits : (is : Bool) (n : ℕ) → (IsTrue is ↔ IsPacketLength n) → is ≡ false → IsPacketLength n → ⊥
-length_misfits is n both no fits = true≢false (sym (both.1 fits) ∙ no)
+length_misfits is n both said fits = true≢false (sym (both.1 fits) ∙ said)
 
 module _ (slot : Slot) where
   can_length : (n : ℕ) → Begins (AfterLength slot n) []
