@@ -15,7 +15,7 @@ use Rattle.outside.specs.Runs as runs
 use Rattle.outside.specs.Steps.{Turn, again, leave, Calls}
 use Rattle.outside.proofs.Causing.{happened_last, keeps_then, keeps_call, keeps_loop, keeps_tell, keeps_print, keeps_begun, throughout_both, cause_then, cause_print, cause_tell, cause_run, explains_last}
 use Rattle.schema_files.specs.Lines.{cause_text, input_line, line_text}
-use Rattle.codec_rooms.specs.Decode.{Verdict, Decides, faulty, longer, EndsAs, cut_off, is_value, ReadsOn, more, decided, at_end, failed, ReadsValue, at_once, reads, answer_of, printed, after_reading, after_opening, OfBytes, decodes, decodes_by}
+use Rattle.codec_rooms.specs.Decode.{Verdict, Decides, faulty, longer, HasVerdict, cut_off, is_value, ReadsOn, more, decided, at_end, failed, ReadsValue, at_once, reads, answer_of, printed, after_reading, after_opening, OfBytes, decodes, decodes_by}
 use Rattle.codec_rooms.specs.DecodeLaws.{DecodeTouches, DecodeHasCause}
 use Rattle.codec_rooms.specs.EncodeLaws.{IsOfEncode}
 use Rattle.codec_rooms.proofs.TypedLaws.{keeps_word, keeps_of_file, cause_of_file, cause_word}
@@ -85,7 +85,7 @@ module _ (D : Declared) (T : Shape) where
   never_lost bytes _ e (faulty offset cause not r) is lost = subst IsLost (sym is) lost
   never_lost bytes _ e (longer v x rest split some spells deep) is lost = subst IsLost (sym is) lost
 
-  never_ends : (bytes : List ℕ) (r : Verdict) (e : WholeFault) → EndsAs D T bytes r → r ≡ Err e → IsLost e → ⊥
+  never_ends : (bytes : List ℕ) (r : Verdict) (e : WholeFault) → HasVerdict D T bytes r → r ≡ Err e → IsLost e → ⊥
   never_ends bytes _ e (cut_off offset r) is lost = subst IsLost (sym (err_is is)) lost
   never_ends bytes _ e (is_value v spells deep) is lost = absurd (let no : Ok v ≡ Err e = is in cc)
 

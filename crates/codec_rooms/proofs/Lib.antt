@@ -8,4 +8,5 @@ mod Decoding
 mod InputTaken
 mod DecodingLaws
 mod Layering
+mod Following
 mod LayeringLaws

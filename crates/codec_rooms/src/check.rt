@@ -7,7 +7,7 @@ ghost use Rattle.codec_rooms.specs.Check.{OfText, checks};
 
 use codec_commands::listing;
 use command_base::{Status, Unmade};
-use outside::{Host, finish, print_made, read_file, tell};
+use outside::{Host, finish, print_made, read_file, unread};
 use schema_files::{SCHEMA_BYTES, schema_of};
 use std::alloc::{AllocError, Global};
 use tl_base::Slot;
@@ -31,7 +31,7 @@ pub fn check_schema<H: Host>(
 {
     match read_file(alloc, host, Slot::Schema, schema, SCHEMA_BYTES)? {
         Some(text) => print_made(host, made_listing(alloc, &text)),
-        None => Ok(tell(host, b"tlbox: read fault\n", Status::ReadFault)),
+        None => Ok(unread(host)),
     }
 }
 

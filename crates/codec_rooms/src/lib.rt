@@ -7,6 +7,7 @@ mod encode;
 mod feeding;
 mod laws;
 mod layers;
+mod typed;
 
 pub use check::{check_schema, run_check};
 pub use decode::{decode_input, run_decode};

@@ -11,6 +11,6 @@ mod untold;
 pub use ending::finish;
 pub use host::Host;
 pub use pieces::{Taken, take_bytes, tell, write_out};
-pub use printing::{print, print_made};
+pub use printing::{print, print_made, unread};
 pub use reading::read_file;
 pub use untold::Untold;

@@ -19,4 +19,4 @@ returns-in-Some g c =
     (made_printed (OfText c.deref.result.now) (making c.made_listing.result) _ _ _ (each_text c.deref.result.now) c.made_listing.ensures c.print_made.ensures)
 
 pub returns-in-None : goal.returns-in-None
-returns-in-None g c = did_then_at _ after_schema _ _ _ (text_view c.in_ok-text.field-0) None _ (ap text_view c.in-None.is) c.in_ok-text.ensures c.tell.ensures
+returns-in-None g c = did_then_at _ after_schema _ _ _ (text_view c.in_ok-text.field-0) None _ (ap text_view c.in-None.is) c.in_ok-text.ensures c.unread.ensures
