@@ -19,6 +19,7 @@ use Rattle.outside.proofs.Causing.{keeps_then, keeps_file, keeps_tell, keeps_pri
 use Rattle.schema_files.specs.Lines.{schema_line, type_line, plan_line}
 use Rattle.schema_files.specs.declared.schema_text.TheConstants.{SCHEMA_BYTES}
 use Rattle.codec_commands.specs.Typed.{ToInput}
+use Rattle.codec_rooms.specs.Laws.{Named, IsRead, IsOf}
 use Rattle.codec_rooms.specs.Typed.{OfSchema, OfType, OfText, no_schema, schema_of, OfPlan, no_plan, planned, OfAsked, no_type, typed, OfWord, after_schema, after_input, OfFile, OfInput}
 
 -- ---- events
@@ -57,6 +58,11 @@ module _ (P : Event → Type 0) (errors : (piece : List ℕ) → P (put outs.Err
   pub keeps_of_file : (slot : Slot) (what : List ℕ) (Rest : OfSchema) (name : List ℕ) → ((ok : Bool) → P (opened slot name ok)) → ((bytes : List ℕ) → P (took slot bytes)) → P (ended slot)
       → P (read_failed slot) → ((schema : Declared) → Keeps P (Rest schema)) → Keeps P (OfFile slot what Rest name)
   keeps_of_file slot what Rest name opens each end fail rest = keeps_then P _ _ (keeps_file P slot name SCHEMA_BYTES opens each end fail) (keeps_schema what Rest rest)
+
+-- a schema's file that is one of a command's
+pub keeps_named : (reads : Named) (slot : Slot) (name : List ℕ) → IsRead reads slot name → (what : List ℕ) (Rest : OfSchema) → ((schema : Declared) → Keeps (IsOf reads) (Rest schema))
+    → Keeps (IsOf reads) (OfFile slot what Rest name)
+keeps_named reads slot name is what Rest = keeps_of_file (IsOf reads) (λ _. tt) tt (λ _. tt) tt slot what Rest name (λ _. is) (λ _. (name, is)) (name, is) (name, is)
 
 -- ---- causes
 
