@@ -1,11 +1,15 @@
-mod Listing
 mod Checking
 mod Typing
 mod Encoding
 mod TypedLaws
+mod RefusedLonger
+mod FileLaws
+mod TypedFiles
 mod EncodingLaws
 mod Decoding
 mod InputTaken
+mod InputLeft
 mod DecodingLaws
 mod Layering
+mod Following
 mod LayeringLaws
