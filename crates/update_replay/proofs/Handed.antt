@@ -2,7 +2,7 @@
 use Rattle.std.proofs.Common.{◌≡◌, ◌⊎◌, inl, inr, ℕ, ◌+◌, ◌-◌, ◌<◌, ◌≤◌, min, List, [], ◌∷◌, ◌++◌, length, length-append, length-take, take, drop, Bool, true, false, cond, ltb, Option, Some, None, Result, Ok, Err, refl, sym, ap, ◌∙◌, subst, arith}
 use Rattle.std.specs.Prelude.{◌&&◌, IfSome, IsErrAnd, option_map}
 use Rattle.std.proofs.lemmas.Bool.{cases_lt}
-use Rattle.std.proofs.lemmas.List.{drop_at, drop-take, take_all}
+use Rattle.std.proofs.lemmas.List.{drop_at, take_all}
 use Rattle.tl_base.specs.Limits.{limited_state}
 use Rattle.tl_base.specs.Using.{SourceState}
 use Rattle.tl_base.specs.declared.slices.SliceSource.{SliceSource}
@@ -49,20 +49,22 @@ pub goes_by : (journal : List ℕ) (k : ℕ) → k ≡ length journal → ltb MA
 unfolding goes_on
 goes_by journal k is = ap (ltb MAX_JOURNAL_BYTES) is
 
-pub seen_long : (journal : List ℕ) → length (seen_of journal) ≡ min MAX_JOURNAL_BYTES (length journal)
+seen_long : (journal : List ℕ) → length (seen_of journal) ≡ min MAX_JOURNAL_BYTES (length journal)
 unfolding seen_of
 seen_long journal = length-take MAX_JOURNAL_BYTES journal
 
 seen_by : (journal : List ℕ) (end : ℕ) → end ≡ min (length journal) MAX_JOURNAL_BYTES → take end journal ≡ take MAX_JOURNAL_BYTES journal
 seen_by journal end is = elim (cases_lt (length journal) MAX_JOURNAL_BYTES) [
   | inl lt ↦ take_all end journal (omega (arith, is, lt)) ∙ sym (take_all MAX_JOURNAL_BYTES journal (omega (arith, lt)))
-  | inr ge ↦ ap (λ (k : ℕ). take k journal) (omega (arith, is, ge))
+  | inr ge ↦ (let same : end ≡ MAX_JOURNAL_BYTES = omega (arith, is, ge) in ap (λ (k : ℕ). take k journal) same)
 ]
 
--- what lies between an offset and the end of what is looked at
-pub rest_taken : (journal : List ℕ) (at end : ℕ) → end ≡ min (length journal) MAX_JOURNAL_BYTES → at ≤ end → take (end - at) (drop at journal) ≡ drop at (seen_of journal)
+pub seen_taken : (journal : List ℕ) (end : ℕ) → end ≡ min (length journal) MAX_JOURNAL_BYTES → take end journal ≡ seen_of journal
 unfolding seen_of
-rest_taken journal at end is le = sym (drop-take at (end - at) journal) ∙ ap (λ (k : ℕ). drop at (take k journal)) (omega (arith, le)) ∙ ap (drop at) (seen_by journal end is)
+seen_taken journal end is = seen_by journal end is
+
+pub seen_few : (journal : List ℕ) → length (seen_of journal) ≤ MAX_JOURNAL_BYTES
+seen_few journal = omega (arith, seen_long journal)
 
 -- ---- a step that is found
 
@@ -209,7 +211,7 @@ module _ (p : ProfileView) (n : ℕ) (journal : List ℕ) (ss : List Step) (outp
       stops : (e : ReplayFault) → IsUnmade n ss old.at s e → (e ≡ Memory) ⊎ ((ending : Ending) × Replayed p n journal ss output ending × (answer_of ending ≡ Err e))
       stops e (no_memory is) = inl is
       stops e (past_steps many is) = inr (too_long old.at, one_too_many old.at h.left s x rest h.began begins_left many refl, ap Err (sym is))
-      stops e (impossible cause few no is) = inr (not_made old.at cause, not_possible old.at h.left s x rest cause h.began begins_left few no refl, ap Err (sym is))
+      stops e (impossible cause few refuses is) = inr (not_made old.at cause, not_possible old.at h.left s x rest cause h.began begins_left few refuses refl, ap Err (sym is))
 
       unmade_by : (e : ReplayFault) → MakesAfter old.world old.steps old.at s new.world new.lines.items (Err e) → HandsOut p n journal ss output new (Err e)
       unmade_by e makes = let m = made_of (Err e) makes in (m.0, stops e m.1)

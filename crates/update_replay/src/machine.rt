@@ -76,9 +76,7 @@ impl<'s> Replay<'s> {
         match find_step(alloc, self.world.profile(), rest_of(&self.journal, self.at)) {
             Ok(Some((step, size))) => self.make(alloc, step, size),
             Ok(None) => self.close(),
-            Err(StepReadFault::Wire(fault)) => {
-                Err(wire_stop(self.at, goes_on(&self.journal), fault))
-            }
+            Err(StepReadFault::Wire(fault)) => Err(wire_stop(&self.journal, self.at, fault)),
             // A read of memory never fails.
             Err(_) => Err(ReplayFault::Memory),
         }
@@ -137,14 +135,22 @@ fn goes_on(journal: &Bytes) -> bool
     journal.len() > MAX_JOURNAL_BYTES as usize
 }
 
-// What is looked at of a journal from an offset on.
+// What is looked at of a journal.
+fn seen_of(journal: &Bytes) -> &[u8]
+    ensures { result.now ≡ seen_of journal.now }
+{
+    let end = journal.len().min(MAX_JOURNAL_BYTES as usize);
+    &journal.as_slice()[..end]
+}
+
+// What is left of it from an offset on.
 fn rest_of(journal: &Bytes, at: u32) -> &[u8]
     requires { at ≤ length (seen_of journal.now) }
     ensures rest { result.now ≡ drop at (seen_of journal.now) }
     ensures few { at + length result.now ≤ MAX_JOURNAL_BYTES }
 {
-    let end = journal.len().min(MAX_JOURNAL_BYTES as usize);
-    &journal.as_slice()[at as usize..end]
+    let seen = seen_of(journal);
+    &seen[at as usize..]
 }
 
 // The step that bytes begin with, and how many of them it has; None, where there are no bytes.
@@ -166,11 +172,11 @@ fn find_step(
 }
 
 // Why a replay stops where the bytes at an offset of a journal begin no step.
-fn wire_stop(at: u32, goes_on: bool, fault: WireFault) -> ReplayFault
-    ensures { answer_of (of_refusal goes_on at fault) ≡ Err result }
+fn wire_stop(journal: &Bytes, at: u32, fault: WireFault) -> ReplayFault
+    ensures { answer_of (of_refusal (goes_on journal.now) at fault) ≡ Err result }
 {
     let is_cut = is_cut_short(fault);
-    if goes_on && is_cut {
+    if is_cut && goes_on(journal) {
         ReplayFault::TooLong { at }
     } else {
         ReplayFault::Wire { at, fault }

@@ -13,10 +13,10 @@ returns-then-count-ge-MAX_STEPS-clause-made c = too_late c.args.world.now c.args
 pub returns-in-Err-clause-made : goal.returns-in-Err-clause-made
 returns-in-Err-clause-made c = not_happened c.args.world.now c.step.new.self c.args.count c.args.at c.args.step c.in-Err.fault c.step_fault.result c.args.lines.now.items c.in-Err.ensures.happens (search rules) c.step_fault.ensures c.requires.empty
 
-pub returns-in-Ok-2-clause-made : goal.returns-in-Ok-2-clause-made
-returns-in-Ok-2-clause-made c =
+pub returns-in-Ok-put_step-clause-made : goal.returns-in-Ok-put_step-clause-made
+returns-in-Ok-put_step-clause-made c =
     made_lines c.args.world.now c.step.new.self c.args.count c.args.at c.args.step c.in-Ok.outcome c.put_step.new.lines.items c.in-Ok.ensures.happens c.in-Ok.ensures.profile c.in-Ok.ensures.clients (search rules)
-    (c.in-Ok-2.ensures ∙ ap (λ l. l ++ outcome_lines c.step.new.self c.args.count c.in-Ok.outcome) c.requires.empty)
+    (c.in-Ok-put_step.ensures ∙ ap (λ l. l ++ outcome_lines c.step.new.self c.args.count c.in-Ok.outcome) c.requires.empty)
 
-pub returns-in-Err-2-clause-made : goal.returns-in-Err-2-clause-made
-returns-in-Err-2-clause-made c = no_lines c.args.world.now c.step.new.self c.args.count c.args.at c.args.step c.clear.new.self.items c.clear.ensures.items
+pub returns-in-Err-put_step-clause-made : goal.returns-in-Err-put_step-clause-made
+returns-in-Err-put_step-clause-made c = no_lines c.args.world.now c.step.new.self c.args.count c.args.at c.args.step c.clear.new.self.items c.clear.ensures.items

@@ -1,11 +1,18 @@
-use Rattle.std.proofs.Common.{List, ℕ, ◌-◌, arith, ap, drop, length-take, take, ◌∙◌}
-use Rattle.update_replay.proofs.Handed.{rest_taken, seen_long}
+use Rattle.std.proofs.Common.{List, ℕ, arith, ap, drop, length, length-drop, ◌∙◌}
+use Rattle.std.proofs.lemmas.List.{take_rest}
+use Rattle.update_replay.specs.Replays.{seen_of}
+use Rattle.update_replay.proofs.Handed.{seen_few}
 use Rattle.update_replay.proofs.machine.rest_of.Goals as goal
 
 pub returns-clause-rest : goal.returns-clause-rest
-returns-clause-rest c =
-    ap (λ (l : List ℕ). take (c.min-end.result - c.args.at) (drop c.args.at l)) c.as_slice.ensures.value
-    ∙ rest_taken c.args.journal.now c.args.at c.min-end.result (omega (arith, c.min-end.ensures, c.len.ensures)) (omega (arith, c.min-end.ensures, c.len.ensures, c.requires, seen_long c.args.journal.now))
+returns-clause-rest c = take_rest c.seen_of-seen.result.now c.args.at ∙ ap (λ (l : List ℕ). drop c.args.at l) c.seen_of-seen.ensures
 
 pub returns-clause-few : goal.returns-clause-few
-returns-clause-few c = omega (arith, length-take (c.min-end.result - c.args.at) (drop c.args.at c.as_slice.result.now), c.min-end.ensures, c.len.ensures, c.requires, seen_long c.args.journal.now)
+returns-clause-few c =
+    omega (
+      arith,
+      ap length (take_rest c.seen_of-seen.result.now c.args.at ∙ ap (λ (l : List ℕ). drop c.args.at l) c.seen_of-seen.ensures),
+      length-drop c.args.at (seen_of c.args.journal.now),
+      seen_few c.args.journal.now,
+      c.requires,
+    )
