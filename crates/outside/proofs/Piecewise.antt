@@ -1,6 +1,6 @@
 -- Laws of what is taken and put by pieces.
-use Rattle.std.proofs.Common.{◌≡◌, ℕ, zero, suc, ◌+◌, ◌-◌, ◌<◌, ◌≤◌, List, [], ◌∷◌, ◌++◌, length, map, take, drop, get_or, true, false, Some, None, Result, refl, sym, ap, ◌∙◌, subst, arith, take-add, length-drop, length-take-le, inl, inr}
-use Rattle.std.proofs.lemmas.List.{append-nil, append_assoc, map_push, take-append-drop, take-append-le, take_all, get_or-take, get_or_past, length-take}
+use Rattle.std.proofs.Common.{◌≡◌, ℕ, zero, suc, ◌+◌, ◌-◌, ◌<◌, ◌≤◌, List, [], ◌∷◌, ◌++◌, length, map, take, drop, true, false, Some, None, Result, refl, sym, ap, ◌∙◌, subst, arith, take-add, length-drop, length-take-le, inl, inr}
+use Rattle.std.proofs.lemmas.List.{append-nil, append_assoc, map_push, take-append-drop, take-append-le, take_all}
 use Rattle.std.proofs.lemmas.Bool.{cases_lt}
 use Rattle.tl_numbers.specs.Bytes.{AreBytes}
 use Rattle.tl_base.specs.declared.host.Slot.{Slot}
@@ -47,12 +47,6 @@ pub are_both : (xs ys : List ℕ) → AreBytes xs → AreBytes ys → AreBytes (
 are_both [] ys a b k = b k
 are_both (x ∷ xs) ys a b zero = a zero
 are_both (x ∷ xs) ys a b (suc k) = are_both xs ys (λ j. a (suc j)) b k
-
-pub are_first : (n : ℕ) (xs : List ℕ) → AreBytes xs → AreBytes (take n xs)
-are_first n xs are k = elim (cases_lt k n) [
-  | inl lt ↦ omega (arith, get_or-take n xs k 0 lt, are k)
-  | inr past ↦ omega (arith, get_or_past (take n xs) k 0 (omega (arith, length-take n xs, past)))
-]
 
 pub are_none : AreBytes []
 are_none k = omega arith

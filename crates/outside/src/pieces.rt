@@ -1,5 +1,6 @@
 //! What is taken from a slot and put to an out by pieces.
-ghost use Rattle.std.specs.Prelude.{Some, is_ok};
+ghost use Rattle.std.specs.Prelude.{◌≡◌, ◌++◌, OnOk, Some, is_ok};
+ghost use Rattle.tl_numbers.specs.Bytes.{AreBytes};
 ghost use Rattle.outside.specs.Steps.{Did};
 ghost use Rattle.outside.specs.Pieces.{Takes, Writes, Tells, taken_by};
 
@@ -21,6 +22,15 @@ pub enum Taken {
 // How many bytes are read at once.
 const PIECE_BYTES: usize = 4096;
 
+// Appends a piece, of which it is told that it holds bytes.
+fn append(text: &mut Vec<u8>, piece: &[u8]) -> Result<(), AllocError>
+    ensures ok { OnOk result (text.new.items ≡ text.old.items ++ piece.now) }
+    ensures bytes { AreBytes piece.now }
+{
+    text.extend_from_slice(piece)?;
+    Ok(())
+}
+
 /// Takes the next bytes of a slot: so many, or all of them where there are fewer. Memory grows with what was read.
 pub fn take_bytes<H: Host>(
     alloc: Global,
@@ -36,7 +46,7 @@ pub fn take_bytes<H: Host>(
         let most = (count - text.len()).min(PIECE_BYTES);
         match host.read(slot, &mut piece[..most]) {
             Ok(0) => return Ok(Taken::Short(text)),
-            Ok(size) => text.extend_from_slice(&piece[..size])?,
+            Ok(size) => append(&mut text, &piece[..size])?,
             Err(_) => return Ok(Taken::Broken),
         }
     }
