@@ -1,7 +1,7 @@
 mod Checking
-mod Typing
+pub mod Typing
 mod Encoding
-mod TypedLaws
+pub mod TypedLaws
 mod RefusedLonger
 mod FileLaws
 mod TypedFiles
