@@ -35,7 +35,7 @@ enum {
      - A pointer is never null, even where its length is 0, and what different parameters lead to doesn't overlap.
      - `*len` becomes the number of bytes of the answer, or of the line of a refusal; 0, where there is neither.
      - These bytes are written to out[0 .. *len], if *len <= room; else `out` stays as it was. tlbox_last gives the same bytes again, to more room.
-       After tlbox_open the handle has no bytes to give again; the line of a refused schema has less than 128.
+       tlbox_open and tlbox_layers keep no bytes to give again; what they tell has less than 128.
      - No text needs an end: each has its length. */
 
 /* Opens the schema that `text` spells, of at most 4,194,304 bytes. What was open before is closed first. Where it isn't done the handle is closed. */
@@ -45,11 +45,19 @@ uint32_t tlbox_open(tlbox *h, const uint8_t *text, size_t text_len, uint8_t *out
    once for each type: a handle keeps 65,536 at most, and answers TLBOX_MEMORY then. */
 uint32_t tlbox_type(tlbox *h, const uint8_t *name, size_t name_len, uint32_t *type, uint8_t *out, size_t room, size_t *len);
 
+/* The list of the schema's declarations: what `tlbox check` writes. */
+uint32_t tlbox_check(tlbox *h, uint8_t *out, size_t room, size_t *len);
+
 /* The line of JSON of the value of the type that all of the bytes spell, with its line feed: what `tlbox decode` writes. */
 uint32_t tlbox_decode(tlbox *h, uint32_t type, const uint8_t *bytes, size_t bytes_len, uint8_t *out, size_t room, size_t *len);
 
 /* The bytes of the value of the type that the JSON is: what `tlbox encode` writes. */
 uint32_t tlbox_encode(tlbox *h, uint32_t type, const uint8_t *json, size_t json_len, uint8_t *out, size_t room, size_t *len);
+
+/* Whether the schema that `new_text` spells reads the bytes that a type of the one that `old_text` spells had: what `tlbox layers` writes, `yes N` with its
+   line feed; a refusal tells what breaks first, or why a schema or the type is refused. It takes no handle. */
+uint32_t tlbox_layers(const uint8_t *old_text, size_t old_len, const uint8_t *new_text, size_t new_len, const uint8_t *name, size_t name_len, uint8_t *out,
+                      size_t room, size_t *len);
 
 /* The bytes that the last call of this handle made, again. */
 void tlbox_last(tlbox *h, uint8_t *out, size_t room, size_t *len);

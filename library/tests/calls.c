@@ -41,6 +41,7 @@ static const uint8_t spelling[] = {1, 0, 0, 0, 1, 0, 0, 0, 5, 0, 0, 0, 249, 255,
 static const char line[] = "{\"_\":\"record\",\"flags\":1,\"name\":\"ab\",\"number\":5,\"quarter\":3,\"scattered\":-7}\n";
 
 static int is(const uint8_t *out, size_t len, const void *wanted, size_t size) { return len == size && memcmp(out, wanted, size) == 0; }
+static const char list[] = "00000001 record\nconstructors 1 functions 0\n";
 #define IS(wanted) is(out, len, wanted, sizeof(wanted) - 1)
 
 /* Each status of each call, and what stands in `out`, `len` and `type` after it. */
@@ -58,6 +59,7 @@ static int statuses(void) {
     len = 7;
     tlbox_last(&h, OUT);
     CHECK(5, len == 0 && memcmp(out, before, sizeof out) == 0);
+    CHECK(26, tlbox_check(&h, OUT) == TLBOX_CLOSED && len == 0);
     CHECK(6, tlbox_open(&h, TEXT("a x:int"), OUT) == TLBOX_REFUSED && IS("tlbox: schema 7 Unexpected\n") && !h.at);
     memset(out, 170, sizeof out);
     CHECK(7, tlbox_open(&h, TEXT(schema), OUT) == TLBOX_DONE && h.at && len == 0 && memcmp(out, before, sizeof out) == 0);
@@ -79,6 +81,19 @@ static int statuses(void) {
     CHECK(20, tlbox_encode(&h, 2, TEXT(json), OUT) == TLBOX_NO_TYPE && len == 0);
     tlbox_last(&h, OUT);
     CHECK(21, len == 0);
+    CHECK(27, tlbox_check(&h, OUT) == TLBOX_DONE && IS(list));
+    memset(out, 170, sizeof out);
+    CHECK(28, tlbox_check(&h, out, sizeof list - 2, &len) == TLBOX_DONE && len == sizeof list - 1 && memcmp(out, before, sizeof out) == 0);
+    tlbox_last(&h, OUT);
+    CHECK(29, IS(list));
+    CHECK(30, tlbox_decode(&h, 0, spelling, sizeof spelling, OUT) == TLBOX_DONE && IS(line));
+    CHECK(31, tlbox_layers(TEXT(schema), TEXT(schema), TEXT("Record"), OUT) == TLBOX_DONE && IS("yes 1\n"));
+    CHECK(32, tlbox_layers(TEXT(schema), TEXT("record#00000001 flags:# number:int = Record;"), TEXT("Record"), OUT) == TLBOX_REFUSED && IS("tlbox: layers decl 0 FieldGone 2\n"));
+    CHECK(33, tlbox_layers(TEXT(schema), TEXT("a x:int"), TEXT("Record"), OUT) == TLBOX_REFUSED && IS("tlbox: new 7 Unexpected\n"));
+    CHECK(34, tlbox_layers(TEXT("a x:int"), TEXT("a x:int"), TEXT("Recrod"), OUT) == TLBOX_REFUSED && IS("tlbox: schema 7 Unexpected\n"));
+    CHECK(35, tlbox_layers(TEXT(schema), TEXT("a x:int"), TEXT("Recrod"), OUT) == TLBOX_REFUSED && IS("tlbox: type - UnknownType\n"));
+    memset(out, 170, sizeof out);
+    CHECK(36, tlbox_layers(TEXT(schema), TEXT(schema), TEXT("Record"), out, 5, &len) == TLBOX_DONE && len == 6 && memcmp(out, before, sizeof out) == 0);
     CHECK(22, tlbox_open(&h, TEXT("a#00000002 = A;"), OUT) == TLBOX_DONE);
     CHECK(23, tlbox_encode(&h, 0, TEXT(json), OUT) == TLBOX_NO_TYPE);
     tlbox_close(&h);
@@ -94,7 +109,7 @@ static int refusals(void) {
     uint8_t out[256];
     size_t len;
     uint32_t type = 0, status;
-    for (int job = 0; job < 7; job++) {
+    for (int job = 0; job < 10; job++) {
         for (long at = 0;; at++) {
             if (job == 0) tlbox_close(&h);
             left = at;
@@ -105,11 +120,14 @@ static int refusals(void) {
             case 3: status = tlbox_decode(&h, type, spelling, sizeof spelling, OUT); break;
             case 4: status = tlbox_decode(&h, type, spelling, sizeof spelling - 1, OUT); break;
             case 5: status = tlbox_encode(&h, type, TEXT("{\"_\":\"recrod\"}"), OUT); break;
-            default: status = tlbox_type(&h, TEXT("Recrod"), &type, OUT); break;
+            case 6: status = tlbox_type(&h, TEXT("Recrod"), &type, OUT); break;
+            case 7: status = tlbox_layers(TEXT(schema), TEXT("a#00000002 = A;"), TEXT("Record"), OUT); break;
+            case 8: status = tlbox_check(&h, OUT); break;
+            default: status = tlbox_layers(TEXT(schema), TEXT(schema), TEXT("Record"), OUT); break;
             }
             int fell = left < 0;
             left = -1;
-            uint32_t wanted = job < 4 ? TLBOX_DONE : TLBOX_REFUSED;
+            uint32_t wanted = job < 4 || job > 7 ? TLBOX_DONE : TLBOX_REFUSED;
             CHECK(40 + job, status == wanted || (fell && status == TLBOX_MEMORY && len == 0));
             if (!fell) break;
         }

@@ -1,4 +1,6 @@
 pub mod Adding
+pub mod Alike
+pub mod Compared
 pub mod Numbered
 pub mod Spelled
 pub mod Told

@@ -1,3 +1,5 @@
 pub mod Codings
 pub mod Typings
+pub mod Comparing
+pub mod Laws
 pub mod inner

@@ -2,6 +2,7 @@
 use crate::line::line_of;
 use crate::naming::{planned_type, push_type};
 use crate::spelling::bytes_of;
+use codec_commands::listing;
 use command_base::Unmade;
 use schema_files::schema_of;
 use std::alloc::{AllocError, Global};
@@ -50,6 +51,7 @@ impl Model for Codec {
 
 impl Codec {
     ghost use Rattle.std.specs.Prelude.{◌≡◌, ◌<◌, [], IfOk, length};
+    ghost use Rattle.codec_commands.specs.Check.{listing};
     ghost use Rattle.tl_codec.specs.Codings.{Decodes, Encodes};
     ghost use Rattle.tl_codec.specs.Typings.{Adds, OfType, Opens};
 
@@ -76,6 +78,13 @@ impl Codec {
             keys,
             types: Vec::new(alloc),
         })
+    }
+
+    /// The list of the schema's declarations: a line for each, with its number and its name, and how many there are.
+    pub fn check(&self, alloc: Global) -> Result<Vec<u8>, AllocError>
+        ensures { IfOk result (λ text. text.items ≡ listing self.now.0.decls) }
+    {
+        listing(alloc, &self.schema)
     }
 
     /// The number of types that were asked for.

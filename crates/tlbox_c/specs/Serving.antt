@@ -5,9 +5,11 @@ use Rattle.tl_schema.specs.Types.{Shape}
 use Rattle.tl_schema.specs.Schemas.{Declared}
 use Rattle.tl_codec.specs.Codings.{Made}
 use Rattle.tl_codec.specs.Typings.{Adds, Coder, OfType, Opens}
+use Rattle.tl_codec.specs.Comparing.{MakesAnswer, OfTexts}
+use Rattle.codec_commands.specs.Check.{listing}
 use Rattle.command_base.specs.declared.stop.Unmade.{Unmade}
 use Rattle.command_base.specs.declared.stop.Unmade.TheVariants as unmade
-use Rattle.tlbox_c.specs.Telling.{Fills, Tells, TellsNumber}
+use Rattle.tlbox_c.specs.Telling.{Fills, HandsMade, Tells, TellsNumber}
 use Rattle.tlbox_c.specs.declared.held.Held.{Held}
 use Rattle.tlbox_c.specs.declared.telling.TheConstants.{CLOSED, DONE, MEMORY, NO_TYPE, REFUSED}
 
@@ -22,6 +24,16 @@ abbrev pub ServesAt : (Declared → Shape → List ℕ → Made → Type 0) → 
 ServesAt Makes of given status None after = (status ≡ CLOSED) × (after ≡ None)
 ServesAt Makes of given status (Some x) None = ⊥
 ServesAt Makes of given status (Some x) (Some y) = Serves Makes of given status x y
+
+-- the list of the schema's declarations is kept; or there was no memory
+abbrev pub Lists : ℕ → Held → Held → Type 0
+Lists status x y = (y.codec ≡ x.codec) × (((status ≡ DONE) × (y.last.items ≡ listing x.codec.0.decls)) ⊎ ((status ≡ MEMORY) × (y.last.items ≡ [])))
+
+-- the same of a handle, which may be closed
+abbrev pub ListsAt : ℕ → Option Held → Option Held → Type 0
+ListsAt status None after = (status ≡ CLOSED) × (after ≡ None)
+ListsAt status (Some x) None = ⊥
+ListsAt status (Some x) (Some y) = Lists status x y
 
 -- the bytes that are kept begin what C gave, if they fit, and their number is told; of a closed handle none are
 abbrev pub Hands : Option Held → List ℕ → List ℕ → ℕ → Type 0
@@ -53,3 +65,7 @@ abbrev pub AddsAt : List ℕ → ℕ → Option Held → Option Held → ℕ →
 AddsAt name status None after old new = (status ≡ CLOSED) × (after ≡ None) × (new ≡ old)
 AddsAt name status (Some x) None old new = ⊥
 AddsAt name status (Some x) (Some y) old new = AddsTo name status x y old new
+
+-- what is told of two schemas' texts and a type's is handed out
+abbrev pub ComparesAt : List ℕ → List ℕ → List ℕ → ℕ → List ℕ → List ℕ → ℕ → Type 0
+ComparesAt old new type status before after len = (made : Made) × MakesAnswer (OfTexts old new type) made × HandsMade made status before after len

@@ -24,3 +24,10 @@ TellsNumber (Err fault) status old new last = (new ≡ old) × TellsFault fault 
 -- they begin what is behind the slice, where they all fit; else it is as it was
 abbrev pub Fills : List ℕ → List ℕ → List ℕ → Type 0
 Fills bytes old new = (length bytes ≤ length old → new ≡ bytes ++ drop (length bytes) old) × (length old < length bytes → new ≡ old)
+
+-- what was made is handed out, or the line of a refusal; a failed read, which nothing here answers, is told as out of memory
+abbrev pub HandsMade : Made → ℕ → List ℕ → List ℕ → ℕ → Type 0
+HandsMade (Ok bytes) status old new len = (status ≡ DONE) × Fills bytes.items old new × (len ≡ length bytes.items)
+HandsMade (Err (unmade.Refused line)) status old new len = (status ≡ REFUSED) × Fills line.items old new × (len ≡ length line.items)
+HandsMade (Err unmade.ReadFault) status old new len = (status ≡ MEMORY) × (new ≡ old) × (len ≡ 0)
+HandsMade (Err unmade.Memory) status old new len = (status ≡ MEMORY) × (new ≡ old) × (len ≡ 0)

@@ -2,13 +2,13 @@
 ghost use Rattle.std.specs.Prelude.{◌≡◌};
 ghost use Rattle.std.specs.declared.option.Option.TheVariants.{None};
 ghost use Rattle.tl_codec.specs.Codings.{Decodes, Encodes};
-ghost use Rattle.tlbox_c.specs.Serving.{AddsAt, Hands, OpensAt, ServesAt};
+ghost use Rattle.tlbox_c.specs.Serving.{AddsAt, ComparesAt, Hands, ListsAt, OpensAt, ServesAt};
 
 use crate::handle::Handle;
-use crate::serving::{add_type, decode, encode, hand, opened};
-use crate::telling::CLOSED;
+use crate::serving::{add_type, check, decode, encode, hand, opened};
+use crate::telling::{CLOSED, hand_made};
 use std::alloc::Global;
-use tl_codec::Codec;
+use tl_codec::{Codec, layers};
 
 /// The version of this interface.
 pub const VERSION: u32 = 1;
@@ -47,6 +47,22 @@ pub extern "C" fn tlbox_type(
         return CLOSED;
     };
     let status = add_type(alloc, &mut held, name, number);
+    hand(&held, out, len);
+    let _old = h.exchange(alloc, Some(held));
+    status
+}
+
+/// Lists the declarations of the schema. Status 0, 5, or 100.
+#[unsafe(no_mangle)]
+pub extern "C" fn tlbox_check(alloc: Global, h: &mut Handle, out: &mut [u8], len: &mut usize) -> u32
+    ensures lists { ListsAt result h.old.held h.new.held }
+    ensures hands { Hands h.new.held out.old out.new len.new }
+{
+    let Some(mut held) = h.exchange(alloc, None) else {
+        *len = 0;
+        return CLOSED;
+    };
+    let status = check(alloc, &mut held);
     hand(&held, out, len);
     let _old = h.exchange(alloc, Some(held));
     status
@@ -96,6 +112,21 @@ pub extern "C" fn tlbox_encode(
     hand(&held, out, len);
     let _old = h.exchange(alloc, Some(held));
     status
+}
+
+/// Compares two schemas, whose texts these are, by a type of the old one. Status 0, 1 with the line of the refusal, or 5.
+#[unsafe(no_mangle)]
+pub extern "C" fn tlbox_layers(
+    alloc: Global,
+    old: &[u8],
+    new: &[u8],
+    of: &[u8],
+    out: &mut [u8],
+    len: &mut usize,
+) -> u32
+    ensures { ComparesAt old.now new.now of.now result out.old out.new len.new }
+{
+    hand_made(layers(alloc, old, new, of), out, len)
 }
 
 /// Hands out the last bytes again, for a caller that had no room for them.

@@ -1,7 +1,7 @@
 //! The calls of an open handle.
 ghost use Rattle.std.specs.Prelude.{◌≡◌, length, option_map};
 ghost use Rattle.tl_codec.specs.Codings.{Decodes, Encodes};
-ghost use Rattle.tlbox_c.specs.Serving.{AddsTo, Boxes, Opened, Serves};
+ghost use Rattle.tlbox_c.specs.Serving.{AddsTo, Boxes, Lists, Opened, Serves};
 ghost use Rattle.tlbox_c.specs.Telling.{Fills};
 
 use crate::held::Held;
@@ -50,6 +50,22 @@ pub fn add_type(alloc: Global, held: &mut Held, name: &[u8], number: &mut u32) -
 {
     let made = held.codec.add_type(alloc, name);
     keep_number(alloc, made, number, &mut held.last)
+}
+
+/// Lists the declarations of the schema.
+pub fn check(alloc: Global, held: &mut Held) -> u32
+    ensures { Lists result held.old held.new }
+{
+    match held.codec.check(alloc) {
+        Ok(text) => {
+            held.last = text;
+            DONE
+        }
+        Err(_) => {
+            held.last = Vec::new(alloc);
+            MEMORY
+        }
+    }
 }
 
 /// Decodes bytes to a line of JSON.

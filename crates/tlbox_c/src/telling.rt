@@ -1,6 +1,6 @@
 //! What was made, told by a status and bytes.
 ghost use Rattle.std.specs.Prelude.{◌≡◌, length};
-ghost use Rattle.tlbox_c.specs.Telling.{Fills, Tells, TellsFault, TellsNumber};
+ghost use Rattle.tlbox_c.specs.Telling.{Fills, HandsMade, Tells, TellsFault, TellsNumber};
 
 use command_base::Unmade;
 use std::alloc::Global;
@@ -72,5 +72,25 @@ pub fn copy_out(bytes: &[u8], out: &mut [u8], len: &mut usize)
     *len = bytes.len();
     if bytes.len() <= out.len() {
         out[..bytes.len()].copy_from_slice(bytes);
+    }
+}
+
+/// Hands out what was made, or the line of a refusal; nothing, where there was no memory.
+pub fn hand_made(made: Result<Vec<u8>, Unmade>, out: &mut [u8], len: &mut usize) -> u32
+    ensures { HandsMade made result out.old out.new len.new }
+{
+    match made {
+        Ok(bytes) => {
+            copy_out(&bytes, out, len);
+            DONE
+        }
+        Err(Unmade::Refused(line)) => {
+            copy_out(&line, out, len);
+            REFUSED
+        }
+        Err(_) => {
+            *len = 0;
+            MEMORY
+        }
     }
 }

@@ -34,7 +34,7 @@ from typing import Any, Dict, Optional, Tuple, Union
 from ._calls import Calls, CalledLibrary, CalledProgram, find
 from ._values import Values
 
-__all__ = ["Refused", "Schema", "has_library"]
+__all__ = ["Refused", "Schema", "has_library", "layers"]
 
 Text = Union[str, bytes, bytearray, memoryview]
 
@@ -89,6 +89,11 @@ class Schema:
         with open(path, "rb") as file:
             return cls(file.read())
 
+    def check(self) -> str:
+        """The list of the schema's declarations that `tlbox check` writes: a line for each, with its number and its name, and how many there are."""
+        with self._lock:
+            return self._open().check().decode()
+
     def decode(self, of: str, data: Text) -> Any:
         """The Python value of the value of type `of` that all of the bytes spell. Raises Refused."""
         line = self.decode_json(of, data)
@@ -138,6 +143,18 @@ class Schema:
         if self._values is None:
             self._values = Values(self._text)
         return self._values
+
+
+def layers(old: Text, new: Text, of: str) -> int:
+    """How many declarations the type `of` of the schema `old` reaches, where the schema `new` reads the bytes that it had, as docs/LAYERS.md has it. Else
+    raises Refused, which tells what breaks first: `what` is "layers", and `place` the index of the declaration in `old`.
+
+    >>> layers("point#00000001 x:int y:int = Point;", "point#00000001 x:int = Point;", "Point")
+    Traceback (most recent call last):
+    tlbox.Refused: tlbox: layers decl 0 FieldGone 1
+    """
+    line = find().layers(_bytes(old), _bytes(new), of.encode("utf-8", "surrogatepass"), _refuse)
+    return int(line.split()[1])
 
 
 def has_library() -> bool:
