@@ -1,0 +1,5 @@
+pub mod Sending
+pub mod Conversing
+pub mod Leaving
+pub mod States
+pub mod ClientLaws
