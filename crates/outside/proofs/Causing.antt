@@ -129,7 +129,7 @@ told_status line status t a h = h.goes.1
 pub cause_tell : (line : List ℕ) (status : Status) (t u : List Event) (given : Status) → Explains status t → Tells line status u given → Explains given (t ++ u)
 cause_tell line status t u given has h = explains_first given t u (subst (λ (s : Status). Explains s t) (sym (told_status line status u given h)) has)
 
-unwritten : (out : Out) (bytes : List ℕ) (t : List Event) → Writes out bytes t false → Happened (IsFailure (out_kind out)) t
+pub unwritten : (out : Out) (bytes : List ℕ) (t : List Event) → Writes out bytes t false → Happened (IsFailure (out_kind out)) t
 unwritten out bytes t h = subst (Happened (IsFailure (out_kind out))) (sym h.2.events) (happened_last (IsFailure (out_kind out)) (map (put out) h.2.pieces) (write_failed out ∷ []) (inl refl))
 
 cause_output : (a : Answer) → Explains a.status [] → (ok : Bool) (t u : List Event) (status : Status) → Writes outs.Output a.output t ok → after_output a ok u status → Explains status (t ++ u)
@@ -150,7 +150,7 @@ some_none : {A : Type 0} {x : A} → Some x ≡ None → ⊥
 some_none is = subst IsThis is tt
 
 -- a file that can't be read
-broken_read : (slot : Slot) (count : ℕ) (t : List Event) (taken : TakenView) → Takes slot count t taken → text_of taken ≡ None → Happened (IsFailure (slot_kind slot)) t
+pub broken_read : (slot : Slot) (count : ℕ) (t : List Event) (taken : TakenView) → Takes slot count t taken → text_of taken ≡ None → Happened (IsFailure (slot_kind slot)) t
 broken_read slot count t (full bytes) h is = absurd (some_none is)
 broken_read slot count t (short bytes) h is = absurd (some_none is)
 broken_read slot count t broken h is = subst (Happened (IsFailure (slot_kind slot))) (sym h.1.events) (happened_last (IsFailure (slot_kind slot)) (map (took slot) h.1.pieces) (read_failed slot ∷ []) (inl refl))

@@ -65,16 +65,19 @@ did_then S W p q r a None g h =
       holds = record { rest = m.rest; answer = m.answer; whole = record { first = g.trace; rest = h.trace ++ m.rest; between = a; splits = append_assoc g.trace h.trace m.rest; does = g.holds; goes = m.whole } };
     }
 
--- a step that can be: what it is from a start with nothing
-pub did_stop : {A B : Type 0} (S : Step A) (W : A → Step B) (p q : HostState) → ((a : A) → Begins (W a) []) → Did S p q None → Did (Then S W) p q None
-did_stop S W p q can g =
+-- what follows of a step can be, whatever it answered
+pub did_stop_by : {A B : Type 0} (S : Step A) (W : A → Step B) (p q : HostState) → ((t : List Event) (a : A) → S t a → Begins (W a) []) → Did S p q None → Did (Then S W) p q None
+did_stop_by S W p q can g =
     let m = g.holds in
-    let n = can m.answer in
+    let n = can (g.trace ++ m.rest) m.answer m.whole in
     record {
       trace = g.trace;
       grew = g.grew;
       holds = record { rest = m.rest ++ n.rest; answer = n.answer; whole = record { first = g.trace ++ m.rest; rest = n.rest; between = m.answer; splits = sym (append_assoc g.trace m.rest n.rest); does = m.whole; goes = n.whole } };
     }
+
+pub did_stop : {A B : Type 0} (S : Step A) (W : A → Step B) (p q : HostState) → ((a : A) → Begins (W a) []) → Did S p q None → Did (Then S W) p q None
+did_stop S W p q can = did_stop_by S W p q (λ t a h. can a)
 
 pub can_end : {A : Type 0} (x : A) → Begins (Ends x) []
 can_end x = record { rest = []; answer = x; whole = (refl, refl) }

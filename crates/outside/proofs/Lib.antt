@@ -3,3 +3,4 @@ pub mod Piecewise
 pub mod Running
 pub mod Printed
 pub mod Causing
+pub mod TakenPackets

@@ -1,7 +1,8 @@
 -- Laws of what is taken and put by pieces.
-use Rattle.std.proofs.Common.{◌≡◌, ℕ, ◌+◌, ◌-◌, ◌<◌, ◌≤◌, List, [], ◌∷◌, ◌++◌, length, map, take, drop, true, false, Some, None, Result, refl, sym, ap, ◌∙◌, subst, arith, take-add, length-drop, length-take-le, inl, inr}
-use Rattle.std.proofs.lemmas.List.{append-nil, append_assoc, map_push, take-append-drop, take-append-le, take_all}
+use Rattle.std.proofs.Common.{◌≡◌, ℕ, zero, suc, ◌+◌, ◌-◌, ◌<◌, ◌≤◌, List, [], ◌∷◌, ◌++◌, length, map, take, drop, get_or, true, false, Some, None, Result, refl, sym, ap, ◌∙◌, subst, arith, take-add, length-drop, length-take-le, inl, inr}
+use Rattle.std.proofs.lemmas.List.{append-nil, append_assoc, map_push, take-append-drop, take-append-le, take_all, get_or-take, get_or_past, length-take}
 use Rattle.std.proofs.lemmas.Bool.{cases_lt}
+use Rattle.tl_numbers.specs.Bytes.{AreBytes}
 use Rattle.tl_base.specs.declared.host.Slot.{Slot}
 use Rattle.tl_base.specs.declared.host.Out.{Out}
 use Rattle.outside.specs.Events.{Event, HostState, opened, took, ended, read_failed, put, write_failed, given_event, read_event, read_events, write_event, write_events}
@@ -40,6 +41,22 @@ pub write_grew : {E : Type 0} (out : Out) (piece : List ℕ) (r : Result ℕ E) 
 write_grew out [] r b c lt h = absurd (omega (arith, lt))
 write_grew out (x ∷ piece) r b c lt h = h
 
+-- ---- bytes
+
+pub are_both : (xs ys : List ℕ) → AreBytes xs → AreBytes ys → AreBytes (xs ++ ys)
+are_both [] ys a b k = b k
+are_both (x ∷ xs) ys a b zero = a zero
+are_both (x ∷ xs) ys a b (suc k) = are_both xs ys (λ j. a (suc j)) b k
+
+pub are_first : (n : ℕ) (xs : List ℕ) → AreBytes xs → AreBytes (take n xs)
+are_first n xs are k = elim (cases_lt k n) [
+  | inl lt ↦ omega (arith, get_or-take n xs k 0 lt, are k)
+  | inr past ↦ omega (arith, get_or_past (take n xs) k 0 (omega (arith, length-take n xs, past)))
+]
+
+pub are_none : AreBytes []
+are_none k = omega arith
+
 -- ---- taking
 
 given_some : (slot : Slot) (bytes : List ℕ) → 0 < length bytes → given_event slot bytes ≡ took slot bytes
@@ -52,28 +69,28 @@ took_more slot a b c text into rest after n g lt le is h =
     grows_call a b c _ _ (took slot (take n into)) (λ t q. more_pieces (took slot) text (take n into) t q) g
     (subst (λ (e : Event). Grew b (e ∷ []) c) (given_some slot (take n into) (omega (arith, lt, length-take-le n into le))) h))
 
-pub took_all : (slot : Slot) (count : ℕ) (a b : HostState) (text : List ℕ) → Grows a b (InPieces (took slot) text []) → length text ≡ count → Did (Takes slot count) a b (Some (full text))
-took_all slot count a b text g is = record { trace = g.trace; grew = g.grew; holds = (g.holds, is) }
+pub took_all : (slot : Slot) (count : ℕ) (a b : HostState) (text : List ℕ) → Grows a b (InPieces (took slot) text []) → length text ≡ count → AreBytes text → Did (Takes slot count) a b (Some (full text))
+took_all slot count a b text g is are = record { trace = g.trace; grew = g.grew; holds = (g.holds, is, are) }
 
-pub took_short : (slot : Slot) (count : ℕ) (a b c : HostState) (text into : List ℕ) (n : ℕ) → Grows a b (InPieces (took slot) text []) → length text < count → n ≡ 0 → Grew b (given_event slot (take n into) ∷ []) c → Did (Takes slot count) a c (Some (short text))
-took_short slot count a b c text into n g lt none h = did_grow (Takes slot count) a c (short text) (grows_call a b c _ _ (ended slot) (λ t q. (last_piece (took slot) text (ended slot) t q, lt)) g
+pub took_short : (slot : Slot) (count : ℕ) (a b c : HostState) (text into : List ℕ) (n : ℕ) → Grows a b (InPieces (took slot) text []) → length text < count → AreBytes text → n ≡ 0 → Grew b (given_event slot (take n into) ∷ []) c → Did (Takes slot count) a c (Some (short text))
+took_short slot count a b c text into n g lt are none h = did_grow (Takes slot count) a c (short text) (grows_call a b c _ _ (ended slot) (λ t q. (last_piece (took slot) text (ended slot) t q, lt, are)) g
     (subst (λ (k : ℕ). Grew b (given_event slot (take k into) ∷ []) c) none h))
 
 pub took_broken : (slot : Slot) (count : ℕ) (a b c : HostState) (text : List ℕ) → Grows a b (InPieces (took slot) text []) → length text < count → Grew b (read_failed slot ∷ []) c → Did (Takes slot count) a c (Some broken)
 took_broken slot count a b c text g lt h = did_grow (Takes slot count) a c (broken) (grows_call a b c _ _ (read_failed slot) (λ t q. (text, last_piece (took slot) text (read_failed slot) t q, lt)) g h)
 
-begins_taking : (slot : Slot) (count : ℕ) (text : List ℕ) (t : List Event) → length text ≤ count → InPieces (took slot) text [] t → Begins (Takes slot count) t
-begins_taking slot count text t le q =
+begins_taking : (slot : Slot) (count : ℕ) (text : List ℕ) (t : List Event) → length text ≤ count → AreBytes text → InPieces (took slot) text [] t → Begins (Takes slot count) t
+begins_taking slot count text t le are q =
     elim (cases_lt (length text) count) [
       | inl lt ↦ record { rest = read_failed slot ∷ []; answer = broken; whole = (text, last_piece (took slot) text (read_failed slot) t q, lt) }
-      | inr ge ↦ record { rest = []; answer = full text; whole = (subst (InPieces (took slot) text []) (sym (append-nil t)) q, omega (arith, le, ge)) }
+      | inr ge ↦ record { rest = []; answer = full text; whole = (subst (InPieces (took slot) text []) (sym (append-nil t)) q, omega (arith, le, ge), are) }
     ]
 
-pub took_part : (slot : Slot) (count : ℕ) (a b : HostState) (text : List ℕ) → Grows a b (InPieces (took slot) text []) → length text ≤ count → Did (Takes slot count) a b None
-took_part slot count a b text g le = record { trace = g.trace; grew = g.grew; holds = begins_taking slot count text g.trace le g.holds }
+pub took_part : (slot : Slot) (count : ℕ) (a b : HostState) (text : List ℕ) → Grows a b (InPieces (took slot) text []) → length text ≤ count → AreBytes text → Did (Takes slot count) a b None
+took_part slot count a b text g le are = record { trace = g.trace; grew = g.grew; holds = begins_taking slot count text g.trace le are g.holds }
 
 pub can_take : (slot : Slot) (count : ℕ) → Begins (Takes slot count) []
-can_take slot count = begins_taking slot count [] [] (omega arith) (no_pieces (took slot) [])
+can_take slot count = begins_taking slot count [] [] (omega arith) are_none (no_pieces (took slot) [])
 
 -- a file may be missing
 pub can_read_file : (slot : Slot) (name : List ℕ) (limit : ℕ) → Begins (ReadsFile slot name limit) []

@@ -3,6 +3,7 @@ pub mod Grown
 pub mod Unseen
 pub mod Steps
 pub mod Pieces
+pub mod Packets
 pub mod Printing
 pub mod Runs
 pub mod Laws

@@ -1,6 +1,7 @@
 -- What is taken from a slot and put to an out, whatever the pieces are. This project's own.
 use Rattle.std.specs.Prelude.{◌≡◌, ℕ, ◌+◌, ◌<◌, List, [], ◌∷◌, ◌++◌, length, map, Bool, true, false, Option, Some, None, Result, Ok, Err}
 use Rattle.std.specs.declared.vec.Vec.{Vec}
+use Rattle.tl_numbers.specs.Bytes.{AreBytes}
 use Rattle.outside.specs.Events.{Event, opened, took, ended, read_failed, put, write_failed}
 use Rattle.outside.specs.Steps.{Step, Then, Calls, Ends}
 use Rattle.tl_base.specs.declared.host.Slot.{Slot}
@@ -27,8 +28,8 @@ pub data TakenView : Type 0 where
 
 -- so many bytes are taken, and nothing is read past them
 abbrev pub Takes : Slot → ℕ → Step TakenView
-Takes slot count t (full bytes) = InPieces (took slot) bytes [] t × (length bytes ≡ count)
-Takes slot count t (short bytes) = InPieces (took slot) bytes (ended slot ∷ []) t × (length bytes < count)
+Takes slot count t (full bytes) = InPieces (took slot) bytes [] t × (length bytes ≡ count) × AreBytes bytes
+Takes slot count t (short bytes) = InPieces (took slot) bytes (ended slot ∷ []) t × (length bytes < count) × AreBytes bytes
 Takes slot count t broken = (bytes : List ℕ) × InPieces (took slot) bytes (read_failed slot ∷ []) t × (length bytes < count)
 
 -- the bytes are put; or a prefix of them, and a write failed

@@ -3,6 +3,7 @@
 
 mod ending;
 mod host;
+mod packets;
 mod pieces;
 mod printing;
 mod reading;
@@ -10,6 +11,7 @@ mod untold;
 
 pub use ending::finish;
 pub use host::Host;
+pub use packets::{Packet, take_packet};
 pub use pieces::{Taken, take_bytes, tell, write_out};
 pub use printing::{print, print_made};
 pub use reading::read_file;

@@ -1,4 +1,5 @@
 use Rattle.std.proofs.Common.{◌≡◌, ◌-◌, ◌≤◌, [], length, vec_len}
+use Rattle.tl_numbers.specs.Bytes.{AreBytes}
 use Rattle.outside.specs.Events.{took}
 use Rattle.outside.specs.Steps.{Grows}
 use Rattle.outside.specs.Pieces.{InPieces}
@@ -10,6 +11,7 @@ invariant-loop-slot g l =
     record {
       few : vec_len l.text ≤ l.count;
       room : length l.piece ≡ 4096;
+      are : AreBytes l.text.items;
       taken : Grows (s.state l.fn.host) (s.state l.host) (InPieces (took l.slot) l.text.items []);
     }
 
