@@ -3,3 +3,5 @@ pub mod Conversing
 pub mod Leaving
 pub mod States
 pub mod ClientLaws
+pub mod Posting
+pub mod PostLaws

@@ -3,22 +3,25 @@ ghost use Rattle.std.specs.Prelude.{codes, ◌≤◌, length};
 ghost use Rattle.outside.specs.Runs.{Ran, answered};
 ghost use Rattle.outside.specs.Steps.{Did};
 ghost use Rattle.tl_schema.specs.CheckedPrograms.{IsSchema};
+ghost use Rattle.tl_schema.specs.Types.{call};
+ghost use Rattle.schema_files.specs.Parts.{ReadsJson};
 ghost use Rattle.wire_profile.specs.Profiles.{IsProfile};
 ghost use Rattle.box_events.specs.declared.limits.TheConstants.{MAX_FRAME_BYTES};
 ghost use Rattle.codec_rooms.specs.Typed.{OfText as OfSchemaText};
 ghost use Rattle.update_rooms.specs.Profile.{OfProfile};
 ghost use Rattle.session_rooms.specs.Post.{CallsOver, OfInputFile, OfText, TellsBody, after_connect, after_sending, posts};
-ghost use Rattle.session_rooms.specs.inner.Sent.{MakesCall};
+ghost use Rattle.session_rooms.specs.inner.Sent.{MakesCall, TellsNoPacket};
 
 use crate::sending::send_packet;
 use command_base::{Status, Stop, Unmade};
 use fault_lines::{packet_stop, profile_of};
 use outside::{Host, Packet, finish, print, print_made, read_file, take_packet, tell};
-use schema_files::{JSON_BYTES, SCHEMA_BYTES, formed_value, schema_of};
+use schema_files::{JSON_BYTES, SCHEMA_BYTES, fit_unmade, formed_value, schema_of};
 use session_commands::{Sending, call_of, reply_line};
 use std::alloc::{AllocError, Global};
 use tl_base::{Bytes, PacketFault, Slot};
 use tl_schema::{Schema, TypeRef};
+use tl_types::{Value, fits};
 use wire_profile::Profile;
 
 /// Sends the call that an input's JSON is to an address, and writes its reply's JSON.
@@ -127,8 +130,20 @@ fn sending_of(alloc: Global, profile: &Profile, text: &[u8]) -> Result<Sending, 
     requires sound { IsProfile profile.now }
     ensures { MakesCall profile.now text.now result }
 {
-    let value = formed_value(alloc, profile.schema(), &TypeRef::Call, text)?;
+    let value = json_value(alloc, profile, text)?;
     call_of(alloc, profile, &value)
+}
+
+// The value of a call that a text is the JSON of.
+fn json_value(alloc: Global, profile: &Profile, text: &[u8]) -> Result<Value, Unmade>
+    ensures { ReadsJson profile.now.schema call text.now result }
+{
+    let schema = profile.schema();
+    let value = formed_value(alloc, schema, &TypeRef::Call, text)?;
+    match fits(alloc, schema, &TypeRef::Call, &value) {
+        Ok(()) => Ok(value),
+        Err(fault) => Err(fit_unmade(alloc, &fault)),
+    }
 }
 
 // What follows of a call.
@@ -184,5 +199,37 @@ fn take_reply<H: Host>(
         }
         Packet::Ended { had } => tell_packet(alloc, host, PacketFault::Ended { had }),
         Packet::Broken => Ok(tell(host, b"tlbox: link fault\n", Status::LinkFault)),
+    }
+}
+
+// Tells what is made of the bytes of a packet that came.
+fn tell_reply<H: Host>(
+    alloc: Global,
+    host: &mut H,
+    profile: &Profile,
+    number: u32,
+    body: Vec<u8>,
+) -> Result<Status, AllocError>
+    requires sound { IsProfile profile.now }
+    ensures { Did (TellsBody profile.now number body.items) (H.state host.old) (H.state host.new) (answered result) }
+{
+    match reply_line(alloc, profile, number, Bytes::from_vec(body)) {
+        Ok(line) => Ok(print(host, &line)),
+        Err(Stop::Peer(line)) => Ok(tell(host, &line, Status::PeerFault)),
+        Err(_) => Err(AllocError),
+    }
+}
+
+// Tells why what came begins with no packet.
+fn tell_packet<H: Host>(
+    alloc: Global,
+    host: &mut H,
+    fault: PacketFault,
+) -> Result<Status, AllocError>
+    ensures { TellsNoPacket fault (H.state host.old) (H.state host.new) (answered result) }
+{
+    match packet_stop(alloc, fault) {
+        Stop::Peer(line) => Ok(tell(host, &line, Status::PeerFault)),
+        _ => Err(AllocError),
     }
 }
