@@ -17,7 +17,7 @@ use Rattle.call_commands.proofs.Framed.{begins_packet}
 use Rattle.call_commands.proofs.Framed as framed
 use Rattle.call_commands.proofs.OnePacket.{comes}
 use Rattle.call_commands.proofs.OnePacket as packets
-use Rattle.call_commands.proofs.OneFile.{content_bytes, left_bytes, one_file, sent_so}
+use Rattle.call_commands.proofs.OneFile.{content_bytes, left_bytes, one_file, open_so}
 
 -- a packet's content is empty or has a word
 has_word : (n : ℕ) → IsPacketLength n → (n ≡ 0) ⊎ (4 ≤ n)
@@ -30,7 +30,7 @@ no_length : (held : List ℕ) → length held ≡ 0 → held ≡ []
 no_length [] none = refl
 no_length (b ∷ held) none = absurd (omega (arith, none))
 
-empty_or_word : (held : List ℕ) → IsPacketLength (length held) → (held ≡ []) ⊎ (4 ≤ length held)
+pub empty_or_word : (held : List ℕ) → IsPacketLength (length held) → (held ≡ []) ⊎ (4 ≤ length held)
 empty_or_word held fits = elim (has_word (length held) fits) [ inl none ↦ inl (no_length held none) | inr some ↦ inr some ]
 
 shorter : (left held rest : List ℕ) → left ≡ packet held ++ rest → length rest < length left
@@ -65,7 +65,7 @@ module _ (schema : Declared) (good : IsSchema schema) (file : List ℕ) (are : A
     | inl far ↦ refusal past at left lines began at _ (too_long held rest fits is far refl refl)
     | inr within ↦
         let here : HasPacket at left held rest = record { length_fits = fits; there = is; within = within } in
-        elim (comes schema good past (sent_so schema good file are past at left lines began) held (content_bytes at left held rest here (left_bytes schema good file are past at left lines began)) at (empty_or_word held fits)) [
+        elim (comes schema good past (open_so schema good file are past at left lines began) held (content_bytes at left held rest here (left_bytes schema good file are past at left lines began)) at (empty_or_word held fits)) [
           | packets.told e line tells ↦ begins_so lines line (further held rest e line here tells)
           | packets.not_told place why refused ↦ refusal past at left lines began place why (content held rest here refused)
         ]

@@ -21,9 +21,8 @@ use Rattle.command_base.proofs.Loaded.{refuses_as}
 use Rattle.command_base.proofs.Views.{told_as}
 use Rattle.schema_files.specs.Lines.{input_line}
 use Rattle.call_commands.specs.CallReports.{PacketRefused, bad_length, ended, too_long}
-use Rattle.call_commands.specs.Answering.{Comes, NextPacket, ReadsInput, SaysRefused}
+use Rattle.call_commands.specs.Answering.{Comes, NextPacket, ReadsInput, SaysRefused, TellsUnpacked, counted_line}
 use Rattle.call_commands.specs.declared.limits.TheConstants.{MAX_PACKET_END}
-use Rattle.call_commands.specs.inner.Tellings.{TellsUnpacked, counted_line}
 
 -- a packet's length and its content
 pub packet_long : (content : List ℕ) → length (packet content) ≡ 4 + length content

@@ -10,7 +10,7 @@ use Rattle.tl_types.specs.Values.{ValueView}
 use Rattle.tl_types.proofs.Numbers.{bytes_after, bytes_before}
 use Rattle.std.proofs.lemmas.List.{take_at}
 use Rattle.tl_calls.specs.Results.{HasResult}
-use Rattle.tl_calls.specs.Events.{Logged, Log, call_in}
+use Rattle.tl_calls.specs.Events.{Logged, Log, IsOpen}
 use Rattle.tl_calls.specs.Laws.{AreProper, IsProper, events_of}
 use Rattle.tl_calls.proofs.OneLog.{call_proper}
 use Rattle.command_base.specs.Answer.{Answer, done, refused_after}
@@ -81,9 +81,9 @@ module _ (schema : Declared) (good : IsSchema schema) (file : List ℕ) (are : A
   proper past at left lines (one_more before p mid shown held rest e line began here tells) =
       (event_proper before held e line (content_bytes p mid held rest here (left_bytes before p mid shown began)) tells, proper before p mid shown began)
 
-  -- each call that was sent is answered in its result
-  pub sent_so : (past : Log) (at : ℕ) (left lines : List ℕ) → Began schema file past at left lines → (n : ℕ) (c : ValueView) → call_in past n ≡ Some c → HasResult schema c
-  sent_so past at left lines began n c is = call_proper schema past (proper past at left lines began) n c is
+  -- each call that is open is answered in its result
+  pub open_so : (past : Log) (at : ℕ) (left lines : List ℕ) → Began schema file past at left lines → (n : ℕ) (c : ValueView) → IsOpen past n c → HasResult schema c
+  open_so past at left lines began n c here = call_proper schema past (proper past at left lines began) n c here.sent
 
   -- ---- packets told in one way
 
@@ -95,7 +95,7 @@ module _ (schema : Declared) (good : IsSchema schema) (file : List ℕ) (are : A
   next_once past at left lines began a b r s e f line more here tells there says =
       let same = one_packet left a b r s here.length_fits there.length_fits here.there there.there in
       let bytes = content_bytes at left a r here (left_bytes past at left lines began) in
-      let one = one_told schema good past (sent_so past at left lines began) a bytes e f line more tells (subst (λ (z : List ℕ). Tells schema past z f more) (sym same.0) says) in
+      let one = one_told schema good past (open_so past at left lines began) a bytes e f line more tells (subst (λ (z : List ℕ). Tells schema past z f more) (sym same.0) says) in
       (same.0, same.1, one.0, one.1)
 
   runs_once : (past log : Log) (at q : ℕ) (left rest lines more : List ℕ) → Began schema file past at left lines → Began schema file log q rest more → length past ≡ length log → Same past log at q left rest lines more
@@ -161,7 +161,7 @@ module _ (schema : Declared) (good : IsSchema schema) (file : List ℕ) (are : A
   never_goes past at left lines began place why (content held rest here r) g =
       let same = one_packet left held g.held rest g.rest here.length_fits g.here.length_fits here.there g.here.there in
       let bytes = content_bytes at left held rest here (left_bytes past at left lines began) in
-      never_told schema good past (sent_so past at left lines began) held bytes at g.event g.line place why (subst (λ (z : List ℕ). Tells schema past z g.event g.line) (sym same.0) g.tells) r
+      never_told schema good past (open_so past at left lines began) held bytes at g.event g.line place why (subst (λ (z : List ℕ). Tells schema past z g.event g.line) (sym same.0) g.tells) r
 
   no_bytes : (at : ℕ) (left held rest : List ℕ) → left ≡ [] → left ≡ packet held ++ rest → ⊥
   no_bytes at left held rest empty is = some_bytes left (held ++ rest) (length held) (is ∙ append_assoc (word (length held)) held rest) empty
@@ -208,7 +208,7 @@ module _ (schema : Declared) (good : IsSchema schema) (file : List ℕ) (are : A
   one_fault past at left lines began place other why more (content a r found refused) (content b s here also) =
       let same = one_packet left a b r s found.length_fits here.length_fits found.there here.there in
       let bytes = content_bytes at left a r found (left_bytes past at left lines began) in
-      one_refusal schema good past (sent_so past at left lines began) a bytes at place other why more refused (subst (λ (z : List ℕ). ContentRefused schema past at z other more) (sym same.0) also)
+      one_refusal schema good past (open_so past at left lines began) a bytes at place other why more refused (subst (λ (z : List ℕ). ContentRefused schema past at z other more) (sym same.0) also)
 
   ends_once : (past : Log) (at : ℕ) (left lines : List ℕ) (a b : Answer) → Began schema file past at left lines → Ends schema past at left lines a → Ends schema past at left lines b → a ≡ b
   ends_once past at left lines a b began (at_end empty is) (at_end also at_b) = is ∙ sym at_b

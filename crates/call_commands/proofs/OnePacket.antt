@@ -53,7 +53,7 @@ no_word content b n none is = omega (arith, ap length (sym none ∙ is), length-
 one_word : (content b d : List ℕ) (m n : ℕ) → m < 2 ^ 32 → n < 2 ^ 32 → content ≡ word m ++ b → content ≡ word n ++ d → (m ≡ n) × (b ≡ d)
 one_word content b d m n few also is at = same_number m n b d few also (sym is ∙ at)
 
-module _ (schema : Declared) (good : IsSchema schema) (past : Log) (proper : (n : ℕ) (c : ValueView) → call_in past n ≡ Some c → HasResult schema c) (content : List ℕ) (are : AreBytes content) where
+module _ (schema : Declared) (good : IsSchema schema) (past : Log) (proper : (n : ℕ) (c : ValueView) → IsOpen past n c → HasResult schema c) (content : List ℕ) (are : AreBytes content) where
   -- ---- values
 
   call_one : (b : List ℕ) → content ≡ word 0 ++ b → ExactlyOne schema MAX_LEVELS type.call b
@@ -61,7 +61,7 @@ module _ (schema : Declared) (good : IsSchema schema) (past : Log) (proper : (n 
 
   answer_one : (n : ℕ) (b : List ℕ) (c : ValueView) → content ≡ word n ++ b → IsOpen past n c → ExactlyOne schema MAX_LEVELS (result_type schema.decls c) b
   answer_one n b c is here =
-      exactly_one schema good MAX_LEVELS (result_type schema.decls c) b (answered_in_formed results_are_formed schema good c (proper n c here.sent)) (bytes_after content (word n) b is are)
+      exactly_one schema good MAX_LEVELS (result_type schema.decls c) b (answered_in_formed results_are_formed schema good c (proper n c here)) (bytes_after content (word n) b is are)
 
   -- ---- one class
 

@@ -1,5 +1,5 @@
 -- What the parts of `calls` answer, and what they do to the outside. This project's own.
-use Rattle.std.specs.Prelude.{◌≡◌, ◌⊎◌, ℕ, ◌+◌, ◌≤◌, List, [], ◌∷◌, ◌++◌, length, Bool, true, false, Option, Some, None, Result, Ok, Err, Vec, IsTrue, IsSome, IfSome}
+use Rattle.std.specs.Prelude.{◌≡◌, ◌⊎◌, ℕ, ◌+◌, ◌<◌, ◌≤◌, ◌^◌, List, [], ◌∷◌, ◌++◌, length, Bool, true, false, Option, Some, None, Result, Ok, Err, Vec, IsTrue, IsSome, IfSome, codes, decimal}
 use Rattle.std.specs.declared.alloc.Global.{Global}
 use Rattle.tl_base.specs.Causes.{Rose}
 use Rattle.tl_base.specs.Hosted.{OnlySlot}
@@ -8,6 +8,7 @@ use Rattle.tl_base.specs.Packets.{packet, IsPacketLength, ReadsPacket}
 use Rattle.tl_base.specs.declared.host.Slot.TheVariants.{Input}
 use Rattle.tl_base.specs.declared.host.Out.TheVariants.{Output}
 use Rattle.tl_base.specs.declared.packet.PacketFault.{PacketFault}
+use Rattle.tl_base.specs.declared.packet.PacketFault.TheVariants as packet_fault
 use Rattle.tl_schema.specs.Types.{Shape}
 use Rattle.tl_schema.specs.Schemas.{Declared}
 use Rattle.tl_schema.specs.Seen.{shape}
@@ -22,7 +23,7 @@ use Rattle.command_base.specs.declared.stop.Unmade.{Unmade}
 use Rattle.command_base.specs.declared.stop.Unmade.TheVariants as unmade
 use Rattle.command_base.specs.Jobs.{Job, unlinked_job}
 use Rattle.command_base.specs.Kept.{KeepsRest}
-use Rattle.command_base.specs.Loading.{Refuses}
+use Rattle.command_base.specs.Loading.{Refuses, RefusesAs}
 use Rattle.schema_files.specs.Lines.{input_line}
 use Rattle.call_commands.specs.declared.limits.TheConstants.{MAX_PACKET_END}
 use Rattle.call_commands.specs.CallReports.{HasPacket, Tells, ContentRefused, PacketRefused, Next}
@@ -48,6 +49,19 @@ SaysRefused Refused line = (place : ℕ) × (why : List ℕ) × Refused place wh
 abbrev pub TellsPacket : Declared → CallsView → CallsView → ℕ → List ℕ → Result (Vec ℕ Global) Unmade → Type 0
 TellsPacket schema old new at content (Ok line) = (past : Log) → StandsFor schema old past → (e : Logged) × Tells schema past content e line.items × StandsFor schema new (e ∷ past)
 TellsPacket schema old new at content (Err fault) = Refuses (λ line. (past : Log) → StandsFor schema old past → SaysRefused (ContentRefused schema past at content) line) fault
+
+-- ---- bytes that are no packet
+
+-- a refusal of the packet at this offset, for a cause with a number
+abbrev pub counted_line : ℕ → List ℕ → ℕ → List ℕ
+counted_line at cause n = input_line at (cause ++ (codes " " ++ decimal n))
+
+-- what is at this offset is no packet; a length is a word
+abbrev pub TellsUnpacked : ℕ → PacketFault → Unmade → Type 0
+TellsUnpacked at (packet_fault.BadLength n) u = (n < 2 ^ 32) × RefusesAs (counted_line at (codes "BadLength") n) u
+TellsUnpacked at (packet_fault.Ended had) u = RefusesAs (counted_line at (codes "Ended") had) u
+TellsUnpacked at packet_fault.ReadFault u = u ≡ unmade.ReadFault
+TellsUnpacked at packet_fault.Memory u = u ≡ unmade.Memory
 
 -- ---- the next packet is read
 

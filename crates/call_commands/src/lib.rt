@@ -14,3 +14,5 @@ mod words;
 pub use calls::tell_calls;
 pub use laws::{each_file_has_one_answer, each_log_is_given, files_have_one_answer};
 pub use limits::MAX_PACKET_END;
+pub use packets::tell_packet;
+pub use refusals::unpacked;

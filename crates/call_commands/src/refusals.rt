@@ -2,7 +2,8 @@
 ghost use Rattle.std.specs.Prelude.{◌<◌, ◌+◌, ◌^◌};
 ghost use Rattle.command_base.specs.Loading.{RefusesAs};
 ghost use Rattle.schema_files.specs.Lines.{cause_text, input_line};
-ghost use Rattle.call_commands.specs.inner.Tellings.{TellsUnpacked, TellsUnread, TellsUnsent, counted_line, offset_in};
+ghost use Rattle.call_commands.specs.Answering.{TellsUnpacked, counted_line};
+ghost use Rattle.call_commands.specs.inner.Tellings.{TellsUnread, TellsUnsent, offset_in};
 
 use crate::lines::result_cause_name;
 use command_base::Unmade;

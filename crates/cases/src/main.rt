@@ -2,6 +2,7 @@
 #![tactic(auto)]
 
 use box_store::MemKeeper;
+use call_rooms::run_calls;
 use case_files::{BadLine, Case, Ending, TracedHost, entries_text, read_cases, shown_run};
 use codec_rooms::{run_check, run_decode, run_encode, run_layers};
 use commands::{keep_in, run, run_stored};
@@ -88,6 +89,9 @@ fn status_in_order(
         return None;
     }
     match words {
+        [command, schema, input] if command.as_str() == "calls" => {
+            Some(run_calls(alloc, host, schema.as_str(), input.as_str()).code())
+        }
         [command, schema] if command.as_str() == "check" => {
             Some(run_check(alloc, host, schema.as_str()).code())
         }

@@ -1,5 +1,5 @@
 -- Laws of packets that are taken.
-use Rattle.std.proofs.Common.{◌≡◌, ◌⊎◌, ℕ, zero, suc, ◌+◌, ◌%◌, ◌<◌, List, [], ◌∷◌, ◌++◌, length, Option, Some, None, Ok, Vec, Global, refl, sym, ap, ◌∙◌, subst, inl, inr, arith}
+use Rattle.std.proofs.Common.{◌≡◌, ◌⊎◌, ℕ, zero, suc, ◌+◌, ◌%◌, ◌<◌, List, [], ◌∷◌, ◌++◌, length, Option, Some, None, Vec, Global, true≢false, refl, sym, ap, ◌∙◌, subst, inl, inr, arith}
 use Rattle.std.specs.Prelude.{◌↔◌, Bool, true, false, IsTrue}
 use Rattle.std.proofs.lemmas.Bool.{cases_eq, cases_lt}
 use Rattle.tl_numbers.specs.Bytes.{AreBytes}
@@ -23,11 +23,6 @@ use Rattle.outside.proofs.Growing.{can_end, can_then, did_nothing, did_stop, did
 use Rattle.outside.proofs.Piecewise.{are_none, can_take, no_pieces}
 
 -- ---- what was taken
-
-abbrev bytes_of : TakenView → List ℕ
-bytes_of (full bytes) = bytes
-bytes_of (short bytes) = bytes
-bytes_of broken = []
 
 full_is : (t : Taken) (bytes : Vec ℕ Global) → t ≡ taken.Full bytes → taken_view t ≡ full bytes.items
 full_is t bytes is = ap taken_view is
@@ -54,10 +49,10 @@ length_decided n = elim (cases_eq (n % 4) 0) [
 
 -- as the test of a length says
 pub length_fits : (is : Bool) (n : ℕ) → (IsTrue is ↔ IsPacketLength n) → is ≡ true → IsPacketLength n
-length_fits is n both yes = both.0 (subst IsTrue (sym yes) tt)
+length_fits is n both yes = both.0 yes
 
 pub length_misfits : (is : Bool) (n : ℕ) → (IsTrue is ↔ IsPacketLength n) → is ≡ false → IsPacketLength n → ⊥
-length_misfits is n both no fits = subst IsTrue no (both.1 fits)
+length_misfits is n both no fits = true≢false (sym (both.1 fits) ∙ no)
 
 module _ (slot : Slot) where
   can_length : (n : ℕ) → Begins (AfterLength slot n) []
@@ -110,7 +105,7 @@ module _ (slot : Slot) where
 
   -- ---- a whole packet
 
-  IsWhole : List ℕ → Type 0
+  abbrev IsWhole : List ℕ → Type 0
   IsWhole content = IsPacketLength (length content) × AreBytes content
 
   cut_whole : (n : ℕ) (content : List ℕ) → whole content ≡ cut_off n → ⊥

@@ -73,11 +73,7 @@ fn take_content<H: Host>(
 }
 
 /// Takes the next packet of a slot, and nothing past it. After a length that no packet has nothing more is read.
-pub fn take_packet<H: Host>(
-    alloc: Global,
-    host: &mut H,
-    slot: Slot,
-) -> Result<Packet, AllocError>
+pub fn take_packet<H: Host>(alloc: Global, host: &mut H, slot: Slot) -> Result<Packet, AllocError>
     ensures { Did (TakesPacket slot) (H.state host.old) (H.state host.new) (packet_by result) }
 {
     match take_bytes(alloc, host, slot, 4)? {

@@ -1,7 +1,5 @@
--- The line that each fault of a packet is told by; out of memory has none. This project's own.
-use Rattle.std.specs.Prelude.{◌≡◌, ℕ, ◌+◌, ◌<◌, ◌^◌, List, ◌++◌, codes, decimal}
-use Rattle.tl_base.specs.declared.packet.PacketFault.{PacketFault}
-use Rattle.tl_base.specs.declared.packet.PacketFault.TheVariants as packet
+-- The line that each fault of a packet's bytes is told by; out of memory has none. This project's own.
+use Rattle.std.specs.Prelude.{◌≡◌, ℕ, ◌+◌, List, ◌++◌, codes, decimal}
 use Rattle.tl_calls.specs.declared.fault.AnswerFault.{AnswerFault}
 use Rattle.tl_calls.specs.declared.fault.AnswerFault.TheVariants as answer
 use Rattle.tl_calls.specs.declared.fault.SendFault.{SendFault}
@@ -18,18 +16,7 @@ use Rattle.call_commands.specs.CallReports.{result_cause_name}
 abbrev pub numbered_line : List ℕ → ℕ → List ℕ → List ℕ
 numbered_line what n line = (((what ++ codes " ") ++ decimal n) ++ codes " ") ++ line
 
--- a refusal of the packet at this offset, for a cause with a number
-abbrev pub counted_line : ℕ → List ℕ → ℕ → List ℕ
-counted_line at cause n = input_line at (cause ++ (codes " " ++ decimal n))
-
 -- ---- faults
-
--- what is at this offset is no packet; a length is a word
-abbrev pub TellsUnpacked : ℕ → PacketFault → Unmade → Type 0
-TellsUnpacked at (packet.BadLength n) u = (n < 2 ^ 32) × RefusesAs (counted_line at (codes "BadLength") n) u
-TellsUnpacked at (packet.Ended had) u = RefusesAs (counted_line at (codes "Ended") had) u
-TellsUnpacked at packet.ReadFault u = u ≡ unmade.ReadFault
-TellsUnpacked at packet.Memory u = u ≡ unmade.Memory
 
 -- the offset at which bytes are refused
 abbrev pub offset_in : AnswerFault → ℕ
