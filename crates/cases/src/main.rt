@@ -5,12 +5,13 @@ use box_store::MemKeeper;
 use call_rooms::run_calls;
 use case_files::{BadLine, Case, Ending, TracedHost, entries_text, read_cases, shown_run};
 use codec_rooms::{run_check, run_decode, run_encode, run_layers};
-use commands::{keep_in, run, run_stored};
+use commands::{Range, keep_in, number_in, run, run_stored};
 use outside::Untold;
 use std::alloc::{AllocError, Global};
 use std::process::ExitCode;
 use std::{env, fs, io};
 use tl_base::{MemHost, Out};
+use update_rooms::{run_make, run_replay};
 
 /// How many runs there were, and how many of them ended otherwise than wanted.
 #[derive(Clone, Copy)]
@@ -78,6 +79,46 @@ fn ending_of(alloc: Global, case: &Case) -> Result<Ending, AllocError> {
     ending_over(alloc, status, &host, kept)
 }
 
+// The status of `make` by the room that is written as what happens in order, where its words are numbers of the row.
+fn made_in_order(
+    alloc: Global,
+    host: &mut Untold<TracedHost<MemHost>>,
+    schema: &str,
+    number: &str,
+    steps: &str,
+) -> Option<u8> {
+    let numbers = Range {
+        digits: 10,
+        least: 0,
+        most: 9_999_999_999,
+    };
+    let counts = Range {
+        digits: 10,
+        least: 1,
+        most: 100_000,
+    };
+    let number = number_in(numbers, number)?;
+    let steps = number_in(counts, steps)?;
+    Some(run_make(alloc, host, schema, number, steps as u32).code())
+}
+
+// Likewise of `replay`.
+fn replayed_in_order(
+    alloc: Global,
+    host: &mut Untold<TracedHost<MemHost>>,
+    schema: &str,
+    journal: &str,
+    clients: &str,
+) -> Option<u8> {
+    let counts = Range {
+        digits: 10,
+        least: 1,
+        most: 16,
+    };
+    let clients = number_in(counts, clients)?;
+    Some(run_replay(alloc, host, schema, journal, clients as u32).code())
+}
+
 // The status of a run by the room that is written as what happens in order, of the commands that have one.
 fn status_in_order(
     alloc: Global,
@@ -106,6 +147,24 @@ fn status_in_order(
         [command, old, new, of] if command.as_str() == "layers" => {
             let status = run_layers(alloc, host, old.as_str(), new.as_str(), of.as_str());
             Some(status.code())
+        }
+        [command, schema, number, steps] if command.as_str() == "make" => {
+            made_in_order(
+                alloc,
+                host,
+                schema.as_str(),
+                number.as_str(),
+                steps.as_str(),
+            )
+        }
+        [command, schema, journal, clients] if command.as_str() == "replay" => {
+            replayed_in_order(
+                alloc,
+                host,
+                schema.as_str(),
+                journal.as_str(),
+                clients.as_str(),
+            )
         }
         _ => None,
     }

@@ -31,7 +31,7 @@ module _ (number count : ℕ) where
   run_told (Err (PoolFull at bytes)) is m = (refused (full_line at bytes), too_full at bytes m refl)
   run_told (Err Memory) is m = absurd is
 
-  each_run : (a : Answer) × OfMadeRun number count a
+  pub each_run : (a : Answer) × OfMadeRun number count a
   each_run = let made = each_is_made number count in run_told made.0 made.1 made.2
 
   -- ---- files

@@ -32,20 +32,11 @@ use Rattle.update_replay.specs.declared.fault.ReplayFault.{ReplayFault}
 use Rattle.update_replay.specs.declared.fault.ReplayFault.TheVariants as replay
 use Rattle.update_replay.proofs.ReplayPrefixes.{stopped_first}
 use Rattle.update_commands.specs.Replay.{OfJournal, ending_answer, journal_job, long_line}
-use Rattle.update_commands.specs.Replaying.{JournalFits, RefusesWith, TellsReplay, WritesReplay, ended}
+use Rattle.update_commands.specs.Replaying.{JournalFits, RefusesWith, TellsReplay, WritesReplay, ended, stop_line}
 use Rattle.update_commands.specs.Steps.{unmade_line}
 use Rattle.update_commands.proofs.OneReplay.{answered, each_journal, output_is}
 
 -- ---- endings as they are told
-
--- the line of a replay's refusal
-abbrev pub line_of : ReplayFault → Option (List ℕ)
-line_of (replay.Wire at fault) = step_line at fault
-line_of (replay.Step at fault) = unmade_line at fault
-line_of (replay.TooLong at) = Some (long_line at)
-line_of replay.ReadFault = None
-line_of replay.WriteFault = None
-line_of replay.Memory = None
 
 abbrev err : ReplayFault → Result ℕ ReplayFault
 err f = Err f
@@ -63,11 +54,11 @@ cause_told output at (wrong_end n) line tells = ap (option_map (refused_after ou
 cause_told output at (pool_full n) line tells = ap (option_map (refused_after output)) tells
 
 -- what is refused with this line is answered with it
-fault_told : (output : List ℕ) (ending : Ending) (f : ReplayFault) (line : List ℕ) → Err f ≡ answer_of ending → line_of f ≡ Some line → ending_answer output ending ≡ Some (refused_after output line)
+pub fault_told : (output : List ℕ) (ending : Ending) (f : ReplayFault) (line : List ℕ) → Err f ≡ answer_of ending → stop_line f ≡ Some line → ending_answer output ending ≡ Some (refused_after output line)
 fault_told output (whole k) f line is tells = no_fault f k is
-fault_told output (no_step at fault) f line is tells = ap (option_map (refused_after output)) (ap line_of (sym (same_fault f (replay.Wire at fault) is)) ∙ tells)
-fault_told output (not_made at cause) f line is tells = cause_told output at cause line (ap line_of (sym (same_fault f (replay.Step at (fault_of cause)) is)) ∙ tells)
-fault_told output (too_long at) f line is tells = ap (option_map (refused_after output)) (ap line_of (sym (same_fault f (replay.TooLong at) is)) ∙ tells)
+fault_told output (no_step at fault) f line is tells = ap (option_map (refused_after output)) (ap stop_line (sym (same_fault f (replay.Wire at fault) is)) ∙ tells)
+fault_told output (not_made at cause) f line is tells = cause_told output at cause line (ap stop_line (sym (same_fault f (replay.Step at (fault_of cause)) is)) ∙ tells)
+fault_told output (too_long at) f line is tells = ap (option_map (refused_after output)) (ap stop_line (sym (same_fault f (replay.TooLong at) is)) ∙ tells)
 
 whole_told : (output : List ℕ) (ending : Ending) (k : ℕ) → Ok k ≡ answer_of ending → ending_answer output ending ≡ Some (done output)
 whole_told output (whole j) k is = refl

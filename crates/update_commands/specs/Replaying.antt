@@ -1,5 +1,5 @@
 -- What the parts of `replay` answer, and what they do to the outside. This project's own.
-use Rattle.std.specs.Prelude.{◌≡◌, ℕ, List, ◌++◌, length, Option, Some, Result, Ok, Err}
+use Rattle.std.specs.Prelude.{◌≡◌, ℕ, List, ◌++◌, length, Option, Some, None, Result, Ok, Err}
 use Rattle.tl_base.specs.Outside.{View, HasRoom, written_of, with_written}
 use Rattle.tl_base.specs.declared.host.Out.TheVariants.{Output}
 use Rattle.box_events.specs.declared.steps.Step.{Step}
@@ -16,6 +16,15 @@ use Rattle.update_commands.specs.Replay.{long_line}
 use Rattle.update_commands.specs.Steps.{unmade_line}
 
 -- ---- stops
+
+-- the line of why a replay stopped at its journal; a fault of the outside, or of memory, has none
+abbrev pub stop_line : ReplayFault → Option (List ℕ)
+stop_line (replay.Wire at fault) = step_line at fault
+stop_line (replay.Step at fault) = unmade_line at fault
+stop_line (replay.TooLong at) = Some (long_line at)
+stop_line replay.ReadFault = None
+stop_line replay.WriteFault = None
+stop_line replay.Memory = None
 
 -- a refusal with the line; or there was no memory for it
 abbrev pub RefusesWith : Option (List ℕ) → Stop → Type 0

@@ -7,5 +7,6 @@ mod replay;
 mod steps;
 
 pub use laws::{journals_have_one_answer, made_runs_have_one_answer};
-pub use make::make_run;
+pub use make::{make_run, run_text};
 pub use replay::replay_journal;
+pub use steps::unmade_line;

@@ -29,8 +29,8 @@ fn too_full(alloc: Global, at: u32, bytes: u32) -> Unmade
     }
 }
 
-// The summary of the run, or its refusal.
-fn run_text(alloc: Global, profile: Profile, number: u64, steps: u32) -> Result<Vec<u8>, Unmade>
+/// The summary of a run of so many steps by the draws of a number, or its refusal: the schema changes nothing but that it is a profile.
+pub fn run_text(alloc: Global, profile: Profile, number: u64, steps: u32) -> Result<Vec<u8>, Unmade>
     requires some { 1 ≤ steps }
     requires few { steps ≤ MAX_MADE_STEPS }
     ensures { TellsRun number steps result }

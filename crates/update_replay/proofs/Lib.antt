@@ -31,3 +31,4 @@ pub mod WindowSteps
 pub mod NextSteps
 pub mod Writes
 pub mod ReplayEnds
+pub mod Handed

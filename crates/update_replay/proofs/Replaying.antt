@@ -44,14 +44,14 @@ not_cut true at fault e = ap (λ (b : Bool). cond b (too_long at) (no_step at fa
 no_more : (more : Bool) (at : ℕ) (fault : WireFault) → more ≡ false → no_step at fault ≡ of_refusal more at fault
 no_more more at fault e = ap (λ (b : Bool). of_refusal b at fault) (sym e)
 
-is_cut : (more : Bool) (at : ℕ) (fault : WireFault) → more ≡ true → is_cut_short fault ≡ true → too_long at ≡ of_refusal more at fault
+pub is_cut : (more : Bool) (at : ℕ) (fault : WireFault) → more ≡ true → is_cut_short fault ≡ true → too_long at ≡ of_refusal more at fault
 is_cut more at fault e f = (λ i. cond (sym f i) (too_long at) (no_step at fault)) ∙ ap (λ (b : Bool). of_refusal b at fault) (sym e)
 
 -- no byte is no step, but it may be that one was cut short
 pub empty_refused : (p : ProfileView) → StepRefused p [] (wire.Refused 0 Truncated)
 empty_refused p = no_value 0 Truncated (inl (short (omega arith) refl refl)) refl
 
-true_is : (b : Bool) → b ≡ true → IsTrue b
+pub true_is : (b : Bool) → b ≡ true → IsTrue b
 true_is true e = refl
 true_is false e = absurd cc
 

@@ -69,20 +69,20 @@ HappensIn w s r v = (x : World) → w.spoiled ≡ None → StandsFor w x → Hap
 
 module _ (w v : Shown) (count : ℕ) (s : Step) (outcome : Outcome) (happens : HappensIn w s (Ok outcome) v) (same : v.profile ≡ w.profile) (many : length v.clients ≡ length w.clients) where
   module _ (n : ℕ) (ss : List Step) (stands : StandsAfter w.profile n w ss) (number : count ≡ length ss) where
-    here : Happens w s (run n ss) (Ok outcome) v
+    pub here : Happens w s (run n ss) (Ok outcome) v
     here = happens (run n ss) stands.fine stands.stands
 
     after : StandsFor v (run n (ss ++ s ∷ []))
     after = subst (StandsFor v) (sym (runs_go_on n ss s)) here.2
 
-    lines_told : StepLines (IsSpelled w.profile) (length ss) (n_run n ss) s (outcome_lines v count outcome)
+    pub lines_told : StepLines (IsSpelled w.profile) (length ss) (n_run n ss) s (outcome_lines v count outcome)
     lines_told =
         let told : StepLines (IsSpelled v.profile) count (n_run n ss) s (outcome_lines v count (outcome_of (run n ss) s)) = steps_are_told n ss s v count after here.0 in
         let by_outcome : StepLines (IsSpelled v.profile) count (n_run n ss) s (outcome_lines v count outcome) = subst (λ (o : Outcome). StepLines (IsSpelled v.profile) count (n_run n ss) s (outcome_lines v count o)) (sym here.1) told in
         let by_profile : StepLines (IsSpelled w.profile) count (n_run n ss) s (outcome_lines v count outcome) = subst (λ (p : ProfileView). StepLines (IsSpelled p) count (n_run n ss) s (outcome_lines v count outcome)) same by_outcome in
         subst (λ (k : ℕ). StepLines (IsSpelled w.profile) k (n_run n ss) s (outcome_lines v count outcome)) number by_profile
 
-    goes_on : StandsAfter w.profile n v (ss ++ s ∷ [])
+    pub goes_on : StandsAfter w.profile n v (ss ++ s ∷ [])
     goes_on = record { profile = same; clients = many ∙ stands.clients; fine = here.3; stands = after }
 
     pub made : (at : ℕ) (a b : Option (List ℕ)) → count < MAX_STEPS → Appends a b (outcome_lines v count outcome) → Makes w.profile n ss at s v a b (Ok tt)

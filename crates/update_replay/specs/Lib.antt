@@ -16,4 +16,5 @@ pub mod MadeLaws
 pub mod Endings
 pub mod Replays
 pub mod ReplayParts
+pub mod Handing
 pub mod ReplayLaws

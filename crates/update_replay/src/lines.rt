@@ -45,7 +45,13 @@ pub fn write_end<K: Sink>(lines: &mut Vec<u8>, world: &World, to: &mut K) -> Res
     Ok(())
 }
 
-fn put_step(lines: &mut Vec<u8>, world: &World, number: u32, outcome: Outcome) -> Result<(), Memory>
+/// Puts the lines of the step of a number, after which the world is as it is: its own, and one for each packet that it sent.
+pub fn put_step(
+    lines: &mut Vec<u8>,
+    world: &World,
+    number: u32,
+    outcome: Outcome,
+) -> Result<(), Memory>
     requires { Stands world.now outcome }
     ensures { OnOk result (lines.new.items ≡ lines.old.items ++ outcome_lines world.now number outcome) }
 {
@@ -112,7 +118,8 @@ fn put_packets(lines: &mut Vec<u8>, world: &World, first: u32) -> Result<(), Mem
     Ok(())
 }
 
-fn put_end(lines: &mut Vec<u8>, world: &World) -> Result<(), Memory>
+/// Puts the closing lines: where the server is, and what each client has.
+pub fn put_end(lines: &mut Vec<u8>, world: &World) -> Result<(), Memory>
     ensures { OnOk result (lines.new.items ≡ lines.old.items ++ end_lines world.now) }
 {
     put_server(lines, world.state())?;

@@ -42,7 +42,8 @@ struct Reached {
     cut: Option<WireFault>,
 }
 
-fn is_cut_short(fault: WireFault) -> bool
+/// Whether bytes end within a step.
+pub fn is_cut_short(fault: WireFault) -> bool
     ensures { result ≡ is_cut_short fault }
 {
     matches!(
@@ -106,7 +107,8 @@ fn next_step<S: Source>(
     }
 }
 
-fn step_fault(at: u32, fault: StepFault) -> ReplayFault
+/// Why a replay stops at an offset where a step is not made.
+pub fn step_fault(at: u32, fault: StepFault) -> ReplayFault
     ensures { result ≡ of_step at fault }
 {
     match fault {

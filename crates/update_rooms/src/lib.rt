@@ -1,0 +1,10 @@
+//! The commands over journals of updates, by what happens in order: `make` and `replay`.
+#![tactic(auto)]
+
+mod laws;
+mod make;
+mod replay;
+
+pub use laws::{make_has_cause, make_touches, replay_has_cause, replay_touches};
+pub use make::{make_run, run_make};
+pub use replay::{replay_journal, run_replay};
