@@ -58,7 +58,7 @@ module _ (P : Event → Type 0) where
   throughout_pieces event each [] last end = end
   throughout_pieces event each (piece ∷ pieces) last end = (each piece, throughout_pieces event each pieces last end)
 
-  keeps_pieces : (event : List ℕ → Event) → ((bytes : List ℕ) → P (event bytes)) → (bytes : List ℕ) (last t : List Event) → Throughout P last → InPieces event bytes last t → Throughout P t
+  pub keeps_pieces : (event : List ℕ → Event) → ((bytes : List ℕ) → P (event bytes)) → (bytes : List ℕ) (last t : List Event) → Throughout P last → InPieces event bytes last t → Throughout P t
   keeps_pieces event each bytes last t end q = subst (Throughout P) (sym q.events) (throughout_pieces event each q.pieces last end)
 
   pub keeps_take : (slot : Slot) (count : ℕ) → ((bytes : List ℕ) → P (took slot bytes)) → P (ended slot) → P (read_failed slot) → Keeps P (Takes slot count)

@@ -92,7 +92,7 @@ fate_by c f None is = taken is
 fate_by c f (Some cause) is = refuses cause is
 
 -- each cause has a fault with a line
-told_fault : (cause : Cause) → (fault : ClientFault) × IsFaultOf cause fault × ((line : List ℕ) × (answer_line fault ≡ Some line))
+pub told_fault : (cause : Cause) → (fault : ClientFault) × IsFaultOf cause fault × ((line : List ℕ) × (answer_line fault ≡ Some line))
 told_fault (peer_error code) = (client.PeerError code, refl, (_, refl))
 told_fault wrong_kind = (client.WrongKind, refl, (_, refl))
 told_fault (no_list (overlaps pts)) = (client.Weave (weaving.Overlap pts), refl, (_, refl))
@@ -309,3 +309,10 @@ module _ (p : ProfileView) (good : IsProfile p) where
 pub each_client : ClientsAreAnswered
 each_client files hold given all small schema address name channels long text there =
     each_profiled (OfStateFile address name channels files given) (λ p good. each_file p good address name channels long given all small files hold there) files schema text
+
+-- a state's bytes have a client, or there is a line that says why not
+pub has_or_told : (p : ProfileView) → IsProfile p → (bytes : List ℕ) → AreBytes bytes → ((c : ClientState) × HasClient p bytes c) ⊎ ((line : List ℕ) × TellsNoClient p bytes line)
+has_or_told p good bytes are = elim (each_begin p good bytes are) as (λ z. ((c : ClientState) × HasClient p bytes c) ⊎ ((line : List ℕ) × TellsNoClient p bytes line)) [
+  | inl b ↦ inl (b.first_client, b.has)
+  | inr t ↦ inr t
+]

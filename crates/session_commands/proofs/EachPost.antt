@@ -152,7 +152,7 @@ module _ (p : ProfileView) (good : IsProfile p) where
   ]
 
   module _ (n : ℕ) where
-    each_body : (body : List ℕ) → AreBytes body → (o : Outcome) × OfBody p n body o
+    pub each_body : (body : List ℕ) → AreBytes body → (o : Outcome) × OfBody p n body o
     each_body body are = elim (each_message frames (frame_formed p good) frame_tree frame_in IsFrame frame_laws body are) [
       | inl (f, is, means) ↦ elim (reply_or_other n f) [
         | inl here ↦ (_, reply f means.v (is, means) here means.spelled refl)
@@ -206,7 +206,7 @@ module _ (p : ProfileView) (good : IsProfile p) where
       of_few few true is = of_text few (IsUtf8-from_is_utf8 input is) _ refl
       of_few few false is = of_none NoJson (few, λ utf8. absurd (true≢false (sym (is_utf8-from_IsUtf8 input utf8) ∙ is)))
 
-      each_json : (a : Answer) × OfJson p address input given a
+      pub each_json : (a : Answer) × OfJson p address input given a
       each_json = elim (cases_lt JSON_BYTES (length input)) [ inl more ↦ of_none TooLong more | inr few ↦ of_few (omega (arith, few)) _ refl ]
 
     each_input : (files : Files) → HoldBytes files → (input : List ℕ) → IsFile files input → (a : Answer) × OfInput address input files given p a

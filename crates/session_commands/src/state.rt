@@ -39,8 +39,8 @@ pub fn load_state<H: Host>(
     client_in(alloc, profile, &bytes)
 }
 
-// The client of a state's bytes.
-fn client_in(alloc: Global, profile: &Profile, bytes: &[u8]) -> Result<Client, Unmade>
+/// The client of a state's bytes, which is a new one where there are none.
+pub fn client_in(alloc: Global, profile: &Profile, bytes: &[u8]) -> Result<Client, Unmade>
     requires sound { IsProfile profile.now }
     ensures gives { Gives (HasClient profile.now) (TellsNoClient profile.now) bytes.now result }
     ensures next { IfOk result (λ client. client.next ≤ 2000000000) }

@@ -11,4 +11,5 @@ pub mod Untaken
 pub mod KeepsRoom
 pub mod KeptCalls
 pub mod ClientSteps
+pub mod Turning
 pub mod HonestFrames

@@ -8,6 +8,7 @@ pub mod Served
 pub mod Kept
 pub mod StoreEnds
 pub mod Hearing
+pub mod Turns
 pub mod Heard
 pub mod Honest
 pub mod Laws

@@ -11,6 +11,7 @@ mod receiving;
 mod serving;
 mod storing;
 
+pub use asking::{ask_all, hear_packet};
 pub use fault::{MAX_FRAMES, SessionFault};
 pub use hearing::client_session;
 pub use laws::sessions_are_kept;

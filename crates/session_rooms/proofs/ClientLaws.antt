@@ -1,0 +1,267 @@
+-- Laws of `client`.
+use Rattle.std.proofs.Common.{◌≡◌, ◌⊎◌, inl, inr, codes, ltb, ℕ, ◌+◌, ℤ, List, [], ◌∷◌, ◌++◌, Bool, true, false, Option, Some, None, Ok, Err, refl, sym, ap, ◌∙◌, subst}
+use Rattle.tl_base.specs.declared.counts.Kind.TheVariants as kinds
+use Rattle.tl_base.specs.declared.host.Slot.TheVariants as slots
+use Rattle.tl_base.specs.declared.host.Out.TheVariants as outs
+use Rattle.tl_base.specs.declared.packet.PacketFault.TheVariants.{BadLength, Ended}
+use Rattle.difference.specs.Weaves.{overlaps, uneven}
+use Rattle.box_events.specs.declared.requests.Numbered.{Numbered}
+use Rattle.box_client.specs.Replies.{Cause, no_list, peer_error, seq_back, wrong_kind}
+use Rattle.box_client.specs.States.{ClientState}
+use Rattle.box_client.specs.declared.fault.ClientFault.{ClientFault}
+use Rattle.box_wire.specs.Kinds.{frames}
+use Rattle.fault_lines.specs.Answers.{answer_line}
+use Rattle.box_client.specs.Asking.{ticks, wakes, is_one_asking}
+use Rattle.wire_profile.specs.Places.{ProfileView}
+use Rattle.command_base.specs.Answer.{done, link_fault_line, refused, write_fault_line}
+use Rattle.command_base.specs.declared.status.Status.{Status}
+use Rattle.command_base.specs.declared.status.Status.TheVariants.{LinkFault, PeerFault, ReadFault, WriteFault}
+use Rattle.outside.specs.Events.{Event, connected, created, put, write_failed}
+use Rattle.outside.specs.Laws.{Throughout, Keeps, Happened, IsFailure, Explains, HasCause}
+use Rattle.outside.specs.Packets.{PacketView, whole, TakesPacket}
+use Rattle.outside.specs.Packets as packets
+use Rattle.outside.specs.Pieces.{ReadsFile, Writes}
+use Rattle.outside.specs.Runs as runs
+use Rattle.outside.specs.Steps.{Step, Ends, Turn, again, leave, Reaches, Loops}
+use Rattle.outside.proofs.Causing.{cause_print, cause_run, cause_tell, cause_then, explains_first, explains_last, happened_first, happened_last, keeps_begun, keeps_call, keeps_end, keeps_file, keeps_loop, keeps_print, keeps_tell, keeps_then, keeps_write, throughout_both, unread_file, unwritten}
+use Rattle.outside.proofs.TakenPackets.{broken_packet, keeps_packet}
+use Rattle.codec_rooms.proofs.TypedLaws.{keeps_of_file, cause_of_file}
+use Rattle.update_rooms.specs.Profile.{OfProfile}
+use Rattle.update_rooms.proofs.ProfiledLaws.{keeps_profile, cause_profile}
+use Rattle.update_sessions.specs.declared.fault.SessionFault.{SessionFault}
+use Rattle.update_sessions.specs.declared.fault.SessionFault.TheVariants as session
+use Rattle.update_sessions.specs.declared.fault.TheConstants.{MAX_FRAMES}
+use Rattle.update_sessions.specs.Hearing.{IsFaultOf, hears}
+use Rattle.update_sessions.specs.Packed.{SpellsCall}
+use Rattle.session_commands.specs.Client.{client_line, many_channels_line}
+use Rattle.session_commands.specs.SessionEnds.{session_line}
+use Rattle.session_commands.proofs.ToldCauses.{frame_told, told_line}
+use Rattle.session_commands.specs.declared.state.TheConstants.{MAX_STATE_BYTES}
+use Rattle.session_rooms.specs.Client.{OfState, no_client, too_many, watches, OfStateFile, Recovers, after_reading, after_connect, after_session, Leaves, after_create, WritesSaved, saves, after_state, ends_by, recovers}
+use Rattle.session_rooms.specs.ClientLaws.{IsOfClient, ClientTouches, ClientHasCause}
+use Rattle.session_rooms.specs.Conversing.{Outcome, Asks, after_asking, HearsBytes, no_frame, refused as refused_frame, heard, after_packet, HearsNext, Heard, turn_of, hears_by, HearsOn, after_begin, Converses}
+use Rattle.session_rooms.specs.Sending.{Sends}
+use Rattle.session_rooms.proofs.Sending.{keeps_send, unsent}
+
+-- ---- events
+
+module _ (schema address state : List ℕ) where
+  P : Event → Type 0
+  P = IsOfClient schema address state
+
+  module _ (p : ProfileView) where
+    keeps_asked : (d : ClientState) (ok : Bool) → Keeps P (after_asking d ok)
+    keeps_asked d true = keeps_end P (Ok d)
+    keeps_asked d false = keeps_end P (Err session.LinkFault)
+
+    keeps_ask : (c : ClientState) → Keeps P (Asks p c)
+    keeps_ask c = keeps_then P _ _ (keeps_send (SpellsCall p) P (λ _. tt) tt (ticks c).asks) (keeps_asked (ticks c).client)
+
+    keeps_bytes : (c : ClientState) (bytes : List ℕ) → Keeps P (HearsBytes p c bytes)
+    keeps_bytes c bytes t r (no_frame fault h none is) = subst (Throughout P) (sym none) tt
+    keeps_bytes c bytes t r (refused_frame fault h none is) = subst (Throughout P) (sym none) tt
+    keeps_bytes c bytes t r (heard f means taken h) = keeps_ask (hears c f) t r h
+
+    keeps_after : (c : ClientState) (m : PacketView) → Keeps P (after_packet p c m)
+    keeps_after c (whole bytes) = keeps_bytes c bytes
+    keeps_after c packets.none = keeps_end P _
+    keeps_after c (packets.bad_length n) = keeps_end P _
+    keeps_after c (packets.ended had) = keeps_end P _
+    keeps_after c packets.broken = keeps_end P _
+
+    keeps_next : (c : ClientState) → Keeps P (HearsNext p c)
+    keeps_next c = keeps_then P _ _ (keeps_packet slots.Link P (λ _. tt) tt tt) (keeps_after c)
+
+    keeps_turn : (asks more : Bool) (h : Heard) → Keeps P (hears_by p asks more h)
+    keeps_turn false more (c, n) = keeps_end P _
+    keeps_turn true false (c, n) = keeps_end P _
+    keeps_turn true true (c, n) = keeps_then P _ _ (keeps_next c) (λ r. keeps_end P (turn_of n r))
+
+    keeps_hears : (h : Heard) → Keeps P (HearsOn p h)
+    keeps_hears (c, n) = keeps_turn (is_one_asking c) (ltb n MAX_FRAMES) (c, n)
+
+    keeps_begin : (r : Outcome) → Keeps P (after_begin p r)
+    keeps_begin (Ok c) = keeps_loop P (HearsOn p) keeps_hears (c, 0)
+    keeps_begin (Err fault) = keeps_end P (Err fault)
+
+    keeps_converse : (c : ClientState) → Keeps P (Converses p c)
+    keeps_converse c = keeps_then P _ _ (keeps_ask (wakes c)) keeps_begin
+
+    -- ---- what is left
+
+    keeps_written : (c : ClientState) (ok : Bool) → Keeps P (after_state c ok)
+    keeps_written c true = keeps_print P (λ _. tt) tt (λ _. tt) tt (done (client_line c))
+    keeps_written c false = keeps_tell P (λ _. tt) tt write_fault_line WriteFault
+
+    keeps_created : (c : ClientState) (ok : Bool) → Keeps P (after_create p c ok)
+    keeps_created c true t s (saves bytes framed h) = keeps_then P _ _ (keeps_write P outs.State bytes (λ _. tt) tt) (keeps_written c) t s h
+    keeps_created c false t s h = keeps_tell P (λ _. tt) tt write_fault_line WriteFault t s h
+
+    keeps_leave : (c : ClientState) → Keeps P (Leaves p state c)
+    keeps_leave c = keeps_then P _ _ (keeps_call P (created outs.State state) (λ ok. refl)) (keeps_created c)
+
+    keeps_ends : (o : Option (List ℕ)) → Keeps P (ends_by o)
+    keeps_ends (Some line) = keeps_tell P (λ _. tt) tt line PeerFault
+    keeps_ends None = keeps_tell P (λ _. tt) tt link_fault_line LinkFault
+
+    keeps_session : (r : Outcome) → Keeps P (after_session p state r)
+    keeps_session (Ok c) = keeps_leave c
+    keeps_session (Err fault) = keeps_ends (session_line fault)
+
+    keeps_connected : (c : ClientState) (ok : Bool) → Keeps P (after_connect p state c ok)
+    keeps_connected c true = keeps_then P _ _ (keeps_converse c) keeps_session
+    keeps_connected c false = keeps_tell P (λ _. tt) tt link_fault_line LinkFault
+
+    keeps_recover : (c : ClientState) → Keeps P (Recovers p address state c)
+    keeps_recover c = keeps_then P _ _ (keeps_call P (connected address) (λ ok. refl)) (keeps_connected c)
+
+    module _ (channels : List ℤ) where
+      keeps_state : (bytes : List ℕ) → Keeps P (OfState p address state channels bytes)
+      keeps_state bytes t s (no_client line told h) = keeps_print P (λ _. tt) tt (λ _. tt) tt (refused line) t s h
+      keeps_state bytes t s (too_many c has none h) = keeps_print P (λ _. tt) tt (λ _. tt) tt (refused many_channels_line) t s h
+      keeps_state bytes t s (watches c d has is h) = keeps_recover d t s h
+
+      keeps_read : (o : Option (List ℕ)) → Keeps P (after_reading p address state channels o)
+      keeps_read (Some bytes) = keeps_state bytes
+      keeps_read None = keeps_tell P (λ _. tt) tt _ _
+
+      keeps_state_file : Keeps P (OfStateFile address state channels p)
+      keeps_state_file = keeps_then P _ _ (keeps_file P slots.State state MAX_STATE_BYTES (λ ok. refl) (λ _. tt) tt tt) keeps_read
+
+  keeps_client : (channels : List ℤ) → Keeps P (recovers schema address state channels)
+  keeps_client channels =
+      let Rest = OfStateFile address state channels in
+      keeps_of_file P (λ _. tt) tt (λ _. tt) tt slots.Schema (codes "schema") (OfProfile Rest) schema (λ ok. refl) (λ _. tt) tt tt (keeps_profile Rest P (λ _. tt) tt (λ _. tt) tt (λ p. keeps_state_file p channels))
+
+pub client_touches : ClientTouches
+client_touches schema address state channels t s (runs.done h) = keeps_client schema address state channels t s h
+client_touches schema address state channels t s (runs.out_of_memory h) =
+    let P = IsOfClient schema address state in
+    subst (Throughout P) (sym h.splits)
+    (throughout_both P h.first h.rest (keeps_begun P (recovers schema address state channels) h.first (keeps_client schema address state channels) h.does.0) (keeps_tell P (λ _. tt) tt _ _ h.rest s h.goes))
+
+-- ---- causes
+
+-- a session that ended by this fault: the link failed, or the fault has a line
+abbrev IsEnded : SessionFault → List Event → Type 0
+IsEnded fault t = Happened (IsFailure kinds.Links) t ⊎ ((line : List ℕ) × (session_line fault ≡ Some line))
+
+ended_first : (fault : SessionFault) (t u : List Event) → IsEnded fault t → IsEnded fault (t ++ u)
+ended_first fault t u (inl h) = inl (happened_first (IsFailure kinds.Links) t u h)
+ended_first fault t u (inr h) = inr h
+
+ended_last : (fault : SessionFault) (t u : List Event) → IsEnded fault u → IsEnded fault (t ++ u)
+ended_last fault t u (inl h) = inl (happened_last (IsFailure kinds.Links) t u h)
+ended_last fault t u (inr h) = inr h
+
+-- of another fault, which is the same
+ended_as : (fault other : SessionFault) (t : List Event) → fault ≡ other → IsEnded other t → IsEnded fault t
+ended_as fault other t is h = subst (λ (f : SessionFault). IsEnded f t) (sym is) h
+
+same_fault : (fault other : SessionFault) → Err {T = ClientState} fault ≡ Err other → fault ≡ other
+same_fault fault other is = cc
+
+has_line : (fault : SessionFault) (t : List Event) (line : List ℕ) → session_line fault ≡ Some line → IsEnded fault t
+has_line fault t line is = inr (line, is)
+
+fault_line : (cause : Cause) (fault : ClientFault) → IsFaultOf cause fault → (line : List ℕ) × (answer_line fault ≡ Some line)
+fault_line (peer_error code) fault is = (_, ap answer_line is)
+fault_line wrong_kind fault is = (_, ap answer_line is)
+fault_line (no_list (overlaps pts)) fault is = (_, ap answer_line is)
+fault_line (no_list (uneven a b c)) fault is = (_, ap answer_line is)
+fault_line (seq_back at seq) fault is = (_, ap answer_line is)
+
+module _ (p : ProfileView) (fault : SessionFault) where
+  asked_ended : (d : ClientState) (ok : Bool) (ms : List Numbered) (t u : List Event) → Sends (SpellsCall p) ms t ok → after_asking d ok u (Err fault) → IsEnded fault (t ++ u)
+  asked_ended d true ms t u sent h = absurd (let no : Err fault ≡ Ok d = h.1 in cc)
+  asked_ended d false ms t u sent h = inl (happened_first (IsFailure kinds.Links) t u (unsent (SpellsCall p) ms t sent))
+
+  ask_ended : (c : ClientState) (t : List Event) → Asks p c t (Err fault) → IsEnded fault t
+  ask_ended c t h = subst (IsEnded fault) (sym h.splits) (asked_ended (ticks c).client h.between (ticks c).asks h.first h.rest h.does h.goes)
+
+  bytes_ended : (c : ClientState) (bytes : List ℕ) (t : List Event) → HearsBytes p c bytes t (Err fault) → IsEnded fault t
+  bytes_ended c bytes t (no_frame f refuses none is) = let line = told_line p frames frame_told (codes "peer") bytes f refuses in ended_as fault (session.Wire f) t (same_fault fault (session.Wire f) is) (has_line (session.Wire f) t line.0 line.1)
+  bytes_ended c bytes t (refused_frame f refuses none is) = let line = fault_line refuses.cause f refuses.is in ended_as fault (session.Client f) t (same_fault fault (session.Client f) is) (has_line (session.Client f) t line.0 line.1)
+  bytes_ended c bytes t (heard f means taken h) = ask_ended (hears c f) t h
+
+  packet_ended : (c : ClientState) (m : PacketView) (t u : List Event) → TakesPacket slots.Link t m → after_packet p c m u (Err fault) → IsEnded fault (t ++ u)
+  packet_ended c (whole bytes) t u taken h = ended_last fault t u (bytes_ended c bytes u h)
+  packet_ended c packets.none t u taken h = ended_as fault (session.Packet (Ended 0)) (t ++ u) (same_fault fault _ h.1) (has_line (session.Packet (Ended 0)) (t ++ u) _ refl)
+  packet_ended c (packets.bad_length n) t u taken h = ended_as fault (session.Packet (BadLength n)) (t ++ u) (same_fault fault _ h.1) (has_line (session.Packet (BadLength n)) (t ++ u) _ refl)
+  packet_ended c (packets.ended had) t u taken h = ended_as fault (session.Packet (Ended had)) (t ++ u) (same_fault fault _ h.1) (has_line (session.Packet (Ended had)) (t ++ u) _ refl)
+  packet_ended c packets.broken t u taken h = inl (happened_first (IsFailure kinds.Links) t u (broken_packet slots.Link t taken))
+
+  next_ended : (c : ClientState) (t : List Event) → HearsNext p c t (Err fault) → IsEnded fault t
+  next_ended c t h = subst (IsEnded fault) (sym h.splits) (packet_ended c h.between h.first h.rest h.does h.goes)
+
+  -- by what a turn answered
+  turned_ended : (c : ClientState) (n : ℕ) (r : Outcome) (t u : List Event) → HearsNext p c t r → leave (Err fault) ≡ turn_of n r → IsEnded fault (t ++ u)
+  turned_ended c n (Ok d) t u h is = absurd (let no : leave {S = Heard} {A = Outcome} (Err fault) ≡ again (d, n + 1) = is in cc)
+  turned_ended c n (Err f) t u h is =
+      let same : fault ≡ f = (let e : leave {S = Heard} {A = Outcome} (Err fault) ≡ leave (Err f) = is in cc) in
+      ended_first fault t u (subst (λ (x : SessionFault). HearsNext p c t (Err x) → IsEnded fault t) same (next_ended c t) h)
+
+  turn_ended : (asks more : Bool) (h : Heard) (t : List Event) → hears_by p asks more h t (leave (Err fault)) → IsEnded fault t
+  turn_ended false more (c, n) t h = absurd (let no : leave {S = Heard} {A = Outcome} (Err fault) ≡ leave (Ok c) = h.1 in cc)
+  turn_ended true false (c, n) t h = ended_as fault session.TooManyFrames t (let e : leave {S = Heard} {A = Outcome} (Err fault) ≡ leave (Err session.TooManyFrames) = h.1 in cc) (has_line session.TooManyFrames t _ refl)
+  turn_ended true true (c, n) t h = subst (IsEnded fault) (sym h.splits) (turned_ended c n h.between h.first h.rest h.does h.goes.1)
+
+  hears_ended : (h : Heard) (t : List Event) → HearsOn p h t (leave (Err fault)) → IsEnded fault t
+  hears_ended (c, n) t h = turn_ended (is_one_asking c) (ltb n MAX_FRAMES) (c, n) t h
+
+  begin_ended : (c : ClientState) (r : Outcome) (t u : List Event) → Asks p c t r → after_begin p r u (Err fault) → IsEnded fault (t ++ u)
+  begin_ended c (Ok d) t u asks h = ended_last fault t u (subst (IsEnded fault) (sym h.splits) (ended_last fault h.first h.rest (hears_ended h.between h.rest h.goes)))
+  begin_ended c (Err f) t u asks h =
+      let same : fault ≡ f = same_fault fault f h.1 in
+      ended_first fault t u (subst (λ (x : SessionFault). Asks p c t (Err x) → IsEnded fault t) same (ask_ended c t) asks)
+
+  converse_ended : (c : ClientState) (t : List Event) → Converses p c t (Err fault) → IsEnded fault t
+  converse_ended c t h = subst (IsEnded fault) (sym h.splits) (begin_ended (wakes c) h.between h.first h.rest h.does h.goes)
+
+no_line : (o : Option (List ℕ)) (line : List ℕ) → o ≡ Some line → o ≡ None → ⊥
+no_line o line is none = absurd (let no : Some line ≡ None = sym is ∙ none in cc)
+
+line_or_link : (fault : SessionFault) (t : List Event) → IsEnded fault t → session_line fault ≡ None → Happened (IsFailure kinds.Links) t
+line_or_link fault t (inl h) none = h
+line_or_link fault t (inr h) none = absurd (no_line (session_line fault) h.0 h.1 none)
+
+ends_cause : (o : Option (List ℕ)) (t u : List Event) (status : Status) → (o ≡ None → Happened (IsFailure kinds.Links) t) → ends_by o u status → Explains status (t ++ u)
+ends_cause (Some line) t u status link h = cause_tell line PeerFault t u status tt h
+ends_cause None t u status link h = cause_tell link_fault_line LinkFault t u status (link refl) h
+
+module _ (p : ProfileView) (state : List ℕ) where
+  state_cause : (c : ClientState) (bytes : List ℕ) (ok : Bool) (t u : List Event) (status : Status) → Writes outs.State bytes t ok → after_state c ok u status → Explains status (t ++ u)
+  state_cause c bytes true t u status w h = explains_last status t u (cause_print (done (client_line c)) tt u status h)
+  state_cause c bytes false t u status w h = cause_tell write_fault_line WriteFault t u status (unwritten outs.State bytes t w) h
+
+  saved_cause : (c : ClientState) → HasCause (WritesSaved p c)
+  saved_cause c t status (saves bytes framed h) = cause_then (Writes outs.State bytes) (after_state c) (state_cause c bytes) t status h
+
+  create_cause : (c : ClientState) (ok : Bool) (t u : List Event) (status : Status) → t ≡ created outs.State state ok ∷ [] → after_create p c ok u status → Explains status (t ++ u)
+  create_cause c true t u status is h = explains_last status t u (saved_cause c u status h)
+  create_cause c false t u status is h = cause_tell write_fault_line WriteFault t u status (subst (Happened (IsFailure kinds.Writes)) (sym is) (inl refl)) h
+
+  session_cause : (c : ClientState) (r : Outcome) (t u : List Event) (status : Status) → Converses p c t r → after_session p state r u status → Explains status (t ++ u)
+  session_cause c (Ok d) t u status over h = explains_last status t u (cause_then _ (after_create p d) (create_cause d) u status h)
+  session_cause c (Err fault) t u status over h = ends_cause (session_line fault) t u status (line_or_link fault t (converse_ended p fault c t over)) h
+
+  module _ (address : List ℕ) where
+    connect_cause : (c : ClientState) (ok : Bool) (t u : List Event) (status : Status) → t ≡ connected address ok ∷ [] → after_connect p state c ok u status → Explains status (t ++ u)
+    connect_cause c true t u status is h = explains_last status t u (cause_then (Converses p c) (after_session p state) (session_cause c) u status h)
+    connect_cause c false t u status is h = cause_tell link_fault_line LinkFault t u status (subst (Happened (IsFailure kinds.Links)) (sym is) (inl refl)) h
+
+    module _ (channels : List ℤ) where
+      state_bytes_cause : (bytes : List ℕ) → HasCause (OfState p address state channels bytes)
+      state_bytes_cause bytes t s (no_client line told h) = cause_print (refused line) tt t s h
+      state_bytes_cause bytes t s (too_many c has none h) = cause_print (refused many_channels_line) tt t s h
+      state_bytes_cause bytes t s (watches c d has is h) = cause_then _ (after_connect p state d) (connect_cause d) t s h
+
+      read_cause : (o : Option (List ℕ)) (t u : List Event) (status : Status) → ReadsFile slots.State state MAX_STATE_BYTES t o → after_reading p address state channels o u status → Explains status (t ++ u)
+      read_cause (Some bytes) t u status read h = explains_last status t u (state_bytes_cause bytes u status h)
+      read_cause None t u status read h = cause_tell _ ReadFault t u status (unread_file slots.State state MAX_STATE_BYTES t read) h
+
+pub client_has_cause : ClientHasCause
+client_has_cause schema address state channels =
+    let Rest = OfStateFile address state channels in
+    cause_run (recovers schema address state channels)
+    (cause_of_file slots.Schema refl (codes "schema") (OfProfile Rest) schema (cause_profile Rest (λ p. cause_then (ReadsFile slots.State state MAX_STATE_BYTES) (after_reading p address state channels) (read_cause p state address channels))))

@@ -1,0 +1,97 @@
+-- What is left of a client, and how a session's fault is told.
+use Rattle.std.proofs.Common.{◌≡◌, ℕ, List, [], ◌∷◌, Bool, true, false, Option, Some, None, Ok, Err, Vec, Global, refl, sym, ap, ◌∙◌, subst}
+use Rattle.tl_base.specs.declared.host.Out.TheVariants as outs
+use Rattle.box_client.specs.States.{ClientState}
+use Rattle.wire_profile.specs.Places.{ProfileView}
+use Rattle.command_base.specs.Answer.{done, link_fault_line, write_fault_line}
+use Rattle.command_base.specs.declared.status.Status.{Status}
+use Rattle.command_base.specs.declared.status.Status.TheVariants.{LinkFault, PeerFault, WriteFault}
+use Rattle.command_base.specs.declared.stop.Stop.TheVariants as stop
+use Rattle.outside.specs.Events.{HostState, created}
+use Rattle.outside.specs.Pieces.{Tells, Writes}
+use Rattle.outside.specs.Printing.{Prints}
+use Rattle.outside.specs.Steps.{Begins, Did, Then}
+use Rattle.outside.proofs.Growing.{did_none, did_stop, did_then}
+use Rattle.outside.proofs.Piecewise.{can_tell}
+use Rattle.codec_rooms.proofs.Typing.{did_as}
+use Rattle.update_sessions.specs.declared.fault.SessionFault.{SessionFault}
+use Rattle.update_sessions.specs.declared.fault.SessionFault.TheVariants as session
+use Rattle.session_commands.specs.SessionEnds.{TellsSession, session_line}
+use Rattle.session_commands.specs.declared.leaving.Leaving.{Leaving}
+use Rattle.session_commands.specs.inner.Recovering.{LeavesOf}
+use Rattle.session_rooms.specs.Client.{Leaves, WritesSaved, saves, after_connect, after_create, after_session, after_state, ends_by}
+use Rattle.session_rooms.specs.Conversing.{Converses, Outcome, outcome}
+use Rattle.session_rooms.specs.inner.Ends.{TellsEnd}
+
+-- State may not be created
+pub can_leave : (p : ProfileView) (name : List ℕ) (c : ClientState) → Begins (Leaves p name c) []
+can_leave p name c =
+    let m = can_tell write_fault_line WriteFault in
+    record { rest = created outs.State name false ∷ m.rest; answer = m.answer; whole = record { first = created outs.State name false ∷ []; rest = m.rest; between = false; splits = refl; does = refl; goes = m.whole } }
+
+module _ (p : ProfileView) (c : ClientState) (l : Leaving) (of : LeavesOf p c l) (q r s : HostState) where
+  saved : (ok : Bool) (status : Status) → Did (Writes outs.State l.state) q r (Some ok) → Did (after_state c ok) r s (Some status) → Did (WritesSaved p c) q s (Some status)
+  saved ok status h then_so = did_as (Then (Writes outs.State l.state) (after_state c)) (WritesSaved p c) q s (Some status) (λ t x w. saves l.state of.state w) (did_then _ (after_state c) q r s ok _ h then_so)
+
+  pub saved_and_told : (line : List ℕ) (status : Status) → line ≡ l.line.items → Did (Writes outs.State l.state) q r (Some true) → Did (Prints (done line)) r s (Some status) → Did (after_create p c true) q s (Some status)
+  saved_and_told line status is h prints = saved true status h (subst (λ (x : List ℕ). Did (Prints (done x)) r s (Some status)) (is ∙ of.line) prints)
+
+  pub saved_not : (status : Status) → Did (Writes outs.State l.state) q r (Some false) → Did (Tells write_fault_line WriteFault) r s (Some status) → Did (after_create p c true) q s (Some status)
+  saved_not status h tells = saved false status h tells
+
+-- ---- a session's fault
+
+can_end_by : (o : Option (List ℕ)) → Begins (ends_by o) []
+can_end_by (Some line) = can_tell line PeerFault
+can_end_by None = can_tell link_fault_line LinkFault
+
+-- it is the other end's, with this line
+by_peer : (o : Option (List ℕ)) (line : List ℕ) (q r : HostState) (status : Status) → o ≡ Some line → Did (Tells line PeerFault) q r (Some status) → Did (ends_by o) q r (Some status)
+by_peer o line q r status is h = subst (λ (x : Option (List ℕ)). Did (ends_by x) q r (Some status)) (sym is) h
+
+module _ (q r : HostState) (status : Status) where
+  pub peer_told : (fault : SessionFault) (line : Vec ℕ Global) (told : List ℕ) → TellsSession fault (stop.Peer line) → told ≡ line.items → Did (Tells told PeerFault) q r (Some status) → TellsEnd fault q r (Some status)
+  peer_told (session.Packet f) line told is same h = by_peer (session_line (session.Packet f)) told q r status (is ∙ ap Some (sym same)) h
+  peer_told (session.Wire f) line told is same h = by_peer (session_line (session.Wire f)) told q r status (is ∙ ap Some (sym same)) h
+  peer_told (session.Client f) line told is same h = by_peer (session_line (session.Client f)) told q r status (is ∙ ap Some (sym same)) h
+  peer_told session.TooManyFrames line told is same h = by_peer (session_line session.TooManyFrames) told q r status (is ∙ ap Some (sym same)) h
+  peer_told session.LinkFault line told is same h = absurd (let no : stop.Peer line ≡ stop.LinkFault = is in cc)
+  peer_told session.Memory line told is same h = absurd (let no : stop.Peer line ≡ stop.Memory = is in cc)
+
+  -- the link failed
+  pub link_told : (fault : SessionFault) → TellsSession fault stop.LinkFault → Did (Tells link_fault_line LinkFault) q r (Some status) → TellsEnd fault q r (Some status)
+  link_told (session.Packet f) is h = absurd is
+  link_told (session.Wire f) is h = absurd is
+  link_told (session.Client f) is h = absurd is
+  link_told session.TooManyFrames is h = absurd is
+  link_told session.LinkFault is h = h
+  link_told session.Memory is h = absurd (let no : stop.LinkFault ≡ stop.Memory = is in cc)
+
+-- there was no memory for its line
+pub none_told : (fault : SessionFault) (q : HostState) → TellsEnd fault q q None
+none_told (session.Packet f) q = did_none _ q (can_end_by (session_line (session.Packet f)))
+none_told (session.Wire f) q = did_none _ q (can_end_by (session_line (session.Wire f)))
+none_told (session.Client f) q = did_none _ q (can_end_by (session_line (session.Client f)))
+none_told session.TooManyFrames q = did_none _ q (can_end_by (session_line session.TooManyFrames))
+none_told session.LinkFault q = did_none _ q (can_end_by None)
+none_told session.Memory q = (refl, refl)
+
+-- ---- what follows of a session
+
+can_after_session : (p : ProfileView) (name : List ℕ) (r : Outcome) → Begins (after_session p name r) []
+can_after_session p name (Ok c) = can_leave p name c
+can_after_session p name (Err fault) = can_end_by (session_line fault)
+
+module _ (p : ProfileView) (name : List ℕ) (c d : ClientState) (q r s : HostState) where
+  pub left_after : (answer : Option Status) → Did (Converses p c) q r (outcome d (Ok tt)) → Did (Leaves p name d) r s answer → Did (after_connect p name c true) q s answer
+  left_after answer h l = did_then (Converses p c) (after_session p name) q r s (Ok d) answer h l
+
+  pub told_after : (fault : SessionFault) (answer : Option Status) → Did (Converses p c) q r (outcome d (Err fault)) → TellsEnd fault r s answer → Did (after_connect p name c true) q s answer
+  told_after (session.Packet f) answer h e = did_then (Converses p c) (after_session p name) q r s (Err (session.Packet f)) answer h e
+  told_after (session.Wire f) answer h e = did_then (Converses p c) (after_session p name) q r s (Err (session.Wire f)) answer h e
+  told_after (session.Client f) answer h e = did_then (Converses p c) (after_session p name) q r s (Err (session.Client f)) answer h e
+  told_after session.TooManyFrames answer h e = did_then (Converses p c) (after_session p name) q r s (Err session.TooManyFrames) answer h e
+  told_after session.LinkFault answer h e = did_then (Converses p c) (after_session p name) q r s (Err session.LinkFault) answer h e
+  told_after session.Memory answer h e =
+      subst (λ (o : Option Status). Did (after_connect p name c true) q s o) (sym e.0)
+      (subst (λ (z : HostState). Did (after_connect p name c true) q z None) (sym e.1) (did_stop (Converses p c) (after_session p name) q r (can_after_session p name) h))

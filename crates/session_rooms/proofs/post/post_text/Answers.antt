@@ -1,0 +1,15 @@
+use Rattle.std.proofs.Common.{codes}
+use Rattle.codec_rooms.proofs.Typing.{text_read, text_refused}
+use Rattle.update_rooms.specs.Profile.{OfProfile}
+use Rattle.update_rooms.proofs.Profiling.{can_profile}
+use Rattle.session_rooms.specs.Post.{OfInputFile}
+use Rattle.session_rooms.proofs.Posting.{can_input}
+use Rattle.session_rooms.proofs.post.post_text.Goals as goal
+
+pub returns-in-Ok : goal.returns-in-Ok
+returns-in-Ok g c = text_read (codes "schema") (OfProfile (OfInputFile c.args.address.now c.args.input.now)) c.args.text.now c.in-Ok.schema _ _ _ c.in-Ok.ensures c.post_schema.ensures
+
+pub returns-in-Err : goal.returns-in-Err
+returns-in-Err g c =
+    let Rest = OfInputFile c.args.address.now c.args.input.now in
+    text_refused (codes "schema") (OfProfile Rest) (λ schema good. can_profile Rest schema good (λ p sound. can_input p c.args.address.now c.args.input.now)) c.args.text.now c.in-Err.fault _ _ _ c.in-Err.ensures c.print_made.ensures

@@ -1,0 +1,25 @@
+//! Laws of what `client` and `post` do.
+ghost use Rattle.session_rooms.specs.ClientLaws.{ClientHasCause, ClientTouches};
+ghost use Rattle.session_rooms.specs.PostLaws.{PostHasCause, PostTouches};
+
+/// A run of `client` opens and reads the schema's file and the state's, makes a link to the address, reads and writes it, creates State under the state's name,
+/// and writes to Output, Errors and State. It does nothing else, also where memory runs out.
+pub fn client_touches()
+    ensures { ClientTouches }
+{}
+
+/// It ends by the status of a fault only where a call of that kind failed.
+pub fn client_has_cause()
+    ensures { ClientHasCause }
+{}
+
+/// A run of `post` opens and reads the schema's file and the input's, makes a link to the address, writes and reads it, and writes to Output and Errors. It does
+/// nothing else, also where memory runs out.
+pub fn post_touches()
+    ensures { PostTouches }
+{}
+
+/// It ends by the status of a fault only where a call of that kind failed.
+pub fn post_has_cause()
+    ensures { PostHasCause }
+{}

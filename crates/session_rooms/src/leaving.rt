@@ -1,0 +1,60 @@
+//! What is left of a client: State, and the line of where it is.
+ghost use Rattle.std.specs.Prelude.{Some, true};
+ghost use Rattle.wire_profile.specs.Places.{ProfileView};
+ghost use Rattle.box_client.specs.States.{ClientState};
+ghost use Rattle.outside.specs.Runs.{answered};
+ghost use Rattle.outside.specs.Steps.{Did};
+ghost use Rattle.session_commands.specs.inner.Recovering.{LeavesOf};
+ghost use Rattle.session_rooms.specs.Client.{Leaves, after_create};
+ghost use Rattle.session_rooms.specs.inner.Ends.{TellsEnd};
+
+use box_client::Client;
+use command_base::{Status, Stop};
+use outside::{Host, print, tell, write_out};
+use session_commands::{Leaving, leaving_of, session_stop};
+use std::alloc::{AllocError, Global};
+use tl_base::Out;
+use update_sessions::SessionFault;
+use wire_profile::Profile;
+
+/// Saves a client under a name, and writes where it is.
+pub fn leave_client<H: Host>(
+    alloc: Global,
+    host: &mut H,
+    profile: &Profile,
+    name: &str,
+    client: &Client,
+) -> Result<Status, AllocError>
+    ensures { Did (Leaves profile.now name.now client.now) (H.state host.old) (H.state host.new) (answered result) }
+{
+    let leaving = leaving_of(alloc, profile, client)?;
+    match host.create(Out::State, name) {
+        Ok(()) => Ok(write_state(host, &leaving)),
+        Err(_) => Ok(tell(host, b"tlbox: write fault\n", Status::WriteFault)),
+    }
+}
+
+// Writes State, which was created, and then the line.
+fn write_state<H: Host>(host: &mut H, leaving: &Leaving) -> Status
+    ensures { (p : ProfileView) (c : ClientState) → LeavesOf p c leaving.now → Did (after_create p c true) (H.state host.old) (H.state host.new) (Some result) }
+{
+    match write_out(host, Out::State, leaving.state.as_slice()) {
+        Ok(()) => print(host, &leaving.line),
+        Err(_) => tell(host, b"tlbox: write fault\n", Status::WriteFault),
+    }
+}
+
+/// Tells why a session ended before its time.
+pub fn tell_session<H: Host>(
+    alloc: Global,
+    host: &mut H,
+    fault: SessionFault,
+) -> Result<Status, AllocError>
+    ensures { TellsEnd fault (H.state host.old) (H.state host.new) (answered result) }
+{
+    match session_stop(alloc, fault) {
+        Stop::Peer(line) => Ok(tell(host, &line, Status::PeerFault)),
+        Stop::LinkFault => Ok(tell(host, b"tlbox: link fault\n", Status::LinkFault)),
+        _ => Err(AllocError),
+    }
+}

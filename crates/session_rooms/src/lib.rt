@@ -1,0 +1,13 @@
+//! The commands over links by what happens in order, over any host: `client` and `post`.
+#![tactic(auto)]
+
+mod client;
+mod conversing;
+mod laws;
+mod leaving;
+mod post;
+mod sending;
+
+pub use client::{recover_client, run_client};
+pub use laws::{client_has_cause, client_touches, post_has_cause, post_touches};
+pub use post::{post_call, run_post};
