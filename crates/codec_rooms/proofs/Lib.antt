@@ -1,8 +1,8 @@
 mod Listing
 mod Checking
-mod Typing
+pub mod Typing
 mod Encoding
-mod TypedLaws
+pub mod TypedLaws
 mod EncodingLaws
 mod Decoding
 mod InputTaken
