@@ -100,7 +100,7 @@ cause_refusal : (place : ℕ) (why : List ℕ) → Causes [] (Last (TellsRefusal
 cause_refusal place why = cause_last (TellsRefusal place why) (cause_print (refused (input_line place why)) tt)
 
 cause_line : (line : List ℕ) (next : SoFar) (ok : Bool) (t : List Event) → Writes Output line t ok → Causes t (after_line next ok)
-cause_line line next true t w u s h = absurd (let no : ◌≡◌ {A = Turn SoFar Status} (leave s) (again next) = h.1 in cc)
+cause_line line next true t w = λ u s h. absurd (let no : ◌≡◌ {A = Turn SoFar Status} (leave s) (again next) = h.1 in cc)
 cause_line line next false t w = cause_told write_fault_line status.WriteFault t (unwritten Output line t w)
 
 cause_whole : (D : Declared) (s : SoFar) (content : List ℕ) → Causes [] (OfPacket D s content)
@@ -113,10 +113,10 @@ cause_done t s h = subst (λ (x : Status). Explains x t) (sym h.1) tt
 
 module _ (D : Declared) where
   cause_after : (s : SoFar) (v : PacketView) (t : List Event) → TakesPacket Input t v → Causes t (after_packet D s v)
-  cause_after s (taken.whole content) t takes u x h = explains_last x t u (cause_whole D s content u x h)
-  cause_after s taken.none t takes u x h = explains_last x t u (cause_last (Ends status.Done) cause_done u x h)
-  cause_after s (taken.bad_length n) t takes u x h = explains_last x t u (cause_refusal s.at _ u x h)
-  cause_after s (taken.ended had) t takes u x h = explains_last x t u (cause_refusal s.at _ u x h)
+  cause_after s (taken.whole content) t takes = λ u x h. explains_last x t u (cause_whole D s content u x h)
+  cause_after s taken.none t takes = λ u x h. explains_last x t u (cause_last (Ends status.Done) cause_done u x h)
+  cause_after s (taken.bad_length n) t takes = λ u x h. explains_last x t u (cause_refusal s.at _ u x h)
+  cause_after s (taken.ended had) t takes = λ u x h. explains_last x t u (cause_refusal s.at _ u x h)
   cause_after s taken.broken t takes = cause_told _ status.ReadFault t (broken_packet Input t takes)
 
   cause_next : (s : SoFar) (t : List Event) (x : Status) → TellsNext D s t (leave x) → Explains x t

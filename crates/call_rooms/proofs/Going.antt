@@ -13,6 +13,7 @@ use Rattle.tl_calls.specs.Events.{IsOpen, Log}
 use Rattle.tl_calls.specs.Results.{HasResult}
 use Rattle.tl_calls.proofs.Answers.{has_result}
 use Rattle.tl_calls.proofs.Stands.{open_found}
+use Rattle.command_base.specs.Answer.{refused}
 use Rattle.command_base.specs.declared.status.Status.{Status}
 use Rattle.command_base.specs.declared.status.Status.TheVariants.{Done}
 use Rattle.outside.specs.Events.{Event, HostState, ended, opened}
@@ -25,6 +26,7 @@ use Rattle.outside.proofs.Growing.{Leaves, can_end, can_then, did_nothing, did_s
 use Rattle.outside.proofs.Piecewise.{can_tell, can_write}
 use Rattle.outside.proofs.Printed.{can_print}
 use Rattle.outside.proofs.TakenPackets.{none_taken, whole_packet}
+use Rattle.schema_files.specs.Lines.{input_line}
 use Rattle.call_commands.specs.declared.limits.TheConstants.{MAX_PACKET_END}
 use Rattle.call_commands.proofs.EachFile.{empty_or_word}
 use Rattle.call_commands.proofs.OnePacket.{comes}
@@ -44,7 +46,7 @@ pub can_last : (S : Step Status) → Begins S [] → Begins (Last S) []
 can_last S m = can_then S ends_by m (λ status. can_end (leave status))
 
 pub can_refuse : (place : ℕ) (why : List ℕ) → Begins (Last (TellsRefusal place why)) []
-can_refuse place why = can_last (TellsRefusal place why) (can_print _)
+can_refuse place why = can_last (TellsRefusal place why) (can_print (refused (input_line place why)))
 
 -- ---- a packet
 
@@ -64,7 +66,7 @@ module _ (schema : Declared) (good : IsSchema schema) (s : SoFar) (results : (n 
       | packets.told e line tells ↦
           let next = so_far (e ∷ s.past) (end_of s content) in
           begun_as (Then (Writes Output line) (after_line next)) (OfPacket schema s content) (λ t x h. told within e line tells h) (can_then _ _ (can_write Output line) (can_line next))
-      | packets.not_told place why refused ↦ begun_as (Last (TellsRefusal place why)) (OfPacket schema s content) (λ t x h. no_packet within place why refused h) (can_refuse place why)
+      | packets.not_told place why r ↦ begun_as (Last (TellsRefusal place why)) (OfPacket schema s content) (λ t x h. no_packet within place why r h) (can_refuse place why)
     ]
   ]
 

@@ -18,23 +18,23 @@ tell_next-requires-clause-few g c = omega (arith, c.packets.invariant.few, c.pac
 pub packets-preserved : goal.packets-preserved
 packets-preserved g c =
     let i = c.packets.invariant in
-    let on = subst (GoesOn c.packets.at c.packets.calls c.tell_next.new.calls) c.in-Next.is c.in_ok-tell_next.ensures.on in
+    let on = subst (GoesOn c.packets.at c.packets.calls c.tell_next.new.calls) c.in-Next.is c.in_ok-end.ensures.on in
     record {
       within = on.1;
       few = omega (arith, on.0, on.2, i.few);
-      fitting = c.in_ok-tell_next.ensures.fitting;
-      so = one_reached c.args.schema.now c.packets.calls c.tell_next.new.calls c.packets.at _ _ _ i.so c.in_ok-tell_next.field-0 c.in-Next.end c.in-Next.is c.in_ok-tell_next.ensures.does;
+      fitting = c.in_ok-end.ensures.fitting;
+      so = one_reached c.args.schema.now c.packets.calls c.tell_next.new.calls c.packets.at _ _ _ i.so c.in_ok-end.field-0 c.in-Next.end c.in-Next.is c.in_ok-end.ensures.does;
     }
 
 pub packets-smaller : goal.packets-smaller
 packets-smaller g c =
-    let on = subst (GoesOn c.packets.at c.packets.calls c.tell_next.new.calls) c.in-Next.is c.in_ok-tell_next.ensures.on in
+    let on = subst (GoesOn c.packets.at c.packets.calls c.tell_next.new.calls) c.in-Next.is c.in_ok-end.ensures.on in
     omega (arith, on.0, on.1)
 
-pub returns-in_err-tell_next : goal.returns-in_err-tell_next
-returns-in_err-tell_next g c =
+pub returns-in_err-end : goal.returns-in_err-end
+returns-in_err-end g c =
     let p = err_from_is_err_and c.from_residual.result c.from_residual.ensures.1 in
-    rw p.1 (run_stopped c.args.schema.now c.packets.calls c.tell_next.new.calls c.packets.at _ _ _ c.packets.invariant.so c.in_err-tell_next.field-0.0 c.in_err-tell_next.ensures.does)
+    rw p.1 (run_stopped c.args.schema.now c.packets.calls c.tell_next.new.calls c.packets.at _ _ _ c.packets.invariant.so c.in_err-end.field-0.0 c.in_err-end.ensures.does)
 
 pub returns-in-Last : goal.returns-in-Last
-returns-in-Last g c = run_left c.args.schema.now c.packets.calls c.tell_next.new.calls c.packets.at _ _ _ c.packets.invariant.so c.in_ok-tell_next.field-0 c.in-Last.status c.in-Last.is c.in_ok-tell_next.ensures.does
+returns-in-Last g c = run_left c.args.schema.now c.packets.calls c.tell_next.new.calls c.packets.at _ _ _ c.packets.invariant.so c.in_ok-end.field-0 c.in-Last.status c.in-Last.is c.in_ok-end.ensures.does
