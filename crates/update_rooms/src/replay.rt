@@ -83,7 +83,7 @@ fn replay_text<H: Host>(
 ) -> Result<Status, AllocError>
     requires some { 1 ≤ clients }
     requires few { clients ≤ 16 }
-    requires sound { IsProfile profile.entry }
+    requires sound { IsProfile profile }
     requires bytes { AreBytes text.items }
     ensures { Did (Answers (OfJournal profile.entry clients text.items)) (H.state host.old) (H.state host.new) (answered result) }
 {
@@ -101,7 +101,7 @@ fn replay_file<H: Host>(
 ) -> Result<Status, AllocError>
     requires some { 1 ≤ clients }
     requires few { clients ≤ 16 }
-    requires sound { IsProfile profile.entry }
+    requires sound { IsProfile profile }
     ensures { Did (replays_by journal.now clients profile.entry) (H.state host.old) (H.state host.new) (answered result) }
 {
     match read_file(alloc, host, Slot::Input, journal, MAX_JOURNAL_BYTES)? {

@@ -24,13 +24,13 @@ returns-then-not-more g c =
     let w = c.steps.invariant.writing in
     ends P N r.journal c.steps.replay _ _ w c.next.new.self _ c.lines.result.now _ (rw c.if-not-more.true at (c.in-Ok.ensures P N r.journal w.steps w.output w.made)) c.lines.ensures c.print.ensures
 
-pub returns-in-Err-2 : goal.returns-in-Err-2
-returns-in-Err-2 g c =
+pub returns-in-Err-write_out : goal.returns-in-Err-write_out
+returns-in-Err-write_out g c =
     let r = c.args.replay.now in
     let P = r.world.profile in
     let N = length r.world.clients in
     let w = c.steps.invariant.writing in
-    write_failed P c.requires.sound N r.journal c.requires.bytes c.steps.replay _ _ w c.next.new.self _ _ c.lines.result.now _ (rw c.if-not-more.false at (c.in-Ok.ensures P N r.journal w.steps w.output w.made)) c.lines.ensures c.in-Err-2.ensures c.tell.ensures
+    write_failed P c.requires.sound N r.journal c.requires.bytes c.steps.replay _ _ w c.next.new.self _ _ c.lines-in-steps.result.now _ (rw c.if-not-more.false at (c.in-Ok.ensures P N r.journal w.steps w.output w.made)) c.lines-in-steps.ensures c.in-Err-write_out.ensures c.tell.ensures
 
 pub steps-preserved : goal.steps-preserved
 steps-preserved g c =
@@ -38,7 +38,7 @@ steps-preserved g c =
     let P = r.world.profile in
     let N = length r.world.clients in
     let w = c.steps.invariant.writing in
-    record { writing = writes_more P N r.journal c.steps.replay _ _ w c.next.new.self _ c.lines.result.now (rw c.if-not-more.false at (c.in-Ok.ensures P N r.journal w.steps w.output w.made)) c.lines.ensures c.in-Ok-2.ensures }
+    record { writing = writes_more P N r.journal c.steps.replay _ _ w c.next.new.self _ c.lines-in-steps.result.now (rw c.if-not-more.false at (c.in-Ok.ensures P N r.journal w.steps w.output w.made)) c.lines-in-steps.ensures c.in-Ok-write_out.ensures }
 
 pub steps-smaller : goal.steps-smaller
 steps-smaller g c =
