@@ -1,3 +1,3 @@
 pub mod Calls
-pub mod CallsLaws
+pub mod Commands
 pub mod inner

@@ -3,8 +3,8 @@ pub mod Typing
 mod Encoding
 pub mod TypedLaws
 mod RefusedLonger
-mod FileLaws
-mod TypedFiles
+pub mod FileLaws
+pub mod TypedFiles
 mod EncodingLaws
 mod Decoding
 mod InputTaken

@@ -6,12 +6,13 @@ use Rattle.command_base.specs.Answer.{Answer, refused_after}
 use Rattle.command_base.specs.declared.status.Status.{Status}
 use Rattle.command_base.specs.declared.status.Status.TheVariants.{ReadFault}
 use Rattle.outside.specs.Events.{Event}
-use Rattle.outside.specs.Laws.{Throughout, Keeps, Explains, HasCause}
+use Rattle.outside.specs.Laws.{Keeps, Explains, HasCause}
 use Rattle.outside.specs.Pieces.{ReadsFile}
-use Rattle.outside.specs.Runs as runs
-use Rattle.outside.proofs.Causing.{keeps_answer, keeps_begun, keeps_file, keeps_tell, keeps_then, throughout_both, cause_answer, cause_run, cause_tell, cause_then, explains_last, unread_file}
-use Rattle.codec_rooms.specs.EncodeLaws.{IsOfEncode}
-use Rattle.codec_rooms.proofs.TypedLaws.{keeps_of_file, cause_of_file}
+use Rattle.outside.specs.Runs.{Runs}
+use Rattle.outside.proofs.Causing.{keeps_answer, keeps_file, keeps_tell, keeps_then, cause_answer, cause_run, cause_tell, cause_then, explains_last, unread_file}
+use Rattle.codec_rooms.specs.Laws.{Named, IsOf, IsUsed, ReadsFiles, Touches}
+use Rattle.codec_rooms.proofs.FileLaws.{reads_files, touches}
+use Rattle.codec_rooms.proofs.TypedLaws.{keeps_named, cause_of_file}
 use Rattle.fault_lines.specs.Messages.{step_line}
 use Rattle.update_replay.specs.Endings.{Ending, whole, no_step, not_made, too_long}
 use Rattle.update_replay.specs.declared.limits.TheConstants.{MAX_JOURNAL_BYTES}
@@ -19,12 +20,18 @@ use Rattle.update_commands.specs.Replay.{OfJournal, ending_answer}
 use Rattle.update_commands.proofs.OneReplay.{some_is}
 use Rattle.update_rooms.specs.Profile.{OfProfile}
 use Rattle.update_rooms.specs.Replay.{after_journal, replays, replays_by}
-use Rattle.update_rooms.specs.ReplayLaws.{ReplayTouches, ReplayHasCause}
+use Rattle.update_rooms.specs.Commands.{replay}
 use Rattle.update_rooms.proofs.ProfiledLaws.{keeps_profile, cause_profile}
 
 module _ (schema journal : List ℕ) (n : ℕ) where
+  abbrev reads : Named
+  reads = (replay schema journal n).reads
+
   abbrev P : Event → Type 0
-  P = IsOfEncode schema journal
+  P = IsOf reads
+
+  is_used : IsUsed reads Input
+  is_used = (journal, inr (inl (refl, refl)))
 
   keeps_journal : (p : ProfileView) (text : Option (List ℕ)) → Keeps P (after_journal n p text)
   keeps_journal p (Some text) = keeps_answer P (λ _. tt) tt (λ _. tt) tt (OfJournal p n text)
@@ -32,15 +39,12 @@ module _ (schema journal : List ℕ) (n : ℕ) where
 
   keeps_replay : Keeps P (replays schema journal n)
   keeps_replay =
-      keeps_of_file P (λ _. tt) tt (λ _. tt) tt Schema (codes "schema") (OfProfile (replays_by journal n)) schema (λ _. inl (refl, refl)) (λ _. inl refl) (inl refl) (inl refl)
+      keeps_named reads Schema schema (inl (refl, refl)) (codes "schema") (OfProfile (replays_by journal n))
       (keeps_profile (replays_by journal n) P (λ _. tt) tt (λ _. tt) tt
-      (λ p. keeps_then P (ReadsFile Input journal MAX_JOURNAL_BYTES) (after_journal n p) (keeps_file P Input journal MAX_JOURNAL_BYTES (λ _. inr (refl, refl)) (λ _. inr refl) (inr refl) (inr refl)) (keeps_journal p)))
+      (λ p. keeps_then P (ReadsFile Input journal MAX_JOURNAL_BYTES) (after_journal n p) (keeps_file P Input journal MAX_JOURNAL_BYTES (λ _. inr (inl (refl, refl))) (λ _. is_used) is_used is_used) (keeps_journal p)))
 
-pub replay_touches : ReplayTouches
-replay_touches schema journal n t s (runs.done h) = keeps_replay schema journal n t s h
-replay_touches schema journal n t s (runs.out_of_memory h) =
-    let Q = IsOfEncode schema journal in
-    subst (Throughout Q) (sym h.splits) (throughout_both Q h.first h.rest (keeps_begun Q (replays schema journal n) h.first (keeps_replay schema journal n) h.does.0) (keeps_tell Q (λ _. tt) tt _ _ h.rest s h.goes))
+pub replay_touches : (schema journal : List ℕ) (n : ℕ) → Touches (replay schema journal n)
+replay_touches schema journal n = touches (replay schema journal n) (keeps_replay schema journal n)
 
 -- ---- why it fails
 
@@ -65,5 +69,8 @@ module _ (journal : List ℕ) (n : ℕ) (p : ProfileView) where
   cause_journal : HasCause (replays_by journal n p)
   cause_journal = cause_then (ReadsFile Input journal MAX_JOURNAL_BYTES) (after_journal n p) after_read
 
-pub replay_has_cause : ReplayHasCause
+pub replay_has_cause : (schema journal : List ℕ) (n : ℕ) → HasCause (Runs (replays schema journal n))
 replay_has_cause schema journal n = cause_run (replays schema journal n) (cause_of_file Schema refl (codes "schema") (OfProfile (replays_by journal n)) schema (cause_profile (replays_by journal n) (cause_journal journal n)))
+
+pub replay_reads : (schema journal : List ℕ) (n : ℕ) → ReadsFiles (replay schema journal n)
+replay_reads schema journal n = reads_files (replay schema journal n) (replay_touches schema journal n) (replay_has_cause schema journal n)

@@ -1,6 +1,5 @@
 pub mod Profile
 pub mod Make
-pub mod MakeLaws
 pub mod Replay
-pub mod ReplayLaws
+pub mod Commands
 pub mod inner

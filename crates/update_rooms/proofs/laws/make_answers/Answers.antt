@@ -1,0 +1,5 @@
+use Rattle.update_rooms.proofs.MakingLaws as laws
+use Rattle.update_rooms.proofs.laws.make_answers.Goals as goal
+
+pub returns : goal.returns
+returns c = laws.make_answers
