@@ -30,6 +30,8 @@ pub use kept_laws::runs_of_keep_are_one_of_serve;
 pub use laws::{client_has_one_answer, post_has_one_answer};
 pub use leaving::{Leaving, leaving_of};
 pub use post::post_call;
+pub use reply::reply_line;
+pub use sending::{Sending, call_of};
 pub use serve::serve_sessions;
 pub use serve_laws::serve_has_one_answer;
 pub use state::{MAX_STATE_BYTES, client_in};

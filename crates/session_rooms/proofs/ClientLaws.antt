@@ -16,14 +16,14 @@ use Rattle.wire_profile.specs.Places.{ProfileView}
 use Rattle.command_base.specs.Answer.{done, link_fault_line, refused, write_fault_line}
 use Rattle.command_base.specs.declared.status.Status.{Status}
 use Rattle.command_base.specs.declared.status.Status.TheVariants.{LinkFault, PeerFault, ReadFault, WriteFault}
-use Rattle.outside.specs.Events.{Event, connected, created, put, write_failed}
+use Rattle.outside.specs.Events.{Event, connected, created}
 use Rattle.outside.specs.Laws.{Throughout, Keeps, Happened, IsFailure, Explains, HasCause}
 use Rattle.outside.specs.Packets.{PacketView, whole, TakesPacket}
 use Rattle.outside.specs.Packets as packets
 use Rattle.outside.specs.Pieces.{ReadsFile, Writes}
 use Rattle.outside.specs.Runs as runs
-use Rattle.outside.specs.Steps.{Step, Ends, Turn, again, leave, Reaches, Loops}
-use Rattle.outside.proofs.Causing.{cause_print, cause_run, cause_tell, cause_then, explains_first, explains_last, happened_first, happened_last, keeps_begun, keeps_call, keeps_end, keeps_file, keeps_loop, keeps_print, keeps_tell, keeps_then, keeps_write, throughout_both, unread_file, unwritten}
+use Rattle.outside.specs.Steps.{Turn, again, leave}
+use Rattle.outside.proofs.Causing.{cause_print, cause_run, cause_tell, cause_then, explains_last, happened_first, happened_last, keeps_begun, keeps_call, keeps_end, keeps_file, keeps_loop, keeps_print, keeps_tell, keeps_then, keeps_write, throughout_both, unread_file, unwritten}
 use Rattle.outside.proofs.TakenPackets.{broken_packet, keeps_packet}
 use Rattle.codec_rooms.proofs.TypedLaws.{keeps_of_file, cause_of_file}
 use Rattle.update_rooms.specs.Profile.{OfProfile}
@@ -41,12 +41,12 @@ use Rattle.session_rooms.specs.Client.{OfState, no_client, too_many, watches, Of
 use Rattle.session_rooms.specs.ClientLaws.{IsOfClient, ClientTouches, ClientHasCause}
 use Rattle.session_rooms.specs.Conversing.{Outcome, Asks, after_asking, HearsBytes, no_frame, refused as refused_frame, heard, after_packet, HearsNext, Heard, turn_of, hears_by, HearsOn, after_begin, Converses}
 use Rattle.session_rooms.specs.Sending.{Sends}
-use Rattle.session_rooms.proofs.Sending.{keeps_send, unsent}
+use Rattle.session_rooms.proofs.SentMessages.{keeps_send, unsent}
 
 -- ---- events
 
 module _ (schema address state : List ℕ) where
-  P : Event → Type 0
+  abbrev P : Event → Type 0
   P = IsOfClient schema address state
 
   module _ (p : ProfileView) where
@@ -158,7 +158,7 @@ ended_last fault t u (inr h) = inr h
 ended_as : (fault other : SessionFault) (t : List Event) → fault ≡ other → IsEnded other t → IsEnded fault t
 ended_as fault other t is h = subst (λ (f : SessionFault). IsEnded f t) (sym is) h
 
-same_fault : (fault other : SessionFault) → Err {T = ClientState} fault ≡ Err other → fault ≡ other
+same_fault : (fault other : SessionFault) → ◌≡◌ {A = Outcome} (Err fault) (Err other) → fault ≡ other
 same_fault fault other is = cc
 
 has_line : (fault : SessionFault) (t : List Event) (line : List ℕ) → session_line fault ≡ Some line → IsEnded fault t
@@ -196,14 +196,14 @@ module _ (p : ProfileView) (fault : SessionFault) where
 
   -- by what a turn answered
   turned_ended : (c : ClientState) (n : ℕ) (r : Outcome) (t u : List Event) → HearsNext p c t r → leave (Err fault) ≡ turn_of n r → IsEnded fault (t ++ u)
-  turned_ended c n (Ok d) t u h is = absurd (let no : leave {S = Heard} {A = Outcome} (Err fault) ≡ again (d, n + 1) = is in cc)
+  turned_ended c n (Ok d) t u h is = absurd (let no : ◌≡◌ {A = Turn Heard Outcome} (leave (Err fault)) (again (d, n + 1)) = is in cc)
   turned_ended c n (Err f) t u h is =
-      let same : fault ≡ f = (let e : leave {S = Heard} {A = Outcome} (Err fault) ≡ leave (Err f) = is in cc) in
+      let same : fault ≡ f = (let e : ◌≡◌ {A = Turn Heard Outcome} (leave (Err fault)) (leave (Err f)) = is in cc) in
       ended_first fault t u (subst (λ (x : SessionFault). HearsNext p c t (Err x) → IsEnded fault t) same (next_ended c t) h)
 
   turn_ended : (asks more : Bool) (h : Heard) (t : List Event) → hears_by p asks more h t (leave (Err fault)) → IsEnded fault t
-  turn_ended false more (c, n) t h = absurd (let no : leave {S = Heard} {A = Outcome} (Err fault) ≡ leave (Ok c) = h.1 in cc)
-  turn_ended true false (c, n) t h = ended_as fault session.TooManyFrames t (let e : leave {S = Heard} {A = Outcome} (Err fault) ≡ leave (Err session.TooManyFrames) = h.1 in cc) (has_line session.TooManyFrames t _ refl)
+  turn_ended false more (c, n) t h = absurd (let no : ◌≡◌ {A = Turn Heard Outcome} (leave (Err fault)) (leave (Ok c)) = h.1 in cc)
+  turn_ended true false (c, n) t h = ended_as fault session.TooManyFrames t (let e : ◌≡◌ {A = Turn Heard Outcome} (leave (Err fault)) (leave (Err session.TooManyFrames)) = h.1 in cc) (has_line session.TooManyFrames t _ refl)
   turn_ended true true (c, n) t h = subst (IsEnded fault) (sym h.splits) (turned_ended c n h.between h.first h.rest h.does h.goes.1)
 
   hears_ended : (h : Heard) (t : List Event) → HearsOn p h t (leave (Err fault)) → IsEnded fault t

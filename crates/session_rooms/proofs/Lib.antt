@@ -1,6 +1,6 @@
-pub mod Sending
-pub mod Conversing
-pub mod Leaving
+pub mod SentMessages
+pub mod Conversations
+pub mod LeftClients
 pub mod States
 pub mod ClientLaws
 pub mod Posting

@@ -22,7 +22,6 @@ use Rattle.schema_files.specs.Lines.{json_line}
 use Rattle.schema_files.specs.declared.json_input.TheConstants.{JSON_BYTES}
 use Rattle.update_rooms.specs.Profile.{OfProfile}
 use Rattle.update_rooms.proofs.ProfiledLaws.{keeps_profile, cause_profile}
-use Rattle.session_commands.specs.Lines.{long_call_line}
 use Rattle.session_commands.specs.Post.{Outcome, shows, peer}
 use Rattle.session_rooms.specs.Post.{CallsOver, OfCall, no_call, long_call, calls_it, OfInputFile, OfText, no_json, json_of, after_connect, after_packet, after_reading, after_sending, posts, told_as}
 use Rattle.session_rooms.specs.PostLaws.{IsOfPost, PostTouches, PostHasCause}
@@ -30,7 +29,7 @@ use Rattle.session_rooms.specs.PostLaws.{IsOfPost, PostTouches, PostHasCause}
 -- ---- events
 
 module _ (schema address input : List ℕ) where
-  P : Event → Type 0
+  abbrev P : Event → Type 0
   P = IsOfPost schema address input
 
   prints : (line : List ℕ) → Keeps P (Prints (refused line))

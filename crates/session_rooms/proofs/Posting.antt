@@ -1,34 +1,31 @@
 -- What follows of an input of `post`, and that it can go on to its end.
-use Rattle.std.proofs.Common.{◌≡◌, ◌⊎◌, inl, inr, ℕ, ◌+◌, ◌≤◌, List, [], ◌∷◌, ◌++◌, length, length-append, map, Bool, true, false, Option, Some, None, Result, Ok, Err, Vec, Global, refl, sym, ap, ◌∙◌, subst, arith}
+use Rattle.std.proofs.Common.{◌≡◌, inl, inr, ℕ, ◌≤◌, List, [], ◌∷◌, ◌++◌, length, length-append, map, Bool, true, false, Option, Some, None, Result, Ok, Err, Vec, Global, refl, sym, ap, ◌∙◌, subst, arith}
 use Rattle.std.proofs.lemmas.List.{append-nil, append_assoc}
 use Rattle.tl_numbers.specs.Bytes.{AreBytes}
-use Rattle.tl_base.specs.Packets.{packet}
 use Rattle.tl_base.specs.declared.host.Out.{Out}
-use Rattle.tl_base.specs.declared.host.Out.TheVariants as outs
 use Rattle.tl_base.specs.declared.host.Slot.TheVariants as slots
 use Rattle.tl_base.specs.declared.packet.PacketFault.{PacketFault}
 use Rattle.tl_base.specs.declared.packet.PacketFault.TheVariants as packet_fault
 use Rattle.tl_schema.specs.Schemas.{Declared}
 use Rattle.tl_schema.specs.Types.{Shape, call}
 use Rattle.tl_types.specs.Seen.{view}
-use Rattle.tl_types.specs.Values.{ValueView}
 use Rattle.tl_types.specs.Spelling.{Spells}
 use Rattle.tl_types.specs.declared.value.Value.{Value}
 use Rattle.wire_profile.specs.Places.{ProfileView}
 use Rattle.wire_profile.specs.Profiles.{IsProfile}
 use Rattle.command_base.specs.Answer.{Answer, done, link_fault_line, refused}
 use Rattle.command_base.specs.Jobs.{of_fault}
-use Rattle.command_base.specs.Loading.{PeerAs, Refuses}
+use Rattle.command_base.specs.Loading.{Refuses}
 use Rattle.command_base.specs.declared.status.Status.{Status}
 use Rattle.command_base.specs.declared.status.Status.TheVariants.{LinkFault, PeerFault}
-use Rattle.command_base.specs.declared.stop.Stop.{Stop}
 use Rattle.command_base.specs.declared.stop.Stop.TheVariants as stop
 use Rattle.command_base.specs.declared.stop.Unmade.{Unmade}
-use Rattle.command_base.specs.declared.stop.Unmade.TheVariants as unmade
 use Rattle.command_base.proofs.Loaded.{refuses_as}
 use Rattle.fault_lines.specs.Packets.{TellsPacket, ended_line, length_line}
 use Rattle.outside.specs.Events.{Event, HostState, connected, opened, put}
-use Rattle.outside.specs.Packets.{PacketView, whole, TakesPacket}
+use Rattle.outside.specs.Packets.{PacketView, whole, TakesPacket, packet_view}
+use Rattle.outside.specs.declared.packets.Packet.{Packet}
+use Rattle.outside.specs.declared.packets.Packet.TheVariants as packet_of
 use Rattle.outside.specs.Packets as packets
 use Rattle.outside.specs.Pieces.{InPieces, ReadsFile, Tells, Writes, joined}
 use Rattle.outside.specs.Printing.{Prints, PrintsMade}
@@ -99,7 +96,7 @@ module _ (p : ProfileView) (address : List ℕ) where
 
   of_json : (text : List ℕ) (a : Answer) → OfJson p address text [] a → Begins (OfText p address text) []
   of_json text a (post.no_json cause r is) = begun_as (Prints (refused (json_line cause))) (OfText p address text) (λ t s h. no_json cause r h) (can_print (refused (json_line cause)))
-  of_json text a (post.json_of x b is spells are call) = begun_as (OfCall p address b) (OfText p address text) (λ t s h. json_of x b is spells are h) (of_call b a call)
+  of_json text a (post.json_of x b is spells are of) = begun_as (OfCall p address b) (OfText p address text) (λ t s h. json_of x b is spells are h) (of_call b a of)
 
   pub can_text : IsProfile p → (text : List ℕ) → AreBytes text → Begins (OfText p address text) []
   can_text good text are = let told = each_json p good address [] are_none text are in of_json text told.0 told.1
@@ -171,6 +168,10 @@ module _ (p : ProfileView) (n : ℕ) where
 
     pub reply_blamed : (line told : List ℕ) → told ≡ line → OfBody p n body (peer line) → Did (Tells told PeerFault) q r answer → Did (TellsBody p n body) q r answer
     reply_blamed line told is of h = by_outcome (peer line) of (subst (λ (l : List ℕ). Did (Tells l PeerFault) q r answer) is h)
+
+-- the content of a packet that was taken
+pub packet_are : (q r : HostState) (x : Packet) (content : Vec ℕ Global) → x ≡ packet_of.Whole content → Did (TakesPacket slots.Link) q r (Some (packet_view x)) → AreBytes content.items
+packet_are q r x content is d = (whole_packet slots.Link d.trace content.items (subst (λ (v : PacketView). TakesPacket slots.Link d.trace v) (ap packet_view is) d.holds)).1
 
 -- ---- no packet
 

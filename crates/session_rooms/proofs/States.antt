@@ -1,5 +1,5 @@
 -- What follows of a state file, and that it can go on to its end.
-use Rattle.std.proofs.Common.{◌≡◌, ◌⊎◌, inl, inr, ℕ, ◌+◌, ℤ, List, [], ◌∷◌, Bool, true, false, Option, Some, None, Result, Ok, Err, refl, sym, subst}
+use Rattle.std.proofs.Common.{◌≡◌, inl, inr, ℕ, ◌+◌, ℤ, List, [], ◌∷◌, Bool, true, false, Option, Some, None, Ok, Err, refl, subst}
 use Rattle.tl_numbers.specs.Bytes.{AreBytes}
 use Rattle.tl_base.specs.declared.host.Slot.{Slot}
 use Rattle.tl_base.specs.declared.host.Slot.TheVariants as slots
@@ -8,7 +8,7 @@ use Rattle.wire_profile.specs.Places.{ProfileView}
 use Rattle.wire_profile.specs.Profiles.{IsProfile}
 use Rattle.command_base.specs.Answer.{link_fault_line, refused}
 use Rattle.command_base.specs.Jobs.{of_fault}
-use Rattle.command_base.specs.Loading.{Gives, Refuses}
+use Rattle.command_base.specs.Loading.{Gives}
 use Rattle.command_base.specs.declared.status.Status.{Status}
 use Rattle.command_base.specs.declared.status.Status.TheVariants.{LinkFault}
 use Rattle.command_base.specs.declared.stop.Unmade.{Unmade}
@@ -38,7 +38,7 @@ opened_bytes : (slot : Slot) (limit : ℕ) (ok : Bool) (t : List Event) (text : 
 opened_bytes slot limit true t text h = given_bytes slot (limit + 1) h.first h.between text h.does h.goes.1
 opened_bytes slot limit false t text h = absurd (let no : Some text ≡ None = h.1 in cc)
 
-file_bytes : (slot : Slot) (name : List ℕ) (limit : ℕ) (t : List Event) (text : List ℕ) → ReadsFile slot name limit t (Some text) → AreBytes text
+pub file_bytes : (slot : Slot) (name : List ℕ) (limit : ℕ) (t : List Event) (text : List ℕ) → ReadsFile slot name limit t (Some text) → AreBytes text
 file_bytes slot name limit t text h = opened_bytes slot limit h.between h.rest text h.goes
 
 -- ---- a client

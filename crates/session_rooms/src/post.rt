@@ -1,7 +1,8 @@
 //! `post`: the call that an input's JSON is goes over a link to an address, and what comes back is told.
-ghost use Rattle.std.specs.Prelude.{codes, ◌≤◌, length};
+ghost use Rattle.std.specs.Prelude.{codes, ◌≤◌, length, true};
 ghost use Rattle.outside.specs.Runs.{Ran, answered};
 ghost use Rattle.outside.specs.Steps.{Did};
+ghost use Rattle.tl_numbers.specs.Bytes.{AreBytes};
 ghost use Rattle.tl_schema.specs.CheckedPrograms.{IsSchema};
 ghost use Rattle.tl_schema.specs.Types.{call};
 ghost use Rattle.schema_files.specs.Parts.{ReadsJson};
@@ -211,6 +212,7 @@ fn tell_reply<H: Host>(
     body: Vec<u8>,
 ) -> Result<Status, AllocError>
     requires sound { IsProfile profile.now }
+    requires bytes { AreBytes body.items }
     ensures { Did (TellsBody profile.now number body.items) (H.state host.old) (H.state host.new) (answered result) }
 {
     match reply_line(alloc, profile, number, Bytes::from_vec(body)) {

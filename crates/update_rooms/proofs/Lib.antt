@@ -1,5 +1,5 @@
-mod Profiling
-mod ProfiledLaws
+pub mod Profiling
+pub mod ProfiledLaws
 mod RunsMade
 mod MakingLaws
 mod Parts

@@ -1,6 +1,5 @@
 -- What the parts of `post` do. This project's own.
-use Rattle.std.specs.Prelude.{◌≡◌, ◌≤◌, ℕ, List, length, Option, Some, None, Result, Ok, Err}
-use Rattle.tl_numbers.specs.Bytes.{AreBytes}
+use Rattle.std.specs.Prelude.{◌≡◌, ℕ, List, Option, Result, Ok, Err}
 use Rattle.tl_base.specs.declared.packet.PacketFault.{PacketFault}
 use Rattle.tl_base.specs.declared.packet.PacketFault.TheVariants.{BadLength, Ended, ReadFault, Memory}
 use Rattle.tl_schema.specs.Types.{call}

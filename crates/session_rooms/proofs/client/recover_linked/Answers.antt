@@ -1,4 +1,4 @@
-use Rattle.session_rooms.proofs.Leaving.{left_after, told_after}
+use Rattle.session_rooms.proofs.LeftClients.{left_after, told_after}
 use Rattle.session_rooms.proofs.client.recover_linked.Goals as goal
 
 pub returns-in-Ok : goal.returns-in-Ok

@@ -10,7 +10,7 @@ pub returns-in_err-bytes : goal.returns-in_err-bytes
 returns-in_err-bytes g c =
     let p = c.args.profile.now in
     let q = err_from_is_err_and c.from_residual.result c.from_residual.ensures.1 in
-    rw q.1 (did_stop_by _ (after_reading p c.args.address.now c.args.state.now c.args.channels.now) _ _ (can_after_reading p c.args.address.now c.args.state.now c.args.channels.now c.requires) c.in_err-bytes.ensures)
+    rw q.1 (did_stop_by _ (after_reading p c.args.address.now c.args.state.now c.args.channels.now) _ _ (can_after_reading p c.args.address.now c.args.state.now c.args.channels.now c.requires.sound) c.in_err-bytes.ensures)
 
 pub returns-in-Some : goal.returns-in-Some
 returns-in-Some g c =

@@ -1,4 +1,4 @@
-use Rattle.std.proofs.Common.{◌∙◌, arith}
+use Rattle.std.proofs.Common.{arith}
 use Rattle.std.proofs.lemmas.Result.{err_from_is_err_and}
 use Rattle.session_rooms.proofs.States.{none_given, none_watched}
 use Rattle.session_rooms.proofs.client.watching.Goals as goal

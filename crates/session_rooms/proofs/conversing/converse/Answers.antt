@@ -1,6 +1,5 @@
-use Rattle.std.proofs.Common.{Ok, Err, true, false, Some, ap, sym, subst}
 use Rattle.std.proofs.lemmas.Result.{err_from_is_err_and}
-use Rattle.session_rooms.proofs.Conversing.{begun_and_heard, begun_and_cut, can_converse}
+use Rattle.session_rooms.proofs.Conversations.{begun_and_heard, begun_and_cut, can_converse}
 use Rattle.outside.proofs.Growing.{did_none}
 use Rattle.session_rooms.specs.Conversing.{Converses}
 use Rattle.session_rooms.proofs.conversing.converse.Goals as goal
@@ -13,5 +12,5 @@ returns-in_err-ask_all g c =
 pub returns-in-Ok : goal.returns-in-Ok
 returns-in-Ok g c = begun_and_heard c.args.profile.now c.args.client.now c.ask_all.new.client _ _ _ _ c.ask_all.ensures.begins (c.in-Ok.ensures c.args.profile.now _ c.in_ok-ask_all.ensures.asks) c.hear_all.ensures
 
-pub returns-in-Err : goal.returns-in-Err
-returns-in-Err g c = begun_and_cut c.args.profile.now c.args.client.now _ _ (c.in-Err.ensures c.args.profile.now _ c.in_ok-ask_all.ensures.asks)
+pub returns : goal.returns
+returns g c = begun_and_cut c.args.profile.now c.args.client.now _ _ (c.in-Err.ensures c.args.profile.now _ c.in_ok-ask_all.ensures.asks)

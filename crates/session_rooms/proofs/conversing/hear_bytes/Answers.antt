@@ -1,6 +1,6 @@
 use Rattle.std.proofs.Common.{arith}
 use Rattle.std.proofs.lemmas.Result.{err_from_is_err_and}
-use Rattle.session_rooms.proofs.Conversing.{can_hear, heard_and_asked, heard_and_cut, not_heard}
+use Rattle.session_rooms.proofs.Conversations.{can_hear, heard_and_asked, heard_and_cut, not_heard}
 use Rattle.session_rooms.proofs.conversing.hear_bytes.Goals as goal
 
 pub returns-in_err-hear_packet-clause-hears : goal.returns-in_err-hear_packet-clause-hears

@@ -1,10 +1,10 @@
-use Rattle.std.proofs.Common.{Some, true, false}
+use Rattle.std.proofs.Common.{true, false}
 use Rattle.std.proofs.lemmas.Result.{err_from_is_err_and}
 use Rattle.tl_base.specs.declared.host.Out.TheVariants as outs
 use Rattle.outside.specs.Events.{created}
 use Rattle.outside.proofs.Growing.{did_call, did_none, did_then}
 use Rattle.session_rooms.specs.Client.{Leaves, after_create}
-use Rattle.session_rooms.proofs.Leaving.{can_leave}
+use Rattle.session_rooms.proofs.LeftClients.{can_leave}
 use Rattle.session_rooms.proofs.leaving.leave_client.Goals as goal
 
 pub returns-in_err-leaving : goal.returns-in_err-leaving
@@ -17,5 +17,5 @@ returns-in-Ok g c =
     did_then _ (after_create c.args.profile.now c.args.client.now) _ _ _ true _ (did_call (created outs.State c.args.name.now) _ _ true c.in-Ok.ensures)
     (c.write_state.ensures c.args.profile.now c.args.client.now c.in_ok-leaving.ensures)
 
-pub returns-in-Err : goal.returns-in-Err
-returns-in-Err g c = did_then _ (after_create c.args.profile.now c.args.client.now) _ _ _ false _ (did_call (created outs.State c.args.name.now) _ _ false c.in-Err.ensures) c.tell.ensures
+pub returns : goal.returns
+returns g c = did_then _ (after_create c.args.profile.now c.args.client.now) _ _ _ false _ (did_call (created outs.State c.args.name.now) _ _ false c.in-Err.ensures) c.tell.ensures

@@ -1,4 +1,4 @@
-use Rattle.std.proofs.Common.{◌≡◌, ◌≤◌, List, ℕ, Some, length, true, false, subst, sym}
+use Rattle.std.proofs.Common.{◌≤◌, List, ℕ, Some, length, true, false, subst, sym}
 use Rattle.tl_base.specs.Packets.{packet}
 use Rattle.tl_base.specs.declared.host.Out.TheVariants.{Link}
 use Rattle.outside.specs.Pieces.{Writes}

@@ -9,7 +9,7 @@ use Rattle.session_rooms.proofs.post.post_input.Goals as goal
 pub returns-in_err-text : goal.returns-in_err-text
 returns-in_err-text g c =
     let q = err_from_is_err_and c.from_residual.result c.from_residual.ensures.1 in
-    rw q.1 (did_stop_by _ (after_reading c.args.profile.now c.args.address.now) _ _ (can_after_reading c.args.profile.now c.args.address.now c.requires c.args.input.now) c.in_err-text.ensures)
+    rw q.1 (did_stop_by _ (after_reading c.args.profile.now c.args.address.now) _ _ (can_after_reading c.args.profile.now c.args.address.now c.requires.sound c.args.input.now) c.in_err-text.ensures)
 
 pub returns-in-Some : goal.returns-in-Some
 returns-in-Some g c = did_then_at _ (after_reading c.args.profile.now c.args.address.now) _ _ _ (text_view c.in_ok-text.field-0) (Some c.deref.result.now) _ (ap text_view c.in-Some.is ∙ sym (ap Some c.deref.ensures.value)) c.in_ok-text.ensures c.post_json.ensures

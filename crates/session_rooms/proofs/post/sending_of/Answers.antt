@@ -8,4 +8,4 @@ returns-in_err-value c =
     rw (q.1, q.2) (no_json_made c.args.profile.now c.args.text.now c.in_err-value.field-0.0 c.in_err-value.ensures)
 
 pub returns : goal.returns
-returns c = call_made c.args.profile.now c.args.text.now c.requires c.in_ok-value.value c.in_ok-value.ensures c.call_of.result c.call_of.ensures
+returns c = call_made c.args.profile.now c.args.text.now c.requires.sound c.in_ok-value.value c.in_ok-value.ensures c.call_of.result c.call_of.ensures

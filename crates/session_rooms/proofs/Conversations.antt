@@ -1,5 +1,5 @@
 -- A client's session, by its parts.
-use Rattle.std.proofs.Common.{◌≡◌, ◌⊎◌, inl, inr, ℕ, ◌+◌, ◌<◌, ◌≤◌, ltb, List, [], ◌∷◌, ◌++◌, Bool, true, false, Option, Some, None, Result, Ok, Err, refl, sym, ap, ap₂, ◌∙◌, subst, arith}
+use Rattle.std.proofs.Common.{◌≡◌, inl, inr, ℕ, ◌+◌, ◌<◌, ◌≤◌, ltb, List, [], ◌∷◌, Bool, true, false, Option, Some, None, Ok, Err, refl, sym, subst, arith}
 use Rattle.std.proofs.lemmas.Bool.Decides.{nat_tests}
 use Rattle.tl_numbers.specs.Bytes.{AreBytes}
 use Rattle.tl_base.specs.declared.host.Slot.TheVariants.{Link}
@@ -10,32 +10,30 @@ use Rattle.box_client.specs.States.{ClientState}
 use Rattle.box_client.specs.Asking.{ticks, wakes, is_one_asking}
 use Rattle.box_world.specs.Streams.{begun}
 use Rattle.box_client.specs.Replies.{Cause}
-use Rattle.wire_checks.specs.declared.fault.WireFault.{WireFault}
 use Rattle.wire_profile.specs.Places.{ProfileView}
 use Rattle.wire_profile.specs.Profiles.{IsProfile}
 use Rattle.wire_values.specs.CarriedFrames.{IsFrame}
 use Rattle.wire_values.specs.Frames.{frame_in, frame_tree}
-use Rattle.box_wire.specs.Framing.{WireRefused}
 use Rattle.box_wire.specs.Kinds.{frames}
 use Rattle.box_wire.proofs.FrameLaws.{frame_formed, frame_laws}
 use Rattle.outside.specs.Events.{Event, HostState, ended}
 use Rattle.outside.specs.Packets.{PacketView, whole, TakesPacket}
 use Rattle.outside.specs.Packets as packets
-use Rattle.outside.specs.Steps.{Begins, Did, Grows, Turn, again, leave, Reaches, Loops, Then, Ends}
-use Rattle.outside.proofs.Growing.{Leaves, can_end, can_then, can_loop, did_grow, did_none, did_nothing, did_stop, did_then, grew_none, loop_left, loop_stopped, reached_turn}
+use Rattle.outside.specs.Steps.{Begins, Did, Grows, Turn, again, leave, Reaches, Loops, Ends}
+use Rattle.outside.proofs.Growing.{Leaves, can_end, can_then, can_loop, did_none, did_nothing, did_stop, did_then, grew_none, loop_left, loop_stopped, reached_turn}
 use Rattle.outside.proofs.TakenPackets.{none_taken, whole_packet}
 use Rattle.update_sessions.specs.declared.fault.SessionFault.{SessionFault}
 use Rattle.update_sessions.specs.declared.fault.SessionFault.TheVariants.{Packet, Wire, Client, TooManyFrames, LinkFault, Memory}
 use Rattle.update_sessions.specs.declared.fault.TheConstants.{MAX_FRAMES}
-use Rattle.update_sessions.specs.Hearing.{IsTaken, cause_of, client_side, hears}
+use Rattle.update_sessions.specs.Hearing.{cause_of, hears}
 use Rattle.update_sessions.specs.Packed.{MeansFrame, Packed, SpellsCall}
-use Rattle.update_sessions.specs.Turns.{HearsPacket, Turned}
+use Rattle.update_sessions.specs.Turns.{HearsPacket}
 use Rattle.session_commands.proofs.EachClient.{told_fault}
 use Rattle.session_commands.proofs.EachPost.{each_message}
 use Rattle.codec_rooms.proofs.Typing.{begun_as, did_as}
 use Rattle.session_rooms.specs.Sending.{Sends}
 use Rattle.session_rooms.specs.Conversing.{Outcome, Asks, after_asking, HearsBytes, no_frame, refused, heard, after_packet, HearsNext, Heard, turn_of, hears_by, HearsOn, after_begin, Converses, outcome}
-use Rattle.session_rooms.proofs.Sending.{can_send, sent_by}
+use Rattle.session_rooms.proofs.SentMessages.{can_send}
 
 is_less : (a b : ℕ) → a < b → ltb a b ≡ true
 is_less a b lt = grind (arith, nat_tests)
@@ -80,7 +78,7 @@ module _ (p : ProfileView) where
 
     -- it was taken, and what is due was sent, or not
     module _ (turned : HearsPacket p c bytes out d (Ok tt)) (r s : HostState) where
-      e : ClientState
+      abbrev e : ClientState
       e = hears c turned.message
 
       by_asking : (x : Outcome) → Did (Asks p e) r s (Some x) → Did (HearsBytes p c bytes) r s (Some x)
