@@ -26,7 +26,7 @@ typedef struct tlbox {
 /* What a call answers. 0, 1 and 5 are the program's. */
 enum {
     TLBOX_DONE = 0,    /* the answer is in `out` */
-    TLBOX_REFUSED = 1, /* a schema, a type or an input is refused, and `out` has the line that the program writes, with its line feed */
+    TLBOX_REFUSED = 1, /* a schema, a type or an input is refused, or something breaks from one schema to the next; `out` has the line that the program writes, with its line feed */
     TLBOX_MEMORY = 5,  /* malloc gave none; the handle is as it was, and the call may be made again */
     TLBOX_CLOSED = 100, /* the handle isn't open */
     TLBOX_NO_TYPE = 101  /* no type of this handle has the number */
