@@ -79,6 +79,7 @@ def protobuf():
     """The record by protobuf's module, whose description is made here."""
     try:
         from google.protobuf import descriptor_pb2, descriptor_pool, message_factory
+        from google.protobuf.internal import api_implementation
     except ImportError:
         print("left out: protobuf's module isn't there")
         return
@@ -98,7 +99,7 @@ def protobuf():
         return {"number": got.number, "scattered": got.scattered, "name": got.name, "quarter": got.quarter}
 
     assert read() == fields
-    row("protobuf's module, values", each(20_000, read), each(20_000, lambda: make(**fields).SerializeToString()))
+    row(f"protobuf's module ({api_implementation.Type()}), {len(data)} bytes", each(20_000, read), each(20_000, lambda: make(**fields).SerializeToString()))
 
 
 def flatbuffers():
@@ -130,7 +131,7 @@ def flatbuffers():
         return ints, record.String(at + record.Offset(8))
 
     assert read() == ([VALUE["number"], VALUE["scattered"], VALUE["quarter"]], VALUE["name"].encode())
-    row("flatbuffers' module, values", each(20_000, read), each(20_000, write))
+    row(f"flatbuffers' module, {len(data)} bytes", each(20_000, read), each(20_000, write))
 
 
 def main():

@@ -15,7 +15,8 @@ extern "C" {
 /* A schema that is open, with the types that were asked for. It is one pointer in your storage.
      - All zero is closed; begin so: `tlbox h = {0};`.
      - It owns what `at` leads to. Never write into it, and never go on with a copy of one that is open: two would own the same.
-     - It may move to another thread, and is handed to one call at a time; calls of two handles may run beside each other.
+     - It may move to another thread, in an order that a lock or a thread's start or end makes, and is handed to one call at a time. Calls of two handles may
+       run beside each other, and so may calls of tlbox_layers.
      - Calls take memory by malloc, realloc and free. So none is made in a signal handler, nor in the child of a fork of a process that had threads.
      - tlbox_close gives all of its memory back. */
 typedef struct tlbox {
@@ -25,7 +26,7 @@ typedef struct tlbox {
 /* What a call answers. 0, 1 and 5 are the program's. */
 enum {
     TLBOX_DONE = 0,    /* the answer is in `out` */
-    TLBOX_REFUSED = 1, /* a schema, a type or an input is refused, and `out` has the line that the program writes, with its line feed */
+    TLBOX_REFUSED = 1, /* a schema, a type or an input is refused, or something breaks from one schema to the next; `out` has the line that the program writes, with its line feed */
     TLBOX_MEMORY = 5,  /* malloc gave none; the handle is as it was, and the call may be made again */
     TLBOX_CLOSED = 100, /* the handle isn't open */
     TLBOX_NO_TYPE = 101  /* no type of this handle has the number */
