@@ -14,9 +14,9 @@ use Rattle.outside.specs.Steps.{Begins, Did, Then}
 use Rattle.outside.proofs.Growing.{did_stop, did_then}
 use Rattle.outside.proofs.Piecewise.{can_tell}
 use Rattle.outside.proofs.Printed.{can_print, made_printed}
-use Rattle.codec_rooms.specs.Decode.{Verdict, ReadsValue, answer_of, printed, after_reading, OfBytes, decodes_by}
+use Rattle.codec_rooms.specs.Decode.{Verdict, ReadsValue, answer_of, printed, after_reading, OfBytes}
 use Rattle.codec_rooms.specs.inner.Feeding.{MakesAs, MakesVerdict}
-use Rattle.codec_rooms.proofs.Typing.{did_as, refused_made, can_word}
+use Rattle.codec_rooms.proofs.Typing.{did_as, refused_made}
 
 -- ---- a verdict is printed
 
@@ -32,7 +32,8 @@ as_printed (Some a) m p q answer makes h = did_as (Answers (λ b. b ≡ a)) (Pri
 as_printed None m p q answer makes h = subst (λ (x : Making). PrintsMade x p q answer) makes h
 
 -- what was read is printed, or memory ran out in between
-pub read_printed : (schema : Declared) (T : Shape) (o : Option Verdict) (m : Making) (p q r : HostState) (answer : Option Status) → Did (ReadsValue schema T) p q o → MakesVerdict schema T o m → PrintsMade m q r answer → Did (Then (ReadsValue schema T) (after_reading schema T)) p r answer
+pub read_printed : (schema : Declared) (T : Shape) (o : Option Verdict) (m : Making) (p q r : HostState) (answer : Option Status) → Did (ReadsValue schema T) p q o → MakesVerdict schema T o m
+    → PrintsMade m q r answer → Did (Then (ReadsValue schema T) (after_reading schema T)) p r answer
 read_printed schema T (Some v) m p q r answer read makes h = did_then (ReadsValue schema T) (after_reading schema T) p q r v answer read (as_printed (answer_of schema T v) m q r answer makes h)
 read_printed schema T None m p q r answer read makes h =
     let out = subst (λ (x : Making). PrintsMade x q r answer) makes h in
@@ -50,6 +51,3 @@ pub can_bytes : (input : List ℕ) (schema : Declared) (T : Shape) → Begins (O
 can_bytes input schema T =
     let m = can_tell _ _ in
     record { rest = opened Input input false ∷ m.rest; answer = m.answer; whole = record { first = opened Input input false ∷ []; rest = m.rest; between = false; splits = refl; does = refl; goes = m.whole } }
-
-pub can_decode : (type input : List ℕ) (schema : Declared) → Begins (decodes_by type input schema) []
-can_decode type input schema = can_word (OfBytes input) schema type (λ s is. can_bytes input schema s)

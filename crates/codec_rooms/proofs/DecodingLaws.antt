@@ -1,5 +1,8 @@
 -- Laws of `decode`.
-use Rattle.std.proofs.Common.{◌≡◌, ℕ, List, [], ◌∷◌, ◌++◌, Bool, true, false, Option, Some, None, Ok, Err, codes, refl, sym, ap, subst, inl, inr}
+use Rattle.std.proofs.Common.{◌≡◌, ℕ, List, [], ◌∷◌, ◌++◌, Bool, true, false, Option, Some, None, Ok, Err, codes, refl, sym, ap, ◌∙◌, subst, inl, inr}
+use Rattle.std.specs.Prelude.{IfSome}
+use Rattle.tl_base.proofs.Parts.{left_back}
+use Rattle.tl_base.specs.Outside.{HasFile, left_of}
 use Rattle.tl_base.specs.declared.counts.Kind.TheVariants as kinds
 use Rattle.tl_base.specs.declared.host.Slot.TheVariants.{Schema, Input}
 use Rattle.tl_schema.specs.Schemas.{Declared}
@@ -9,53 +12,59 @@ use Rattle.tl_decode.specs.declared.whole.WholeFault.TheVariants as whole
 use Rattle.command_base.specs.Answer.{Answer, done, refused}
 use Rattle.command_base.specs.declared.status.Status.{Status}
 use Rattle.command_base.specs.declared.status.Status.TheVariants as status
-use Rattle.outside.specs.Events.{Event, opened}
+use Rattle.outside.specs.Events.{Event, Outside, opened, took, ended, read_failed}
 use Rattle.outside.specs.Laws.{Happened, Throughout, Keeps, IsFailure, Explains, HasCause}
-use Rattle.outside.specs.Runs as runs
-use Rattle.outside.specs.Steps.{Turn, again, leave, Calls}
-use Rattle.outside.proofs.Causing.{happened_last, keeps_then, keeps_call, keeps_loop, keeps_tell, keeps_print, keeps_begun, throughout_both, cause_then, cause_print, cause_tell, cause_run, explains_last}
+use Rattle.outside.specs.Runs.{Runs}
+use Rattle.outside.specs.Steps.{Turn, again, leave, Calls, Then}
+use Rattle.outside.proofs.Causing.{happened_last, keeps_then, keeps_call, keeps_loop, keeps_tell, keeps_print, cause_then, cause_print, cause_tell, cause_run, explains_last, told_status}
+use Rattle.mem_host.specs.Fits.{Fits}
+use Rattle.mem_host.proofs.Sparing.{IsReading}
 use Rattle.schema_files.specs.Lines.{cause_text, input_line, line_text}
-use Rattle.codec_rooms.specs.Decode.{Verdict, Decides, faulty, longer, EndsAs, cut_off, is_value, ReadsOn, more, decided, at_end, failed, ReadsValue, at_once, reads, answer_of, printed, after_reading, after_opening, OfBytes, decodes, decodes_by}
-use Rattle.codec_rooms.specs.DecodeLaws.{DecodeTouches, DecodeHasCause}
-use Rattle.codec_rooms.specs.EncodeLaws.{IsOfEncode}
-use Rattle.codec_rooms.proofs.TypedLaws.{keeps_word, keeps_of_file, cause_of_file, cause_word}
+use Rattle.codec_commands.specs.Decode.{OfInput}
+use Rattle.codec_commands.specs.Typed.{OfType}
+use Rattle.codec_commands.proofs.OneDecode.{one_decode}
+use Rattle.codec_rooms.specs.Commands.{decode}
+use Rattle.codec_rooms.specs.Decode.{Verdict, Decides, faulty, longer, HasVerdict, cut_off, is_value, ReadsOn, more, decided, at_end, failed, ReadsValue, at_once, reads, answer_of, printed, after_reading, after_opening, OfBytes, decodes, decodes_by}
+use Rattle.codec_rooms.specs.Laws.{Named, IsRead, IsOf, Touches, AnswersFiles, ReadsFiles, EndsFiles}
+use Rattle.codec_rooms.proofs.FileLaws.{ComesTo, unread, Comes, comes_as, comes_print, comes_then, touches, answers_files, reads_files, ends_files}
+use Rattle.codec_rooms.proofs.InputLeft.{left_is, value_meant}
+use Rattle.codec_rooms.proofs.TypedFiles.{comes_of_file, comes_word}
+use Rattle.codec_rooms.proofs.TypedLaws.{keeps_word, keeps_named, cause_of_file, cause_word}
 
 -- ---- what it does
 
-module _ (schema input : List ℕ) where
-  abbrev P : Event → Type 0
-  P = IsOfEncode schema input
-
-  module _ (D : Declared) (T : Shape) where
+module _ (D : Declared) (T : Shape) where
+  module _ (P : Event → Type 0) (each : (bytes : List ℕ) → P (took Input bytes)) (end : P (ended Input)) (fail : P (read_failed Input)) where
     keeps_read : (bytes : List ℕ) → Keeps P (ReadsOn D T bytes)
-    keeps_read bytes t _ (more piece is o) = subst (Throughout P) (sym is) (inr refl, tt)
-    keeps_read bytes t _ (decided piece why is d) = subst (Throughout P) (sym is) (inr refl, tt)
-    keeps_read bytes t _ (at_end r is e) = subst (Throughout P) (sym is) (inr refl, tt)
-    keeps_read bytes t _ (failed is) = subst (Throughout P) (sym is) (inr refl, tt)
+    keeps_read bytes t _ (more piece is o) = subst (Throughout P) (sym is) (each piece, tt)
+    keeps_read bytes t _ (decided piece why is d) = subst (Throughout P) (sym is) (each piece, tt)
+    keeps_read bytes t _ (at_end r is e) = subst (Throughout P) (sym is) (end, tt)
+    keeps_read bytes t _ (failed is) = subst (Throughout P) (sym is) (fail, tt)
 
     keeps_value : Keeps P (ReadsValue D T)
     keeps_value t r (at_once why none d is) = subst (Throughout P) (sym none) tt
     keeps_value t r (reads o h) = keeps_loop P (ReadsOn D T) keeps_read [] t r h
 
-    keeps_printed : (o : Option Answer) → Keeps P (printed o)
-    keeps_printed (Some a) = keeps_print P (λ _. tt) tt (λ _. tt) tt a
-    keeps_printed None = keeps_tell P (λ _. tt) tt _ _
+module _ (schema type input : List ℕ) where
+  abbrev own : Named
+  own = (decode schema type input).reads
 
-    keeps_opened : (ok : Bool) → Keeps P (after_opening D T ok)
-    keeps_opened true = keeps_then P (ReadsValue D T) (after_reading D T) keeps_value (λ r. keeps_printed (answer_of D T r))
-    keeps_opened false = keeps_tell P (λ _. tt) tt _ _
+  second : IsRead own Input input
+  second = inr (inl (refl, refl))
 
-    keeps_bytes : Keeps P (OfBytes input D T)
-    keeps_bytes = keeps_then P (Calls (opened Input input)) (after_opening D T) (keeps_call P (opened Input input) (λ _. inr (refl, refl))) keeps_opened
+  keeps_printed : (o : Option Answer) → Keeps (IsOf own) (printed o)
+  keeps_printed (Some a) = keeps_print (IsOf own) (λ _. tt) tt (λ _. tt) tt a
+  keeps_printed None = keeps_tell (IsOf own) (λ _. tt) tt _ _
 
-  keeps_decode : (type : List ℕ) → Keeps P (decodes schema type input)
-  keeps_decode type = keeps_of_file P (λ _. tt) tt (λ _. tt) tt Schema (codes "schema") (decodes_by type input) schema (λ _. inl (refl, refl)) (λ _. inl refl) (inl refl) (inl refl) (keeps_word P (λ _. tt) tt (λ _. tt) tt (OfBytes input) type keeps_bytes)
+  keeps_opened : (D : Declared) (T : Shape) (ok : Bool) → Keeps (IsOf own) (after_opening D T ok)
+  keeps_opened D T true = keeps_then (IsOf own) (ReadsValue D T) (after_reading D T) (keeps_value D T (IsOf own) (λ _. (input, second)) (input, second) (input, second)) (λ r. keeps_printed (answer_of D T r))
+  keeps_opened D T false = keeps_tell (IsOf own) (λ _. tt) tt _ _
 
-pub decode_touches : DecodeTouches
-decode_touches schema type input t s (runs.done h) = keeps_decode schema input type t s h
-decode_touches schema type input t s (runs.out_of_memory h) =
-    let Q = IsOfEncode schema input in
-    subst (Throughout Q) (sym h.splits) (throughout_both Q h.first h.rest (keeps_begun Q (decodes schema type input) h.first (keeps_decode schema input type) h.does.0) (keeps_tell Q (λ _. tt) tt _ _ h.rest s h.goes))
+  keeps_bytes : (D : Declared) (T : Shape) → Keeps (IsOf own) (OfBytes input D T)
+  keeps_bytes D T = keeps_then (IsOf own) (Calls (opened Input input)) (after_opening D T) (keeps_call (IsOf own) (opened Input input) (λ _. second)) (keeps_opened D T)
+
+  keeps : Keeps (IsOf own) (decodes schema type input)
+  keeps = keeps_named own Schema schema (inl (refl, refl)) (codes "schema") (decodes_by type input) (keeps_word (IsOf own) (λ _. tt) tt (λ _. tt) tt (OfBytes input) type keeps_bytes)
 
 -- ---- why it fails
 
@@ -73,19 +82,12 @@ err_of e (Err d) = d
 err_is : {d e : WholeFault} → ◌≡◌ {A = Verdict} (Err d) (Err e) → d ≡ e
 err_is {d} {e} is = ap (err_of e) is
 
-abbrev left_of : Verdict → Turn (List ℕ) Verdict → Verdict
-left_of r (again s) = r
-left_of r (leave a) = a
-
-left_is : {a b : Verdict} → ◌≡◌ {A = Turn (List ℕ) Verdict} (leave a) (leave b) → a ≡ b
-left_is {a} {b} is = ap (left_of b) is
-
 module _ (D : Declared) (T : Shape) where
   never_lost : (bytes : List ℕ) (why e : WholeFault) → Decides D T bytes why → why ≡ e → IsLost e → ⊥
   never_lost bytes _ e (faulty offset cause not r) is lost = subst IsLost (sym is) lost
   never_lost bytes _ e (longer v x rest split some spells deep) is lost = subst IsLost (sym is) lost
 
-  never_ends : (bytes : List ℕ) (r : Verdict) (e : WholeFault) → EndsAs D T bytes r → r ≡ Err e → IsLost e → ⊥
+  never_ends : (bytes : List ℕ) (r : Verdict) (e : WholeFault) → HasVerdict D T bytes r → r ≡ Err e → IsLost e → ⊥
   never_ends bytes _ e (cut_off offset r) is lost = subst IsLost (sym (err_is is)) lost
   never_ends bytes _ e (is_value v spells deep) is lost = absurd (let no : Ok v ≡ Err e = is in cc)
 
@@ -97,7 +99,8 @@ module _ (D : Declared) (T : Shape) where
 
   lost_read : (t : List Event) (e : WholeFault) → ReadsValue D T t (Err e) → IsLost e → Happened (IsFailure kinds.Reads) t
   lost_read t e (at_once why none d is) lost = absurd (never_lost [] why e d (sym (err_is is)) lost)
-  lost_read t e (reads o h) lost = subst (Happened (IsFailure kinds.Reads)) (sym h.splits) (happened_last (IsFailure kinds.Reads) h.first h.rest (lost_turn h.between h.rest (leave (Err e)) e h.goes refl lost))
+  lost_read t e (reads o h) lost =
+      subst (Happened (IsFailure kinds.Reads)) (sym h.splits) (happened_last (IsFailure kinds.Reads) h.first h.rest (lost_turn h.between h.rest (leave (Err e)) e h.goes refl lost))
 
   cause_reading : (r : Verdict) (t u : List Event) (s : Status) → ReadsValue D T t r → after_reading D T r u s → Explains s (t ++ u)
   cause_reading (Ok v) t u s read h = explains_last s t u (cause_print (done (line_text D.decls T v)) tt u s h)
@@ -113,5 +116,52 @@ module _ (D : Declared) (T : Shape) where
   cause_bytes : (input : List ℕ) → HasCause (OfBytes input D T)
   cause_bytes input = cause_then (Calls (opened Input input)) (after_opening D T) (cause_opened input)
 
-pub decode_has_cause : DecodeHasCause
-decode_has_cause schema type input = cause_run (decodes schema type input) (cause_of_file Schema refl (codes "schema") (decodes_by type input) schema (cause_word (OfBytes input) type (λ D T. cause_bytes D T input)))
+-- ---- over files
+
+comes_printed : (Is : Answer → Type 0) (o : Option Answer) (t : List Event) (s : Status) → IfSome o Is → printed o t s → ComesTo Is t s
+comes_printed Is (Some a) t s is h = comes_print Is a t s is h
+comes_printed Is None t s is h = unread (told_status _ status.ReadFault t s h)
+
+module _ (input : List ℕ) (D : Declared) (T : Shape) where
+  comes_value : Comes (λ s. OfInput D T (left_of Input s.view)) (Then (ReadsValue D T) (after_reading D T))
+  comes_value =
+      comes_then (ReadsValue D T) (after_reading D T) (λ s. OfInput D T (left_of Input s.view)) (keeps_value D T IsReading (λ _. tt) tt tt)
+      (λ r t u end s m n read h f g. comes_printed (OfInput D T (left_of Input s.view)) (answer_of D T r) u end (value_meant D T t r s m read f) h)
+
+  abbrev OfOpened : Outside → Answer → Type 0
+  OfOpened s a = (bytes : List ℕ) × HasFile s.view.files input bytes × OfInput D T bytes a
+
+  comes_opened : (ok : Bool) (t u : List Event) (end : Status) (s m n : Outside) → t ≡ opened Input input ok ∷ [] → after_opening D T ok u end → Fits t s m → Fits u m n → ComesTo (OfOpened s) u end
+  comes_opened true t u end s m n is h f g =
+      let o = subst (λ (l : List Event). Fits l s m) is f in
+      let left : left_of Input m.view ≡ o.1.0.0 = ap (λ (x : Outside). left_of Input x.view) o.2 ∙ (ap (left_of Input) o.1.0.2 ∙ left_back Input o.1.0.0 s.view) in
+      let into : (a : Answer) → OfInput D T (left_of Input m.view) a → OfOpened s a = λ a tells. (o.1.0.0, o.1.0.1, subst (λ (l : List ℕ). OfInput D T l a) left tells) in
+      comes_as (OfInput D T (left_of Input m.view)) (OfOpened s) into u end (comes_value u end m n h g)
+  comes_opened false t u end s m n is h f g = unread (told_status _ status.ReadFault u end h)
+
+  comes_bytes : Comes OfOpened (OfBytes input D T)
+  comes_bytes = comes_then (Calls (opened Input input)) (after_opening D T) OfOpened (keeps_call IsReading (opened Input input) (λ _. tt)) comes_opened
+
+-- ---- the laws
+
+module _ (schema type input : List ℕ) where
+  pub decode_touches : Touches (decode schema type input)
+  decode_touches = touches (decode schema type input) (keeps schema type input)
+
+  pub decode_has_cause : HasCause (Runs (decodes schema type input))
+  decode_has_cause =
+      cause_run (decodes schema type input) (cause_of_file Schema refl (codes "schema") (decodes_by type input) schema (cause_word (OfBytes input) type (λ D T. cause_bytes D T input)))
+
+  comes : Comes (λ s. (decode schema type input).answers s.view.files) (decodes schema type input)
+  comes =
+      comes_of_file (codes "schema") (decodes_by type input) (λ S files. OfType OfInput S type input files)
+      (comes_word (OfBytes input) OfInput input (comes_bytes input) type) Schema schema
+
+  pub decode_answers : AnswersFiles (decode schema type input)
+  decode_answers = answers_files (decode schema type input) comes (λ files. one_decode files schema type input)
+
+  pub decode_reads : ReadsFiles (decode schema type input)
+  decode_reads = reads_files (decode schema type input) decode_touches decode_has_cause
+
+  pub decode_ends : EndsFiles (decode schema type input)
+  decode_ends = ends_files (decode schema type input) comes (λ files. one_decode files schema type input) decode_reads

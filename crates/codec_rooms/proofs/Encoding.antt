@@ -9,13 +9,10 @@ use Rattle.outside.specs.Steps.{Begins}
 use Rattle.outside.proofs.Growing.{can_then}
 use Rattle.outside.proofs.Piecewise.{can_tell, can_read_file}
 use Rattle.outside.proofs.Printed.{can_answer}
-use Rattle.schema_files.proofs.FormedWords.{word_formed}
 use Rattle.schema_files.specs.declared.json_input.TheConstants.{JSON_BYTES}
 use Rattle.codec_commands.specs.Encode.{OfJson}
 use Rattle.codec_commands.proofs.EachAnswer as each
-use Rattle.codec_rooms.specs.Encode.{encodes_by}
 use Rattle.codec_rooms.specs.Typed.{after_input, OfInput}
-use Rattle.codec_rooms.proofs.Typing.{can_word}
 
 module _ (schema : Declared) (good : IsSchema schema) where
   pub can_tell_json : (s : Shape) → IsFormed schema s → (bytes : Option (List ℕ)) → Begins (after_input OfJson schema s bytes) []
@@ -24,6 +21,3 @@ module _ (schema : Declared) (good : IsSchema schema) where
 
   pub can_input : (input : List ℕ) (s : Shape) → IsFormed schema s → Begins (OfInput OfJson input JSON_BYTES schema s) []
   can_input input s formed = can_then _ _ (can_read_file Input input JSON_BYTES) (can_tell_json s formed)
-
-  pub can_encode : (type input : List ℕ) → Begins (encodes_by type input schema) []
-  can_encode type input = can_word (OfInput OfJson input JSON_BYTES) schema type (λ s is. can_input input s (word_formed schema good type s is))

@@ -1,37 +1,78 @@
 -- Laws of `encode`.
-use Rattle.std.proofs.Common.{codes, ℕ, List, [], refl, sym, subst, inl, inr}
-use Rattle.tl_base.specs.declared.host.Slot.TheVariants.{Schema}
+use Rattle.std.proofs.Common.{ℕ, ◌+◌, ◌<◌, List, [], codes, length, take, refl, sym, subst, arith, inl, inr}
+use Rattle.std.proofs.lemmas.Bool.{cases_lt}
+use Rattle.std.proofs.lemmas.List.{take_all, length-take}
+use Rattle.tl_base.specs.declared.host.Slot.TheVariants.{Schema, Input}
 use Rattle.tl_schema.specs.Schemas.{Declared}
 use Rattle.tl_schema.specs.Types.{Shape}
 use Rattle.command_base.specs.Answer.{Answer}
-use Rattle.outside.specs.Laws.{Throughout, Keeps, Explains}
-use Rattle.outside.specs.Runs as runs
-use Rattle.outside.proofs.Causing.{keeps_begun, keeps_tell, throughout_both, cause_run}
+use Rattle.outside.specs.Laws.{Keeps, Explains, HasCause}
+use Rattle.outside.specs.Runs.{Runs}
+use Rattle.outside.proofs.Causing.{cause_run}
 use Rattle.schema_files.specs.declared.json_input.TheConstants.{JSON_BYTES}
 use Rattle.codec_commands.specs.Encode.{OfJson, too_long, no_json, badly_formed, misfit, spelled}
+use Rattle.codec_commands.specs.Typed.{OfType}
+use Rattle.codec_commands.proofs.OneEncode.{one_encode}
+use Rattle.codec_rooms.specs.Commands.{encode}
 use Rattle.codec_rooms.specs.Encode.{encodes, encodes_by}
-use Rattle.codec_rooms.specs.EncodeLaws.{IsOfEncode, EncodeTouches, EncodeHasCause}
+use Rattle.codec_rooms.specs.Laws.{Named, IsRead, IsOf, Touches, AnswersFiles, ReadsFiles, EndsFiles}
 use Rattle.codec_rooms.specs.Typed.{OfInput}
-use Rattle.codec_rooms.proofs.TypedLaws.{keeps_word, keeps_input, keeps_of_file, cause_of_file, cause_word, cause_input}
+use Rattle.codec_rooms.proofs.FileLaws.{Comes, touches, answers_files, reads_files, ends_files}
+use Rattle.codec_rooms.proofs.TypedFiles.{comes_of_file, comes_word, comes_input}
+use Rattle.codec_rooms.proofs.TypedLaws.{keeps_word, keeps_input, keeps_named, cause_of_file, cause_word, cause_input}
 
-keeps_encode : (schema type input : List ℕ) → Keeps (IsOfEncode schema input) (encodes schema type input)
-keeps_encode schema type input =
-    let P = IsOfEncode schema input in
-    keeps_of_file P (λ _. tt) tt (λ _. tt) tt Schema (codes "schema") (encodes_by type input) schema (λ _. inl (refl, refl)) (λ _. inl refl) (inl refl) (inl refl)
-    (keeps_word P (λ _. tt) tt (λ _. tt) tt (OfInput OfJson input JSON_BYTES) type (keeps_input P (λ _. tt) tt (λ _. tt) tt OfJson input JSON_BYTES (λ _. inr (refl, refl)) (λ _. inr refl) (inr refl) (inr refl)))
+module _ (schema : Declared) (s : Shape) where
+  plain : (bytes : List ℕ) (a : Answer) → OfJson schema s bytes a → Explains a.status []
+  plain bytes a (too_long long is) = subst (λ (b : Answer). Explains b.status []) (sym is) tt
+  plain bytes a (no_json none is) = subst (λ (b : Answer). Explains b.status []) (sym is) tt
+  plain bytes a (badly_formed d path cause json reads is) = subst (λ (b : Answer). Explains b.status []) (sym is) tt
+  plain bytes a (misfit d v path cause json reads has is) = subst (λ (b : Answer). Explains b.status []) (sym is) tt
+  plain bytes a (spelled d v x json reads spells few is) = subst (λ (b : Answer). Explains b.status []) (sym is) tt
 
-pub encode_touches : EncodeTouches
-encode_touches schema type input t s (runs.done h) = keeps_encode schema type input t s h
-encode_touches schema type input t s (runs.out_of_memory h) =
-    let P = IsOfEncode schema input in
-    subst (Throughout P) (sym h.splits) (throughout_both P h.first h.rest (keeps_begun P (encodes schema type input) h.first (keeps_encode schema type input) h.does.0) (keeps_tell P (λ _. tt) tt _ _ h.rest s h.goes))
+  -- what is answered to the bytes up to one past the limit is answered to all of them
+  long_json : (read file : List ℕ) (a : Answer) → JSON_BYTES < length read → JSON_BYTES < length file → OfJson schema s read a → OfJson schema s file a
+  long_json read file a here there (too_long long is) = too_long there is
+  long_json read file a here there (no_json none is) = absurd (omega (arith, here, none.0))
+  long_json read file a here there (badly_formed d path cause json reads is) = absurd (omega (arith, here, json.0))
+  long_json read file a here there (misfit d v path cause json reads has is) = absurd (omega (arith, here, json.0))
+  long_json read file a here there (spelled d v x json reads spells few is) = absurd (omega (arith, here, json.0))
 
-plain : (schema : Declared) (s : Shape) (bytes : List ℕ) (a : Answer) → OfJson schema s bytes a → Explains a.status []
-plain schema s bytes a (too_long long is) = subst (λ (b : Answer). Explains b.status []) (sym is) tt
-plain schema s bytes a (no_json none is) = subst (λ (b : Answer). Explains b.status []) (sym is) tt
-plain schema s bytes a (badly_formed d path cause json reads is) = subst (λ (b : Answer). Explains b.status []) (sym is) tt
-plain schema s bytes a (misfit d v path cause json reads has is) = subst (λ (b : Answer). Explains b.status []) (sym is) tt
-plain schema s bytes a (spelled d v x json reads spells few is) = subst (λ (b : Answer). Explains b.status []) (sym is) tt
+  json_stays : (file : List ℕ) (a : Answer) → OfJson schema s (take (JSON_BYTES + 1) file) a → OfJson schema s file a
+  json_stays file a h =
+      elim (cases_lt JSON_BYTES (length file)) [
+        | inl long ↦ long_json (take (JSON_BYTES + 1) file) file a (omega (arith, long, length-take (JSON_BYTES + 1) file)) long h
+        | inr few ↦ subst (λ (l : List ℕ). OfJson schema s l a) (take_all (JSON_BYTES + 1) file (omega (arith, few))) h
+      ]
 
-pub encode_has_cause : EncodeHasCause
-encode_has_cause schema type input = cause_run (encodes schema type input) (cause_of_file Schema refl (codes "schema") (encodes_by type input) schema (cause_word (OfInput OfJson input JSON_BYTES) type (cause_input OfJson plain input JSON_BYTES)))
+module _ (schema type input : List ℕ) where
+  abbrev reads : Named
+  reads = (encode schema type input).reads
+
+  keeps : Keeps (IsOf reads) (encodes schema type input)
+  keeps =
+      let P = IsOf reads in
+      let is : IsRead reads Input input = inr (inl (refl, refl)) in
+      keeps_named reads Schema schema (inl (refl, refl)) (codes "schema") (encodes_by type input)
+      (keeps_word P (λ _. tt) tt (λ _. tt) tt (OfInput OfJson input JSON_BYTES) type (keeps_input P (λ _. tt) tt (λ _. tt) tt OfJson input JSON_BYTES (λ _. is) (λ _. (input, is)) (input, is) (input, is)))
+
+  pub encode_touches : Touches (encode schema type input)
+  encode_touches = touches (encode schema type input) keeps
+
+  pub encode_has_cause : HasCause (Runs (encodes schema type input))
+  encode_has_cause =
+      cause_run (encodes schema type input)
+      (cause_of_file Schema refl (codes "schema") (encodes_by type input) schema (cause_word (OfInput OfJson input JSON_BYTES) type (cause_input OfJson plain input JSON_BYTES)))
+
+  comes : Comes (λ s. (encode schema type input).answers s.view.files) (encodes schema type input)
+  comes =
+      comes_of_file (codes "schema") (encodes_by type input) (λ S files. OfType OfJson S type input files)
+      (comes_word (OfInput OfJson input JSON_BYTES) OfJson input (λ D T. comes_input OfJson input JSON_BYTES D T (json_stays D T)) type) Schema schema
+
+  pub encode_answers : AnswersFiles (encode schema type input)
+  encode_answers = answers_files (encode schema type input) comes (λ files. one_encode files schema type input)
+
+  pub encode_reads : ReadsFiles (encode schema type input)
+  encode_reads = reads_files (encode schema type input) encode_touches encode_has_cause
+
+  pub encode_ends : EndsFiles (encode schema type input)
+  encode_ends = ends_files (encode schema type input) comes (λ files. one_encode files schema type input) encode_reads

@@ -1,8 +1,7 @@
 -- An input that is read piece by piece into a decoder.
-use Rattle.std.proofs.Common.{◌≡◌, ◌⊎◌, ℕ, zero, suc, ◌-◌, ◌<◌, ◌≤◌, List, [], ◌∷◌, ◌++◌, length, take, drop, append-nil, Option, Some, None, Result, Ok, Err, refl, sym, ap, ◌∙◌, subst, inl, inr, arith, length-take-le}
+use Rattle.std.proofs.Common.{◌≡◌, ◌⊎◌, ℕ, zero, suc, ◌-◌, ◌<◌, ◌≤◌, List, [], ◌∷◌, ◌++◌, length, take, append-nil, Bool, true, false, true≢false, Option, Some, None, Result, Ok, Err, refl, sym, ap, ◌∙◌, subst, inl, inr, arith, length-take-le}
 use Rattle.std.specs.Prelude.{◌≢◌}
-use Rattle.std.proofs.lemmas.Bool.{cases_lt}
-use Rattle.std.proofs.lemmas.List.{length-append, take-append-le, take_at, take-append-drop}
+use Rattle.std.proofs.lemmas.List.{length-append}
 use Rattle.tl_numbers.specs.Bytes.{AreBytes}
 use Rattle.tl_base.specs.declared.host.Slot.TheVariants.{Input}
 use Rattle.tl_schema.specs.CheckedPrograms.{IsSchema}
@@ -22,14 +21,15 @@ use Rattle.tl_types.specs.declared.value.Value.{Value}
 use Rattle.tl_types.specs.declared.value.TheConstants.{MAX_LEVELS}
 use Rattle.tl_types.proofs.Exactly.{exactly_one}
 use Rattle.tl_decode.specs.Decoders.{DecoderView, Feeds, HasTaken, HasValue}
-use Rattle.tl_decode.specs.Wholes.{whole_fault}
+use Rattle.tl_decode.specs.Wholes.{ReadsWhole, whole_fault}
+use Rattle.tl_decode.specs.inner.FedWholes.{EndsAfter, FeedsWhole}
 use Rattle.tl_decode.specs.declared.fault.DecodeFault.{DecodeFault}
 use Rattle.tl_decode.specs.declared.fault.DecodeFault.TheVariants as fault
 use Rattle.tl_decode.specs.declared.stack.Fed.{Fed}
 use Rattle.tl_decode.specs.declared.stack.Fed.TheVariants as fed
 use Rattle.tl_decode.specs.declared.whole.WholeFault.{WholeFault}
 use Rattle.tl_decode.specs.declared.whole.WholeFault.TheVariants as whole
-use Rattle.tl_decode.proofs.FedWhole.{IsCut, feeds_more, feeds_fault}
+use Rattle.tl_decode.proofs.FedWhole.{IsCut, Stands, ends_later, feeds_more, first_done as fed_done, stands_done, stands_fault}
 use Rattle.tl_base.specs.declared.fault.Failed.{Failed}
 use Rattle.outside.specs.Events.{Event, HostState, took, ended, read_failed, given_event, read_events}
 use Rattle.outside.specs.Grown.{Grew}
@@ -52,7 +52,8 @@ truncated_or_not cause.BadPadding = inr (λ e. cc)
 
 module _ (schema : Declared) (T : Shape) where
   -- a value, and what stands after it
-  judged_value : (bytes : List ℕ) (v : ValueView) (x rest : List ℕ) → bytes ≡ x ++ rest → Spells schema T v x → depth v ≤ MAX_LEVELS → IsOpen schema T bytes ⊎ ((why : WholeFault) × Decides schema T bytes why)
+  judged_value : (bytes : List ℕ) (v : ValueView) (x rest : List ℕ) → bytes ≡ x ++ rest → Spells schema T v x → depth v ≤ MAX_LEVELS
+      → IsOpen schema T bytes ⊎ ((why : WholeFault) × Decides schema T bytes why)
   judged_value bytes v x [] split spells deep = inl (spelled v (subst (Spells schema T v) (sym (split ∙ append-nil x)) spells) deep)
   judged_value bytes v x (b ∷ rest) split spells deep = inr (_, longer v x (b ∷ rest) split (omega arith) spells deep)
 
@@ -100,7 +101,8 @@ module _ (schema : Declared) (T : Shape) where
   did_turn : (p q : HostState) (e : Event) (bytes : List ℕ) (x : Turn (List ℕ) Verdict) → Grew p (e ∷ []) q → ReadsOn schema T bytes (e ∷ []) x → Did (ReadsOn schema T bytes) p q (Some x)
   did_turn p q e bytes x g h = record { trace = e ∷ []; grew = g; holds = h }
 
-  left_by : (p q r : HostState) (e : Event) (bytes : List ℕ) (a : Verdict) → IsOpen schema T [] → Grows p q (λ t. Reaches (ReadsOn schema T) [] t bytes) → Grew q (e ∷ []) r → ReadsOn schema T bytes (e ∷ []) (leave a) → Did (ReadsValue schema T) p r (Some a)
+  left_by : (p q r : HostState) (e : Event) (bytes : List ℕ) (a : Verdict) → IsOpen schema T [] → Grows p q (λ t. Reaches (ReadsOn schema T) [] t bytes) → Grew q (e ∷ []) r
+      → ReadsOn schema T bytes (e ∷ []) (leave a) → Did (ReadsValue schema T) p r (Some a)
   left_by p q r e bytes a first reached g h = looped p r (Some a) first (loop_left (ReadsOn schema T) [] bytes (leave a) a p q r refl reached (did_turn q r e bytes (leave a) g h))
 
   -- a read failed
@@ -108,14 +110,16 @@ module _ (schema : Declared) (T : Shape) where
   read_failed_so p q r d at s g = left_by p q r (read_failed Input) s.bytes (Err whole.ReadFault) s.first s.reached g (failed refl)
 
   -- the input ended where it is cut off
-  pub ended_so : (p q r : HostState) (d : DecoderView) (at place : ℕ) → SoFar p q d at → place ≡ d.at → Grew q (ended Input ∷ []) r → Did (ReadsValue schema T) p r (Some (Err (whole.Refused place cause.Truncated)))
+  pub ended_so : (p q r : HostState) (d : DecoderView) (at place : ℕ) → SoFar p q d at → place ≡ d.at → Grew q (ended Input ∷ []) r
+      → Did (ReadsValue schema T) p r (Some (Err (whole.Refused place cause.Truncated)))
   ended_so p q r d at place s is g =
       subst (λ (k : ℕ). Did (ReadsValue schema T) p r (Some (Err (whole.Refused k cause.Truncated)))) (sym (is ∙ s.is_cut.place))
       (left_by p q r (ended Input) s.bytes (Err (whole.Refused (moved 0 s.is_cut.offset) cause.Truncated)) s.first s.reached g (at_end _ refl (cut_off s.is_cut.offset s.is_cut.refused)))
 
   -- ---- after a value
 
-  pub value_end : (p q r : HostState) (d : DecoderView) (bytes : List ℕ) (v : ValueView) (place : ℕ) (result : Result (Unit {0}) WholeFault) → IsOpen schema T [] → Grows p q (λ t. Reaches (ReadsOn schema T) [] t bytes)
+  pub value_end : (p q r : HostState) (d : DecoderView) (bytes : List ℕ) (v : ValueView) (place : ℕ) (result : Result (Unit {0}) WholeFault) → IsOpen schema T []
+      → Grows p q (λ t. Reaches (ReadsOn schema T) [] t bytes)
       → Spells schema T v bytes → depth v ≤ MAX_LEVELS → HasValue d v → place ≡ moved 0 (length bytes) → EndsInput place q r result → FeedsInput schema T p r d result
   value_end p q r d bytes v place (Ok u) first reached spells deep has is h = (v, has, left_by p q r (ended Input) bytes (Ok v) first reached h (at_end (Ok v) refl (is_value v spells deep)))
   value_end p q r d bytes v place (Err (whole.Trailing at)) first reached spells deep has is h =
@@ -132,50 +136,22 @@ are_both [] ys a b k = b k
 are_both (x ∷ xs) ys a b zero = a zero
 are_both (x ∷ xs) ys a b (suc k) = are_both xs ys (λ j. a (suc j)) b k
 
--- the value ends in the piece
-record EndsIn (schema : Declared) (T : Shape) (d : DecoderView) (front piece : List ℕ) (used : ℕ) : Type 0 where
-  v : ValueView
-  x : List ℕ
-  rest : List ℕ
-  split : front ++ piece ≡ x ++ rest
-  spells : Spells schema T v x
-  deep : depth v ≤ MAX_LEVELS
-  count : used ≡ length x - length front
-  has : HasValue d v
-
--- a value doesn't end among bytes that are cut off
-ends_later : (schema : Declared) → IsSchema schema → (T : Shape) → IsFormed schema T → (d new : DecoderView) (front piece : List ℕ) (used : ℕ) → AreBytes front → IsCut schema T d front → (e : EndsIn schema T new front piece used) → length front ≤ length e.x
-ends_later schema good T formed d new front piece used are is_cut e = elim (cases_lt (length e.x) (length front)) [
-  | inl lt ↦
-      let le : length e.x ≤ length front = omega (arith, lt) in
-      let first : take (length e.x) front ≡ e.x = sym (take-append-le (length e.x) front piece le) ∙ ap (take (length e.x)) e.split ∙ take_at e.x e.rest (length e.x) refl in
-      let split : front ≡ e.x ++ drop (length e.x) front = sym (take-append-drop (length e.x) front) ∙ ap (λ (z : List ℕ). z ++ drop (length e.x) front) first in
-      absurd ((exactly_one schema good MAX_LEVELS T front formed are).never_both e.v e.x is_cut.offset cause.Truncated (drop (length e.x) front, split, e.spells, e.deep) is_cut.refused)
-  | inr le ↦ le
-]
-
 module _ (old new : DecoderView) (good : IsPlan old.plan) (T : Shape) (is : IsInstance old.plan old.root T) (formed : IsFormed old.plan.schema T) where
   abbrev own : Declared
   own = old.plan.schema
 
-  feeds_done : (front piece : List ℕ) → HasTaken old front → (used : ℕ) → Feeds old new piece (Ok (fed.Done used)) → AreBytes (front ++ piece) → EndsIn own T new front piece used
-  feeds_done front piece taken used f are = elim (exactly_one own good.schema MAX_LEVELS T (front ++ piece) formed are).either [
-    | inl (v, x, (rest, split, spells, deep)) ↦ (let got = f.spelled front taken T is v x rest split spells deep in record { v = v; x = x; rest = rest; split = split; spells = spells; deep = deep; count = got.0; has = got.1 })
-    | inr (at, why, r) ↦ elim (truncated_or_not why) [
-      | inl e ↦ absurd (f.cut_off front taken T is at (subst (refusal.Refused own MAX_LEVELS T (front ++ piece) at) e r))
-      | inr e ↦ absurd (f.refused front taken T is at why e r)
-    ]
-  ]
-
   -- what a piece is refused for
-  not_cut : (front piece : List ℕ) (place offset : ℕ) (why : Cause) → HasTaken old front → Feeds old new piece (Err (fault.Refused place why)) → refusal.Refused own MAX_LEVELS T (front ++ piece) offset why → why ≢ cause.Truncated
+  not_cut : (front piece : List ℕ) (place offset : ℕ) (why : Cause) → HasTaken old front → Feeds old new piece (Err (fault.Refused place why))
+      → refusal.Refused own MAX_LEVELS T (front ++ piece) offset why → why ≢ cause.Truncated
   not_cut front piece place offset why taken f r e = f.cut_off front taken T is offset (subst (refusal.Refused own MAX_LEVELS T (front ++ piece) offset) e r)
 
-  refused_whole : (front piece : List ℕ) (place : ℕ) (why : Cause) → HasTaken old front → AreBytes (front ++ piece) → Feeds old new piece (Err (fault.Refused place why)) → (offset : ℕ) × refusal.Refused own MAX_LEVELS T (front ++ piece) offset why × (place ≡ moved 0 offset)
-  refused_whole front piece place why taken are f =
-      let same : (front ++ piece) ++ [] ≡ front ++ piece = append-nil (front ++ piece) in
-      let w = feeds_fault old new good T is formed front piece taken [] (subst AreBytes (sym same) are) (fault.Refused place why) f in
-      (w.0, subst (λ (l : List ℕ). refusal.Refused own MAX_LEVELS T l w.0 why) same w.1, w.2)
+  -- the bytes that were taken, as all that there are
+  alone : (front piece : List ℕ) → Stands (front ++ piece) front piece [] (Some [])
+  alone front piece = record { split = sym (append-nil (front ++ piece)); rest = refl }
+
+  refused_whole : (front piece : List ℕ) (place : ℕ) (why : Cause) → HasTaken old front → AreBytes (front ++ piece) → Feeds old new piece (Err (fault.Refused place why))
+      → ReadsWhole own T (front ++ piece) (Err (whole.Refused place why))
+  refused_whole front piece place why taken are f = stands_fault old new good T is formed (front ++ piece) front piece [] (Some []) (alone front piece) are taken (fault.Refused place why) f
 
   -- ---- before the first read
 
@@ -188,16 +164,11 @@ module _ (old new : DecoderView) (good : IsPlan old.plan) (T : Shape) (is : IsIn
   first_fault p fault.Memory taken f = did_none (ReadsValue own T) p (can_read own T good.schema formed)
 
   -- no byte is needed
-  no_bytes : (x rest : List ℕ) → [] ≡ x ++ rest → x ≡ []
-  no_bytes [] rest e = refl
-  no_bytes (b ∷ x) rest e = absurd (let no : [] ≡ b ∷ (x ++ rest) = e in cc)
-
-  pub first_done : (p q : HostState) (used : ℕ) (result : Result (Unit {0}) WholeFault) → HasTaken old [] → Feeds old new [] (Ok (fed.Done used)) → EndsInput 0 p q result → FeedsInput own T p q new result
+  pub first_done : (p q : HostState) (used : ℕ) (result : Result (Unit {0}) WholeFault) → HasTaken old [] → Feeds old new [] (Ok (fed.Done used)) → EndsInput 0 p q result
+      → FeedsInput own T p q new result
   first_done p q used result taken f h =
-      let e = feeds_done [] [] taken used f (λ k. omega arith) in
-      let none : e.x ≡ [] = no_bytes e.x e.rest e.split in
-      let spells = subst (Spells own T e.v) none e.spells in
-      value_end own T p p q new [] e.v 0 result (spelled e.v spells e.deep) (reached_none (ReadsOn own T) [] p) spells e.deep e.has refl h
+      let w = fed_done old new good T is formed (Some []) used (Ok tt) (λ k. omega arith) taken f (refl, refl) in
+      value_end own T p p q new [] w.0 0 result (spelled w.0 w.2 w.3) (reached_none (ReadsOn own T) [] p) w.2 w.3 w.1 refl h
 
   pub first_more : (p : HostState) → HasTaken old [] → Feeds old new [] (Ok fed.More) → SoFar own T p p new 0
   first_more p taken f =
@@ -222,7 +193,8 @@ module _ (old new : DecoderView) (good : IsPlan old.plan) (T : Shape) (is : IsIn
         (loop_stopped (ReadsOn own T) [] s.bytes p q r (leaves own T) s.reached (record { trace = took Input piece ∷ []; grew = g; holds = record { rest = []; answer = x.0; whole = x.1 } }))
 
     on : IsOpen own T (s.bytes ++ piece) → Grows p r (λ t. Reaches (ReadsOn own T) [] t (s.bytes ++ piece))
-    on is_open = reached_turn (ReadsOn own T) [] s.bytes (s.bytes ++ piece) (again (s.bytes ++ piece)) p q r refl s.reached (did_turn own T q r (took Input piece) s.bytes _ g (more piece refl is_open))
+    on is_open =
+        reached_turn (ReadsOn own T) [] s.bytes (s.bytes ++ piece) (again (s.bytes ++ piece)) p q r refl s.reached (did_turn own T q r (took Input piece) s.bytes _ g (more piece refl is_open))
 
     pub next_more : (next : ℕ) → Feeds old new piece (Ok fed.More) → next ≡ moved at (length piece) → SoFar own T p r new next
     next_more next f is_next =
@@ -231,31 +203,24 @@ module _ (old new : DecoderView) (good : IsPlan old.plan) (T : Shape) (is : IsIn
 
     -- the value ends in the piece
     module _ (used place : ℕ) (f : Feeds old new piece (Ok (fed.Done used))) (is_place : place ≡ moved at used) where
-      e : EndsIn own T new s.bytes piece used
-      e = feeds_done s.bytes piece s.is_cut.taken used f all_are
-
-      before : length s.bytes ≤ length e.x
-      before = ends_later own good.schema T formed old new s.bytes piece used s.are s.is_cut e
-
-      at_value : place ≡ moved 0 (length e.x)
-      at_value = omega (arith, is_place, s.count, e.count, before)
+      -- what comes after it in the piece
+      ended_by : (further : Bool) (r : Result (Unit {0}) WholeFault) → (further ≡ false → length piece ≤ used) → (further ≡ true → used < length piece) → EndsAfter place further [] r
+          → FeedsWhole own T (s.bytes ++ piece) new r
+      ended_by further r all some h =
+          stands_done old new good T is formed (s.bytes ++ piece) s.bytes piece [] (Some []) (alone s.bytes piece) all_are s.is_cut.taken used at place further r f
+          (ends_later old new good T formed s.bytes piece used s.are s.is_cut) s.count is_place all some h
 
       pub next_longer : used < length piece → FeedsInput own T p r new (Err (whole.Trailing place))
       next_longer few =
-          subst (λ (k : ℕ). Did (ReadsValue own T) p r (Some (Err (whole.Trailing k)))) (sym at_value)
-          (left_by own T p q r (took Input piece) s.bytes (Err (whole.Trailing (moved 0 (length e.x)))) s.first s.reached g
-          (decided piece _ refl (longer e.v e.x e.rest e.split (omega (arith, few, ap length e.split, length-append s.bytes piece, length-append e.x e.rest, e.count, before)) e.spells e.deep)))
-
-      no_rest : (rest : List ℕ) → length rest ≡ 0 → rest ≡ []
-      no_rest [] z = refl
-      no_rest (b ∷ rest) z = absurd (omega (arith, z))
+          let w = ended_by true (Err (whole.Trailing place)) (λ e. absurd (true≢false e)) (λ e. few) (refl, inl refl) in
+          subst (λ (k : ℕ). Did (ReadsValue own T) p r (Some (Err (whole.Trailing k)))) (sym w.7)
+          (left_by own T p q r (took Input piece) s.bytes (Err (whole.Trailing (moved 0 (length w.1)))) s.first s.reached g (decided piece _ refl (longer w.0 w.1 w.2 w.3 w.4 w.5 w.6)))
 
       pub next_value : (h : HostState) (result : Result (Unit {0}) WholeFault) → length piece ≤ used → EndsInput place r h result → FeedsInput own T p h new result
       next_value h result all ends =
-          let none : e.rest ≡ [] = no_rest e.rest (omega (arith, all, ap length e.split, length-append s.bytes piece, length-append e.x e.rest, e.count, before)) in
-          let same : s.bytes ++ piece ≡ e.x = e.split ∙ (ap (λ (l : List ℕ). e.x ++ l) none ∙ append-nil e.x) in
-          let spells = subst (Spells own T e.v) (sym same) e.spells in
-          value_end own T p r h new (s.bytes ++ piece) e.v place result s.first (on (spelled e.v spells e.deep)) spells e.deep e.has (at_value ∙ ap (λ (l : List ℕ). moved 0 (length l)) (sym same)) ends
+          let w = ended_by false (Ok tt) (λ e. all) (λ e. absurd (true≢false (sym e))) (refl, refl) in
+          let count : used ≡ length (s.bytes ++ piece) - length s.bytes = (f.spelled s.bytes s.is_cut.taken T is w.0 (s.bytes ++ piece) [] (sym (append-nil (s.bytes ++ piece))) w.2 w.3).0 in
+          value_end own T p r h new (s.bytes ++ piece) w.0 place result s.first (on (spelled w.0 w.2 w.3)) w.2 w.3 w.1 (omega (arith, is_place, s.count, count, length-append s.bytes piece)) ends
 
 -- ---- a decoder for a root of a plan
 
@@ -276,11 +241,6 @@ module _ (old new : DecoderView) (good : IsPlan old.plan) (T : Shape) (is : IsIn
   first_goes p fed.More taken other f = first_more old new good T is formed p taken f
   first_goes p (fed.Done used) taken other f = absurd (other used refl)
 
--- a read that is no Ok failed
-pub unread : {E : Type 0} (schema : Declared) (T : Shape) (p q r : HostState) (d : DecoderView) (at : ℕ) (result : Result ℕ E) (into : List ℕ) → 0 < length into → ((n : ℕ) → result ≡ Ok n → ⊥) → SoFar schema T p q d at → Grew q (read_events Input into result) r → Did (ReadsValue schema T) p r (Some (Err whole.ReadFault))
-unread schema T p q r d at (Ok n) into some other s g = absurd (other n refl)
-unread schema T p q r d at (Err e) into some other s g = read_failed_so schema T p q r d at s (read_grew Input into (Err e) q r some g)
-
 -- a read of none is the end
 pub end_read : (p q : HostState) (n : ℕ) (into : List ℕ) → n ≡ 0 → Grew p (given_event Input (take n into) ∷ []) q → Grew p (ended Input ∷ []) q
 end_read p q n into none g = subst (λ (k : ℕ). Grew p (given_event Input (take k into) ∷ []) q) none g
@@ -290,7 +250,8 @@ given_some [] some = absurd (omega (arith, some))
 given_some (b ∷ bytes) some = refl
 
 module _ (P : PlanView) (k : ℕ) (good : IsPlan P) (T : Shape) (is : IsInstance P k T) (formed : IsFormed P.schema T) (old : DecoderView) (plan : old.plan ≡ P) (root : old.root ≡ k) (new : DecoderView)
-    (p q r : HostState) (at n : ℕ) (into : List ℕ) (s : SoFar P.schema T p q old at) (wide : 0 < length into) (some : 0 < n) (few : n ≤ length into) (g : Grew q (read_events {E = Failed} Input into (Ok n)) r) (are : AreBytes (take n into)) where
+    (p q r : HostState) (at n : ℕ) (into : List ℕ) (s : SoFar P.schema T p q old at) (wide : 0 < length into) (some : 0 < n) (few : n ≤ length into)
+    (g : Grew q (read_events {E = Failed} Input into (Ok n)) r) (are : AreBytes (take n into)) where
   abbrev piece : List ℕ
   piece = take n into
 
@@ -300,28 +261,34 @@ module _ (P : PlanView) (k : ℕ) (good : IsPlan P) (T : Shape) (is : IsInstance
   took_it : Grew q (took Input piece ∷ []) r
   took_it = subst (λ (e : Event). Grew q (e ∷ []) r) (given_some piece (omega (arith, some, size))) (read_grew {E = Failed} Input into (Ok n) q r wide g)
 
-  own_so_far : SoFar old.plan.schema T p q old at
-  own_so_far = subst (λ (x : PlanView). SoFar x.schema T p q old at) (sym plan) s
+  -- what holds by the decoder's own plan holds by the plan
+  by_own : (G : Declared → Type 0) → ((good : IsPlan old.plan) → IsInstance old.plan old.root T → IsFormed old.plan.schema T → SoFar old.plan.schema T p q old at → G old.plan.schema) → G P.schema
+  by_own G h =
+      subst (λ (x : PlanView). G x.schema) plan
+      (h (own_good P k good T is formed old plan root) (own_is P k good T is formed old plan root) (own_formed P k good T is formed old plan root) (subst (λ (x : PlanView). SoFar x.schema T p q old at) (sym plan) s))
 
   pub piece_fault : (e : DecodeFault) → Feeds old new piece (Err e) → FeedsInput P.schema T p r new (Err (whole_fault e))
-  piece_fault e f = subst (λ (x : PlanView). FeedsInput x.schema T p r new (Err (whole_fault e))) plan
-      (next_fault old new (own_good P k good T is formed old plan root) T (own_is P k good T is formed old plan root) (own_formed P k good T is formed old plan root) p q r at piece own_so_far took_it are e f)
+  piece_fault e f = by_own (λ D. FeedsInput D T p r new (Err (whole_fault e))) (λ well at_root fine so_far. next_fault old new well T at_root fine p q r at piece so_far took_it are e f)
 
   pub piece_more : (next : ℕ) → Feeds old new piece (Ok fed.More) → next ≡ moved at n → SoFar P.schema T p r new next
-  piece_more next f is_next = subst (λ (x : PlanView). SoFar x.schema T p r new next) plan
-      (next_more old new (own_good P k good T is formed old plan root) T (own_is P k good T is formed old plan root) (own_formed P k good T is formed old plan root) p q r at piece own_so_far took_it are next f (is_next ∙ ap (moved at) (sym size)))
+  piece_more next f is_next =
+      by_own (λ D. SoFar D T p r new next) (λ well at_root fine so_far. next_more old new well T at_root fine p q r at piece so_far took_it are next f (is_next ∙ ap (moved at) (sym size)))
 
   pub piece_longer : (used place : ℕ) → Feeds old new piece (Ok (fed.Done used)) → place ≡ moved at used → used < n → FeedsInput P.schema T p r new (Err (whole.Trailing place))
-  piece_longer used place f is_place fewer = subst (λ (x : PlanView). FeedsInput x.schema T p r new (Err (whole.Trailing place))) plan
-      (next_longer old new (own_good P k good T is formed old plan root) T (own_is P k good T is formed old plan root) (own_formed P k good T is formed old plan root) p q r at piece own_so_far took_it are used place f is_place (omega (arith, fewer, size)))
+  piece_longer used place f is_place fewer =
+      by_own (λ D. FeedsInput D T p r new (Err (whole.Trailing place)))
+      (λ well at_root fine so_far. next_longer old new well T at_root fine p q r at piece so_far took_it are used place f is_place (omega (arith, fewer, size)))
 
-  pub piece_value : (used place : ℕ) → Feeds old new piece (Ok (fed.Done used)) → place ≡ moved at used → (h : HostState) (result : Result (Unit {0}) WholeFault) → n ≤ used → EndsInput place r h result → FeedsInput P.schema T p h new result
-  piece_value used place f is_place h result all ends = subst (λ (x : PlanView). FeedsInput x.schema T p h new result) plan
-      (next_value old new (own_good P k good T is formed old plan root) T (own_is P k good T is formed old plan root) (own_formed P k good T is formed old plan root) p q r at piece own_so_far took_it are used place f is_place h result (omega (arith, all, size)) ends)
+  pub piece_value : (used place : ℕ) → Feeds old new piece (Ok (fed.Done used)) → place ≡ moved at used → (h : HostState) (result : Result (Unit {0}) WholeFault) → n ≤ used
+      → EndsInput place r h result → FeedsInput P.schema T p h new result
+  piece_value used place f is_place h result all ends =
+      by_own (λ D. FeedsInput D T p h new result)
+      (λ well at_root fine so_far. next_value old new well T at_root fine p q r at piece so_far took_it are used place f is_place h result (omega (arith, all, size)) ends)
 
 -- ---- a decoder that was made for the root of a plan
 
-pub value_read : (schema : Declared) (T : Shape) (p q : HostState) (d : DecoderView) (value : Value) → ((v : ValueView) → HasValue d v → view value ≡ v) → FeedsInput schema T p q d (Ok tt) → Did (ReadsValue schema T) p q (verdict (Ok value))
+pub value_read : (schema : Declared) (T : Shape) (p q : HostState) (d : DecoderView) (value : Value) → ((v : ValueView) → HasValue d v → view value ≡ v) → FeedsInput schema T p q d (Ok tt)
+    → Did (ReadsValue schema T) p q (verdict (Ok value))
 value_read schema T p q d value seen h = subst (λ (v : ValueView). Did (ReadsValue schema T) p q (Some (Ok v))) (sym (seen h.0 h.1)) h.2
 
 pub fault_read : (schema : Declared) (T : Shape) (p q : HostState) (d : DecoderView) (e : WholeFault) → FeedsInput schema T p q d (Err e) → Did (ReadsValue schema T) p q (verdict (Err e))
@@ -330,7 +297,9 @@ fault_read schema T p q d (whole.Trailing place) h = h
 fault_read schema T p q d whole.ReadFault h = h
 fault_read schema T p q d whole.Memory h = h
 
-pub made_reads : (P : PlanView) (good : IsPlan P) (made new : DecoderView) → made.plan ≡ P → made.root ≡ 0 → (p q : HostState) (r : Result (Unit {0}) WholeFault) (s : Result Value WholeFault) → ((schema : Declared) (T : Shape) → FeedsInput schema T p q new r → Did (ReadsValue schema T) p q (verdict s))
-    → ((T : Shape) → IsInstance made.plan made.root T → IsFormed made.plan.schema T → FeedsInput made.plan.schema T p q new r) → (T : Shape) → IsInstance P 0 T → IsFormed P.schema T → Did (ReadsValue P.schema T) p q (verdict s)
+pub made_reads : (P : PlanView) (good : IsPlan P) (made new : DecoderView) → made.plan ≡ P → made.root ≡ 0 → (p q : HostState) (r : Result (Unit {0}) WholeFault) (s : Result Value WholeFault)
+    → ((schema : Declared) (T : Shape) → FeedsInput schema T p q new r → Did (ReadsValue schema T) p q (verdict s))
+    → ((T : Shape) → IsInstance made.plan made.root T → IsFormed made.plan.schema T → FeedsInput made.plan.schema T p q new r)
+    → (T : Shape) → IsInstance P 0 T → IsFormed P.schema T → Did (ReadsValue P.schema T) p q (verdict s)
 made_reads P good made new plan root p q r s reads_as fed_so T is formed =
     reads_as P.schema T (subst (λ (x : PlanView). FeedsInput x.schema T p q new r) plan (fed_so T (own_is P 0 good T is formed made plan root) (own_formed P 0 good T is formed made plan root)))

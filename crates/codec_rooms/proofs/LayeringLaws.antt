@@ -4,38 +4,59 @@ use Rattle.tl_base.specs.declared.host.Slot.TheVariants.{Schema, Input}
 use Rattle.tl_schema.specs.Schemas.{Declared}
 use Rattle.tl_schema.specs.Types.{Shape}
 use Rattle.command_base.specs.Answer.{Answer, refused}
-use Rattle.outside.specs.Laws.{Throughout, Keeps, Explains, HasCause}
-use Rattle.outside.specs.Runs as runs
-use Rattle.outside.proofs.Causing.{keeps_answer, keeps_begun, keeps_print, keeps_tell, throughout_both, cause_answer, cause_print, cause_run}
+use Rattle.outside.specs.Laws.{Keeps, Explains, HasCause}
+use Rattle.outside.specs.Runs.{Runs}
+use Rattle.outside.proofs.Causing.{keeps_answer, cause_answer, cause_run}
+use Rattle.schema_files.specs.Answering.{OfSchemaFile}
 use Rattle.schema_files.specs.Lines.{type_line}
-use Rattle.layer_commands.specs.Layers.{OfLayers, broken, whole}
-use Rattle.codec_rooms.specs.EncodeLaws.{IsOfEncode}
-use Rattle.codec_rooms.specs.Layers.{OfOld, no_type, typed, compared, compares}
-use Rattle.codec_rooms.specs.LayersLaws.{LayersTouches, LayersHasCause}
-use Rattle.codec_rooms.proofs.TypedLaws.{keeps_of_file, cause_of_file}
-
-keeps_old : (old new type : List ℕ) (schema : Declared) → Keeps (IsOfEncode old new) (OfOld new type schema)
-keeps_old old new type schema t s (no_type cause r h) = keeps_print (IsOfEncode old new) (λ _. tt) tt (λ _. tt) tt (refused (type_line cause)) t s h
-keeps_old old new type schema t s (typed T is h) =
-    let P = IsOfEncode old new in
-    keeps_of_file P (λ _. tt) tt (λ _. tt) tt Input (codes "new") (compared schema T) new (λ _. inr (refl, refl)) (λ _. inr refl) (inr refl) (inr refl) (λ other. keeps_answer P (λ _. tt) tt (λ _. tt) tt (OfLayers schema other T)) t s h
-
-keeps_layers : (old new type : List ℕ) → Keeps (IsOfEncode old new) (compares old new type)
-keeps_layers old new type = keeps_of_file (IsOfEncode old new) (λ _. tt) tt (λ _. tt) tt Schema (codes "schema") (OfOld new type) old (λ _. inl (refl, refl)) (λ _. inl refl) (inl refl) (inl refl) (keeps_old old new type)
-
-pub layers_touches : LayersTouches
-layers_touches old new type t s (runs.done h) = keeps_layers old new type t s h
-layers_touches old new type t s (runs.out_of_memory h) =
-    let P = IsOfEncode old new in
-    subst (Throughout P) (sym h.splits) (throughout_both P h.first h.rest (keeps_begun P (compares old new type) h.first (keeps_layers old new type) h.does.0) (keeps_tell P (λ _. tt) tt _ _ h.rest s h.goes))
+use Rattle.layer_commands.specs.Layers.{OfLayers, broken, whole, OfType}
+use Rattle.layer_commands.specs.Layers as answer
+use Rattle.layer_commands.proofs.OneLayers.{one_layers}
+use Rattle.codec_rooms.specs.Commands.{layers}
+use Rattle.codec_rooms.specs.Layers.{OfNew, compared, compares}
+use Rattle.codec_rooms.specs.Laws.{Named, IsOf, Touches, AnswersFiles, ReadsFiles, EndsFiles}
+use Rattle.codec_rooms.specs.Typed.{OfAsked, no_type, typed}
+use Rattle.codec_rooms.proofs.FileLaws.{Comes, comes_as, comes_print, touches, answers_files, reads_files, ends_files}
+use Rattle.codec_rooms.proofs.TypedFiles.{comes_answer, comes_of_file}
+use Rattle.codec_rooms.proofs.TypedLaws.{keeps_asked, keeps_named, cause_asked, cause_of_file}
 
 plain : (old new : Declared) (T : Shape) (a : Answer) → OfLayers old new T a → Explains a.status []
 plain old new T a (broken decl cause breaks is) = subst (λ (b : Answer). Explains b.status []) (sym is) tt
 plain old new T a (whole n unbroken counts is) = subst (λ (b : Answer). Explains b.status []) (sym is) tt
 
-cause_old : (new type : List ℕ) (schema : Declared) → HasCause (OfOld new type schema)
-cause_old new type schema t s (no_type cause r h) = cause_print (refused (type_line cause)) tt t s h
-cause_old new type schema t s (typed T is h) = cause_of_file Input refl (codes "new") (compared schema T) new (λ other. cause_answer (OfLayers schema other T) (plain schema other T)) t s h
+module _ (old new type : List ℕ) where
+  abbrev reads : Named
+  reads = (layers old new type).reads
 
-pub layers_has_cause : LayersHasCause
-layers_has_cause old new type = cause_run (compares old new type) (cause_of_file Schema refl (codes "schema") (OfOld new type) old (cause_old new type))
+  keeps : Keeps (IsOf reads) (compares old new type)
+  keeps =
+      keeps_named reads Schema old (inl (refl, refl)) (codes "schema") (OfAsked (OfNew new) type)
+      (keeps_asked (IsOf reads) (λ _. tt) tt (λ _. tt) tt (OfNew new) type
+      (λ schema T. keeps_named reads Input new (inr (inl (refl, refl))) (codes "new") (compared schema T) (λ other. keeps_answer (IsOf reads) (λ _. tt) tt (λ _. tt) tt (OfLayers schema other T))))
+
+  pub layers_touches : Touches (layers old new type)
+  layers_touches = touches (layers old new type) keeps
+
+  pub layers_has_cause : HasCause (Runs (compares old new type))
+  layers_has_cause =
+      cause_run (compares old new type)
+      (cause_of_file Schema refl (codes "schema") (OfAsked (OfNew new) type) old
+      (cause_asked (OfNew new) type (λ schema T. cause_of_file Input refl (codes "new") (compared schema T) new (λ other. cause_answer (OfLayers schema other T) (plain schema other T)))))
+
+  comes_old : (schema : Declared) → Comes (λ s. OfType schema type new s.view.files) (OfAsked (OfNew new) type schema)
+  comes_old schema t status s n (no_type cause r h) f = comes_print (OfType schema type new s.view.files) (refused (type_line cause)) t status (answer.no_type cause r refl) h
+  comes_old schema t status s n (typed T is h) f =
+      comes_as (OfSchemaFile (codes "new") (λ S. OfLayers schema S T) s.view.files new) (OfType schema type new s.view.files) (λ a tells. answer.typed T is tells) t status
+      (comes_of_file (codes "new") (compared schema T) (λ S files. OfLayers schema S T) (λ S u end m k g i. comes_answer (OfLayers schema S T) u end g) Input new t status s n h f)
+
+  comes : Comes (λ s. (layers old new type).answers s.view.files) (compares old new type)
+  comes = comes_of_file (codes "schema") (OfAsked (OfNew new) type) (λ S files. OfType S type new files) comes_old Schema old
+
+  pub layers_answers : AnswersFiles (layers old new type)
+  layers_answers = answers_files (layers old new type) comes (λ files. one_layers files old new type)
+
+  pub layers_reads : ReadsFiles (layers old new type)
+  layers_reads = reads_files (layers old new type) layers_touches layers_has_cause
+
+  pub layers_ends : EndsFiles (layers old new type)
+  layers_ends = ends_files (layers old new type) comes (λ files. one_layers files old new type) layers_reads

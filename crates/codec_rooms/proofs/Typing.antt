@@ -1,7 +1,9 @@
 -- What is made of a schema, a type and an input, and that each of these can go on to its end.
-use Rattle.std.proofs.Common.{ℕ, List, [], Option, Some, None, Err, ◌++◌, sym, subst, inl, inr}
+use Rattle.std.proofs.Common.{◌≡◌, ℕ, List, [], ◌∷◌, ◌++◌, Option, Some, None, Ok, Err, sym, subst, inl, inr}
 use Rattle.tl_schema.specs.AskedTypes.{IsTypeText}
+use Rattle.tl_plan.specs.Plans.{PlanView, answer}
 use Rattle.tl_schema.specs.CheckedPrograms.{IsSchema}
+use Rattle.tl_schema.specs.Formed.{IsFormed}
 use Rattle.tl_schema.specs.Schemas.{Declared}
 use Rattle.tl_schema.specs.Types.{Shape}
 use Rattle.command_base.specs.Answer.{Answer, refused}
@@ -17,12 +19,14 @@ use Rattle.outside.proofs.Growing.{did_none}
 use Rattle.outside.proofs.Piecewise.{can_tell}
 use Rattle.outside.proofs.Printed.{can_print}
 use Rattle.schema_files.specs.Lines.{schema_line, type_line, plan_line}
-use Rattle.schema_files.specs.Loaded.{IsSchemaText, HasPlan}
+use Rattle.schema_files.specs.Loaded.{IsSchemaText}
 use Rattle.schema_files.specs.Parts.{ReadsSchema, PlansType, TellsSchema, TellsType, TellsPlan}
 use Rattle.schema_files.proofs.OneSchemaText.{schema_or_refused}
 use Rattle.schema_files.proofs.OneTypeName.{type_or_refused}
+use Rattle.schema_files.proofs.Planned.{planned as made_plan, formed_planned}
 use Rattle.schema_files.proofs.TypePlans.{plan_or_refused}
-use Rattle.codec_rooms.specs.Typed.{OfSchema, OfType, OfText, no_schema, schema_of, OfPlan, no_plan, planned, OfWord, no_type, typed, after_schema}
+use Rattle.codec_rooms.specs.Typed.{OfSchema, OfType, OfText, no_schema, schema_of, OfPlan, no_plan, planned, OfAsked, no_type, typed, after_schema}
+use Rattle.codec_rooms.specs.inner.Purposes.{IsPlanOf}
 
 -- what is told of something that is refused is an answer of this kind
 pub refused_made : (Is : Answer → Type 0) (Tells : List ℕ → Type 0) (u : Unmade) → ((line : List ℕ) → Tells line → Is (refused line)) → Refuses Tells u → Makes Is (of_fault u)
@@ -33,7 +37,8 @@ refused_made Is Tells unmade.Memory into h = tt
 -- a step does what another can do, with the same answer
 pub did_as : {A : Type 0} (S W : Step A) (p q : HostState) (answer : Option A) → ((t : List Event) (a : A) → S t a → W t a) → Did S p q answer → Did W p q answer
 did_as S W p q (Some a) into h = record { trace = h.trace; grew = h.grew; holds = into h.trace a h.holds }
-did_as S W p q None into h = record { trace = h.trace; grew = h.grew; holds = record { rest = h.holds.rest; answer = h.holds.answer; whole = into (h.trace ++ h.holds.rest) h.holds.answer h.holds.whole } }
+did_as S W p q None into h =
+    record { trace = h.trace; grew = h.grew; holds = record { rest = h.holds.rest; answer = h.holds.answer; whole = into (h.trace ++ h.holds.rest) h.holds.answer h.holds.whole } }
 
 -- a refusal that is printed, or out of memory
 pub refusal_done : (W : Step Status) (Tells : List ℕ → Type 0) (u : Unmade) (p q : HostState) (answer : Option Status) → Begins W []
@@ -59,40 +64,48 @@ module _ (what : List ℕ) (Rest : OfSchema) where
     can_schema (Some text) = can_text text
     can_schema None = can_tell _ _
 
-    pub text_refused : (text : List ℕ) (u : Unmade) (p q : HostState) (answer : Option Status) → ReadsSchema what text (Err u) → PrintsMade (of_fault u) p q answer → Did (OfText what Rest text) p q answer
+    pub text_refused : (text : List ℕ) (u : Unmade) (p q : HostState) (answer : Option Status) → ReadsSchema what text (Err u) → PrintsMade (of_fault u) p q answer
+        → Did (OfText what Rest text) p q answer
     text_refused text u p q answer = refusal_done (OfText what Rest text) (TellsSchema what text) u p q answer (can_text text)
         (λ line (cause, r, is) t status h. no_schema cause r (subst (λ (l : List ℕ). Prints (refused l) t status) is h))
 
   pub text_read : (text : List ℕ) (schema : Declared) (p q : HostState) (answer : Option Status) → IsSchemaText text schema → Did (Rest schema) p q answer → Did (OfText what Rest text) p q answer
   text_read text schema p q answer is = did_as (Rest schema) (OfText what Rest text) p q answer (λ t status h. schema_of schema is h)
 
--- ---- a type
+-- ---- a type, and its plan
 
-module _ (Rest : OfType) (schema : Declared) where
-  module _ (s : Shape) where
-    pub can_plan : Begins (Rest schema s) [] → Begins (OfPlan Rest s schema) []
-    can_plan can = elim (plan_or_refused schema s) [
-      | inl has ↦ begun_as (Rest schema s) (OfPlan Rest s schema) (λ t status h. planned has h) can
-      | inr (cause, r) ↦ begun_as (Prints (refused (plan_line cause))) (OfPlan Rest s schema) (λ t status h. no_plan cause r h) (can_print (refused (plan_line cause)))
+module _ (Rest : OfType) (schema : Declared) (s : Shape) where
+  pub can_plan : Begins (Rest schema s) [] → Begins (OfPlan Rest s schema) []
+  can_plan can = elim (plan_or_refused schema s) [
+    | inl has ↦ begun_as (Rest schema s) (OfPlan Rest s schema) (λ t status h. planned has h) can
+    | inr (cause, r) ↦ begun_as (Prints (refused (plan_line cause))) (OfPlan Rest s schema) (λ t status h. no_plan cause r h) (can_print (refused (plan_line cause)))
+  ]
+
+  pub plan_refused : Begins (Rest schema s) [] → (u : Unmade) (p q : HostState) (answer : Option Status) → PlansType schema s (Err u) → PrintsMade (of_fault u) p q answer
+      → Did (OfPlan Rest s schema) p q answer
+  plan_refused can u p q answer = refusal_done (OfPlan Rest s schema) (TellsPlan schema s) u p q answer (can_plan can)
+      (λ line (cause, r, is) t status h. no_plan cause r (subst (λ (l : List ℕ). Prints (refused l) t status) is h))
+
+  module _ (plan : PlanView) (is : answer schema (s ∷ []) ≡ Ok plan) where
+    pub plan_made : (p q : HostState) (answered : Option Status) → Did (Rest plan.schema s) p q answered → Did (OfPlan Rest s schema) p q answered
+    plan_made p q answered h =
+        did_as (Rest schema s) (OfPlan Rest s schema) p q answered (λ t status g. planned (plan, is) g) (subst (λ (S : Declared). Did (Rest S s) p q answered) (made_plan schema s plan is).0 h)
+
+-- the plan that was made is one of the type
+pub plan_is : (schema : Declared) (s : Shape) (plan : PlanView) → answer schema (s ∷ []) ≡ Ok plan → IsFormed schema s → IsPlanOf plan s
+plan_is schema s plan is formed = let of = made_plan schema s plan is in record { root = of.1; instance = of.2; formed = formed_planned schema s plan is formed s of.2 }
+
+module _ (Rest : OfType) (schema : Declared) (word : List ℕ) where
+  module _ (can : (s : Shape) → IsTypeText schema.program word s → Begins (Rest schema s) []) where
+    pub can_asked : Begins (OfAsked Rest word schema) []
+    can_asked = elim (type_or_refused schema word) [
+      | inl (s, is) ↦ begun_as (Rest schema s) (OfAsked Rest word schema) (λ t status h. typed s is h) (can s is)
+      | inr (cause, r) ↦ begun_as (Prints (refused (type_line cause))) (OfAsked Rest word schema) (λ t status h. no_type cause r h) (can_print (refused (type_line cause)))
     ]
 
-    pub plan_refused : Begins (Rest schema s) [] → (u : Unmade) (p q : HostState) (answer : Option Status) → PlansType schema s (Err u) → PrintsMade (of_fault u) p q answer → Did (OfPlan Rest s schema) p q answer
-    plan_refused can u p q answer = refusal_done (OfPlan Rest s schema) (TellsPlan schema s) u p q answer (can_plan can)
-        (λ line (cause, r, is) t status h. no_plan cause r (subst (λ (l : List ℕ). Prints (refused l) t status) is h))
-
-    pub plan_made : (p q : HostState) (answer : Option Status) → HasPlan schema s → Did (Rest schema s) p q answer → Did (OfPlan Rest s schema) p q answer
-    plan_made p q answer has = did_as (Rest schema s) (OfPlan Rest s schema) p q answer (λ t status h. planned has h)
-
-  module _ (word : List ℕ) where
-    pub can_word : ((s : Shape) → IsTypeText schema.program word s → Begins (Rest schema s) []) → Begins (OfWord Rest word schema) []
-    can_word can = elim (type_or_refused schema word) [
-      | inl (s, is) ↦ begun_as (OfPlan Rest s schema) (OfWord Rest word schema) (λ t status h. typed s is h) (can_plan s (can s is))
-      | inr (cause, r) ↦ begun_as (Prints (refused (type_line cause))) (OfWord Rest word schema) (λ t status h. no_type cause r h) (can_print (refused (type_line cause)))
-    ]
-
-    pub word_refused : ((s : Shape) → IsTypeText schema.program word s → Begins (Rest schema s) []) → (u : Unmade) (p q : HostState) (answer : Option Status) → Refuses (TellsType schema word) u → PrintsMade (of_fault u) p q answer → Did (OfWord Rest word schema) p q answer
-    word_refused can u p q answer = refusal_done (OfWord Rest word schema) (TellsType schema word) u p q answer (can_word can)
+    pub asked_refused : (u : Unmade) (p q : HostState) (answer : Option Status) → Refuses (TellsType schema word) u → PrintsMade (of_fault u) p q answer → Did (OfAsked Rest word schema) p q answer
+    asked_refused u p q answer = refusal_done (OfAsked Rest word schema) (TellsType schema word) u p q answer can_asked
         (λ line (cause, r, is) t status h. no_type cause r (subst (λ (l : List ℕ). Prints (refused l) t status) is h))
 
-    pub word_meant : (s : Shape) (p q : HostState) (answer : Option Status) → IsTypeText schema.program word s → Did (OfPlan Rest s schema) p q answer → Did (OfWord Rest word schema) p q answer
-    word_meant s p q answer is = did_as (OfPlan Rest s schema) (OfWord Rest word schema) p q answer (λ t status h. typed s is h)
+  pub asked_meant : (s : Shape) (p q : HostState) (answer : Option Status) → IsTypeText schema.program word s → Did (Rest schema s) p q answer → Did (OfAsked Rest word schema) p q answer
+  asked_meant s p q answer is = did_as (Rest schema s) (OfAsked Rest word schema) p q answer (λ t status h. typed s is h)

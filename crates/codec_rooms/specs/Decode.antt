@@ -38,10 +38,10 @@ pub data Decides (schema : Declared) (T : Shape) (bytes : List ℕ) : WholeFault
   faulty : (offset : ℕ) (cause : Cause) → cause ≢ Truncated → refusal.Refused schema MAX_LEVELS T bytes offset cause → Decides schema T bytes (Refused (moved 0 offset) cause)
   longer : (v : ValueView) (x rest : List ℕ) → bytes ≡ x ++ rest → 0 < length rest → Spells schema T v x → depth v ≤ MAX_LEVELS → Decides schema T bytes (Trailing (moved 0 (length x)))
 
--- what it is where it ends there
-pub data EndsAs (schema : Declared) (T : Shape) (bytes : List ℕ) : Verdict → Type 0 where
-  cut_off : (offset : ℕ) → refusal.Refused schema MAX_LEVELS T bytes offset Truncated → EndsAs schema T bytes (Err (Refused (moved 0 offset) Truncated))
-  is_value : (v : ValueView) → Spells schema T v bytes → depth v ≤ MAX_LEVELS → EndsAs schema T bytes (Ok v)
+-- what an input of these bytes is
+pub data HasVerdict (schema : Declared) (T : Shape) (bytes : List ℕ) : Verdict → Type 0 where
+  cut_off : (offset : ℕ) → refusal.Refused schema MAX_LEVELS T bytes offset Truncated → HasVerdict schema T bytes (Err (Refused (moved 0 offset) Truncated))
+  is_value : (v : ValueView) → Spells schema T v bytes → depth v ≤ MAX_LEVELS → HasVerdict schema T bytes (Ok v)
 
 -- ---- reading
 
@@ -49,7 +49,7 @@ pub data EndsAs (schema : Declared) (T : Shape) (bytes : List ℕ) : Verdict →
 pub data ReadsOn (schema : Declared) (T : Shape) (bytes : List ℕ) (t : List Event) : Turn (List ℕ) Verdict → Type 0 where
   more : (piece : List ℕ) → t ≡ took Input piece ∷ [] → IsOpen schema T (bytes ++ piece) → ReadsOn schema T bytes t (again (bytes ++ piece))
   decided : (piece : List ℕ) (why : WholeFault) → t ≡ took Input piece ∷ [] → Decides schema T (bytes ++ piece) why → ReadsOn schema T bytes t (leave (Err why))
-  at_end : (r : Verdict) → t ≡ ended Input ∷ [] → EndsAs schema T bytes r → ReadsOn schema T bytes t (leave r)
+  at_end : (r : Verdict) → t ≡ ended Input ∷ [] → HasVerdict schema T bytes r → ReadsOn schema T bytes t (leave r)
   failed : t ≡ read_failed Input ∷ [] → ReadsOn schema T bytes t (leave (Err ReadFault))
 
 -- the input is read piece by piece, while it is open what it is, and no further

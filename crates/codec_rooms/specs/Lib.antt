@@ -1,10 +1,8 @@
-pub mod Check
-pub mod CheckLaws
 pub mod Typed
+pub mod Check
 pub mod Encode
-pub mod EncodeLaws
 pub mod Decode
-pub mod DecodeLaws
 pub mod Layers
-pub mod LayersLaws
+pub mod Laws
+pub mod Commands
 pub mod inner

@@ -35,10 +35,14 @@ pub data OfPlan (Rest : OfType) (s : Shape) (schema : Declared) (t : List Event)
   no_plan : (cause : PlanCause) → PlanRefused schema s cause → Prints (refused (plan_line cause)) t status → OfPlan Rest s schema t status
   planned : HasPlan schema s → Rest schema s t status → OfPlan Rest s schema t status
 
--- the word is refused as a type, and its line is told; or it is one, and what follows of its plan
-pub data OfWord (Rest : OfType) (word : List ℕ) (schema : Declared) (t : List Event) (status : Status) : Type 0 where
-  no_type : (cause : TypeNameCause) → TypeNameRefused schema word cause → Prints (refused (type_line cause)) t status → OfWord Rest word schema t status
-  typed : (s : Shape) → IsTypeText schema.program word s → OfPlan Rest s schema t status → OfWord Rest word schema t status
+-- the word is refused as a type, and its line is told; or it is one, and then the rest
+pub data OfAsked (Rest : OfType) (word : List ℕ) (schema : Declared) (t : List Event) (status : Status) : Type 0 where
+  no_type : (cause : TypeNameCause) → TypeNameRefused schema word cause → Prints (refused (type_line cause)) t status → OfAsked Rest word schema t status
+  typed : (s : Shape) → IsTypeText schema.program word s → Rest schema s t status → OfAsked Rest word schema t status
+
+-- likewise, and what follows of the type's plan
+abbrev pub OfWord : OfType → List ℕ → OfSchema
+OfWord Rest = OfAsked (λ schema s. OfPlan Rest s schema)
 
 abbrev pub after_schema : List ℕ → OfSchema → Option (List ℕ) → Step Status
 after_schema what Rest (Some text) = OfText what Rest text

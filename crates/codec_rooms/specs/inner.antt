@@ -1,2 +1,3 @@
 -- What private clauses alone cite.
 pub mod Feeding
+pub mod Purposes

@@ -1,24 +1,34 @@
 //! `check`: a schema's file is read, and the list of its declarations is written.
-ghost use Rattle.command_base.specs.Jobs.{making};
-ghost use Rattle.outside.specs.Printing.{Makes};
+ghost use Rattle.std.specs.Prelude.{codes};
 ghost use Rattle.outside.specs.Runs.{Ran, answered};
 ghost use Rattle.outside.specs.Steps.{Did};
-ghost use Rattle.codec_rooms.specs.Check.{OfText, checks};
+ghost use Rattle.codec_rooms.specs.Check.{checks, lists};
+ghost use Rattle.codec_rooms.specs.Typed.{OfText};
 
 use codec_commands::listing;
-use command_base::{Status, Unmade};
-use outside::{Host, finish, print_made, read_file, tell};
+use command_base::Status;
+use outside::{Host, finish, print, print_made, read_file, unread};
 use schema_files::{SCHEMA_BYTES, schema_of};
 use std::alloc::{AllocError, Global};
 use tl_base::Slot;
+use tl_schema::Schema;
 
-// The list of the declarations of the schema that a text spells.
-fn made_listing(alloc: Global, text: &[u8]) -> Result<Vec<u8>, Unmade>
-    ensures { Makes (OfText text.now) (making result) }
+// What follows of a schema.
+fn check_listed<H: Host>(alloc: Global, host: &mut H, schema: &Schema) -> Result<Status, AllocError>
+    ensures { Did (lists schema.now) (H.state host.old) (H.state host.new) (answered result) }
 {
-    let schema = schema_of(alloc, "schema", text)?;
-    let text = listing(alloc, &schema)?;
-    Ok(text)
+    let list = listing(alloc, schema)?;
+    Ok(print(host, &list))
+}
+
+// What follows of the schema's text.
+fn check_text<H: Host>(alloc: Global, host: &mut H, text: &[u8]) -> Result<Status, AllocError>
+    ensures { Did (OfText (codes "schema") lists text.now) (H.state host.old) (H.state host.new) (answered result) }
+{
+    match schema_of(alloc, "schema", text) {
+        Ok(schema) => check_listed(alloc, host, &schema),
+        Err(fault) => print_made(host, Err(fault)),
+    }
 }
 
 /// Checks a schema, and writes the list of its declarations.
@@ -30,8 +40,8 @@ pub fn check_schema<H: Host>(
     ensures { Did (checks schema.now) (H.state host.old) (H.state host.new) (answered result) }
 {
     match read_file(alloc, host, Slot::Schema, schema, SCHEMA_BYTES)? {
-        Some(text) => print_made(host, made_listing(alloc, &text)),
-        None => Ok(tell(host, b"tlbox: read fault\n", Status::ReadFault)),
+        Some(text) => check_text(alloc, host, &text),
+        None => Ok(unread(host)),
     }
 }
 

@@ -1,22 +1,22 @@
 //! `decode`: a schema's file is read, its type is looked for, the input is read piece by piece, and the line of its value is written.
-ghost use Rattle.std.specs.Prelude.{codes, ◌<◌, true};
+ghost use Rattle.std.specs.Prelude.{codes, true};
 ghost use Rattle.outside.specs.Runs.{Ran, answered};
 ghost use Rattle.outside.specs.Steps.{Did};
 ghost use Rattle.tl_schema.specs.Formed.{IsFormed};
 ghost use Rattle.tl_schema.specs.Seen.{shape};
-ghost use Rattle.tl_schema.specs.Types.{Shape};
-ghost use Rattle.tl_plan.specs.PlanLaws.{IsInstance};
 ghost use Rattle.command_base.specs.Jobs.{making};
 ghost use Rattle.command_base.specs.Loading.{RefusesAs};
 ghost use Rattle.schema_files.specs.Lines.{cause_text, input_line};
-ghost use Rattle.codec_rooms.specs.Decode.{OfBytes, after_opening, decodes, decodes_by, verdict};
-ghost use Rattle.codec_rooms.specs.Typed.{OfPlan, OfText};
+ghost use Rattle.codec_rooms.specs.Decode.{OfBytes, after_opening, decodes, verdict};
+ghost use Rattle.codec_rooms.specs.Typed.{OfPlan};
 ghost use Rattle.codec_rooms.specs.inner.Feeding.{MakesVerdict};
+ghost use Rattle.codec_rooms.specs.inner.Purposes.{IsPlanOf};
 
 use crate::feeding::read_value;
+use crate::typed::{Purpose, follow_file};
 use command_base::{Status, Unmade};
-use outside::{Host, finish, print_made, read_file, tell};
-use schema_files::{SCHEMA_BYTES, cause_text, plan_of, schema_of, type_named, value_line};
+use outside::{Host, finish, print_made, unread};
+use schema_files::{cause_text, plan_of, value_line};
 use std::alloc::{AllocError, Global};
 use tl_base::Slot;
 use tl_decode::WholeFault;
@@ -64,9 +64,7 @@ fn decode_open<H: Host>(
     plan: &Plan,
     of: &TypeRef,
 ) -> Result<Status, AllocError>
-    requires root { 0 < plan.now.roots }
-    requires instance { IsInstance plan.now 0 (shape of.now) }
-    requires formed { (T : Shape) → IsInstance plan.now 0 T → IsFormed plan.now.schema T }
+    requires { IsPlanOf plan.now (shape of.now) }
     ensures { Did (after_opening plan.now.schema (shape of.now) true) (H.state host.old) (H.state host.new) (answered result) }
 {
     let got = read_value(alloc, host, plan);
@@ -81,19 +79,17 @@ fn decode_file<H: Host>(
     of: &TypeRef,
     input: &str,
 ) -> Result<Status, AllocError>
-    requires root { 0 < plan.now.roots }
-    requires instance { IsInstance plan.now 0 (shape of.now) }
-    requires formed { (T : Shape) → IsInstance plan.now 0 T → IsFormed plan.now.schema T }
+    requires { IsPlanOf plan.now (shape of.now) }
     ensures { Did (OfBytes input.now plan.now.schema (shape of.now)) (H.state host.old) (H.state host.new) (answered result) }
 {
     match host.open_slot(Slot::Input, input) {
         Ok(()) => decode_open(alloc, host, plan, of),
-        Err(_) => Ok(tell(host, b"tlbox: read fault\n", Status::ReadFault)),
+        Err(_) => Ok(unread(host)),
     }
 }
 
-// What follows of a type.
-fn decode_planned<H: Host>(
+/// What follows of a type.
+pub fn decode_planned<H: Host>(
     alloc: Global,
     host: &mut H,
     schema: &Schema,
@@ -109,38 +105,6 @@ fn decode_planned<H: Host>(
     }
 }
 
-// What follows of a schema.
-fn decode_typed<H: Host>(
-    alloc: Global,
-    host: &mut H,
-    schema: &Schema,
-    of: &str,
-    input: &str,
-) -> Result<Status, AllocError>
-    ensures { Did (decodes_by of.now input.now schema.now) (H.state host.old) (H.state host.new) (answered result) }
-{
-    match type_named(alloc, schema, of) {
-        Ok(of) => decode_planned(alloc, host, schema, &of, input),
-        Err(fault) => print_made(host, Err(fault)),
-    }
-}
-
-// What follows of the schema's text.
-fn decode_text<H: Host>(
-    alloc: Global,
-    host: &mut H,
-    text: &[u8],
-    of: &str,
-    input: &str,
-) -> Result<Status, AllocError>
-    ensures { Did (OfText (codes "schema") (decodes_by of.now input.now) text.now) (H.state host.old) (H.state host.new) (answered result) }
-{
-    match schema_of(alloc, "schema", text) {
-        Ok(schema) => decode_typed(alloc, host, &schema, of, input),
-        Err(fault) => print_made(host, Err(fault)),
-    }
-}
-
 /// Decodes the input's one value, and writes its line.
 pub fn decode_input<H: Host>(
     alloc: Global,
@@ -151,10 +115,7 @@ pub fn decode_input<H: Host>(
 ) -> Result<Status, AllocError>
     ensures { Did (decodes schema.now of.now input.now) (H.state host.old) (H.state host.new) (answered result) }
 {
-    match read_file(alloc, host, Slot::Schema, schema, SCHEMA_BYTES)? {
-        Some(text) => decode_text(alloc, host, &text, of, input),
-        None => Ok(tell(host, b"tlbox: read fault\n", Status::ReadFault)),
-    }
+    follow_file(alloc, host, Purpose::Decode, schema, of, input)
 }
 
 /// Likewise, to the end of the run: out of memory is told.

@@ -9,7 +9,7 @@ ghost use Rattle.tl_numbers.specs.Bytes.{AreBytes};
 ghost use Rattle.tl_types.specs.Values.{ValueView};
 ghost use Rattle.tl_decode.specs.Decoders.{Feeds, HasTaken, HasValue};
 ghost use Rattle.codec_rooms.specs.Decode.{ReadsValue, verdict};
-ghost use Rattle.codec_rooms.specs.inner.Feeding.{EndsInput, FeedsInput};
+ghost use Rattle.codec_rooms.specs.inner.Feeding.{EndsInput, FeedsEach};
 
 use outside::Host;
 use std::alloc::Global;
@@ -36,7 +36,7 @@ fn feed_input<H: Host>(host: &mut H, decoder: &mut Decoder<'_, '_>) -> Result<()
     requires sound { IsPlan decoder.old.plan }
     requires first { HasTaken decoder.old [] }
     ensures value { IfOk result (λ _. (v : ValueView) × HasValue decoder.new v) }
-    ensures reads { (T : Shape) → IsInstance decoder.old.plan decoder.old.root T → IsFormed decoder.old.plan.schema T → FeedsInput decoder.old.plan.schema T (H.state host.old) (H.state host.new) decoder.new result }
+    ensures reads { FeedsEach decoder.old decoder.new (H.state host.old) (H.state host.new) result }
 {
     let mut piece = [0u8; PIECE_BYTES];
     if let Fed::Done { .. } = decoder.feed(&[])? {

@@ -2,17 +2,17 @@
 ghost use Rattle.std.specs.Prelude.{codes};
 ghost use Rattle.outside.specs.Runs.{Ran, answered};
 ghost use Rattle.outside.specs.Steps.{Did};
-ghost use Rattle.tl_base.specs.declared.host.Slot.TheVariants.{Input};
 ghost use Rattle.tl_schema.specs.CheckedPrograms.{IsSchema};
 ghost use Rattle.tl_schema.specs.Formed.{IsFormed};
 ghost use Rattle.tl_schema.specs.Seen.{shape};
-ghost use Rattle.codec_rooms.specs.Layers.{OfOld, compared, compares};
-ghost use Rattle.codec_rooms.specs.Typed.{OfFile, OfText};
+ghost use Rattle.codec_rooms.specs.Layers.{OfNew, compared, compares};
+ghost use Rattle.codec_rooms.specs.Typed.{OfText};
 
+use crate::typed::{Purpose, follow_file};
 use command_base::Status;
 use layer_commands::verdict_line;
-use outside::{Host, finish, print_made, read_file, tell};
-use schema_files::{SCHEMA_BYTES, schema_of, type_named};
+use outside::{Host, finish, print_made, read_file, unread};
+use schema_files::{SCHEMA_BYTES, schema_of};
 use std::alloc::{AllocError, Global};
 use tl_base::Slot;
 use tl_schema::{Schema, TypeRef};
@@ -35,8 +35,8 @@ fn compare_text<H: Host>(
     }
 }
 
-// What follows of a type of the old schema.
-fn compare_file<H: Host>(
+/// What follows of a type of the old schema.
+pub fn compare_file<H: Host>(
     alloc: Global,
     host: &mut H,
     old: &Schema,
@@ -45,44 +45,11 @@ fn compare_file<H: Host>(
 ) -> Result<Status, AllocError>
     requires formed { IsFormed old.now (shape of.now) }
     requires good { IsSchema old.now }
-    ensures { Did (OfFile Input (codes "new") (compared old.now (shape of.now)) new.now) (H.state host.old) (H.state host.new) (answered result) }
+    ensures { Did (OfNew new.now old.now (shape of.now)) (H.state host.old) (H.state host.new) (answered result) }
 {
     match read_file(alloc, host, Slot::Input, new, SCHEMA_BYTES)? {
         Some(text) => compare_text(alloc, host, old, of, &text),
-        None => Ok(tell(host, b"tlbox: read fault\n", Status::ReadFault)),
-    }
-}
-
-// What follows of the old schema.
-fn compare_old<H: Host>(
-    alloc: Global,
-    host: &mut H,
-    old: &Schema,
-    new: &str,
-    of: &str,
-) -> Result<Status, AllocError>
-    requires { IsSchema old.now }
-    ensures { Did (OfOld new.now of.now old.now) (H.state host.old) (H.state host.new) (answered result) }
-{
-    match type_named(alloc, old, of) {
-        Ok(of) => compare_file(alloc, host, old, &of, new),
-        Err(fault) => print_made(host, Err(fault)),
-    }
-}
-
-// What follows of the old schema's text.
-fn compare_old_text<H: Host>(
-    alloc: Global,
-    host: &mut H,
-    text: &[u8],
-    new: &str,
-    of: &str,
-) -> Result<Status, AllocError>
-    ensures { Did (OfText (codes "schema") (OfOld new.now of.now) text.now) (H.state host.old) (H.state host.new) (answered result) }
-{
-    match schema_of(alloc, "schema", text) {
-        Ok(old) => compare_old(alloc, host, &old, new, of),
-        Err(fault) => print_made(host, Err(fault)),
+        None => Ok(unread(host)),
     }
 }
 
@@ -96,10 +63,7 @@ pub fn compare_schemas<H: Host>(
 ) -> Result<Status, AllocError>
     ensures { Did (compares old.now new.now of.now) (H.state host.old) (H.state host.new) (answered result) }
 {
-    match read_file(alloc, host, Slot::Schema, old, SCHEMA_BYTES)? {
-        Some(text) => compare_old_text(alloc, host, &text, new, of),
-        None => Ok(tell(host, b"tlbox: read fault\n", Status::ReadFault)),
-    }
+    follow_file(alloc, host, Purpose::Compare, old, of, new)
 }
 
 /// Likewise, to the end of the run: out of memory is told.

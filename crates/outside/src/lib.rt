@@ -13,6 +13,6 @@ pub use ending::finish;
 pub use host::Host;
 pub use packets::{Packet, take_packet};
 pub use pieces::{Taken, take_bytes, tell, write_out};
-pub use printing::{print, print_made};
+pub use printing::{print, print_made, unread};
 pub use reading::read_file;
 pub use untold::Untold;

@@ -3,7 +3,7 @@ ghost use Rattle.std.specs.Prelude.{Some};
 ghost use Rattle.command_base.specs.Answer.{done};
 ghost use Rattle.command_base.specs.Jobs.{making};
 ghost use Rattle.outside.specs.Steps.{Did};
-ghost use Rattle.outside.specs.Printing.{Prints, PrintsMade};
+ghost use Rattle.outside.specs.Printing.{Prints, PrintsMade, Unread};
 ghost use Rattle.outside.specs.Runs.{answered};
 
 use crate::host::Host;
@@ -22,6 +22,13 @@ pub fn print<H: Host>(host: &mut H, text: &[u8]) -> Status
     }
 }
 
+/// Tells that a file can't be read.
+pub fn unread<H: Host>(host: &mut H) -> Status
+    ensures { Did Unread (H.state host.old) (H.state host.new) (Some result) }
+{
+    tell(host, b"tlbox: read fault\n", Status::ReadFault)
+}
+
 /// Writes what was made to Output, or tells why it was not made.
 pub fn print_made<H: Host>(
     host: &mut H,
@@ -32,7 +39,7 @@ pub fn print_made<H: Host>(
     match made {
         Ok(text) => Ok(print(host, &text)),
         Err(Unmade::Refused(line)) => Ok(tell(host, &line, Status::Refused)),
-        Err(Unmade::ReadFault) => Ok(tell(host, b"tlbox: read fault\n", Status::ReadFault)),
+        Err(Unmade::ReadFault) => Ok(unread(host)),
         Err(Unmade::Memory) => Err(AllocError),
     }
 }

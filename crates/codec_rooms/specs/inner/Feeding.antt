@@ -1,6 +1,8 @@
 -- A decoder that is fed with an input. This project's own.
 use Rattle.std.specs.Prelude.{◌≡◌, ℕ, [], ◌∷◌, Option, Some, None, Result, Ok, Err}
 use Rattle.tl_base.specs.declared.host.Slot.TheVariants.{Input}
+use Rattle.tl_plan.specs.PlanLaws.{IsInstance}
+use Rattle.tl_schema.specs.Formed.{IsFormed}
 use Rattle.tl_schema.specs.Types.{Shape}
 use Rattle.tl_schema.specs.Schemas.{Declared}
 use Rattle.tl_types.specs.Values.{ValueView}
@@ -22,6 +24,10 @@ FeedsInput schema T p q d (Err (Refused place cause)) = Did (ReadsValue schema T
 FeedsInput schema T p q d (Err (Trailing place)) = Did (ReadsValue schema T) p q (Some (Err (Trailing place)))
 FeedsInput schema T p q d (Err ReadFault) = Did (ReadsValue schema T) p q (Some (Err ReadFault))
 FeedsInput schema T p q d (Err Memory) = Did (ReadsValue schema T) p q None
+
+-- likewise for each formed type that is at the root of its plan
+abbrev pub FeedsEach : DecoderView → DecoderView → HostState → HostState → Result (Unit {0}) WholeFault → Type 0
+FeedsEach old new p q r = (T : Shape) → IsInstance old.plan old.root T → IsFormed old.plan.schema T → FeedsInput old.plan.schema T p q new r
 
 -- a read more after a value: the end, or a byte of which the place is told, or it failed
 abbrev pub EndsInput : ℕ → HostState → HostState → Result (Unit {0}) WholeFault → Type 0

@@ -10,4 +10,4 @@ pub returns-in-Ok : goal.returns-in-Ok
 returns-in-Ok g c = did_then _ (after_opening c.args.plan.now.schema (shape c.args.of.now)) _ _ _ true _ (did_call (opened Input c.args.input.now) _ _ true c.in-Ok.ensures) c.decode_open.ensures
 
 pub returns-in-Err : goal.returns-in-Err
-returns-in-Err g c = did_then _ (after_opening c.args.plan.now.schema (shape c.args.of.now)) _ _ _ false _ (did_call (opened Input c.args.input.now) _ _ false c.in-Err.ensures) c.tell.ensures
+returns-in-Err g c = did_then _ (after_opening c.args.plan.now.schema (shape c.args.of.now)) _ _ _ false _ (did_call (opened Input c.args.input.now) _ _ false c.in-Err.ensures) c.unread.ensures

@@ -10,5 +10,5 @@ use Rattle.codec_rooms.proofs.decode.decode_open.Goals as goal
 pub returns : goal.returns
 returns g c =
     let T = shape c.args.of.now in
-    read_printed c.args.plan.now.schema T (verdict c.read_value-got.result) (making c.made_line.result) _ _ _ _ (c.read_value-got.ensures T c.requires.instance (c.requires.formed T c.requires.instance))
+    read_printed c.args.plan.now.schema T (verdict c.read_value-got.result) (making c.made_line.result) _ _ _ _ (c.read_value-got.ensures T c.requires.instance c.requires.formed)
     (subst (λ (S : Declared). MakesVerdict S T (verdict c.read_value-got.result) (making c.made_line.result)) c.schema.ensures c.made_line.ensures) c.print_made.ensures

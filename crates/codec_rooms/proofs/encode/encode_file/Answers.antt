@@ -16,14 +16,15 @@ returns-in_err-text g c =
     let S = c.args.plan.now.schema in
     let T = shape c.args.of.now in
     let p = err_from_is_err_and c.from_residual.result c.from_residual.ensures.1 in
-    rw p.1 (did_stop _ (after_input OfJson S T) _ _ (can_tell_json S c.requires.good T (c.requires.formed T c.requires.instance)) c.in_err-text.ensures)
+    rw p.1 (did_stop _ (after_input OfJson S T) _ _ (can_tell_json S c.requires.good T c.requires.planned.formed) c.in_err-text.ensures)
 
 pub returns-in-Some : goal.returns-in-Some
 returns-in-Some g c =
     let S = c.args.plan.now.schema in
     let T = shape c.args.of.now in
     did_then_at _ (after_input OfJson S T) _ _ _ (text_view c.in_ok-text.field-0) (Some c.deref.result.now) _ (ap text_view c.in-Some.is ∙ sym (ap Some c.deref.ensures.value)) c.in_ok-text.ensures
-    (made_printed (OfJson S T c.deref.result.now) (making c.spelled_text.result) _ _ _ (each.each_text S c.requires.good T (c.requires.formed T c.requires.instance) c.deref.result.now) c.spelled_text.ensures c.print_made.ensures)
+    (made_printed (OfJson S T c.deref.result.now) (making c.spelled_text.result) _ _ _ (each.each_text S c.requires.good T c.requires.planned.formed c.deref.result.now) c.spelled_text.ensures c.print_made.ensures)
 
 pub returns-in-None : goal.returns-in-None
-returns-in-None g c = did_then_at _ (after_input OfJson c.args.plan.now.schema (shape c.args.of.now)) _ _ _ (text_view c.in_ok-text.field-0) None _ (ap text_view c.in-None.is) c.in_ok-text.ensures c.tell.ensures
+returns-in-None g c =
+    did_then_at _ (after_input OfJson c.args.plan.now.schema (shape c.args.of.now)) _ _ _ (text_view c.in_ok-text.field-0) None _ (ap text_view c.in-None.is) c.in_ok-text.ensures c.unread.ensures

@@ -16,7 +16,7 @@ returns-in-Ok c text (d, json, reads) =
     let T = shape c.args.of.now in
     let v = view c.args.value.now in
     let at = c.requires.instance in
-    let spells = (each_fits_exactly c.args.plan.now.schema c.in-Ok.ensures.sound.schema MAX_LEVELS T v (c.requires.formed T at)).spelled (c.in-Ok.ensures.fits T at) in
+    let spells = (each_fits_exactly c.args.plan.now.schema c.in-Ok.ensures.sound.schema MAX_LEVELS T v c.requires.formed).spelled (c.in-Ok.ensures.fits T at) in
     spelled d v spells.0 json reads spells.1 spells.2 (ap done (c.in-Ok.ensures.spelled T spells.0 at spells.1))
 
 pub returns-in-Err : goal.returns-in-Err

@@ -13,4 +13,5 @@ returns-in_err-feed_input g c =
 pub returns : goal.returns
 returns g c =
     let made = c.new-decoder in
-    made_reads c.args.plan.now made.ensures.sound made.result c.feed_input.new.decoder made.ensures.plan made.ensures.root _ _ (Ok _) (Ok c.into_value.result) (λ schema T h. value_read schema T _ _ c.feed_input.new.decoder c.into_value.result c.into_value.ensures.value h) c.in_ok-feed_input.ensures.reads
+    made_reads c.args.plan.now made.ensures.sound made.result c.feed_input.new.decoder made.ensures.plan made.ensures.root _ _ (Ok _) (Ok c.into_value.result)
+    (λ schema T h. value_read schema T _ _ c.feed_input.new.decoder c.into_value.result c.into_value.ensures.value h) c.in_ok-feed_input.ensures.reads

@@ -1,0 +1,25 @@
+use Rattle.std.proofs.Common.{codes, Some, None, ap, sym, ◌∙◌}
+use Rattle.std.proofs.lemmas.Result.{err_from_is_err_and}
+use Rattle.outside.specs.Pieces.{text_view}
+use Rattle.outside.proofs.Growing.{did_stop, did_then_at}
+use Rattle.codec_rooms.specs.Typed.{after_schema}
+use Rattle.codec_rooms.specs.inner.Purposes.{asked_by}
+use Rattle.codec_rooms.proofs.Following.{can_follow}
+use Rattle.codec_rooms.proofs.Typing.{can_schema}
+use Rattle.codec_rooms.proofs.typed.follow_file.Goals as goal
+
+pub returns-in_err-text : goal.returns-in_err-text
+returns-in_err-text g c =
+    let Rest = asked_by c.args.purpose c.args.of.now c.args.input.now in
+    let p = err_from_is_err_and c.from_residual.result c.from_residual.ensures.1 in
+    rw p.1 (did_stop _ (after_schema (codes "schema") Rest) _ _ (can_schema (codes "schema") Rest (can_follow c.args.purpose c.args.of.now c.args.input.now)) c.in_err-text.ensures)
+
+pub returns-in-Some : goal.returns-in-Some
+returns-in-Some g c =
+    let after = after_schema (codes "schema") (asked_by c.args.purpose c.args.of.now c.args.input.now) in
+    did_then_at _ after _ _ _ (text_view c.in_ok-text.field-0) (Some c.deref.result.now) _ (ap text_view c.in-Some.is ∙ sym (ap Some c.deref.ensures.value)) c.in_ok-text.ensures c.follow_text.ensures
+
+pub returns-in-None : goal.returns-in-None
+returns-in-None g c =
+    let after = after_schema (codes "schema") (asked_by c.args.purpose c.args.of.now c.args.input.now) in
+    did_then_at _ after _ _ _ (text_view c.in_ok-text.field-0) None _ (ap text_view c.in-None.is) c.in_ok-text.ensures c.unread.ensures

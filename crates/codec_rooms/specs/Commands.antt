@@ -1,0 +1,25 @@
+-- The commands over schemas: what each does, which files it reads, and what it answers. This project's own.
+use Rattle.std.specs.Prelude.{ℕ, List, [], ◌∷◌}
+use Rattle.tl_base.specs.declared.host.Slot.TheVariants.{Schema, Input}
+use Rattle.codec_commands.specs.Check.{CheckAnswer}
+use Rattle.codec_commands.specs.Decode.{DecodeAnswer}
+use Rattle.codec_commands.specs.Encode.{EncodeAnswer}
+use Rattle.layer_commands.specs.Layers.{LayersAnswer}
+use Rattle.codec_rooms.specs.Check.{checks}
+use Rattle.codec_rooms.specs.Decode.{decodes}
+use Rattle.codec_rooms.specs.Encode.{encodes}
+use Rattle.codec_rooms.specs.Layers.{compares}
+use Rattle.codec_rooms.specs.Laws.{Command}
+
+abbrev pub check : List ℕ → Command
+check schema = record { work = checks schema; reads = (Schema, schema) ∷ []; answers = λ files a. CheckAnswer files schema a }
+
+abbrev pub decode : List ℕ → List ℕ → List ℕ → Command
+decode schema type input = record { work = decodes schema type input; reads = (Schema, schema) ∷ (Input, input) ∷ []; answers = λ files a. DecodeAnswer files schema type input a }
+
+abbrev pub encode : List ℕ → List ℕ → List ℕ → Command
+encode schema type input = record { work = encodes schema type input; reads = (Schema, schema) ∷ (Input, input) ∷ []; answers = λ files a. EncodeAnswer files schema type input a }
+
+-- the old schema is read by the slot Schema, the new one by the slot Input
+abbrev pub layers : List ℕ → List ℕ → List ℕ → Command
+layers old new type = record { work = compares old new type; reads = (Schema, old) ∷ (Input, new) ∷ []; answers = λ files a. LayersAnswer files old new type a }
