@@ -8,26 +8,27 @@ use Rattle.command_base.specs.Answer.{refused, write_fault_line}
 use Rattle.command_base.specs.declared.status.Status.{Status}
 use Rattle.command_base.specs.declared.status.Status.TheVariants as status
 use Rattle.outside.specs.Events.{Event, opened}
-use Rattle.outside.specs.Laws.{Happened, Throughout, Keeps, IsFailure, Explains, HasCause}
+use Rattle.outside.specs.Laws.{Happened, Keeps, IsFailure, Explains, HasCause}
 use Rattle.outside.specs.Packets.{PacketView, TakesPacket}
 use Rattle.outside.specs.Packets as taken
 use Rattle.outside.specs.Pieces.{Writes}
 use Rattle.outside.specs.Pieces as piece
-use Rattle.outside.specs.Runs as runs
+use Rattle.outside.specs.Runs.{Runs}
 use Rattle.outside.specs.Steps.{Step, Turn, again, leave, Calls, Ends}
-use Rattle.outside.proofs.Causing.{cause_print, cause_run, cause_tell, cause_then, explains_first, explains_last, keeps_begun, keeps_call, keeps_end, keeps_loop, keeps_print, keeps_tell, keeps_then, keeps_write, throughout_both, told_status, unwritten}
+use Rattle.outside.proofs.Causing.{cause_print, cause_run, cause_tell, cause_then, explains_first, explains_last, keeps_call, keeps_end, keeps_loop, keeps_print, keeps_tell, keeps_then, keeps_write, told_status, unwritten}
 use Rattle.outside.proofs.TakenPackets.{broken_packet, keeps_packet}
 use Rattle.schema_files.specs.Lines.{input_line}
-use Rattle.codec_rooms.specs.EncodeLaws.{IsOfEncode}
-use Rattle.codec_rooms.proofs.TypedLaws.{cause_of_file, keeps_of_file}
+use Rattle.codec_rooms.specs.Laws.{IsOf, ReadsFiles, Touches}
+use Rattle.codec_rooms.proofs.FileLaws.{reads_files, touches}
+use Rattle.codec_rooms.proofs.TypedLaws.{cause_of_file, keeps_named}
 use Rattle.call_rooms.specs.Calls.{SoFar, so_far, ends_by, Last, TellsRefusal, after_line, OfPacket, too_long, no_packet, told, after_packet, TellsNext, TellsPackets, after_opening, OfInput, tells_calls}
-use Rattle.call_rooms.specs.CallsLaws.{CallsTouches, CallsHasCause}
+use Rattle.call_rooms.specs.Commands.{calls}
 
 -- ---- what it does
 
 module _ (schema input : List ℕ) where
   abbrev P : Event → Type 0
-  P = IsOfEncode schema input
+  P = IsOf (calls schema input).reads
 
   keeps_last : (S : Step Status) → Keeps P S → Keeps P (Last S)
   keeps_last S first = keeps_then P S ends_by first (λ s. keeps_end P (leave s))
@@ -53,23 +54,20 @@ module _ (schema input : List ℕ) where
     keeps_after s taken.broken = keeps_last _ (keeps_tell P (λ _. tt) tt _ _)
 
     keeps_next : (s : SoFar) → Keeps P (TellsNext D s)
-    keeps_next s = keeps_then P (TakesPacket Input) (after_packet D s) (keeps_packet Input P (λ _. inr refl) (inr refl) (inr refl)) (keeps_after s)
+    keeps_next s = keeps_then P (TakesPacket Input) (after_packet D s) (keeps_packet Input P (λ _. (input, inr (inl (refl, refl)))) (input, inr (inl (refl, refl))) (input, inr (inl (refl, refl)))) (keeps_after s)
 
     keeps_opened : (ok : Bool) → Keeps P (after_opening D ok)
     keeps_opened true = keeps_loop P (TellsNext D) keeps_next (so_far [] 0)
     keeps_opened false = keeps_tell P (λ _. tt) tt _ _
 
     keeps_input : Keeps P (OfInput input D)
-    keeps_input = keeps_then P (Calls (opened Input input)) (after_opening D) (keeps_call P (opened Input input) (λ _. inr (refl, refl))) keeps_opened
+    keeps_input = keeps_then P (Calls (opened Input input)) (after_opening D) (keeps_call P (opened Input input) (λ _. inr (inl (refl, refl)))) keeps_opened
 
   keeps_calls : Keeps P (tells_calls schema input)
-  keeps_calls = keeps_of_file P (λ _. tt) tt (λ _. tt) tt Schema (codes "schema") (OfInput input) schema (λ _. inl (refl, refl)) (λ _. inl refl) (inl refl) (inl refl) keeps_input
+  keeps_calls = keeps_named (calls schema input).reads Schema schema (inl (refl, refl)) (codes "schema") (OfInput input) keeps_input
 
-pub calls_touches : CallsTouches
-calls_touches schema input t s (runs.done h) = keeps_calls schema input t s h
-calls_touches schema input t s (runs.out_of_memory h) =
-    let Q = IsOfEncode schema input in
-    subst (Throughout Q) (sym h.splits) (throughout_both Q h.first h.rest (keeps_begun Q (tells_calls schema input) h.first (keeps_calls schema input) h.does.0) (keeps_tell Q (λ _. tt) tt _ _ h.rest s h.goes))
+pub calls_touches : (schema input : List ℕ) → Touches (calls schema input)
+calls_touches schema input = touches (calls schema input) (keeps_calls schema input)
 
 -- ---- why it fails
 
@@ -132,5 +130,8 @@ module _ (D : Declared) where
   cause_input : (input : List ℕ) → HasCause (OfInput input D)
   cause_input input = cause_then (Calls (opened Input input)) (after_opening D) (cause_opened input)
 
-pub calls_has_cause : CallsHasCause
+pub calls_has_cause : (schema input : List ℕ) → HasCause (Runs (tells_calls schema input))
 calls_has_cause schema input = cause_run (tells_calls schema input) (cause_of_file Schema refl (codes "schema") (OfInput input) schema (λ D. cause_input D input))
+
+pub calls_reads : (schema input : List ℕ) → ReadsFiles (calls schema input)
+calls_reads schema input = reads_files (calls schema input) (calls_touches schema input) (calls_has_cause schema input)
