@@ -18,7 +18,7 @@ use Rattle.outside.specs.Steps.{Step, Turn, again, leave, Calls, Ends}
 use Rattle.outside.proofs.Causing.{cause_print, cause_run, cause_tell, cause_then, explains_first, explains_last, keeps_call, keeps_end, keeps_loop, keeps_print, keeps_tell, keeps_then, keeps_write, told_status, unwritten}
 use Rattle.outside.proofs.TakenPackets.{broken_packet, keeps_packet}
 use Rattle.schema_files.specs.Lines.{input_line}
-use Rattle.codec_rooms.specs.Laws.{Named, IsOf, IsUsed, ReadsFiles, Touches}
+use Rattle.codec_rooms.specs.Laws.{IsOf, ReadsFiles, Touches}
 use Rattle.codec_rooms.proofs.FileLaws.{reads_files, touches}
 use Rattle.codec_rooms.proofs.TypedLaws.{cause_of_file, keeps_named}
 use Rattle.call_rooms.specs.Calls.{SoFar, so_far, ends_by, Last, TellsRefusal, after_line, OfPacket, too_long, no_packet, told, after_packet, TellsNext, TellsPackets, after_opening, OfInput, tells_calls}
@@ -27,14 +27,8 @@ use Rattle.call_rooms.specs.Commands.{calls}
 -- ---- what it does
 
 module _ (schema input : List ℕ) where
-  abbrev reads : Named
-  reads = (calls schema input).reads
-
   abbrev P : Event → Type 0
-  P = IsOf reads
-
-  is_used : IsUsed reads Input
-  is_used = (input, inr (inl (refl, refl)))
+  P = IsOf (calls schema input).reads
 
   keeps_last : (S : Step Status) → Keeps P S → Keeps P (Last S)
   keeps_last S first = keeps_then P S ends_by first (λ s. keeps_end P (leave s))
@@ -60,7 +54,7 @@ module _ (schema input : List ℕ) where
     keeps_after s taken.broken = keeps_last _ (keeps_tell P (λ _. tt) tt _ _)
 
     keeps_next : (s : SoFar) → Keeps P (TellsNext D s)
-    keeps_next s = keeps_then P (TakesPacket Input) (after_packet D s) (keeps_packet Input P (λ _. is_used) is_used is_used) (keeps_after s)
+    keeps_next s = keeps_then P (TakesPacket Input) (after_packet D s) (keeps_packet Input P (λ _. (input, inr (inl (refl, refl)))) (input, inr (inl (refl, refl))) (input, inr (inl (refl, refl)))) (keeps_after s)
 
     keeps_opened : (ok : Bool) → Keeps P (after_opening D ok)
     keeps_opened true = keeps_loop P (TellsNext D) keeps_next (so_far [] 0)
@@ -70,7 +64,7 @@ module _ (schema input : List ℕ) where
     keeps_input = keeps_then P (Calls (opened Input input)) (after_opening D) (keeps_call P (opened Input input) (λ _. inr (inl (refl, refl)))) keeps_opened
 
   keeps_calls : Keeps P (tells_calls schema input)
-  keeps_calls = keeps_named reads Schema schema (inl (refl, refl)) (codes "schema") (OfInput input) keeps_input
+  keeps_calls = keeps_named (calls schema input).reads Schema schema (inl (refl, refl)) (codes "schema") (OfInput input) keeps_input
 
 pub calls_touches : (schema input : List ℕ) → Touches (calls schema input)
 calls_touches schema input = touches (calls schema input) (keeps_calls schema input)

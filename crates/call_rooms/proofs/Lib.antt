@@ -1,3 +1,4 @@
 pub mod Going
 pub mod Taking
 pub mod CallingLaws
+pub mod FilesTold

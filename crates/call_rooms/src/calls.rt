@@ -8,7 +8,7 @@ ghost use Rattle.call_rooms.specs.Calls.{OfInput, tells_calls};
 
 use crate::turns::tell_packets;
 use command_base::Status;
-use outside::{Host, finish, print_made, read_file, tell};
+use outside::{Host, finish, print_made, read_file, unread};
 use schema_files::{SCHEMA_BYTES, schema_of};
 use std::alloc::{AllocError, Global};
 use tl_base::Slot;
@@ -29,7 +29,7 @@ fn tell_input<H: Host>(
 {
     match host.open_slot(Slot::Input, input) {
         Ok(()) => tell_packets(alloc, host, schema, printer),
-        Err(_) => Ok(tell(host, b"tlbox: read fault\n", Status::ReadFault)),
+        Err(_) => Ok(unread(host)),
     }
 }
 
@@ -73,7 +73,7 @@ pub fn tell_calls<H: Host>(
 {
     match read_file(alloc, host, Slot::Schema, schema, SCHEMA_BYTES)? {
         Some(text) => tell_text(alloc, host, &text, input),
-        None => Ok(tell(host, b"tlbox: read fault\n", Status::ReadFault)),
+        None => Ok(unread(host)),
     }
 }
 

@@ -3,6 +3,7 @@ ghost use Rattle.std.specs.Prelude.{ℕ, List};
 ghost use Rattle.outside.specs.Laws.{HasCause};
 ghost use Rattle.outside.specs.Runs.{Runs};
 ghost use Rattle.codec_rooms.specs.Laws.{ReadsFiles, Touches};
+ghost use Rattle.call_rooms.specs.CallsLaws.{EndsByAnswer};
 ghost use Rattle.call_rooms.specs.Commands.{calls};
 
 /// A run of `calls` opens and reads the schema's file and the input's, each by its slot, and writes to Output and Errors. It does nothing else, also where
@@ -19,4 +20,10 @@ pub fn calls_has_cause()
 /// Where the files are there and no call was told to fail, no read fault ends it.
 pub fn calls_reads()
     ensures { (schema input : List ℕ) → ReadsFiles (calls schema input) }
+{}
+
+/// Over files, unless the outside or memory stopped it, it ends by an answer to the first files with the names; over files of bytes that is the one that
+/// there is (`files_have_one_answer` of `call_commands`).
+pub fn calls_answers()
+    ensures { (schema input : List ℕ) → EndsByAnswer (calls schema input) }
 {}

@@ -14,7 +14,7 @@ ghost use Rattle.call_rooms.specs.inner.Turning.{EndsMade, GoesOn, IsNext, Turns
 
 use call_commands::{MAX_PACKET_END, tell_packet, unpacked};
 use command_base::{Status, Unmade};
-use outside::{Host, Packet, print_made, take_packet, tell, write_out};
+use outside::{Host, Packet, print_made, take_packet, tell, unread, write_out};
 use std::alloc::{AllocError, Global};
 use tl_base::{Out, PacketFault, Slot};
 use tl_calls::Calls;
@@ -104,10 +104,7 @@ fn tell_next<H: Host>(
             refuse(host, unpacked(alloc, at, PacketFault::BadLength { length }))
         }
         Packet::Ended { had } => refuse(host, unpacked(alloc, at, PacketFault::Ended { had })),
-        Packet::Broken => {
-            let status = tell(host, b"tlbox: read fault\n", Status::ReadFault);
-            Ok(Turn::Last(status))
-        }
+        Packet::Broken => Ok(Turn::Last(unread(host))),
     }
 }
 

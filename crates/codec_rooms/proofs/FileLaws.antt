@@ -131,7 +131,7 @@ answer_status Is t status (answered a first rest splits reading has h) is = (a, 
 -- ---- the laws
 
 -- a run that memory didn't stop is the work
-run_done : (work : Step Status) (t : List Event) (status : Status) → Runs work t status → (status ≡ Memory → ⊥) → work t status
+pub run_done : (work : Step Status) (t : List Event) (status : Status) → Runs work t status → (status ≡ Memory → ⊥) → work t status
 run_done work t status (done h) other = h
 run_done work t status (out_of_memory h) other = absurd (other (told_status memory_line h.between h.rest status h.goes ∙ h.does.1))
 

@@ -60,7 +60,7 @@ module _ (what : List ℕ) (Of : Declared → Answer → Type 0) where
   long_text text rest file a e long (answering.no_schema cause r is) = answering.no_schema cause (long_schema file text rest cause e long r) is
   long_text text rest file a e long (answering.schema_of s is tells) = absurd (omega (arith, long, is.lexed.0))
 
-  text_stays : (file : List ℕ) (a : Answer) → OfSchemaText what Of (take (4194304 + 1) file) a → OfSchemaText what Of file a
+  pub text_stays : (file : List ℕ) (a : Answer) → OfSchemaText what Of (take (4194304 + 1) file) a → OfSchemaText what Of file a
   text_stays file a h =
       elim (cases_lt 4194304 (length file)) [
         | inl long ↦ long_text (take (4194304 + 1) file) (drop (4194304 + 1) file) file a (sym (take-append-drop (4194304 + 1) file)) (omega (arith, long, length-take (4194304 + 1) file)) h

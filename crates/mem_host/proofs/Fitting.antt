@@ -89,7 +89,7 @@ took_pieces slot (p ∷ pieces) last s n f =
     let r = took_pieces slot pieces last f.0 n f.2 in
     (r.0, f.1.0 ∙ (ap (λ (l : List ℕ). p ++ l) r.1 ∙ sym (append_assoc p (joined pieces) (left_of slot r.0.view))), kept_both s f.0 r.0 (happens_keeps (took slot p) s f.0 f.1) r.2, r.3)
 
-took_bytes : (slot : Slot) (bytes : List ℕ) (last t : List Event) (s n : Outside) → InPieces (took slot) bytes last t → Fits t s n
+pub took_bytes : (slot : Slot) (bytes : List ℕ) (last t : List Event) (s n : Outside) → InPieces (took slot) bytes last t → Fits t s n
     → (m : Outside) × (left_of slot s.view ≡ bytes ++ left_of slot m.view) × Keeps s m × Fits last m n
 took_bytes slot bytes last t s n q f =
     let r = took_pieces slot q.pieces last s n (subst (λ (l : List Event). Fits l s n) q.events f) in

@@ -19,4 +19,4 @@ returns-in-Some g c =
     did_then_at _ (after_schema (codes "schema") (OfInput c.args.input.now)) _ _ _ (text_view c.in_ok-text.field-0) (Some c.deref.result.now) _ (ap text_view c.in-Some.is ∙ sym (ap Some c.deref.ensures.value)) c.in_ok-text.ensures c.tell_text.ensures
 
 pub returns-in-None : goal.returns-in-None
-returns-in-None g c = did_then_at _ (after_schema (codes "schema") (OfInput c.args.input.now)) _ _ _ (text_view c.in_ok-text.field-0) None _ (ap text_view c.in-None.is) c.in_ok-text.ensures c.tell.ensures
+returns-in-None g c = did_then_at _ (after_schema (codes "schema") (OfInput c.args.input.now)) _ _ _ (text_view c.in_ok-text.field-0) None _ (ap text_view c.in-None.is) c.in_ok-text.ensures c.unread.ensures

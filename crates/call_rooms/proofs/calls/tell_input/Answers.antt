@@ -9,4 +9,4 @@ pub returns-in-Ok : goal.returns-in-Ok
 returns-in-Ok g c = did_then _ (after_opening c.args.schema.now) _ _ _ true _ (did_call (opened Input c.args.input.now) _ _ true c.in-Ok.ensures) c.tell_packets.ensures
 
 pub returns-in-Err : goal.returns-in-Err
-returns-in-Err g c = did_then _ (after_opening c.args.schema.now) _ _ _ false _ (did_call (opened Input c.args.input.now) _ _ false c.in-Err.ensures) c.tell.ensures
+returns-in-Err g c = did_then _ (after_opening c.args.schema.now) _ _ _ false _ (did_call (opened Input c.args.input.now) _ _ false c.in-Err.ensures) c.unread.ensures

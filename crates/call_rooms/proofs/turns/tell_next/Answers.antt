@@ -45,7 +45,7 @@ returns-in-Ended-clause-does g c = λ past stands.
 
 pub returns-in-Broken-clause-does : goal.returns-in-Broken-clause-does
 returns-in-Broken-clause-does g c = λ past stands.
-    taken_turn c.args.schema.now c.args.calls.now past c.args.at _ _ _ c.in_ok-content.field-0 taken.broken (Ok (Last c.tell-status.result)) (ap packet_view c.in-Broken.is) c.in_ok-content.ensures (did_last Unread _ _ c.tell-status.result c.tell-status.ensures)
+    taken_turn c.args.schema.now c.args.calls.now past c.args.at _ _ _ c.in_ok-content.field-0 taken.broken (Ok (Last c.unread.result)) (ap packet_view c.in-Broken.is) c.in_ok-content.ensures (did_last Unread _ _ c.unread.result c.unread.ensures)
 
 pub tell_whole-requires-clause-whole : goal.tell_whole-requires-clause-whole
 tell_whole-requires-clause-whole g c =
