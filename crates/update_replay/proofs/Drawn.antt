@@ -1,8 +1,8 @@
 -- What draws choose, draw by draw.
-use Rattle.std.proofs.Common.{◌≡◌, ℕ, zero, suc, ◌+◌, ◌-◌, ◌<◌, ℤ, List, [], ◌∷◌, ◌++◌, append_assoc, refl, sym, ap, ◌∙◌, subst, arith}
+use Rattle.std.proofs.Common.{◌≡◌, ℕ, suc, ℤ, List, [], ◌∷◌, ◌++◌, append_assoc, refl, sym, subst}
 use Rattle.std.specs.Int.{w32, cast_signed}
 use Rattle.update_replay.specs.Draws.{drawn, draw_of}
-use Rattle.update_replay.specs.Made.{Chosen, drawn_ids}
+use Rattle.update_replay.specs.Made.{drawn_ids}
 
 -- the ids that are still to be drawn, after one more
 module _ (ids : List ℤ) (x m : ℕ) where

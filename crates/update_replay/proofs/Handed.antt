@@ -27,7 +27,7 @@ use Rattle.update_world.specs.declared.fault.StepFault.TheVariants as fault
 use Rattle.update_world.specs.declared.outcome.Outcome.{Outcome}
 use Rattle.update_world.specs.declared.sent.Sent.{Sent}
 use Rattle.update_replay.specs.Endings.{Ending, no_step, not_made, too_long, answer_of, is_cut_short, of_refusal}
-use Rattle.update_replay.specs.Handing.{HasMade, IsGoing, HandsOut, FindsStep, IsUnmade, no_memory, past_steps, impossible, MakesLines}
+use Rattle.update_replay.specs.Handing.{HasMade, HandsOut, FindsStep, IsUnmade, no_memory, past_steps, impossible, MakesLines}
 use Rattle.update_replay.specs.ReplayParts.{HasRun, of_step}
 use Rattle.update_replay.specs.Replays.{BeginsStep, Began, none, one_more, Replayed, no_step_follows, one_too_many, not_possible, at_its_end, StandsAfter, goes_on, seen_of}
 use Rattle.update_replay.specs.StepLines.{StepLines}

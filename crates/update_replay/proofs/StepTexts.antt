@@ -12,13 +12,12 @@ use Rattle.box_events.specs.declared.steps.Step.{Step}
 use Rattle.box_events.specs.declared.steps.Step.TheVariants as step
 use Rattle.channel_box.specs.States.{ChannelState, first, has_id}
 use Rattle.channel_box.specs.Steps.{asks_number, is_asking, may_watch}
-use Rattle.channel_box.specs.declared.fault.WatchFault.{WatchFault}
 use Rattle.channel_box.specs.declared.fault.WatchFault.TheVariants.{Already, TooMany}
 use Rattle.box_server.specs.Refusing.{post_cause}
 use Rattle.box_server.specs.declared.fault.PostFault.{PostFault}
 use Rattle.box_client.specs.States.{ClientState}
-use Rattle.box_client.specs.Numbers.{ChannelNumbers, ClientNumbers, channel_numbers, client_numbers, n_asks_number, n_first, n_has_id}
-use Rattle.box_world.specs.NumberWorlds.{NumberWorld, numbers_of, n_may_watch}
+use Rattle.box_client.specs.Numbers.{channel_numbers, client_numbers, n_asks_number, n_first, n_has_id}
+use Rattle.box_world.specs.NumberWorlds.{numbers_of, n_may_watch}
 use Rattle.box_world.specs.Worlds.{Packet, push, request, reply, World, happens}
 use Rattle.box_world.specs.Possible.{client_of, packet_of}
 use Rattle.box_world.proofs.NumberWorlds.{requests_numbers}

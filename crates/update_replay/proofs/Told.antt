@@ -1,29 +1,26 @@
 -- The lines that are written of a world are those that its report is to have.
-use Rattle.std.proofs.Common.{◌≡◌, ℕ, ◌<◌, List, [], ◌∷◌, ◌++◌, length, drop, map, Some, None, refl, sym, ap, ◌∙◌, subst}
+use Rattle.std.proofs.Common.{◌≡◌, ℕ, List, [], ◌∷◌, ◌++◌, length, drop, None, sym, ap, ◌∙◌, subst}
 use Rattle.box_events.specs.declared.steps.Step.{Step}
-use Rattle.box_client.specs.States.{ClientState}
-use Rattle.box_client.specs.Numbers.{ClientNumbers}
-use Rattle.box_server.specs.Servers.{ServerState, state_of}
+use Rattle.box_server.specs.Servers.{state_of}
 use Rattle.box_server.proofs.Carrying.{changed_overlays}
-use Rattle.box_world.specs.NumberWorlds.{NumberWorld, n_happens, n_run, numbers_of}
+use Rattle.box_world.specs.NumberWorlds.{NumberWorld, n_happens, numbers_of}
 use Rattle.box_world.specs.Possible.{refusal}
 use Rattle.box_world.specs.Worlds.{Packet, World, happens, run}
 use Rattle.box_world.proofs.NumberWorlds.{numbers_follow}
 use Rattle.box_world.proofs.OneMore.{clients_stay, runs_go_on}
 use Rattle.report_lines.specs.Closing.{server_line}
 use Rattle.report_lines.specs.Texts.{step_line}
-use Rattle.update_replay.specs.Closings.{closing_lines}
-use Rattle.update_replay.specs.StepLines.{AreSpelled, StepLines, new_packets, packet_lines, step_lines, step_text}
+use Rattle.update_replay.specs.StepLines.{AreSpelled, StepLines, new_packets, packet_lines, step_text}
 use Rattle.update_replay.specs.Told.{all_own_lines}
 use Rattle.update_replay.proofs.NextNumbers.{steps_are_of_runs}
 use Rattle.update_replay.proofs.OwnLines.{closings_are_own}
 use Rattle.update_world.specs.Outcomes.{outcome_of}
 use Rattle.update_world.specs.Shown.{Shown, StandsFor}
-use Rattle.update_world.specs.Spelled.{AreSent, IsSpelled, packet_size}
+use Rattle.update_world.specs.Spelled.{IsSpelled, packet_size}
 use Rattle.update_world.proofs.Refusals.{named_client, named_packet}
 use Rattle.update_world.proofs.SentLists.{sent_length}
 use Rattle.update_replay.specs.LineLaws.{EndsAreTold, StepsAreTold}
-use Rattle.update_replay.specs.WorldLines.{bytes_from, end_lines, first_new, outcome_lines, outcome_text}
+use Rattle.update_replay.specs.WorldLines.{bytes_from, first_new, outcome_lines, outcome_text}
 use Rattle.update_replay.proofs.Packets.{first_is, spelled_from}
 use Rattle.update_replay.proofs.StepTexts.{text_is}
 

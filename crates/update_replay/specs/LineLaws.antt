@@ -1,5 +1,5 @@
 -- Laws of the lines that are written of a world. This project's own.
-use Rattle.std.specs.Prelude.{◌≡◌, ℕ, List, [], ◌∷◌, ◌++◌, length, None}
+use Rattle.std.specs.Prelude.{◌≡◌, ℕ, List, [], ◌∷◌, ◌++◌, None}
 use Rattle.box_events.specs.declared.steps.Step.{Step}
 use Rattle.box_world.specs.NumberWorlds.{n_run}
 use Rattle.box_world.specs.Possible.{refusal}

@@ -1,5 +1,5 @@
 -- A journal's replay, whose lines are written as its steps are made.
-use Rattle.std.proofs.Common.{◌≡◌, ℕ, ◌<◌, ◌-◌, List, [], ◌∷◌, ◌++◌, length, append-nil, Bool, true, false, Option, Some, None, Result, Ok, Err, refl, sym, ap, ◌∙◌, subst, arith, inl, inr, length-append}
+use Rattle.std.proofs.Common.{◌≡◌, ℕ, ◌<◌, ◌-◌, List, [], ◌∷◌, ◌++◌, length, append-nil, Bool, true, false, Option, Some, None, Ok, Err, refl, sym, ap, ◌∙◌, subst, arith, inl, inr, length-append}
 use Rattle.tl_numbers.specs.Bytes.{AreBytes}
 use Rattle.tl_base.specs.declared.host.Slot.{Slot}
 use Rattle.tl_base.specs.declared.host.Slot.TheVariants.{Input}
@@ -23,7 +23,6 @@ use Rattle.update_replay.specs.Endings.{whole}
 use Rattle.update_replay.specs.Handing.{HandsOut, HasMade, IsGoing}
 use Rattle.update_replay.specs.Replays.{Replayed, Stopped, goes_on, nothing, seen_of}
 use Rattle.update_replay.specs.declared.fault.ReplayFault.{ReplayFault}
-use Rattle.update_replay.specs.declared.fault.ReplayFault.TheVariants.{Memory}
 use Rattle.update_replay.specs.declared.limits.TheConstants.{MAX_JOURNAL_BYTES, MAX_STEPS}
 use Rattle.update_replay.specs.declared.machine.Replay.{Replay}
 use Rattle.update_replay.proofs.Handed.{few_made}

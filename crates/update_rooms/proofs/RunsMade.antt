@@ -1,5 +1,5 @@
 -- What `make` makes of a profile, and that it can go on to its end.
-use Rattle.std.proofs.Common.{ℕ, List, [], Result, Ok, Err, Vec, Global}
+use Rattle.std.proofs.Common.{ℕ, [], Result, Ok, Err, Vec, Global}
 use Rattle.tl_schema.specs.CheckedPrograms.{IsSchema}
 use Rattle.tl_schema.specs.Schemas.{Declared}
 use Rattle.command_base.specs.Answer.{refused}

@@ -1,4 +1,4 @@
-use Rattle.std.proofs.Common.{arith, ◌∙◌}
+use Rattle.std.proofs.Common.{arith}
 use Rattle.update_replay.proofs.LineLists.{packet_more, packets_end}
 use Rattle.update_replay.proofs.lines.put_packets.Goals as goal
 

@@ -1,4 +1,4 @@
-use Rattle.std.proofs.Common.{◌≡◌, ◌++◌, take}
+use Rattle.std.proofs.Common.{◌≡◌, ◌++◌}
 use Rattle.update_replay.specs.StepLines.{packet_lines}
 use Rattle.update_replay.specs.WorldLines.{bytes_from}
 use Rattle.update_replay.proofs.lines.put_packets.Given as goal
