@@ -7,6 +7,7 @@ use case_files::{BadLine, Case, Ending, TracedHost, entries_text, read_cases, sh
 use codec_rooms::{run_check, run_decode, run_encode, run_layers};
 use commands::{Range, keep_in, number_in, run, run_stored};
 use outside::Untold;
+use session_rooms::{run_client, run_post};
 use std::alloc::{AllocError, Global};
 use std::process::ExitCode;
 use std::{env, fs, io};
@@ -119,6 +120,42 @@ fn replayed_in_order(
     Some(run_replay(alloc, host, schema, journal, clients as u32).code())
 }
 
+// The channels that words are.
+fn channels_in(alloc: Global, words: &[String]) -> Option<Vec<i64>> {
+    let range = Range {
+        digits: 19,
+        least: 0,
+        most: 9_223_372_036_854_775_807,
+    };
+    let mut channels = Vec::new(alloc);
+    for word in words {
+        let channel = number_in(range, word.as_str())?;
+        channels.push(channel as i64).ok()?;
+    }
+    Some(channels)
+}
+
+// The status of a run of `client`.
+fn recovered_in_order(
+    alloc: Global,
+    words: &[String],
+    host: &mut Untold<TracedHost<MemHost>>,
+) -> Option<u8> {
+    if words.len() < 4 || words[0].as_str() != "client" {
+        return None;
+    }
+    let channels = channels_in(alloc, &words[4..])?;
+    let status = run_client(
+        alloc,
+        host,
+        words[1].as_str(),
+        words[2].as_str(),
+        words[3].as_str(),
+        &channels,
+    );
+    Some(status.code())
+}
+
 // The status of a run by the room that is written as what happens in order, of the commands that have one.
 fn status_in_order(
     alloc: Global,
@@ -157,6 +194,16 @@ fn status_in_order(
                 steps.as_str(),
             )
         }
+        [command, schema, address, input] if command.as_str() == "post" => {
+            let status = run_post(
+                alloc,
+                host,
+                schema.as_str(),
+                address.as_str(),
+                input.as_str(),
+            );
+            Some(status.code())
+        }
         [command, schema, journal, clients] if command.as_str() == "replay" => {
             replayed_in_order(
                 alloc,
@@ -166,7 +213,7 @@ fn status_in_order(
                 clients.as_str(),
             )
         }
-        _ => None,
+        _ => recovered_in_order(alloc, words, host),
     }
 }
 
