@@ -9,7 +9,7 @@ use Rattle.command_base.specs.Answer.{Answer, write_fault_line}
 use Rattle.command_base.specs.declared.status.Status.{Status}
 use Rattle.command_base.specs.declared.status.Status.TheVariants.{Done, Refused, Usage, ReadFault, WriteFault, Memory, LinkFault, PeerFault}
 use Rattle.outside.specs.Events.{Event, opened, took, ended, read_failed, put, write_failed}
-use Rattle.outside.specs.Laws.{Happened, Throughout, Keeps, IsFailure, Explains, HasCause}
+use Rattle.outside.specs.Laws.{Happened, Throughout, Keeps, IsFailure, IsFromLink, Explains, HasCause}
 use Rattle.outside.specs.Pieces.{InPieces, TakenView, full, short, broken, Takes, Writes, Tells, ReadsFile, after_open, text_of}
 use Rattle.outside.specs.Printing.{Prints, after_output, Answers}
 use Rattle.outside.specs.Runs.{Runs, done, out_of_memory}
@@ -104,9 +104,9 @@ explains_first WriteFault t u h = happened_first (IsFailure kinds.Writes) t u h
 explains_first LinkFault t u h = happened_first (IsFailure kinds.Links) t u h
 explains_first Done t u h = tt
 explains_first Refused t u h = tt
-explains_first Usage t u h = tt
+explains_first Usage t u h = h
 explains_first Memory t u h = tt
-explains_first PeerFault t u h = tt
+explains_first PeerFault t u h = happened_first IsFromLink t u h
 
 pub explains_last : (status : Status) (t u : List Event) → Explains status u → Explains status (t ++ u)
 explains_last ReadFault t u h = happened_last (IsFailure kinds.Reads) t u h
@@ -114,9 +114,9 @@ explains_last WriteFault t u h = happened_last (IsFailure kinds.Writes) t u h
 explains_last LinkFault t u h = happened_last (IsFailure kinds.Links) t u h
 explains_last Done t u h = tt
 explains_last Refused t u h = tt
-explains_last Usage t u h = tt
+explains_last Usage t u h = h
 explains_last Memory t u h = tt
-explains_last PeerFault t u h = tt
+explains_last PeerFault t u h = happened_last IsFromLink t u h
 
 -- a step, and what follows of its answer, which may come of what the step met
 pub cause_then : {A : Type 0} (S : Step A) (W : A → Step Status) → ((a : A) (t u : List Event) (status : Status) → S t a → W a u status → Explains status (t ++ u)) → HasCause (Then S W)

@@ -79,7 +79,7 @@ did_stop_by S W p q can g =
 pub did_stop : {A B : Type 0} (S : Step A) (W : A → Step B) (p q : HostState) → ((a : A) → Begins (W a) []) → Did S p q None → Did (Then S W) p q None
 did_stop S W p q can = did_stop_by S W p q (λ t a h. can a)
 
-pub can_end : {A : Type 0} (x : A) → Begins (Ends x) []
+pub can_end : {A : Type 0} (x : A) → Begins {E = Event} (Ends x) []
 can_end x = record { rest = []; answer = x; whole = (refl, refl) }
 
 pub can_then : {A B : Type 0} (S : Step A) (W : A → Step B) → Begins S [] → ((a : A) → Begins (W a) []) → Begins (Then S W) []

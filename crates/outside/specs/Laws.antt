@@ -1,6 +1,7 @@
 -- What can be said of whatever is made of steps. This project's own.
 use Rattle.std.specs.Prelude.{◌≡◌, ◌⊎◌, List, [], ◌∷◌, true, false, Option, Some, None}
 use Rattle.tl_base.specs.Kinds.{slot_kind, out_kind}
+use Rattle.tl_base.specs.declared.host.Slot.TheVariants.{Link}
 use Rattle.tl_base.specs.declared.counts.Kind.{Kind}
 use Rattle.tl_base.specs.declared.counts.Kind.TheVariants.{Reads, Writes, Links}
 use Rattle.command_base.specs.declared.status.Status.{Status}
@@ -48,16 +49,31 @@ failure (told moment) = None
 abbrev pub IsFailure : Kind → Event → Type 0
 IsFailure kind e = failure e ≡ Some kind
 
--- a status that is a fault's comes only after such a failure
+-- something came over the link, or its end
+abbrev pub IsFromLink : Event → Type 0
+IsFromLink (opened slot name ok) = ⊥
+IsFromLink (took slot bytes) = slot ≡ Link
+IsFromLink (ended slot) = slot ≡ Link
+IsFromLink (read_failed slot) = ⊥
+IsFromLink (created out name ok) = ⊥
+IsFromLink (put out bytes) = ⊥
+IsFromLink (write_failed out) = ⊥
+IsFromLink (listened address ok) = ⊥
+IsFromLink (connected address ok) = ⊥
+IsFromLink (accepted ok) = ⊥
+IsFromLink (told moment) = ⊥
+
+-- A status that is a fault's comes only after such a failure, and that of the other end's fault only after something came from there. No work that was asked for
+-- ends by Usage.
 abbrev pub Explains : Status → List Event → Type 0
 Explains ReadFault t = Happened (IsFailure Reads) t
 Explains WriteFault t = Happened (IsFailure Writes) t
 Explains LinkFault t = Happened (IsFailure Links) t
 Explains Done t = Unit {0}
 Explains Refused t = Unit {0}
-Explains Usage t = Unit {0}
+Explains Usage t = ⊥
 Explains Memory t = Unit {0}
-Explains PeerFault t = Unit {0}
+Explains PeerFault t = Happened IsFromLink t
 
 abbrev pub HasCause : Step Status → Type 0
 HasCause work = (t : List Event) (status : Status) → work t status → Explains status t
