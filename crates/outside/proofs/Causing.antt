@@ -13,25 +13,25 @@ use Rattle.outside.specs.Laws.{Happened, Throughout, Keeps, IsFailure, IsFromLin
 use Rattle.outside.specs.Pieces.{InPieces, TakenView, full, short, broken, Takes, Writes, Tells, ReadsFile, after_open, text_of}
 use Rattle.outside.specs.Printing.{Prints, after_output, Answers}
 use Rattle.outside.specs.Runs.{Runs, done, out_of_memory}
-use Rattle.outside.specs.Steps.{Step, Ends, Calls, Then, Turn, again, leave, Reaches, here, turn, Loops, Begins}
+use Rattle.outside.specs.Steps.{Step, StepOf, Ends, Calls, Then, Turn, again, leave, Reaches, here, turn, Loops, Begins}
 
 -- ---- what happened in a part happened
 
-module _ (P : Event → Type 0) where
-  pub happened_first : (t u : List Event) → Happened P t → Happened P (t ++ u)
+module _ {E : Type 0} (P : E → Type 0) where
+  pub happened_first : (t u : List E) → Happened P t → Happened P (t ++ u)
   happened_first [] u h = absurd h
   happened_first (e ∷ t) u (inl first) = inl first
   happened_first (e ∷ t) u (inr later) = inr (happened_first t u later)
 
-  pub happened_last : (t u : List Event) → Happened P u → Happened P (t ++ u)
+  pub happened_last : (t u : List E) → Happened P u → Happened P (t ++ u)
   happened_last [] u h = h
   happened_last (e ∷ t) u h = inr (happened_last t u h)
 
-  pub throughout_both : (t u : List Event) → Throughout P t → Throughout P u → Throughout P (t ++ u)
+  pub throughout_both : (t u : List E) → Throughout P t → Throughout P u → Throughout P (t ++ u)
   throughout_both [] u a b = b
   throughout_both (e ∷ t) u a b = (a.0, throughout_both t u a.1 b)
 
-  pub throughout_first : (t u : List Event) → Throughout P (t ++ u) → Throughout P t
+  pub throughout_first : (t u : List E) → Throughout P (t ++ u) → Throughout P t
   throughout_first [] u a = tt
   throughout_first (e ∷ t) u a = (a.0, throughout_first t u a.1)
 
@@ -40,20 +40,23 @@ module _ (P : Event → Type 0) where
   pub keeps_end : {A : Type 0} (x : A) → Keeps P (Ends x)
   keeps_end x t a h = subst (Throughout P) (sym h.0) tt
 
-  pub keeps_call : {A : Type 0} (event : A → Event) → ((a : A) → P (event a)) → Keeps P (Calls event)
+  pub keeps_call : {A : Type 0} (event : A → E) → ((a : A) → P (event a)) → Keeps P (Calls event)
   keeps_call event each t a h = subst (Throughout P) (sym h) (each a, tt)
 
-  pub keeps_then : {A B : Type 0} (S : Step A) (W : A → Step B) → Keeps P S → ((a : A) → Keeps P (W a)) → Keeps P (Then S W)
+  pub keeps_then : {A B : Type 0} (S : StepOf E A) (W : A → StepOf E B) → Keeps P S → ((a : A) → Keeps P (W a)) → Keeps P (Then S W)
   keeps_then S W first rest t b h = subst (Throughout P) (sym h.splits) (throughout_both h.first h.rest (first h.first h.between h.does) (rest h.between h.rest b h.goes))
 
   -- turns of a loop, and the one by which it is left
-  keeps_turns : {S A : Type 0} (body : S → Step (Turn S A)) → ((s : S) → Keeps P (body s)) → (start : S) (t : List Event) (s : S) → Reaches body start t s → Throughout P t
+  keeps_turns : {S A : Type 0} (body : S → StepOf E (Turn S A)) → ((s : S) → Keeps P (body s)) → (start : S) (t : List E) (s : S) → Reaches body start t s → Throughout P t
   keeps_turns body each start t s (here _ _ none is) = subst (Throughout P) (sym none) tt
   keeps_turns body each start t s (turn _ first rest between _ splits before this) = subst (Throughout P) (sym splits) (throughout_both first rest (keeps_turns body each start first between before) (each between rest (again s) this))
 
-  pub keeps_loop : {S A : Type 0} (body : S → Step (Turn S A)) → ((s : S) → Keeps P (body s)) → (start : S) → Keeps P (Loops body start)
+  pub keeps_loop : {S A : Type 0} (body : S → StepOf E (Turn S A)) → ((s : S) → Keeps P (body s)) → (start : S) → Keeps P (Loops body start)
   keeps_loop body each start t a h = subst (Throughout P) (sym h.splits) (throughout_both h.first h.rest (keeps_turns body each start h.first h.between h.does) (each h.between h.rest (leave a) h.goes))
 
+-- ---- what is taken and put
+
+module _ (P : Event → Type 0) where
   throughout_pieces : (event : List ℕ → Event) → ((bytes : List ℕ) → P (event bytes)) → (pieces : List (List ℕ)) (last : List Event) → Throughout P last → Throughout P (map event pieces ++ last)
   throughout_pieces event each [] last end = end
   throughout_pieces event each (piece ∷ pieces) last end = (each piece, throughout_pieces event each pieces last end)
@@ -67,11 +70,11 @@ module _ (P : Event → Type 0) where
   keeps_take slot count each end fail t broken h = keeps_pieces (took slot) each h.0 (read_failed slot ∷ []) t (fail, tt) h.1
 
   keeps_open : (slot : Slot) (limit : ℕ) → ((bytes : List ℕ) → P (took slot bytes)) → P (ended slot) → P (read_failed slot) → (ok : Bool) → Keeps P (after_open slot limit ok)
-  keeps_open slot limit each end fail true = keeps_then _ _ (keeps_take slot (limit + 1) each end fail) (λ taken. keeps_end (text_of taken))
-  keeps_open slot limit each end fail false = keeps_end None
+  keeps_open slot limit each end fail true = keeps_then P _ _ (keeps_take slot (limit + 1) each end fail) (λ taken. keeps_end P (text_of taken))
+  keeps_open slot limit each end fail false = keeps_end P None
 
   pub keeps_file : (slot : Slot) (name : List ℕ) (limit : ℕ) → ((ok : Bool) → P (opened slot name ok)) → ((bytes : List ℕ) → P (took slot bytes)) → P (ended slot) → P (read_failed slot) → Keeps P (ReadsFile slot name limit)
-  keeps_file slot name limit opens each end fail = keeps_then _ _ (keeps_call (opened slot name) opens) (keeps_open slot limit each end fail)
+  keeps_file slot name limit opens each end fail = keeps_then P _ _ (keeps_call P (opened slot name) opens) (keeps_open slot limit each end fail)
 
   pub keeps_write : (out : Out) (bytes : List ℕ) → ((piece : List ℕ) → P (put out piece)) → P (write_failed out) → Keeps P (Writes out bytes)
   keeps_write out bytes each fail t true h = keeps_pieces (put out) each bytes [] t tt h
@@ -79,7 +82,7 @@ module _ (P : Event → Type 0) where
 
   module _ (errors : (piece : List ℕ) → P (put outs.Errors piece)) (unwritten : P (write_failed outs.Errors)) where
     pub keeps_tell : {A : Type 0} (line : List ℕ) (status : A) → Keeps P (Tells line status)
-    keeps_tell line status = keeps_then _ _ (keeps_write outs.Errors line errors unwritten) (λ _. keeps_end status)
+    keeps_tell line status = keeps_then P _ _ (keeps_write outs.Errors line errors unwritten) (λ _. keeps_end P status)
 
     module _ (output : (piece : List ℕ) → P (put outs.Output piece)) (lost : P (write_failed outs.Output)) where
       keeps_output : (a : Answer) (ok : Bool) → Keeps P (after_output a ok)
@@ -87,14 +90,14 @@ module _ (P : Event → Type 0) where
       keeps_output a false = keeps_tell write_fault_line WriteFault
 
       pub keeps_print : (a : Answer) → Keeps P (Prints a)
-      keeps_print a = keeps_then _ _ (keeps_write outs.Output a.output output lost) (keeps_output a)
+      keeps_print a = keeps_then P _ _ (keeps_write outs.Output a.output output lost) (keeps_output a)
 
       pub keeps_answer : (Is : Answer → Type 0) → Keeps P (Answers Is)
       keeps_answer Is t status (a, is, h) = keeps_print a t status h
 
   -- likewise of the beginning of a step
   pub keeps_begun : {A : Type 0} (S : Step A) (t : List Event) → Keeps P S → Begins S t → Throughout P t
-  keeps_begun S t keeps m = throughout_first t m.rest (keeps (t ++ m.rest) m.answer m.whole)
+  keeps_begun S t keeps m = throughout_first P t m.rest (keeps (t ++ m.rest) m.answer m.whole)
 
 -- ---- why a fault's status came
 

@@ -7,23 +7,23 @@ use Rattle.tl_base.specs.declared.counts.Kind.TheVariants.{Reads, Writes, Links}
 use Rattle.command_base.specs.declared.status.Status.{Status}
 use Rattle.command_base.specs.declared.status.Status.TheVariants.{Done, Refused, Usage, ReadFault, WriteFault, Memory, LinkFault, PeerFault}
 use Rattle.outside.specs.Events.{Event, opened, took, ended, read_failed, created, put, write_failed, listened, connected, accepted, told}
-use Rattle.outside.specs.Steps.{Step}
+use Rattle.outside.specs.Steps.{Step, StepOf}
 
 -- ---- what happened
 
--- some event of the trace is such
-abbrev pub Happened : (Event → Type 0) → List Event → Type 0
+-- some part of the trace is such
+abbrev pub Happened : {E : Type 0} → (E → Type 0) → List E → Type 0
 Happened P [] = ⊥
 Happened P (e ∷ t) = P e ⊎ Happened P t
 
 -- each is
-abbrev pub Throughout : (Event → Type 0) → List Event → Type 0
+abbrev pub Throughout : {E : Type 0} → (E → Type 0) → List E → Type 0
 Throughout P [] = Unit {0}
 Throughout P (e ∷ t) = P e × Throughout P t
 
 -- all that a step does is such
-abbrev pub Keeps : {A : Type 0} → (Event → Type 0) → Step A → Type 0
-Keeps {A} P S = (t : List Event) (a : A) → S t a → Throughout P t
+abbrev pub Keeps : {E A : Type 0} → (E → Type 0) → StepOf E A → Type 0
+Keeps {E} {A} P S = (t : List E) (a : A) → S t a → Throughout P t
 
 -- ---- failures
 
