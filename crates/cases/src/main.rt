@@ -5,8 +5,9 @@ use box_store::MemKeeper;
 use call_rooms::run_calls;
 use case_files::{BadLine, Case, Ending, TracedHost, entries_text, read_cases, shown_run};
 use codec_rooms::{run_check, run_decode, run_encode, run_layers};
-use commands::{Range, keep_in, number_in, run, run_stored};
+use commands::{KeepRequest, Range, keep_in, number_in, run, run_stored};
 use outside::Untold;
+use serve_rooms::{KeptStatus, run_kept, run_serve};
 use session_rooms::{run_client, run_post};
 use std::alloc::{AllocError, Global};
 use std::process::ExitCode;
@@ -120,6 +121,23 @@ fn replayed_in_order(
     Some(run_replay(alloc, host, schema, journal, clients as u32).code())
 }
 
+// Likewise of `serve`.
+fn served_in_order(
+    alloc: Global,
+    host: &mut Untold<TracedHost<MemHost>>,
+    schema: &str,
+    address: &str,
+    sessions: &str,
+) -> Option<u8> {
+    let counts = Range {
+        digits: 10,
+        least: 1,
+        most: 1_000_000,
+    };
+    let sessions = number_in(counts, sessions)?;
+    Some(run_serve(alloc, host, schema, address, sessions as u32).code())
+}
+
 // The channels that words are.
 fn channels_in(alloc: Global, words: &[String]) -> Option<Vec<i64>> {
     let range = Range {
@@ -213,12 +231,51 @@ fn status_in_order(
                 clients.as_str(),
             )
         }
+        [command, schema, address, sessions] if command.as_str() == "serve" => {
+            served_in_order(
+                alloc,
+                host,
+                schema.as_str(),
+                address.as_str(),
+                sessions.as_str(),
+            )
+        }
         _ => recovered_in_order(alloc, words, host),
     }
 }
 
+// The number that a process ends with after a run over a keeper.
+fn kept_code(status: KeptStatus) -> u8 {
+    match status {
+        KeptStatus::Run(status) => status.code(),
+        KeptStatus::KeepFault => 8,
+    }
+}
+
+// How a run of `keep` ends by its room.
+fn kept_in_order(
+    alloc: Global,
+    case: &Case,
+    asked: KeepRequest<'_>,
+) -> Result<Ending, AllocError> {
+    let mut host = Untold::new(TracedHost::new(alloc, case.host()?));
+    let (status, keeper) = run_kept(
+        alloc,
+        &mut host,
+        asked.schema,
+        asked.address,
+        asked.sessions,
+        case.keeper()?,
+    );
+    let kept = entries_text(alloc, keeper.entries())?;
+    ending_over(alloc, kept_code(status), &host.host, kept)
+}
+
 // How a run ends by that room.
 fn ending_in_order(alloc: Global, case: &Case) -> Result<Option<Ending>, AllocError> {
+    if let Some(asked) = keep_in(case.words()) {
+        return Ok(Some(kept_in_order(alloc, case, asked)?));
+    }
     let mut host = Untold::new(TracedHost::new(alloc, case.host()?));
     let Some(status) = status_in_order(alloc, case.words(), &mut host) else {
         return Ok(None);
