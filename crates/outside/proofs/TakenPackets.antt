@@ -13,13 +13,15 @@ use Rattle.outside.specs.Laws.{Happened, IsFailure, Keeps, Throughout}
 use Rattle.outside.specs.Packets.{PacketView, whole, none, bad_length, AfterLength, bad, good, TakesPacket, after_head, content_of, cut_off, packet_view}
 use Rattle.outside.specs.Packets as packets
 use Rattle.outside.specs.Pieces.{TakenView, full, short, broken, Takes, taken_view}
-use Rattle.outside.specs.Steps.{Begins, Did, Ends, Then}
+use Rattle.outside.specs.Begun.{Did}
+use Rattle.outside.specs.Steps.{Begins, Ends, Then}
 use Rattle.outside.specs.declared.packets.Packet.{Packet}
 use Rattle.outside.specs.declared.packets.Packet.TheVariants as packet
 use Rattle.outside.specs.declared.pieces.Taken.{Taken}
 use Rattle.outside.specs.declared.pieces.Taken.TheVariants as taken
 use Rattle.outside.proofs.Causing.{broken_read, happened_first, happened_last, keeps_end, keeps_take, keeps_then}
-use Rattle.outside.proofs.Growing.{can_end, can_then, did_nothing, did_stop, did_then_at, grew_none}
+use Rattle.outside.proofs.Begun.{may_take}
+use Rattle.outside.proofs.Growing.{can_end, can_then, did_both_at, did_nothing, did_stop, did_then_at, grew_none}
 use Rattle.outside.proofs.Piecewise.{are_none, can_take, no_pieces}
 
 -- ---- what was taken
@@ -82,18 +84,18 @@ module _ (slot : Slot) where
 
   length_good : (n : ℕ) (p q : HostState) (answer : Option PacketView) → IsPacketLength n → Did (Then (Takes slot n) (λ content. Ends (content_of content))) p q answer → Did (AfterLength slot n) p q answer
   length_good n p q (Some a) fits h = record { trace = h.trace; grew = h.grew; holds = good fits h.holds }
-  length_good n p q None fits h = record { trace = h.trace; grew = h.grew; holds = record { rest = h.holds.rest; answer = h.holds.answer; whole = good fits h.holds.whole } }
+  length_good n p q None fits h = record { trace = h.trace; grew = h.grew; holds = record { rest = h.holds.rest; answer = h.holds.answer; whole = good fits h.holds.whole; only = h.holds.only } }
 
   pub content_stopped : (n : ℕ) (p q : HostState) → IsPacketLength n → Did (Takes slot n) p q None → Did (AfterLength slot n) p q None
   content_stopped n p q fits h = length_good n p q None fits (did_stop _ _ p q (λ content. can_end (content_of content)) h)
 
   pub content_taken : (n : ℕ) (p q : HostState) (t : Taken) (v : TakenView) → taken_view t ≡ v → IsPacketLength n → Did (Takes slot n) p q (Some (taken_view t)) → Did (AfterLength slot n) p q (Some (content_of v))
-  content_taken n p q t v is fits h = length_good n p q (Some (content_of v)) fits (did_then_at _ (λ content. Ends (content_of content)) p q q (taken_view t) v (Some (content_of v)) is h (did_nothing q (content_of v)))
+  content_taken n p q t v is fits h = length_good n p q (Some (content_of v)) fits (did_both_at _ (λ content. Ends (content_of content)) p q q (taken_view t) v (content_of v) is h (did_nothing q (content_of v)))
 
   -- ---- and of its four bytes
 
   pub head_taken : (p q r : HostState) (t : Taken) (v : TakenView) (answer : Option PacketView) → taken_view t ≡ v → Did (Takes slot 4) p q (Some (taken_view t)) → Did (after_head slot v) q r answer → Did (TakesPacket slot) p r answer
-  head_taken p q r t v answer is = did_then_at (Takes slot 4) (after_head slot) p q r (taken_view t) v answer is
+  head_taken p q r t v answer is = did_then_at (Takes slot 4) (after_head slot) p q r (taken_view t) v answer is (may_take [] slot 4)
 
   pub head_whole : (p q r : HostState) (t : Taken) (head : Vec ℕ Global) (bytes : List ℕ) (n : ℕ) (answer : Option PacketView) → t ≡ taken.Full head → bytes ≡ head.items → n ≡ word_number bytes → Did (Takes slot 4) p q (Some (taken_view t)) → Did (AfterLength slot n) q r answer → Did (TakesPacket slot) p r answer
   head_whole p q r t head bytes n answer is same number h after =
