@@ -1,8 +1,8 @@
--- Which events may stand where memory runs out.
+-- What may have been written where memory runs out.
 use Rattle.std.proofs.Common.{ℕ, ◌+◌, List, [], Bool}
 use Rattle.tl_base.specs.declared.host.Out.{Out}
 use Rattle.tl_base.specs.declared.host.Slot.{Slot}
-use Rattle.outside.specs.Begun.{WritesOnly, MayRead}
+use Rattle.outside.specs.Begun.{WritesOnly}
 use Rattle.outside.specs.Events.{Event, opened, took, ended, read_failed, created, put, write_failed, listened, connected, accepted, told}
 use Rattle.outside.specs.Laws.{Keeps}
 use Rattle.outside.specs.Packets.{TakesPacket}
@@ -10,8 +10,8 @@ use Rattle.outside.specs.Pieces.{ReadsFile, ReadsSlot, Takes, text_of}
 use Rattle.outside.specs.Steps.{Calls, Ends}
 use Rattle.outside.proofs.Causing.{keeps_call, keeps_end, keeps_file, keeps_take, keeps_then}
 
--- where nothing may be written, that may stand among more
-pub more_may : (outs : List Out) (e : Event) → MayRead e → WritesOnly outs e
+-- what writes nothing writes nothing but to these
+pub more_may : (outs : List Out) (e : Event) → WritesOnly [] e → WritesOnly outs e
 more_may outs (opened slot name ok) h = tt
 more_may outs (took slot bytes) h = tt
 more_may outs (ended slot) h = tt

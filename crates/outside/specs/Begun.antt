@@ -1,7 +1,6 @@
 -- What was done where memory ran out: the beginning of a step, in which nothing was written but to some outs. This project's own.
 use Rattle.std.specs.Prelude.{◌≡◌, ◌⊎◌, List, [], ◌∷◌, ◌++◌, Option, Some, None}
 use Rattle.tl_base.specs.declared.host.Out.{Out}
-use Rattle.tl_base.specs.declared.host.Out.TheVariants.{Output, Link}
 use Rattle.outside.specs.Events.{Event, HostState, opened, took, ended, read_failed, created, put, write_failed, listened, connected, accepted, told}
 use Rattle.outside.specs.Grown.{Grew}
 use Rattle.outside.specs.Steps.{Step}
@@ -26,35 +25,24 @@ WritesOnly outs (connected address ok) = Unit {0}
 WritesOnly outs (accepted ok) = Unit {0}
 WritesOnly outs (told moment) = Unit {0}
 
--- these events are the beginning of what a step can be, and each may stand there
-pub record BeginsIn {A : Type 0} (May : Event → Type 0) (S : Step A) (t : List Event) : Type 0 where
+-- these events are the beginning of what a step can be, and nothing is written there but to these outs
+pub record BeginsIn {A : Type 0} (outs : List Out) (S : Step A) (t : List Event) : Type 0 where
   pub rest : List Event
   pub answer : A
   pub whole : S (t ++ rest) answer
-  pub only : Throughout May t
+  pub only : Throughout (WritesOnly outs) t
 
 -- the step with this answer; or, where memory ran out, the beginning of one
-abbrev pub MeetsIn : {A : Type 0} → (Event → Type 0) → Step A → List Event → Option A → Type 0
-MeetsIn May S t (Some a) = S t a
-MeetsIn May S t None = BeginsIn May S t
+abbrev pub MeetsIn : {A : Type 0} → List Out → Step A → List Event → Option A → Type 0
+MeetsIn outs S t (Some a) = S t a
+MeetsIn outs S t None = BeginsIn outs S t
 
 -- A call did the step and answered so. None: it ran out of memory in the middle of one.
-pub record DidIn {A : Type 0} (May : Event → Type 0) (S : Step A) (old new : HostState) (answer : Option A) : Type 0 where
+pub record DidIn {A : Type 0} (outs : List Out) (S : Step A) (old new : HostState) (answer : Option A) : Type 0 where
   pub trace : List Event
   pub grew : Grew old trace new
-  pub holds : MeetsIn May S trace answer
+  pub holds : MeetsIn outs S trace answer
 
--- out of memory leaves nothing written;
-abbrev pub MayRead : Event → Type 0
-MayRead = WritesOnly []
-
--- or nothing but to the link;
-abbrev pub MaySend : Event → Type 0
-MaySend = WritesOnly (Link ∷ [])
-
--- or nothing but to Output
-abbrev pub MayPrint : Event → Type 0
-MayPrint = WritesOnly (Output ∷ [])
-
+-- likewise, with nothing written where memory ran out
 abbrev pub Did : {A : Type 0} → Step A → HostState → HostState → Option A → Type 0
-Did = DidIn MayRead
+Did = DidIn []
