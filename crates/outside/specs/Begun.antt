@@ -1,6 +1,7 @@
 -- What was done where memory ran out: the beginning of a step, in which nothing was written but to some outs. This project's own.
 use Rattle.std.specs.Prelude.{◌≡◌, ◌⊎◌, List, [], ◌∷◌, ◌++◌, Option, Some, None}
 use Rattle.tl_base.specs.declared.host.Out.{Out}
+use Rattle.tl_base.specs.declared.host.Out.TheVariants.{Output, Link}
 use Rattle.outside.specs.Events.{Event, HostState, opened, took, ended, read_failed, created, put, write_failed, listened, connected, accepted, told}
 use Rattle.outside.specs.Grown.{Grew}
 use Rattle.outside.specs.Steps.{Step}
@@ -10,6 +11,14 @@ use Rattle.outside.specs.Traces.{Throughout}
 abbrev pub IsAmong : Out → List Out → Type 0
 IsAmong out [] = ⊥
 IsAmong out (o ∷ outs) = (out ≡ o) ⊎ IsAmong out outs
+
+-- Output, to which lines are written as they are made
+abbrev pub to_output : List Out
+to_output = Output ∷ []
+
+-- a link, over which messages are sent as they are due
+abbrev pub to_link : List Out
+to_link = Link ∷ []
 
 -- nothing is created, and nothing written, but of these outs
 abbrev pub WritesOnly : List Out → Event → Type 0
