@@ -6,6 +6,7 @@ use Rattle.tl_numbers.specs.Bytes.{AreBytes}
 use Rattle.tl_numbers.specs.Numbers.{word_number}
 use Rattle.tl_base.specs.Kinds.{slot_kind}
 use Rattle.tl_base.specs.Packets.{IsPacketLength}
+use Rattle.tl_base.specs.declared.host.Out.{Out}
 use Rattle.tl_base.specs.declared.host.Slot.{Slot}
 use Rattle.tl_base.specs.declared.host.Slot.TheVariants.{Link}
 use Rattle.tl_base.specs.declared.packet.TheConstants.{PACKET_BYTES}
@@ -14,7 +15,7 @@ use Rattle.outside.specs.Laws.{Happened, IsFailure, IsFromLink, Keeps, Throughou
 use Rattle.outside.specs.Packets.{PacketView, whole, none, bad_length, AfterLength, bad, good, TakesPacket, after_head, content_of, cut_off, packet_view}
 use Rattle.outside.specs.Packets as packets
 use Rattle.outside.specs.Pieces.{TakenView, full, short, broken, Takes, joined, taken_view}
-use Rattle.outside.specs.Begun.{Did}
+use Rattle.outside.specs.Begun.{Did, WritesOnly}
 use Rattle.outside.specs.Steps.{Begins, Ends, Then}
 use Rattle.outside.specs.declared.packets.Packet.{Packet}
 use Rattle.outside.specs.declared.packets.Packet.TheVariants as packet
@@ -204,3 +205,7 @@ after_broken head u v unbroken after is = subst IsUnbroken (subst (λ (x : Taken
 -- a packet, a part of one, or the end
 pub packet_came : (t : List Event) (v : PacketView) → TakesPacket Link t v → IsUnbroken v → Happened IsFromLink t
 packet_came t v h unbroken = subst (Happened IsFromLink) (sym h.splits) (happened_first IsFromLink h.first h.rest (head_came h.first h.between h.does (after_broken h.between h.rest v unbroken h.goes)))
+
+-- nothing is written where a packet is taken
+pub may_packet : (slot : Slot) (outs : List Out) → Keeps (WritesOnly outs) (TakesPacket slot)
+may_packet slot outs = keeps_packet slot (WritesOnly outs) (λ bytes. tt) tt tt
