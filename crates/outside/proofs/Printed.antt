@@ -7,7 +7,7 @@ use Rattle.command_base.specs.Jobs.{Making, made, refused_by, unread, no_memory}
 use Rattle.command_base.specs.declared.status.Status.{Status}
 use Rattle.command_base.specs.declared.status.Status.TheVariants.{Refused}
 use Rattle.outside.specs.Events.{HostState}
-use Rattle.outside.specs.Begun.{Did}
+use Rattle.outside.specs.Begun.{Did, DidIn}
 use Rattle.outside.specs.Steps.{Begins}
 use Rattle.outside.specs.Pieces.{Writes, Tells}
 use Rattle.outside.specs.Printing.{Prints, after_output, Answers, Makes, PrintsMade}
@@ -49,7 +49,7 @@ module _ (Is : Answer → Type 0) where
   pub can_answer : (a : Answer) → Is a → Begins (Answers Is) []
   can_answer a is = let m = can_print a in record { rest = m.rest; answer = m.answer; whole = (a, is, m.whole) }
 
-  pub answers_by : (a : Answer) (p q : HostState) (answer : Option Status) → Is a → Did (Prints a) p q answer → Did (Answers Is) p q answer
+  pub answers_by : {outs : List Out} (a : Answer) (p q : HostState) (answer : Option Status) → Is a → DidIn outs (Prints a) p q answer → DidIn outs (Answers Is) p q answer
   answers_by a p q (Some status) is h = record { trace = h.trace; grew = h.grew; holds = (a, is, h.holds) }
   answers_by a p q None is h = record { trace = h.trace; grew = h.grew; holds = record { rest = h.holds.rest; answer = h.holds.answer; whole = (a, is, h.holds.whole); only = h.holds.only } }
 
