@@ -42,6 +42,7 @@ use Rattle.session_rooms.specs.Client.{OfState, no_client, too_many, watches, Of
 use Rattle.session_rooms.specs.ClientLaws.{IsOfClient, ClientTouches, ClientHasCause}
 use Rattle.session_rooms.specs.Conversing.{Outcome, Asks, after_asking, HearsBytes, no_frame, refused as refused_frame, heard, after_packet, HearsNext, Heard, turn_of, hears_by, HearsOn, after_begin, Converses}
 use Rattle.session_rooms.specs.Sending.{Sends}
+use Rattle.session_rooms.proofs.Conversed.{keeps_converse}
 use Rattle.session_rooms.proofs.SentMessages.{keeps_send, unsent}
 
 -- ---- events
@@ -51,43 +52,6 @@ module _ (schema address state : List ℕ) where
   P = IsOfClient schema address state
 
   module _ (p : ProfileView) where
-    keeps_asked : (d : ClientState) (ok : Bool) → Keeps P (after_asking d ok)
-    keeps_asked d true = keeps_end P (Ok d)
-    keeps_asked d false = keeps_end P (Err session.LinkFault)
-
-    keeps_ask : (c : ClientState) → Keeps P (Asks p c)
-    keeps_ask c = keeps_then P _ _ (keeps_send (SpellsCall p) P (λ _. tt) tt (ticks c).asks) (keeps_asked (ticks c).client)
-
-    keeps_bytes : (c : ClientState) (bytes : List ℕ) → Keeps P (HearsBytes p c bytes)
-    keeps_bytes c bytes t r (no_frame fault h none is) = subst (Throughout P) (sym none) tt
-    keeps_bytes c bytes t r (refused_frame fault h none is) = subst (Throughout P) (sym none) tt
-    keeps_bytes c bytes t r (heard f means taken h) = keeps_ask (hears c f) t r h
-
-    keeps_after : (c : ClientState) (m : PacketView) → Keeps P (after_packet p c m)
-    keeps_after c (whole bytes) = keeps_bytes c bytes
-    keeps_after c packets.none = keeps_end P _
-    keeps_after c (packets.bad_length n) = keeps_end P _
-    keeps_after c (packets.ended had) = keeps_end P _
-    keeps_after c packets.broken = keeps_end P _
-
-    keeps_next : (c : ClientState) → Keeps P (HearsNext p c)
-    keeps_next c = keeps_then P _ _ (keeps_packet slots.Link P (λ _. tt) tt tt) (keeps_after c)
-
-    keeps_turn : (asks more : Bool) (h : Heard) → Keeps P (hears_by p asks more h)
-    keeps_turn false more (c, n) = keeps_end P _
-    keeps_turn true false (c, n) = keeps_end P _
-    keeps_turn true true (c, n) = keeps_then P _ _ (keeps_next c) (λ r. keeps_end P (turn_of n r))
-
-    keeps_hears : (h : Heard) → Keeps P (HearsOn p h)
-    keeps_hears (c, n) = keeps_turn (is_one_asking c) (ltb n MAX_FRAMES) (c, n)
-
-    keeps_begin : (r : Outcome) → Keeps P (after_begin p r)
-    keeps_begin (Ok c) = keeps_loop P (HearsOn p) keeps_hears (c, 0)
-    keeps_begin (Err fault) = keeps_end P (Err fault)
-
-    keeps_converse : (c : ClientState) → Keeps P (Converses p c)
-    keeps_converse c = keeps_then P _ _ (keeps_ask (wakes c)) keeps_begin
-
     -- ---- what is left
 
     keeps_written : (c : ClientState) (ok : Bool) → Keeps P (after_state c ok)
@@ -110,7 +74,7 @@ module _ (schema address state : List ℕ) where
     keeps_session (Err fault) = keeps_ends (session_line fault)
 
     keeps_connected : (c : ClientState) (ok : Bool) → Keeps P (after_connect p state c ok)
-    keeps_connected c true = keeps_then P _ _ (keeps_converse c) keeps_session
+    keeps_connected c true = keeps_then P _ _ (keeps_converse P (λ _. tt) tt (λ _. tt) tt tt p c) keeps_session
     keeps_connected c false = keeps_tell P (λ _. tt) tt link_fault_line LinkFault
 
     keeps_recover : (c : ClientState) → Keeps P (Recovers p address state c)
