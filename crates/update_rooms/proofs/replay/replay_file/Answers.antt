@@ -16,7 +16,7 @@ returns-in_err-text g c =
     rw p.1 (did_stop_by _ (after_journal c.args.clients c.args.profile) _ _ (can_go_on c.args.profile c.requires.sound c.args.clients c.args.journal.now) (did_more _ _ _ _ c.in_err-text.ensures))
 
 pub replay_text-requires-clause-bytes : goal.replay_text-requires-clause-bytes
-replay_text-requires-clause-bytes g c = did_read_are Input c.args.journal.now MAX_JOURNAL_BYTES _ _ (text_view c.in_ok-text.field-0) c.in-Some.text.items (ap text_view c.in-Some.is) (may_file to_output Input c.args.journal.now MAX_JOURNAL_BYTES) (did_any _ _ _ _ c.in_ok-text.ensures)
+replay_text-requires-clause-bytes g c = did_read_are Input c.args.journal.now MAX_JOURNAL_BYTES _ _ (text_view c.in_ok-text.field-0) c.in-Some.text.items (ap text_view c.in-Some.is) c.in_ok-text.ensures
 
 pub returns-in-Some : goal.returns-in-Some
 returns-in-Some g c = did_then_at _ (after_journal c.args.clients c.args.profile) _ _ _ (text_view c.in_ok-text.field-0) (Some c.in-Some.text.items) _ (ap text_view c.in-Some.is) (may_file to_output Input c.args.journal.now MAX_JOURNAL_BYTES) (did_any _ _ _ _ c.in_ok-text.ensures) c.replay_text.ensures
