@@ -1,5 +1,5 @@
 -- What a server makes of one packet.
-use Rattle.std.proofs.Common.{◌≡◌, ◌≢◌, ◌⊎◌, inl, inr, ℕ, ◌≤◌, List, ◌++◌, length, Option, Err, refl, subst}
+use Rattle.std.proofs.Common.{◌≡◌, ◌≢◌, ◌⊎◌, inl, inr, ℕ, ◌≤◌, List, ◌++◌, length, Option, refl, sym, subst}
 use Rattle.box_events.specs.declared.replies.Frame.{Frame}
 use Rattle.box_events.specs.declared.requests.Numbered.{Numbered}
 use Rattle.box_server.specs.Servers.{ServerState}
@@ -43,3 +43,7 @@ pub turn_keeps : (p : ProfileView) (s : ServerState) (bytes : List ℕ) (a b : K
     → Keeps a b G (λ es. (m : Numbered) → MeansCall p m bytes → length (es ++ kept_for s m.request) ≤ a.room)
 turn_keeps p s bytes a b F G call means f k =
     keeps_as a b F G (λ es. length (es ++ kept_for s call.request) ≤ a.room) (λ es. (m : Numbered) → MeansCall p m bytes → length (es ++ kept_for s m.request) ≤ a.room) (λ es fits. fits call means) f k
+
+-- likewise, of the keeper that the code has
+pub turn_keeps_same : {K : Type 0} (state : K → KeeperState) (j k : K) (a : KeeperState) (F : Type 0) (P : List Entry → Type 0) → j ≡ k → Keeps a (state k) F P → Keeps a (state j) F P
+turn_keeps_same {K} state j k a F P is h = subst (λ (i : K). Keeps a (state i) F P) (sym is) h

@@ -23,13 +23,19 @@ use Rattle.update_sessions.specs.inner.StoreSteps.{StoreSoFar, StoresNext}
 use Rattle.update_sessions.proofs.KeepsRoom.{keeps_next, room_for_one}
 use Rattle.update_sessions.proofs.ServerSteps.{next_dropped, next_failed, next_none, next_short, stores_failed, stores_stopped}
 
+-- a packet was read: there is room for what its call adds
+pub answered_keeps : (p : ProfileView) (s : ServerState) (l0 w0 l1 : Option (List ℕ)) (into : List ℕ) → ((m : Numbered) → MeansCall p m into → IfSome l0 (λ bytes. Receives (MeansCall p) (WireRefused p calls) bytes l1 (Ok (Some m))))
+    → (a b : KeeperState) (F G : Type 0) → (G → F) → Keeps a b F (λ es. (m : Numbered) → MeansCall p m into → length (es ++ kept_for s m.request) ≤ a.room) → Keeps a b G (RoomFor p 1 s l0 w0 a.room)
+answered_keeps p s l0 w0 l1 into r a b F G f k =
+    keeps_as a b F G (λ es. (m : Numbered) → MeansCall p m into → length (es ++ kept_for s m.request) ≤ a.room) (RoomFor p 1 s l0 w0 a.room) (λ es fits m means. room_for_one p s m l0 w0 l1 a.room es (r m means) fits) f k
+
 module _ {K : Type 0} where
   -- ---- a packet that was read isn't answered
 
   module _ (p : ProfileView) (s : ServerState) (l0 w0 l1 : Option (List ℕ)) (into out : List ℕ) (r : (m : Numbered) → MeansCall p m into → IfSome l0 (λ bytes. Receives (MeansCall p) (WireRefused p calls) bytes l1 (Ok (Some m)))) where
     -- it ends the session so
     pub unanswered_none : (f : K → Option (List Entry)) (e0 : Option (List Entry)) (w1 : Option (List ℕ)) (end : StoreSession K)
-        → ((fault : WireFault) → WireRefused p calls into fault → IfSome l0 (λ bytes. Receives {M = Numbered} (MeansCall p) (WireRefused p calls) bytes l1 (Err (fault.Wire fault)))) → w0 ≡ w1
+        → ((x : WireFault) → WireRefused p calls into x → IfSome l0 (λ bytes. Receives {M = Numbered} (MeansCall p) (WireRefused p calls) bytes l1 (Err (fault.Wire x)))) → w0 ≡ w1
         → AnswersPacket p s into out e0 (f (packet_keeper (Err end))) (packet_end (Err end)) → StoresNext p s l0 w0 l1 w1 e0 (f (session_keeper {T = Bool} (Err end))) (end_of {T = Bool} (Err end))
     unanswered_none f e0 w1 (Session store (fault.Wire x)) no w h = subst (λ (u : ServerState). StoresNext p s l0 w0 l1 w1 e0 (f store.keeper) (ended u (Err (fault.Wire x)))) (sym h.1) (next_none p s l0 w0 l1 w1 e0 (f store.keeper) (fault.Wire x) (no x h.0) w h.2)
     unanswered_none f e0 w1 (Session store (fault.Packet x)) no w h = absurd h
@@ -53,16 +59,12 @@ module _ {K : Type 0} where
     unanswered_never e0 e1 (Failed keeper) h failed = failed
 
     -- there is room for what it adds
-    pub answered_keeps : (a b : KeeperState) (F G : Type 0) → (G → F) → Keeps a b F (λ es. (m : Numbered) → MeansCall p m into → length (es ++ kept_for s m.request) ≤ a.room) → Keeps a b G (RoomFor p 1 s l0 w0 a.room)
-    answered_keeps a b F G f k =
-        keeps_as a b F G (λ es. (m : Numbered) → MeansCall p m into → length (es ++ kept_for s m.request) ≤ a.room) (RoomFor p 1 s l0 w0 a.room) (λ es fits m means. room_for_one p s m l0 w0 l1 a.room es (r m means) fits) f k
-
     pub unanswered_keeps : (state : K → KeeperState) (a : KeeperState) (end : StoreSession K)
         → Keeps a (state (packet_keeper (Err end))) (IsPacketUnkept (packet_end (Err end))) (λ es. (m : Numbered) → MeansCall p m into → length (es ++ kept_for s m.request) ≤ a.room)
         → Keeps a (state (session_keeper {T = Bool} (Err end))) (IsKeeperFailed (end_of {T = Bool} (Err end))) (RoomFor p 1 s l0 w0 a.room)
-    unanswered_keeps state a (Session store x) k = answered_keeps a (state store.keeper) ⊥ ⊥ (λ f. f) k
-    unanswered_keeps state a (Memory store) k = answered_keeps a (state store.keeper) ⊥ ⊥ (λ f. f) k
-    unanswered_keeps state a (Failed keeper) k = answered_keeps a (state keeper) (Unit {0}) (Unit {0}) (λ f. f) k
+    unanswered_keeps state a (Session store x) k = answered_keeps p s l0 w0 l1 into r a (state store.keeper) ⊥ ⊥ (λ f. f) k
+    unanswered_keeps state a (Memory store) k = answered_keeps p s l0 w0 l1 into r a (state store.keeper) ⊥ ⊥ (λ f. f) k
+    unanswered_keeps state a (Failed keeper) k = answered_keeps p s l0 w0 l1 into r a (state keeper) (Unit {0}) (Unit {0}) (λ f. f) k
 
   -- ---- the last step of a session ends it
 

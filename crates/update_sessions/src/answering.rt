@@ -23,6 +23,7 @@ use box_server::{PostFault, Posted, Server};
 use box_store::{Keeper, Posts, StoreRefusal, Stored};
 use box_wire::read_call;
 use std::alloc::Global;
+use std::mem::drop;
 use tl_base::{Bytes, Memory};
 use wire_checks::WireFault;
 use wire_profile::Profile;
@@ -61,20 +62,25 @@ pub fn answer_packet<K: Keeper>(
 {
     let call = match read_call(alloc, profile, packet) {
         Ok(call) => call,
-        Err(WireFault::Memory) => return Err(StoreSession::Memory { store }),
-        Err(fault) => {
-            return Err(StoreSession::Session {
-                store,
-                fault: SessionFault::Wire(fault),
-            });
-        }
+        Err(fault) => match fault {
+            WireFault::Memory => return Err(StoreSession::Memory { store }),
+            fault => {
+                return Err(StoreSession::Session {
+                    store,
+                    fault: SessionFault::Wire(fault),
+                });
+            }
+        },
     };
     let (store, sent) = match take_call(alloc, store, call) {
         Ok(taken) => taken,
         Err(Untaken::Memory { store }) => return Err(StoreSession::Memory { store }),
         Err(Untaken::Failed { keeper }) => return Err(StoreSession::Failed { keeper }),
     };
-    match put_sent(alloc, profile, &sent, out) {
+    let put = put_sent(alloc, profile, &sent, out);
+    // Once, in place of at each end: for the proof alone.
+    drop(sent);
+    match put {
         Ok(()) => Ok(store),
         Err(_) => Err(StoreSession::Memory { store }),
     }
