@@ -1,5 +1,5 @@
 -- How a message is received: a packet, and what its bytes mean.
-use Rattle.std.proofs.Common.{◌≡◌, ◌⊎◌, inl, inr, Bool, ℕ, List, ◌++◌, length, true, false, Option, Some, None, Result, Ok, Err, refl, sym, ap, ◌∙◌, subst}
+use Rattle.std.proofs.Common.{◌≡◌, ◌⊎◌, inl, inr, Bool, ℕ, List, ◌++◌, length, true, false, Option, Some, None, Result, Ok, Err, refl, sym, ◌∙◌, subst}
 use Rattle.std.specs.Prelude.{IfSome}
 use Rattle.tl_base.specs.Packets.{IsPacketLength, ReadsPacket, PacketInto, packet}
 use Rattle.tl_base.specs.declared.packet.PacketFault.{PacketFault}
@@ -98,8 +98,8 @@ packet_failed packets.Memory e = absurd cc
 pub packet_link_failed : {A B : Type 0} (r : Result A PacketFault) (q : Result B SessionFault) (x : PacketFault) (y : SessionFault) → r ≡ Err x → y ≡ of_packet x → q ≡ Err y → q ≡ Err LinkFault → r ≡ Err packets.ReadFault
 packet_link_failed {A} {B} r q x y is of told failed =
     let same : y ≡ LinkFault = cc in
-    let fault : Err {T = A} x ≡ Err packets.ReadFault = ap (λ (z : PacketFault). Err {T = A} z) (packet_failed x (sym of ∙ same)) in
-    is ∙ fault
+    let fault : x ≡ packets.ReadFault = packet_failed x (sym of ∙ same) in
+    cc
 
 -- no refusal of a message is one
 pub wire_failed : (fault : WireFault) → of_wire fault ≡ LinkFault → ⊥

@@ -37,15 +37,15 @@ module _ {K : Type 0} where
     pub unanswered_none : (f : K → Option (List Entry)) (e0 : Option (List Entry)) (w1 : Option (List ℕ)) (end : StoreSession K)
         → ((x : WireFault) → WireRefused p calls into x → IfSome l0 (λ bytes. Receives {M = Numbered} (MeansCall p) (WireRefused p calls) bytes l1 (Err (fault.Wire x)))) → w0 ≡ w1
         → AnswersPacket p s into out e0 (f (packet_keeper (Err end))) (packet_end (Err end)) → StoresNext p s l0 w0 l1 w1 e0 (f (session_keeper {T = Bool} (Err end))) (end_of {T = Bool} (Err end))
-    unanswered_none f e0 w1 (Session store (fault.Wire x)) no w h = subst (λ (u : ServerState). StoresNext p s l0 w0 l1 w1 e0 (f store.keeper) (ended u (Err (fault.Wire x)))) (sym h.1) (next_none p s l0 w0 l1 w1 e0 (f store.keeper) (fault.Wire x) (no x h.0) w h.2)
-    unanswered_none f e0 w1 (Session store (fault.Packet x)) no w h = absurd h
-    unanswered_none f e0 w1 (Session store (fault.Client x)) no w h = absurd h
-    unanswered_none f e0 w1 (Session store fault.TooManyFrames) no w h = absurd h
-    unanswered_none f e0 w1 (Session store fault.LinkFault) no w h = absurd h
-    unanswered_none f e0 w1 (Session store fault.Memory) no w h = absurd h
-    unanswered_none f e0 w1 (Memory store) no w (inl h) = subst (λ (u : ServerState). StoresNext p s l0 w0 l1 w1 e0 (f store.keeper) (ended u (Err fault.Memory))) (sym h.0) (next_short p s l0 w0 l1 w1 e0 (f store.keeper) w h.1)
-    unanswered_none f e0 w1 (Memory store) no w (inr h) = next_dropped p s h.call l0 w0 l1 w1 (r h.call h.means) w e0 (f store.keeper) store.server h.ends h.kept
-    unanswered_none f e0 w1 (Failed keeper) no w h = next_failed p s h.call l0 w0 l1 w1 (r h.call h.means) w e0 (f keeper) h.new h.kept
+    unanswered_none f e0 w1 (Session store (fault.Wire x)) unread w h = subst (λ (u : ServerState). StoresNext p s l0 w0 l1 w1 e0 (f store.keeper) (ended u (Err (fault.Wire x)))) (sym h.1) (next_none p s l0 w0 l1 w1 e0 (f store.keeper) (fault.Wire x) (unread x h.0) w h.2)
+    unanswered_none f e0 w1 (Session store (fault.Packet x)) unread w h = absurd h
+    unanswered_none f e0 w1 (Session store (fault.Client x)) unread w h = absurd h
+    unanswered_none f e0 w1 (Session store fault.TooManyFrames) unread w h = absurd h
+    unanswered_none f e0 w1 (Session store fault.LinkFault) unread w h = absurd h
+    unanswered_none f e0 w1 (Session store fault.Memory) unread w h = absurd h
+    unanswered_none f e0 w1 (Memory store) unread w (inl h) = subst (λ (u : ServerState). StoresNext p s l0 w0 l1 w1 e0 (f store.keeper) (ended u (Err fault.Memory))) (sym h.0) (next_short p s l0 w0 l1 w1 e0 (f store.keeper) w h.1)
+    unanswered_none f e0 w1 (Memory store) unread w (inr h) = next_dropped p s h.call l0 w0 l1 w1 (r h.call h.means) w e0 (f store.keeper) store.server h.ends h.kept
+    unanswered_none f e0 w1 (Failed keeper) unread w h = next_failed p s h.call l0 w0 l1 w1 (r h.call h.means) w e0 (f keeper) h.new h.kept
 
     -- the link has no part in that
     pub unanswered_never : (e0 e1 : Option (List Entry)) (end : StoreSession K) → AnswersPacket p s into out e0 e1 (packet_end (Err end)) → IsLinkFailed (end_of {T = Bool} (Err end)) → ⊥

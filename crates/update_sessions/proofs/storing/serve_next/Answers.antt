@@ -32,7 +32,7 @@ returns-in-Ok-false-clause-stores g c =
     let old = keeper c.args.store.keeper in
     let into = c.read_packet.new.into in
     let written = g.met.L.Link.reading_keeps_written c.args.link.now c.read_packet.new.from (sym c.read_packet.ensures.used.kept) in
-    next_ended p s a.left x.written b.left y.written old.entries old.entries (no_more {M = Numbered} (MeansCall p) (WireRefused p calls) a.left b.left into (rw c.in-Ok-false.field-0-is at c.in-Ok-false.ensures.bytes)) written refl
+    next_ended p s a.left x.written b.left y.written old.entries old.entries (no_more {M = Numbered} (MeansCall p) (WireRefused p calls) a.left b.left into (rw c.in-Ok-false.field-0-test at c.in-Ok-false.ensures.bytes)) written refl
 
 pub returns-in-Ok-false-clause-used : goal.returns-in-Ok-false-clause-used
 returns-in-Ok-false-clause-used g c =
@@ -116,9 +116,9 @@ returns-in-Err-answer_packet-clause-stores g c =
     let into = c.read_packet.new.into in
     let out = c.answer_packet.new.out in
     let written = g.met.L.Link.reading_keeps_written c.args.link.now c.read_packet.new.from (sym c.read_packet.ensures.used.kept) in
-    let r = λ (m : Numbered) (means : MeansCall p m into). message (MeansCall p) (WireRefused p calls) a.left b.left into m (rw c.in-Ok-true.field-0-is at c.in-Ok-true.ensures.bytes) (rw c.in-Ok-true.field-0-is at c.in-Ok-true.ensures.into) means in
+    let r = λ (m : Numbered) (means : MeansCall p m into). message (MeansCall p) (WireRefused p calls) a.left b.left into m (rw c.in-Ok-true.field-0-test at c.in-Ok-true.ensures.bytes) (rw c.in-Ok-true.field-0-test at c.in-Ok-true.ensures.into) means in
     unanswered_none p s a.left x.written b.left into out r (λ k. (keeper k).entries) old.entries y.written c.in-Err-answer_packet.end
-    (λ fault no. refused_message {M = Numbered} (MeansCall p) (WireRefused p calls) a.left b.left into fault (rw c.in-Ok-true.field-0-is at c.in-Ok-true.ensures.bytes) (rw c.in-Ok-true.field-0-is at c.in-Ok-true.ensures.into) no) written (rw c.as_slice.ensures.value at c.in-Err-answer_packet.ensures.answers)
+    (λ fault refused. refused_message {M = Numbered} (MeansCall p) (WireRefused p calls) a.left b.left into fault (rw c.in-Ok-true.field-0-test at c.in-Ok-true.ensures.bytes) (rw c.in-Ok-true.field-0-test at c.in-Ok-true.ensures.into) refused) written (rw c.as_slice.ensures.value at c.in-Err-answer_packet.ensures.answers)
 
 pub returns-in-Err-answer_packet-clause-kept : goal.returns-in-Err-answer_packet-clause-kept
 returns-in-Err-answer_packet-clause-kept g c =
@@ -133,7 +133,7 @@ returns-in-Err-answer_packet-clause-kept g c =
     let old = keeper c.args.store.keeper in
     let into = c.read_packet.new.into in
     let out = c.answer_packet.new.out in
-    let r = λ (m : Numbered) (means : MeansCall p m into). message (MeansCall p) (WireRefused p calls) a.left b.left into m (rw c.in-Ok-true.field-0-is at c.in-Ok-true.ensures.bytes) (rw c.in-Ok-true.field-0-is at c.in-Ok-true.ensures.into) means in
+    let r = λ (m : Numbered) (means : MeansCall p m into). message (MeansCall p) (WireRefused p calls) a.left b.left into m (rw c.in-Ok-true.field-0-test at c.in-Ok-true.ensures.bytes) (rw c.in-Ok-true.field-0-test at c.in-Ok-true.ensures.into) means in
     unanswered_keeps p s a.left x.written b.left into out r keeper old c.in-Err-answer_packet.end (rw c.as_slice.ensures.value at c.in-Err-answer_packet.ensures.kept)
 
 pub returns-in-Err-answer_packet-clause-used : goal.returns-in-Err-answer_packet-clause-used
@@ -153,7 +153,7 @@ returns-in-Err-answer_packet-clause-used g c =
     let written = g.met.L.Link.reading_keeps_written c.args.link.now c.read_packet.new.from (sym c.read_packet.ensures.used.kept) in
     let room = g.met.L.Link.reading_keeps_room c.args.link.now c.read_packet.new.from (sym c.read_packet.ensures.used.kept) in
     let uses = uses_read a b x y _ c.read_packet.ensures.used written room in
-    let r = λ (m : Numbered) (means : MeansCall p m into). message (MeansCall p) (WireRefused p calls) a.left b.left into m (rw c.in-Ok-true.field-0-is at c.in-Ok-true.ensures.bytes) (rw c.in-Ok-true.field-0-is at c.in-Ok-true.ensures.into) means in
+    let r = λ (m : Numbered) (means : MeansCall p m into). message (MeansCall p) (WireRefused p calls) a.left b.left into m (rw c.in-Ok-true.field-0-test at c.in-Ok-true.ensures.bytes) (rw c.in-Ok-true.field-0-test at c.in-Ok-true.ensures.into) means in
     uses_as a b x y _ _ uses
     (λ e. absurd (unanswered_never p s a.left x.written b.left into out r old.entries _ c.in-Err-answer_packet.end (rw c.as_slice.ensures.value at c.in-Err-answer_packet.ensures.answers) e))
 
@@ -176,10 +176,11 @@ returns-in-Ok-write_all-clause-stores g c =
     let out = c.answer_packet.new.out in
     let written = g.met.L.Link.reading_keeps_written c.args.link.now c.read_packet.new.from (sym c.read_packet.ensures.used.kept) in
     let left = g.met.L.Link.writing_keeps_left c.read_packet.new.from c.write_all.new.to (sym c.write_all.ensures.used.kept) in
-    let r = λ (m : Numbered) (means : MeansCall p m into). message (MeansCall p) (WireRefused p calls) a.left b.left into m (rw c.in-Ok-true.field-0-is at c.in-Ok-true.ensures.bytes) (rw c.in-Ok-true.field-0-is at c.in-Ok-true.ensures.into) means in
+    let r = λ (m : Numbered) (means : MeansCall p m into). message (MeansCall p) (WireRefused p calls) a.left b.left into m (rw c.in-Ok-true.field-0-test at c.in-Ok-true.ensures.bytes) (rw c.in-Ok-true.field-0-test at c.in-Ok-true.ensures.into) means in
     let answers = rw c.as_slice.ensures.value at c.in-Ok.ensures.answers in
     let turn = answers.0 in
-    ?
+    next_done p s turn.message a.left x.written b.left y.written (r turn.message turn.means) written old.entries new.entries c.in-Ok.store.server turn.ends answers.1 out d.left z.written turn.sent left
+    (rw c.as_slice-2.ensures.value at c.in-Ok-write_all.ensures.bytes)
 
 pub returns-in-Ok-write_all-clause-kept : goal.returns-in-Ok-write_all-clause-kept
 returns-in-Ok-write_all-clause-kept g c =
@@ -195,7 +196,7 @@ returns-in-Ok-write_all-clause-kept g c =
     let new = keeper c.in-Ok.store.keeper in
     let into = c.read_packet.new.into in
     let out = c.answer_packet.new.out in
-    let r = λ (m : Numbered) (means : MeansCall p m into). message (MeansCall p) (WireRefused p calls) a.left b.left into m (rw c.in-Ok-true.field-0-is at c.in-Ok-true.ensures.bytes) (rw c.in-Ok-true.field-0-is at c.in-Ok-true.ensures.into) means in
+    let r = λ (m : Numbered) (means : MeansCall p m into). message (MeansCall p) (WireRefused p calls) a.left b.left into m (rw c.in-Ok-true.field-0-test at c.in-Ok-true.ensures.bytes) (rw c.in-Ok-true.field-0-test at c.in-Ok-true.ensures.into) means in
     answered_keeps p s a.left x.written b.left into r old new ⊥ ⊥ (λ f. f) (rw c.as_slice.ensures.value at c.in-Ok.ensures.kept)
 
 pub returns-in-Ok-write_all-clause-used : goal.returns-in-Ok-write_all-clause-used
@@ -239,11 +240,11 @@ returns-in-Err-write_all-clause-stores g c =
     let into = c.read_packet.new.into in
     let out = c.answer_packet.new.out in
     let written = g.met.L.Link.reading_keeps_written c.args.link.now c.read_packet.new.from (sym c.read_packet.ensures.used.kept) in
-    let r = λ (m : Numbered) (means : MeansCall p m into). message (MeansCall p) (WireRefused p calls) a.left b.left into m (rw c.in-Ok-true.field-0-is at c.in-Ok-true.ensures.bytes) (rw c.in-Ok-true.field-0-is at c.in-Ok-true.ensures.into) means in
+    let r = λ (m : Numbered) (means : MeansCall p m into). message (MeansCall p) (WireRefused p calls) a.left b.left into m (rw c.in-Ok-true.field-0-test at c.in-Ok-true.ensures.bytes) (rw c.in-Ok-true.field-0-test at c.in-Ok-true.ensures.into) means in
     let answers = rw c.as_slice.ensures.value at c.in-Ok.ensures.answers in
     let turn = answers.0 in
     next_cut p s turn.message a.left x.written b.left y.written (r turn.message turn.means) written old.entries new.entries c.in-Ok.store.server turn.ends answers.1 out d.left z.written turn.sent
-    (rw c.as_slice-out.ensures.value at c.in-Err-write_all.ensures.bytes)
+    (rw c.as_slice-2.ensures.value at c.in-Err-write_all.ensures.bytes)
 
 pub returns-in-Err-write_all-clause-kept : goal.returns-in-Err-write_all-clause-kept
 returns-in-Err-write_all-clause-kept g c =
@@ -259,7 +260,7 @@ returns-in-Err-write_all-clause-kept g c =
     let new = keeper c.in-Ok.store.keeper in
     let into = c.read_packet.new.into in
     let out = c.answer_packet.new.out in
-    let r = λ (m : Numbered) (means : MeansCall p m into). message (MeansCall p) (WireRefused p calls) a.left b.left into m (rw c.in-Ok-true.field-0-is at c.in-Ok-true.ensures.bytes) (rw c.in-Ok-true.field-0-is at c.in-Ok-true.ensures.into) means in
+    let r = λ (m : Numbered) (means : MeansCall p m into). message (MeansCall p) (WireRefused p calls) a.left b.left into m (rw c.in-Ok-true.field-0-test at c.in-Ok-true.ensures.bytes) (rw c.in-Ok-true.field-0-test at c.in-Ok-true.ensures.into) means in
     answered_keeps p s a.left x.written b.left into r old new ⊥ ⊥ (λ f. f) (rw c.as_slice.ensures.value at c.in-Ok.ensures.kept)
 
 pub returns-in-Err-write_all-clause-used : goal.returns-in-Err-write_all-clause-used
@@ -302,11 +303,11 @@ returns-in-Err-write_all-clause-never g c =
     let written = g.met.L.Link.reading_keeps_written c.args.link.now c.read_packet.new.from (sym c.read_packet.ensures.used.kept) in
     let room = g.met.L.Link.reading_keeps_room c.args.link.now c.read_packet.new.from (sym c.read_packet.ensures.used.kept) in
     let uses = uses_read a b x y _ c.read_packet.ensures.used written room in
-    let r = λ (m : Numbered) (means : MeansCall p m into). message (MeansCall p) (WireRefused p calls) a.left b.left into m (rw c.in-Ok-true.field-0-is at c.in-Ok-true.ensures.bytes) (rw c.in-Ok-true.field-0-is at c.in-Ok-true.ensures.into) means in
+    let r = λ (m : Numbered) (means : MeansCall p m into). message (MeansCall p) (WireRefused p calls) a.left b.left into m (rw c.in-Ok-true.field-0-test at c.in-Ok-true.ensures.bytes) (rw c.in-Ok-true.field-0-test at c.in-Ok-true.ensures.into) means in
     let answers = rw c.as_slice.ensures.value at c.in-Ok.ensures.answers in
     let turn = answers.0 in
     let one : IsOne b y = record { faults = g.met.L.Link.one_count c.read_packet.new.from; sound = g.met.L.Link.one_truth c.read_packet.new.from } in
-    let wrote = subst (λ (l : List ℕ). Wrote y z (length l) (IsErr c.write_all.result)) c.as_slice-out.ensures.value c.write_all.ensures.used in
+    let wrote = subst (λ (l : List ℕ). Wrote y z (length l) (IsErr c.write_all.result)) c.as_slice-2.ensures.value c.write_all.ensures.used in
     never_as a x (MaySendFor (server_side p) 1 s) (IsErr c.write_all.result) _
     (step_never (server_side p) (WireRefused p calls) s c.in-Ok.store.server turn.message out tt a b x y z _ (IsErr c.write_all.result) (r turn.message turn.means) uses written turn.sent turn.ends one wrote)
     (λ e. rw c.in-Err-write_all.is refl)
