@@ -83,7 +83,7 @@ kept_one s (request.Post id posts) new = one_if (is_new s id posts) s id posts n
 
 none_or_one : (es : List Entry) → (es ≢ [] → (e : Entry) × (es ≡ e ∷ [])) → (es ≡ []) ⊎ ((e : Entry) × (es ≡ e ∷ []))
 none_or_one [] one = inl refl
-none_or_one (e ∷ es) one = inr (one cc)
+none_or_one (e ∷ es) one = inr (one (λ x. cc))
 
 -- and else none
 pub kept_at_most_one : (s : ServerState) (r : Request) → (kept_for s r ≡ []) ⊎ ((e : Entry) × (kept_for s r ≡ e ∷ []))

@@ -6,7 +6,6 @@ use Rattle.box_events.specs.declared.replies.Frame.TheVariants.{Push as PushFram
 use Rattle.box_events.specs.declared.requests.Numbered.{Numbered}
 use Rattle.box_events.specs.declared.requests.Request.{Request}
 use Rattle.box_events.specs.declared.requests.Request.TheVariants as request
-use Rattle.box_events.specs.declared.updates.Push.{Push}
 use Rattle.box_server.specs.Receiving.{post_answer}
 use Rattle.box_server.specs.Servers.{ServerState}
 use Rattle.box_server.specs.declared.fault.PostFault.{PostFault}
@@ -15,11 +14,10 @@ use Rattle.box_client.specs.Asking.{is_one_asking, ticks, wakes}
 use Rattle.box_client.specs.Pushes.{pushed}
 use Rattle.box_client.specs.Replies.{Outcome, becomes, ignored, refuses, replied}
 use Rattle.box_client.specs.States.{ClientState}
-use Rattle.box_world.specs.Streams.{begun}
 use Rattle.box_world.specs.Worlds.{after_reply}
 use Rattle.update_sessions.specs.Hearing.{IsTaken, cause_in, hears}
-use Rattle.update_sessions.specs.Serving.{posted_frames, push_frames, sent_for}
-use Rattle.update_sessions.specs.Waiting.{Conversation, HasMessage, IsCalled, IsReplied, NeverBothWait, Reaches, RequestsAreNeverLost, Turn, client_takes, opening, server_takes}
+use Rattle.update_sessions.specs.Serving.{posted_frames, sent_for}
+use Rattle.update_sessions.specs.Waiting.{Conversation, IsCalled, IsReplied, NeverBothWait, Reaches, RequestsAreNeverLost, Turn, client_takes, opening, server_takes}
 use Rattle.update_sessions.proofs.OpenNumbers.{IsRefused, among, among_both, asked_counts, asks_of, free_client, one, pushed_counts, replied_counts, ticks_counts, waits_number, woken_counts}
 
 -- how many of these frames reply to a number

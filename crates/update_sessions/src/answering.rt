@@ -38,13 +38,9 @@ pub struct Sent {
 /// Why a call wasn't taken.
 #[derive(Drop)]
 pub enum Untaken<K: Keeper> {
-    Memory {
-        store: Stored<K>,
-    },
+    Memory { store: Stored<K> },
     /// The keeper failed at a post.
-    Failed {
-        keeper: K,
-    },
+    Failed { keeper: K },
 }
 
 /// Answers the call that a packet's bytes mean. A new post is kept before anything is to be sent for it. Puts the packets of all that is sent for the call
@@ -181,12 +177,7 @@ fn refusal(alloc: Global, number: u32, fault: PostFault) -> Result<Sent, Memory>
 }
 
 // Puts the packets of what is sent in place of what stands in `out`.
-fn put_sent(
-    alloc: Global,
-    profile: &Profile,
-    sent: &Sent,
-    out: &mut Bytes,
-) -> Result<(), Memory>
+fn put_sent(alloc: Global, profile: &Profile, sent: &Sent, out: &mut Bytes) -> Result<(), Memory>
     requires { AreShort sent.now }
     ensures { OnOk result (Packed (SpellsFrame profile.now) (frames_in sent.now) out.new) }
 {

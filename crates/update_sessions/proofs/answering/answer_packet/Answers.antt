@@ -1,6 +1,6 @@
 use Rattle.std.proofs.Common.{refl}
 use Rattle.update_sessions.proofs.KeepsRoom.{keeps_still}
-use Rattle.update_sessions.proofs.ServerTurns.{turn_answered, turn_keeps, turn_keeps_same, turn_unread, turn_unsent}
+use Rattle.update_sessions.proofs.ServerTurns.{turn_answered, turn_keeps, turn_keeps_same, turn_unread}
 use Rattle.update_sessions.proofs.answering.answer_packet.Goals as goal
 
 pub returns-in_default : goal.returns-in_default

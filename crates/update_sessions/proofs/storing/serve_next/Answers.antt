@@ -9,7 +9,7 @@ use Rattle.update_sessions.specs.Exchanges.{MaySendFor}
 use Rattle.update_sessions.specs.Packed.{MeansCall}
 use Rattle.update_sessions.specs.Serving.{server_side}
 use Rattle.update_sessions.specs.Faults.{of_packet}
-use Rattle.update_sessions.specs.declared.fault.SessionFault.TheVariants.{LinkFault, Memory}
+use Rattle.update_sessions.specs.declared.fault.SessionFault.TheVariants.{Memory}
 use Rattle.update_sessions.proofs.KeepsRoom.{keeps_still}
 use Rattle.update_sessions.proofs.LinkUses.{IsOne, uses_as, uses_read, uses_then, uses_write}
 use Rattle.update_sessions.proofs.Received.{message, no_more, no_packet, packet_link_failed, refused_message}
