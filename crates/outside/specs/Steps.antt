@@ -53,4 +53,3 @@ pub record Grows (old new : HostState) (P : List Event → Type 0) : Type 0 wher
   pub trace : List Event
   pub grew : Grew old trace new
   pub holds : P trace
-

@@ -6,7 +6,6 @@ ghost use Rattle.wire_profile.specs.Profiles.{IsProfile};
 ghost use Rattle.outside.specs.Begun.{DidIn, to_output};
 ghost use Rattle.outside.specs.Printing.{Answers};
 ghost use Rattle.outside.specs.Runs.{RanIn, answered};
-
 ghost use Rattle.codec_rooms.specs.Typed.{OfText};
 ghost use Rattle.update_commands.specs.Replay.{OfJournal};
 ghost use Rattle.update_commands.specs.Replaying.{stop_line};
