@@ -1,0 +1,148 @@
+//! A server's session over the link in hand.
+ghost use Rattle.std.specs.Prelude.{◌≡◌, List, Some, is_ok};
+ghost use Rattle.box_events.specs.declared.replies.Frame.{Frame};
+ghost use Rattle.outside.specs.Packets.{packet_view};
+ghost use Rattle.outside.specs.Steps.{Did};
+ghost use Rattle.session_rooms.specs.Sending.{Sends};
+ghost use Rattle.update_sessions.specs.Packed.{Packed, SpellsFrame};
+ghost use Rattle.wire_profile.specs.Places.{ProfileView};
+ghost use Rattle.serve_rooms.specs.Acts.{beside};
+ghost use Rattle.serve_rooms.specs.Answering.{AnswersAll, AnswersBytes, AnswersNext};
+ghost use Rattle.serve_rooms.specs.Doing.{DidKept};
+ghost use Rattle.serve_rooms.specs.inner.Ends.{answered_by, keeper_of, outcome_at, end_at, session_by};
+
+use box_store::{Keeper, Stored};
+use outside::{Host, Packet, take_packet, write_out};
+use std::alloc::Global;
+use tl_base::{Bytes, Failed, Out, PacketFault, Slot};
+use update_sessions::{MAX_FRAMES, SessionFault, StoreSession, answer_packet};
+use wire_profile::Profile;
+
+/// What became of the next packet.
+#[derive(Clone, Copy)]
+pub enum Outcome {
+    /// Its call was answered.
+    Answered,
+    /// There was none: the link has ended.
+    Ended,
+    /// The session fails. The fault is no `Memory`.
+    Failed { fault: SessionFault },
+}
+
+/// Why a session stopped. The keeper alone is left.
+#[derive(Drop)]
+pub enum Stopped<K: Keeper> {
+    /// Memory ran out.
+    Memory { keeper: K },
+    /// A call to the keeper failed.
+    Lost { keeper: K },
+}
+
+// What becomes of what is no packet.
+fn no_packet(packet: &Packet) -> Outcome
+    ensures { result ≡ outcome_at (packet_view packet.now) }
+{
+    match packet {
+        Packet::Whole(_) => Outcome::Answered,
+        Packet::None => Outcome::Ended,
+        Packet::BadLength { length } => Outcome::Failed {
+            fault: SessionFault::Packet(PacketFault::BadLength { length: *length }),
+        },
+        Packet::Ended { had } => Outcome::Failed {
+            fault: SessionFault::Packet(PacketFault::Ended { had: *had }),
+        },
+        Packet::Broken => Outcome::Failed {
+            fault: SessionFault::LinkFault,
+        },
+    }
+}
+
+// Sends the packets of frames.
+fn send_frames<H: Host>(host: &mut H, out: &Bytes) -> Result<(), Failed>
+    ensures { (p : ProfileView) (frames : List Frame) → Packed (SpellsFrame p) frames out.now → Did (Sends (SpellsFrame p) frames) (H.state host.old) (H.state host.new) (Some (is_ok result)) }
+{
+    write_out(host, Out::Link, out.as_slice())
+}
+
+// Answers the call that a packet's bytes mean.
+fn answer_bytes<H: Host, K: Keeper>(
+    alloc: Global,
+    host: &mut H,
+    profile: &Profile,
+    store: Stored<K>,
+    packet: &[u8],
+    out: &mut Bytes,
+) -> Result<(Stored<K>, Outcome), Stopped<K>>
+    ensures { DidKept (AnswersBytes profile.now store.server packet.now) (beside (H.state host.old) (K.state store.keeper)) (beside (H.state host.new) (K.state (keeper_of result))) (answered_by result) }
+{
+    match answer_packet(alloc, profile, store, packet, out) {
+        Ok(store) => match send_frames(host, out) {
+            Ok(()) => Ok((store, Outcome::Answered)),
+            Err(_) => Ok((
+                store,
+                Outcome::Failed {
+                    fault: SessionFault::LinkFault,
+                },
+            )),
+        },
+        Err(StoreSession::Session { store, fault }) => Ok((store, Outcome::Failed { fault })),
+        Err(StoreSession::Memory { store }) => Err(Stopped::Memory {
+            keeper: store.into_keeper(),
+        }),
+        Err(StoreSession::Failed { keeper }) => Err(Stopped::Lost { keeper }),
+    }
+}
+
+// Takes the next packet, and answers its call.
+fn answer_next<H: Host, K: Keeper>(
+    alloc: Global,
+    host: &mut H,
+    profile: &Profile,
+    store: Stored<K>,
+    out: &mut Bytes,
+) -> Result<(Stored<K>, Outcome), Stopped<K>>
+    ensures { DidKept (AnswersNext profile.now store.server) (beside (H.state host.old) (K.state store.keeper)) (beside (H.state host.new) (K.state (keeper_of result))) (answered_by result) }
+{
+    match take_packet(alloc, host, Slot::Link) {
+        Ok(Packet::Whole(bytes)) => answer_bytes(alloc, host, profile, store, &bytes, out),
+        Ok(other) => Ok((store, no_packet(&other))),
+        Err(_) => Err(Stopped::Memory {
+            keeper: store.into_keeper(),
+        }),
+    }
+}
+
+// How a session ends by what became of a packet, after so many calls; none where it goes on.
+fn end_by(outcome: Outcome, calls: u64) -> Option<Result<u64, SessionFault>>
+    ensures { result ≡ end_at calls outcome }
+{
+    match outcome {
+        Outcome::Answered => None,
+        Outcome::Ended => Some(Ok(calls)),
+        Outcome::Failed { fault } => Some(Err(fault)),
+    }
+}
+
+/// Answers calls until the link ends, and says how many there were.
+pub fn serve_link<H: Host, K: Keeper>(
+    alloc: Global,
+    host: &mut H,
+    profile: &Profile,
+    store: Stored<K>,
+) -> Result<(Stored<K>, Result<u64, SessionFault>), Stopped<K>>
+    ensures { DidKept (AnswersAll profile.now store.server) (beside (H.state host.old) (K.state store.keeper)) (beside (H.state host.new) (K.state (keeper_of result))) (session_by result) }
+{
+    let mut store = store;
+    let mut out = Bytes::new(alloc);
+    for calls in 0..MAX_FRAMES {
+        let (after, outcome) = match answer_next(alloc, host, profile, store, &mut out) {
+            Ok(next) => next,
+            Err(stopped) => return Err(stopped),
+        };
+        store = after;
+        if let Some(end) = end_by(outcome, calls) {
+            return Ok((store, end));
+        }
+    }
+    Ok((store, Err(SessionFault::TooManyFrames)))
+}

@@ -1,0 +1,69 @@
+//! Sessions at an address, one after the other.
+ghost use Rattle.std.specs.Prelude.{true};
+ghost use Rattle.outside.specs.Runs.{answered};
+ghost use Rattle.serve_rooms.specs.Acts.{beside};
+ghost use Rattle.serve_rooms.specs.Doing.{DidKept};
+ghost use Rattle.serve_rooms.specs.Sessions.{ServesAll, after_listen};
+
+use crate::connection::serve_next;
+use crate::status::{KeptRun, KeptStatus};
+use crate::telling::Tally;
+use box_store::{Keeper, Stored};
+use command_base::Status;
+use outside::{Host, tell};
+use std::alloc::Global;
+use wire_profile::Profile;
+
+/// Serves so many sessions at an address, one after the other.
+pub fn serve_all<H: Host, K: Keeper>(
+    alloc: Global,
+    host: &mut H,
+    profile: &Profile,
+    address: &str,
+    sessions: u32,
+    store: Stored<K>,
+) -> KeptRun<K>
+    ensures { DidKept (ServesAll address.now sessions store.server profile.now) (beside (H.state host.old) (K.state store.keeper)) (beside (H.state host.new) (K.state result.keeper)) (answered result.end) }
+{
+    match host.listen(address) {
+        Ok(()) => serve_listening(alloc, host, profile, sessions, store),
+        Err(_) => KeptRun {
+            keeper: store.into_keeper(),
+            end: Ok(KeptStatus::Run(tell(
+                host,
+                b"tlbox: link fault\n",
+                Status::LinkFault,
+            ))),
+        },
+    }
+}
+
+// Likewise, where connections are taken.
+fn serve_listening<H: Host, K: Keeper>(
+    alloc: Global,
+    host: &mut H,
+    profile: &Profile,
+    sessions: u32,
+    store: Stored<K>,
+) -> KeptRun<K>
+    ensures { DidKept (after_listen profile.now sessions store.server true) (beside (H.state host.old) (K.state store.keeper)) (beside (H.state host.new) (K.state result.keeper)) (answered result.end) }
+{
+    let mut store = store;
+    let mut tally = Tally {
+        status: Status::Done,
+        whole: true,
+    };
+    for number in 0..sessions {
+        match serve_next(alloc, host, profile, store, number, tally) {
+            Ok((after, so_far)) => {
+                store = after;
+                tally = so_far;
+            }
+            Err(run) => return run,
+        }
+    }
+    KeptRun {
+        keeper: store.into_keeper(),
+        end: Ok(KeptStatus::Run(tally.status)),
+    }
+}
