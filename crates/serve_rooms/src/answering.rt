@@ -2,7 +2,7 @@
 ghost use Rattle.std.specs.Prelude.{◌≡◌, List, Some, is_ok};
 ghost use Rattle.box_events.specs.declared.replies.Frame.{Frame};
 ghost use Rattle.outside.specs.Packets.{packet_view};
-ghost use Rattle.outside.specs.Steps.{Did};
+ghost use Rattle.outside.specs.Begun.{Did};
 ghost use Rattle.session_rooms.specs.Sending.{Sends};
 ghost use Rattle.update_sessions.specs.Packed.{Packed, SpellsFrame};
 ghost use Rattle.wire_profile.specs.Places.{ProfileView};

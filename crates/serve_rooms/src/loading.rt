@@ -1,5 +1,5 @@
 //! The schema of a server.
-ghost use Rattle.outside.specs.Steps.{Did};
+ghost use Rattle.outside.specs.Begun.{Did};
 ghost use Rattle.outside.specs.Runs.{answered};
 ghost use Rattle.serve_rooms.specs.Serve.{LoadsSchema, OfText};
 
