@@ -6,6 +6,7 @@ ghost use Rattle.outside.specs.Steps.{Did};
 ghost use Rattle.session_rooms.specs.Sending.{Sends};
 ghost use Rattle.update_sessions.specs.Packed.{Packed, SpellsFrame};
 ghost use Rattle.wire_profile.specs.Places.{ProfileView};
+ghost use Rattle.wire_profile.specs.Profiles.{IsProfile};
 ghost use Rattle.serve_rooms.specs.Acts.{beside};
 ghost use Rattle.serve_rooms.specs.Answering.{AnswersAll, AnswersBytes, AnswersNext};
 ghost use Rattle.serve_rooms.specs.Doing.{DidKept};
@@ -73,6 +74,7 @@ fn answer_bytes<H: Host, K: Keeper>(
     packet: &[u8],
     out: &mut Bytes,
 ) -> Result<(Stored<K>, Outcome), Stopped<K>>
+    requires sound { IsProfile profile.now }
     ensures { DidKept (AnswersBytes profile.now store.server packet.now) (beside (H.state host.old) (K.state store.keeper)) (beside (H.state host.new) (K.state (keeper_of result))) (answered_by result) }
 {
     match answer_packet(alloc, profile, store, packet, out) {
@@ -101,6 +103,7 @@ fn answer_next<H: Host, K: Keeper>(
     store: Stored<K>,
     out: &mut Bytes,
 ) -> Result<(Stored<K>, Outcome), Stopped<K>>
+    requires sound { IsProfile profile.now }
     ensures { DidKept (AnswersNext profile.now store.server) (beside (H.state host.old) (K.state store.keeper)) (beside (H.state host.new) (K.state (keeper_of result))) (answered_by result) }
 {
     match take_packet(alloc, host, Slot::Link) {
@@ -132,6 +135,8 @@ pub fn serve_link<H: Host, K: Keeper>(
 ) -> Result<(Stored<K>, Result<u64, SessionFault>), Stopped<K>>
     ensures { DidKept (AnswersAll profile.now store.server) (beside (H.state host.old) (K.state store.keeper)) (beside (H.state host.new) (K.state (keeper_of result))) (session_by result) }
 {
+    // Read for the proof alone: that the profile is sound.
+    let _schema = profile.schema();
     let mut store = store;
     let mut out = Bytes::new(alloc);
     for calls in 0..MAX_FRAMES {
