@@ -1,5 +1,5 @@
 -- A server's session over the link in hand, by its parts.
-use Rattle.std.proofs.Common.{◌≡◌, ◌≢◌, inl, inr, ℕ, ◌+◌, ◌<◌, ◌≤◌, ltb, List, [], ◌∷◌, ◌++◌, length, length-append, Bool, true, false, Option, Some, None, Ok, Err, refl, sym, ap, subst, arith}
+use Rattle.std.proofs.Common.{◌≡◌, ◌≢◌, inl, inr, ℕ, ◌+◌, ◌<◌, ◌≤◌, ltb, List, [], ◌∷◌, ◌++◌, length, length-append, Bool, true, false, Option, Some, None, Ok, Err, Vec, Global, refl, sym, ap, ◌∙◌, subst, arith}
 use Rattle.std.specs.Prelude.{⊤}
 use Rattle.tl_numbers.specs.Bytes.{AreBytes}
 use Rattle.tl_base.specs.declared.host.Slot.TheVariants.{Link}
@@ -15,8 +15,9 @@ use Rattle.box_wire.specs.Kinds.{calls}
 use Rattle.box_wire.proofs.CallLaws.{call_laws}
 use Rattle.outside.specs.Events.{Event, HostState, ended}
 use Rattle.outside.specs.Laws.{Happened, Throughout}
-use Rattle.outside.specs.Packets.{PacketView, whole, none, bad_length, broken, TakesPacket}
+use Rattle.outside.specs.Packets.{PacketView, whole, none, bad_length, broken, TakesPacket, packet_view}
 use Rattle.outside.specs.Packets as packets
+use Rattle.outside.specs.declared.packets.Packet.TheVariants as packet
 use Rattle.outside.specs.Steps.{StepOf, Did, Then, again, leave}
 use Rattle.outside.proofs.Growing.{grew_none}
 use Rattle.outside.proofs.Causing.{happened_first, happened_last}
@@ -35,6 +36,8 @@ use Rattle.session_rooms.proofs.SentMessages.{can_send}
 use Rattle.serve_rooms.specs.Acts.{Act, hosted, added, IsKeeperFault, KeptState, beside}
 use Rattle.serve_rooms.specs.Answering.{Answered, goes_on, has_ended, fails, unkept, Adds, if_added, after_sending, after_adding, AnswersBytes, no_call, answers, after_packet, AnswersNext, Session, over, lost, Served, turn_of, answers_by, AnswersOn, AnswersAll}
 use Rattle.serve_rooms.specs.Doing.{Hosted, IsKept, BeginsKept, DidKept}
+use Rattle.serve_rooms.specs.declared.answering.Outcome.{Outcome}
+use Rattle.serve_rooms.specs.inner.Ends.{answered_as, outcome_at}
 use Rattle.serve_rooms.proofs.Doing.{Leaves, begun_as, can_end, can_host, can_loop, can_then, did_as, did_host, did_none, did_nothing, did_then}
 use Rattle.serve_rooms.proofs.Keepers.{all_added, can_add, few_of, keeper_same, not_added, one_for}
 
@@ -141,6 +144,20 @@ module _ (p : ProfileView) where
 
       pub can_follow : (t : List Act) (m : PacketView) → Hosted (TakesPacket Link) t m → BeginsKept (after_packet p s m) []
       can_follow t m (events, is, h) = can_packet events m h
+
+    -- a packet was taken, or none was
+    pub packet_taken : (x : TakenPacket) (bytes : Vec ℕ Global) (content : List ℕ) (a b : KeptState) (r : Option Answered) → x ≡ packet.Whole bytes → content ≡ bytes.items → DidKept (AnswersBytes p s content) a b r → DidKept (after_packet p s (packet_view x)) a b r
+    packet_taken x bytes content a b r is same h = subst (λ (m : PacketView). DidKept (after_packet p s m) a b r) (ap whole same ∙ sym (ap packet_view is)) h
+
+    no_packet_so : (x : TakenPacket) (q : KeptState) → ((bytes : Vec ℕ Global) → x ≡ packet.Whole bytes → ⊥) → DidKept (after_packet p s (packet_view x)) q q (Some (answered_as s (outcome_at (packet_view x))))
+    no_packet_so (packet.Whole bytes) q not = absurd (not bytes refl)
+    no_packet_so packet.None q not = did_nothing q (has_ended s)
+    no_packet_so (packet.BadLength n) q not = did_nothing q (fails s _)
+    no_packet_so (packet.Ended had) q not = did_nothing q (fails s _)
+    no_packet_so packet.Broken q not = did_nothing q (fails s LinkFault)
+
+    pub none_came : (x : TakenPacket) (q : KeptState) (o : Outcome) → ((bytes : Vec ℕ Global) → x ≡ packet.Whole bytes → ⊥) → o ≡ outcome_at (packet_view x) → DidKept (after_packet p s (packet_view x)) q q (Some (answered_as s o))
+    none_came x q o not is = subst (λ (y : Outcome). DidKept (after_packet p s (packet_view x)) q q (Some (answered_as s y))) (sym is) (no_packet_so x q not)
 
   -- ---- one packet
 
