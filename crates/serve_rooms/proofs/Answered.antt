@@ -17,6 +17,7 @@ use Rattle.outside.specs.Events.{Event, HostState, ended}
 use Rattle.outside.specs.Laws.{Happened, Throughout}
 use Rattle.outside.specs.Packets.{PacketView, whole, none, bad_length, broken, TakesPacket, packet_view}
 use Rattle.outside.specs.Packets as packets
+use Rattle.outside.specs.declared.packets.Packet.{Packet as TakenPacket}
 use Rattle.outside.specs.declared.packets.Packet.TheVariants as packet
 use Rattle.outside.specs.Steps.{StepOf, Did, Then, again, leave}
 use Rattle.outside.proofs.Growing.{grew_none}
