@@ -1,2 +1,5 @@
 pub mod Acting
 pub mod Doing
+pub mod Keepers
+pub mod Answered
+pub mod AnsweredAll
