@@ -29,6 +29,7 @@ use Rattle.serve_rooms.specs.declared.status.KeptStatus.{KeptStatus}
 use Rattle.serve_rooms.specs.declared.status.KeptStatus.TheVariants.{Run, KeepFault}
 use Rattle.serve_rooms.specs.declared.telling.Tally.{Tally}
 use Rattle.serve_rooms.specs.inner.Ends.{session_by, TellsStop}
+use Rattle.serve_rooms.proofs.Answered.{lost_at_fault}
 use Rattle.serve_rooms.proofs.Doing.{Turned, Leaves, can_end, can_host, can_last, can_then, can_then_by, did_host, did_last, did_nothing, did_stop, did_then, kept_hosted_all, loop_left, loop_stopped, turned_more}
 use Rattle.serve_rooms.proofs.ToldEnds.{can_tell_end}
 
@@ -70,10 +71,6 @@ unfolding can_fail
 can_serve_all address sessions s p = can_then_by (Hosted (Calls (listened address))) (after_listen p sessions s) (can_fail (listened address)) (can_last _ (can_tell link_fault_line LinkFault))
 
 -- ---- a keeper's fault
-
--- helper 1's
-lost_at_fault : (p : ProfileView) (s : ServerState) (t : List Act) → AnswersAll p s t lost → Happened IsKeeperFault t
-lost_at_fault p s t h = ?
 
 module _ (p : ProfileView) where
   telling_faulty : (s : ServerState) (x : Told) (t : List Act) → after_telling s x t (no_more KeepFault) → ⊥
