@@ -3,3 +3,5 @@ pub mod Doing
 pub mod Keepers
 pub mod Answered
 pub mod AnsweredAll
+pub mod ToldEnds
+pub mod Connections
