@@ -1,2 +1,5 @@
 pub mod Acting
 pub mod Doing
+pub mod LoadedSchemas
+pub mod Spared
+pub mod Opening
