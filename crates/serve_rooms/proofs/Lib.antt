@@ -3,3 +3,4 @@ pub mod Doing
 pub mod LoadedSchemas
 pub mod Spared
 pub mod Opening
+pub mod KeptRuns

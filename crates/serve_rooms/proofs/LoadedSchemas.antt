@@ -29,14 +29,14 @@ use Rattle.outside.proofs.Piecewise.{can_read_file, can_tell}
 use Rattle.outside.proofs.Printed.{can_print}
 use Rattle.codec_rooms.proofs.Typing as typing
 use Rattle.box_store.specs.Keeping.{KeeperState}
-use Rattle.serve_rooms.specs.Acts.{Act, beside}
+use Rattle.serve_rooms.specs.Acts.{Act, KeptState, beside}
 use Rattle.serve_rooms.specs.Doing.{Hosted, Last, BeginsKept, DidKept}
-use Rattle.serve_rooms.specs.Serve.{EndsBy, OfText, no_schema, schema_of, after_reading, LoadsSchema, OfProfile, OfSchema, no_profile, profiled, after_loading}
+use Rattle.serve_rooms.specs.Serve.{EndsBy, OfText, no_schema, schema_of, after_reading, LoadsSchema, OfProfile, OfSchema, no_profile, profiled, after_loading, OfProfiled}
 use Rattle.serve_rooms.specs.declared.loading.Loaded.{Loaded}
 use Rattle.serve_rooms.specs.declared.loading.Loaded.TheVariants as schema
 use Rattle.serve_rooms.specs.declared.status.KeptStatus.{KeptStatus}
 use Rattle.serve_rooms.specs.declared.status.KeptStatus.TheVariants.{Run}
-use Rattle.serve_rooms.proofs.Doing.{can_end, can_last, did_nothing, did_none, did_stop, did_host, did_last, did_as, begun_as}
+use Rattle.serve_rooms.proofs.Doing.{can_end, can_last, did_nothing, did_none, did_stop, did_stop_by, did_then, did_host, did_last, did_as, begun_as}
 
 -- ---- a schema that was loaded is good
 
@@ -126,7 +126,24 @@ module _ (Rest : OfProfile) (S : Declared) where
         subst (λ (o : Option Status). DidKept (OfSchema Rest S) (beside p k) (beside q k) (option_map (λ status. Run status) o)) (sym d.0)
         (subst (λ (s : HostState). DidKept (OfSchema Rest S) (beside p k) (beside s k) None) (sym d.1) (did_none (OfSchema Rest S) (beside p k) can_profile))
 
+  pub profile_made : (p : ProfileView) (a b : KeptState) (answer : Option KeptStatus) → IsAnswer S (Ok p) → DidKept (Rest p) a b answer → DidKept (OfSchema Rest S) a b answer
+  profile_made p a b answer is = did_as (Rest p) (OfSchema Rest S) a b answer (λ t status h. profiled p is h)
+
+-- ---- what follows of a schema's file
+
+module _ (Rest : OfProfile) (name : List ℕ) where
+  pub schema_kept : (S : Declared) (p q : HostState) (k : KeeperState) (r : KeptState) (answer : Option KeptStatus) → Did (LoadsSchema name) p q (Some (schema.Schema S)) → DidKept (OfSchema Rest S) (beside q k) r answer
+      → DidKept (OfProfiled Rest name) (beside p k) r answer
+  schema_kept S p q k r answer g h = did_then (Hosted (LoadsSchema name)) (after_loading Rest) (beside p k) (beside q k) r (schema.Schema S) answer (did_host (LoadsSchema name) p q k (Some (schema.Schema S)) g) h
+
+  pub ended_kept : (status : Status) (p q : HostState) (k : KeeperState) → Did (LoadsSchema name) p q (Some (schema.Ended status)) → DidKept (OfProfiled Rest name) (beside p k) (beside q k) (Some (Run status))
+  ended_kept status p q k g =
+      did_then (Hosted (LoadsSchema name)) (after_loading Rest) (beside p k) (beside q k) (beside q k) (schema.Ended status) (Some (Run status)) (did_host (LoadsSchema name) p q k (Some (schema.Ended status)) g) (did_nothing (beside q k) (Run status))
+
 module _ (Rest : OfProfile) (can : (p : ProfileView) → BeginsKept (Rest p) []) where
   pub can_loaded : (r : Loaded) → IsGood r → BeginsKept (after_loading Rest r) []
   can_loaded (schema.Schema S) good = can_profile Rest S good can
   can_loaded (schema.Ended status) good = can_end (Run status)
+
+  pub stopped_kept : (name : List ℕ) (p q : HostState) (k : KeeperState) → Did (LoadsSchema name) p q None → DidKept (OfProfiled Rest name) (beside p k) (beside q k) None
+  stopped_kept name p q k g = did_stop_by (Hosted (LoadsSchema name)) (after_loading Rest) (beside p k) (beside q k) (λ t r h. can_loaded r (loaded_good name h.0 r h.2)) (did_host (LoadsSchema name) p q k None g)

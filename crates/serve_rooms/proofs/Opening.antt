@@ -1,6 +1,6 @@
 -- A keeper whose entries are read.
 use Rattle.std.proofs.Common.{◌≡◌, ◌⊎◌, inl, inr, ℕ, List, [], ◌∷◌, true, Option, Some, None, Ok, Err, IfSome, IsSome, IsTrue, refl, sym, subst}
-use Rattle.std.specs.Prelude.{⊤}
+use Rattle.std.specs.Prelude.{⊤, option_map}
 use Rattle.tl_base.specs.Causes.{Rose}
 use Rattle.box_server.specs.Servers.{ServerState, new_server}
 use Rattle.box_store.specs.declared.entry.Entry.{Entry}
@@ -10,11 +10,22 @@ use Rattle.box_store.specs.Keeping.{KeeperState, Keeps}
 use Rattle.box_store.specs.Storing.{StoredView}
 use Rattle.outside.specs.Events.{HostState}
 use Rattle.outside.specs.Laws.{Happened}
-use Rattle.outside.specs.Steps.{StepOf, Calls}
+use Rattle.outside.specs.Pieces.{Tells}
+use Rattle.outside.specs.Steps.{StepOf, Calls, Did}
 use Rattle.outside.proofs.Growing.{grew_none}
-use Rattle.session_commands.specs.Keep.{Starts, IsBadEntry}
-use Rattle.serve_rooms.specs.Acts.{Act, Loading, rebuilds, unaccepted, unread, loaded, Agrees, IsKeeperFault, IsSure, KeeperGrew, KeptGrew, beside}
-use Rattle.serve_rooms.specs.Doing.{BeginsKept, DidKept}
+use Rattle.session_commands.specs.Keep.{Starts, IsBadEntry, bad_entry_line}
+use Rattle.wire_profile.specs.Places.{ProfileView}
+use Rattle.command_base.specs.declared.status.Status.{Status}
+use Rattle.command_base.specs.declared.status.Status.TheVariants.{Refused}
+use Rattle.serve_rooms.specs.Acts.{Act, Loading, rebuilds, unaccepted, unread, loaded, Agrees, IsKeeperFault, IsSure, KeeperGrew, KeptState, KeptGrew, beside}
+use Rattle.serve_rooms.specs.Doing.{Last, BeginsKept, DidKept}
+use Rattle.serve_rooms.specs.Serve.{OpensAndServes, after_opening}
+use Rattle.serve_rooms.specs.Sessions.{ServesAll, keep_fault_line}
+use Rattle.serve_rooms.specs.declared.status.KeptStatus.{KeptStatus}
+use Rattle.serve_rooms.specs.declared.status.KeptStatus.TheVariants.{Run, KeepFault}
+use Rattle.serve_rooms.proofs.Connections.{can_serve_all}
+use Rattle.serve_rooms.proofs.Doing.{did_host, did_then}
+use Rattle.serve_rooms.proofs.LoadedSchemas.{last_done}
 
 -- ---- what they say
 
@@ -65,5 +76,30 @@ module _ (k l : KeeperState) (Failed : Type 0) (same : l.entries ≡ k.entries) 
     pub did_unasked : {A : Type 0} (S : StepOf Act A) → BeginsKept S [] → DidKept S (beside p k) (beside p l) None
     did_unasked S m = record { trace = []; grew = record { host = grew_none p; keeper = keeper_unasked }; holds = m }
 
-pub can_load_entries : BeginsKept (Calls loaded) []
-can_load_entries = record { rest = loaded (rebuilds new_server) ∷ []; answer = rebuilds new_server; kept = (tt, tt); whole = refl }
+-- ---- what follows of them
+
+module _ (address : List ℕ) (sessions : ℕ) (p : ProfileView) where
+  pub can_open : BeginsKept (OpensAndServes address sessions p) []
+  can_open =
+      let m = can_serve_all address sessions new_server p in
+      record { rest = loaded (rebuilds new_server) ∷ m.rest; answer = m.answer; kept = (tt, m.kept); whole = record { first = loaded (rebuilds new_server) ∷ []; rest = m.rest; between = rebuilds new_server; splits = refl; does = refl; goes = m.whole } }
+
+  module _ {K : Type 0} (k l : KeeperState) (same : l.entries ≡ k.entries) (h : HostState) where
+    pub opened_served : (store : StoredView K) (c : KeptState) (answer : Option KeptStatus) → IfSome k.entries (λ es. Opens {K = K} es (Ok store)) → Keeps k l ⊥ (λ _. ⊤) → DidKept (ServesAll address sessions store.server p) (beside h l) c answer
+        → DidKept (OpensAndServes address sessions p) (beside h k) c answer
+    opened_served store c answer opens used g =
+        did_then (Calls loaded) (after_opening address sessions p) (beside h k) (beside h l) c (rebuilds store.server) answer (did_load k l ⊥ same used h (rebuilds store.server) (λ no. no) (starts_at k.entries store opens)) g
+
+    pub bad_told : (keeper : K) (n : ℕ) (q : HostState) (answer : Option Status) (end : Option KeptStatus) → IfSome k.entries (λ es. Opens {K = K} es (Err (opening.BadEntry keeper n))) → Keeps k l ⊥ (λ _. ⊤)
+        → Did (Tells (bad_entry_line n) Refused) h q answer → end ≡ option_map (λ status. Run status) answer → DidKept (OpensAndServes address sessions p) (beside h k) (beside q l) end
+    bad_told keeper n q answer end opens used g is =
+        did_then (Calls loaded) (after_opening address sessions p) (beside h k) (beside h l) (beside q l) (unaccepted n) end (did_load k l ⊥ same used h (unaccepted n) (λ no. no) (bad_at k.entries keeper n opens))
+        (subst (λ (x : Option KeptStatus). DidKept (Last (Tells (bad_entry_line n) Refused)) (beside h l) (beside q l) x) (sym is) (last_done (Tells (bad_entry_line n) Refused) h q l answer g))
+
+    pub unread_told : (q : HostState) (status : KeptStatus) → Keeps k l (Unit {0}) (λ _. ⊤) → Did (Tells keep_fault_line KeepFault) h q (Some status) → DidKept (OpensAndServes address sessions p) (beside h k) (beside q l) (Some status)
+    unread_told q status used g =
+        did_then (Calls loaded) (after_opening address sessions p) (beside h k) (beside h l) (beside q l) unread (Some status) (did_load k l (Unit {0}) same used h unread (λ failed. failed) (unread_unsound k l (Unit {0}) same used tt))
+        (did_host (Tells keep_fault_line KeepFault) h q l (Some status) g)
+
+    pub unopened : Keeps k l ⊥ (λ _. ⊤) → DidKept (OpensAndServes address sessions p) (beside h k) (beside h l) None
+    unopened used = did_unasked k l ⊥ same used h (OpensAndServes address sessions p) can_open

@@ -1,7 +1,9 @@
+use Rattle.serve_rooms.specs.Serve.{keeps}
+use Rattle.serve_rooms.proofs.KeptRuns.{ran_kept, ran_out}
 use Rattle.serve_rooms.proofs.keep.run_kept.Goals as goal
 
 pub returns-in-Ok : goal.returns-in-Ok
-returns-in-Ok g c = ?
+returns-in-Ok g c = ran_kept (keeps c.args.schema.now c.args.address.now c.args.sessions) _ _ _ ?
 
 pub returns-in-Err : goal.returns-in-Err
-returns-in-Err g c = ?
+returns-in-Err g c = ran_out (keeps c.args.schema.now c.args.address.now c.args.sessions) _ _ _ _ _ ? ?
