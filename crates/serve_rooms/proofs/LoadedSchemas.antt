@@ -36,7 +36,7 @@ use Rattle.serve_rooms.specs.declared.loading.Loaded.{Loaded}
 use Rattle.serve_rooms.specs.declared.loading.Loaded.TheVariants as schema
 use Rattle.serve_rooms.specs.declared.status.KeptStatus.{KeptStatus}
 use Rattle.serve_rooms.specs.declared.status.KeptStatus.TheVariants.{Run}
-use Rattle.serve_rooms.proofs.Doing.{can_end, can_last, did_nothing, did_none, did_stop, did_stop_by, did_then, did_host, did_last, did_as, begun_as}
+use Rattle.serve_rooms.proofs.Doing.{can_end, can_last, did_nothing, did_none, did_stop, did_stop_by, did_then_at, did_host, did_last, did_as, begun_as}
 
 -- ---- a schema that was loaded is good
 
@@ -58,8 +58,8 @@ read_good None t r h = ended_good Unread t r h
 pub loaded_good : (name : List ℕ) (t : List Event) (r : Loaded) → LoadsSchema name t r → IsGood r
 loaded_good name t r h = read_good h.between h.rest r h.goes
 
-pub did_good : (name : List ℕ) (p q : HostState) (r : Loaded) → Did (LoadsSchema name) p q (Some r) → IsGood r
-did_good name p q r h = loaded_good name h.trace r h.holds
+pub did_good : (name : List ℕ) (p q : HostState) (r : Loaded) (S : Declared) → r ≡ schema.Schema S → Did (LoadsSchema name) p q (Some r) → IsSchema S
+did_good name p q r S is h = subst IsGood is (loaded_good name h.trace r h.holds)
 
 -- ---- a step by whose status the run ends
 
@@ -131,14 +131,13 @@ module _ (Rest : OfProfile) (S : Declared) where
 
 -- ---- what follows of a schema's file
 
-module _ (Rest : OfProfile) (name : List ℕ) where
-  pub schema_kept : (S : Declared) (p q : HostState) (k : KeeperState) (r : KeptState) (answer : Option KeptStatus) → Did (LoadsSchema name) p q (Some (schema.Schema S)) → DidKept (OfSchema Rest S) (beside q k) r answer
-      → DidKept (OfProfiled Rest name) (beside p k) r answer
-  schema_kept S p q k r answer g h = did_then (Hosted (LoadsSchema name)) (after_loading Rest) (beside p k) (beside q k) r (schema.Schema S) answer (did_host (LoadsSchema name) p q k (Some (schema.Schema S)) g) h
+module _ (Rest : OfProfile) (name : List ℕ) (loaded : Loaded) (p q : HostState) (g : Did (LoadsSchema name) p q (Some loaded)) (k : KeeperState) where
+  pub schema_kept : (S : Declared) (r : KeptState) (answer : Option KeptStatus) → loaded ≡ schema.Schema S → DidKept (OfSchema Rest S) (beside q k) r answer → DidKept (OfProfiled Rest name) (beside p k) r answer
+  schema_kept S r answer is h = did_then_at (Hosted (LoadsSchema name)) (after_loading Rest) (beside p k) (beside q k) r loaded (schema.Schema S) answer is (did_host (LoadsSchema name) p q k (Some loaded) g) h
 
-  pub ended_kept : (status : Status) (p q : HostState) (k : KeeperState) → Did (LoadsSchema name) p q (Some (schema.Ended status)) → DidKept (OfProfiled Rest name) (beside p k) (beside q k) (Some (Run status))
-  ended_kept status p q k g =
-      did_then (Hosted (LoadsSchema name)) (after_loading Rest) (beside p k) (beside q k) (beside q k) (schema.Ended status) (Some (Run status)) (did_host (LoadsSchema name) p q k (Some (schema.Ended status)) g) (did_nothing (beside q k) (Run status))
+  pub ended_kept : (status : Status) → loaded ≡ schema.Ended status → DidKept (OfProfiled Rest name) (beside p k) (beside q k) (Some (Run status))
+  ended_kept status is =
+      did_then_at (Hosted (LoadsSchema name)) (after_loading Rest) (beside p k) (beside q k) (beside q k) loaded (schema.Ended status) (Some (Run status)) is (did_host (LoadsSchema name) p q k (Some loaded) g) (did_nothing (beside q k) (Run status))
 
 module _ (Rest : OfProfile) (can : (p : ProfileView) → BeginsKept (Rest p) []) where
   pub can_loaded : (r : Loaded) → IsGood r → BeginsKept (after_loading Rest r) []

@@ -1,5 +1,5 @@
 -- A keeper whose entries are read.
-use Rattle.std.proofs.Common.{◌≡◌, ◌⊎◌, inl, inr, ℕ, List, [], ◌∷◌, true, Option, Some, None, Ok, Err, IfSome, IsSome, IsTrue, refl, sym, subst}
+use Rattle.std.proofs.Common.{◌≡◌, ◌⊎◌, inl, inr, ℕ, List, [], ◌∷◌, true, false, Option, Some, None, Ok, Err, IfSome, IsSome, IsTrue, refl, sym, subst}
 use Rattle.std.specs.Prelude.{⊤, option_map}
 use Rattle.tl_base.specs.Causes.{Rose}
 use Rattle.box_server.specs.Servers.{ServerState, new_server}
@@ -38,7 +38,7 @@ bad_at None keeper n h = tt
 bad_at (Some es) keeper n h = h
 
 fails_only : (Sound Failed : Type 0) (entries : Option (List Entry)) → IsSome entries → Sound → Failed → IfSome entries (λ es. Sound → ⊤ → Failed → ⊥) → ⊥
-fails_only Sound Failed None is sound failed never = let no : IsSome {A = List Entry} None = is in cc
+fails_only Sound Failed None is sound failed never = absurd (let none : false ≡ true = is in cc)
 fails_only Sound Failed (Some es) is sound failed never = never sound tt failed
 
 -- ---- what happens to the keeper
@@ -77,6 +77,10 @@ module _ (k l : KeeperState) (Failed : Type 0) (same : l.entries ≡ k.entries) 
     did_unasked S m = record { trace = []; grew = record { host = grew_none p; keeper = keeper_unasked }; holds = m }
 
 -- ---- what follows of them
+
+-- a line that is told, which is another
+pub tells_as : {A : Type 0} (line other : List ℕ) (status : A) (p q : HostState) (answer : Option A) → line ≡ other → Did (Tells line status) p q answer → Did (Tells other status) p q answer
+tells_as line other status p q answer is h = subst (λ (l : List ℕ). Did (Tells l status) p q answer) is h
 
 module _ (address : List ℕ) (sessions : ℕ) (p : ProfileView) where
   pub can_open : BeginsKept (OpensAndServes address sessions p) []

@@ -1,11 +1,13 @@
 -- What a host does beside a keeper that keeps nothing, which never fails.
 use Rattle.std.proofs.Common.{◌≡◌, ◌⊎◌, inl, inr, ℕ, List, [], ◌∷◌, ◌++◌, map, Bool, true, false, Option, Some, None, Ok, refl, sym, ap₂, ◌∙◌, subst, arith}
 use Rattle.std.proofs.lemmas.List.{append-nil}
+use Rattle.std.specs.Prelude.{option_map}
 use Rattle.tl_base.specs.Causes.{Rose}
 use Rattle.tl_schema.specs.CheckedPrograms.{IsSchema}
 use Rattle.tl_schema.specs.Schemas.{Declared}
 use Rattle.wire_profile.specs.Faults.{IsAnswer}
 use Rattle.wire_profile.specs.Places.{ProfileView}
+use Rattle.box_server.specs.Servers.{ServerState, new_server}
 use Rattle.box_store.specs.Keeping.{KeeperState, nothing_kept}
 use Rattle.command_base.specs.Answer.{refused}
 use Rattle.command_base.specs.Jobs.{of_fault}
@@ -18,16 +20,18 @@ use Rattle.outside.specs.Laws.{Happened, Throughout}
 use Rattle.outside.specs.Printing.{Prints, PrintsMade}
 use Rattle.outside.specs.Steps.{Step, StepOf, Ends, Then, Begins, Did}
 use Rattle.outside.proofs.Causing.{throughout_both}
-use Rattle.outside.proofs.Growing.{did_nothing, did_stop_by, did_then}
+use Rattle.outside.proofs.Growing.{did_nothing, did_stop_by, did_then_at}
 use Rattle.codec_rooms.proofs.Typing.{did_as, refusal_done}
 use Rattle.serve_rooms.specs.Acts.{Act, hosted, loaded, added, rebuilds, unaccepted, unread, events_in, IsKeeperFault, KeeperGrew, beside}
 use Rattle.serve_rooms.specs.Doing.{Hosted, Last, IsKept, BeginsKept, DidKept, Spares}
 use Rattle.serve_rooms.specs.Serve.{LoadsSchema, OfProfile, OfSchema, no_profile, profiled, after_loading, OfProfiled}
+use Rattle.serve_rooms.specs.Sessions.{ServesAll}
 use Rattle.serve_rooms.specs.declared.loading.Loaded.{Loaded}
 use Rattle.serve_rooms.specs.declared.loading.Loaded.TheVariants as schema
 use Rattle.serve_rooms.specs.declared.status.KeptStatus.{KeptStatus}
 use Rattle.serve_rooms.specs.declared.status.KeptStatus.TheVariants.{Run, KeepFault}
 use Rattle.serve_rooms.proofs.Acting.{events_more, events_hosted}
+use Rattle.serve_rooms.proofs.Connections.{faulty}
 use Rattle.serve_rooms.proofs.Doing.{kept_hosted_all}
 use Rattle.serve_rooms.proofs.LoadedSchemas.{IsGood, loaded_good, can_profile, can_loaded}
 
@@ -47,16 +51,16 @@ never_failed (a ∷ t) kept (inl first) = fails_kept a kept.0 first
 never_failed (a ∷ t) kept (inr later) = never_failed t kept.1 later
 
 kept_by : (a : Act) → (IsKeeperFault a → ⊥) → IsKept a
-kept_by (hosted e) no = tt
-kept_by (loaded (rebuilds s)) no = tt
-kept_by (loaded (unaccepted n)) no = tt
-kept_by (loaded unread) no = no tt
-kept_by (added e true) no = refl
-kept_by (added e false) no = absurd (no tt)
+kept_by (hosted e) never = tt
+kept_by (loaded (rebuilds s)) never = tt
+kept_by (loaded (unaccepted n)) never = tt
+kept_by (loaded unread) never = never tt
+kept_by (added e true) never = refl
+kept_by (added e false) never = absurd (never tt)
 
 pub all_kept : (t : List Act) → (Happened IsKeeperFault t → ⊥) → Throughout IsKept t
-all_kept [] no = tt
-all_kept (a ∷ t) no = (kept_by a (λ h. no (inl h)), all_kept t (λ h. no (inr h)))
+all_kept [] never = tt
+all_kept (a ∷ t) never = (kept_by a (λ h. never (inl h)), all_kept t (λ h. never (inr h)))
 
 none_rose : Rose 0 0 → ⊥
 none_rose r = omega (arith, r)
@@ -103,17 +107,34 @@ module _ (W : StepOf Act KeptStatus) (faulty : (t : List Act) → W t KeepFault 
   can_spare m = let run = spares_run m.rest m.answer m.kept m.whole in record { rest = events_in m.rest; answer = run.0; whole = run.1 }
 
   module _ (p q : HostState) where
-    pub did_spare : (status : Status) → DidKept W (beside p nothing_kept) (beside q nothing_kept) (Some (Run status)) → Did (Spares W) p q (Some status)
+    did_spare : (status : Status) → DidKept W (beside p nothing_kept) (beside q nothing_kept) (Some (Run status)) → Did (Spares W) p q (Some status)
     did_spare status h = record { trace = events_in h.trace; grew = h.grew.host; holds = record { acts = h.trace; works = h.holds; kept = nothing_failed h.trace h.grew.keeper; events = refl } }
 
-    pub never_spared : DidKept W (beside p nothing_kept) (beside q nothing_kept) (Some KeepFault) → ⊥
+    never_spared : DidKept W (beside p nothing_kept) (beside q nothing_kept) (Some KeepFault) → ⊥
     never_spared h = never_failed h.trace (nothing_failed h.trace h.grew.keeper) (faulty h.trace h.holds)
 
-    pub did_spare_none : DidKept W (beside p nothing_kept) (beside q nothing_kept) None → Did (Spares W) p q None
+    did_spare_none : DidKept W (beside p nothing_kept) (beside q nothing_kept) None → Did (Spares W) p q None
     did_spare_none h =
         let m = h.holds in
         let run = spares_run (h.trace ++ m.rest) m.answer (throughout_both IsKept h.trace m.rest (nothing_failed h.trace h.grew.keeper) m.kept) m.whole in
         record { trace = events_in h.trace; grew = h.grew.host; holds = record { rest = events_in m.rest; answer = run.0; whole = subst (λ (l : List Event). Spares W l run.0) (events_more h.trace m.rest) run.1 } }
+
+-- ---- a new server
+
+module _ (address : List ℕ) (sessions : ℕ) (p : ProfileView) (s : ServerState) (new : s ≡ new_server) (a b : HostState) (answer : Option KeptStatus)
+    (h : DidKept (ServesAll address sessions s p) (beside a nothing_kept) (beside b nothing_kept) answer) where
+  abbrev New : StepOf Act KeptStatus
+  New = ServesAll address sessions new_server p
+
+  served_as : (x : Option KeptStatus) → answer ≡ x → DidKept New (beside a nothing_kept) (beside b nothing_kept) x
+  served_as x is = subst (λ (r : ServerState). DidKept (ServesAll address sessions r p) (beside a nothing_kept) (beside b nothing_kept) x) new (subst (λ (y : Option KeptStatus). DidKept (ServesAll address sessions s p) (beside a nothing_kept) (beside b nothing_kept) y) is h)
+
+  pub new_never : answer ≡ Some KeepFault → ⊥
+  new_never is = never_spared New (faulty address sessions new_server p) a b (served_as (Some KeepFault) is)
+
+  pub new_served : (end : Option Status) → answer ≡ option_map (λ status. Run status) end → Did (Spares New) a b end
+  new_served (Some status) is = did_spare New (faulty address sessions new_server p) a b status (served_as (Some (Run status)) is)
+  new_served None is = did_spare_none New (faulty address sessions new_server p) a b (served_as None is)
 
 -- ---- a schema
 
@@ -150,10 +171,12 @@ module _ (Rest : OfProfile) where
   pub profiled_spare : (S : Declared) (profile : ProfileView) → IsAnswer S (Ok profile) → (p q : HostState) (answer : Option Status) → Did (Spares (Rest profile)) p q answer → Did (Spares (OfSchema Rest S)) p q answer
   profiled_spare S profile is p q answer = did_as (Spares (Rest profile)) (Spares (OfSchema Rest S)) p q answer (spares_as (Rest profile) (OfSchema Rest S) (λ t a h. profiled profile is h))
 
-  pub schema_spare : (name : List ℕ) (S : Declared) (p q r : HostState) (answer : Option Status) → Did (LoadsSchema name) p q (Some (schema.Schema S)) → Did (Spares (OfSchema Rest S)) q r answer → Did (Spares (OfProfiled Rest name)) p r answer
-  schema_spare name S p q r answer g h = host_spare (LoadsSchema name) (after_loading Rest) p r answer (did_then (LoadsSchema name) (λ x. Spares (after_loading Rest x)) p q r (schema.Schema S) answer g h)
+  module _ (name : List ℕ) (loaded : Loaded) (p q : HostState) (g : Did (LoadsSchema name) p q (Some loaded)) where
+    pub schema_spare : (S : Declared) (r : HostState) (answer : Option Status) → loaded ≡ schema.Schema S → Did (Spares (OfSchema Rest S)) q r answer → Did (Spares (OfProfiled Rest name)) p r answer
+    schema_spare S r answer is h = host_spare (LoadsSchema name) (after_loading Rest) p r answer (did_then_at (LoadsSchema name) (λ x. Spares (after_loading Rest x)) p q r loaded (schema.Schema S) answer is g h)
 
-  pub ended_spare : (name : List ℕ) (status : Status) (p q : HostState) → Did (LoadsSchema name) p q (Some (schema.Ended status)) → Did (Spares (OfProfiled Rest name)) p q (Some status)
-  ended_spare name status p q g =
-      host_spare (LoadsSchema name) (after_loading Rest) p q (Some status)
-      (did_then (LoadsSchema name) (λ x. Spares (after_loading Rest x)) p q q (schema.Ended status) (Some status) g (did_as (Ends status) (Spares (Ends (Run status))) q q (Some status) (λ t given h. spares_end status given t h) (did_nothing q status)))
+    pub ended_spare : (status : Status) → loaded ≡ schema.Ended status → Did (Spares (OfProfiled Rest name)) p q (Some status)
+    ended_spare status is =
+        host_spare (LoadsSchema name) (after_loading Rest) p q (Some status)
+        (did_then_at (LoadsSchema name) (λ x. Spares (after_loading Rest x)) p q q loaded (schema.Ended status) (Some status) is g
+        (did_as (Ends status) (Spares (Ends (Run status))) q q (Some status) (λ t given h. spares_end status given t h) (did_nothing q status)))

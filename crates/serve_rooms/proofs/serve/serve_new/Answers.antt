@@ -1,14 +1,9 @@
-use Rattle.box_server.specs.Servers.{new_server}
-use Rattle.serve_rooms.specs.Sessions.{ServesAll}
-use Rattle.serve_rooms.proofs.Connections.{faulty}
-use Rattle.serve_rooms.proofs.Spared.{did_spare, did_spare_none, never_spared}
+use Rattle.std.proofs.Common.{◌∙◌}
+use Rattle.serve_rooms.proofs.Spared.{new_never, new_served}
 use Rattle.serve_rooms.proofs.serve.serve_new.Goals as goal
 
-pub unreachable-unreachable : goal.unreachable-unreachable
-unreachable-unreachable g c = ?
+pub spared-requires : goal.spared-requires
+spared-requires g c = new_never c.args.address.now c.args.sessions c.args.profile.now c.over-store.result.server (c.over-store.ensures ∙ c.new.ensures) _ _ _ c.serve_all.ensures
 
-pub returns-in-Ok-Run : goal.returns-in-Ok-Run
-returns-in-Ok-Run g c = ?
-
-pub returns-in-Err : goal.returns-in-Err
-returns-in-Err g c = ?
+pub returns : goal.returns
+returns g c = new_served c.args.address.now c.args.sessions c.args.profile.now c.over-store.result.server (c.over-store.ensures ∙ c.new.ensures) _ _ _ c.serve_all.ensures _ c.spared.ensures

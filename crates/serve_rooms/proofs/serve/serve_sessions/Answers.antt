@@ -12,10 +12,10 @@ returns-in_err-schema g c =
     rw q.1 (stopped_spare (ServesAll c.args.address.now c.args.sessions new_server) (faulty c.args.address.now c.args.sessions new_server) (can_serve_all c.args.address.now c.args.sessions new_server) c.args.schema.now _ _ c.in_err-schema.ensures)
 
 pub serve_schema-requires : goal.serve_schema-requires
-serve_schema-requires g c = did_good c.args.schema.now _ _ _ c.in-Schema.ensures
+serve_schema-requires g c = did_good c.args.schema.now _ _ _ c.in-Schema.schema c.in-Schema.is c.in_ok-schema.ensures
 
 pub returns-in-Schema : goal.returns-in-Schema
-returns-in-Schema g c = schema_spare (ServesAll c.args.address.now c.args.sessions new_server) c.args.schema.now _ _ _ _ _ c.in-Schema.ensures c.serve_schema.ensures
+returns-in-Schema g c = schema_spare (ServesAll c.args.address.now c.args.sessions new_server) c.args.schema.now _ _ _ c.in_ok-schema.ensures c.in-Schema.schema _ _ c.in-Schema.is c.serve_schema.ensures
 
 pub returns-in-Ended : goal.returns-in-Ended
-returns-in-Ended g c = ended_spare (ServesAll c.args.address.now c.args.sessions new_server) c.args.schema.now c.in-Ended.status _ _ c.in-Ended.ensures
+returns-in-Ended g c = ended_spare (ServesAll c.args.address.now c.args.sessions new_server) c.args.schema.now _ _ _ c.in_ok-schema.ensures c.in-Ended.status c.in-Ended.is
