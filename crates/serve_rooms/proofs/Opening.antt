@@ -92,12 +92,12 @@ module _ (address : List ℕ) (sessions : ℕ) (p : ProfileView) where
     pub opened_served : (store : StoredView K) (c : KeptState) (answer : Option KeptStatus) → IfSome k.entries (λ es. Opens {K = K} es (Ok store)) → Keeps k l ⊥ (λ _. ⊤) → DidKept (ServesAll address sessions store.server p) (beside h l) c answer
         → DidKept (OpensAndServes address sessions p) (beside h k) c answer
     opened_served store c answer opens used g =
-        did_then (Calls loaded) (after_opening address sessions p) (beside h k) (beside h l) c (rebuilds store.server) answer (did_load k l ⊥ same used h (rebuilds store.server) (λ no. no) (starts_at k.entries store opens)) g
+        did_then (Calls loaded) (after_opening address sessions p) (beside h k) (beside h l) c (rebuilds store.server) answer (did_load k l ⊥ same used h (rebuilds store.server) (λ never. never) (starts_at k.entries store opens)) g
 
     pub bad_told : (keeper : K) (n : ℕ) (q : HostState) (answer : Option Status) (end : Option KeptStatus) → IfSome k.entries (λ es. Opens {K = K} es (Err (opening.BadEntry keeper n))) → Keeps k l ⊥ (λ _. ⊤)
         → Did (Tells (bad_entry_line n) Refused) h q answer → end ≡ option_map (λ status. Run status) answer → DidKept (OpensAndServes address sessions p) (beside h k) (beside q l) end
     bad_told keeper n q answer end opens used g is =
-        did_then (Calls loaded) (after_opening address sessions p) (beside h k) (beside h l) (beside q l) (unaccepted n) end (did_load k l ⊥ same used h (unaccepted n) (λ no. no) (bad_at k.entries keeper n opens))
+        did_then (Calls loaded) (after_opening address sessions p) (beside h k) (beside h l) (beside q l) (unaccepted n) end (did_load k l ⊥ same used h (unaccepted n) (λ never. never) (bad_at k.entries keeper n opens))
         (subst (λ (x : Option KeptStatus). DidKept (Last (Tells (bad_entry_line n) Refused)) (beside h l) (beside q l) x) (sym is) (last_done (Tells (bad_entry_line n) Refused) h q l answer g))
 
     pub unread_told : (q : HostState) (status : KeptStatus) → Keeps k l (Unit {0}) (λ _. ⊤) → Did (Tells keep_fault_line KeepFault) h q (Some status) → DidKept (OpensAndServes address sessions p) (beside h k) (beside q l) (Some status)
