@@ -1,2 +1,4 @@
 pub mod Acting
 pub mod Doing
+pub mod ToldEnds
+pub mod Connections
