@@ -1,5 +1,5 @@
 -- Laws of packets that are taken.
-use Rattle.std.proofs.Common.{◌≡◌, ◌⊎◌, ℕ, zero, suc, ◌+◌, ◌%◌, ◌<◌, List, [], ◌∷◌, ◌++◌, length, Option, Some, None, Vec, Global, true≢false, refl, sym, ap, ◌∙◌, subst, inl, inr, arith}
+use Rattle.std.proofs.Common.{◌≡◌, ◌⊎◌, ℕ, zero, suc, ◌+◌, ◌%◌, ◌<◌, List, [], ◌∷◌, ◌++◌, length, map, Option, Some, None, Vec, Global, true≢false, refl, sym, ap, ◌∙◌, subst, inl, inr, arith}
 use Rattle.std.specs.Prelude.{◌↔◌, Bool, true, false, IsTrue}
 use Rattle.std.proofs.lemmas.Bool.{cases_eq, cases_lt}
 use Rattle.tl_numbers.specs.Bytes.{AreBytes}
@@ -7,12 +7,13 @@ use Rattle.tl_numbers.specs.Numbers.{word_number}
 use Rattle.tl_base.specs.Kinds.{slot_kind}
 use Rattle.tl_base.specs.Packets.{IsPacketLength}
 use Rattle.tl_base.specs.declared.host.Slot.{Slot}
+use Rattle.tl_base.specs.declared.host.Slot.TheVariants.{Link}
 use Rattle.tl_base.specs.declared.packet.TheConstants.{PACKET_BYTES}
 use Rattle.outside.specs.Events.{Event, HostState, took, ended, read_failed}
-use Rattle.outside.specs.Laws.{Happened, IsFailure, Keeps, Throughout}
+use Rattle.outside.specs.Laws.{Happened, IsFailure, IsFromLink, Keeps, Throughout}
 use Rattle.outside.specs.Packets.{PacketView, whole, none, bad_length, AfterLength, bad, good, TakesPacket, after_head, content_of, cut_off, packet_view}
 use Rattle.outside.specs.Packets as packets
-use Rattle.outside.specs.Pieces.{TakenView, full, short, broken, Takes, taken_view}
+use Rattle.outside.specs.Pieces.{TakenView, full, short, broken, Takes, joined, taken_view}
 use Rattle.outside.specs.Steps.{Begins, Did, Ends, Then}
 use Rattle.outside.specs.declared.packets.Packet.{Packet}
 use Rattle.outside.specs.declared.packets.Packet.TheVariants as packet
@@ -175,3 +176,29 @@ module _ (slot : Slot) where
 
     pub keeps_packet : Keeps P (TakesPacket slot)
     keeps_packet = keeps_then P (Takes slot 4) (after_head slot) (keeps_take P slot 4 each end fail) keeps_head
+
+-- ---- what came over the link
+
+some_piece : (pieces : List (List ℕ)) (last : List Event) → 0 < length (joined pieces) → Happened IsFromLink (map (took Link) pieces ++ last)
+some_piece [] last some = absurd (omega (arith, some))
+some_piece (piece ∷ pieces) last some = inl refl
+
+head_came : (t : List Event) (head : TakenView) → Takes Link 4 t head → (head ≡ broken → ⊥) → Happened IsFromLink t
+head_came t (full head) h not = subst (Happened IsFromLink) (sym h.0.events) (some_piece h.0.pieces [] (subst (λ (l : List ℕ). 0 < length l) (sym h.0.join) (omega (arith, h.1))))
+head_came t (short head) h not = subst (Happened IsFromLink) (sym h.0.events) (happened_last IsFromLink (map (took Link) h.0.pieces) (ended Link ∷ []) (inl refl))
+head_came t broken h not = absurd (not refl)
+
+-- no read failed
+abbrev pub IsUnbroken : PacketView → Type 0
+IsUnbroken (whole content) = Unit {0}
+IsUnbroken none = Unit {0}
+IsUnbroken (bad_length n) = Unit {0}
+IsUnbroken (packets.ended had) = Unit {0}
+IsUnbroken packets.broken = ⊥
+
+after_broken : (head : TakenView) (u : List Event) (v : PacketView) → IsUnbroken v → after_head Link head u v → head ≡ broken → ⊥
+after_broken head u v unbroken after is = subst IsUnbroken (subst (λ (x : TakenView). after_head Link x u v) is after).1 unbroken
+
+-- a packet, a part of one, or the end
+pub packet_came : (t : List Event) (v : PacketView) → TakesPacket Link t v → IsUnbroken v → Happened IsFromLink t
+packet_came t v h unbroken = subst (Happened IsFromLink) (sym h.splits) (happened_first IsFromLink h.first h.rest (head_came h.first h.between h.does (after_broken h.between h.rest v unbroken h.goes)))
