@@ -1,11 +1,12 @@
 -- A keeper whose entries are read.
-use Rattle.std.proofs.Common.{◌≡◌, ◌⊎◌, inl, inr, ℕ, List, [], ◌∷◌, true, false, Option, Some, None, Ok, Err, IfSome, IsSome, IsTrue, refl, sym, subst}
+use Rattle.std.proofs.Common.{◌≡◌, ◌⊎◌, inl, inr, ℕ, List, [], ◌∷◌, true, false, Option, Some, None, Result, Ok, Err, IfSome, IsSome, IsTrue, refl, sym, subst}
 use Rattle.std.specs.Prelude.{⊤, option_map}
 use Rattle.tl_base.specs.Causes.{Rose}
 use Rattle.box_server.specs.Servers.{ServerState, new_server}
 use Rattle.box_store.specs.declared.entry.Entry.{Entry}
+use Rattle.box_store.specs.declared.fault.OpenFault.{OpenFault}
 use Rattle.box_store.specs.declared.fault.OpenFault.TheVariants as opening
-use Rattle.box_store.specs.Answering.{Opens}
+use Rattle.box_store.specs.Answering.{Opens, opened_keeper, IsOpenFailed}
 use Rattle.box_store.specs.Keeping.{KeeperState, Keeps}
 use Rattle.box_store.specs.Storing.{StoredView}
 use Rattle.outside.specs.Events.{HostState}
@@ -40,6 +41,15 @@ bad_at (Some es) keeper n h = h
 fails_only : (Sound Failed : Type 0) (entries : Option (List Entry)) → IsSome entries → Sound → Failed → IfSome entries (λ es. Sound → ⊤ → Failed → ⊥) → ⊥
 fails_only Sound Failed None is sound failed never = absurd (let none : false ≡ true = is in cc)
 fails_only Sound Failed (Some es) is sound failed never = never sound tt failed
+
+-- what a store's opening answers says of the keeper before and after
+pub record Opened (K : Type 0) (state : K → KeeperState) (k : KeeperState) (r : Result (StoredView K) (OpenFault K)) : Type 0 where
+  pub opens : IfSome k.entries (λ es. Opens {K = K} es r)
+  pub entries : (state (opened_keeper r)).entries ≡ k.entries
+  pub used : Keeps k (state (opened_keeper r)) (IsOpenFailed r) (λ _. ⊤)
+
+opened_as : (K : Type 0) (state : K → KeeperState) (k : KeeperState) (r x : Result (StoredView K) (OpenFault K)) → r ≡ x → Opened K state k r → Opened K state k x
+opened_as K state k r x is o = subst (λ (y : Result (StoredView K) (OpenFault K)). Opened K state k y) is o
 
 -- ---- what happens to the keeper
 
@@ -88,22 +98,31 @@ module _ (address : List ℕ) (sessions : ℕ) (p : ProfileView) where
       let m = can_serve_all address sessions new_server p in
       record { rest = loaded (rebuilds new_server) ∷ m.rest; answer = m.answer; kept = (tt, m.kept); whole = record { first = loaded (rebuilds new_server) ∷ []; rest = m.rest; between = rebuilds new_server; splits = refl; does = refl; goes = m.whole } }
 
-  module _ {K : Type 0} (k l : KeeperState) (same : l.entries ≡ k.entries) (h : HostState) where
-    pub opened_served : (store : StoredView K) (c : KeptState) (answer : Option KeptStatus) → IfSome k.entries (λ es. Opens {K = K} es (Ok store)) → Keeps k l ⊥ (λ _. ⊤) → DidKept (ServesAll address sessions store.server p) (beside h l) c answer
-        → DidKept (OpensAndServes address sessions p) (beside h k) c answer
-    opened_served store c answer opens used g =
-        did_then (Calls loaded) (after_opening address sessions p) (beside h k) (beside h l) c (rebuilds store.server) answer (did_load k l ⊥ same used h (rebuilds store.server) (λ never. never) (starts_at k.entries store opens)) g
+  -- a keeper's entries were read, and the run goes on by what they say
+  module _ (K : Type 0) (state : K → KeeperState) (k : KeeperState) (r : Result (StoredView K) (OpenFault K)) (a : HostState) (opened : Opened K state k r) where
+    pub opened_served : (store : StoredView K) (c : KeptState) (answer : Option KeptStatus) → r ≡ Ok store → DidKept (ServesAll address sessions store.server p) (beside a (state store.keeper)) c answer
+        → DidKept (OpensAndServes address sessions p) (beside a k) c answer
+    opened_served store c answer is g =
+        let o = opened_as K state k r (Ok store) is opened in
+        let l = state store.keeper in
+        did_then (Calls loaded) (after_opening address sessions p) (beside a k) (beside a l) c (rebuilds store.server) answer (did_load k l ⊥ o.entries o.used a (rebuilds store.server) (λ never. never) (starts_at k.entries store o.opens)) g
 
-    pub bad_told : (keeper : K) (n : ℕ) (q : HostState) (answer : Option Status) (end : Option KeptStatus) → IfSome k.entries (λ es. Opens {K = K} es (Err (opening.BadEntry keeper n))) → Keeps k l ⊥ (λ _. ⊤)
-        → Did (Tells (bad_entry_line n) Refused) h q answer → end ≡ option_map (λ status. Run status) answer → DidKept (OpensAndServes address sessions p) (beside h k) (beside q l) end
-    bad_told keeper n q answer end opens used g is =
-        did_then (Calls loaded) (after_opening address sessions p) (beside h k) (beside h l) (beside q l) (unaccepted n) end (did_load k l ⊥ same used h (unaccepted n) (λ never. never) (bad_at k.entries keeper n opens))
-        (subst (λ (x : Option KeptStatus). DidKept (Last (Tells (bad_entry_line n) Refused)) (beside h l) (beside q l) x) (sym is) (last_done (Tells (bad_entry_line n) Refused) h q l answer g))
+    pub bad_told : (keeper : K) (n : ℕ) (b : HostState) (answer : Option Status) (end : Option KeptStatus) → r ≡ Err (opening.BadEntry keeper n) → Did (Tells (bad_entry_line n) Refused) a b answer → end ≡ option_map (λ status. Run status) answer
+        → DidKept (OpensAndServes address sessions p) (beside a k) (beside b (state keeper)) end
+    bad_told keeper n b answer end is g same =
+        let o = opened_as K state k r (Err (opening.BadEntry keeper n)) is opened in
+        let l = state keeper in
+        did_then (Calls loaded) (after_opening address sessions p) (beside a k) (beside a l) (beside b l) (unaccepted n) end (did_load k l ⊥ o.entries o.used a (unaccepted n) (λ never. never) (bad_at k.entries keeper n o.opens))
+        (subst (λ (x : Option KeptStatus). DidKept (Last (Tells (bad_entry_line n) Refused)) (beside a l) (beside b l) x) (sym same) (last_done (Tells (bad_entry_line n) Refused) a b l answer g))
 
-    pub unread_told : (q : HostState) (status : KeptStatus) → Keeps k l (Unit {0}) (λ _. ⊤) → Did (Tells keep_fault_line KeepFault) h q (Some status) → DidKept (OpensAndServes address sessions p) (beside h k) (beside q l) (Some status)
-    unread_told q status used g =
-        did_then (Calls loaded) (after_opening address sessions p) (beside h k) (beside h l) (beside q l) unread (Some status) (did_load k l (Unit {0}) same used h unread (λ failed. failed) (unread_unsound k l (Unit {0}) same used tt))
-        (did_host (Tells keep_fault_line KeepFault) h q l (Some status) g)
+    pub unread_told : (keeper : K) (b : HostState) (status : KeptStatus) → r ≡ Err (opening.Failed keeper) → Did (Tells keep_fault_line KeepFault) a b (Some status) → DidKept (OpensAndServes address sessions p) (beside a k) (beside b (state keeper)) (Some status)
+    unread_told keeper b status is g =
+        let o = opened_as K state k r (Err (opening.Failed keeper)) is opened in
+        let l = state keeper in
+        did_then (Calls loaded) (after_opening address sessions p) (beside a k) (beside a l) (beside b l) unread (Some status) (did_load k l (Unit {0}) o.entries o.used a unread (λ failed. failed) (unread_unsound k l (Unit {0}) o.entries o.used tt))
+        (did_host (Tells keep_fault_line KeepFault) a b l (Some status) g)
 
-    pub unopened : Keeps k l ⊥ (λ _. ⊤) → DidKept (OpensAndServes address sessions p) (beside h k) (beside h l) None
-    unopened used = did_unasked k l ⊥ same used h (OpensAndServes address sessions p) can_open
+    pub unopened : (keeper : K) → r ≡ Err (opening.Memory keeper) → DidKept (OpensAndServes address sessions p) (beside a k) (beside a (state keeper)) None
+    unopened keeper is =
+        let o = opened_as K state k r (Err (opening.Memory keeper)) is opened in
+        did_unasked k (state keeper) ⊥ o.entries o.used a (OpensAndServes address sessions p) can_open
