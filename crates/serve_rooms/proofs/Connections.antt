@@ -172,8 +172,7 @@ module _ (p : ProfileView) (sessions : ℕ) where
   leaves_by false x = ([], Run x.tally.status, tt, (refl, refl))
   leaves_by true x =
       let m = can_tell link_fault_line LinkFault in
-      let told = map (λ e. hosted e) m.rest in
-      (
+      let told = map (λ e. hosted e) m.rest in (
         hosted (accepted false) ∷ told,
         Run m.answer,
         (tt, kept_hosted_all m.rest),
