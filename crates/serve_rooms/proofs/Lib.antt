@@ -6,3 +6,4 @@ pub mod LoadedSchemas
 pub mod Spared
 pub mod Opening
 pub mod KeptRuns
+pub mod ServeLaws
