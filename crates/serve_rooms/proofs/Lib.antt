@@ -5,3 +5,8 @@ pub mod Answered
 pub mod AnsweredAll
 pub mod ToldEnds
 pub mod Connections
+pub mod LoadedSchemas
+pub mod Spared
+pub mod Opening
+pub mod KeptRuns
+pub mod ServeLaws

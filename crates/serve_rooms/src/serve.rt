@@ -1,4 +1,5 @@
 //! `serve`: sessions at an address from one new server.
+ghost use Rattle.std.specs.Prelude.{◌≡◌, Some, option_map};
 ghost use Rattle.box_server.specs.Servers.{new_server};
 ghost use Rattle.outside.specs.Runs.{RanIn, answered};
 ghost use Rattle.outside.specs.Begun.{DidIn};
@@ -6,6 +7,7 @@ ghost use Rattle.tl_schema.specs.CheckedPrograms.{IsSchema};
 ghost use Rattle.serve_rooms.specs.Doing.{Spares, to_serve};
 ghost use Rattle.serve_rooms.specs.Serve.{OfSchema, serves};
 ghost use Rattle.serve_rooms.specs.Sessions.{ServesAll};
+ghost use Rattle.serve_rooms.specs.declared.status.KeptStatus.TheVariants.{KeepFault, Run};
 
 use crate::loading::{Loaded, load_schema};
 use crate::sessions::serve_all;
@@ -77,7 +79,15 @@ fn serve_new<H: Host>(
     ensures { DidIn to_serve (Spares (ServesAll address.now sessions new_server profile.now)) (H.state host.old) (H.state host.new) (answered result) }
 {
     let store = Stored::over(Server::new(alloc));
-    match serve_all(alloc, host, profile, address, sessions, store).end {
+    spared(serve_all(alloc, host, profile, address, sessions, store).end)
+}
+
+// The end of a run whose keeper never failed, as that of one without a keeper.
+fn spared(end: Result<KeptStatus, AllocError>) -> Result<Status, AllocError>
+    requires never { answered end ≡ Some KeepFault → ⊥ }
+    ensures { answered end ≡ option_map (λ status. Run status) (answered result) }
+{
+    match end {
         Ok(KeptStatus::Run(status)) => Ok(status),
         Ok(KeptStatus::KeepFault) => unreachable!(),
         Err(fault) => Err(fault),
