@@ -19,7 +19,8 @@ use Rattle.outside.specs.Packets.{PacketView, whole, none, bad_length, broken, T
 use Rattle.outside.specs.Packets as packets
 use Rattle.outside.specs.declared.packets.Packet.{Packet as TakenPacket}
 use Rattle.outside.specs.declared.packets.Packet.TheVariants as packet
-use Rattle.outside.specs.Steps.{StepOf, Did, Then, again, leave}
+use Rattle.outside.specs.Begun.{Did}
+use Rattle.outside.specs.Steps.{StepOf, Then, again, leave}
 use Rattle.outside.proofs.Growing.{grew_none}
 use Rattle.outside.proofs.Causing.{happened_first, happened_last}
 use Rattle.outside.proofs.TakenPackets.{none_taken, whole_packet}

@@ -13,7 +13,8 @@ use Rattle.outside.specs.Events.{Event, HostState, listened, accepted, told}
 use Rattle.outside.specs.Grown.{Grew}
 use Rattle.outside.specs.Laws.{Happened, Throughout}
 use Rattle.outside.specs.Pieces.{Tells}
-use Rattle.outside.specs.Steps.{StepOf, Turn, again, leave, Ends, Calls, Then, Loops, Did}
+use Rattle.outside.specs.Begun.{Did}
+use Rattle.outside.specs.Steps.{StepOf, Turn, again, leave, Ends, Calls, Then, Loops}
 use Rattle.outside.proofs.Causing.{happened_first, happened_last}
 use Rattle.outside.proofs.Growing.{did_call}
 use Rattle.outside.proofs.Piecewise.{can_tell}

@@ -6,7 +6,8 @@ use Rattle.command_base.specs.declared.status.Status.{Status}
 use Rattle.command_base.specs.declared.status.Status.TheVariants.{Memory}
 use Rattle.outside.specs.Events.{HostState}
 use Rattle.outside.specs.Pieces.{Tells}
-use Rattle.outside.specs.Steps.{StepOf, Did}
+use Rattle.outside.specs.Begun.{Did}
+use Rattle.outside.specs.Steps.{StepOf}
 use Rattle.serve_rooms.specs.Acts.{Act, KeptState, beside}
 use Rattle.serve_rooms.specs.Doing.{DidKept, RanKept, done, out_of_memory}
 use Rattle.serve_rooms.specs.declared.status.KeptStatus.{KeptStatus}

@@ -10,3 +10,4 @@ pub mod Spared
 pub mod Opening
 pub mod KeptRuns
 pub mod ServeLaws
+pub mod Touching

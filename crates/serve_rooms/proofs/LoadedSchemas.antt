@@ -23,7 +23,8 @@ use Rattle.schema_files.proofs.OneSchemaText.{schema_or_refused}
 use Rattle.outside.specs.Events.{Event, HostState}
 use Rattle.outside.specs.Pieces.{ReadsFile}
 use Rattle.outside.specs.Printing.{Prints, PrintsMade, Unread}
-use Rattle.outside.specs.Steps.{Step, StepOf, Ends, Then, Begins, Did}
+use Rattle.outside.specs.Begun.{Did}
+use Rattle.outside.specs.Steps.{Step, StepOf, Ends, Then, Begins}
 use Rattle.outside.proofs.Growing as growing
 use Rattle.outside.proofs.Piecewise.{can_read_file, can_tell}
 use Rattle.outside.proofs.Printed.{can_print}
@@ -67,7 +68,7 @@ pub can_end_by : (S : Step Status) → Begins S [] → Begins (EndsBy S) []
 can_end_by S m = growing.can_then S (λ status. Ends (schema.Ended status)) m (λ status. growing.can_end (schema.Ended status))
 
 pub ended_by : (S : Step Status) (p q : HostState) (answer : Option Status) → Did S p q answer → Did (EndsBy S) p q (option_map (λ status. schema.Ended status) answer)
-ended_by S p q (Some status) h = growing.did_then S (λ s. Ends (schema.Ended s)) p q q status (Some (schema.Ended status)) h (growing.did_nothing q (schema.Ended status))
+ended_by S p q (Some status) h = growing.did_both S (λ s. Ends (schema.Ended s)) p q q status (schema.Ended status) h (growing.did_nothing q (schema.Ended status))
 ended_by S p q None h = growing.did_stop S (λ s. Ends (schema.Ended s)) p q (λ status. growing.can_end (schema.Ended status)) h
 
 -- ---- a schema's text

@@ -12,7 +12,8 @@ use Rattle.box_store.specs.Storing.{StoredView}
 use Rattle.outside.specs.Events.{HostState}
 use Rattle.outside.specs.Laws.{Happened}
 use Rattle.outside.specs.Pieces.{Tells}
-use Rattle.outside.specs.Steps.{StepOf, Calls, Did}
+use Rattle.outside.specs.Begun.{Did}
+use Rattle.outside.specs.Steps.{StepOf, Calls}
 use Rattle.outside.proofs.Growing.{grew_none}
 use Rattle.session_commands.specs.Keep.{Starts, IsBadEntry, bad_entry_line}
 use Rattle.wire_profile.specs.Places.{ProfileView}

@@ -18,12 +18,13 @@ use Rattle.fault_lines.specs.Profiled.{TellsProfile, form_line}
 use Rattle.outside.specs.Events.{Event, HostState}
 use Rattle.outside.specs.Laws.{Happened, Throughout}
 use Rattle.outside.specs.Printing.{Prints, PrintsMade}
-use Rattle.outside.specs.Steps.{Step, StepOf, Ends, Then, Begins, Did}
-use Rattle.outside.proofs.Causing.{throughout_both}
-use Rattle.outside.proofs.Growing.{did_nothing, did_stop_by, did_then_at}
+use Rattle.outside.specs.Begun.{Did, DidIn, WritesOnly}
+use Rattle.outside.specs.Steps.{Step, StepOf, Ends, Then, Begins}
+use Rattle.outside.proofs.Causing.{throughout_both, throughout_first}
+use Rattle.outside.proofs.Growing.{did_any, did_both_at, did_more, did_nothing, did_stop_by, did_then_at}
 use Rattle.codec_rooms.proofs.Typing.{did_as, refusal_done}
 use Rattle.serve_rooms.specs.Acts.{Act, hosted, loaded, added, rebuilds, unaccepted, unread, events_in, IsKeeperFault, KeeperGrew, beside}
-use Rattle.serve_rooms.specs.Doing.{Hosted, Last, IsKept, BeginsKept, DidKept, Spares}
+use Rattle.serve_rooms.specs.Doing.{Hosted, Last, IsKept, BeginsKept, DidKept, Spares, to_serve}
 use Rattle.serve_rooms.specs.Serve.{LoadsSchema, OfProfile, OfSchema, no_profile, profiled, after_loading, OfProfiled}
 use Rattle.serve_rooms.specs.Sessions.{ServesAll}
 use Rattle.serve_rooms.specs.declared.loading.Loaded.{Loaded}
@@ -33,6 +34,7 @@ use Rattle.serve_rooms.specs.declared.status.KeptStatus.TheVariants.{Run, KeepFa
 use Rattle.serve_rooms.proofs.Acting.{events_more, events_hosted}
 use Rattle.serve_rooms.proofs.Connections.{faulty}
 use Rattle.serve_rooms.proofs.Doing.{kept_hosted_all}
+use Rattle.serve_rooms.proofs.Touching.{MayServe, may_load, may_serve_all}
 use Rattle.serve_rooms.proofs.LoadedSchemas.{IsGood, loaded_good, can_profile, can_loaded}
 
 -- ---- a keeper's failures
@@ -90,7 +92,7 @@ module _ {A : Type 0} (S : Step A) (W : A → StepOf Act KeptStatus) where
   pub spares_then : (t : List Event) (status : Status) → Then S (λ a. Spares (W a)) t status → Spares (Then (Hosted S) W) t status
   spares_then t status h = subst (λ (l : List Event). Spares (Then (Hosted S) W) l status) (sym h.splits) (spares_both h.first h.rest h.between status h.does h.goes)
 
-  pub host_spare : (p q : HostState) (answer : Option Status) → Did (Then S (λ a. Spares (W a))) p q answer → Did (Spares (Then (Hosted S) W)) p q answer
+  pub host_spare : (p q : HostState) (answer : Option Status) → DidIn to_serve (Then S (λ a. Spares (W a))) p q answer → DidIn to_serve (Spares (Then (Hosted S) W)) p q answer
   host_spare p q answer = did_as (Then S (λ a. Spares (W a))) (Spares (Then (Hosted S) W)) p q answer spares_then
 
 pub spares_last : (S : Step Status) (t : List Event) (status : Status) → S t status → Spares (Last S) t status
@@ -107,17 +109,17 @@ module _ (W : StepOf Act KeptStatus) (faulty : (t : List Act) → W t KeepFault 
   can_spare m = let run = spares_run m.rest m.answer m.kept m.whole in record { rest = events_in m.rest; answer = run.0; whole = run.1 }
 
   module _ (p q : HostState) where
-    did_spare : (status : Status) → DidKept W (beside p nothing_kept) (beside q nothing_kept) (Some (Run status)) → Did (Spares W) p q (Some status)
+    did_spare : (status : Status) → DidKept W (beside p nothing_kept) (beside q nothing_kept) (Some (Run status)) → DidIn to_serve (Spares W) p q (Some status)
     did_spare status h = record { trace = events_in h.trace; grew = h.grew.host; holds = record { acts = h.trace; works = h.holds; kept = nothing_failed h.trace h.grew.keeper; events = refl } }
 
     never_spared : DidKept W (beside p nothing_kept) (beside q nothing_kept) (Some KeepFault) → ⊥
     never_spared h = never_failed h.trace (nothing_failed h.trace h.grew.keeper) (faulty h.trace h.holds)
 
-    did_spare_none : DidKept W (beside p nothing_kept) (beside q nothing_kept) None → Did (Spares W) p q None
-    did_spare_none h =
+    did_spare_none : MayServe W → DidKept W (beside p nothing_kept) (beside q nothing_kept) None → DidIn to_serve (Spares W) p q None
+    did_spare_none may h =
         let m = h.holds in
         let run = spares_run (h.trace ++ m.rest) m.answer (throughout_both IsKept h.trace m.rest (nothing_failed h.trace h.grew.keeper) m.kept) m.whole in
-        record { trace = events_in h.trace; grew = h.grew.host; holds = record { rest = events_in m.rest; answer = run.0; whole = subst (λ (l : List Event). Spares W l run.0) (events_more h.trace m.rest) run.1 } }
+        record { trace = events_in h.trace; grew = h.grew.host; holds = record { rest = events_in m.rest; answer = run.0; whole = subst (λ (l : List Event). Spares W l run.0) (events_more h.trace m.rest) run.1; only = throughout_first (WritesOnly to_serve) (events_in h.trace) (events_in m.rest) (subst (Throughout (WritesOnly to_serve)) (events_more h.trace m.rest) (may (h.trace ++ m.rest) m.answer m.whole)) } }
 
 -- ---- a new server
 
@@ -132,9 +134,9 @@ module _ (address : List ℕ) (sessions : ℕ) (p : ProfileView) (s : ServerStat
   pub new_never : answer ≡ Some KeepFault → ⊥
   new_never is = never_spared New (faulty address sessions new_server p) a b (served_as (Some KeepFault) is)
 
-  pub new_served : (end : Option Status) → answer ≡ option_map (λ status. Run status) end → Did (Spares New) a b end
+  pub new_served : (end : Option Status) → answer ≡ option_map (λ status. Run status) end → DidIn to_serve (Spares New) a b end
   new_served (Some status) is = did_spare New (faulty address sessions new_server p) a b status (served_as (Some (Run status)) is)
-  new_served None is = did_spare_none New (faulty address sessions new_server p) a b (served_as None is)
+  new_served None is = did_spare_none New (faulty address sessions new_server p) a b (may_serve_all address sessions new_server p) (served_as None is)
 
 -- ---- a schema
 
@@ -157,26 +159,26 @@ module _ (Rest : OfProfile) where
       can_spare_loaded r good = can_spare (after_loading Rest r) (loaded_faulty r) (can_loaded Rest can r good)
 
       -- the schema is no profile, or memory ran out
-      pub refused_spare : (S : Declared) → IsSchema S → (u : Unmade) (p q : HostState) (answer : Option Status) → Refuses (TellsProfile S) u → PrintsMade (of_fault u) p q answer → Did (Spares (OfSchema Rest S)) p q answer
+      pub refused_spare : (S : Declared) → IsSchema S → (u : Unmade) (p q : HostState) (answer : Option Status) → Refuses (TellsProfile S) u → PrintsMade (of_fault u) p q answer → DidIn to_serve (Spares (OfSchema Rest S)) p q answer
       refused_spare S good u p q answer =
           refusal_done (Spares (OfSchema Rest S)) (TellsProfile S) u p q answer (can_spare_schema S good)
           (λ line (fault, lacks, is) t status h. spares_as (Last (Prints (refused (form_line fault)))) (OfSchema Rest S) (λ u a d. no_profile fault lacks d) t status (spares_last (Prints (refused (form_line fault))) t status (subst (λ (l : List ℕ). Prints (refused l) t status) is h)))
 
       -- memory ran out while the schema was read
-      pub stopped_spare : (name : List ℕ) (p q : HostState) → Did (LoadsSchema name) p q None → Did (Spares (OfProfiled Rest name)) p q None
+      pub stopped_spare : (name : List ℕ) (p q : HostState) → Did (LoadsSchema name) p q None → DidIn to_serve (Spares (OfProfiled Rest name)) p q None
       stopped_spare name p q h =
           host_spare (LoadsSchema name) (after_loading Rest) p q None
-          (did_stop_by (LoadsSchema name) (λ r. Spares (after_loading Rest r)) p q (λ t r loads. can_spare_loaded r (loaded_good name t r loads)) h)
+          (did_stop_by (LoadsSchema name) (λ r. Spares (after_loading Rest r)) p q (λ t r loads. can_spare_loaded r (loaded_good name t r loads)) (did_more (LoadsSchema name) p q None h))
 
-  pub profiled_spare : (S : Declared) (profile : ProfileView) → IsAnswer S (Ok profile) → (p q : HostState) (answer : Option Status) → Did (Spares (Rest profile)) p q answer → Did (Spares (OfSchema Rest S)) p q answer
+  pub profiled_spare : (S : Declared) (profile : ProfileView) → IsAnswer S (Ok profile) → (p q : HostState) (answer : Option Status) → DidIn to_serve (Spares (Rest profile)) p q answer → DidIn to_serve (Spares (OfSchema Rest S)) p q answer
   profiled_spare S profile is p q answer = did_as (Spares (Rest profile)) (Spares (OfSchema Rest S)) p q answer (spares_as (Rest profile) (OfSchema Rest S) (λ t a h. profiled profile is h))
 
   module _ (name : List ℕ) (loaded : Loaded) (p q : HostState) (g : Did (LoadsSchema name) p q (Some loaded)) where
-    pub schema_spare : (S : Declared) (r : HostState) (answer : Option Status) → loaded ≡ schema.Schema S → Did (Spares (OfSchema Rest S)) q r answer → Did (Spares (OfProfiled Rest name)) p r answer
-    schema_spare S r answer is h = host_spare (LoadsSchema name) (after_loading Rest) p r answer (did_then_at (LoadsSchema name) (λ x. Spares (after_loading Rest x)) p q r loaded (schema.Schema S) answer is g h)
+    pub schema_spare : (S : Declared) (r : HostState) (answer : Option Status) → loaded ≡ schema.Schema S → DidIn to_serve (Spares (OfSchema Rest S)) q r answer → DidIn to_serve (Spares (OfProfiled Rest name)) p r answer
+    schema_spare S r answer is h = host_spare (LoadsSchema name) (after_loading Rest) p r answer (did_then_at (LoadsSchema name) (λ x. Spares (after_loading Rest x)) p q r loaded (schema.Schema S) answer is (may_load name) (did_any (LoadsSchema name) p q loaded g) h)
 
-    pub ended_spare : (status : Status) → loaded ≡ schema.Ended status → Did (Spares (OfProfiled Rest name)) p q (Some status)
+    pub ended_spare : (status : Status) → loaded ≡ schema.Ended status → DidIn to_serve (Spares (OfProfiled Rest name)) p q (Some status)
     ended_spare status is =
         host_spare (LoadsSchema name) (after_loading Rest) p q (Some status)
-        (did_then_at (LoadsSchema name) (λ x. Spares (after_loading Rest x)) p q q loaded (schema.Ended status) (Some status) is g
+        (did_both_at (LoadsSchema name) (λ x. Spares (after_loading Rest x)) p q q loaded (schema.Ended status) status is (did_any (LoadsSchema name) p q loaded g)
         (did_as (Ends status) (Spares (Ends (Run status))) q q (Some status) (λ t given h. spares_end status given t h) (did_nothing q status)))

@@ -7,8 +7,9 @@ use Rattle.command_base.specs.declared.status.Status.TheVariants.{LinkFault, Pee
 use Rattle.command_base.specs.declared.stop.Stop.TheVariants as stop
 use Rattle.outside.specs.Events.{Event, HostState}
 use Rattle.outside.specs.Pieces.{Tells, Writes}
-use Rattle.outside.specs.Steps.{Begins, Did, Ends, Then}
-use Rattle.outside.proofs.Growing.{can_end, can_then, did_nothing, did_then}
+use Rattle.outside.specs.Begun.{Did}
+use Rattle.outside.specs.Steps.{Begins, Ends, Then}
+use Rattle.outside.proofs.Growing.{can_end, can_then, did_both, did_nothing}
 use Rattle.outside.proofs.Piecewise.{can_tell, can_write}
 use Rattle.session_commands.specs.Lines.{served_line}
 use Rattle.session_commands.specs.Serve.{first_fault}
@@ -43,17 +44,17 @@ can_tell_end number tally (Err fault) = can_fault_told tally (session_line fault
 
 module _ (number frames : ℕ) (tally : Tally) (line : List ℕ) (is : line ≡ served_line number frames) where
   pub frames_told : (p q : HostState) → Did (Writes Output line) p q (Some true) → Did (TellsEnd number tally (Ok frames)) p q (Some (goes_on tally))
-  frames_told p q h = did_then _ (after_line tally) p q q true _ (subst (λ (l : List ℕ). Did (Writes Output l) p q (Some true)) is h) (did_nothing q (goes_on tally))
+  frames_told p q h = did_both _ (after_line tally) p q q true _ (subst (λ (l : List ℕ). Did (Writes Output l) p q (Some true)) is h) (did_nothing q (goes_on tally))
 
   pub frames_untold : (p q r : HostState) (status : Status) → Did (Writes Output line) p q (Some false) → Did (Tells write_fault_line WriteFault) q r (Some status) → Did (TellsEnd number tally (Ok frames)) p r (Some (is_over status))
   frames_untold p q r status h tells =
-      did_then _ (after_line tally) p q r false _ (subst (λ (l : List ℕ). Did (Writes Output l) p q (Some false)) is h) (did_then _ (λ (s : Status). Ends (is_over s)) q r r status _ tells (did_nothing r (is_over status)))
+      did_both _ (after_line tally) p q r false _ (subst (λ (l : List ℕ). Did (Writes Output l) p q (Some false)) is h) (did_both _ (λ (s : Status). Ends (is_over s)) q r r status _ tells (did_nothing r (is_over status)))
 
 -- ---- a fault
 
 pub fault_line_told : (tally : Tally) (line : List ℕ) (status : Status) (p q : HostState) (whole : Bool) → Did (TellsLine tally.whole line) p q (Some whole)
     → Did (TellsFault tally line status) p q (Some (goes_on (record { status = first_fault tally.status status; whole = whole })))
-fault_line_told tally line status p q whole h = did_then _ (λ (w : Bool). Ends (goes_on (record { status = first_fault tally.status status; whole = w }))) p q q whole _ h (did_nothing q _)
+fault_line_told tally line status p q whole h = did_both _ (λ (w : Bool). Ends (goes_on (record { status = first_fault tally.status status; whole = w }))) p q q whole _ h (did_nothing q _)
 
 -- it is the other end's, with this line
 by_peer : (tally : Tally) (o : Option (List ℕ)) (line : List ℕ) (p q : HostState) (x : Option Told) → o ≡ Some line → Did (TellsFault tally line PeerFault) p q x → Did (fault_told tally o) p q x

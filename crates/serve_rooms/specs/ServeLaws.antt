@@ -7,9 +7,9 @@ use Rattle.tl_base.specs.declared.host.Out.TheVariants as outs
 use Rattle.command_base.specs.declared.status.Status.{Status}
 use Rattle.outside.specs.Events.{Event, opened, took, ended, read_failed, created, put, write_failed, listened, connected, accepted, told}
 use Rattle.outside.specs.Laws.{Happened, Throughout, Explains, HasCause}
-use Rattle.outside.specs.Runs.{Runs}
+use Rattle.outside.specs.Runs.{RunsIn}
 use Rattle.serve_rooms.specs.Acts.{Act, hosted, loaded, added, events_in, IsKeeperFault}
-use Rattle.serve_rooms.specs.Doing.{RunsKept}
+use Rattle.serve_rooms.specs.Doing.{RunsKept, to_serve}
 use Rattle.serve_rooms.specs.Serve.{keeps, serves}
 use Rattle.serve_rooms.specs.declared.status.KeptStatus.{KeptStatus}
 use Rattle.serve_rooms.specs.declared.status.KeptStatus.TheVariants.{Run, KeepFault}
@@ -53,7 +53,7 @@ IsOfServe schema address (told moment) = Unit {0}
 
 -- no run of `serve` does anything else, also one that runs out of memory
 abbrev pub ServeTouches : Type 0
-ServeTouches = (schema address : List ℕ) (sessions : ℕ) (t : List Event) (status : Status) → Runs (serves schema address sessions) t status → Throughout (IsOfServe schema address) t
+ServeTouches = (schema address : List ℕ) (sessions : ℕ) (t : List Event) (status : Status) → RunsIn to_serve (serves schema address sessions) t status → Throughout (IsOfServe schema address) t
 
 -- nor does one of `keep`, its keeper aside
 abbrev pub KeepTouches : Type 0
@@ -95,7 +95,7 @@ KeepReadsFirst = (schema address : List ℕ) (sessions : ℕ) (t : List Act) (st
 
 -- a run ends by the status of a fault only where a call of that kind failed
 abbrev pub ServeHasCause : Type 0
-ServeHasCause = (schema address : List ℕ) (sessions : ℕ) → HasCause (Runs (serves schema address sessions))
+ServeHasCause = (schema address : List ℕ) (sessions : ℕ) → HasCause (RunsIn to_serve (serves schema address sessions))
 
 -- likewise over a keeper, by whose fault it ends only where a call to the keeper failed
 abbrev pub ExplainsKept : KeptStatus → List Act → Type 0
