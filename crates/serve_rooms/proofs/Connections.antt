@@ -119,7 +119,7 @@ did_map S f a b None h = did_stop S (λ z. Ends (f z)) a b (λ z. can_end (f z))
 
 -- a call of the host
 did_event : {A : Type 0} (event : A → Event) (p q : HostState) (k : KeeperState) (x : A) → Grew p (event x ∷ []) q → DidKept (Hosted (Calls event)) (beside p k) (beside q k) (Some x)
-did_event event p q k x g = did_host (Calls event) p q k (Some x) (did_call event p q x g)
+did_event event p q k x g = did_host {outs = []} (Calls event) p q k (Some x) (did_call event p q x g)
 
 module _ (number : ℕ) (tally : Tally) (s : ServerState) (end : Result ℕ SessionFault) (p q : HostState) (k : KeeperState) where
   pub goes_on_told : (after : Tally) → Did (TellsEnd number tally end) p q (Some (goes_on after)) → DidKept (after_session number tally (over s end)) (beside p k) (beside q k) (Some (more s after))

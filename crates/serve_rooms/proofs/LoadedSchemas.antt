@@ -1,5 +1,5 @@
 -- What is read as a schema, which is a profile or not, and that each of these can go on to its end.
-use Rattle.std.proofs.Common.{◌≡◌, ℕ, List, [], ◌∷◌, ◌++◌, codes, Option, Some, None, Result, Ok, Err, refl, sym, subst, inl, inr}
+use Rattle.std.proofs.Common.{◌≡◌, ℕ, List, [], codes, Option, Some, None, Result, Ok, Err, refl, sym, subst, inl, inr}
 use Rattle.std.specs.Prelude.{option_map}
 use Rattle.tl_base.specs.declared.host.Slot.TheVariants as slots
 use Rattle.tl_schema.specs.CheckedPrograms.{IsSchema}
@@ -77,8 +77,8 @@ pub can_text : (text : List ℕ) → Begins (OfText text) []
 can_text text = elim (schema_or_refused text) [
   | inl (S, is) ↦ record { rest = []; answer = schema.Schema S; whole = schema_of S is refl refl }
   | inr (cause, r) ↦
-    let S = Prints (refused (schema_line (codes "schema") cause)) in
-    typing.begun_as (EndsBy S) (OfText text) (λ t a h. no_schema cause r h) (can_end_by S (can_print (refused (schema_line (codes "schema") cause))))
+      let S = Prints (refused (schema_line (codes "schema") cause)) in
+      typing.begun_as (EndsBy S) (OfText text) (λ t a h. no_schema cause r h) (can_end_by S (can_print (refused (schema_line (codes "schema") cause))))
 ]
 
 pub can_reading : (text : Option (List ℕ)) → Begins (after_reading text) []

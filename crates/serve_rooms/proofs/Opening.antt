@@ -1,8 +1,7 @@
 -- A keeper whose entries are read.
 use Rattle.std.proofs.Common.{◌≡◌, ◌⊎◌, inl, inr, ℕ, List, [], ◌∷◌, true, false, Option, Some, None, Result, Ok, Err, IfSome, IsSome, IsTrue, refl, sym, subst}
 use Rattle.std.specs.Prelude.{⊤, option_map}
-use Rattle.tl_base.specs.Causes.{Rose}
-use Rattle.box_server.specs.Servers.{ServerState, new_server}
+use Rattle.box_server.specs.Servers.{new_server}
 use Rattle.box_store.specs.declared.entry.Entry.{Entry}
 use Rattle.box_store.specs.declared.fault.OpenFault.{OpenFault}
 use Rattle.box_store.specs.declared.fault.OpenFault.TheVariants as opening
@@ -10,7 +9,6 @@ use Rattle.box_store.specs.Answering.{Opens, opened_keeper, IsOpenFailed}
 use Rattle.box_store.specs.Keeping.{KeeperState, Keeps}
 use Rattle.box_store.specs.Storing.{StoredView}
 use Rattle.outside.specs.Events.{HostState}
-use Rattle.outside.specs.Laws.{Happened}
 use Rattle.outside.specs.Pieces.{Tells}
 use Rattle.outside.specs.Begun.{Did}
 use Rattle.outside.specs.Steps.{StepOf, Calls}
@@ -19,7 +17,7 @@ use Rattle.session_commands.specs.Keep.{Starts, IsBadEntry, bad_entry_line}
 use Rattle.wire_profile.specs.Places.{ProfileView}
 use Rattle.command_base.specs.declared.status.Status.{Status}
 use Rattle.command_base.specs.declared.status.Status.TheVariants.{Refused}
-use Rattle.serve_rooms.specs.Acts.{Act, Loading, rebuilds, unaccepted, unread, loaded, Agrees, IsKeeperFault, IsSure, KeeperGrew, KeptState, KeptGrew, beside}
+use Rattle.serve_rooms.specs.Acts.{Act, Loading, rebuilds, unaccepted, unread, loaded, Agrees, IsKeeperFault, IsSure, KeeperGrew, KeptState, beside}
 use Rattle.serve_rooms.specs.Doing.{Last, BeginsKept, DidKept}
 use Rattle.serve_rooms.specs.Serve.{OpensAndServes, after_opening}
 use Rattle.serve_rooms.specs.Sessions.{ServesAll, keep_fault_line}

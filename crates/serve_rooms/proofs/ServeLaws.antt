@@ -1,19 +1,16 @@
 -- Laws of `serve` and `keep`.
-use Rattle.std.proofs.Common.{◌≡◌, ◌⊎◌, inl, inr, codes, ltb, ℕ, ◌+◌, List, [], ◌∷◌, ◌++◌, map, Bool, true, false, true≢false, Option, Some, None, Result, Ok, Err, refl, sym, ap, ◌∙◌, subst}
+use Rattle.std.proofs.Common.{◌≡◌, inl, codes, ltb, ℕ, ◌+◌, List, [], ◌∷◌, ◌++◌, map, Bool, true, false, true≢false, Option, Some, None, Result, Ok, Err, refl, sym, ap, ◌∙◌, subst}
 use Rattle.std.proofs.lemmas.List.{append_assoc}
 use Rattle.tl_base.specs.declared.counts.Kind.TheVariants as kinds
 use Rattle.tl_base.specs.declared.host.Slot.TheVariants as slots
 use Rattle.tl_base.specs.declared.host.Out.TheVariants as outs
-use Rattle.tl_base.specs.declared.packet.PacketFault.{PacketFault}
 use Rattle.tl_base.specs.declared.packet.PacketFault.TheVariants.{BadLength, Ended}
 use Rattle.tl_schema.specs.Schemas.{Declared}
 use Rattle.box_events.specs.declared.requests.Numbered.{Numbered}
 use Rattle.box_server.specs.Servers.{ServerState, new_server, dated_at}
 use Rattle.box_store.specs.declared.entry.Entry.{Entry}
-use Rattle.wire_checks.specs.declared.fault.WireFault.{WireFault}
 use Rattle.wire_profile.specs.Places.{ProfileView}
 use Rattle.box_wire.specs.Kinds.{calls}
-use Rattle.box_wire.specs.Framing.{WireRefused}
 use Rattle.command_base.specs.Answer.{link_fault_line, memory_line, read_fault_line, refused, write_fault_line}
 use Rattle.command_base.specs.declared.status.Status.{Status}
 use Rattle.command_base.specs.declared.status.Status.TheVariants as statuses
@@ -27,7 +24,7 @@ use Rattle.outside.specs.Packets as packets
 use Rattle.outside.specs.Pieces.{ReadsFile, Tells, Writes}
 use Rattle.outside.specs.Printing.{Prints, Unread}
 use Rattle.outside.specs.Runs as runs
-use Rattle.outside.specs.Steps.{Step, StepOf, Turn, again, leave, Calls, Ends, Then, Reaches, here, turn, Loops}
+use Rattle.outside.specs.Steps.{Step, StepOf, Turn, again, leave, Calls, Reaches, here, turn}
 use Rattle.outside.proofs.Causing.{cause_print, cause_run, cause_tell, explains_first, explains_last, happened_first, happened_last, keeps_begun, keeps_call, keeps_end, keeps_file, keeps_loop, keeps_print, keeps_tell, keeps_then, keeps_write, throughout_both, throughout_first, told_status, unread_file, unwritten}
 use Rattle.outside.proofs.TakenPackets.{IsUnbroken, broken_packet, keeps_packet, packet_came}
 use Rattle.update_sessions.specs.declared.fault.SessionFault.{SessionFault}
@@ -46,7 +43,7 @@ use Rattle.session_rooms.proofs.SentMessages.{keeps_send, unsent}
 use Rattle.serve_rooms.specs.Acts.{Act, Loading, hosted, loaded, added, rebuilds, unaccepted, unread, events_in, IsKeeperFault}
 use Rattle.serve_rooms.specs.Answering.{Answered, goes_on, has_ended, fails, unkept, if_added, Adds, after_sending, after_adding, AnswersBytes, no_call, answers, after_packet, AnswersNext, Session, over, lost, Served, answers_by, AnswersOn, AnswersAll}
 use Rattle.serve_rooms.specs.Answering as answering
-use Rattle.serve_rooms.specs.Doing.{Hosted, Last, BeginsKept, RunsKept, Spares}
+use Rattle.serve_rooms.specs.Doing.{Hosted, Last, BeginsKept}
 use Rattle.serve_rooms.specs.Doing as doing
 use Rattle.serve_rooms.specs.Serve.{EndsBy, OfText, no_schema, schema_of, after_reading, LoadsSchema, OfProfile, OfSchema, no_profile, profiled, after_loading, OfProfiled, after_opening, OpensAndServes, keeps, serves}
 use Rattle.serve_rooms.specs.ServeLaws.{IsOfServe, ServeTouches, KeepTouches, IsListening, IsUnread, ReadsFirst, KeepReadsFirst, ServeHasCause, ExplainsKept, KeepHasCause}
@@ -60,7 +57,7 @@ use Rattle.serve_rooms.specs.declared.status.KeptStatus.TheVariants.{Run, KeepFa
 use Rattle.serve_rooms.specs.declared.telling.Tally.{Tally}
 use Rattle.serve_rooms.proofs.Acting.{events_more, events_hosted}
 use Rattle.serve_rooms.proofs.Connections.{faulty}
-use Rattle.serve_rooms.proofs.Touching.{IsTouched, touched, keeps_serve, keeps_keep, keeps_begun_kept, keeps_load, keeps_all, keeps_opening, keeps_profiled}
+use Rattle.serve_rooms.proofs.Touching.{keeps_load, tells, prints_refusal, keeps_last, keeps_opening, keeps_begun_kept, IsTouched, touched, keeps_serve, keeps_keep}
 
 pub serve_touches : ServeTouches
 serve_touches schema_name address sessions t s (runs.done h) = keeps_serve schema_name address sessions t s h
@@ -310,8 +307,8 @@ line_cause tally line false r b t u before w h =
     subst (λ (x : Told). IsSaid x (b ++ (t ++ u))) (sym h.goes.1) (explains_last s b (t ++ u) (subst (λ (l : List Event). Explains s (t ++ l)) (sym h.splits) (subst (Explains s) (append_assoc t h.first h.rest) this)))
 
 end_cause : (number : ℕ) (tally : Tally) (end : Result ℕ SessionFault) (r : Told) (b t : List Event) → Explains tally.status b → IsEnd end b → TellsEnd number tally end t r → IsSaid r (b ++ t)
-end_cause number tally (Ok frames) r b t before ended h = subst (λ (l : List Event). IsSaid r (b ++ l)) (sym h.splits) (line_cause tally (served_line number frames) h.between r b h.first h.rest before h.does h.goes)
-end_cause number tally (Err fault) r b t before ended h = blame_cause tally (session_line fault) r b t before ended h
+end_cause number tally (Ok frames) r b t before met h = subst (λ (l : List Event). IsSaid r (b ++ l)) (sym h.splits) (line_cause tally (served_line number frames) h.between r b h.first h.rest before h.does h.goes)
+end_cause number tally (Err fault) r b t before met h = blame_cause tally (session_line fault) r b t before met h
 
 -- ---- sessions
 
@@ -340,13 +337,13 @@ said_next s (telling.goes_on tally) n u t said h = subst (λ (x : Next). IsNext 
 said_next s (is_over status) n u t said h = subst (λ (x : Next). IsNext x t) (sym h.1) said
 
 over_cause : (number : ℕ) (tally : Tally) (r : Session) (n : Next) (b t : List Act) → Explains tally.status (events_in b) → IsOver r (events_in b) → after_session number tally r t n → IsNext n (events_in (b ++ t))
-over_cause number tally (over s end) n b t before ended h =
+over_cause number tally (over s end) n b t before met h =
     let (events, is, tells) = h.does in
-    let said = end_cause number tally end h.between (events_in b) events before ended tells in
+    let said = end_cause number tally end h.between (events_in b) events before met tells in
     let here_said = subst (IsSaid h.between) (sym (events_more b h.first ∙ ap (λ (l : List Event). events_in b ++ l) (host_events h.first events is))) said in
     let all_said = subst (λ (l : List Act). IsSaid h.between (events_in l)) (append_assoc b h.first h.rest) (at_first (IsSaid h.between) (said_first h.between) (b ++ h.first) h.rest here_said) in
     subst (λ (l : List Act). IsNext n (events_in (b ++ l))) (sym h.splits) (said_next s h.between n h.rest (events_in (b ++ (h.first ++ h.rest))) all_said h.goes)
-over_cause number tally lost n b t before ended h =
+over_cause number tally lost n b t before met h =
     let (events, is, tells) = h.does in
     subst (λ (x : Next). IsNext x (events_in (b ++ t))) (sym (h.goes.1 ∙ ap (λ (status : KeptStatus). no_more status) (told_status keep_fault_line KeepFault events h.between tells))) tt
 
@@ -376,9 +373,9 @@ module _ (p : ProfileView) where
       (at_first (IsNext x) (next_first x) (b ++ h.first) h.rest (told_cause link_fault_line statuses.LinkFault h.between b h.first (failed refl) h.does))))
 
   not_accepted : (b t : List Act) (ok : Bool) → Hosted (Calls accepted) t ok → ok ≡ false → Happened (IsFailure kinds.Links) (events_in (b ++ t))
-  not_accepted b t ok (events, is, e) no =
+  not_accepted b t ok (events, is, e) not =
       let Failed = Happened (IsFailure kinds.Links) in
-      at_last Failed (happened_last (IsFailure kinds.Links)) b t (subst Failed (sym (host_events t events is ∙ e ∙ ap (λ (x : Bool). accepted x ∷ []) no)) (inl refl))
+      at_last Failed (happened_last (IsFailure kinds.Links)) b t (subst Failed (sym (host_events t events is ∙ e ∙ ap (λ (x : Bool). accepted x ∷ []) not)) (inl refl))
 
   next_cause : (number : ℕ) (s : ServerState) (tally : Tally) (n : Next) (b t : List Act) → Explains tally.status (events_in b) → ServesNext p number s tally t n → IsNext n (events_in (b ++ t))
   next_cause number s tally n b t before h =
@@ -425,7 +422,7 @@ module _ (p : ProfileView) where
 
     module _ (address : List ℕ) where
       not_listened : (t : List Act) (ok : Bool) → Hosted (Calls (listened address)) t ok → ok ≡ false → Happened (IsFailure kinds.Links) (events_in t)
-      not_listened t ok (events, is, e) no = subst (Happened (IsFailure kinds.Links)) (sym (host_events t events is ∙ e ∙ ap (λ (x : Bool). listened address x ∷ []) no)) (inl refl)
+      not_listened t ok (events, is, e) not = subst (Happened (IsFailure kinds.Links)) (sym (host_events t events is ∙ e ∙ ap (λ (x : Bool). listened address x ∷ []) not)) (inl refl)
 
       all_left : (status : KeptStatus) (t : List Act) → ServesAll address sessions s p t status → IsLeft status (events_in t)
       all_left status t h = subst (λ (l : List Act). IsLeft status (events_in l)) (sym h.splits) (listen_cause h.between status h.first h.rest (not_listened h.first h.between h.does) h.goes)
@@ -481,8 +478,8 @@ module _ (Rest : OfProfile) (rest : (p : ProfileView) (t : List Act) (status : K
   schema_cause S t status (profiled p is h) = rest p t status h
 
   loaded_cause : (r : Loaded) (t u : List Act) (status : KeptStatus) → IsLoaded r (events_in t) → after_loading Rest r u status → ExplainsKept status (t ++ u)
-  loaded_cause (schema.Schema S) t u status ended h = kept_last status t u (schema_cause S u status h)
-  loaded_cause (schema.Ended given) t u status ended h = subst (λ (x : KeptStatus). ExplainsKept x (t ++ u)) (sym h.1) (kept_first (Run given) t u ended)
+  loaded_cause (schema.Schema S) t u status met h = kept_last status t u (schema_cause S u status h)
+  loaded_cause (schema.Ended given) t u status met h = subst (λ (x : KeptStatus). ExplainsKept x (t ++ u)) (sym h.1) (kept_first (Run given) t u met)
 
   profiled_cause : (name : List ℕ) (t : List Act) (status : KeptStatus) → OfProfiled Rest name t status → ExplainsKept status t
   profiled_cause name t status h =

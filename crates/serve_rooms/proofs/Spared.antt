@@ -1,5 +1,5 @@
 -- What a host does beside a keeper that keeps nothing, which never fails.
-use Rattle.std.proofs.Common.{◌≡◌, ◌⊎◌, inl, inr, ℕ, List, [], ◌∷◌, ◌++◌, map, Bool, true, false, Option, Some, None, Ok, refl, sym, ap₂, ◌∙◌, subst, arith}
+use Rattle.std.proofs.Common.{◌≡◌, inl, inr, ℕ, List, [], ◌∷◌, ◌++◌, map, true, false, Option, Some, None, Ok, refl, sym, ap₂, ◌∙◌, subst, arith}
 use Rattle.std.proofs.lemmas.List.{append-nil}
 use Rattle.std.specs.Prelude.{option_map}
 use Rattle.tl_base.specs.Causes.{Rose}
@@ -8,7 +8,7 @@ use Rattle.tl_schema.specs.Schemas.{Declared}
 use Rattle.wire_profile.specs.Faults.{IsAnswer}
 use Rattle.wire_profile.specs.Places.{ProfileView}
 use Rattle.box_server.specs.Servers.{ServerState, new_server}
-use Rattle.box_store.specs.Keeping.{KeeperState, nothing_kept}
+use Rattle.box_store.specs.Keeping.{nothing_kept}
 use Rattle.command_base.specs.Answer.{refused}
 use Rattle.command_base.specs.Jobs.{of_fault}
 use Rattle.command_base.specs.Loading.{Refuses}

@@ -82,10 +82,10 @@ module _ (schema_name address : List ℕ) where
   abbrev P : Event → Type 0
   P = IsOfServe schema_name address
 
-  tells : {A : Type 0} (line : List ℕ) (status : A) → Keeps P (Tells line status)
+  pub tells : {A : Type 0} (line : List ℕ) (status : A) → Keeps P (Tells line status)
   tells line status = keeps_tell P (λ _. tt) tt line status
 
-  prints_refusal : (line : List ℕ) → Keeps P (Prints (refused line))
+  pub prints_refusal : (line : List ℕ) → Keeps P (Prints (refused line))
   prints_refusal line = keeps_print P (λ _. tt) tt (λ _. tt) tt (refused line)
 
   loads_schema : Keeps P (LoadsSchema schema_name)
@@ -122,7 +122,7 @@ module _ (schema_name address : List ℕ) where
     keeps_host : {A : Type 0} (S : Step A) → Keeps P S → Keeps Q (Hosted S)
     keeps_host S keep t a (events, is, h) = subst (Throughout Q) (sym is) (all_hosted events (keep events a h))
 
-    keeps_last : (S : Step Status) → Keeps P S → Keeps Q (Last S)
+    pub keeps_last : (S : Step Status) → Keeps P S → Keeps Q (Last S)
     keeps_last S keep = keeps_then Q (Hosted S) _ (keeps_host S keep) (λ status. keeps_end Q (Run status))
 
     module _ (p : ProfileView) where

@@ -1,7 +1,4 @@
-use Rattle.std.proofs.Common.{Option, sym, subst}
-use Rattle.serve_rooms.specs.Acts.{beside}
-use Rattle.serve_rooms.specs.Doing.{DidKept}
-use Rattle.serve_rooms.specs.Serve.{OfSchema, OpensAndServes}
+use Rattle.serve_rooms.specs.Serve.{OpensAndServes}
 use Rattle.serve_rooms.proofs.LoadedSchemas.{profile_made, profile_refused}
 use Rattle.serve_rooms.proofs.Opening.{can_open}
 use Rattle.serve_rooms.proofs.keep.keep_schema.Goals as goal
