@@ -17,6 +17,7 @@ extern "C" {
      - It owns what `at` leads to. Never write into it, and never go on with a copy of one that is open: two would own the same.
      - It may move to another thread, in an order that a lock or a thread's start or end makes, and is handed to one call at a time. Calls of two handles may
        run beside each other, and so may calls of tlbox_layers.
+     - A call takes up to 192 KiB of the thread's stack, where a value or a JSON is as deep as it may be. Give a thread 256 KiB.
      - Calls take memory by malloc, realloc and free. So none is made in a signal handler, nor in the child of a fork of a process that had threads.
      - tlbox_close gives all of its memory back. */
 typedef struct tlbox {

@@ -13,7 +13,8 @@ use Rattle.outside.specs.Packets.{PacketView, TakesPacket}
 use Rattle.outside.specs.Packets as taken
 use Rattle.outside.specs.Pieces.{Writes}
 use Rattle.outside.specs.Pieces as piece
-use Rattle.outside.specs.Runs.{Runs}
+use Rattle.outside.specs.Begun.{to_output}
+use Rattle.outside.specs.Runs.{RunsIn}
 use Rattle.outside.specs.Steps.{Step, Turn, again, leave, Calls, Ends}
 use Rattle.outside.proofs.Causing.{cause_print, cause_run, cause_tell, cause_then, explains_first, explains_last, keeps_call, keeps_end, keeps_loop, keeps_print, keeps_tell, keeps_then, keeps_write, told_status, unwritten}
 use Rattle.outside.proofs.TakenPackets.{broken_packet, keeps_packet}
@@ -130,7 +131,7 @@ module _ (D : Declared) where
   cause_input : (input : List ℕ) → HasCause (OfInput input D)
   cause_input input = cause_then (Calls (opened Input input)) (after_opening D) (cause_opened input)
 
-pub calls_has_cause : (schema input : List ℕ) → HasCause (Runs (tells_calls schema input))
+pub calls_has_cause : (schema input : List ℕ) → HasCause (RunsIn to_output (tells_calls schema input))
 calls_has_cause schema input = cause_run (tells_calls schema input) (cause_of_file Schema refl (codes "schema") (OfInput input) schema (λ D. cause_input D input))
 
 pub calls_reads : (schema input : List ℕ) → ReadsFiles (calls schema input)

@@ -1,5 +1,5 @@
 -- That `calls` can go on to its end from each of its parts.
-use Rattle.std.proofs.Common.{◌≡◌, ℕ, ◌<◌, ◌≤◌, List, [], ◌∷◌, length, Bool, true, false, Some, None, refl, inl, inr, codes}
+use Rattle.std.proofs.Common.{◌≡◌, ℕ, ◌<◌, ◌≤◌, List, [], ◌∷◌, length, Bool, true, false, Some, None, refl, sym, subst, inl, inr, codes}
 use Rattle.std.proofs.lemmas.Bool.{cases_lt}
 use Rattle.tl_numbers.specs.Bytes.{AreBytes}
 use Rattle.tl_base.specs.Packets.{IsPacketLength}
@@ -20,12 +20,15 @@ use Rattle.outside.specs.Events.{Event, HostState, ended, opened}
 use Rattle.outside.specs.Packets.{PacketView, TakesPacket}
 use Rattle.outside.specs.Packets as taken
 use Rattle.outside.specs.Pieces.{Writes}
-use Rattle.outside.specs.Steps.{Step, again, leave, Begins, Did, Ends, Then}
+use Rattle.outside.specs.Begun.{Did, WritesOnly, to_output}
+use Rattle.outside.specs.Steps.{Step, again, leave, Begins, Ends, Then}
 use Rattle.outside.specs.Steps as steps
-use Rattle.outside.proofs.Growing.{Leaves, can_end, can_then, did_nothing, did_stop, did_stop_by, did_then}
+use Rattle.outside.specs.Laws.{Throughout}
+use Rattle.outside.proofs.Causing.{keeps_write, throughout_both}
+use Rattle.outside.proofs.Growing.{Leaves, can_end, can_then, did_nothing, did_both, did_stop, did_stop_by}
 use Rattle.outside.proofs.Piecewise.{can_tell, can_write}
 use Rattle.outside.proofs.Printed.{can_print}
-use Rattle.outside.proofs.TakenPackets.{none_taken, whole_packet}
+use Rattle.outside.proofs.TakenPackets.{may_packet, none_taken, whole_packet}
 use Rattle.schema_files.specs.Lines.{input_line}
 use Rattle.call_commands.specs.declared.limits.TheConstants.{MAX_PACKET_END}
 use Rattle.call_commands.proofs.EachFile.{empty_or_word}
@@ -37,7 +40,7 @@ use Rattle.call_rooms.specs.Calls.{SoFar, so_far, ends_by, Last, TellsRefusal, a
 -- ---- the run ends
 
 pub did_last : (S : Step Status) (p q : HostState) (status : Status) → Did S p q (Some status) → Did (Last S) p q (Some (leave status))
-did_last S p q status h = did_then S ends_by p q q status (Some (leave status)) h (did_nothing q (leave status))
+did_last S p q status h = did_both S ends_by p q q status (leave status) h (did_nothing q (leave status))
 
 pub last_stopped : (S : Step Status) (p q : HostState) → Did S p q None → Did (Last S) p q None
 last_stopped S p q h = did_stop S ends_by p q (λ status. can_end (leave status)) h
@@ -95,3 +98,33 @@ pub can_input : (input : List ℕ) (schema : Declared) → Begins (OfInput input
 can_input input schema =
     let m = can_tell _ _ in
     record { rest = opened Input input false ∷ m.rest; answer = m.answer; whole = record { first = opened Input input false ∷ []; rest = m.rest; between = false; splits = refl; does = refl; goes = m.whole } }
+
+-- ---- what was written where memory runs out
+
+not_last : (S : Step Status) (t : List Event) (n : SoFar) → Last S t (again n) → ⊥
+not_last S t n h = absurd (let no : again n ≡ leave h.between = h.goes.1 in cc)
+
+may_line : (next n : SoFar) (ok : Bool) (t : List Event) → after_line next ok t (again n) → Throughout (WritesOnly to_output) t
+may_line next n true t h = subst (Throughout (WritesOnly to_output)) (sym h.0) tt
+may_line next n false t h = absurd (not_last _ t n h)
+
+module _ (schema : Declared) (s n : SoFar) where
+  may_packet_told : (content : List ℕ) (t : List Event) → OfPacket schema s content t (again n) → Throughout (WritesOnly to_output) t
+  may_packet_told content t (too_long far h) = absurd (not_last _ t n h)
+  may_packet_told content t (no_packet within place why r h) = absurd (not_last _ t n h)
+  may_packet_told content t (told within e line tells h) =
+      subst (Throughout (WritesOnly to_output)) (sym h.splits)
+      (throughout_both (WritesOnly to_output) h.first h.rest (keeps_write (WritesOnly to_output) Output line (λ _. inl refl) (inl refl) h.first h.between h.does) (may_line _ n h.between h.rest h.goes))
+
+  may_after : (v : PacketView) (t : List Event) → after_packet schema s v t (again n) → Throughout (WritesOnly to_output) t
+  may_after (taken.whole content) t h = may_packet_told content t h
+  may_after taken.none t h = absurd (not_last _ t n h)
+  may_after (taken.bad_length m) t h = absurd (not_last _ t n h)
+  may_after (taken.ended had) t h = absurd (not_last _ t n h)
+  may_after taken.broken t h = absurd (not_last _ t n h)
+
+  -- a turn that goes on writes to Output alone
+  pub may_next : (t : List Event) → TellsNext schema s t (again n) → Throughout (WritesOnly to_output) t
+  may_next t h =
+      subst (Throughout (WritesOnly to_output)) (sym h.splits)
+      (throughout_both (WritesOnly to_output) h.first h.rest (may_packet Input to_output h.first h.between h.does) (may_after h.between h.rest h.goes))

@@ -20,10 +20,12 @@ use Rattle.outside.specs.Packets.{PacketView, TakesPacket, packet_view}
 use Rattle.outside.specs.Packets as taken
 use Rattle.outside.specs.Pieces.{Writes}
 use Rattle.outside.specs.Printing.{Prints}
-use Rattle.outside.specs.Steps.{Step, again, leave, Begins, Did, Grows, Loops, Reaches, Then}
+use Rattle.outside.specs.Begun.{Did, DidIn, to_output}
+use Rattle.outside.specs.Steps.{Step, again, leave, Begins, Grows, Loops, Reaches, Then}
 use Rattle.outside.specs.Steps as steps
 use Rattle.outside.specs.declared.packets.Packet.{Packet}
-use Rattle.outside.proofs.Growing.{did_none, did_then, loop_left, loop_stopped, reached_none, reached_turn}
+use Rattle.outside.proofs.TakenPackets.{may_packet}
+use Rattle.outside.proofs.Growing.{did_any, did_both, did_more, did_none, did_then, loop_left, loop_stopped, reached_none, reached_turn}
 use Rattle.schema_files.specs.Lines.{input_line}
 use Rattle.call_commands.specs.Answering.{SaysRefused, TellsPacket, TellsUnpacked}
 use Rattle.call_commands.specs.CallReports.{ContentRefused, Tells}
@@ -33,7 +35,7 @@ use Rattle.call_rooms.specs.Calls.{SoFar, so_far, Last, TellsRefusal, after_line
 use Rattle.call_rooms.specs.inner.Turning.{EndsMade, GoesOn, IsNext, Turns, turn_of}
 use Rattle.call_rooms.specs.declared.turns.Turn.{Turn}
 use Rattle.call_rooms.specs.declared.turns.Turn.TheVariants as turn
-use Rattle.call_rooms.proofs.Going.{can_refuse, did_last, last_stopped, leaves}
+use Rattle.call_rooms.proofs.Going.{can_refuse, did_last, last_stopped, leaves, may_next}
 
 module _ (schema : Declared) (new : CallsView) (past : Log) where
   -- ---- the run ends
@@ -61,9 +63,9 @@ module _ (schema : Declared) (new : CallsView) (past : Log) where
 
   module _ (at : ℕ) where
     then_turn : (p m q : HostState) (v : PacketView) (r : Result Turn AllocError) → Did (TakesPacket Input) p m (Some v) → Turns (after_packet schema (so_far past at) v) schema new past m q r → Turns (TellsNext schema (so_far past at)) schema new past p q r
-    then_turn p m q v (Ok (turn.Next end)) h (e, stands, d) = (e, stands, did_then (TakesPacket Input) (after_packet schema (so_far past at)) p m q v (Some (again (so_far (e ∷ past) end))) h d)
-    then_turn p m q v (Ok (turn.Last status)) h d = did_then (TakesPacket Input) (after_packet schema (so_far past at)) p m q v (Some (leave status)) h d
-    then_turn p m q v (Err e) h d = did_then (TakesPacket Input) (after_packet schema (so_far past at)) p m q v None h d
+    then_turn p m q v (Ok (turn.Next end)) h (e, stands, d) = (e, stands, did_both (TakesPacket Input) (after_packet schema (so_far past at)) p m q v (again (so_far (e ∷ past) end)) h d)
+    then_turn p m q v (Ok (turn.Last status)) h d = did_both (TakesPacket Input) (after_packet schema (so_far past at)) p m q v (leave status) h d
+    then_turn p m q v (Err e) h d = did_then (TakesPacket Input) (after_packet schema (so_far past at)) p m q v None (may_packet Input []) h d
 
     pub taken_turn : (p m q : HostState) (x : Packet) (v : PacketView) (r : Result Turn AllocError) → packet_view x ≡ v → Did (TakesPacket Input) p m (Some (packet_view x)) → Turns (after_packet schema (so_far past at) v) schema new past m q r
         → Turns (TellsNext schema (so_far past at)) schema new past p q r
@@ -145,8 +147,8 @@ module _ (schema : Declared) where
         let next = so_far (d.0 ∷ so.past) end in
         record { past = d.0 ∷ so.past; stands = d.1; reached = reached_turn (TellsNext schema) (so_far [] 0) (so_far so.past at) next (again next) p m q refl so.reached d.2 }
 
-    pub run_left : (x : Turn) (status : Status) → x ≡ turn.Last status → DoesNext (Ok x) → Did (TellsPackets schema) p q (Some status)
-    run_left x status is does = loop_left (TellsNext schema) (so_far [] 0) (so_far so.past at) (leave status) status p m q refl so.reached (done_so x (turn.Last status) is does)
+    pub run_left : (x : Turn) (status : Status) → x ≡ turn.Last status → DoesNext (Ok x) → DidIn to_output (TellsPackets schema) p q (Some status)
+    run_left x status is does = loop_left (TellsNext schema) (so_far [] 0) (so_far so.past at) (leave status) status p m q refl so.reached (did_any _ m q _ (done_so x (turn.Last status) is does))
 
-    pub run_stopped : (e : AllocError) → DoesNext (Err e) → Did (TellsPackets schema) p q None
-    run_stopped e does = loop_stopped (TellsNext schema) (so_far [] 0) (so_far so.past at) p m q (leaves schema) so.reached (does so.past so.stands)
+    pub run_stopped : (e : AllocError) → DoesNext (Err e) → DidIn to_output (TellsPackets schema) p q None
+    run_stopped e does = loop_stopped (TellsNext schema) (so_far [] 0) (so_far so.past at) p m q (leaves schema) (λ x n t h. may_next schema x n t h) so.reached (did_more (TellsNext schema (so_far so.past at)) m q None (does so.past so.stands))

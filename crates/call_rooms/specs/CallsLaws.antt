@@ -5,11 +5,11 @@ use Rattle.tl_base.specs.declared.host.Out.TheVariants.{Output}
 use Rattle.command_base.specs.Answer.{Answer}
 use Rattle.command_base.specs.declared.status.Status.{Status}
 use Rattle.outside.specs.Events.{Event, Outside}
-use Rattle.outside.specs.Runs.{Runs}
+use Rattle.outside.specs.Runs.{RunsIn}
 use Rattle.mem_host.specs.Fits.{Fits}
 use Rattle.codec_rooms.specs.Laws.{Command, IsAnswer}
 
 -- A run that neither the outside nor memory stopped ends by an answer to the first files with the names: that is its status, and Output has grown by it.
 abbrev pub EndsByAnswer : Command → Type 0
-EndsByAnswer c = (t : List Event) (status : Status) (s n : Outside) → Runs c.work t status → Fits t s n → IsAnswer status
+EndsByAnswer c = (t : List Event) (status : Status) (s n : Outside) → RunsIn c.writes c.work t status → Fits t s n → IsAnswer status
     → (a : Answer) × c.answers s.view.files a × (status ≡ a.status) × (written_of Output n.view ≡ written_of Output s.view ++ a.output)

@@ -1,7 +1,7 @@
 //! `calls`: a schema's file is read, the input's is opened, and its packets are told one by one.
 ghost use Rattle.std.specs.Prelude.{codes, ◌≡◌};
-ghost use Rattle.outside.specs.Runs.{Ran, answered};
-ghost use Rattle.outside.specs.Steps.{Did};
+ghost use Rattle.outside.specs.Runs.{RanIn, answered};
+ghost use Rattle.outside.specs.Begun.{DidIn, to_output};
 ghost use Rattle.tl_schema.specs.CheckedPrograms.{IsSchema};
 ghost use Rattle.codec_rooms.specs.Typed.{OfText};
 ghost use Rattle.call_rooms.specs.Calls.{OfInput, tells_calls};
@@ -25,7 +25,7 @@ fn tell_input<H: Host>(
 ) -> Result<Status, AllocError>
     requires same { printer.now.schema.now ≡ schema.now }
     requires good { IsSchema schema.now }
-    ensures { Did (OfInput input.now schema.now) (H.state host.old) (H.state host.new) (answered result) }
+    ensures { DidIn to_output (OfInput input.now schema.now) (H.state host.old) (H.state host.new) (answered result) }
 {
     match host.open_slot(Slot::Input, input) {
         Ok(()) => tell_packets(alloc, host, schema, printer),
@@ -41,7 +41,7 @@ fn tell_schema<H: Host>(
     input: &str,
 ) -> Result<Status, AllocError>
     requires { IsSchema schema.now }
-    ensures { Did (OfInput input.now schema.now) (H.state host.old) (H.state host.new) (answered result) }
+    ensures { DidIn to_output (OfInput input.now schema.now) (H.state host.old) (H.state host.new) (answered result) }
 {
     let printer = JsonPrinter::new(alloc, schema)?;
     tell_input(alloc, host, schema, &printer, input)
@@ -54,7 +54,7 @@ fn tell_text<H: Host>(
     text: &[u8],
     input: &str,
 ) -> Result<Status, AllocError>
-    ensures { Did (OfText (codes "schema") (OfInput input.now) text.now) (H.state host.old) (H.state host.new) (answered result) }
+    ensures { DidIn to_output (OfText (codes "schema") (OfInput input.now) text.now) (H.state host.old) (H.state host.new) (answered result) }
 {
     match schema_of(alloc, "schema", text) {
         Ok(schema) => tell_schema(alloc, host, &schema, input),
@@ -69,7 +69,7 @@ pub fn tell_calls<H: Host>(
     schema: &str,
     input: &str,
 ) -> Result<Status, AllocError>
-    ensures { Did (tells_calls schema.now input.now) (H.state host.old) (H.state host.new) (answered result) }
+    ensures { DidIn to_output (tells_calls schema.now input.now) (H.state host.old) (H.state host.new) (answered result) }
 {
     match read_file(alloc, host, Slot::Schema, schema, SCHEMA_BYTES)? {
         Some(text) => tell_text(alloc, host, &text, input),
@@ -79,7 +79,7 @@ pub fn tell_calls<H: Host>(
 
 /// Likewise, to the end of the run: out of memory is told.
 pub fn run_calls<H: Host>(alloc: Global, host: &mut H, schema: &str, input: &str) -> Status
-    ensures { Ran (tells_calls schema.now input.now) (H.state host.old) (H.state host.new) result }
+    ensures { RanIn to_output (tells_calls schema.now input.now) (H.state host.old) (H.state host.new) result }
 {
     let done = tell_calls(alloc, host, schema, input);
     finish(host, done)

@@ -1,7 +1,8 @@
 //! Laws of what `calls` does.
 ghost use Rattle.std.specs.Prelude.{ℕ, List};
+ghost use Rattle.outside.specs.Begun.{to_output};
 ghost use Rattle.outside.specs.Laws.{HasCause};
-ghost use Rattle.outside.specs.Runs.{Runs};
+ghost use Rattle.outside.specs.Runs.{RunsIn};
 ghost use Rattle.codec_rooms.specs.Laws.{ReadsFiles, Touches};
 ghost use Rattle.call_rooms.specs.CallsLaws.{EndsByAnswer};
 ghost use Rattle.call_rooms.specs.Commands.{calls};
@@ -14,7 +15,7 @@ pub fn calls_touches()
 
 /// It ends by the status of a fault only where a call of that kind failed.
 pub fn calls_has_cause()
-    ensures { (schema input : List ℕ) → HasCause (Runs (calls schema input).work) }
+    ensures { (schema input : List ℕ) → HasCause (RunsIn to_output (calls schema input).work) }
 {}
 
 /// Where the files are there and no call was told to fail, no read fault ends it.

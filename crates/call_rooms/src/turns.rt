@@ -8,7 +8,8 @@ ghost use Rattle.tl_calls.specs.Events.{Log};
 ghost use Rattle.command_base.specs.Jobs.{of_fault};
 ghost use Rattle.outside.specs.Pieces.{Writes};
 ghost use Rattle.outside.specs.Runs.{answered};
-ghost use Rattle.outside.specs.Steps.{Did, Then};
+ghost use Rattle.outside.specs.Begun.{Did, DidIn, to_output};
+ghost use Rattle.outside.specs.Steps.{Then};
 ghost use Rattle.call_rooms.specs.Calls.{OfPacket, TellsNext, TellsPackets, after_line, so_far};
 ghost use Rattle.call_rooms.specs.inner.Turning.{EndsMade, GoesOn, IsNext, Turns, turn_of};
 
@@ -117,7 +118,7 @@ pub fn tell_packets<H: Host>(
 ) -> Result<Status, AllocError>
     requires same { printer.now.schema.now ≡ schema.now }
     requires good { IsSchema schema.now }
-    ensures { Did (TellsPackets schema.now) (H.state host.old) (H.state host.new) (answered result) }
+    ensures { DidIn to_output (TellsPackets schema.now) (H.state host.old) (H.state host.new) (answered result) }
 {
     let mut calls = Calls::new(alloc);
     let mut at = 0u64;

@@ -10,10 +10,12 @@ use Rattle.command_base.specs.declared.status.Status.{Status}
 use Rattle.command_base.specs.declared.stop.Unmade.{Unmade}
 use Rattle.outside.specs.Events.{Event, HostState, opened}
 use Rattle.outside.specs.Printing.{Answers, Makes, Prints, PrintsMade}
-use Rattle.outside.specs.Steps.{Begins, Did, Then}
+use Rattle.outside.specs.Begun.{Did, WritesOnly}
+use Rattle.outside.specs.Steps.{Begins, Then}
 use Rattle.outside.proofs.Growing.{did_stop, did_then}
 use Rattle.outside.proofs.Piecewise.{can_tell}
 use Rattle.outside.proofs.Printed.{can_print, made_printed}
+use Rattle.codec_rooms.proofs.InputRead.{keeps_value}
 use Rattle.codec_rooms.specs.Decode.{Verdict, ReadsValue, answer_of, printed, after_reading, OfBytes}
 use Rattle.codec_rooms.specs.inner.Feeding.{MakesAs, MakesVerdict}
 use Rattle.codec_rooms.proofs.Typing.{did_as, refused_made}
@@ -34,7 +36,7 @@ as_printed None m p q answer makes h = subst (λ (x : Making). PrintsMade x p q 
 -- what was read is printed, or memory ran out in between
 pub read_printed : (schema : Declared) (T : Shape) (o : Option Verdict) (m : Making) (p q r : HostState) (answer : Option Status) → Did (ReadsValue schema T) p q o → MakesVerdict schema T o m
     → PrintsMade m q r answer → Did (Then (ReadsValue schema T) (after_reading schema T)) p r answer
-read_printed schema T (Some v) m p q r answer read makes h = did_then (ReadsValue schema T) (after_reading schema T) p q r v answer read (as_printed (answer_of schema T v) m q r answer makes h)
+read_printed schema T (Some v) m p q r answer read makes h = did_then (ReadsValue schema T) (after_reading schema T) p q r v answer (keeps_value schema T (WritesOnly []) (λ b. tt) tt tt) read (as_printed (answer_of schema T v) m q r answer makes h)
 read_printed schema T None m p q r answer read makes h =
     let out = subst (λ (x : Making). PrintsMade x q r answer) makes h in
     subst (λ (x : Option Status). Did (Then (ReadsValue schema T) (after_reading schema T)) p r x) (sym out.0)

@@ -27,23 +27,12 @@ use Rattle.codec_rooms.specs.Commands.{decode}
 use Rattle.codec_rooms.specs.Decode.{Verdict, Decides, faulty, longer, HasVerdict, cut_off, is_value, ReadsOn, more, decided, at_end, failed, ReadsValue, at_once, reads, answer_of, printed, after_reading, after_opening, OfBytes, decodes, decodes_by}
 use Rattle.codec_rooms.specs.Laws.{Named, IsRead, IsOf, Touches, AnswersFiles, ReadsFiles, EndsFiles}
 use Rattle.codec_rooms.proofs.FileLaws.{ComesTo, unread, Comes, comes_as, comes_print, comes_then, touches, answers_files, reads_files, ends_files}
+use Rattle.codec_rooms.proofs.InputRead.{keeps_value}
 use Rattle.codec_rooms.proofs.InputLeft.{left_is, value_meant}
 use Rattle.codec_rooms.proofs.TypedFiles.{comes_of_file, comes_word}
 use Rattle.codec_rooms.proofs.TypedLaws.{keeps_word, keeps_named, cause_of_file, cause_word}
 
 -- ---- what it does
-
-module _ (D : Declared) (T : Shape) where
-  module _ (P : Event → Type 0) (each : (bytes : List ℕ) → P (took Input bytes)) (end : P (ended Input)) (fail : P (read_failed Input)) where
-    keeps_read : (bytes : List ℕ) → Keeps P (ReadsOn D T bytes)
-    keeps_read bytes t _ (more piece is o) = subst (Throughout P) (sym is) (each piece, tt)
-    keeps_read bytes t _ (decided piece why is d) = subst (Throughout P) (sym is) (each piece, tt)
-    keeps_read bytes t _ (at_end r is e) = subst (Throughout P) (sym is) (end, tt)
-    keeps_read bytes t _ (failed is) = subst (Throughout P) (sym is) (fail, tt)
-
-    keeps_value : Keeps P (ReadsValue D T)
-    keeps_value t r (at_once why none d is) = subst (Throughout P) (sym none) tt
-    keeps_value t r (reads o h) = keeps_loop P (ReadsOn D T) keeps_read [] t r h
 
 module _ (schema type input : List ℕ) where
   abbrev own : Named

@@ -3,6 +3,7 @@ use Rattle.std.proofs.Common.{◌≡◌, ℕ, List, [], ◌∷◌, ◌++◌, len
 use Rattle.tl_base.specs.Contents.{Files}
 use Rattle.tl_base.specs.Outside.{Written, IsThere, HasRoom, out_part, written_of}
 use Rattle.tl_base.specs.declared.host.Slot.{Slot}
+use Rattle.tl_base.specs.declared.host.Out.{Out}
 use Rattle.tl_base.specs.declared.host.Out.TheVariants.{Output, Errors}
 use Rattle.command_base.specs.Answer.{Answer, memory_line, write_fault_line}
 use Rattle.command_base.specs.declared.status.Status.{Status}
@@ -11,7 +12,7 @@ use Rattle.outside.specs.Events.{Event, Outside, opened, took, ended, read_faile
 use Rattle.outside.specs.Laws.{Happened, Throughout, Keeps, HasCause}
 use Rattle.outside.specs.Pieces.{Writes, Tells}
 use Rattle.outside.specs.Printing.{Prints, after_output}
-use Rattle.outside.specs.Runs.{Runs, done, out_of_memory}
+use Rattle.outside.specs.Runs.{RunsIn, done, out_of_memory}
 use Rattle.outside.specs.Steps.{Step, Then}
 use Rattle.outside.proofs.Causing.{keeps_begun, keeps_tell, throughout_both, told_status}
 use Rattle.mem_host.specs.Fits.{Fits}
@@ -131,7 +132,7 @@ answer_status Is t status (answered a first rest splits reading has h) is = (a, 
 -- ---- the laws
 
 -- a run that memory didn't stop is the work
-pub run_done : (work : Step Status) (t : List Event) (status : Status) → Runs work t status → (status ≡ Memory → ⊥) → work t status
+pub run_done : {outs : List Out} (work : Step Status) (t : List Event) (status : Status) → RunsIn outs work t status → (status ≡ Memory → ⊥) → work t status
 run_done work t status (done h) other = h
 run_done work t status (out_of_memory h) other = absurd (other (told_status memory_line h.between h.rest status h.goes ∙ h.does.1))
 
@@ -142,7 +143,7 @@ module _ (c : Command) where
       let P = IsOf c.reads in
       subst (Throughout P) (sym h.splits) (throughout_both P h.first h.rest (keeps_begun P c.work h.first keeps h.does.0) (keeps_tell P (λ _. tt) tt _ _ h.rest status h.goes))
 
-  pub reads_files : Touches c → HasCause (Runs c.work) → ReadsFiles c
+  pub reads_files : Touches c → HasCause (RunsIn c.writes c.work) → ReadsFiles c
   reads_files touched cause t s n h f r there = none_missing s c.reads there t (touched t ReadFault h) (reads_fail_alone t s n f r (cause t ReadFault h))
 
   module _ (comes : Comes (λ s. c.answers s.view.files) c.work) (one : (files : Files) (a b : Answer) → c.answers files a → c.answers files b → a ≡ b) where
@@ -152,10 +153,10 @@ module _ (c : Command) where
         (a.0, (a.1, λ b also. one s.view.files b a.0 also a.1), a.2)
 
     module _ (readable : ReadsFiles c) where
-      ends_so : (t : List Event) (status : Status) (s n : Outside) (a : Answer) → ComesTo (c.answers s.view.files) t status → Runs c.work t status → Fits t s n → IsReliable s
+      ends_so : (t : List Event) (status : Status) (s n : Outside) (a : Answer) → ComesTo (c.answers s.view.files) t status → RunsIn c.writes c.work t status → Fits t s n → IsReliable s
           → AreThere c.reads s.view → c.answers s.view.files a → HasRoom Output (length a.output) s.view
           → EndsAs a status s n
-      ends_so t status s n a (unread e) h f r there is room = absurd (readable t s n (subst (Runs c.work t) e h) f r there)
+      ends_so t status s n a (unread e) h f r there is room = absurd (readable t s n (subst (RunsIn c.writes c.work t) e h) f r there)
       ends_so t status s n a (answered b first rest splits reading of w) h f r there is room =
           let same : b ≡ a = one s.view.files b a of is in
           subst (λ (x : Answer). EndsAs x status s n) same

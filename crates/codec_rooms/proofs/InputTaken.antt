@@ -33,9 +33,11 @@ use Rattle.tl_decode.proofs.FedWhole.{IsCut, Stands, ends_later, feeds_more, fir
 use Rattle.tl_base.specs.declared.fault.Failed.{Failed}
 use Rattle.outside.specs.Events.{Event, HostState, took, ended, read_failed, given_event, read_events}
 use Rattle.outside.specs.Grown.{Grew}
-use Rattle.outside.specs.Steps.{Turn, again, leave, Reaches, Loops, Begins, Grows, Did}
+use Rattle.outside.specs.Begun.{Did, WritesOnly}
+use Rattle.outside.specs.Steps.{Turn, again, leave, Reaches, Loops, Begins, Grows}
 use Rattle.outside.proofs.Growing.{grew_none, Leaves, can_loop, did_none, loop_left, loop_stopped, reached_none, reached_turn}
 use Rattle.outside.proofs.Piecewise.{read_grew}
+use Rattle.codec_rooms.proofs.InputRead.{keeps_read}
 use Rattle.codec_rooms.specs.Decode.{Verdict, IsOpen, cut, whole as spelled, Decides, faulty, longer, cut_off, is_value, ReadsOn, more, decided, at_end, failed, ReadsValue, at_once, reads, verdict}
 use Rattle.codec_rooms.specs.inner.Feeding.{FeedsInput, EndsInput}
 use Rattle.codec_rooms.proofs.Typing.{did_as}
@@ -190,7 +192,7 @@ module _ (old new : DecoderView) (good : IsPlan old.plan) (T : Shape) (is : IsIn
     next_fault fault.Memory f =
         let x = taken_turn own T good.schema formed s.bytes piece all_are in
         looped own T p r None s.first
-        (loop_stopped (ReadsOn own T) [] s.bytes p q r (leaves own T) s.reached (record { trace = took Input piece ∷ []; grew = g; holds = record { rest = []; answer = x.0; whole = x.1 } }))
+        (loop_stopped (ReadsOn own T) [] s.bytes p q r (leaves own T) (λ x n u h. keeps_read own T (WritesOnly []) (λ b. tt) tt tt x u (again n) h) s.reached (record { trace = took Input piece ∷ []; grew = g; holds = record { rest = []; answer = x.0; whole = x.1; only = (tt, tt) } }))
 
     on : IsOpen own T (s.bytes ++ piece) → Grows p r (λ t. Reaches (ReadsOn own T) [] t (s.bytes ++ piece))
     on is_open =

@@ -1,3 +1,4 @@
+pub mod InputRead
 mod Checking
 pub mod Typing
 mod Encoding

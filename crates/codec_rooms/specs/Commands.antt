@@ -12,14 +12,14 @@ use Rattle.codec_rooms.specs.Layers.{compares}
 use Rattle.codec_rooms.specs.Laws.{Command}
 
 abbrev pub check : List ℕ → Command
-check schema = record { work = checks schema; reads = (Schema, schema) ∷ []; answers = λ files a. CheckAnswer files schema a }
+check schema = record { work = checks schema; writes = []; reads = (Schema, schema) ∷ []; answers = λ files a. CheckAnswer files schema a }
 
 abbrev pub decode : List ℕ → List ℕ → List ℕ → Command
-decode schema type input = record { work = decodes schema type input; reads = (Schema, schema) ∷ (Input, input) ∷ []; answers = λ files a. DecodeAnswer files schema type input a }
+decode schema type input = record { work = decodes schema type input; writes = []; reads = (Schema, schema) ∷ (Input, input) ∷ []; answers = λ files a. DecodeAnswer files schema type input a }
 
 abbrev pub encode : List ℕ → List ℕ → List ℕ → Command
-encode schema type input = record { work = encodes schema type input; reads = (Schema, schema) ∷ (Input, input) ∷ []; answers = λ files a. EncodeAnswer files schema type input a }
+encode schema type input = record { work = encodes schema type input; writes = []; reads = (Schema, schema) ∷ (Input, input) ∷ []; answers = λ files a. EncodeAnswer files schema type input a }
 
 -- the old schema is read by the slot Schema, the new one by the slot Input
 abbrev pub layers : List ℕ → List ℕ → List ℕ → Command
-layers old new type = record { work = compares old new type; reads = (Schema, old) ∷ (Input, new) ∷ []; answers = λ files a. LayersAnswer files old new type a }
+layers old new type = record { work = compares old new type; writes = []; reads = (Schema, old) ∷ (Input, new) ∷ []; answers = λ files a. LayersAnswer files old new type a }

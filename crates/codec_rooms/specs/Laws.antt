@@ -11,7 +11,7 @@ use Rattle.command_base.specs.declared.status.Status.{Status}
 use Rattle.command_base.specs.declared.status.Status.TheVariants.{ReadFault, WriteFault, Memory}
 use Rattle.outside.specs.Events.{Event, Outside, opened, took, ended, read_failed, created, put, write_failed, listened, connected, accepted, told}
 use Rattle.outside.specs.Laws.{Throughout}
-use Rattle.outside.specs.Runs.{Runs}
+use Rattle.outside.specs.Runs.{RunsIn}
 use Rattle.outside.specs.Steps.{Step}
 use Rattle.mem_host.specs.Fits.{Fits}
 use Rattle.mem_host.specs.Reliable.{IsReliable}
@@ -20,9 +20,10 @@ use Rattle.mem_host.specs.Reliable.{IsReliable}
 abbrev pub Named : Type 0
 Named = List (Slot × List ℕ)
 
--- what a command does, the files that it reads, and what it answers to files
+-- what a command does, the outs that it may have written to where memory runs out, the files that it reads, and what it answers to files
 pub record Command : Type 1 where
   pub work : Step Status
+  pub writes : List Out
   pub reads : Named
   pub answers : Files → Answer → Type 0
 
@@ -60,7 +61,7 @@ IsOf reads (told moment) = ⊥
 
 -- no run does anything else, also one that runs out of memory
 abbrev pub Touches : Command → Type 0
-Touches c = (t : List Event) (status : Status) → Runs c.work t status → Throughout (IsOf c.reads) t
+Touches c = (t : List Event) (status : Status) → RunsIn c.writes c.work t status → Throughout (IsOf c.reads) t
 
 -- ---- over files
 
@@ -74,7 +75,7 @@ IsOneAnswer c files a = c.answers files a × ((b : Answer) → c.answers files b
 
 -- that is the status of this answer
 abbrev pub AnswersFiles : Command → Type 0
-AnswersFiles c = (t : List Event) (status : Status) (s n : Outside) → Runs c.work t status → Fits t s n → IsAnswer status → (a : Answer) × IsOneAnswer c s.view.files a × (status ≡ a.status)
+AnswersFiles c = (t : List Event) (status : Status) (s n : Outside) → RunsIn c.writes c.work t status → Fits t s n → IsAnswer status → (a : Answer) × IsOneAnswer c s.view.files a × (status ≡ a.status)
 
 -- the files are there
 abbrev pub AreThere : Named → View → Type 0
@@ -82,7 +83,7 @@ AreThere reads v = AllByRecursion (λ r. IsThere r.1 v) reads
 
 -- where they are, and no call was told to fail, no read fault ends a run
 abbrev pub ReadsFiles : Command → Type 0
-ReadsFiles c = (t : List Event) (s n : Outside) → Runs c.work t ReadFault → Fits t s n → IsReliable s → AreThere c.reads s.view → ⊥
+ReadsFiles c = (t : List Event) (s n : Outside) → RunsIn c.writes c.work t ReadFault → Fits t s n → IsReliable s → AreThere c.reads s.view → ⊥
 
 -- the answer's status is the run's, Output has grown by the answer's, and Errors by its line, where that has room for it
 pub record EndsAs (a : Answer) (status : Status) (s n : Outside) : Type 0 where
@@ -92,5 +93,5 @@ pub record EndsAs (a : Answer) (status : Status) (s n : Outside) : Type 0 where
 
 -- where Output too has room for the answer, a run that memory didn't stop ends by it
 abbrev pub EndsFiles : Command → Type 0
-EndsFiles c = (t : List Event) (status : Status) (s n : Outside) (a : Answer) → Runs c.work t status → status ≢ Memory → Fits t s n → IsReliable s → AreThere c.reads s.view
+EndsFiles c = (t : List Event) (status : Status) (s n : Outside) (a : Answer) → RunsIn c.writes c.work t status → status ≢ Memory → Fits t s n → IsReliable s → AreThere c.reads s.view
     → c.answers s.view.files a → HasRoom outs.Output (length a.output) s.view → EndsAs a status s n

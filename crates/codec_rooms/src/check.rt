@@ -1,7 +1,7 @@
 //! `check`: a schema's file is read, and the list of its declarations is written.
 ghost use Rattle.std.specs.Prelude.{codes};
 ghost use Rattle.outside.specs.Runs.{Ran, answered};
-ghost use Rattle.outside.specs.Steps.{Did};
+ghost use Rattle.outside.specs.Begun.{Did};
 ghost use Rattle.codec_rooms.specs.Check.{checks, lists};
 ghost use Rattle.codec_rooms.specs.Typed.{OfText};
 

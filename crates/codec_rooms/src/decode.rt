@@ -1,7 +1,7 @@
 //! `decode`: a schema's file is read, its type is looked for, the input is read piece by piece, and the line of its value is written.
 ghost use Rattle.std.specs.Prelude.{codes, true};
 ghost use Rattle.outside.specs.Runs.{Ran, answered};
-ghost use Rattle.outside.specs.Steps.{Did};
+ghost use Rattle.outside.specs.Begun.{Did};
 ghost use Rattle.tl_schema.specs.Formed.{IsFormed};
 ghost use Rattle.tl_schema.specs.Seen.{shape};
 ghost use Rattle.command_base.specs.Jobs.{making};

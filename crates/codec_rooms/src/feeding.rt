@@ -1,6 +1,6 @@
 //! An input that is read piece by piece into a decoder.
 ghost use Rattle.std.specs.Prelude.{◌<◌, [], IfOk};
-ghost use Rattle.outside.specs.Steps.{Did};
+ghost use Rattle.outside.specs.Begun.{Did};
 ghost use Rattle.tl_plan.specs.Plans.{IsPlan};
 ghost use Rattle.tl_plan.specs.PlanLaws.{IsInstance};
 ghost use Rattle.tl_schema.specs.Formed.{IsFormed};

@@ -1,7 +1,7 @@
 //! `layers`: an old schema's file is read, a type of it is looked for, the new schema's file is read, and it is told what the type reaches or what breaks.
 ghost use Rattle.std.specs.Prelude.{codes};
 ghost use Rattle.outside.specs.Runs.{Ran, answered};
-ghost use Rattle.outside.specs.Steps.{Did};
+ghost use Rattle.outside.specs.Begun.{Did};
 ghost use Rattle.tl_schema.specs.CheckedPrograms.{IsSchema};
 ghost use Rattle.tl_schema.specs.Formed.{IsFormed};
 ghost use Rattle.tl_schema.specs.Seen.{shape};

@@ -1,7 +1,7 @@
 //! `decode`, `encode` and `layers` up to where they part: a schema's file is read, and a type of it is looked for.
 ghost use Rattle.std.specs.Prelude.{codes};
 ghost use Rattle.outside.specs.Runs.{answered};
-ghost use Rattle.outside.specs.Steps.{Did};
+ghost use Rattle.outside.specs.Begun.{Did};
 ghost use Rattle.tl_schema.specs.CheckedPrograms.{IsSchema};
 ghost use Rattle.tl_schema.specs.Formed.{IsFormed};
 ghost use Rattle.tl_schema.specs.Seen.{shape};

@@ -12,8 +12,9 @@ use Rattle.outside.specs.Events.{Event, opened, took, ended, read_failed, put, w
 use Rattle.outside.specs.Laws.{Happened, Throughout, Keeps, IsFailure, IsFromLink, Explains, HasCause}
 use Rattle.outside.specs.Pieces.{InPieces, TakenView, full, short, broken, Takes, Writes, Tells, ReadsFile, after_open, text_of}
 use Rattle.outside.specs.Printing.{Prints, after_output, Answers}
-use Rattle.outside.specs.Runs.{Runs, done, out_of_memory}
-use Rattle.outside.specs.Steps.{Step, StepOf, Ends, Calls, Then, Turn, again, leave, Reaches, here, turn, Loops, Begins}
+use Rattle.outside.specs.Runs.{RunsIn, done, out_of_memory}
+use Rattle.outside.specs.Steps.{Step, StepOf, Ends, Calls, Then, Turn, again, leave, Reaches, here, turn, Loops}
+use Rattle.outside.specs.Begun.{BeginsIn}
 
 -- ---- what happened in a part happened
 
@@ -96,7 +97,7 @@ module _ (P : Event → Type 0) where
       keeps_answer Is t status (a, is, h) = keeps_print a t status h
 
   -- likewise of the beginning of a step
-  pub keeps_begun : {A : Type 0} (S : Step A) (t : List Event) → Keeps P S → Begins S t → Throughout P t
+  pub keeps_begun : {A : Type 0} {outs : List Out} (S : Step A) (t : List Event) → Keeps P S → BeginsIn outs S t → Throughout P t
   keeps_begun S t keeps m = throughout_first P t m.rest (keeps (t ++ m.rest) m.answer m.whole)
 
 -- ---- why a fault's status came
@@ -168,6 +169,6 @@ unread_file slot name limit t h = subst (Happened (IsFailure (slot_kind slot))) 
 -- ---- a run
 
 -- out of memory is no fault of the outside
-pub cause_run : (work : Step Status) → HasCause work → HasCause (Runs work)
+pub cause_run : {outs : List Out} (work : Step Status) → HasCause work → HasCause (RunsIn outs work)
 cause_run work cause t status (done h) = cause t status h
 cause_run work cause t status (out_of_memory h) = subst (Explains status) (sym h.splits) (cause_tell _ h.between h.first h.rest status (subst (λ (s : Status). Explains s h.first) (sym h.does.1) tt) h.goes)

@@ -1,10 +1,15 @@
 -- Laws of pasts that grow, and of steps that are done one after the other.
 use Rattle.std.proofs.Common.{◌≡◌, List, [], ◌∷◌, ◌++◌, Option, Some, None, refl, sym, ap, ◌∙◌, subst}
 use Rattle.std.proofs.lemmas.List.{append-nil, append_assoc}
+use Rattle.tl_base.specs.declared.host.Out.{Out}
 use Rattle.tl_base.specs.declared.counts.Counts.{Counts}
 use Rattle.outside.specs.Events.{Event, Past, HostState, counted, counted_all}
+use Rattle.outside.proofs.Causing.{throughout_both}
 use Rattle.outside.specs.Grown.{PastGrew, Grew}
-use Rattle.outside.specs.Steps.{Step, Ends, Calls, Then, Turn, again, leave, Reaches, here, turn, Loops, Begins, Grows, Did}
+use Rattle.outside.specs.Begun.{BeginsIn, Did, DidIn, WritesOnly}
+use Rattle.outside.proofs.Begun.{more_may}
+use Rattle.outside.specs.Laws.{Throughout, Keeps}
+use Rattle.outside.specs.Steps.{Step, Ends, Calls, Then, Turn, again, leave, Reaches, here, turn, Loops, Begins, Grows}
 
 past_more : (p q r : Option Past) (t u : List Event) → PastGrew p t q → PastGrew q u r → PastGrew p (t ++ u) r
 past_more None None None t u a b = tt
@@ -39,44 +44,74 @@ grew_more a b c t u g h = record {
 pub grows_call : (a b c : HostState) (P Q : List Event → Type 0) (e : Event) → ((t : List Event) → P t → Q (t ++ e ∷ [])) → Grows a b P → Grew b (e ∷ []) c → Grows a c Q
 grows_call a b c P Q e f g h = record { trace = g.trace ++ e ∷ []; grew = grew_more a b c g.trace (e ∷ []) g.grew h; holds = f g.trace g.holds }
 
-pub did_grow : {A : Type 0} (S : Step A) (a b : HostState) (x : A) → Grows a b (λ t. S t x) → Did S a b (Some x)
+pub did_grow : {A : Type 0} {outs : List Out} (S : Step A) (a b : HostState) (x : A) → Grows a b (λ t. S t x) → DidIn outs S a b (Some x)
 did_grow S a b x g = record { trace = g.trace; grew = g.grew; holds = g.holds }
 
 -- one call that answers
-pub did_call : {A : Type 0} (event : A → Event) (a b : HostState) (x : A) → Grew a (event x ∷ []) b → Did (Calls event) a b (Some x)
+pub did_call : {A : Type 0} {outs : List Out} (event : A → Event) (a b : HostState) (x : A) → Grew a (event x ∷ []) b → DidIn outs (Calls event) a b (Some x)
 did_call event a b x g = record { trace = event x ∷ []; grew = g; holds = refl }
 
-pub did_nothing : {A : Type 0} (a : HostState) (x : A) → Did (Ends x) a a (Some x)
+pub did_nothing : {A : Type 0} {outs : List Out} (a : HostState) (x : A) → DidIn outs (Ends x) a a (Some x)
 did_nothing a x = record { trace = []; grew = grew_none a; holds = (refl, refl) }
+
+-- where nothing is written, nothing is written but to these
+throughout_more : (outs : List Out) (t : List Event) → Throughout (WritesOnly []) t → Throughout (WritesOnly outs) t
+throughout_more outs [] h = tt
+throughout_more outs (e ∷ t) h = (more_may outs e h.0, throughout_more outs t h.1)
+
+pub did_more : {A : Type 0} {outs : List Out} (S : Step A) (p q : HostState) (x : Option A) → Did S p q x → DidIn outs S p q x
+did_more S p q (Some a) h = record { trace = h.trace; grew = h.grew; holds = h.holds }
+did_more {outs = outs} S p q None h = record { trace = h.trace; grew = h.grew; holds = record { rest = h.holds.rest; answer = h.holds.answer; whole = h.holds.whole; only = throughout_more outs h.trace h.holds.only } }
+
+-- what has an answer is so, whatever may be written where memory runs out
+pub did_any : {A : Type 0} {few outs : List Out} (S : Step A) (p q : HostState) (x : A) → DidIn few S p q (Some x) → DidIn outs S p q (Some x)
+did_any S p q x h = record { trace = h.trace; grew = h.grew; holds = h.holds }
+
+pub begun : {A : Type 0} {outs : List Out} (S : Step A) (t : List Event) → BeginsIn outs S t → Begins S t
+begun S t m = record { rest = m.rest; answer = m.answer; whole = m.whole }
 
 -- ---- steps one after the other
 
-pub did_then : {A B : Type 0} (S : Step A) (W : A → Step B) (p q r : HostState) (a : A) (b : Option B) → Did S p q (Some a) → Did (W a) q r b → Did (Then S W) p r b
-did_then S W p q r a (Some b) g h = record {
+-- a step, and what follows of its answer
+pub did_then : {A B : Type 0} {outs : List Out} (S : Step A) (W : A → Step B) (p q r : HostState) (a : A) (b : Option B) → Keeps (WritesOnly outs) S → DidIn outs S p q (Some a) → DidIn outs (W a) q r b → DidIn outs (Then S W) p r b
+did_then S W p q r a (Some b) keeps g h = record {
   trace = g.trace ++ h.trace;
   grew = grew_more p q r g.trace h.trace g.grew h.grew;
   holds = record { first = g.trace; rest = h.trace; between = a; splits = refl; does = g.holds; goes = h.holds };
 }
-did_then S W p q r a None g h =
+did_then {outs = outs} S W p q r a None keeps g h =
     let m = h.holds in
     record {
       trace = g.trace ++ h.trace;
       grew = grew_more p q r g.trace h.trace g.grew h.grew;
-      holds = record { rest = m.rest; answer = m.answer; whole = record { first = g.trace; rest = h.trace ++ m.rest; between = a; splits = append_assoc g.trace h.trace m.rest; does = g.holds; goes = m.whole } };
+      holds = record {
+        rest = m.rest;
+        answer = m.answer;
+        whole = record { first = g.trace; rest = h.trace ++ m.rest; between = a; splits = append_assoc g.trace h.trace m.rest; does = g.holds; goes = m.whole };
+        only = throughout_both (WritesOnly outs) g.trace h.trace (keeps g.trace a g.holds) m.only;
+      };
     }
 
+-- likewise, where it is done to its end
+pub did_both : {A B : Type 0} {outs : List Out} (S : Step A) (W : A → Step B) (p q r : HostState) (a : A) (b : B) → DidIn outs S p q (Some a) → DidIn outs (W a) q r (Some b) → DidIn outs (Then S W) p r (Some b)
+did_both S W p q r a b g h = record {
+  trace = g.trace ++ h.trace;
+  grew = grew_more p q r g.trace h.trace g.grew h.grew;
+  holds = record { first = g.trace; rest = h.trace; between = a; splits = refl; does = g.holds; goes = h.holds };
+}
+
 -- what follows of a step can be, whatever it answered
-pub did_stop_by : {A B : Type 0} (S : Step A) (W : A → Step B) (p q : HostState) → ((t : List Event) (a : A) → S t a → Begins (W a) []) → Did S p q None → Did (Then S W) p q None
+pub did_stop_by : {A B : Type 0} {outs : List Out} (S : Step A) (W : A → Step B) (p q : HostState) → ((t : List Event) (a : A) → S t a → Begins (W a) []) → DidIn outs S p q None → DidIn outs (Then S W) p q None
 did_stop_by S W p q can g =
     let m = g.holds in
     let n = can (g.trace ++ m.rest) m.answer m.whole in
     record {
       trace = g.trace;
       grew = g.grew;
-      holds = record { rest = m.rest ++ n.rest; answer = n.answer; whole = record { first = g.trace ++ m.rest; rest = n.rest; between = m.answer; splits = sym (append_assoc g.trace m.rest n.rest); does = m.whole; goes = n.whole } };
+      holds = record { rest = m.rest ++ n.rest; answer = n.answer; whole = record { first = g.trace ++ m.rest; rest = n.rest; between = m.answer; splits = sym (append_assoc g.trace m.rest n.rest); does = m.whole; goes = n.whole }; only = m.only };
     }
 
-pub did_stop : {A B : Type 0} (S : Step A) (W : A → Step B) (p q : HostState) → ((a : A) → Begins (W a) []) → Did S p q None → Did (Then S W) p q None
+pub did_stop : {A B : Type 0} {outs : List Out} (S : Step A) (W : A → Step B) (p q : HostState) → ((a : A) → Begins (W a) []) → DidIn outs S p q None → DidIn outs (Then S W) p q None
 did_stop S W p q can = did_stop_by S W p q (λ t a h. can a)
 
 pub can_end : {A : Type 0} (x : A) → Begins {E = Event} (Ends x) []
@@ -88,23 +123,26 @@ can_then S W m can =
     record { rest = m.rest ++ n.rest; answer = n.answer; whole = record { first = m.rest; rest = n.rest; between = m.answer; splits = refl; does = m.whole; goes = n.whole } }
 
 -- memory may run out before anything happens
-pub did_none : {A : Type 0} (S : Step A) (p : HostState) → Begins S [] → Did S p p None
-did_none S p m = record { trace = []; grew = grew_none p; holds = m }
+pub did_none : {A : Type 0} {outs : List Out} (S : Step A) (p : HostState) → Begins S [] → DidIn outs S p p None
+did_none S p m = record { trace = []; grew = grew_none p; holds = record { rest = m.rest; answer = m.answer; whole = m.whole; only = tt } }
 
 -- ---- loops
 
 pub reached_none : {S A : Type 0} (body : S → Step (Turn S A)) (s : S) (p : HostState) → Grows p p (λ t. Reaches body s t s)
 reached_none body s p = record { trace = []; grew = grew_none p; holds = here [] s refl refl }
 
-pub reached_turn : {S A : Type 0} (body : S → Step (Turn S A)) (s m n : S) (x : Turn S A) (p q r : HostState) → x ≡ again n → Grows p q (λ t. Reaches body s t m) → Did (body m) q r (Some x) → Grows p r (λ t. Reaches body s t n)
+pub reached_turn : {S A : Type 0} {outs : List Out} (body : S → Step (Turn S A)) (s m n : S) (x : Turn S A) (p q r : HostState) → x ≡ again n → Grows p q (λ t. Reaches body s t m) → DidIn outs (body m) q r (Some x) → Grows p r (λ t. Reaches body s t n)
 reached_turn body s m n x p q r is g h = record { trace = g.trace ++ h.trace; grew = grew_more p q r g.trace h.trace g.grew h.grew; holds = turn (g.trace ++ h.trace) g.trace h.trace m n refl g.holds (subst (body m h.trace) is h.holds) }
 
-pub loop_left : {S A : Type 0} (body : S → Step (Turn S A)) (s m : S) (x : Turn S A) (a : A) (p q r : HostState) → x ≡ leave a → Grows p q (λ t. Reaches body s t m) → Did (body m) q r (Some x) → Did (Loops body s) p r (Some a)
+pub loop_left : {S A : Type 0} {outs : List Out} (body : S → Step (Turn S A)) (s m : S) (x : Turn S A) (a : A) (p q r : HostState) → x ≡ leave a → Grows p q (λ t. Reaches body s t m) → DidIn outs (body m) q r (Some x) → DidIn outs (Loops body s) p r (Some a)
 loop_left body s m x a p q r is g h = record { trace = g.trace ++ h.trace; grew = grew_more p q r g.trace h.trace g.grew h.grew; holds = record { first = g.trace; rest = h.trace; between = m; splits = refl; does = g.holds; goes = subst (body m h.trace) is h.holds } }
 
 -- likewise, where the answer is known by an equation
-pub did_then_at : {A B : Type 0} (S : Step A) (W : A → Step B) (p q r : HostState) (a x : A) (b : Option B) → a ≡ x → Did S p q (Some a) → Did (W x) q r b → Did (Then S W) p r b
-did_then_at S W p q r a x b is g h = did_then S W p q r x b (subst (λ y. Did S p q (Some y)) is g) h
+pub did_then_at : {A B : Type 0} {outs : List Out} (S : Step A) (W : A → Step B) (p q r : HostState) (a x : A) (b : Option B) → a ≡ x → Keeps (WritesOnly outs) S → DidIn outs S p q (Some a) → DidIn outs (W x) q r b → DidIn outs (Then S W) p r b
+did_then_at {outs = outs} S W p q r a x b is keeps g h = did_then S W p q r x b keeps (subst (λ y. DidIn outs S p q (Some y)) is g) h
+
+pub did_both_at : {A B : Type 0} {outs : List Out} (S : Step A) (W : A → Step B) (p q r : HostState) (a x : A) (b : B) → a ≡ x → DidIn outs S p q (Some a) → DidIn outs (W x) q r (Some b) → DidIn outs (Then S W) p r (Some b)
+did_both_at {outs = outs} S W p q r a x b is g h = did_both S W p q r x b (subst (λ y. DidIn outs S p q (Some y)) is g) h
 
 -- ---- loops that can be left from wherever they are
 
@@ -133,6 +171,17 @@ loop_begins body s m t u can r (again n) rest b =
       };
     }
 
+-- turns that go on have only such events
+throughout_turns : (outs : List Out) {S A : Type 0} (body : S → Step (Turn S A)) → ((x n : S) (u : List Event) → body x u (again n) → Throughout (WritesOnly outs) u) → (s m : S) (t : List Event) → Reaches body s t m → Throughout (WritesOnly outs) t
+throughout_turns outs body goes s m t (here _ _ none is) = subst (Throughout (WritesOnly outs)) (sym none) tt
+throughout_turns outs body goes s m t (turn _ first rest between _ splits before this) = subst (Throughout (WritesOnly outs)) (sym splits) (throughout_both (WritesOnly outs) first rest (throughout_turns outs body goes s between first before) (goes between m rest this))
+
 -- memory ran out in a turn
-pub loop_stopped : {S A : Type 0} (body : S → Step (Turn S A)) (s m : S) (p q r : HostState) → ((n : S) → Leaves body n) → Grows p q (λ t. Reaches body s t m) → Did (body m) q r None → Did (Loops body s) p r None
-loop_stopped body s m p q r can g h = record { trace = g.trace ++ h.trace; grew = grew_more p q r g.trace h.trace g.grew h.grew; holds = loop_begins body s m g.trace h.trace can g.holds h.holds.answer h.holds.rest h.holds.whole }
+pub loop_stopped : {S A : Type 0} {outs : List Out} (body : S → Step (Turn S A)) (s m : S) (p q r : HostState) → ((n : S) → Leaves body n) → ((x n : S) (u : List Event) → body x u (again n) → Throughout (WritesOnly outs) u) → Grows p q (λ t. Reaches body s t m) → DidIn outs (body m) q r None → DidIn outs (Loops body s) p r None
+loop_stopped {outs = outs} body s m p q r can goes g h =
+    let b = loop_begins body s m g.trace h.trace can g.holds h.holds.answer h.holds.rest h.holds.whole in
+    record {
+      trace = g.trace ++ h.trace;
+      grew = grew_more p q r g.trace h.trace g.grew h.grew;
+      holds = record { rest = b.rest; answer = b.answer; whole = b.whole; only = throughout_both (WritesOnly outs) g.trace h.trace (throughout_turns outs body goes s m g.trace g.holds) h.holds.only };
+    }

@@ -7,8 +7,10 @@ use Rattle.tl_base.specs.declared.host.Slot.{Slot}
 use Rattle.tl_base.specs.declared.host.Out.{Out}
 use Rattle.outside.specs.Events.{Event, HostState, opened, took, ended, read_failed, put, write_failed, given_event, read_event, read_events, write_event, write_events}
 use Rattle.outside.specs.Grown.{Grew}
-use Rattle.outside.specs.Steps.{Begins, Grows, Did}
+use Rattle.outside.specs.Begun.{Did, WritesOnly}
+use Rattle.outside.specs.Steps.{Begins, Grows}
 use Rattle.outside.specs.Pieces.{joined, InPieces, full, short, broken, Takes, Writes, Tells, ReadsFile}
+use Rattle.outside.proofs.Causing.{keeps_pieces}
 use Rattle.outside.proofs.Growing.{grew_none, grows_call, did_grow, can_then, can_end}
 
 joined_push : (pieces : List (List ℕ)) (piece : List ℕ) → joined (pieces ++ piece ∷ []) ≡ joined pieces ++ piece
@@ -81,7 +83,9 @@ begins_taking slot count text t le are q =
     ]
 
 pub took_part : (slot : Slot) (count : ℕ) (a b : HostState) (text : List ℕ) → Grows a b (InPieces (took slot) text []) → length text ≤ count → AreBytes text → Did (Takes slot count) a b None
-took_part slot count a b text g le are = record { trace = g.trace; grew = g.grew; holds = begins_taking slot count text g.trace le are g.holds }
+took_part slot count a b text g le are =
+    let m = begins_taking slot count text g.trace le are g.holds in
+    record { trace = g.trace; grew = g.grew; holds = record { rest = m.rest; answer = m.answer; whole = m.whole; only = keeps_pieces (WritesOnly []) (took slot) (λ bytes. tt) text [] g.trace tt g.holds } }
 
 pub can_take : (slot : Slot) (count : ℕ) → Begins (Takes slot count) []
 can_take slot count = begins_taking slot count [] [] (omega arith) are_none (no_pieces (took slot) [])

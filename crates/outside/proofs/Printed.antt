@@ -1,5 +1,5 @@
 -- Laws of answers that are printed.
-use Rattle.std.proofs.Common.{◌≡◌, ℕ, List, [], Bool, true, false, Option, Some, None, sym, subst}
+use Rattle.std.proofs.Common.{◌≡◌, ℕ, List, [], ◌++◌, Bool, true, false, Option, Some, None, refl, sym, subst}
 use Rattle.tl_base.specs.declared.host.Out.{Out}
 use Rattle.tl_base.specs.declared.host.Out.TheVariants.{Output}
 use Rattle.command_base.specs.Answer.{Answer, done, refused}
@@ -7,21 +7,29 @@ use Rattle.command_base.specs.Jobs.{Making, made, refused_by, unread, no_memory}
 use Rattle.command_base.specs.declared.status.Status.{Status}
 use Rattle.command_base.specs.declared.status.Status.TheVariants.{Refused}
 use Rattle.outside.specs.Events.{HostState}
-use Rattle.outside.specs.Steps.{Begins, Did}
+use Rattle.outside.specs.Begun.{Did, DidIn}
+use Rattle.outside.specs.Steps.{Begins}
 use Rattle.outside.specs.Pieces.{Writes, Tells}
 use Rattle.outside.specs.Printing.{Prints, after_output, Answers, Makes, PrintsMade}
-use Rattle.outside.proofs.Growing.{grew_none, did_then, did_nothing, did_none, can_then}
+use Rattle.outside.proofs.Growing.{grew_none, did_both, did_nothing, did_none, can_then}
 use Rattle.outside.proofs.Piecewise.{no_pieces, can_write, can_tell}
 
 pub wrote_nothing : (out : Out) (p : HostState) → Did (Writes out []) p p (Some true)
 wrote_nothing out p = record { trace = []; grew = grew_none p; holds = no_pieces _ [] }
 
 pub told_nothing : {A : Type 0} (p : HostState) (status : A) → Did (Tells [] status) p p (Some status)
-told_nothing p status = did_then _ _ p p p true _ (wrote_nothing _ p) (did_nothing p status)
+told_nothing p status = did_both _ _ p p p true status (wrote_nothing _ p) (did_nothing p status)
 
 -- a refusal is its line
 pub refused_printed : (line : List ℕ) (p q : HostState) (answer : Option Status) → Did (Tells line Refused) p q answer → Did (Prints (refused line)) p q answer
-refused_printed line p q answer h = did_then (Writes Output []) (after_output (refused line)) p p q true answer (wrote_nothing Output p) h
+refused_printed line p q (Some status) h = did_both (Writes Output []) (after_output (refused line)) p p q true status (wrote_nothing Output p) h
+refused_printed line p q None h =
+    let m = h.holds in
+    record {
+      trace = h.trace;
+      grew = h.grew;
+      holds = record { rest = m.rest; answer = m.answer; whole = record { first = []; rest = h.trace ++ m.rest; between = true; splits = refl; does = no_pieces _ []; goes = m.whole }; only = m.only };
+    }
 
 -- likewise of what was made, with the line as it was told
 pub refused_at : (m : Making) (told line : List ℕ) (p q : HostState) (answer : Option Status) → m ≡ refused_by line → told ≡ line → Did (Tells told Refused) p q answer → PrintsMade m p q answer
@@ -41,9 +49,9 @@ module _ (Is : Answer → Type 0) where
   pub can_answer : (a : Answer) → Is a → Begins (Answers Is) []
   can_answer a is = let m = can_print a in record { rest = m.rest; answer = m.answer; whole = (a, is, m.whole) }
 
-  pub answers_by : (a : Answer) (p q : HostState) (answer : Option Status) → Is a → Did (Prints a) p q answer → Did (Answers Is) p q answer
+  pub answers_by : {outs : List Out} (a : Answer) (p q : HostState) (answer : Option Status) → Is a → DidIn outs (Prints a) p q answer → DidIn outs (Answers Is) p q answer
   answers_by a p q (Some status) is h = record { trace = h.trace; grew = h.grew; holds = (a, is, h.holds) }
-  answers_by a p q None is h = record { trace = h.trace; grew = h.grew; holds = record { rest = h.holds.rest; answer = h.holds.answer; whole = (a, is, h.holds.whole) } }
+  answers_by a p q None is h = record { trace = h.trace; grew = h.grew; holds = record { rest = h.holds.rest; answer = h.holds.answer; whole = (a, is, h.holds.whole); only = h.holds.only } }
 
   -- what was made is printed
   pub made_printed : (m : Making) (p q : HostState) (answer : Option Status) → (a : Answer) × Is a → Makes Is m → PrintsMade m p q answer → Did (Answers Is) p q answer

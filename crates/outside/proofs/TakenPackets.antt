@@ -1,25 +1,29 @@
 -- Laws of packets that are taken.
-use Rattle.std.proofs.Common.{◌≡◌, ◌⊎◌, ℕ, zero, suc, ◌+◌, ◌%◌, ◌<◌, List, [], ◌∷◌, ◌++◌, length, Option, Some, None, Vec, Global, true≢false, refl, sym, ap, ◌∙◌, subst, inl, inr, arith}
+use Rattle.std.proofs.Common.{◌≡◌, ◌⊎◌, ℕ, zero, suc, ◌+◌, ◌%◌, ◌<◌, List, [], ◌∷◌, ◌++◌, length, map, Option, Some, None, Vec, Global, true≢false, refl, sym, ap, ◌∙◌, subst, inl, inr, arith}
 use Rattle.std.specs.Prelude.{◌↔◌, Bool, true, false, IsTrue}
 use Rattle.std.proofs.lemmas.Bool.{cases_eq, cases_lt}
 use Rattle.tl_numbers.specs.Bytes.{AreBytes}
 use Rattle.tl_numbers.specs.Numbers.{word_number}
 use Rattle.tl_base.specs.Kinds.{slot_kind}
 use Rattle.tl_base.specs.Packets.{IsPacketLength}
+use Rattle.tl_base.specs.declared.host.Out.{Out}
 use Rattle.tl_base.specs.declared.host.Slot.{Slot}
+use Rattle.tl_base.specs.declared.host.Slot.TheVariants.{Link}
 use Rattle.tl_base.specs.declared.packet.TheConstants.{PACKET_BYTES}
 use Rattle.outside.specs.Events.{Event, HostState, took, ended, read_failed}
-use Rattle.outside.specs.Laws.{Happened, IsFailure, Keeps, Throughout}
+use Rattle.outside.specs.Laws.{Happened, IsFailure, IsFromLink, Keeps, Throughout}
 use Rattle.outside.specs.Packets.{PacketView, whole, none, bad_length, AfterLength, bad, good, TakesPacket, after_head, content_of, cut_off, packet_view}
 use Rattle.outside.specs.Packets as packets
-use Rattle.outside.specs.Pieces.{TakenView, full, short, broken, Takes, taken_view}
-use Rattle.outside.specs.Steps.{Begins, Did, Ends, Then}
+use Rattle.outside.specs.Pieces.{TakenView, full, short, broken, Takes, joined, taken_view}
+use Rattle.outside.specs.Begun.{Did, WritesOnly}
+use Rattle.outside.specs.Steps.{Begins, Ends, Then}
 use Rattle.outside.specs.declared.packets.Packet.{Packet}
 use Rattle.outside.specs.declared.packets.Packet.TheVariants as packet
 use Rattle.outside.specs.declared.pieces.Taken.{Taken}
 use Rattle.outside.specs.declared.pieces.Taken.TheVariants as taken
 use Rattle.outside.proofs.Causing.{broken_read, happened_first, happened_last, keeps_end, keeps_take, keeps_then}
-use Rattle.outside.proofs.Growing.{can_end, can_then, did_nothing, did_stop, did_then_at, grew_none}
+use Rattle.outside.proofs.Begun.{may_take}
+use Rattle.outside.proofs.Growing.{can_end, can_then, did_both_at, did_nothing, did_stop, did_then_at, grew_none}
 use Rattle.outside.proofs.Piecewise.{are_none, can_take, no_pieces}
 
 -- ---- what was taken
@@ -82,18 +86,18 @@ module _ (slot : Slot) where
 
   length_good : (n : ℕ) (p q : HostState) (answer : Option PacketView) → IsPacketLength n → Did (Then (Takes slot n) (λ content. Ends (content_of content))) p q answer → Did (AfterLength slot n) p q answer
   length_good n p q (Some a) fits h = record { trace = h.trace; grew = h.grew; holds = good fits h.holds }
-  length_good n p q None fits h = record { trace = h.trace; grew = h.grew; holds = record { rest = h.holds.rest; answer = h.holds.answer; whole = good fits h.holds.whole } }
+  length_good n p q None fits h = record { trace = h.trace; grew = h.grew; holds = record { rest = h.holds.rest; answer = h.holds.answer; whole = good fits h.holds.whole; only = h.holds.only } }
 
   pub content_stopped : (n : ℕ) (p q : HostState) → IsPacketLength n → Did (Takes slot n) p q None → Did (AfterLength slot n) p q None
   content_stopped n p q fits h = length_good n p q None fits (did_stop _ _ p q (λ content. can_end (content_of content)) h)
 
   pub content_taken : (n : ℕ) (p q : HostState) (t : Taken) (v : TakenView) → taken_view t ≡ v → IsPacketLength n → Did (Takes slot n) p q (Some (taken_view t)) → Did (AfterLength slot n) p q (Some (content_of v))
-  content_taken n p q t v is fits h = length_good n p q (Some (content_of v)) fits (did_then_at _ (λ content. Ends (content_of content)) p q q (taken_view t) v (Some (content_of v)) is h (did_nothing q (content_of v)))
+  content_taken n p q t v is fits h = length_good n p q (Some (content_of v)) fits (did_both_at _ (λ content. Ends (content_of content)) p q q (taken_view t) v (content_of v) is h (did_nothing q (content_of v)))
 
   -- ---- and of its four bytes
 
   pub head_taken : (p q r : HostState) (t : Taken) (v : TakenView) (answer : Option PacketView) → taken_view t ≡ v → Did (Takes slot 4) p q (Some (taken_view t)) → Did (after_head slot v) q r answer → Did (TakesPacket slot) p r answer
-  head_taken p q r t v answer is = did_then_at (Takes slot 4) (after_head slot) p q r (taken_view t) v answer is
+  head_taken p q r t v answer is = did_then_at (Takes slot 4) (after_head slot) p q r (taken_view t) v answer is (may_take [] slot 4)
 
   pub head_whole : (p q r : HostState) (t : Taken) (head : Vec ℕ Global) (bytes : List ℕ) (n : ℕ) (answer : Option PacketView) → t ≡ taken.Full head → bytes ≡ head.items → n ≡ word_number bytes → Did (Takes slot 4) p q (Some (taken_view t)) → Did (AfterLength slot n) q r answer → Did (TakesPacket slot) p r answer
   head_whole p q r t head bytes n answer is same number h after =
@@ -175,3 +179,33 @@ module _ (slot : Slot) where
 
     pub keeps_packet : Keeps P (TakesPacket slot)
     keeps_packet = keeps_then P (Takes slot 4) (after_head slot) (keeps_take P slot 4 each end fail) keeps_head
+
+-- ---- what came over the link
+
+some_piece : (pieces : List (List ℕ)) (last : List Event) → 0 < length (joined pieces) → Happened IsFromLink (map (took Link) pieces ++ last)
+some_piece [] last some = absurd (omega (arith, some))
+some_piece (piece ∷ pieces) last some = inl refl
+
+head_came : (t : List Event) (head : TakenView) → Takes Link 4 t head → (head ≡ broken → ⊥) → Happened IsFromLink t
+head_came t (full head) h not = subst (Happened IsFromLink) (sym h.0.events) (some_piece h.0.pieces [] (subst (λ (l : List ℕ). 0 < length l) (sym h.0.join) (omega (arith, h.1))))
+head_came t (short head) h not = subst (Happened IsFromLink) (sym h.0.events) (happened_last IsFromLink (map (took Link) h.0.pieces) (ended Link ∷ []) (inl refl))
+head_came t broken h not = absurd (not refl)
+
+-- no read failed
+abbrev pub IsUnbroken : PacketView → Type 0
+IsUnbroken (whole content) = Unit {0}
+IsUnbroken none = Unit {0}
+IsUnbroken (bad_length n) = Unit {0}
+IsUnbroken (packets.ended had) = Unit {0}
+IsUnbroken packets.broken = ⊥
+
+after_broken : (head : TakenView) (u : List Event) (v : PacketView) → IsUnbroken v → after_head Link head u v → head ≡ broken → ⊥
+after_broken head u v unbroken after is = subst IsUnbroken (subst (λ (x : TakenView). after_head Link x u v) is after).1 unbroken
+
+-- a packet, a part of one, or the end
+pub packet_came : (t : List Event) (v : PacketView) → TakesPacket Link t v → IsUnbroken v → Happened IsFromLink t
+packet_came t v h unbroken = subst (Happened IsFromLink) (sym h.splits) (happened_first IsFromLink h.first h.rest (head_came h.first h.between h.does (after_broken h.between h.rest v unbroken h.goes)))
+
+-- nothing is written where a packet is taken
+pub may_packet : (slot : Slot) (outs : List Out) → Keeps (WritesOnly outs) (TakesPacket slot)
+may_packet slot outs = keeps_packet slot (WritesOnly outs) (λ bytes. tt) tt tt

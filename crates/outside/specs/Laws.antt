@@ -8,18 +8,9 @@ use Rattle.command_base.specs.declared.status.Status.{Status}
 use Rattle.command_base.specs.declared.status.Status.TheVariants.{Done, Refused, Usage, ReadFault, WriteFault, Memory, LinkFault, PeerFault}
 use Rattle.outside.specs.Events.{Event, opened, took, ended, read_failed, created, put, write_failed, listened, connected, accepted, told}
 use Rattle.outside.specs.Steps.{Step, StepOf}
+pub use Rattle.outside.specs.Traces.{Happened, Throughout}
 
 -- ---- what happened
-
--- some part of the trace is such
-abbrev pub Happened : {E : Type 0} → (E → Type 0) → List E → Type 0
-Happened P [] = ⊥
-Happened P (e ∷ t) = P e ⊎ Happened P t
-
--- each is
-abbrev pub Throughout : {E : Type 0} → (E → Type 0) → List E → Type 0
-Throughout P [] = Unit {0}
-Throughout P (e ∷ t) = P e × Throughout P t
 
 -- all that a step does is such
 abbrev pub Keeps : {E A : Type 0} → (E → Type 0) → StepOf E A → Type 0

@@ -2,6 +2,8 @@ pub mod Events
 pub mod Grown
 pub mod Unseen
 pub mod Steps
+pub mod Traces
+pub mod Begun
 pub mod Pieces
 pub mod Packets
 pub mod Printing

@@ -6,7 +6,8 @@ use Rattle.command_base.specs.Jobs.{Making, made, refused_by, unread, no_memory}
 use Rattle.command_base.specs.declared.status.Status.{Status}
 use Rattle.command_base.specs.declared.status.Status.TheVariants.{ReadFault, WriteFault}
 use Rattle.outside.specs.Events.{HostState}
-use Rattle.outside.specs.Steps.{Step, Then, Did}
+use Rattle.outside.specs.Begun.{Did}
+use Rattle.outside.specs.Steps.{Step, Then}
 use Rattle.outside.specs.Pieces.{Writes, Tells}
 
 -- what follows Output, where it was written and where that failed

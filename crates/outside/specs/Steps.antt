@@ -53,14 +53,3 @@ pub record Grows (old new : HostState) (P : List Event → Type 0) : Type 0 wher
   pub trace : List Event
   pub grew : Grew old trace new
   pub holds : P trace
-
--- the step with this answer; or, where memory ran out, the beginning of one
-abbrev pub Meets : {A : Type 0} → Step A → List Event → Option A → Type 0
-Meets S t (Some a) = S t a
-Meets S t None = Begins S t
-
--- A call did the step and answered so. None: it ran out of memory in the middle of one.
-pub record Did {A : Type 0} (S : Step A) (old new : HostState) (answer : Option A) : Type 0 where
-  pub trace : List Event
-  pub grew : Grew old trace new
-  pub holds : Meets S trace answer

@@ -3,7 +3,7 @@ ghost use Rattle.std.specs.Prelude.{◌≡◌, ◌↔◌, IsTrue, length};
 ghost use Rattle.tl_base.specs.Packets.{IsPacketLength};
 ghost use Rattle.tl_numbers.specs.Numbers.{word_number};
 ghost use Rattle.outside.specs.Packets.{AfterLength, TakesPacket, cut_off, packet_by, packet_view};
-ghost use Rattle.outside.specs.Steps.{Did};
+ghost use Rattle.outside.specs.Begun.{Did};
 
 use crate::host::Host;
 use crate::pieces::{Taken, take_bytes};

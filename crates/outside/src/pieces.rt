@@ -1,7 +1,7 @@
 //! What is taken from a slot and put to an out by pieces.
 ghost use Rattle.std.specs.Prelude.{◌≡◌, ◌++◌, OnOk, Some, is_ok};
 ghost use Rattle.tl_numbers.specs.Bytes.{AreBytes};
-ghost use Rattle.outside.specs.Steps.{Did};
+ghost use Rattle.outside.specs.Begun.{Did};
 ghost use Rattle.outside.specs.Pieces.{Takes, Writes, Tells, taken_by};
 
 use crate::host::Host;

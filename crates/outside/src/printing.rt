@@ -2,7 +2,7 @@
 ghost use Rattle.std.specs.Prelude.{Some};
 ghost use Rattle.command_base.specs.Answer.{done};
 ghost use Rattle.command_base.specs.Jobs.{making};
-ghost use Rattle.outside.specs.Steps.{Did};
+ghost use Rattle.outside.specs.Begun.{Did};
 ghost use Rattle.outside.specs.Printing.{Prints, PrintsMade, Unread};
 ghost use Rattle.outside.specs.Runs.{answered};
 

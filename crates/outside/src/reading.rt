@@ -1,6 +1,6 @@
 //! Whole files.
 ghost use Rattle.std.specs.Prelude.{Some, None};
-ghost use Rattle.outside.specs.Steps.{Did};
+ghost use Rattle.outside.specs.Begun.{Did};
 ghost use Rattle.outside.specs.Pieces.{ReadsFile, ReadsSlot, text_by};
 
 use crate::host::Host;

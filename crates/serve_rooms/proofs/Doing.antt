@@ -1,11 +1,13 @@
 -- Laws of steps over a host and a keeper that are done one after the other.
 use Rattle.std.proofs.Common.{◌≡◌, List, [], ◌∷◌, ◌++◌, map, Bool, true, Option, Some, None, refl, sym, ap, ◌∙◌, subst}
 use Rattle.std.proofs.lemmas.List.{append-nil, append_assoc, map-append}
+use Rattle.tl_base.specs.declared.host.Out.{Out}
 use Rattle.box_store.specs.Keeping.{KeeperState}
 use Rattle.command_base.specs.declared.status.Status.{Status}
 use Rattle.outside.specs.Events.{Event, HostState}
 use Rattle.outside.specs.Laws.{Throughout}
-use Rattle.outside.specs.Steps.{Step, StepOf, Ends, Calls, Then, Turn, again, leave, Reaches, here, turn, Loops, Begins, Did}
+use Rattle.outside.specs.Begun.{DidIn}
+use Rattle.outside.specs.Steps.{Step, StepOf, Ends, Calls, Then, Turn, again, leave, Reaches, here, turn, Loops, Begins}
 use Rattle.outside.proofs.Causing.{throughout_both}
 use Rattle.serve_rooms.specs.Acts.{Act, hosted, events_in, KeptState, KeptGrew, beside}
 use Rattle.serve_rooms.specs.Doing.{Hosted, Last, IsKept, BeginsKept, MeetsKept, DidKept}
@@ -57,7 +59,7 @@ pub did_none : {A : Type 0} (S : StepOf Act A) (s : KeptState) → BeginsKept S 
 did_none S s m = record { trace = []; grew = kept_none s; holds = m }
 
 -- a host did it alone
-pub did_host : {A : Type 0} (S : Step A) (p q : HostState) (k : KeeperState) (x : Option A) → Did S p q x → DidKept (Hosted S) (beside p k) (beside q k) x
+pub did_host : {A : Type 0} {outs : List Out} (S : Step A) (p q : HostState) (k : KeeperState) (x : Option A) → DidIn outs S p q x → DidKept (Hosted S) (beside p k) (beside q k) x
 did_host S p q k (Some a) h = record { trace = map (λ e. hosted e) h.trace; grew = kept_hosted p q k h.trace h.grew; holds = (h.trace, refl, h.holds) }
 did_host S p q k None h =
     let m = h.holds in
@@ -113,7 +115,7 @@ pub begun_as : {A : Type 0} (S W : StepOf Act A) → ((t : List Act) (a : A) →
 begun_as S W turns m = record { rest = m.rest; answer = m.answer; kept = m.kept; whole = turns m.rest m.answer m.whole }
 
 -- the run ends by what a host did alone
-pub did_last : (S : Step Status) (p q : HostState) (k : KeeperState) (status : Status) → Did S p q (Some status) → DidKept (Last S) (beside p k) (beside q k) (Some (Run status))
+pub did_last : {outs : List Out} (S : Step Status) (p q : HostState) (k : KeeperState) (status : Status) → DidIn outs S p q (Some status) → DidKept (Last S) (beside p k) (beside q k) (Some (Run status))
 did_last S p q k status h = did_then (Hosted S) (λ x. Ends (Run x)) (beside p k) (beside q k) (beside q k) status (Some (Run status)) (did_host S p q k (Some status) h) (did_nothing (beside q k) (Run status))
 
 -- ---- loops that can be left from wherever they are

@@ -1,2 +1,13 @@
 pub mod Acting
 pub mod Doing
+pub mod Keepers
+pub mod Answered
+pub mod AnsweredAll
+pub mod ToldEnds
+pub mod Connections
+pub mod LoadedSchemas
+pub mod Spared
+pub mod Opening
+pub mod KeptRuns
+pub mod ServeLaws
+pub mod Touching

@@ -1,5 +1,7 @@
 -- What is done over a host and a keeper. This project's own.
-use Rattle.std.specs.Prelude.{◌≡◌, List, ◌++◌, map, true, Bool, IsTrue, Option, Some, None}
+use Rattle.std.specs.Prelude.{◌≡◌, List, [], ◌∷◌, ◌++◌, map, true, Bool, IsTrue, Option, Some, None}
+use Rattle.tl_base.specs.declared.host.Out.{Out}
+use Rattle.tl_base.specs.declared.host.Out.TheVariants.{Output, Errors, Link}
 use Rattle.command_base.specs.Answer.{memory_line}
 use Rattle.command_base.specs.declared.status.Status.{Status}
 use Rattle.command_base.specs.declared.status.Status.TheVariants.{Memory}
@@ -59,6 +61,10 @@ pub record RanKept (work : StepOf Act KeptStatus) (old new : KeptState) (status 
   pub holds : RunsKept work trace status
 
 -- ---- without a keeper
+
+-- Output, Errors and the link, to which it is written as sessions go
+abbrev pub to_serve : List Out
+to_serve = Output ∷ Errors ∷ Link ∷ []
 
 -- what a host does beside a keeper that never fails
 pub record Spares (work : StepOf Act KeptStatus) (t : List Event) (status : Status) : Type 0 where

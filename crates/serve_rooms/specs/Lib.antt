@@ -4,4 +4,5 @@ pub mod Answering
 pub mod Telling
 pub mod Sessions
 pub mod Serve
+pub mod ServeLaws
 pub mod inner

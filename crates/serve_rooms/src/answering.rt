@@ -2,12 +2,13 @@
 ghost use Rattle.std.specs.Prelude.{◌≡◌, List, Some, is_ok};
 ghost use Rattle.box_events.specs.declared.replies.Frame.{Frame};
 ghost use Rattle.outside.specs.Packets.{packet_view};
-ghost use Rattle.outside.specs.Steps.{Did};
+ghost use Rattle.outside.specs.Begun.{Did};
 ghost use Rattle.session_rooms.specs.Sending.{Sends};
 ghost use Rattle.update_sessions.specs.Packed.{Packed, SpellsFrame};
 ghost use Rattle.wire_profile.specs.Places.{ProfileView};
+ghost use Rattle.wire_profile.specs.Profiles.{IsProfile};
 ghost use Rattle.serve_rooms.specs.Acts.{beside};
-ghost use Rattle.serve_rooms.specs.Answering.{AnswersAll, AnswersBytes, AnswersNext};
+ghost use Rattle.serve_rooms.specs.Answering.{AnswersAll, AnswersBytes, AnswersNext, after_packet};
 ghost use Rattle.serve_rooms.specs.Doing.{DidKept};
 ghost use Rattle.serve_rooms.specs.inner.Ends.{answered_by, keeper_of, outcome_at, end_at, session_by};
 
@@ -73,6 +74,7 @@ fn answer_bytes<H: Host, K: Keeper>(
     packet: &[u8],
     out: &mut Bytes,
 ) -> Result<(Stored<K>, Outcome), Stopped<K>>
+    requires sound { IsProfile profile.now }
     ensures { DidKept (AnswersBytes profile.now store.server packet.now) (beside (H.state host.old) (K.state store.keeper)) (beside (H.state host.new) (K.state (keeper_of result))) (answered_by result) }
 {
     match answer_packet(alloc, profile, store, packet, out) {
@@ -93,6 +95,24 @@ fn answer_bytes<H: Host, K: Keeper>(
     }
 }
 
+// Answers the call of what was taken, where that is a packet.
+fn answer_taken<H: Host, K: Keeper>(
+    alloc: Global,
+    host: &mut H,
+    profile: &Profile,
+    store: Stored<K>,
+    packet: Packet,
+    out: &mut Bytes,
+) -> Result<(Stored<K>, Outcome), Stopped<K>>
+    requires sound { IsProfile profile.now }
+    ensures { DidKept (after_packet profile.now store.server (packet_view packet)) (beside (H.state host.old) (K.state store.keeper)) (beside (H.state host.new) (K.state (keeper_of result))) (answered_by result) }
+{
+    match packet {
+        Packet::Whole(bytes) => answer_bytes(alloc, host, profile, store, &bytes, out),
+        other => Ok((store, no_packet(&other))),
+    }
+}
+
 // Takes the next packet, and answers its call.
 fn answer_next<H: Host, K: Keeper>(
     alloc: Global,
@@ -101,11 +121,11 @@ fn answer_next<H: Host, K: Keeper>(
     store: Stored<K>,
     out: &mut Bytes,
 ) -> Result<(Stored<K>, Outcome), Stopped<K>>
+    requires sound { IsProfile profile.now }
     ensures { DidKept (AnswersNext profile.now store.server) (beside (H.state host.old) (K.state store.keeper)) (beside (H.state host.new) (K.state (keeper_of result))) (answered_by result) }
 {
     match take_packet(alloc, host, Slot::Link) {
-        Ok(Packet::Whole(bytes)) => answer_bytes(alloc, host, profile, store, &bytes, out),
-        Ok(other) => Ok((store, no_packet(&other))),
+        Ok(packet) => answer_taken(alloc, host, profile, store, packet, out),
         Err(_) => Err(Stopped::Memory {
             keeper: store.into_keeper(),
         }),
@@ -132,6 +152,8 @@ pub fn serve_link<H: Host, K: Keeper>(
 ) -> Result<(Stored<K>, Result<u64, SessionFault>), Stopped<K>>
     ensures { DidKept (AnswersAll profile.now store.server) (beside (H.state host.old) (K.state store.keeper)) (beside (H.state host.new) (K.state (keeper_of result))) (session_by result) }
 {
+    // Read for the proof alone: that the profile is sound.
+    let _schema = profile.schema();
     let mut store = store;
     let mut out = Bytes::new(alloc);
     for calls in 0..MAX_FRAMES {

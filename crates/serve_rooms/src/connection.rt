@@ -35,11 +35,7 @@ pub fn serve_next<H: Host, K: Keeper>(
         }
         Err(_) => Err(KeptRun {
             keeper: store.into_keeper(),
-            end: Ok(KeptStatus::Run(tell(
-                host,
-                b"tlbox: link fault\n",
-                Status::LinkFault,
-            ))),
+            end: Ok(KeptStatus::Run(tell(host, b"tlbox: link fault\n", Status::LinkFault))),
         }),
     }
 }

@@ -3,7 +3,7 @@ ghost use Rattle.std.specs.Prelude.{◌≡◌, option_map};
 ghost use Rattle.command_base.specs.declared.status.Status.TheVariants.{Refused};
 ghost use Rattle.outside.specs.Pieces.{Tells};
 ghost use Rattle.outside.specs.Runs.{answered};
-ghost use Rattle.outside.specs.Steps.{Did};
+ghost use Rattle.outside.specs.Begun.{Did};
 ghost use Rattle.session_commands.specs.Keep.{bad_entry_line};
 ghost use Rattle.tl_schema.specs.CheckedPrograms.{IsSchema};
 ghost use Rattle.serve_rooms.specs.Acts.{beside};

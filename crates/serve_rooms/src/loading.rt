@@ -1,5 +1,5 @@
 //! The schema of a server.
-ghost use Rattle.outside.specs.Steps.{Did};
+ghost use Rattle.outside.specs.Begun.{Did};
 ghost use Rattle.outside.specs.Runs.{answered};
 ghost use Rattle.serve_rooms.specs.Serve.{LoadsSchema, OfText};
 
@@ -18,11 +18,7 @@ pub enum Loaded {
 }
 
 /// Reads the schema's file.
-pub fn load_schema<H: Host>(
-    alloc: Global,
-    host: &mut H,
-    schema: &str,
-) -> Result<Loaded, AllocError>
+pub fn load_schema<H: Host>(alloc: Global, host: &mut H, schema: &str) -> Result<Loaded, AllocError>
     ensures { Did (LoadsSchema schema.now) (H.state host.old) (H.state host.new) (answered result) }
 {
     match read_file(alloc, host, Slot::Schema, schema, SCHEMA_BYTES)? {

@@ -1,11 +1,13 @@
 //! `serve`: sessions at an address from one new server.
+ghost use Rattle.std.specs.Prelude.{◌≡◌, Some, option_map};
 ghost use Rattle.box_server.specs.Servers.{new_server};
-ghost use Rattle.outside.specs.Runs.{Ran, answered};
-ghost use Rattle.outside.specs.Steps.{Did};
+ghost use Rattle.outside.specs.Runs.{RanIn, answered};
+ghost use Rattle.outside.specs.Begun.{DidIn};
 ghost use Rattle.tl_schema.specs.CheckedPrograms.{IsSchema};
-ghost use Rattle.serve_rooms.specs.Doing.{Spares};
+ghost use Rattle.serve_rooms.specs.Doing.{Spares, to_serve};
 ghost use Rattle.serve_rooms.specs.Serve.{OfSchema, serves};
 ghost use Rattle.serve_rooms.specs.Sessions.{ServesAll};
+ghost use Rattle.serve_rooms.specs.declared.status.KeptStatus.TheVariants.{KeepFault, Run};
 
 use crate::loading::{Loaded, load_schema};
 use crate::sessions::serve_all;
@@ -27,7 +29,7 @@ pub fn serve_sessions<H: Host>(
     address: &str,
     sessions: u32,
 ) -> Result<Status, AllocError>
-    ensures { Did (serves schema.now address.now sessions) (H.state host.old) (H.state host.new) (answered result) }
+    ensures { DidIn to_serve (serves schema.now address.now sessions) (H.state host.old) (H.state host.new) (answered result) }
 {
     match load_schema(alloc, host, schema)? {
         Loaded::Schema(schema) => serve_schema(alloc, host, &schema, address, sessions),
@@ -43,7 +45,7 @@ pub fn run_serve<H: Host>(
     address: &str,
     sessions: u32,
 ) -> Status
-    ensures { Ran (serves schema.now address.now sessions) (H.state host.old) (H.state host.new) result }
+    ensures { RanIn to_serve (serves schema.now address.now sessions) (H.state host.old) (H.state host.new) result }
 {
     let done = serve_sessions(alloc, host, schema, address, sessions);
     finish(host, done)
@@ -58,7 +60,7 @@ fn serve_schema<H: Host>(
     sessions: u32,
 ) -> Result<Status, AllocError>
     requires { IsSchema schema.now }
-    ensures { Did (Spares (OfSchema (ServesAll address.now sessions new_server) schema.now)) (H.state host.old) (H.state host.new) (answered result) }
+    ensures { DidIn to_serve (Spares (OfSchema (ServesAll address.now sessions new_server) schema.now)) (H.state host.old) (H.state host.new) (answered result) }
 {
     match profile_of(alloc, schema) {
         Ok(profile) => serve_new(alloc, host, &profile, address, sessions),
@@ -74,10 +76,18 @@ fn serve_new<H: Host>(
     address: &str,
     sessions: u32,
 ) -> Result<Status, AllocError>
-    ensures { Did (Spares (ServesAll address.now sessions new_server profile.now)) (H.state host.old) (H.state host.new) (answered result) }
+    ensures { DidIn to_serve (Spares (ServesAll address.now sessions new_server profile.now)) (H.state host.old) (H.state host.new) (answered result) }
 {
     let store = Stored::over(Server::new(alloc));
-    match serve_all(alloc, host, profile, address, sessions, store).end {
+    spared(serve_all(alloc, host, profile, address, sessions, store).end)
+}
+
+// The end of a run whose keeper never failed, as that of one without a keeper.
+fn spared(end: Result<KeptStatus, AllocError>) -> Result<Status, AllocError>
+    requires never { answered end ≡ Some KeepFault → ⊥ }
+    ensures { answered end ≡ option_map (λ status. Run status) (answered result) }
+{
+    match end {
         Ok(KeptStatus::Run(status)) => Ok(status),
         Ok(KeptStatus::KeepFault) => unreachable!(),
         Err(fault) => Err(fault),

@@ -29,11 +29,7 @@ pub fn serve_all<H: Host, K: Keeper>(
         Ok(()) => serve_listening(alloc, host, profile, sessions, store),
         Err(_) => KeptRun {
             keeper: store.into_keeper(),
-            end: Ok(KeptStatus::Run(tell(
-                host,
-                b"tlbox: link fault\n",
-                Status::LinkFault,
-            ))),
+            end: Ok(KeptStatus::Run(tell(host, b"tlbox: link fault\n", Status::LinkFault))),
         },
     }
 }

@@ -1,7 +1,7 @@
 //! How a session ended is told: a line on Output or on Errors.
 ghost use Rattle.std.specs.Prelude.{◌≡◌, IfOk, Some};
 ghost use Rattle.outside.specs.Runs.{answered};
-ghost use Rattle.outside.specs.Steps.{Did};
+ghost use Rattle.outside.specs.Begun.{Did};
 ghost use Rattle.session_commands.specs.Lines.{served_line};
 ghost use Rattle.session_commands.specs.Serve.{first_fault};
 ghost use Rattle.serve_rooms.specs.Telling.{TellsEnd, TellsFault, TellsLine, goes_on};

@@ -1,8 +1,9 @@
 -- Laws of `client`.
-use Rattle.std.proofs.Common.{◌≡◌, ◌⊎◌, inl, inr, codes, ltb, ℕ, ◌+◌, ℤ, List, [], ◌∷◌, ◌++◌, Bool, true, false, Option, Some, None, Ok, Err, refl, sym, ap, ◌∙◌, subst}
+use Rattle.std.proofs.Common.{◌≡◌, inl, codes, ltb, ℕ, ◌+◌, ℤ, List, [], ◌∷◌, ◌++◌, Bool, true, false, Option, Some, None, Ok, Err, true≢false, refl, sym, ap, subst}
 use Rattle.tl_base.specs.declared.counts.Kind.TheVariants as kinds
 use Rattle.tl_base.specs.declared.host.Slot.TheVariants as slots
 use Rattle.tl_base.specs.declared.host.Out.TheVariants as outs
+use Rattle.tl_base.specs.declared.packet.PacketFault.{PacketFault}
 use Rattle.tl_base.specs.declared.packet.PacketFault.TheVariants.{BadLength, Ended}
 use Rattle.difference.specs.Weaves.{overlaps, uneven}
 use Rattle.box_events.specs.declared.requests.Numbered.{Numbered}
@@ -17,14 +18,14 @@ use Rattle.command_base.specs.Answer.{done, link_fault_line, refused, write_faul
 use Rattle.command_base.specs.declared.status.Status.{Status}
 use Rattle.command_base.specs.declared.status.Status.TheVariants.{LinkFault, PeerFault, ReadFault, WriteFault}
 use Rattle.outside.specs.Events.{Event, connected, created}
-use Rattle.outside.specs.Laws.{Throughout, Keeps, Happened, IsFailure, Explains, HasCause}
+use Rattle.outside.specs.Laws.{Throughout, Keeps, Happened, IsFailure, IsFromLink, Explains, HasCause}
 use Rattle.outside.specs.Packets.{PacketView, whole, TakesPacket}
 use Rattle.outside.specs.Packets as packets
 use Rattle.outside.specs.Pieces.{ReadsFile, Writes}
 use Rattle.outside.specs.Runs as runs
-use Rattle.outside.specs.Steps.{Turn, again, leave}
+use Rattle.outside.specs.Steps.{Turn, again, leave, Reaches, here, turn}
 use Rattle.outside.proofs.Causing.{cause_print, cause_run, cause_tell, cause_then, explains_last, happened_first, happened_last, keeps_begun, keeps_call, keeps_end, keeps_file, keeps_loop, keeps_print, keeps_tell, keeps_then, keeps_write, throughout_both, unread_file, unwritten}
-use Rattle.outside.proofs.TakenPackets.{broken_packet, keeps_packet}
+use Rattle.outside.proofs.TakenPackets.{IsUnbroken, broken_packet, keeps_packet, packet_came}
 use Rattle.codec_rooms.proofs.TypedLaws.{keeps_of_file, cause_of_file}
 use Rattle.update_rooms.specs.Profile.{OfProfile}
 use Rattle.update_rooms.proofs.ProfiledLaws.{keeps_profile, cause_profile}
@@ -41,6 +42,7 @@ use Rattle.session_rooms.specs.Client.{OfState, no_client, too_many, watches, Of
 use Rattle.session_rooms.specs.ClientLaws.{IsOfClient, ClientTouches, ClientHasCause}
 use Rattle.session_rooms.specs.Conversing.{Outcome, Asks, after_asking, HearsBytes, no_frame, refused as refused_frame, heard, after_packet, HearsNext, Heard, turn_of, hears_by, HearsOn, after_begin, Converses}
 use Rattle.session_rooms.specs.Sending.{Sends}
+use Rattle.session_rooms.proofs.Conversed.{keeps_converse}
 use Rattle.session_rooms.proofs.SentMessages.{keeps_send, unsent}
 
 -- ---- events
@@ -50,43 +52,6 @@ module _ (schema address state : List ℕ) where
   P = IsOfClient schema address state
 
   module _ (p : ProfileView) where
-    keeps_asked : (d : ClientState) (ok : Bool) → Keeps P (after_asking d ok)
-    keeps_asked d true = keeps_end P (Ok d)
-    keeps_asked d false = keeps_end P (Err session.LinkFault)
-
-    keeps_ask : (c : ClientState) → Keeps P (Asks p c)
-    keeps_ask c = keeps_then P _ _ (keeps_send (SpellsCall p) P (λ _. tt) tt (ticks c).asks) (keeps_asked (ticks c).client)
-
-    keeps_bytes : (c : ClientState) (bytes : List ℕ) → Keeps P (HearsBytes p c bytes)
-    keeps_bytes c bytes t r (no_frame fault h none is) = subst (Throughout P) (sym none) tt
-    keeps_bytes c bytes t r (refused_frame fault h none is) = subst (Throughout P) (sym none) tt
-    keeps_bytes c bytes t r (heard f means taken h) = keeps_ask (hears c f) t r h
-
-    keeps_after : (c : ClientState) (m : PacketView) → Keeps P (after_packet p c m)
-    keeps_after c (whole bytes) = keeps_bytes c bytes
-    keeps_after c packets.none = keeps_end P _
-    keeps_after c (packets.bad_length n) = keeps_end P _
-    keeps_after c (packets.ended had) = keeps_end P _
-    keeps_after c packets.broken = keeps_end P _
-
-    keeps_next : (c : ClientState) → Keeps P (HearsNext p c)
-    keeps_next c = keeps_then P _ _ (keeps_packet slots.Link P (λ _. tt) tt tt) (keeps_after c)
-
-    keeps_turn : (asks more : Bool) (h : Heard) → Keeps P (hears_by p asks more h)
-    keeps_turn false more (c, n) = keeps_end P _
-    keeps_turn true false (c, n) = keeps_end P _
-    keeps_turn true true (c, n) = keeps_then P _ _ (keeps_next c) (λ r. keeps_end P (turn_of n r))
-
-    keeps_hears : (h : Heard) → Keeps P (HearsOn p h)
-    keeps_hears (c, n) = keeps_turn (is_one_asking c) (ltb n MAX_FRAMES) (c, n)
-
-    keeps_begin : (r : Outcome) → Keeps P (after_begin p r)
-    keeps_begin (Ok c) = keeps_loop P (HearsOn p) keeps_hears (c, 0)
-    keeps_begin (Err fault) = keeps_end P (Err fault)
-
-    keeps_converse : (c : ClientState) → Keeps P (Converses p c)
-    keeps_converse c = keeps_then P _ _ (keeps_ask (wakes c)) keeps_begin
-
     -- ---- what is left
 
     keeps_written : (c : ClientState) (ok : Bool) → Keeps P (after_state c ok)
@@ -109,7 +74,7 @@ module _ (schema address state : List ℕ) where
     keeps_session (Err fault) = keeps_ends (session_line fault)
 
     keeps_connected : (c : ClientState) (ok : Bool) → Keeps P (after_connect p state c ok)
-    keeps_connected c true = keeps_then P _ _ (keeps_converse c) keeps_session
+    keeps_connected c true = keeps_then P _ _ (keeps_converse P (λ _. tt) tt (λ _. tt) tt tt p c) keeps_session
     keeps_connected c false = keeps_tell P (λ _. tt) tt link_fault_line LinkFault
 
     keeps_recover : (c : ClientState) → Keeps P (Recovers p address state c)
@@ -142,17 +107,28 @@ client_touches schema address state channels t s (runs.out_of_memory h) =
 
 -- ---- causes
 
--- a session that ended by this fault: the link failed, or the fault has a line
+-- what a fault is told by has its cause: a line's is that something came over the link; without one the link failed
+abbrev IsBlamed : Option (List ℕ) → List Event → Type 0
+IsBlamed (Some line) t = Happened IsFromLink t
+IsBlamed None t = Happened (IsFailure kinds.Links) t
+
+blamed_first : (o : Option (List ℕ)) (t u : List Event) → IsBlamed o t → IsBlamed o (t ++ u)
+blamed_first (Some line) t u h = happened_first IsFromLink t u h
+blamed_first None t u h = happened_first (IsFailure kinds.Links) t u h
+
+blamed_last : (o : Option (List ℕ)) (t u : List Event) → IsBlamed o u → IsBlamed o (t ++ u)
+blamed_last (Some line) t u h = happened_last IsFromLink t u h
+blamed_last None t u h = happened_last (IsFailure kinds.Links) t u h
+
+-- a session that ended by this fault
 abbrev IsEnded : SessionFault → List Event → Type 0
-IsEnded fault t = Happened (IsFailure kinds.Links) t ⊎ ((line : List ℕ) × (session_line fault ≡ Some line))
+IsEnded fault t = IsBlamed (session_line fault) t
 
 ended_first : (fault : SessionFault) (t u : List Event) → IsEnded fault t → IsEnded fault (t ++ u)
-ended_first fault t u (inl h) = inl (happened_first (IsFailure kinds.Links) t u h)
-ended_first fault t u (inr h) = inr h
+ended_first fault = blamed_first (session_line fault)
 
 ended_last : (fault : SessionFault) (t u : List Event) → IsEnded fault u → IsEnded fault (t ++ u)
-ended_last fault t u (inl h) = inl (happened_last (IsFailure kinds.Links) t u h)
-ended_last fault t u (inr h) = inr h
+ended_last fault = blamed_last (session_line fault)
 
 -- of another fault, which is the same
 ended_as : (fault other : SessionFault) (t : List Event) → fault ≡ other → IsEnded other t → IsEnded fault t
@@ -161,8 +137,8 @@ ended_as fault other t is h = subst (λ (f : SessionFault). IsEnded f t) (sym is
 same_fault : (fault other : SessionFault) → ◌≡◌ {A = Outcome} (Err fault) (Err other) → fault ≡ other
 same_fault fault other is = cc
 
-has_line : (fault : SessionFault) (t : List Event) (line : List ℕ) → session_line fault ≡ Some line → IsEnded fault t
-has_line fault t line is = inr (line, is)
+has_line : (fault : SessionFault) (t : List Event) (line : List ℕ) → session_line fault ≡ Some line → Happened IsFromLink t → IsEnded fault t
+has_line fault t line is came = subst (λ (o : Option (List ℕ)). IsBlamed o t) (sym is) came
 
 fault_line : (cause : Cause) (fault : ClientFault) → IsFaultOf cause fault → (line : List ℕ) × (answer_line fault ≡ Some line)
 fault_line (peer_error code) fault is = (_, ap answer_line is)
@@ -174,60 +150,94 @@ fault_line (seq_back at seq) fault is = (_, ap answer_line is)
 module _ (p : ProfileView) (fault : SessionFault) where
   asked_ended : (d : ClientState) (ok : Bool) (ms : List Numbered) (t u : List Event) → Sends (SpellsCall p) ms t ok → after_asking d ok u (Err fault) → IsEnded fault (t ++ u)
   asked_ended d true ms t u sent h = absurd (let no : Err fault ≡ Ok d = h.1 in cc)
-  asked_ended d false ms t u sent h = inl (happened_first (IsFailure kinds.Links) t u (unsent (SpellsCall p) ms t sent))
+  asked_ended d false ms t u sent h = ended_as fault session.LinkFault (t ++ u) (same_fault fault _ h.1) (happened_first (IsFailure kinds.Links) t u (unsent (SpellsCall p) ms t sent))
 
   ask_ended : (c : ClientState) (t : List Event) → Asks p c t (Err fault) → IsEnded fault t
   ask_ended c t h = subst (IsEnded fault) (sym h.splits) (asked_ended (ticks c).client h.between (ticks c).asks h.first h.rest h.does h.goes)
 
-  bytes_ended : (c : ClientState) (bytes : List ℕ) (t : List Event) → HearsBytes p c bytes t (Err fault) → IsEnded fault t
-  bytes_ended c bytes t (no_frame f refuses none is) = let line = told_line p frames frame_told (codes "peer") bytes f refuses in ended_as fault (session.Wire f) t (same_fault fault (session.Wire f) is) (has_line (session.Wire f) t line.0 line.1)
-  bytes_ended c bytes t (refused_frame f refuses none is) = let line = fault_line refuses.cause f refuses.is in ended_as fault (session.Client f) t (same_fault fault (session.Client f) is) (has_line (session.Client f) t line.0 line.1)
-  bytes_ended c bytes t (heard f means taken h) = ask_ended (hears c f) t h
+  -- a packet came, and is refused; or what is asked then can't be sent
+  bytes_ended : (c : ClientState) (bytes : List ℕ) (t u : List Event) → Happened IsFromLink t → HearsBytes p c bytes u (Err fault) → IsEnded fault (t ++ u)
+  bytes_ended c bytes t u came (no_frame f refuses none is) =
+      let line = told_line p frames frame_told (codes "peer") bytes f refuses in
+      ended_as fault (session.Wire f) (t ++ u) (same_fault fault (session.Wire f) is) (ended_first (session.Wire f) t u (has_line (session.Wire f) t line.0 line.1 came))
+  bytes_ended c bytes t u came (refused_frame f refuses none is) =
+      let line = fault_line refuses.cause f refuses.is in
+      ended_as fault (session.Client f) (t ++ u) (same_fault fault (session.Client f) is) (ended_first (session.Client f) t u (has_line (session.Client f) t line.0 line.1 came))
+  bytes_ended c bytes t u came (heard f means taken h) = ended_last fault t u (ask_ended (hears c f) u h)
+
+  -- what came is no packet
+  cut_ended : (f : PacketFault) (line : List ℕ) (m : PacketView) (t u : List Event) → session_line (session.Packet f) ≡ Some line → IsUnbroken m → TakesPacket slots.Link t m
+      → ◌≡◌ {A = Outcome} (Err fault) (Err (session.Packet f)) → IsEnded fault (t ++ u)
+  cut_ended f line m t u told unbroken taken is =
+      ended_as fault (session.Packet f) (t ++ u) (same_fault fault (session.Packet f) is) (ended_first (session.Packet f) t u (has_line (session.Packet f) t line told (packet_came t m taken unbroken)))
 
   packet_ended : (c : ClientState) (m : PacketView) (t u : List Event) → TakesPacket slots.Link t m → after_packet p c m u (Err fault) → IsEnded fault (t ++ u)
-  packet_ended c (whole bytes) t u taken h = ended_last fault t u (bytes_ended c bytes u h)
-  packet_ended c packets.none t u taken h = ended_as fault (session.Packet (Ended 0)) (t ++ u) (same_fault fault _ h.1) (has_line (session.Packet (Ended 0)) (t ++ u) _ refl)
-  packet_ended c (packets.bad_length n) t u taken h = ended_as fault (session.Packet (BadLength n)) (t ++ u) (same_fault fault _ h.1) (has_line (session.Packet (BadLength n)) (t ++ u) _ refl)
-  packet_ended c (packets.ended had) t u taken h = ended_as fault (session.Packet (Ended had)) (t ++ u) (same_fault fault _ h.1) (has_line (session.Packet (Ended had)) (t ++ u) _ refl)
-  packet_ended c packets.broken t u taken h = inl (happened_first (IsFailure kinds.Links) t u (broken_packet slots.Link t taken))
+  packet_ended c (whole bytes) t u taken h = bytes_ended c bytes t u (packet_came t (whole bytes) taken tt) h
+  packet_ended c packets.none t u taken h = cut_ended (Ended 0) _ packets.none t u refl tt taken h.1
+  packet_ended c (packets.bad_length n) t u taken h = cut_ended (BadLength n) _ (packets.bad_length n) t u refl tt taken h.1
+  packet_ended c (packets.ended had) t u taken h = cut_ended (Ended had) _ (packets.ended had) t u refl tt taken h.1
+  packet_ended c packets.broken t u taken h = ended_as fault session.LinkFault (t ++ u) (same_fault fault _ h.1) (happened_first (IsFailure kinds.Links) t u (broken_packet slots.Link t taken))
 
   next_ended : (c : ClientState) (t : List Event) → HearsNext p c t (Err fault) → IsEnded fault t
   next_ended c t h = subst (IsEnded fault) (sym h.splits) (packet_ended c h.between h.first h.rest h.does h.goes)
 
-  -- by what a turn answered
   turned_ended : (c : ClientState) (n : ℕ) (r : Outcome) (t u : List Event) → HearsNext p c t r → leave (Err fault) ≡ turn_of n r → IsEnded fault (t ++ u)
   turned_ended c n (Ok d) t u h is = absurd (let no : ◌≡◌ {A = Turn Heard Outcome} (leave (Err fault)) (again (d, n + 1)) = is in cc)
   turned_ended c n (Err f) t u h is =
       let same : fault ≡ f = (let e : ◌≡◌ {A = Turn Heard Outcome} (leave (Err fault)) (leave (Err f)) = is in cc) in
       ended_first fault t u (subst (λ (x : SessionFault). HearsNext p c t (Err x) → IsEnded fault t) same (next_ended c t) h)
 
-  turn_ended : (asks more : Bool) (h : Heard) (t : List Event) → hears_by p asks more h t (leave (Err fault)) → IsEnded fault t
-  turn_ended false more (c, n) t h = absurd (let no : ◌≡◌ {A = Turn Heard Outcome} (leave (Err fault)) (leave (Ok c)) = h.1 in cc)
-  turn_ended true false (c, n) t h = ended_as fault session.TooManyFrames t (let e : ◌≡◌ {A = Turn Heard Outcome} (leave (Err fault)) (leave (Err session.TooManyFrames)) = h.1 in cc) (has_line session.TooManyFrames t _ refl)
-  turn_ended true true (c, n) t h = subst (IsEnded fault) (sym h.splits) (turned_ended c n h.between h.first h.rest h.does h.goes.1)
+  -- the last turn; a session that is too long had turns before it
+  turn_ended : (asks more : Bool) (h : Heard) (t u : List Event) → (more ≡ false → Happened IsFromLink t) → hears_by p asks more h u (leave (Err fault)) → IsEnded fault (t ++ u)
+  turn_ended false more (c, n) t u came h = absurd (let no : ◌≡◌ {A = Turn Heard Outcome} (leave (Err fault)) (leave (Ok c)) = h.1 in cc)
+  turn_ended true false (c, n) t u came h =
+      let same : fault ≡ session.TooManyFrames = (let e : ◌≡◌ {A = Turn Heard Outcome} (leave (Err fault)) (leave (Err session.TooManyFrames)) = h.1 in cc) in
+      ended_as fault session.TooManyFrames (t ++ u) same (ended_first session.TooManyFrames t u (has_line session.TooManyFrames t _ refl (came refl)))
+  turn_ended true true (c, n) t u came h = ended_last fault t u (subst (IsEnded fault) (sym h.splits) (turned_ended c n h.between h.first h.rest h.does h.goes.1))
 
-  hears_ended : (h : Heard) (t : List Event) → HearsOn p h t (leave (Err fault)) → IsEnded fault t
-  hears_ended (c, n) t h = turn_ended (is_one_asking c) (ltb n MAX_FRAMES) (c, n) t h
+-- ---- turns before the last
+
+module _ (p : ProfileView) where
+  packet_heard : (c d : ClientState) (m : PacketView) (t u : List Event) → TakesPacket slots.Link t m → after_packet p c m u (Ok d) → Happened IsFromLink (t ++ u)
+  packet_heard c d (whole bytes) t u taken h = happened_first IsFromLink t u (packet_came t (whole bytes) taken tt)
+  packet_heard c d packets.none t u taken h = absurd (let no : ◌≡◌ {A = Outcome} (Ok d) (Err (session.Packet (Ended 0))) = h.1 in cc)
+  packet_heard c d (packets.bad_length n) t u taken h = absurd (let no : ◌≡◌ {A = Outcome} (Ok d) (Err (session.Packet (BadLength n))) = h.1 in cc)
+  packet_heard c d (packets.ended had) t u taken h = absurd (let no : ◌≡◌ {A = Outcome} (Ok d) (Err (session.Packet (Ended had))) = h.1 in cc)
+  packet_heard c d packets.broken t u taken h = absurd (let no : ◌≡◌ {A = Outcome} (Ok d) (Err session.LinkFault) = h.1 in cc)
+
+  turned_heard : (c : ClientState) (n : ℕ) (s : Heard) (r : Outcome) (t u : List Event) → HearsNext p c t r → again s ≡ turn_of n r → Happened IsFromLink (t ++ u)
+  turned_heard c n s (Ok d) t u h is = happened_first IsFromLink t u (subst (Happened IsFromLink) (sym h.splits) (packet_heard c d h.between h.first h.rest h.does h.goes))
+  turned_heard c n s (Err f) t u h is = absurd (let no : ◌≡◌ {A = Turn Heard Outcome} (again s) (leave (Err f)) = is in cc)
+
+  turn_heard : (asks more : Bool) (h s : Heard) (t : List Event) → hears_by p asks more h t (again s) → Happened IsFromLink t
+  turn_heard false more (c, n) s t h = absurd (let no : ◌≡◌ {A = Turn Heard Outcome} (again s) (leave (Ok c)) = h.1 in cc)
+  turn_heard true false (c, n) s t h = absurd (let no : ◌≡◌ {A = Turn Heard Outcome} (again s) (leave (Err session.TooManyFrames)) = h.1 in cc)
+  turn_heard true true (c, n) s t h = subst (Happened IsFromLink) (sym h.splits) (turned_heard c n s h.between h.first h.rest h.does h.goes.1)
+
+  hears_heard : (h s : Heard) (t : List Event) → HearsOn p h t (again s) → Happened IsFromLink t
+  hears_heard (c, n) s t h = turn_heard (is_one_asking c) (ltb n MAX_FRAMES) (c, n) s t h
+
+  -- a session that is too long isn't at its start
+  full_came : (c : ClientState) (t : List Event) (s : Heard) → Reaches (HearsOn p) (c, 0) t s → ltb s.1 MAX_FRAMES ≡ false → Happened IsFromLink t
+  full_came c t s (here _ _ none is) full = absurd (true≢false (subst (λ (h : Heard). ltb h.1 MAX_FRAMES ≡ false) is full))
+  full_came c t s (turn _ first rest between _ splits before this) full = subst (Happened IsFromLink) (sym splits) (happened_last IsFromLink first rest (hears_heard between s rest this))
+
+module _ (p : ProfileView) (fault : SessionFault) where
+  hears_ended : (c : ClientState) (h : Heard) (t u : List Event) → Reaches (HearsOn p) (c, 0) t h → HearsOn p h u (leave (Err fault)) → IsEnded fault (t ++ u)
+  hears_ended c (d, n) t u before h = turn_ended p fault (is_one_asking d) (ltb n MAX_FRAMES) (d, n) t u (full_came p c t (d, n) before) h
 
   begin_ended : (c : ClientState) (r : Outcome) (t u : List Event) → Asks p c t r → after_begin p r u (Err fault) → IsEnded fault (t ++ u)
-  begin_ended c (Ok d) t u asks h = ended_last fault t u (subst (IsEnded fault) (sym h.splits) (ended_last fault h.first h.rest (hears_ended h.between h.rest h.goes)))
+  begin_ended c (Ok d) t u asks h = ended_last fault t u (subst (IsEnded fault) (sym h.splits) (hears_ended d h.between h.first h.rest h.does h.goes))
   begin_ended c (Err f) t u asks h =
       let same : fault ≡ f = same_fault fault f h.1 in
-      ended_first fault t u (subst (λ (x : SessionFault). Asks p c t (Err x) → IsEnded fault t) same (ask_ended c t) asks)
+      ended_first fault t u (subst (λ (x : SessionFault). Asks p c t (Err x) → IsEnded fault t) same (ask_ended p fault c t) asks)
 
   converse_ended : (c : ClientState) (t : List Event) → Converses p c t (Err fault) → IsEnded fault t
   converse_ended c t h = subst (IsEnded fault) (sym h.splits) (begin_ended (wakes c) h.between h.first h.rest h.does h.goes)
 
-no_line : (o : Option (List ℕ)) (line : List ℕ) → o ≡ Some line → o ≡ None → ⊥
-no_line o line is none = absurd (let no : Some line ≡ None = sym is ∙ none in cc)
-
-line_or_link : (fault : SessionFault) (t : List Event) → IsEnded fault t → session_line fault ≡ None → Happened (IsFailure kinds.Links) t
-line_or_link fault t (inl h) none = h
-line_or_link fault t (inr h) none = absurd (no_line (session_line fault) h.0 h.1 none)
-
-ends_cause : (o : Option (List ℕ)) (t u : List Event) (status : Status) → (o ≡ None → Happened (IsFailure kinds.Links) t) → ends_by o u status → Explains status (t ++ u)
-ends_cause (Some line) t u status link h = cause_tell line PeerFault t u status tt h
-ends_cause None t u status link h = cause_tell link_fault_line LinkFault t u status (link refl) h
+ends_cause : (o : Option (List ℕ)) (t u : List Event) (status : Status) → IsBlamed o t → ends_by o u status → Explains status (t ++ u)
+ends_cause (Some line) t u status blamed h = cause_tell line PeerFault t u status blamed h
+ends_cause None t u status blamed h = cause_tell link_fault_line LinkFault t u status blamed h
 
 module _ (p : ProfileView) (state : List ℕ) where
   state_cause : (c : ClientState) (bytes : List ℕ) (ok : Bool) (t u : List Event) (status : Status) → Writes outs.State bytes t ok → after_state c ok u status → Explains status (t ++ u)
@@ -243,7 +253,7 @@ module _ (p : ProfileView) (state : List ℕ) where
 
   session_cause : (c : ClientState) (r : Outcome) (t u : List Event) (status : Status) → Converses p c t r → after_session p state r u status → Explains status (t ++ u)
   session_cause c (Ok d) t u status over h = explains_last status t u (cause_then _ (after_create p d) (create_cause d) u status h)
-  session_cause c (Err fault) t u status over h = ends_cause (session_line fault) t u status (line_or_link fault t (converse_ended p fault c t over)) h
+  session_cause c (Err fault) t u status over h = ends_cause (session_line fault) t u status (converse_ended p fault c t over) h
 
   module _ (address : List ℕ) where
     connect_cause : (c : ClientState) (ok : Bool) (t u : List Event) (status : Status) → t ≡ connected address ok ∷ [] → after_connect p state c ok u status → Explains status (t ++ u)

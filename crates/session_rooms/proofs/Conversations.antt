@@ -19,8 +19,9 @@ use Rattle.box_wire.proofs.FrameLaws.{frame_formed, frame_laws}
 use Rattle.outside.specs.Events.{Event, HostState, ended}
 use Rattle.outside.specs.Packets.{PacketView, whole, TakesPacket}
 use Rattle.outside.specs.Packets as packets
-use Rattle.outside.specs.Steps.{Begins, Did, Grows, Turn, again, leave, Reaches, Loops, Ends}
-use Rattle.outside.proofs.Growing.{Leaves, can_end, can_then, can_loop, did_none, did_nothing, did_stop, did_then, grew_none, loop_left, loop_stopped, reached_turn}
+use Rattle.outside.specs.Begun.{Did, DidIn, to_link}
+use Rattle.outside.specs.Steps.{Begins, Grows, Turn, again, leave, Reaches, Loops, Ends}
+use Rattle.outside.proofs.Growing.{Leaves, can_end, can_then, can_loop, did_any, did_both, did_none, did_nothing, did_stop, did_then, grew_none, loop_left, loop_stopped, reached_turn}
 use Rattle.outside.proofs.TakenPackets.{none_taken, whole_packet}
 use Rattle.update_sessions.specs.declared.fault.SessionFault.{SessionFault}
 use Rattle.update_sessions.specs.declared.fault.SessionFault.TheVariants.{Packet, Wire, Client, TooManyFrames, LinkFault, Memory}
@@ -33,6 +34,7 @@ use Rattle.session_commands.proofs.EachPost.{each_message}
 use Rattle.codec_rooms.proofs.Typing.{begun_as, did_as}
 use Rattle.session_rooms.specs.Sending.{Sends}
 use Rattle.session_rooms.specs.Conversing.{Outcome, Asks, after_asking, HearsBytes, no_frame, refused, heard, after_packet, HearsNext, Heard, turn_of, hears_by, HearsOn, after_begin, Converses, outcome}
+use Rattle.session_rooms.proofs.Conversed.{may_ask, may_hear}
 use Rattle.session_rooms.proofs.SentMessages.{can_send}
 
 is_less : (a b : ℕ) → a < b → ltb a b ≡ true
@@ -68,7 +70,7 @@ module _ (p : ProfileView) where
 
   module _ (c d : ClientState) (bytes out : List ℕ) where
     -- it was not taken
-    pub not_heard : (fault : SessionFault) (q : HostState) → Begins (HearsBytes p c bytes) [] → HearsPacket p c bytes out d (Err fault) → Did (HearsBytes p c bytes) q q (outcome d (Err fault))
+    pub not_heard : (fault : SessionFault) (q : HostState) → Begins (HearsBytes p c bytes) [] → HearsPacket p c bytes out d (Err fault) → DidIn to_link (HearsBytes p c bytes) q q (outcome d (Err fault))
     not_heard (Packet fault) q can h = absurd h
     not_heard (Wire fault) q can h = record { trace = []; grew = grew_none q; holds = no_frame fault h.0 refl refl }
     not_heard (Client fault) q can h = record { trace = []; grew = grew_none q; holds = refused fault h.0 refl refl }
@@ -81,16 +83,16 @@ module _ (p : ProfileView) where
       abbrev e : ClientState
       e = hears c turned.message
 
-      by_asking : (x : Outcome) → Did (Asks p e) r s (Some x) → Did (HearsBytes p c bytes) r s (Some x)
+      by_asking : (x : Outcome) → DidIn to_link (Asks p e) r s (Some x) → DidIn to_link (HearsBytes p c bytes) r s (Some x)
       by_asking x h = did_as (Asks p e) (HearsBytes p c bytes) r s (Some x) (λ t y a. heard turned.message turned.means turned.taken a) h
 
-      pub heard_and_asked : ((calls : List Numbered) → Packed (SpellsCall p) calls out → Did (Sends (SpellsCall p) calls) r s (Some true)) → Did (HearsBytes p c bytes) r s (Some (Ok d))
+      pub heard_and_asked : ((calls : List Numbered) → Packed (SpellsCall p) calls out → Did (Sends (SpellsCall p) calls) r s (Some true)) → DidIn to_link (HearsBytes p c bytes) r s (Some (Ok d))
       heard_and_asked sends =
-          by_asking (Ok d) (subst (λ (x : ClientState). Did (Asks p e) r s (Some (Ok x))) (sym turned.ends)
-          (did_then _ (after_asking (ticks e).client) r s s true _ (sends (ticks e).asks turned.sent) (did_nothing s (Ok (ticks e).client))))
+          by_asking (Ok d) (subst (λ (x : ClientState). DidIn to_link (Asks p e) r s (Some (Ok x))) (sym turned.ends)
+          (did_both _ (after_asking (ticks e).client) r s s true _ (did_any _ r s true (sends (ticks e).asks turned.sent)) (did_nothing s (Ok (ticks e).client))))
 
-      pub heard_and_cut : ((calls : List Numbered) → Packed (SpellsCall p) calls out → Did (Sends (SpellsCall p) calls) r s (Some false)) → Did (HearsBytes p c bytes) r s (Some (Err LinkFault))
-      heard_and_cut sends = by_asking (Err LinkFault) (did_then _ (after_asking (ticks e).client) r s s false _ (sends (ticks e).asks turned.sent) (did_nothing s (Err LinkFault)))
+      pub heard_and_cut : ((calls : List Numbered) → Packed (SpellsCall p) calls out → Did (Sends (SpellsCall p) calls) r s (Some false)) → DidIn to_link (HearsBytes p c bytes) r s (Some (Err LinkFault))
+      heard_and_cut sends = by_asking (Err LinkFault) (did_both _ (after_asking (ticks e).client) r s s false _ (did_any _ r s false (sends (ticks e).asks turned.sent)) (did_nothing s (Err LinkFault)))
 
   -- ---- turns
 
@@ -122,44 +124,44 @@ module _ (p : ProfileView) where
   can_begin (Err fault) = can_end (Err fault)
 
   module _ (c : ClientState) (n : ℕ) (q r : HostState) where
-    by_tests : (asks more : Bool) (x : Option (Turn Heard Outcome)) → is_one_asking c ≡ asks → ltb n MAX_FRAMES ≡ more → Did (hears_by p asks more (c, n)) q r x → Did (HearsOn p (c, n)) q r x
-    by_tests asks more x is also h = subst (λ (b : Bool). Did (hears_by p b (ltb n MAX_FRAMES) (c, n)) q r x) (sym is) (subst (λ (b : Bool). Did (hears_by p asks b (c, n)) q r x) (sym also) h)
+    by_tests : (asks more : Bool) (x : Option (Turn Heard Outcome)) → is_one_asking c ≡ asks → ltb n MAX_FRAMES ≡ more → DidIn to_link (hears_by p asks more (c, n)) q r x → DidIn to_link (HearsOn p (c, n)) q r x
+    by_tests asks more x is also h = subst (λ (b : Bool). DidIn to_link (hears_by p b (ltb n MAX_FRAMES) (c, n)) q r x) (sym is) (subst (λ (b : Bool). DidIn to_link (hears_by p asks b (c, n)) q r x) (sym also) h)
 
     module _ (asks : is_one_asking c ≡ true) (few : n < MAX_FRAMES) where
       less : ltb n MAX_FRAMES ≡ true
       less = is_less n MAX_FRAMES few
 
-      pub turn_made : (x : Outcome) → Did (HearsNext p c) q r (Some x) → Did (HearsOn p (c, n)) q r (Some (turn_of n x))
-      turn_made x h = by_tests true true (Some (turn_of n x)) asks less (did_then (HearsNext p c) (λ (y : Outcome). Ends (turn_of n y)) q r r x _ h (did_nothing r (turn_of n x)))
+      pub turn_made : (x : Outcome) → DidIn to_link (HearsNext p c) q r (Some x) → DidIn to_link (HearsOn p (c, n)) q r (Some (turn_of n x))
+      turn_made x h = by_tests true true (Some (turn_of n x)) asks less (did_both (HearsNext p c) (λ (y : Outcome). Ends (turn_of n y)) q r r x _ h (did_nothing r (turn_of n x)))
 
-      pub turn_stopped : Did (HearsNext p c) q r None → Did (HearsOn p (c, n)) q r None
+      pub turn_stopped : DidIn to_link (HearsNext p c) q r None → DidIn to_link (HearsOn p (c, n)) q r None
       turn_stopped h = by_tests true true None asks less (did_stop (HearsNext p c) (λ (y : Outcome). Ends (turn_of n y)) q r (λ y. can_end (turn_of n y)) h)
 
   -- ---- all turns
 
   module _ (s : Heard) (c : ClientState) (n : ℕ) (a q r : HostState) (g : Grows a q (λ t. Reaches (HearsOn p) s t (c, n))) where
-    pub one_more : (d : ClientState) → is_one_asking c ≡ true → n < MAX_FRAMES → Did (HearsNext p c) q r (Some (Ok d)) → Grows a r (λ t. Reaches (HearsOn p) s t (d, n + 1))
+    pub one_more : (d : ClientState) → is_one_asking c ≡ true → n < MAX_FRAMES → DidIn to_link (HearsNext p c) q r (Some (Ok d)) → Grows a r (λ t. Reaches (HearsOn p) s t (d, n + 1))
     one_more d asks few h = reached_turn (HearsOn p) s (c, n) (d, n + 1) (again (d, n + 1)) a q r refl g (turn_made c n q r asks few (Ok d) h)
 
-    by_fault : (fault : SessionFault) → is_one_asking c ≡ true → n < MAX_FRAMES → Did (HearsNext p c) q r (Some (Err fault)) → Did (Loops (HearsOn p) s) a r (Some (Err fault))
+    by_fault : (fault : SessionFault) → is_one_asking c ≡ true → n < MAX_FRAMES → DidIn to_link (HearsNext p c) q r (Some (Err fault)) → DidIn to_link (Loops (HearsOn p) s) a r (Some (Err fault))
     by_fault fault asks few h = loop_left (HearsOn p) s (c, n) (leave (Err fault)) (Err fault) a q r refl g (turn_made c n q r asks few (Err fault) h)
 
-    pub last_turn : (d : ClientState) (fault : SessionFault) → is_one_asking c ≡ true → n < MAX_FRAMES → Did (HearsNext p c) q r (outcome d (Err fault)) → Did (Loops (HearsOn p) s) a r (outcome d (Err fault))
+    pub last_turn : (d : ClientState) (fault : SessionFault) → is_one_asking c ≡ true → n < MAX_FRAMES → DidIn to_link (HearsNext p c) q r (outcome d (Err fault)) → DidIn to_link (Loops (HearsOn p) s) a r (outcome d (Err fault))
     last_turn d (Packet fault) asks few h = by_fault (Packet fault) asks few h
     last_turn d (Wire fault) asks few h = by_fault (Wire fault) asks few h
     last_turn d (Client fault) asks few h = by_fault (Client fault) asks few h
     last_turn d TooManyFrames asks few h = by_fault TooManyFrames asks few h
     last_turn d LinkFault asks few h = by_fault LinkFault asks few h
-    last_turn d Memory asks few h = loop_stopped (HearsOn p) s (c, n) a q r leaves_at g (turn_stopped c n q r asks few h)
+    last_turn d Memory asks few h = loop_stopped (HearsOn p) s (c, n) a q r leaves_at (λ x m t h. may_hear p x t (again m) h) g (turn_stopped c n q r asks few h)
 
   module _ (s : Heard) (c : ClientState) (n : ℕ) (a q : HostState) (g : Grows a q (λ t. Reaches (HearsOn p) s t (c, n))) where
-    ended_by : (more : Bool) → is_one_asking c ≡ false → ltb n MAX_FRAMES ≡ more → Did (Loops (HearsOn p) s) a q (Some (Ok c))
+    ended_by : (more : Bool) → is_one_asking c ≡ false → ltb n MAX_FRAMES ≡ more → DidIn to_link (Loops (HearsOn p) s) a q (Some (Ok c))
     ended_by more calm is = loop_left (HearsOn p) s (c, n) (leave (Ok c)) (Ok c) a q q refl g (by_tests c n q q false more (Some (leave (Ok c))) calm is (did_nothing q (leave (Ok c))))
 
-    pub asks_no_more : is_one_asking c ≡ false → Did (Loops (HearsOn p) s) a q (Some (Ok c))
+    pub asks_no_more : is_one_asking c ≡ false → DidIn to_link (Loops (HearsOn p) s) a q (Some (Ok c))
     asks_no_more calm = ended_by (ltb n MAX_FRAMES) calm refl
 
-    pub asks_too_long : is_one_asking c ≡ true → MAX_FRAMES ≤ n → Did (Loops (HearsOn p) s) a q (Some (Err TooManyFrames))
+    pub asks_too_long : is_one_asking c ≡ true → MAX_FRAMES ≤ n → DidIn to_link (Loops (HearsOn p) s) a q (Some (Err TooManyFrames))
     asks_too_long asks many = loop_left (HearsOn p) s (c, n) (leave (Err TooManyFrames)) (Err TooManyFrames) a q q refl g (by_tests c n q q true false (Some (leave (Err TooManyFrames))) asks (not_less n MAX_FRAMES many) (did_nothing q (leave (Err TooManyFrames))))
 
   -- ---- what follows of a packet, and of a beginning
@@ -177,10 +179,10 @@ module _ (p : ProfileView) where
     can_converse = can_then _ _ (can_ask (wakes c)) can_begin
 
     -- what is asked first was sent, and then frames were heard
-    pub begun_and_heard : (d : ClientState) (a q r : HostState) (x : Option Outcome) → d ≡ begun c → Did (Sends (SpellsCall p) (ticks (wakes c)).asks) a q (Some true) → Did (Loops (HearsOn p) (d, 0)) q r x → Did (Converses p c) a r x
+    pub begun_and_heard : (d : ClientState) (a q r : HostState) (x : Option Outcome) → d ≡ begun c → Did (Sends (SpellsCall p) (ticks (wakes c)).asks) a q (Some true) → DidIn to_link (Loops (HearsOn p) (d, 0)) q r x → DidIn to_link (Converses p c) a r x
     begun_and_heard d a q r x is h loops =
-        did_then _ (after_begin p) a q r (Ok (begun c)) x (did_then _ (after_asking (begun c)) a q q true _ h (did_nothing q (Ok (begun c)))) (subst (λ (y : ClientState). Did (Loops (HearsOn p) (y, 0)) q r x) is loops)
+        did_then _ (after_begin p) a q r (Ok (begun c)) x (may_ask p (wakes c)) (did_both _ (after_asking (begun c)) a q q true _ (did_any _ a q true h) (did_nothing q (Ok (begun c)))) (subst (λ (y : ClientState). DidIn to_link (Loops (HearsOn p) (y, 0)) q r x) is loops)
 
     -- or that failed
-    pub begun_and_cut : (a q : HostState) → Did (Sends (SpellsCall p) (ticks (wakes c)).asks) a q (Some false) → Did (Converses p c) a q (Some (Err LinkFault))
-    begun_and_cut a q h = did_then _ (after_begin p) a q q (Err LinkFault) _ (did_then _ (after_asking (begun c)) a q q false _ h (did_nothing q (Err LinkFault))) (did_nothing q (Err LinkFault))
+    pub begun_and_cut : (a q : HostState) → Did (Sends (SpellsCall p) (ticks (wakes c)).asks) a q (Some false) → DidIn to_link (Converses p c) a q (Some (Err LinkFault))
+    begun_and_cut a q h = did_both _ (after_begin p) a q q (Err LinkFault) _ (did_both _ (after_asking (begun c)) a q q false _ (did_any _ a q false h) (did_nothing q (Err LinkFault))) (did_nothing q (Err LinkFault))

@@ -10,8 +10,9 @@ use Rattle.command_base.specs.declared.stop.Stop.TheVariants as stop
 use Rattle.outside.specs.Events.{HostState, created}
 use Rattle.outside.specs.Pieces.{Tells, Writes}
 use Rattle.outside.specs.Printing.{Prints}
-use Rattle.outside.specs.Steps.{Begins, Did, Then}
-use Rattle.outside.proofs.Growing.{did_none, did_stop, did_then}
+use Rattle.outside.specs.Begun.{Did, DidIn, to_link}
+use Rattle.outside.specs.Steps.{Begins, Then}
+use Rattle.outside.proofs.Growing.{did_any, did_both, did_none, did_stop, did_then}
 use Rattle.outside.proofs.Piecewise.{can_tell}
 use Rattle.codec_rooms.proofs.Typing.{did_as}
 use Rattle.update_sessions.specs.declared.fault.SessionFault.{SessionFault}
@@ -19,6 +20,7 @@ use Rattle.update_sessions.specs.declared.fault.SessionFault.TheVariants as sess
 use Rattle.session_commands.specs.SessionEnds.{TellsSession, session_line}
 use Rattle.session_commands.specs.declared.leaving.Leaving.{Leaving}
 use Rattle.session_commands.specs.inner.Recovering.{LeavesOf}
+use Rattle.session_rooms.proofs.Conversed.{may_converse}
 use Rattle.session_rooms.specs.Client.{Leaves, WritesSaved, saves, after_connect, after_create, after_session, after_state, ends_by}
 use Rattle.session_rooms.specs.Conversing.{Converses, Outcome, outcome}
 use Rattle.session_rooms.specs.inner.Ends.{TellsEnd}
@@ -31,7 +33,7 @@ can_leave p name c =
 
 module _ (p : ProfileView) (c : ClientState) (l : Leaving) (of : LeavesOf p c l) (q r s : HostState) where
   saved : (ok : Bool) (status : Status) → Did (Writes outs.State l.state) q r (Some ok) → Did (after_state c ok) r s (Some status) → Did (WritesSaved p c) q s (Some status)
-  saved ok status h then_so = did_as (Then (Writes outs.State l.state) (after_state c)) (WritesSaved p c) q s (Some status) (λ t x w. saves l.state of.state w) (did_then _ (after_state c) q r s ok _ h then_so)
+  saved ok status h then_so = did_as (Then (Writes outs.State l.state) (after_state c)) (WritesSaved p c) q s (Some status) (λ t x w. saves l.state of.state w) (did_both _ (after_state c) q r s ok _ h then_so)
 
   pub saved_and_told : (line : List ℕ) (status : Status) → line ≡ l.line.items → Did (Writes outs.State l.state) q r (Some true) → Did (Prints (done line)) r s (Some status) → Did (after_create p c true) q s (Some status)
   saved_and_told line status is h prints = saved true status h (subst (λ (x : List ℕ). Did (Prints (done x)) r s (Some status)) (is ∙ of.line) prints)
@@ -46,8 +48,8 @@ can_end_by (Some line) = can_tell line PeerFault
 can_end_by None = can_tell link_fault_line LinkFault
 
 -- it is the other end's, with this line
-by_peer : (o : Option (List ℕ)) (line : List ℕ) (q r : HostState) (status : Status) → o ≡ Some line → Did (Tells line PeerFault) q r (Some status) → Did (ends_by o) q r (Some status)
-by_peer o line q r status is h = subst (λ (x : Option (List ℕ)). Did (ends_by x) q r (Some status)) (sym is) h
+by_peer : (o : Option (List ℕ)) (line : List ℕ) (q r : HostState) (status : Status) → o ≡ Some line → Did (Tells line PeerFault) q r (Some status) → DidIn to_link (ends_by o) q r (Some status)
+by_peer o line q r status is h = subst (λ (x : Option (List ℕ)). DidIn to_link (ends_by x) q r (Some status)) (sym is) (did_any _ q r status h)
 
 module _ (q r : HostState) (status : Status) where
   pub peer_told : (fault : SessionFault) (line : Vec ℕ Global) (told : List ℕ) → TellsSession fault (stop.Peer line) → told ≡ line.items → Did (Tells told PeerFault) q r (Some status) → TellsEnd fault q r (Some status)
@@ -64,7 +66,7 @@ module _ (q r : HostState) (status : Status) where
   link_told (session.Wire f) is h = absurd is
   link_told (session.Client f) is h = absurd is
   link_told session.TooManyFrames is h = absurd is
-  link_told session.LinkFault is h = h
+  link_told session.LinkFault is h = did_any _ q r status h
   link_told session.Memory is h = absurd (let no : stop.LinkFault ≡ stop.Memory = is in cc)
 
 -- there was no memory for its line
@@ -83,15 +85,15 @@ can_after_session p name (Ok c) = can_leave p name c
 can_after_session p name (Err fault) = can_end_by (session_line fault)
 
 module _ (p : ProfileView) (name : List ℕ) (c d : ClientState) (q r s : HostState) where
-  pub left_after : (answer : Option Status) → Did (Converses p c) q r (outcome d (Ok tt)) → Did (Leaves p name d) r s answer → Did (after_connect p name c true) q s answer
-  left_after answer h l = did_then (Converses p c) (after_session p name) q r s (Ok d) answer h l
+  pub left_after : (answer : Option Status) → DidIn to_link (Converses p c) q r (outcome d (Ok tt)) → DidIn to_link (Leaves p name d) r s answer → DidIn to_link (after_connect p name c true) q s answer
+  left_after answer h l = did_then (Converses p c) (after_session p name) q r s (Ok d) answer (may_converse p c) h l
 
-  pub told_after : (fault : SessionFault) (answer : Option Status) → Did (Converses p c) q r (outcome d (Err fault)) → TellsEnd fault r s answer → Did (after_connect p name c true) q s answer
-  told_after (session.Packet f) answer h e = did_then (Converses p c) (after_session p name) q r s (Err (session.Packet f)) answer h e
-  told_after (session.Wire f) answer h e = did_then (Converses p c) (after_session p name) q r s (Err (session.Wire f)) answer h e
-  told_after (session.Client f) answer h e = did_then (Converses p c) (after_session p name) q r s (Err (session.Client f)) answer h e
-  told_after session.TooManyFrames answer h e = did_then (Converses p c) (after_session p name) q r s (Err session.TooManyFrames) answer h e
-  told_after session.LinkFault answer h e = did_then (Converses p c) (after_session p name) q r s (Err session.LinkFault) answer h e
+  pub told_after : (fault : SessionFault) (answer : Option Status) → DidIn to_link (Converses p c) q r (outcome d (Err fault)) → TellsEnd fault r s answer → DidIn to_link (after_connect p name c true) q s answer
+  told_after (session.Packet f) answer h e = did_then (Converses p c) (after_session p name) q r s (Err (session.Packet f)) answer (may_converse p c) h e
+  told_after (session.Wire f) answer h e = did_then (Converses p c) (after_session p name) q r s (Err (session.Wire f)) answer (may_converse p c) h e
+  told_after (session.Client f) answer h e = did_then (Converses p c) (after_session p name) q r s (Err (session.Client f)) answer (may_converse p c) h e
+  told_after session.TooManyFrames answer h e = did_then (Converses p c) (after_session p name) q r s (Err session.TooManyFrames) answer (may_converse p c) h e
+  told_after session.LinkFault answer h e = did_then (Converses p c) (after_session p name) q r s (Err session.LinkFault) answer (may_converse p c) h e
   told_after session.Memory answer h e =
-      subst (λ (o : Option Status). Did (after_connect p name c true) q s o) (sym e.0)
-      (subst (λ (z : HostState). Did (after_connect p name c true) q z None) (sym e.1) (did_stop (Converses p c) (after_session p name) q r (can_after_session p name) h))
+      subst (λ (o : Option Status). DidIn to_link (after_connect p name c true) q s o) (sym e.0)
+      (subst (λ (z : HostState). DidIn to_link (after_connect p name c true) q z None) (sym e.1) (did_stop (Converses p c) (after_session p name) q r (can_after_session p name) h))

@@ -1,4 +1,5 @@
 pub mod SentMessages
+pub mod Conversed
 pub mod Conversations
 pub mod LeftClients
 pub mod States

@@ -9,14 +9,14 @@ use Rattle.command_base.specs.Answer.{done, link_fault_line, refused}
 use Rattle.command_base.specs.declared.status.Status.{Status}
 use Rattle.command_base.specs.declared.status.Status.TheVariants.{LinkFault, PeerFault, ReadFault}
 use Rattle.outside.specs.Events.{Event, connected}
-use Rattle.outside.specs.Laws.{Throughout, Keeps, Happened, IsFailure, Explains, HasCause}
+use Rattle.outside.specs.Laws.{Throughout, Keeps, Happened, IsFailure, IsFromLink, Explains, HasCause}
 use Rattle.outside.specs.Packets.{PacketView, whole, TakesPacket}
 use Rattle.outside.specs.Packets as packets
 use Rattle.outside.specs.Pieces.{ReadsFile, Tells, Writes}
 use Rattle.outside.specs.Printing.{Prints}
 use Rattle.outside.specs.Runs as runs
 use Rattle.outside.proofs.Causing.{cause_print, cause_run, cause_tell, cause_then, explains_last, keeps_begun, keeps_call, keeps_file, keeps_print, keeps_tell, keeps_then, keeps_write, throughout_both, unread_file, unwritten}
-use Rattle.outside.proofs.TakenPackets.{broken_packet, keeps_packet}
+use Rattle.outside.proofs.TakenPackets.{broken_packet, keeps_packet, packet_came}
 use Rattle.codec_rooms.proofs.TypedLaws.{keeps_of_file, cause_of_file}
 use Rattle.schema_files.specs.Lines.{json_line}
 use Rattle.schema_files.specs.declared.json_input.TheConstants.{JSON_BYTES}
@@ -92,13 +92,13 @@ post_touches schema address input t s (runs.out_of_memory h) =
 
 -- ---- causes
 
-told_cause : (o : Outcome) → HasCause (told_as o)
-told_cause (shows line) = cause_print (done line) tt
-told_cause (peer line) = λ t s h. cause_tell line PeerFault [] t s tt h
+-- what the other end did comes after something from there
+blamed : (line : List ℕ) (t u : List Event) (s : Status) → Happened IsFromLink t → Tells line PeerFault u s → Explains s (t ++ u)
+blamed line t u s came h = cause_tell line PeerFault t u s came h
 
--- what the other end did is no fault of the outside
-blamed : (line : List ℕ) (t u : List Event) (s : Status) → Tells line PeerFault u s → Explains s (t ++ u)
-blamed line t u s h = cause_tell line PeerFault t u s tt h
+told_cause : (o : Outcome) (t u : List Event) (s : Status) → Happened IsFromLink t → told_as o u s → Explains s (t ++ u)
+told_cause (shows line) t u s came h = explains_last s t u (cause_print (done line) tt u s h)
+told_cause (peer line) t u s came h = blamed line t u s came h
 
 lost : (t u : List Event) (s : Status) → Happened (IsFailure kinds.Links) t → Tells link_fault_line LinkFault u s → Explains s (t ++ u)
 lost t u s failed h = cause_tell link_fault_line LinkFault t u s failed h
@@ -106,10 +106,10 @@ lost t u s failed h = cause_tell link_fault_line LinkFault t u s failed h
 module _ (p : ProfileView) (address : List ℕ) where
   module _ (n : ℕ) where
     packet_cause : (m : PacketView) (t u : List Event) (s : Status) → TakesPacket slots.Link t m → after_packet p n m u s → Explains s (t ++ u)
-    packet_cause (whole body) t u s taken (o, of, h) = explains_last s t u (told_cause o u s h)
-    packet_cause packets.none t u s taken h = blamed _ t u s h
-    packet_cause (packets.bad_length k) t u s taken h = blamed _ t u s h
-    packet_cause (packets.ended had) t u s taken h = blamed _ t u s h
+    packet_cause (whole body) t u s taken (o, of, h) = told_cause o t u s (packet_came t (whole body) taken tt) h
+    packet_cause packets.none t u s taken h = blamed _ t u s (packet_came t packets.none taken tt) h
+    packet_cause (packets.bad_length k) t u s taken h = blamed _ t u s (packet_came t (packets.bad_length k) taken tt) h
+    packet_cause (packets.ended had) t u s taken h = blamed _ t u s (packet_came t (packets.ended had) taken tt) h
     packet_cause packets.broken t u s taken h = lost t u s (broken_packet slots.Link t taken) h
 
     sent_cause : (b : List ℕ) (ok : Bool) (t u : List Event) (s : Status) → Writes outs.Link (packet b) t ok → after_sending p n ok u s → Explains s (t ++ u)

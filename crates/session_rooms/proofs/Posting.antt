@@ -29,8 +29,9 @@ use Rattle.outside.specs.declared.packets.Packet.TheVariants as packet_of
 use Rattle.outside.specs.Packets as packets
 use Rattle.outside.specs.Pieces.{InPieces, ReadsFile, Tells, Writes, joined}
 use Rattle.outside.specs.Printing.{Prints, PrintsMade}
-use Rattle.outside.specs.Steps.{Begins, Did}
-use Rattle.outside.proofs.Growing.{did_none, grew_more}
+use Rattle.outside.specs.Begun.{Did, DidIn, to_link}
+use Rattle.outside.specs.Steps.{Begins}
+use Rattle.outside.proofs.Growing.{did_any, did_none, grew_more}
 use Rattle.outside.proofs.Piecewise.{are_none, can_tell}
 use Rattle.outside.proofs.Printed.{can_print}
 use Rattle.outside.proofs.TakenPackets.{whole_packet}
@@ -130,10 +131,10 @@ module _ (p : ProfileView) (address : List ℕ) where
     refusal line (no_call_told (x, b, is, spells, (are, inl (fault, r, tells)))) t s h = json_of x b is spells are (no_call fault line r tells h)
     refusal line (no_call_told (x, b, is, spells, (are, inr (c, means, long, tells)))) t s h = json_of x b is spells are (long_call c means long (subst (λ (l : List ℕ). Prints (refused l) t s) tells h))
 
-    pub text_refused : (u : Unmade) (q r : HostState) (answer : Option Status) → IsProfile p → AreBytes text → MakesCall p text (Err u) → PrintsMade (of_fault u) q r answer → Did (OfText p address text) q r answer
+    pub text_refused : (u : Unmade) (q r : HostState) (answer : Option Status) → IsProfile p → AreBytes text → MakesCall p text (Err u) → PrintsMade (of_fault u) q r answer → DidIn to_link (OfText p address text) q r answer
     text_refused u q r answer good are told = refusal_done (OfText p address text) (TellsNothing p text) u q r answer (can_text good text are) refusal told
 
-    pub text_called : (s : Sending) (q r : HostState) (answer : Option Status) → MakesCall p text (Ok s) → Did (CallsOver p address s.number s.bytes) q r answer → Did (OfText p address text) q r answer
+    pub text_called : (s : Sending) (q r : HostState) (answer : Option Status) → MakesCall p text (Ok s) → DidIn to_link (CallsOver p address s.number s.bytes) q r answer → DidIn to_link (OfText p address text) q r answer
     text_called s q r answer (x, is, spells, may) h =
         did_as (CallsOver p address s.number s.bytes) (OfText p address text) q r answer
         (λ t z w. json_of x s.bytes is spells may.are (calls_it may.call may.means may.fits.1 (subst (λ (n : ℕ). CallsOver p address n s.bytes t z) (sym may.number) w))) h
@@ -159,15 +160,15 @@ module _ (p : ProfileView) (n : ℕ) where
     can_reply t (packets.ended had) h = can_tell _ _
     can_reply t packets.broken h = can_tell _ _
 
-  module _ (body : List ℕ) (q r : HostState) (answer : Option Status) where
-    by_outcome : (o : Outcome) → OfBody p n body o → Did (told_as o) q r answer → Did (TellsBody p n body) q r answer
-    by_outcome o of h = did_as (told_as o) (TellsBody p n body) q r answer (λ t s w. (o, of, w)) h
+  module _ (body : List ℕ) (q r : HostState) (status : Status) where
+    by_outcome : (o : Outcome) → OfBody p n body o → Did (told_as o) q r (Some status) → DidIn to_link (TellsBody p n body) q r (Some status)
+    by_outcome o of h = did_any _ q r status (did_as (told_as o) (TellsBody p n body) q r (Some status) (λ t s w. (o, of, w)) h)
 
-    pub reply_shown : (line told : List ℕ) → told ≡ line → OfBody p n body (shows line) → Did (Prints (done told)) q r answer → Did (TellsBody p n body) q r answer
-    reply_shown line told is of h = by_outcome (shows line) of (subst (λ (l : List ℕ). Did (Prints (done l)) q r answer) is h)
+    pub reply_shown : (line told : List ℕ) → told ≡ line → OfBody p n body (shows line) → Did (Prints (done told)) q r (Some status) → DidIn to_link (TellsBody p n body) q r (Some status)
+    reply_shown line told is of h = by_outcome (shows line) of (subst (λ (l : List ℕ). Did (Prints (done l)) q r (Some status)) is h)
 
-    pub reply_blamed : (line told : List ℕ) → told ≡ line → OfBody p n body (peer line) → Did (Tells told PeerFault) q r answer → Did (TellsBody p n body) q r answer
-    reply_blamed line told is of h = by_outcome (peer line) of (subst (λ (l : List ℕ). Did (Tells l PeerFault) q r answer) is h)
+    pub reply_blamed : (line told : List ℕ) → told ≡ line → OfBody p n body (peer line) → Did (Tells told PeerFault) q r (Some status) → DidIn to_link (TellsBody p n body) q r (Some status)
+    reply_blamed line told is of h = by_outcome (peer line) of (subst (λ (l : List ℕ). Did (Tells l PeerFault) q r (Some status)) is h)
 
 -- the content of a packet that was taken
 pub packet_are : (q r : HostState) (x : Packet) (content : Vec ℕ Global) → x ≡ packet_of.Whole content → Did (TakesPacket slots.Link) q r (Some (packet_view x)) → AreBytes content.items
@@ -175,14 +176,14 @@ packet_are q r x content is d = (whole_packet slots.Link d.trace content.items (
 
 -- ---- no packet
 
-tells_at : (line told : List ℕ) (q r : HostState) (answer : Option Status) → line ≡ told → Did (Tells told PeerFault) q r answer → Did (Tells line PeerFault) q r answer
-tells_at line told q r answer is h = subst (λ (l : List ℕ). Did (Tells l PeerFault) q r answer) (sym is) h
+tells_at : (line told : List ℕ) (q r : HostState) (status : Status) → line ≡ told → Did (Tells told PeerFault) q r (Some status) → DidIn to_link (Tells line PeerFault) q r (Some status)
+tells_at line told q r status is h = did_any _ q r status (subst (λ (l : List ℕ). Did (Tells l PeerFault) q r (Some status)) (sym is) h)
 
-pub packet_blamed : (fault : PacketFault) (line : Vec ℕ Global) (told : List ℕ) (q r : HostState) (answer : Option Status) → TellsPacket fault (stop.Peer line) → told ≡ line.items → Did (Tells told PeerFault) q r answer → TellsNoPacket fault q r answer
-packet_blamed (packet_fault.BadLength n) line told q r answer is same h = tells_at (length_line n) told q r answer (sym is ∙ sym same) h
-packet_blamed (packet_fault.Ended had) line told q r answer is same h = tells_at (ended_line had) told q r answer (sym is ∙ sym same) h
-packet_blamed packet_fault.ReadFault line told q r answer is same h = tt
-packet_blamed packet_fault.Memory line told q r answer is same h = tt
+pub packet_blamed : (fault : PacketFault) (line : Vec ℕ Global) (told : List ℕ) (q r : HostState) (status : Status) → TellsPacket fault (stop.Peer line) → told ≡ line.items → Did (Tells told PeerFault) q r (Some status) → TellsNoPacket fault q r (Some status)
+packet_blamed (packet_fault.BadLength n) line told q r status is same h = tells_at (length_line n) told q r status (sym is ∙ sym same) h
+packet_blamed (packet_fault.Ended had) line told q r status is same h = tells_at (ended_line had) told q r status (sym is ∙ sym same) h
+packet_blamed packet_fault.ReadFault line told q r status is same h = tt
+packet_blamed packet_fault.Memory line told q r status is same h = tt
 
 pub packet_untold : (fault : PacketFault) (q : HostState) → TellsNoPacket fault q q None
 packet_untold (packet_fault.BadLength n) q = did_none _ q (can_tell (length_line n) PeerFault)

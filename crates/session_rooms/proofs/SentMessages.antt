@@ -7,7 +7,8 @@ use Rattle.tl_base.specs.declared.host.Out.TheVariants.{Link}
 use Rattle.outside.specs.Events.{Event, HostState, put, write_failed}
 use Rattle.outside.specs.Laws.{Keeps, Happened, IsFailure}
 use Rattle.outside.specs.Pieces.{Writes}
-use Rattle.outside.specs.Steps.{Begins, Did}
+use Rattle.outside.specs.Begun.{Did}
+use Rattle.outside.specs.Steps.{Begins}
 use Rattle.outside.proofs.Causing.{keeps_pieces, happened_last}
 use Rattle.outside.proofs.Piecewise.{no_pieces}
 use Rattle.codec_rooms.proofs.Typing.{did_as}

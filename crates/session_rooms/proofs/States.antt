@@ -16,7 +16,8 @@ use Rattle.command_base.specs.declared.stop.Unmade.TheVariants as unmade
 use Rattle.outside.specs.Events.{Event, HostState, connected, opened}
 use Rattle.outside.specs.Pieces.{ReadsFile, Takes, TakenView, full, short, broken, after_open, text_of}
 use Rattle.outside.specs.Printing.{Prints, PrintsMade}
-use Rattle.outside.specs.Steps.{Begins, Did}
+use Rattle.outside.specs.Begun.{DidIn, to_link}
+use Rattle.outside.specs.Steps.{Begins}
 use Rattle.outside.proofs.Piecewise.{can_tell}
 use Rattle.outside.proofs.Printed.{can_print}
 use Rattle.codec_rooms.proofs.Typing.{begun_as, did_as, refusal_done}
@@ -65,10 +66,10 @@ module _ (p : ProfileView) (address name : List ℕ) (channels : List ℤ) where
     refusal line (inl told) t s h = no_client line told h
     refusal line (inr (c, has, none, is)) t s h = too_many c has none (subst (λ (l : List ℕ). Prints (refused l) t s) is h)
 
-    pub state_refused : (u : Unmade) (q r : HostState) (answer : Option Status) → IsProfile p → AreBytes bytes → MakesClient p channels bytes (Err u) → PrintsMade (of_fault u) q r answer → Did (OfState p address name channels bytes) q r answer
+    pub state_refused : (u : Unmade) (q r : HostState) (answer : Option Status) → IsProfile p → AreBytes bytes → MakesClient p channels bytes (Err u) → PrintsMade (of_fault u) q r answer → DidIn to_link (OfState p address name channels bytes) q r answer
     state_refused u q r answer good are told = refusal_done (OfState p address name channels bytes) (TellsNone p channels bytes) u q r answer (can_state good are) refusal told
 
-    pub state_made : (d : ClientState) (q r : HostState) (answer : Option Status) → MakesClient p channels bytes (Ok d) → Did (Recovers p address name d) q r answer → Did (OfState p address name channels bytes) q r answer
+    pub state_made : (d : ClientState) (q r : HostState) (answer : Option Status) → MakesClient p channels bytes (Ok d) → DidIn to_link (Recovers p address name d) q r answer → DidIn to_link (OfState p address name channels bytes) q r answer
     state_made d q r answer (c, has, is) h = did_as (Recovers p address name d) (OfState p address name channels bytes) q r answer (λ t s w. watches c d has is w) h
 
   pub can_after_reading : IsProfile p → (t : List Event) (o : Option (List ℕ)) → ReadsFile slots.State name MAX_STATE_BYTES t o → Begins (after_reading p address name channels o) []

@@ -7,7 +7,8 @@ use Rattle.tl_base.specs.declared.host.Out.TheVariants as outs
 use Rattle.command_base.specs.declared.status.Status.{Status}
 use Rattle.outside.specs.Events.{Event, opened, took, ended, read_failed, created, put, write_failed, listened, connected, accepted, told}
 use Rattle.outside.specs.Laws.{Throughout, HasCause}
-use Rattle.outside.specs.Runs.{Runs}
+use Rattle.outside.specs.Begun.{to_link}
+use Rattle.outside.specs.Runs.{RunsIn}
 use Rattle.session_rooms.specs.Client.{recovers}
 
 -- Schema, State and the link are read
@@ -47,8 +48,8 @@ IsOfClient schema address state (told moment) = ⊥
 
 -- no run of `client` does anything else, also one that runs out of memory
 abbrev pub ClientTouches : Type 0
-ClientTouches = (schema address state : List ℕ) (channels : List ℤ) (t : List Event) (status : Status) → Runs (recovers schema address state channels) t status → Throughout (IsOfClient schema address state) t
+ClientTouches = (schema address state : List ℕ) (channels : List ℤ) (t : List Event) (status : Status) → RunsIn to_link (recovers schema address state channels) t status → Throughout (IsOfClient schema address state) t
 
 -- a run ends by the status of a fault only where a call of that kind failed
 abbrev pub ClientHasCause : Type 0
-ClientHasCause = (schema address state : List ℕ) (channels : List ℤ) → HasCause (Runs (recovers schema address state channels))
+ClientHasCause = (schema address state : List ℕ) (channels : List ℤ) → HasCause (RunsIn to_link (recovers schema address state channels))

@@ -7,7 +7,8 @@ use Rattle.tl_base.specs.declared.host.Out.TheVariants as outs
 use Rattle.command_base.specs.declared.status.Status.{Status}
 use Rattle.outside.specs.Events.{Event, opened, took, ended, read_failed, created, put, write_failed, listened, connected, accepted, told}
 use Rattle.outside.specs.Laws.{Throughout, HasCause}
-use Rattle.outside.specs.Runs.{Runs}
+use Rattle.outside.specs.Begun.{to_link}
+use Rattle.outside.specs.Runs.{RunsIn}
 use Rattle.session_rooms.specs.Post.{posts}
 
 -- Schema, Input and the link are read
@@ -47,8 +48,8 @@ IsOfPost schema address input (told moment) = ⊥
 
 -- no run of `post` does anything else, also one that runs out of memory
 abbrev pub PostTouches : Type 0
-PostTouches = (schema address input : List ℕ) (t : List Event) (status : Status) → Runs (posts schema address input) t status → Throughout (IsOfPost schema address input) t
+PostTouches = (schema address input : List ℕ) (t : List Event) (status : Status) → RunsIn to_link (posts schema address input) t status → Throughout (IsOfPost schema address input) t
 
 -- a run ends by the status of a fault only where a call of that kind failed
 abbrev pub PostHasCause : Type 0
-PostHasCause = (schema address input : List ℕ) → HasCause (Runs (posts schema address input))
+PostHasCause = (schema address input : List ℕ) → HasCause (RunsIn to_link (posts schema address input))

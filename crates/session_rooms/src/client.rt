@@ -1,7 +1,7 @@
 //! `client`: the client of a state file is brought up to date over a link, saved, and told.
 ghost use Rattle.std.specs.Prelude.{codes, ◌≤◌, IfOk, true};
-ghost use Rattle.outside.specs.Runs.{Ran, answered};
-ghost use Rattle.outside.specs.Steps.{Did};
+ghost use Rattle.outside.specs.Runs.{RanIn, answered};
+ghost use Rattle.outside.specs.Begun.{DidIn, to_link};
 ghost use Rattle.tl_schema.specs.CheckedPrograms.{IsSchema};
 ghost use Rattle.wire_profile.specs.Profiles.{IsProfile};
 ghost use Rattle.codec_rooms.specs.Typed.{OfText};
@@ -31,7 +31,7 @@ pub fn recover_client<H: Host>(
     state: &str,
     channels: &[i64],
 ) -> Result<Status, AllocError>
-    ensures { Did (recovers schema.now address.now state.now channels.now) (H.state host.old) (H.state host.new) (answered result) }
+    ensures { DidIn to_link (recovers schema.now address.now state.now channels.now) (H.state host.old) (H.state host.new) (answered result) }
 {
     match read_file(alloc, host, Slot::Schema, schema, SCHEMA_BYTES)? {
         Some(text) => recover_text(alloc, host, &text, address, state, channels),
@@ -48,7 +48,7 @@ pub fn run_client<H: Host>(
     state: &str,
     channels: &[i64],
 ) -> Status
-    ensures { Ran (recovers schema.now address.now state.now channels.now) (H.state host.old) (H.state host.new) result }
+    ensures { RanIn to_link (recovers schema.now address.now state.now channels.now) (H.state host.old) (H.state host.new) result }
 {
     let done = recover_client(alloc, host, schema, address, state, channels);
     finish(host, done)
@@ -63,7 +63,7 @@ fn recover_text<H: Host>(
     state: &str,
     channels: &[i64],
 ) -> Result<Status, AllocError>
-    ensures { Did (OfText (codes "schema") (OfProfile (OfStateFile address.now state.now channels.now)) text.now) (H.state host.old) (H.state host.new) (answered result) }
+    ensures { DidIn to_link (OfText (codes "schema") (OfProfile (OfStateFile address.now state.now channels.now)) text.now) (H.state host.old) (H.state host.new) (answered result) }
 {
     match schema_of(alloc, "schema", text) {
         Ok(schema) => recover_schema(alloc, host, &schema, address, state, channels),
@@ -81,7 +81,7 @@ fn recover_schema<H: Host>(
     channels: &[i64],
 ) -> Result<Status, AllocError>
     requires { IsSchema schema.now }
-    ensures { Did (OfProfile (OfStateFile address.now state.now channels.now) schema.now) (H.state host.old) (H.state host.new) (answered result) }
+    ensures { DidIn to_link (OfProfile (OfStateFile address.now state.now channels.now) schema.now) (H.state host.old) (H.state host.new) (answered result) }
 {
     match profile_of(alloc, schema) {
         Ok(profile) => {
@@ -103,7 +103,7 @@ fn recover_state<H: Host>(
     channels: &[i64],
 ) -> Result<Status, AllocError>
     requires sound { IsProfile profile.now }
-    ensures { Did (OfStateFile address.now state.now channels.now profile.now) (H.state host.old) (H.state host.new) (answered result) }
+    ensures { DidIn to_link (OfStateFile address.now state.now channels.now profile.now) (H.state host.old) (H.state host.new) (answered result) }
 {
     match read_file(alloc, host, Slot::State, state, MAX_STATE_BYTES)? {
         Some(bytes) => recover_bytes(alloc, host, profile, address, state, channels, &bytes),
@@ -122,7 +122,7 @@ fn recover_bytes<H: Host>(
     bytes: &[u8],
 ) -> Result<Status, AllocError>
     requires sound { IsProfile profile.now }
-    ensures { Did (OfState profile.now address.now state.now channels.now bytes.now) (H.state host.old) (H.state host.new) (answered result) }
+    ensures { DidIn to_link (OfState profile.now address.now state.now channels.now bytes.now) (H.state host.old) (H.state host.new) (answered result) }
 {
     match watching(alloc, profile, bytes, channels) {
         Ok(client) => recover(alloc, host, profile, address, state, client),
@@ -157,7 +157,7 @@ fn recover<H: Host>(
 ) -> Result<Status, AllocError>
     requires sound { IsProfile profile.now }
     requires next { client.next ≤ 2000000000 }
-    ensures { Did (Recovers profile.now address.now state.now client) (H.state host.old) (H.state host.new) (answered result) }
+    ensures { DidIn to_link (Recovers profile.now address.now state.now client) (H.state host.old) (H.state host.new) (answered result) }
 {
     match host.connect(address) {
         Ok(()) => recover_linked(alloc, host, profile, state, &mut client),
@@ -175,7 +175,7 @@ fn recover_linked<H: Host>(
 ) -> Result<Status, AllocError>
     requires sound { IsProfile profile.now }
     requires next { client.old.next ≤ 2000000000 }
-    ensures { Did (after_connect profile.now state.now client.old true) (H.state host.old) (H.state host.new) (answered result) }
+    ensures { DidIn to_link (after_connect profile.now state.now client.old true) (H.state host.old) (H.state host.new) (answered result) }
 {
     match converse(alloc, host, profile, client) {
         Ok(()) => leave_client(alloc, host, profile, state, client),

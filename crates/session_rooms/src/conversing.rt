@@ -2,7 +2,8 @@
 ghost use Rattle.std.specs.Prelude.{◌≡◌, ◌≤◌, ◌+◌, ◌<◌, true};
 ghost use Rattle.box_client.specs.Asking.{is_one_asking};
 ghost use Rattle.box_events.specs.declared.limits.TheConstants.{MAX_ASKS};
-ghost use Rattle.outside.specs.Steps.{Did, Loops};
+ghost use Rattle.outside.specs.Begun.{DidIn, to_link};
+ghost use Rattle.outside.specs.Steps.{Loops};
 ghost use Rattle.wire_profile.specs.Profiles.{IsProfile};
 ghost use Rattle.session_rooms.specs.Conversing.{Converses, HearsBytes, HearsNext, HearsOn, outcome};
 
@@ -24,7 +25,7 @@ pub fn converse<H: Host>(
 ) -> Result<(), SessionFault>
     requires sound { IsProfile profile.now }
     requires next { client.old.next ≤ 2000000000 }
-    ensures { Did (Converses profile.now client.old) (H.state host.old) (H.state host.new) (outcome client.new result) }
+    ensures { DidIn to_link (Converses profile.now client.old) (H.state host.old) (H.state host.new) (outcome client.new result) }
 {
     let mut asks = Asks::new();
     let mut out = Bytes::new(alloc);
@@ -46,7 +47,7 @@ fn hear_all<H: Host>(
 ) -> Result<(), SessionFault>
     requires sound { IsProfile profile.now }
     requires next { client.old.next ≤ 2000000000 + MAX_ASKS }
-    ensures { Did (Loops (HearsOn profile.now) (client.old, 0)) (H.state host.old) (H.state host.new) (outcome client.new result) }
+    ensures { DidIn to_link (Loops (HearsOn profile.now) (client.old, 0)) (H.state host.old) (H.state host.new) (outcome client.new result) }
 {
     for frames in 0..MAX_FRAMES {
         if !client.asking() {
@@ -72,7 +73,7 @@ fn hear_next<H: Host>(
     requires sound { IsProfile profile.now }
     requires next { client.old.next ≤ 2147483582 }
     requires asking { is_one_asking client.old ≡ true }
-    ensures hears { Did (HearsNext profile.now client.old) (H.state host.old) (H.state host.new) (outcome client.new result) }
+    ensures hears { DidIn to_link (HearsNext profile.now client.old) (H.state host.old) (H.state host.new) (outcome client.new result) }
     ensures next { client.new.next ≤ client.old.next + MAX_ASKS }
 {
     match take_packet(alloc, host, Slot::Link)? {
@@ -99,7 +100,7 @@ fn hear_bytes<H: Host>(
     requires sound { IsProfile profile.now }
     requires next { client.old.next ≤ 2147483582 }
     requires asking { is_one_asking client.old ≡ true }
-    ensures hears { Did (HearsBytes profile.now client.old packet.now) (H.state host.old) (H.state host.new) (outcome client.new result) }
+    ensures hears { DidIn to_link (HearsBytes profile.now client.old packet.now) (H.state host.old) (H.state host.new) (outcome client.new result) }
     ensures next { client.new.next ≤ client.old.next + MAX_ASKS }
 {
     hear_packet(alloc, profile, client, packet, asks, out)?;

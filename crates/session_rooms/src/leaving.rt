@@ -3,7 +3,7 @@ ghost use Rattle.std.specs.Prelude.{Some, true};
 ghost use Rattle.wire_profile.specs.Places.{ProfileView};
 ghost use Rattle.box_client.specs.States.{ClientState};
 ghost use Rattle.outside.specs.Runs.{answered};
-ghost use Rattle.outside.specs.Steps.{Did};
+ghost use Rattle.outside.specs.Begun.{Did, DidIn, to_link};
 ghost use Rattle.session_commands.specs.inner.Recovering.{LeavesOf};
 ghost use Rattle.session_rooms.specs.Client.{Leaves, after_create};
 ghost use Rattle.session_rooms.specs.inner.Ends.{TellsEnd};
@@ -25,7 +25,7 @@ pub fn leave_client<H: Host>(
     name: &str,
     client: &Client,
 ) -> Result<Status, AllocError>
-    ensures { Did (Leaves profile.now name.now client.now) (H.state host.old) (H.state host.new) (answered result) }
+    ensures { DidIn to_link (Leaves profile.now name.now client.now) (H.state host.old) (H.state host.new) (answered result) }
 {
     let leaving = leaving_of(alloc, profile, client)?;
     match host.create(Out::State, name) {

@@ -1,7 +1,7 @@
 //! `post`: the call that an input's JSON is goes over a link to an address, and what comes back is told.
 ghost use Rattle.std.specs.Prelude.{codes, ◌≤◌, length, true};
-ghost use Rattle.outside.specs.Runs.{Ran, answered};
-ghost use Rattle.outside.specs.Steps.{Did};
+ghost use Rattle.outside.specs.Runs.{RanIn, answered};
+ghost use Rattle.outside.specs.Begun.{DidIn, to_link};
 ghost use Rattle.tl_numbers.specs.Bytes.{AreBytes};
 ghost use Rattle.tl_schema.specs.CheckedPrograms.{IsSchema};
 ghost use Rattle.tl_schema.specs.Types.{call};
@@ -33,7 +33,7 @@ pub fn post_call<H: Host>(
     address: &str,
     input: &str,
 ) -> Result<Status, AllocError>
-    ensures { Did (posts schema.now address.now input.now) (H.state host.old) (H.state host.new) (answered result) }
+    ensures { DidIn to_link (posts schema.now address.now input.now) (H.state host.old) (H.state host.new) (answered result) }
 {
     match read_file(alloc, host, Slot::Schema, schema, SCHEMA_BYTES)? {
         Some(text) => post_text(alloc, host, &text, address, input),
@@ -49,7 +49,7 @@ pub fn run_post<H: Host>(
     address: &str,
     input: &str,
 ) -> Status
-    ensures { Ran (posts schema.now address.now input.now) (H.state host.old) (H.state host.new) result }
+    ensures { RanIn to_link (posts schema.now address.now input.now) (H.state host.old) (H.state host.new) result }
 {
     let done = post_call(alloc, host, schema, address, input);
     finish(host, done)
@@ -63,7 +63,7 @@ fn post_text<H: Host>(
     address: &str,
     input: &str,
 ) -> Result<Status, AllocError>
-    ensures { Did (OfSchemaText (codes "schema") (OfProfile (OfInputFile address.now input.now)) text.now) (H.state host.old) (H.state host.new) (answered result) }
+    ensures { DidIn to_link (OfSchemaText (codes "schema") (OfProfile (OfInputFile address.now input.now)) text.now) (H.state host.old) (H.state host.new) (answered result) }
 {
     match schema_of(alloc, "schema", text) {
         Ok(schema) => post_schema(alloc, host, &schema, address, input),
@@ -80,7 +80,7 @@ fn post_schema<H: Host>(
     input: &str,
 ) -> Result<Status, AllocError>
     requires { IsSchema schema.now }
-    ensures { Did (OfProfile (OfInputFile address.now input.now) schema.now) (H.state host.old) (H.state host.new) (answered result) }
+    ensures { DidIn to_link (OfProfile (OfInputFile address.now input.now) schema.now) (H.state host.old) (H.state host.new) (answered result) }
 {
     match profile_of(alloc, schema) {
         Ok(profile) => {
@@ -101,7 +101,7 @@ fn post_input<H: Host>(
     input: &str,
 ) -> Result<Status, AllocError>
     requires sound { IsProfile profile.now }
-    ensures { Did (OfInputFile address.now input.now profile.now) (H.state host.old) (H.state host.new) (answered result) }
+    ensures { DidIn to_link (OfInputFile address.now input.now profile.now) (H.state host.old) (H.state host.new) (answered result) }
 {
     match read_file(alloc, host, Slot::Input, input, JSON_BYTES)? {
         Some(text) => post_json(alloc, host, profile, address, &text),
@@ -118,7 +118,7 @@ fn post_json<H: Host>(
     text: &[u8],
 ) -> Result<Status, AllocError>
     requires sound { IsProfile profile.now }
-    ensures { Did (OfText profile.now address.now text.now) (H.state host.old) (H.state host.new) (answered result) }
+    ensures { DidIn to_link (OfText profile.now address.now text.now) (H.state host.old) (H.state host.new) (answered result) }
 {
     match sending_of(alloc, profile, text) {
         Ok(call) => send_call(alloc, host, profile, address, &call),
@@ -157,7 +157,7 @@ fn send_call<H: Host>(
 ) -> Result<Status, AllocError>
     requires sound { IsProfile profile.now }
     requires short { length call.now.bytes ≤ MAX_FRAME_BYTES }
-    ensures { Did (CallsOver profile.now address.now call.now.number call.now.bytes) (H.state host.old) (H.state host.new) (answered result) }
+    ensures { DidIn to_link (CallsOver profile.now address.now call.now.number call.now.bytes) (H.state host.old) (H.state host.new) (answered result) }
 {
     match host.connect(address) {
         Ok(()) => exchange(alloc, host, profile, call),
@@ -174,7 +174,7 @@ fn exchange<H: Host>(
 ) -> Result<Status, AllocError>
     requires sound { IsProfile profile.now }
     requires short { length call.now.bytes ≤ MAX_FRAME_BYTES }
-    ensures { Did (after_connect profile.now call.now.number call.now.bytes true) (H.state host.old) (H.state host.new) (answered result) }
+    ensures { DidIn to_link (after_connect profile.now call.now.number call.now.bytes true) (H.state host.old) (H.state host.new) (answered result) }
 {
     match send_packet(host, call.bytes.as_slice()) {
         Ok(()) => take_reply(alloc, host, profile, call.number),
@@ -190,7 +190,7 @@ fn take_reply<H: Host>(
     number: u32,
 ) -> Result<Status, AllocError>
     requires sound { IsProfile profile.now }
-    ensures { Did (after_sending profile.now number true) (H.state host.old) (H.state host.new) (answered result) }
+    ensures { DidIn to_link (after_sending profile.now number true) (H.state host.old) (H.state host.new) (answered result) }
 {
     match take_packet(alloc, host, Slot::Link)? {
         Packet::Whole(body) => tell_reply(alloc, host, profile, number, body),
@@ -213,7 +213,7 @@ fn tell_reply<H: Host>(
 ) -> Result<Status, AllocError>
     requires sound { IsProfile profile.now }
     requires bytes { AreBytes body.items }
-    ensures { Did (TellsBody profile.now number body.items) (H.state host.old) (H.state host.new) (answered result) }
+    ensures { DidIn to_link (TellsBody profile.now number body.items) (H.state host.old) (H.state host.new) (answered result) }
 {
     match reply_line(alloc, profile, number, Bytes::from_vec(body)) {
         Ok(line) => Ok(print(host, &line)),

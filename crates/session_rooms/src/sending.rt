@@ -5,7 +5,7 @@ ghost use Rattle.tl_base.specs.declared.host.Out.TheVariants.{Link};
 ghost use Rattle.box_events.specs.declared.limits.TheConstants.{MAX_FRAME_BYTES};
 ghost use Rattle.box_events.specs.declared.requests.Numbered.{Numbered};
 ghost use Rattle.outside.specs.Pieces.{Writes};
-ghost use Rattle.outside.specs.Steps.{Did};
+ghost use Rattle.outside.specs.Begun.{Did};
 ghost use Rattle.update_sessions.specs.Packed.{Packed, SpellsCall};
 ghost use Rattle.wire_profile.specs.Places.{ProfileView};
 ghost use Rattle.session_rooms.specs.Sending.{Sends};

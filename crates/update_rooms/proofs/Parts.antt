@@ -1,5 +1,5 @@
 -- An answer whose Output is put by parts.
-use Rattle.std.proofs.Common.{◌≡◌, ℕ, List, [], ◌∷◌, ◌++◌, length-append, map, Bool, true, false, Option, Some, None, refl, sym, ap, ◌∙◌, subst, arith}
+use Rattle.std.proofs.Common.{◌≡◌, ℕ, List, [], ◌∷◌, ◌++◌, length-append, map, Bool, true, false, Option, Some, None, refl, sym, ap, ◌∙◌, subst, arith, inl}
 use Rattle.std.proofs.lemmas.List.{append-nil, append_assoc, map-append}
 use Rattle.tl_base.specs.declared.host.Out.TheVariants.{Output}
 use Rattle.command_base.specs.Answer.{Answer, done, refused_after, write_fault_line}
@@ -8,8 +8,10 @@ use Rattle.command_base.specs.declared.status.Status.TheVariants.{Refused, Write
 use Rattle.outside.specs.Events.{Event, HostState, put}
 use Rattle.outside.specs.Pieces.{InPieces, Tells, Writes, joined}
 use Rattle.outside.specs.Printing.{Prints, after_output}
-use Rattle.outside.specs.Steps.{Grows, Did}
-use Rattle.outside.proofs.Growing.{grew_more, did_then}
+use Rattle.outside.specs.Begun.{Did, DidIn, WritesOnly, to_output}
+use Rattle.outside.specs.Steps.{Grows}
+use Rattle.outside.proofs.Causing.{keeps_pieces}
+use Rattle.outside.proofs.Growing.{did_any, did_both, grew_more}
 use Rattle.outside.proofs.Piecewise.{can_tell, more_pieces}
 
 joined_both : (ps qs : List (List ℕ)) → joined (ps ++ qs) ≡ joined ps ++ joined qs
@@ -42,7 +44,7 @@ module _ (x y : HostState) (output : List ℕ) (g : HasPut output x y) where
   same_after lines false u status h = h
 
   -- the rest of it is printed
-  pub rest_printed : (z : HostState) (lines : List ℕ) (status : Status) → Did (Prints (done lines)) y z (Some status) → Did (Prints (done (output ++ lines))) x z (Some status)
+  pub rest_printed : (z : HostState) (lines : List ℕ) (status : Status) → Did (Prints (done lines)) y z (Some status) → DidIn to_output (Prints (done (output ++ lines))) x z (Some status)
   rest_printed z lines status h =
       let m = h.holds in
       record {
@@ -59,26 +61,26 @@ module _ (x y : HostState) (output : List ℕ) (g : HasPut output x y) where
       }
 
   -- it is all, and then a refusal is told
-  pub refusal_printed : (z : HostState) (line : List ℕ) (answer : Option Status) → Did (Tells line Refused) y z answer → Did (Prints (refused_after output line)) x z answer
-  refusal_printed z line answer h = did_then (Writes Output output) (after_output (refused_after output line)) x y z true answer (record { trace = g.trace; grew = g.grew; holds = g.holds }) h
+  pub refusal_printed : (z : HostState) (line : List ℕ) (status : Status) → Did (Tells line Refused) y z (Some status) → DidIn to_output (Prints (refused_after output line)) x z (Some status)
+  refusal_printed z line status h = did_both (Writes Output output) (after_output (refused_after output line)) x y z true status (record { trace = g.trace; grew = g.grew; holds = g.holds }) (did_any _ y z status h)
 
   module _ (a : Answer) where
     -- a write of what comes next fails, and that is told
-    pub fault_printed : (z w : HostState) (lines more : List ℕ) (answer : Option Status) → (output ++ lines) ++ more ≡ a.output → Did (Writes Output lines) y z (Some false) → Did (Tells write_fault_line WriteFault) z w answer → Did (Prints a) x w answer
-    fault_printed z w lines more answer split h told =
+    pub fault_printed : (z w : HostState) (lines more : List ℕ) (status : Status) → (output ++ lines) ++ more ≡ a.output → Did (Writes Output lines) y z (Some false) → Did (Tells write_fault_line WriteFault) z w (Some status) → DidIn to_output (Prints a) x w (Some status)
+    fault_printed z w lines more status split h told =
         let k = h.holds in
         let parts : (output ++ k.0) ++ (k.1 ++ more) ≡ a.output =
         sym (append_assoc (output ++ k.0) k.1 more) ∙ (ap (λ (l : List ℕ). l ++ more) (append_assoc output k.0 k.1 ∙ ap (λ (l : List ℕ). output ++ l) k.3) ∙ split) in
-        did_then (Writes Output a.output) (after_output a) x z w false answer
+        did_both (Writes Output a.output) (after_output a) x z w false status
         (record {
           trace = g.trace ++ h.trace;
           grew = grew_more x y z g.trace h.trace g.grew h.grew;
           holds = (output ++ k.0, k.1 ++ more, pieces_then (put Output) output k.0 _ g.trace h.trace g.holds k.2, parts, omega (arith, k.4, length-append k.1 more));
         })
-        told
+        (did_any _ z w status told)
 
     -- memory runs out
-    pub part_printed : (more : List ℕ) → output ++ more ≡ a.output → Did (Prints a) x y None
+    pub part_printed : (more : List ℕ) → output ++ more ≡ a.output → DidIn to_output (Prints a) x y None
     part_printed more split =
         let m = can_tell a.errors a.status in
         record {
@@ -95,5 +97,6 @@ module _ (x y : HostState) (output : List ℕ) (g : HasPut output x y) where
               does = subst (λ (l : List ℕ). InPieces (put Output) l [] (g.trace ++ put Output more ∷ [])) split (more_pieces (put Output) output more g.trace g.holds);
               goes = m.whole;
             };
+            only = keeps_pieces (WritesOnly to_output) (put Output) (λ bytes. inl refl) output [] g.trace tt g.holds;
           };
         }

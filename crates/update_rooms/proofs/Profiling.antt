@@ -1,5 +1,6 @@
 -- What follows of a schema that is a profile, and that it can go on to its end.
 use Rattle.std.proofs.Common.{List, ℕ, [], Option, Result, Ok, Err, subst}
+use Rattle.tl_base.specs.declared.host.Out.{Out}
 use Rattle.tl_schema.specs.CheckedPrograms.{IsSchema}
 use Rattle.tl_schema.specs.Schemas.{Declared}
 use Rattle.wire_profile.specs.Faults.{FaultView, IsAnswer}
@@ -14,7 +15,8 @@ use Rattle.fault_lines.specs.Profiled.{TellsProfile, form_line}
 use Rattle.fault_lines.proofs.Profiled.{are_profiles, each_schema}
 use Rattle.outside.specs.Events.{HostState}
 use Rattle.outside.specs.Printing.{Prints, PrintsMade}
-use Rattle.outside.specs.Steps.{Step, Begins, Did}
+use Rattle.outside.specs.Begun.{DidIn}
+use Rattle.outside.specs.Steps.{Step, Begins}
 use Rattle.outside.proofs.Printed.{can_print}
 use Rattle.codec_rooms.proofs.Typing.{begun_as, did_as, refusal_done}
 use Rattle.update_rooms.specs.Profile.{OfProfile, no_profile, profiled}
@@ -28,9 +30,9 @@ module _ (Rest : ProfileView → Step Status) (S : Declared) where
     pub can_profile : Begins (OfProfile Rest S) []
     can_profile = let told = each_schema S good in can_told told.0 told.1
 
-    pub profile_refused : (u : Unmade) (p q : HostState) (answer : Option Status) → Refuses (TellsProfile S) u → PrintsMade (of_fault u) p q answer → Did (OfProfile Rest S) p q answer
+    pub profile_refused : {outs : List Out} (u : Unmade) (p q : HostState) (answer : Option Status) → Refuses (TellsProfile S) u → PrintsMade (of_fault u) p q answer → DidIn outs (OfProfile Rest S) p q answer
     profile_refused u p q answer = refusal_done (OfProfile Rest S) (TellsProfile S) u p q answer can_profile
         (λ line (fault, lacks, is) t status h. no_profile fault lacks (subst (λ (l : List ℕ). Prints (refused l) t status) is h))
 
-  pub profile_made : (p : ProfileView) (a b : HostState) (answer : Option Status) → IsAnswer S (Ok p) → Did (Rest p) a b answer → Did (OfProfile Rest S) a b answer
+  pub profile_made : {outs : List Out} (p : ProfileView) (a b : HostState) (answer : Option Status) → IsAnswer S (Ok p) → DidIn outs (Rest p) a b answer → DidIn outs (OfProfile Rest S) a b answer
   profile_made p a b answer is = did_as (Rest p) (OfProfile Rest S) a b answer (λ t status h. profiled p is h)

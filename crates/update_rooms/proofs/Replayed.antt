@@ -15,7 +15,8 @@ use Rattle.command_base.specs.declared.status.Status.TheVariants.{ReadFault, Wri
 use Rattle.outside.specs.Events.{Event, HostState, opened, put}
 use Rattle.outside.specs.Pieces.{ReadsFile, Takes, Tells, TakenView, Writes, after_open, full, short, broken, text_of}
 use Rattle.outside.specs.Printing.{Answers, Prints}
-use Rattle.outside.specs.Steps.{Begins, Did}
+use Rattle.outside.specs.Begun.{Did, DidIn, to_output}
+use Rattle.outside.specs.Steps.{Begins}
 use Rattle.outside.proofs.Growing.{did_none}
 use Rattle.outside.proofs.Piecewise.{can_tell, started}
 use Rattle.outside.proofs.Printed.{answers_by, can_answer}
@@ -130,7 +131,7 @@ module _ (p : ProfileView) (n : ℕ) (journal : List ℕ) where
         let most = few_made p n (seen_of journal) (w.steps ++ s ∷ []) new.at made.left (w.output ++ new.lines.items) made.began in
         omega (arith, most, made.number, (w.made).number, length-append w.steps (s ∷ []))
 
-    pub ends : (new : Replay) (z : HostState) (lines : List ℕ) (status : Status) → HandsOut p n journal w.steps w.output new (Ok false) → lines ≡ new.lines.items → Did (Prints (done lines)) y z (Some status) → Did (Answers (OfJournal p n journal)) x z (Some status)
+    pub ends : (new : Replay) (z : HostState) (lines : List ℕ) (status : Status) → HandsOut p n journal w.steps w.output new (Ok false) → lines ≡ new.lines.items → Did (Prints (done lines)) y z (Some status) → DidIn to_output (Answers (OfJournal p n journal)) x z (Some status)
     ends new z lines status replayed is h =
         answers_by (OfJournal p n journal) (done (w.output ++ lines)) x z (Some status) (record { steps = w.steps; output = w.output ++ lines; ending = whole (length w.steps); replayed = subst (λ (l : List ℕ). Replayed p n journal w.steps (w.output ++ l) (whole (length w.steps))) (sym is) replayed; answered = refl })
         (rest_printed x y w.output w.wrote z lines status h)
@@ -149,10 +150,10 @@ module _ (p : ProfileView) (good : IsProfile p) (n : ℕ) (journal : List ℕ) (
 
   module _ (r : Replay) (x y : HostState) (w : Writing p n journal r x y) where
     -- a write of a step's lines failed
-    pub write_failed : (new : Replay) (z v : HostState) (lines : List ℕ) (status : Status) → HandsOut p n journal w.steps w.output new (Ok true) → lines ≡ new.lines.items → Did (Writes Output lines) y z (Some false) → Did (Tells write_fault_line WriteFault) z v (Some status) → Did (Answers (OfJournal p n journal)) x v (Some status)
+    pub write_failed : (new : Replay) (z v : HostState) (lines : List ℕ) (status : Status) → HandsOut p n journal w.steps w.output new (Ok true) → lines ≡ new.lines.items → Did (Writes Output lines) y z (Some false) → Did (Tells write_fault_line WriteFault) z v (Some status) → DidIn to_output (Answers (OfJournal p n journal)) x v (Some status)
     write_failed new z v lines status (s, made) is h told =
         let a = begins_answer (w.steps ++ s ∷ []) (w.output ++ new.lines.items) new made in
-        answers_by (OfJournal p n journal) a.0 x v (Some status) a.1 (fault_printed x y w.output w.wrote a.0 z v lines a.2 (Some status) (ap (λ (l : List ℕ). (w.output ++ l) ++ a.2) is ∙ a.3) h told)
+        answers_by (OfJournal p n journal) a.0 x v (Some status) a.1 (fault_printed x y w.output w.wrote a.0 z v lines a.2 status (ap (λ (l : List ℕ). (w.output ++ l) ++ a.2) is ∙ a.3) h told)
 
     -- the refusal's answer
     refusal_answer : (new : Replay) (f : ReplayFault) (line : List ℕ) → HandsOut p n journal w.steps w.output new (Err f) → stop_line f ≡ Some line → OfJournal p n journal (refused_after w.output line)
@@ -160,14 +161,14 @@ module _ (p : ProfileView) (good : IsProfile p) (n : ℕ) (journal : List ℕ) (
     refusal_answer new f line (none_put, inr (ending, replayed, is)) tells = record { steps = w.steps; output = w.output; ending = ending; replayed = replayed; answered = fault_told w.output ending f line (sym is) tells }
 
     -- it stopped, which was told, or for which there was no memory
-    pub stops : (new : Replay) (z : HostState) (f : ReplayFault) (answer : Option Status) → HandsOut p n journal w.steps w.output new (Err f) → TellsStop f y z answer → Did (Answers (OfJournal p n journal)) x z answer
-    stops new z f (Some status) handed (line, tells, h) = answers_by (OfJournal p n journal) (refused_after w.output line) x z (Some status) (refusal_answer new f line handed tells) (refusal_printed x y w.output w.wrote z line (Some status) h)
+    pub stops : (new : Replay) (z : HostState) (f : ReplayFault) (answer : Option Status) → HandsOut p n journal w.steps w.output new (Err f) → TellsStop f y z answer → DidIn to_output (Answers (OfJournal p n journal)) x z answer
+    stops new z f (Some status) handed (line, tells, h) = answers_by (OfJournal p n journal) (refused_after w.output line) x z (Some status) (refusal_answer new f line handed tells) (refusal_printed x y w.output w.wrote z line status h)
     stops new z f None handed same =
         let a = begins_answer w.steps w.output r w.made in
-        subst (λ (s : HostState). Did (Answers (OfJournal p n journal)) x s None) (sym same) (answers_by (OfJournal p n journal) a.0 x y None a.1 (part_printed x y w.output w.wrote a.0 a.2 a.3))
+        subst (λ (s : HostState). DidIn to_output (Answers (OfJournal p n journal)) x s None) (sym same) (answers_by (OfJournal p n journal) a.0 x y None a.1 (part_printed x y w.output w.wrote a.0 a.2 a.3))
 
   -- there was no memory to begin
-  pub not_begun : (x : HostState) → Did (Answers (OfJournal p n journal)) x x None
+  pub not_begun : (x : HostState) → DidIn to_output (Answers (OfJournal p n journal)) x x None
   not_begun x =
       let all = each_journal p n journal good are in
       let told = answered p n journal all.0 all.1 all.2 all.3 in

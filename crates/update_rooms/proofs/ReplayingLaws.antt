@@ -8,7 +8,8 @@ use Rattle.command_base.specs.declared.status.Status.TheVariants.{ReadFault}
 use Rattle.outside.specs.Events.{Event}
 use Rattle.outside.specs.Laws.{Keeps, Explains, HasCause}
 use Rattle.outside.specs.Pieces.{ReadsFile}
-use Rattle.outside.specs.Runs.{Runs}
+use Rattle.outside.specs.Begun.{to_output}
+use Rattle.outside.specs.Runs.{RunsIn}
 use Rattle.outside.proofs.Causing.{keeps_answer, keeps_file, keeps_tell, keeps_then, cause_answer, cause_run, cause_tell, cause_then, explains_last, unread_file}
 use Rattle.codec_rooms.specs.Laws.{Named, IsOf, IsUsed, ReadsFiles, Touches}
 use Rattle.codec_rooms.proofs.FileLaws.{reads_files, touches}
@@ -69,7 +70,7 @@ module _ (journal : List ℕ) (n : ℕ) (p : ProfileView) where
   cause_journal : HasCause (replays_by journal n p)
   cause_journal = cause_then (ReadsFile Input journal MAX_JOURNAL_BYTES) (after_journal n p) after_read
 
-pub replay_has_cause : (schema journal : List ℕ) (n : ℕ) → HasCause (Runs (replays schema journal n))
+pub replay_has_cause : (schema journal : List ℕ) (n : ℕ) → HasCause (RunsIn to_output (replays schema journal n))
 replay_has_cause schema journal n = cause_run (replays schema journal n) (cause_of_file Schema refl (codes "schema") (OfProfile (replays_by journal n)) schema (cause_profile (replays_by journal n) (cause_journal journal n)))
 
 pub replay_reads : (schema journal : List ℕ) (n : ℕ) → ReadsFiles (replay schema journal n)

@@ -1,7 +1,8 @@
 //! Laws of what `make` and `replay` do.
 ghost use Rattle.std.specs.Prelude.{ℕ, List};
 ghost use Rattle.outside.specs.Laws.{HasCause};
-ghost use Rattle.outside.specs.Runs.{Runs};
+ghost use Rattle.outside.specs.Begun.{to_output};
+ghost use Rattle.outside.specs.Runs.{Runs, RunsIn};
 ghost use Rattle.codec_rooms.specs.Laws.{AnswersFiles, EndsFiles, ReadsFiles, Touches};
 ghost use Rattle.update_rooms.specs.Commands.{make, replay};
 
@@ -37,7 +38,7 @@ pub fn replay_touches()
 
 /// It ends by the status of a fault only where a call of that kind failed.
 pub fn replay_has_cause()
-    ensures { (schema journal : List ℕ) (clients : ℕ) → HasCause (Runs (replay schema journal clients).work) }
+    ensures { (schema journal : List ℕ) (clients : ℕ) → HasCause (RunsIn to_output (replay schema journal clients).work) }
 {}
 
 /// Where the files are there and no call was told to fail, no read fault ends it.

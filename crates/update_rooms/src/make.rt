@@ -1,7 +1,7 @@
 //! `make`: a schema's file is read, and of a schema with the protocol a run is made of draws and its summary written.
 ghost use Rattle.std.specs.Prelude.{codes, ◌≤◌};
 ghost use Rattle.outside.specs.Runs.{Ran, answered};
-ghost use Rattle.outside.specs.Steps.{Did};
+ghost use Rattle.outside.specs.Begun.{Did};
 ghost use Rattle.tl_schema.specs.CheckedPrograms.{IsSchema};
 ghost use Rattle.codec_rooms.specs.Typed.{OfText};
 ghost use Rattle.update_replay.specs.declared.making.TheConstants.{MAX_MADE_STEPS};

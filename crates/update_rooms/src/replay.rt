@@ -3,9 +3,9 @@ ghost use Rattle.std.specs.Prelude.{◌≡◌, ◌≤◌, [], IfOk, Some, codes,
 ghost use Rattle.tl_numbers.specs.Bytes.{AreBytes};
 ghost use Rattle.tl_schema.specs.CheckedPrograms.{IsSchema};
 ghost use Rattle.wire_profile.specs.Profiles.{IsProfile};
+ghost use Rattle.outside.specs.Begun.{DidIn, to_output};
 ghost use Rattle.outside.specs.Printing.{Answers};
-ghost use Rattle.outside.specs.Runs.{Ran, answered};
-ghost use Rattle.outside.specs.Steps.{Did};
+ghost use Rattle.outside.specs.Runs.{RanIn, answered};
 ghost use Rattle.codec_rooms.specs.Typed.{OfText};
 ghost use Rattle.update_commands.specs.Replay.{OfJournal};
 ghost use Rattle.update_commands.specs.Replaying.{stop_line};
@@ -56,7 +56,7 @@ fn write_replay<H: Host>(
     requires new { HasMade replay.old.world.profile (length replay.old.world.clients) replay.old.journal [] [] replay.old }
     requires sound { IsProfile replay.old.world.profile }
     requires bytes { AreBytes (seen_of replay.old.journal) }
-    ensures { Did (Answers (OfJournal replay.old.world.profile (length replay.old.world.clients) replay.old.journal)) (H.state host.old) (H.state host.new) (answered result) }
+    ensures { DidIn to_output (Answers (OfJournal replay.old.world.profile (length replay.old.world.clients) replay.old.journal)) (H.state host.old) (H.state host.new) (answered result) }
 {
     'steps: loop {
         let more = match replay.next(alloc) {
@@ -85,7 +85,7 @@ fn replay_text<H: Host>(
     requires few { clients ≤ 16 }
     requires sound { IsProfile profile }
     requires bytes { AreBytes text.items }
-    ensures { Did (Answers (OfJournal profile.entry clients text.items)) (H.state host.old) (H.state host.new) (answered result) }
+    ensures { DidIn to_output (Answers (OfJournal profile.entry clients text.items)) (H.state host.old) (H.state host.new) (answered result) }
 {
     let mut replay = Replay::new(alloc, profile, clients, Bytes::from_vec(text))?;
     write_replay(alloc, host, &mut replay)
@@ -102,7 +102,7 @@ fn replay_file<H: Host>(
     requires some { 1 ≤ clients }
     requires few { clients ≤ 16 }
     requires sound { IsProfile profile }
-    ensures { Did (replays_by journal.now clients profile.entry) (H.state host.old) (H.state host.new) (answered result) }
+    ensures { DidIn to_output (replays_by journal.now clients profile.entry) (H.state host.old) (H.state host.new) (answered result) }
 {
     match read_file(alloc, host, Slot::Input, journal, MAX_JOURNAL_BYTES)? {
         Some(text) => replay_text(alloc, host, profile, text, clients),
@@ -121,7 +121,7 @@ fn replay_profiled<H: Host>(
     requires good { IsSchema schema.now }
     requires some { 1 ≤ clients }
     requires few { clients ≤ 16 }
-    ensures { Did (OfProfile (replays_by journal.now clients) schema.now) (H.state host.old) (H.state host.new) (answered result) }
+    ensures { DidIn to_output (OfProfile (replays_by journal.now clients) schema.now) (H.state host.old) (H.state host.new) (answered result) }
 {
     match profile_of(alloc, schema) {
         Ok(profile) => replay_file(alloc, host, profile, journal, clients),
@@ -139,7 +139,7 @@ fn replay_schema<H: Host>(
 ) -> Result<Status, AllocError>
     requires some { 1 ≤ clients }
     requires few { clients ≤ 16 }
-    ensures { Did (OfText (codes "schema") (OfProfile (replays_by journal.now clients)) text.now) (H.state host.old) (H.state host.new) (answered result) }
+    ensures { DidIn to_output (OfText (codes "schema") (OfProfile (replays_by journal.now clients)) text.now) (H.state host.old) (H.state host.new) (answered result) }
 {
     match schema_of(alloc, "schema", text) {
         Ok(schema) => replay_profiled(alloc, host, &schema, journal, clients),
@@ -157,7 +157,7 @@ pub fn replay_journal<H: Host>(
 ) -> Result<Status, AllocError>
     requires some { 1 ≤ clients }
     requires few { clients ≤ 16 }
-    ensures { Did (replays schema.now journal.now clients) (H.state host.old) (H.state host.new) (answered result) }
+    ensures { DidIn to_output (replays schema.now journal.now clients) (H.state host.old) (H.state host.new) (answered result) }
 {
     match read_file(alloc, host, Slot::Schema, schema, SCHEMA_BYTES)? {
         Some(text) => replay_schema(alloc, host, &text, journal, clients),
@@ -175,7 +175,7 @@ pub fn run_replay<H: Host>(
 ) -> Status
     requires some { 1 ≤ clients }
     requires few { clients ≤ 16 }
-    ensures { Ran (replays schema.now journal.now clients) (H.state host.old) (H.state host.new) result }
+    ensures { RanIn to_output (replays schema.now journal.now clients) (H.state host.old) (H.state host.new) result }
 {
     let done = replay_journal(alloc, host, schema, journal, clients);
     finish(host, done)

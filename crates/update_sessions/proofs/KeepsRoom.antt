@@ -5,7 +5,6 @@ use Rattle.box_events.specs.declared.requests.Numbered.{Numbered}
 use Rattle.box_server.specs.Servers.{ServerState}
 use Rattle.box_store.specs.declared.entry.Entry.{Entry}
 use Rattle.box_store.specs.Keeping.{KeeperState, Keeps, with_more}
-use Rattle.box_store.proofs.Added.{keeps_as}
 use Rattle.wire_profile.specs.Places.{ProfileView}
 use Rattle.box_wire.specs.Framing.{WireRefused}
 use Rattle.box_wire.specs.Kinds.{calls}
@@ -73,11 +72,6 @@ module _ (p : ProfileView) where
       comes None w h = tt
       comes (Some bytes) None h = tt
       comes (Some bytes) (Some before) h = (h.0, (h.1.body, h.0, h.1.fits, h.1.parts, h.1.means, refl))
-
-  pub keeps_one : (s : ServerState) (call : Numbered) (l0 w0 l1 : Option (List ℕ)) (a b : KeeperState) (F G : Type 0) → IfSome l0 (λ bytes. Receives (MeansCall p) (WireRefused p calls) bytes l1 (Ok (Some call))) → (G → F)
-      → Keeps a b F (λ es. length (es ++ kept_for s call.request) ≤ a.room) → Keeps a b G (RoomFor p 1 s l0 w0 a.room)
-  keeps_one s call l0 w0 l1 a b F G r f k =
-      keeps_as a b F G (λ es. length (es ++ kept_for s call.request) ≤ a.room) (RoomFor p 1 s l0 w0 a.room) (λ es fits. room_for_one s call l0 w0 l1 a.room es r fits) f k
 
   -- after so many calls there is room for one more
   pub room_for_next : (most : ℕ) (s u : ServerState) (n : ℕ) (l0 w0 l1 w1 : Option (List ℕ)) (e0 e1 : Option (List Entry)) (room : ℕ) (es : List Entry) (so : StoreSoFar p s n l0 w0 l1 w1 e0 e1 u) → n < most → RoomFor p most s l0 w0 room es

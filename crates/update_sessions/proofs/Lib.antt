@@ -6,6 +6,7 @@ pub mod Sizes
 pub mod Received
 pub mod Entries
 pub mod Answered
+pub mod ServerTurns
 pub mod ServerSteps
 pub mod Untaken
 pub mod KeepsRoom
@@ -13,3 +14,5 @@ pub mod KeptCalls
 pub mod ClientSteps
 pub mod Turning
 pub mod HonestFrames
+pub mod OpenNumbers
+pub mod Waiting

@@ -1,5 +1,5 @@
 -- How a message is received: a packet, and what its bytes mean.
-use Rattle.std.proofs.Common.{◌≡◌, ◌⊎◌, inl, inr, Bool, ℕ, List, ◌++◌, length, true, false, Option, Some, None, Ok, Err, refl, subst}
+use Rattle.std.proofs.Common.{◌≡◌, ◌⊎◌, inl, inr, Bool, ℕ, List, ◌++◌, length, true, false, Option, Some, None, Result, Ok, Err, refl, sym, ◌∙◌, subst}
 use Rattle.std.specs.Prelude.{IfSome}
 use Rattle.tl_base.specs.Packets.{IsPacketLength, ReadsPacket, PacketInto, packet}
 use Rattle.tl_base.specs.declared.packet.PacketFault.{PacketFault}
@@ -11,7 +11,8 @@ use Rattle.wire_profile.specs.Places.{ProfileView}
 use Rattle.wire_profile.specs.Profiles.{IsProfile}
 use Rattle.server_frames.specs.Fitting.{IsHearable}
 use Rattle.server_frames.proofs.ReadFrames.{frames_taken}
-use Rattle.update_sessions.specs.declared.fault.SessionFault.TheVariants.{LinkFault}
+use Rattle.update_sessions.specs.declared.fault.SessionFault.{SessionFault}
+use Rattle.update_sessions.specs.declared.fault.SessionFault.TheVariants.{LinkFault, Wire}
 use Rattle.update_sessions.specs.Faults.{of_packet, of_wire}
 use Rattle.update_sessions.specs.Packed.{MeansFrame}
 use Rattle.update_sessions.specs.Receiving.{Receives}
@@ -68,6 +69,11 @@ module _ {M : Type 0} (MeansIt : M → List ℕ → Type 0) (Refused : List ℕ 
   message (Some x) None into m h fits means = absurd h
   message (Some x) (Some y) into m h fits means = (y, record { body = into; fits = fits; parts = h; means = means }, refl)
 
+  pub refused_message : (a b : Option (List ℕ)) (into : List ℕ) (fault : WireFault) → IfSome a (λ bytes. ReadsPacket bytes b into (Ok true)) → IsPacketLength (length into) → Refused into fault → IfSome a (λ bytes. Receives {M = M} MeansIt Refused bytes b (Err (Wire fault)))
+  refused_message None b into fault h fits r = tt
+  refused_message (Some x) None into fault h fits r = absurd h
+  refused_message (Some x) (Some y) into fault h fits r = record { body = into; rest = y; fits = fits; parts = h; refused = r }
+
   -- a packet was read; of its bytes this is said
   module _ (a b : Option (List ℕ)) (into slice : List ℕ) (whole : Bool) (is : whole ≡ true) (read : IfSome a (λ bytes. ReadsPacket bytes b into (Ok whole))) (fits : PacketInto into (Ok whole)) (same : slice ≡ into) where
     was_read : IfSome a (λ bytes. ReadsPacket bytes b into (Ok true))
@@ -88,6 +94,12 @@ packet_failed (packets.BadLength n) e = absurd cc
 packet_failed (packets.Ended had) e = absurd cc
 packet_failed packets.ReadFault e = refl
 packet_failed packets.Memory e = absurd cc
+
+pub packet_link_failed : {A B : Type 0} (r : Result A PacketFault) (q : Result B SessionFault) (x : PacketFault) (y : SessionFault) → r ≡ Err x → y ≡ of_packet x → q ≡ Err y → q ≡ Err LinkFault → r ≡ Err packets.ReadFault
+packet_link_failed {A} {B} r q x y is of told failed =
+    let same : y ≡ LinkFault = cc in
+    let fault : x ≡ packets.ReadFault = packet_failed x (sym of ∙ same) in
+    cc
 
 -- no refusal of a message is one
 pub wire_failed : (fault : WireFault) → of_wire fault ≡ LinkFault → ⊥

@@ -4,7 +4,6 @@ use Rattle.std.specs.Prelude.{IfSome}
 use Rattle.std.specs.Io.KnownBytes.{Appends}
 use Rattle.tl_base.specs.Using.{SinkState, SourceState}
 use Rattle.tl_base.specs.Writing.{AppendsPrefix}
-use Rattle.box_events.specs.declared.replies.Frame.{Frame}
 use Rattle.box_events.specs.declared.requests.Numbered.{Numbered}
 use Rattle.box_server.specs.Servers.{ServerState, dated_at}
 use Rattle.box_store.specs.declared.entry.Entry.{Entry}
@@ -12,7 +11,6 @@ use Rattle.box_store.specs.Keeping.{with_more}
 use Rattle.wire_profile.specs.Places.{ProfileView}
 use Rattle.box_wire.specs.Framing.{WireRefused}
 use Rattle.box_wire.specs.Kinds.{calls}
-use Rattle.update_sessions.specs.declared.answering.Sent.{Sent}
 use Rattle.update_sessions.specs.declared.fault.SessionFault.{SessionFault}
 use Rattle.update_sessions.specs.declared.fault.SessionFault.TheVariants.{Packet, Wire, Client, TooManyFrames, LinkFault, Memory}
 use Rattle.update_sessions.specs.declared.fault.TheConstants.{MAX_FRAMES}
@@ -24,7 +22,7 @@ use Rattle.update_sessions.specs.Receiving.{Receives}
 use Rattle.update_sessions.specs.Served.{Serves}
 use Rattle.update_sessions.specs.Serving.{after_request, sent_for, server_side}
 use Rattle.update_sessions.specs.inner.Steps.{BreaksOff, SoFar, Unmoved}
-use Rattle.update_sessions.specs.inner.StoreSteps.{frames_in, Took, ServesNone, KeeperFails, StoresNext, StoreSoFar}
+use Rattle.update_sessions.specs.inner.StoreSteps.{ServesNone, KeeperFails, StoresNext, StoreSoFar}
 use Rattle.update_sessions.proofs.Entries.{more_none, more_more}
 use Rattle.update_sessions.proofs.Exchanging.{after_then, cut_none, exchanged_still}
 use Rattle.update_sessions.proofs.Stepping.{over_as, over_same, over_then, over_now, so_far_none, so_far_then, step_done, step_cut, step_kept}
@@ -36,8 +34,8 @@ pub kept_still : (s : ServerState) (a b : Option (List Entry)) → b ≡ a → b
 kept_still s a b same = same ∙ more_none a
 
 -- what one call adds
-pub kept_one : (s : ServerState) (c : Numbered) (a b : Option (List Entry)) → b ≡ with_more (kept_for s c.request) a → b ≡ with_more (kept_in s (c ∷ [])) a
-kept_one s c a b is = is ∙ ap (λ (l : List Entry). with_more l a) (sym (append-nil (kept_for s c.request)))
+kept_call : (s : ServerState) (c : Numbered) (a b : Option (List Entry)) → b ≡ with_more (kept_for s c.request) a → b ≡ with_more (kept_in s (c ∷ [])) a
+kept_call s c a b is = is ∙ ap (λ (l : List Entry). with_more l a) (sym (append-nil (kept_for s c.request)))
 
 module _ (p : ProfileView) where
   pub kept_then : (s : ServerState) (cs ds : List Numbered) → kept_in s (cs ++ ds) ≡ kept_in s cs ++ kept_in (after_all (server_side p) s cs) ds
@@ -83,21 +81,21 @@ module _ (p : ProfileView) where
   next_ended s l0 w0 l1 w1 e0 e1 h w same =
       record { calls = []; link = (refl, over_same l0 w0 w1 (λ bytes out. Unmoved s out s × (bytes ≡ [])) w (if_ended s l0 l1 h)); appended = kept_still s e0 e1 same }
 
+  -- there was no memory to take a call
+  pub next_short : (s : ServerState) (l0 w0 l1 w1 : Option (List ℕ)) (e0 e1 : Option (List Entry)) → w0 ≡ w1 → e1 ≡ e0 → StoresNext p s l0 w0 l1 w1 e0 e1 (ended s (Err Memory))
+  next_short s l0 w0 l1 w1 e0 e1 w same =
+      record {
+        calls = [];
+        link = over_same l0 w0 w1 (λ bytes out. BreaksOff (server_side p) s bytes out s []) w (if_cut l0);
+        appended = kept_still s e0 e1 same;
+      }
+    where
+      if_cut : (l : Option (List ℕ)) → IfSome l (λ bytes. BreaksOff (server_side p) s bytes [] s [])
+      if_cut None = tt
+      if_cut (Some bytes) = (omega arith, cut_none (server_side p) s s bytes refl)
+
   -- a call was received, and then
   module _ (s : ServerState) (call : Numbered) (l0 w0 l1 w1 : Option (List ℕ)) (r : IfSome l0 (λ bytes. Receives (MeansCall p) (WireRefused p calls) bytes l1 (Ok (Some call)))) (w : w0 ≡ w1) (e0 e1 : Option (List Entry)) where
-    -- it wasn't taken for want of memory
-    pub next_kept : (t : ServerState) → t ≡ s → e1 ≡ e0 → StoresNext p s l0 w0 l1 w1 e0 e1 (ended t (Err Memory))
-    next_kept t is same =
-        record {
-          calls = [];
-          link = over_same l0 w0 w1 (λ bytes out. BreaksOff (server_side p) s bytes out t []) w (if_cut l0);
-          appended = kept_still s e0 e1 same;
-        }
-      where
-        if_cut : (l : Option (List ℕ)) → IfSome l (λ bytes. BreaksOff (server_side p) s bytes [] t [])
-        if_cut None = tt
-        if_cut (Some bytes) = (omega arith, cut_none (server_side p) s t bytes is)
-
     -- the keeper failed
     pub next_failed : kept_for s call.request ≢ [] → e1 ≡ e0 → StoresNext p s l0 w0 l1 w1 e0 e1 keeper_failed
     next_failed new same = record { calls = []; link = (refl, over_same l0 w0 w1 (λ bytes out. KeeperFails p s bytes out) w (if_failed l0 r)); appended = kept_still s e0 e1 same }
@@ -107,27 +105,24 @@ module _ (p : ProfileView) where
         if_failed (Some bytes) h = record { last = call; rest = h.0; comes = h.1; new = new; wrote = refl }
 
     -- it was taken, and then
-    module _ (t : ServerState) (x : Sent) (took : Took s call.number call.request e0 e1 t x) where
+    module _ (t : ServerState) (is : t ≡ after_request s call.request) (more : e1 ≡ with_more (kept_for s call.request) e0) where
       -- there was no memory for its answer
       pub next_dropped : StoresNext p s l0 w0 l1 w1 e0 e1 (ended t (Err Memory))
-      next_dropped = record { calls = call ∷ []; link = step_kept (server_side p) (WireRefused p calls) s t call [] tt l0 w0 l1 w1 r w took.server; appended = kept_one s call e0 e1 took.appended }
+      next_dropped = record { calls = call ∷ []; link = step_kept (server_side p) (WireRefused p calls) s t call [] tt l0 w0 l1 w1 r w is; appended = kept_call s call e0 e1 more }
 
-      pub packed_sent : (out : List ℕ) → Packed (SpellsFrame p) (frames_in x) out → Packed (SpellsFrame p) (sent_for s call.number call.request) out
-      packed_sent out h = subst (λ (fs : List Frame). Packed (SpellsFrame p) fs out) took.sends.frames h
+      module _ (out : List ℕ) (l2 w2 : Option (List ℕ)) (packed : Packed (SpellsFrame p) (sent_for s call.number call.request) out) where
+        -- the link failed
+        pub next_cut : AppendsPrefix w1 w2 out → StoresNext p s l0 w0 l2 w2 e0 e1 (ended t (Err LinkFault))
+        next_cut wrote = record { calls = call ∷ []; link = step_cut (server_side p) (WireRefused p calls) s t call out tt l0 w0 l1 w1 w2 r w packed is wrote; appended = kept_call s call e0 e1 more }
 
-      -- the link failed
-      pub next_cut : (out : List ℕ) (l2 w2 : Option (List ℕ)) → Packed (SpellsFrame p) (frames_in x) out → AppendsPrefix w1 w2 out → StoresNext p s l0 w0 l2 w2 e0 e1 (ended t (Err LinkFault))
-      next_cut out l2 w2 packed wrote =
-          record { calls = call ∷ []; link = step_cut (server_side p) (WireRefused p calls) s t call out tt l0 w0 l1 w1 w2 r w (packed_sent out packed) took.server wrote; appended = kept_one s call e0 e1 took.appended }
-
-      -- all was written
-      pub next_done : (out : List ℕ) (l2 w2 : Option (List ℕ)) → Packed (SpellsFrame p) (frames_in x) out → l1 ≡ l2 → Appends w1 w2 out → StoresNext p s l0 w0 l2 w2 e0 e1 (ended t (Ok true))
-      next_done out l2 w2 packed l wrote =
-          record {
-            calls = call ∷ [];
-            link = (refl, took.server, step_done (server_side p) (WireRefused p calls) s t call out tt l0 w0 l1 w1 l2 w2 r w (packed_sent out packed) took.server l wrote);
-            appended = kept_one s call e0 e1 took.appended;
-          }
+        -- all was written
+        pub next_done : l1 ≡ l2 → Appends w1 w2 out → StoresNext p s l0 w0 l2 w2 e0 e1 (ended t (Ok true))
+        next_done l wrote =
+            record {
+              calls = call ∷ [];
+              link = (refl, is, step_done (server_side p) (WireRefused p calls) s t call out tt l0 w0 l1 w1 l2 w2 r w packed is l wrote);
+              appended = kept_call s call e0 e1 more;
+            }
 
   -- ---- many steps
 

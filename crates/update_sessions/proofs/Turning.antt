@@ -1,5 +1,5 @@
 -- What a client makes of one packet.
-use Rattle.std.proofs.Common.{◌≡◌, ◌⊎◌, inl, inr, ℕ, List, true, Some, Ok, Err, refl, ap, ◌∙◌, subst}
+use Rattle.std.proofs.Common.{◌≡◌, ◌⊎◌, inl, inr, ℕ, List, true, Ok, Err, refl, ap, ◌∙◌, subst}
 use Rattle.box_events.specs.declared.replies.Frame.{Frame}
 use Rattle.box_client.specs.States.{ClientState}
 use Rattle.box_client.specs.Asking.{ticks, is_one_asking}
@@ -12,8 +12,7 @@ use Rattle.box_wire.specs.Framing.{WireRefused}
 use Rattle.box_wire.specs.Kinds.{frames}
 use Rattle.update_sessions.specs.Faults.{of_client, of_wire}
 use Rattle.update_sessions.specs.Packed.{MeansFrame, Packed, SpellsCall}
-use Rattle.update_sessions.specs.Hearing.{client_side, hears}
-use Rattle.update_sessions.specs.Turns.{HearsPacket, Turned}
+use Rattle.update_sessions.specs.Turns.{HearsPacket}
 use Rattle.update_sessions.specs.inner.Steps.{HearsFrame}
 
 module _ (p : ProfileView) (c : ClientState) (bytes out : List ℕ) where

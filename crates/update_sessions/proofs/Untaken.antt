@@ -1,66 +1,70 @@
--- How sessions of a store end where a call isn't taken, or a step ends.
-use Rattle.std.proofs.Common.{◌≡◌, ℕ, ◌<◌, ◌≤◌, List, ◌++◌, length, Bool, Option, Result, Ok, Err, Some, false}
-use Rattle.std.specs.Prelude.{IfSome, OnOk, is_err, ⊤}
+-- How sessions of a store end where a packet isn't answered, or a step ends.
+use Rattle.std.proofs.Common.{◌≡◌, inl, inr, ℕ, ◌<◌, ◌≤◌, List, ◌++◌, length, Bool, Option, Ok, Err, Some, sym, subst}
+use Rattle.std.specs.Prelude.{IfSome, ⊤}
 use Rattle.box_events.specs.declared.requests.Numbered.{Numbered}
 use Rattle.box_server.specs.Servers.{ServerState}
 use Rattle.box_store.specs.declared.entry.Entry.{Entry}
 use Rattle.box_store.specs.Keeping.{KeeperState, Keeps}
+use Rattle.box_store.proofs.Added.{keeps_as}
+use Rattle.wire_checks.specs.declared.fault.WireFault.{WireFault}
 use Rattle.wire_profile.specs.Places.{ProfileView}
 use Rattle.box_wire.specs.Framing.{WireRefused}
 use Rattle.box_wire.specs.Kinds.{calls}
-use Rattle.update_sessions.specs.declared.answering.Sent.{Sent}
 use Rattle.update_sessions.specs.declared.fault.SessionFault.TheVariants as fault
 use Rattle.update_sessions.specs.declared.fault.TheConstants.{MAX_FRAMES}
 use Rattle.update_sessions.specs.declared.storing.StoreSession.{StoreSession}
 use Rattle.update_sessions.specs.declared.storing.StoreSession.TheVariants.{Session, Memory, Failed}
-use Rattle.update_sessions.specs.Kept.{RoomFor, Stores, kept_for}
+use Rattle.update_sessions.specs.Kept.{RoomFor, Stores, ended, kept_for}
 use Rattle.update_sessions.specs.Packed.{MeansCall}
 use Rattle.update_sessions.specs.Receiving.{Receives}
-use Rattle.update_sessions.specs.StoreEnds.{IsKeeperFailed, IsLinkFailed, end_of, session_keeper}
-use Rattle.update_sessions.specs.inner.StoreSteps.{StoreSoFar, StoresNext, TakesCall}
-use Rattle.update_sessions.proofs.KeepsRoom.{keeps_next, keeps_one}
-use Rattle.update_sessions.proofs.ServerSteps.{next_kept, next_failed, stores_failed, stores_stopped}
+use Rattle.update_sessions.specs.StoreEnds.{IsKeeperFailed, IsLinkFailed, IsPacketUnkept, end_of, packet_end, packet_keeper, session_keeper}
+use Rattle.update_sessions.specs.Turns.{AnswersPacket}
+use Rattle.update_sessions.specs.inner.StoreSteps.{StoreSoFar, StoresNext}
+use Rattle.update_sessions.proofs.KeepsRoom.{keeps_next, room_for_one}
+use Rattle.update_sessions.proofs.ServerSteps.{next_dropped, next_failed, next_none, next_short, stores_failed, stores_stopped}
 
--- what holds of a result that is no fault
-pub put_by : {T E : Type 0} (r : Result T E) (P : Type 0) → is_err r ≡ false → OnOk r P → P
-put_by (Ok u) P is h = h
-put_by (Err e) P is h = absurd cc
+-- a packet was read: there is room for what its call adds
+pub answered_keeps : (p : ProfileView) (s : ServerState) (l0 w0 l1 : Option (List ℕ)) (into : List ℕ) → ((m : Numbered) → MeansCall p m into → IfSome l0 (λ bytes. Receives (MeansCall p) (WireRefused p calls) bytes l1 (Ok (Some m))))
+    → (a b : KeeperState) (F G : Type 0) → (G → F) → Keeps a b F (λ es. (m : Numbered) → MeansCall p m into → length (es ++ kept_for s m.request) ≤ a.room) → Keeps a b G (RoomFor p 1 s l0 w0 a.room)
+answered_keeps p s l0 w0 l1 into r a b F G f k =
+    keeps_as a b F G (λ es. (m : Numbered) → MeansCall p m into → length (es ++ kept_for s m.request) ≤ a.room) (RoomFor p 1 s l0 w0 a.room) (λ es fits m means. room_for_one p s m l0 w0 l1 a.room es (r m means) fits) f k
 
 module _ {K : Type 0} where
-  -- ---- a call isn't taken
+  -- ---- a packet that was read isn't answered
 
-  module _ (f : K → Option (List Entry)) (s : ServerState) (call : Numbered) (e0 : Option (List Entry)) where
+  module _ (p : ProfileView) (s : ServerState) (l0 w0 l1 : Option (List ℕ)) (into out : List ℕ) (r : (m : Numbered) → MeansCall p m into → IfSome l0 (λ bytes. Receives (MeansCall p) (WireRefused p calls) bytes l1 (Ok (Some m)))) where
     -- it ends the session so
-    pub taken_none : (p : ProfileView) (l0 w0 l1 w1 : Option (List ℕ)) (end : StoreSession K) → IfSome l0 (λ bytes. Receives (MeansCall p) (WireRefused p calls) bytes l1 (Ok (Some call))) → w0 ≡ w1
-        → TakesCall s call.number call.request e0 (f (session_keeper {T = Sent} (Err end))) (end_of {T = Sent} (Err end)) → StoresNext p s l0 w0 l1 w1 e0 (f (session_keeper {T = Bool} (Err end))) (end_of {T = Bool} (Err end))
-    taken_none p l0 w0 l1 w1 (Session store fault.Memory) r w h = next_kept p s call l0 w0 l1 w1 r w e0 (f store.keeper) store.server h.0 h.1
-    taken_none p l0 w0 l1 w1 (Session store (fault.Packet x)) r w h = absurd h
-    taken_none p l0 w0 l1 w1 (Session store (fault.Wire x)) r w h = absurd h
-    taken_none p l0 w0 l1 w1 (Session store (fault.Client x)) r w h = absurd h
-    taken_none p l0 w0 l1 w1 (Session store fault.TooManyFrames) r w h = absurd h
-    taken_none p l0 w0 l1 w1 (Session store fault.LinkFault) r w h = absurd h
-    taken_none p l0 w0 l1 w1 (Memory store) r w h = next_kept p s call l0 w0 l1 w1 r w e0 (f store.keeper) store.server h.0 h.1
-    taken_none p l0 w0 l1 w1 (Failed keeper) r w h = next_failed p s call l0 w0 l1 w1 r w e0 (f keeper) h.0 h.1
+    pub unanswered_none : (f : K → Option (List Entry)) (e0 : Option (List Entry)) (w1 : Option (List ℕ)) (end : StoreSession K)
+        → ((x : WireFault) → WireRefused p calls into x → IfSome l0 (λ bytes. Receives {M = Numbered} (MeansCall p) (WireRefused p calls) bytes l1 (Err (fault.Wire x)))) → w0 ≡ w1
+        → AnswersPacket p s into out e0 (f (packet_keeper (Err end))) (packet_end (Err end)) → StoresNext p s l0 w0 l1 w1 e0 (f (session_keeper {T = Bool} (Err end))) (end_of {T = Bool} (Err end))
+    unanswered_none f e0 w1 (Session store (fault.Wire x)) unread w h = subst (λ (u : ServerState). StoresNext p s l0 w0 l1 w1 e0 (f store.keeper) (ended u (Err (fault.Wire x)))) (sym h.1) (next_none p s l0 w0 l1 w1 e0 (f store.keeper) (fault.Wire x) (unread x h.0) w h.2)
+    unanswered_none f e0 w1 (Session store (fault.Packet x)) unread w h = absurd h
+    unanswered_none f e0 w1 (Session store (fault.Client x)) unread w h = absurd h
+    unanswered_none f e0 w1 (Session store fault.TooManyFrames) unread w h = absurd h
+    unanswered_none f e0 w1 (Session store fault.LinkFault) unread w h = absurd h
+    unanswered_none f e0 w1 (Session store fault.Memory) unread w h = absurd h
+    unanswered_none f e0 w1 (Memory store) unread w (inl h) = subst (λ (u : ServerState). StoresNext p s l0 w0 l1 w1 e0 (f store.keeper) (ended u (Err fault.Memory))) (sym h.0) (next_short p s l0 w0 l1 w1 e0 (f store.keeper) w h.1)
+    unanswered_none f e0 w1 (Memory store) unread w (inr h) = next_dropped p s h.call l0 w0 l1 w1 (r h.call h.means) w e0 (f store.keeper) store.server h.ends h.kept
+    unanswered_none f e0 w1 (Failed keeper) unread w h = next_failed p s h.call l0 w0 l1 w1 (r h.call h.means) w e0 (f keeper) h.new h.kept
 
     -- the link has no part in that
-    pub taken_never : (end : StoreSession K) → TakesCall s call.number call.request e0 (f (session_keeper {T = Sent} (Err end))) (end_of {T = Sent} (Err end)) → IsLinkFailed (end_of {T = Bool} (Err end)) → ⊥
-    taken_never (Session store fault.Memory) h failed = absurd cc
-    taken_never (Session store (fault.Packet x)) h failed = h
-    taken_never (Session store (fault.Wire x)) h failed = h
-    taken_never (Session store (fault.Client x)) h failed = h
-    taken_never (Session store fault.TooManyFrames) h failed = h
-    taken_never (Session store fault.LinkFault) h failed = h
-    taken_never (Memory store) h failed = absurd cc
-    taken_never (Failed keeper) h failed = failed
+    pub unanswered_never : (e0 e1 : Option (List Entry)) (end : StoreSession K) → AnswersPacket p s into out e0 e1 (packet_end (Err end)) → IsLinkFailed (end_of {T = Bool} (Err end)) → ⊥
+    unanswered_never e0 e1 (Session store (fault.Wire x)) h failed = absurd cc
+    unanswered_never e0 e1 (Session store (fault.Packet x)) h failed = h
+    unanswered_never e0 e1 (Session store (fault.Client x)) h failed = h
+    unanswered_never e0 e1 (Session store fault.TooManyFrames) h failed = h
+    unanswered_never e0 e1 (Session store fault.LinkFault) h failed = h
+    unanswered_never e0 e1 (Session store fault.Memory) h failed = h
+    unanswered_never e0 e1 (Memory store) h failed = absurd cc
+    unanswered_never e0 e1 (Failed keeper) h failed = failed
 
-  -- there is room for what it adds
-  pub taken_keeps : (p : ProfileView) (s : ServerState) (call : Numbered) (l0 w0 l1 : Option (List ℕ)) (state : K → KeeperState) (a : KeeperState) (end : StoreSession K)
-      → IfSome l0 (λ bytes. Receives (MeansCall p) (WireRefused p calls) bytes l1 (Ok (Some call)))
-      → Keeps a (state (session_keeper {T = Sent} (Err end))) (IsKeeperFailed (end_of {T = Sent} (Err end))) (λ es. length (es ++ kept_for s call.request) ≤ a.room)
-      → Keeps a (state (session_keeper {T = Bool} (Err end))) (IsKeeperFailed (end_of {T = Bool} (Err end))) (RoomFor p 1 s l0 w0 a.room)
-  taken_keeps p s call l0 w0 l1 state a (Session store x) r k = keeps_one p s call l0 w0 l1 a (state store.keeper) ⊥ ⊥ r (λ f. f) k
-  taken_keeps p s call l0 w0 l1 state a (Memory store) r k = keeps_one p s call l0 w0 l1 a (state store.keeper) ⊥ ⊥ r (λ f. f) k
-  taken_keeps p s call l0 w0 l1 state a (Failed keeper) r k = keeps_one p s call l0 w0 l1 a (state keeper) (Unit {0}) (Unit {0}) r (λ f. f) k
+    -- there is room for what it adds
+    pub unanswered_keeps : (state : K → KeeperState) (a : KeeperState) (end : StoreSession K)
+        → Keeps a (state (packet_keeper (Err end))) (IsPacketUnkept (packet_end (Err end))) (λ es. (m : Numbered) → MeansCall p m into → length (es ++ kept_for s m.request) ≤ a.room)
+        → Keeps a (state (session_keeper {T = Bool} (Err end))) (IsKeeperFailed (end_of {T = Bool} (Err end))) (RoomFor p 1 s l0 w0 a.room)
+    unanswered_keeps state a (Session store x) k = answered_keeps p s l0 w0 l1 into r a (state store.keeper) ⊥ ⊥ (λ f. f) k
+    unanswered_keeps state a (Memory store) k = answered_keeps p s l0 w0 l1 into r a (state store.keeper) ⊥ ⊥ (λ f. f) k
+    unanswered_keeps state a (Failed keeper) k = answered_keeps p s l0 w0 l1 into r a (state keeper) (Unit {0}) (Unit {0}) (λ f. f) k
 
   -- ---- the last step of a session ends it
 

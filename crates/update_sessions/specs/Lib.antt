@@ -11,5 +11,6 @@ pub mod Hearing
 pub mod Turns
 pub mod Heard
 pub mod Honest
+pub mod Waiting
 pub mod Laws
 pub mod inner

@@ -1,35 +1,18 @@
-//! Messages from a link.
+//! Frames from a link.
 ghost use Rattle.std.specs.Prelude.{IfOk, IfSome, IsErrOf};
 ghost use Rattle.tl_base.specs.Using.{Used};
 ghost use Rattle.box_wire.specs.Framing.{WireRefused};
-ghost use Rattle.box_wire.specs.Kinds.{calls, frames};
+ghost use Rattle.box_wire.specs.Kinds.{frames};
 ghost use Rattle.server_frames.specs.Fitting.{IsHearable};
-ghost use Rattle.update_sessions.specs.Packed.{MeansCall, MeansFrame};
+ghost use Rattle.update_sessions.specs.Packed.{MeansFrame};
 ghost use Rattle.update_sessions.specs.Receiving.{Receives};
 
 use crate::fault::SessionFault;
-use box_events::{Frame, Numbered};
-use box_wire::{read_call, read_frame};
+use box_events::Frame;
+use box_wire::read_frame;
 use std::alloc::Global;
 use tl_base::{Bytes, Source, read_packet};
 use wire_profile::Profile;
-
-/// Reads the next call; none where the link has ended. Its packet's bytes are read into `packet`.
-pub fn receive_call<S: Source>(
-    alloc: Global,
-    profile: &Profile,
-    from: &mut S,
-    packet: &mut Bytes,
-) -> Result<Option<Numbered>, SessionFault>
-    ensures receives { IfSome (S.state from.old).left (λ bytes. Receives (MeansCall profile.now) (WireRefused profile.now calls) bytes (S.state from.new).left result) }
-    ensures used { Used (S.state from.old) (S.state from.new) (IsErrOf result SessionFault.LinkFault) }
-{
-    if !read_packet(from, packet)? {
-        return Ok(None);
-    }
-    let call = read_call(alloc, profile, packet.as_slice())?;
-    Ok(Some(call))
-}
 
 /// Reads the next frame; none where the link has ended. Its packet's bytes are read into `packet`.
 pub fn receive_frame<S: Source>(

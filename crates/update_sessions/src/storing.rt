@@ -10,13 +10,11 @@ ghost use Rattle.update_sessions.specs.Serving.{server_side};
 ghost use Rattle.update_sessions.specs.StoreEnds.{IsKeeperFailed, IsLinkFailed, end_of, session_keeper};
 ghost use Rattle.update_sessions.specs.inner.StoreSteps.{StoresNext};
 
-use crate::answering::{put_sent, take_call};
+use crate::answering::answer_packet;
 use crate::fault::{MAX_FRAMES, SessionFault};
-use crate::receiving::receive_call;
 use box_store::{Keeper, Stored};
 use std::alloc::Global;
-use std::mem::drop;
-use tl_base::{Bytes, Link, write_all};
+use tl_base::{Bytes, Link, PacketFault, read_packet, write_all};
 use wire_profile::Profile;
 
 /// Why a session of a store ended.
@@ -87,22 +85,21 @@ fn serve_next<K: Keeper, L: Link>(
     ensures beside { L.beside link.new ≡ L.beside link.old }
     ensures never { LinkNeverFails (L.Source.state link.old) (L.Sink.state link.old) (MaySendFor (server_side profile.now) 1 store.server) (IsLinkFailed (end_of result)) }
 {
-    let call = match receive_call(alloc, profile, link, packet) {
-        Ok(Some(call)) => call,
-        Ok(None) => return Ok((store, false)),
-        Err(SessionFault::Memory) => return Err(StoreSession::Memory { store }),
-        Err(fault) => return Err(StoreSession::Session { store, fault }),
-    };
-    let (store, sent) = match take_call(alloc, store, call) {
-        Ok(taken) => taken,
+    match read_packet(link, packet) {
+        Ok(true) => {}
+        Ok(false) => return Ok((store, false)),
+        Err(PacketFault::Memory) => return Err(StoreSession::Memory { store }),
+        Err(fault) => {
+            return Err(StoreSession::Session {
+                store,
+                fault: SessionFault::from(fault),
+            });
+        }
+    }
+    let store = match answer_packet(alloc, profile, store, packet.as_slice(), out) {
+        Ok(store) => store,
         Err(end) => return Err(end),
     };
-    let put = put_sent(alloc, profile, &sent, out);
-    // Its memory is free while the link is waited for.
-    drop(sent);
-    if put.is_err() {
-        return Err(StoreSession::Memory { store });
-    }
     match write_all(link, out.as_slice()) {
         Ok(()) => Ok((store, true)),
         Err(_) => Err(StoreSession::Session {

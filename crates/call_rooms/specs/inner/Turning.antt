@@ -8,7 +8,8 @@ use Rattle.command_base.specs.Jobs.{Making}
 use Rattle.command_base.specs.declared.status.Status.{Status}
 use Rattle.outside.specs.Events.{HostState}
 use Rattle.outside.specs.Printing.{PrintsMade}
-use Rattle.outside.specs.Steps.{Step, again, leave, Did}
+use Rattle.outside.specs.Begun.{Did}
+use Rattle.outside.specs.Steps.{Step, again, leave}
 use Rattle.outside.specs.Steps as steps
 use Rattle.call_commands.specs.declared.limits.TheConstants.{MAX_PACKET_END}
 use Rattle.call_rooms.specs.Calls.{SoFar, so_far}

@@ -14,7 +14,7 @@ use Rattle.command_base.specs.Jobs.{Making, unread, no_memory}
 use Rattle.outside.specs.Events.{HostState, took, ended, read_failed}
 use Rattle.outside.specs.Grown.{Grew}
 use Rattle.outside.specs.Printing.{Makes}
-use Rattle.outside.specs.Steps.{Did}
+use Rattle.outside.specs.Begun.{Did}
 use Rattle.codec_rooms.specs.Decode.{ReadsValue, Verdict, answer_of}
 
 -- the decoder has the value that the input is, or it is none

@@ -6,7 +6,7 @@ use Rattle.command_base.specs.Loading.{Refuses}
 use Rattle.command_base.specs.declared.status.Status.{Status}
 use Rattle.command_base.specs.declared.stop.Unmade.{Unmade}
 use Rattle.outside.specs.Events.{HostState}
-use Rattle.outside.specs.Steps.{Did}
+use Rattle.outside.specs.Begun.{DidIn, to_link}
 use Rattle.update_sessions.specs.declared.fault.SessionFault.{SessionFault}
 use Rattle.update_sessions.specs.declared.fault.SessionFault.TheVariants.{Packet, Wire, Client, TooManyFrames, LinkFault, Memory}
 use Rattle.session_commands.specs.Client.{HasClient, TellsNoClient, watch_all, many_channels_line}
@@ -15,11 +15,11 @@ use Rattle.session_rooms.specs.Client.{ends_by}
 
 -- a session's fault is told; out of memory is handed on
 abbrev pub TellsEnd : SessionFault → HostState → HostState → Option Status → Type 0
-TellsEnd (Packet fault) p q answer = Did (ends_by (session_line (Packet fault))) p q answer
-TellsEnd (Wire fault) p q answer = Did (ends_by (session_line (Wire fault))) p q answer
-TellsEnd (Client fault) p q answer = Did (ends_by (session_line (Client fault))) p q answer
-TellsEnd TooManyFrames p q answer = Did (ends_by (session_line TooManyFrames)) p q answer
-TellsEnd LinkFault p q answer = Did (ends_by (session_line LinkFault)) p q answer
+TellsEnd (Packet fault) p q answer = DidIn to_link (ends_by (session_line (Packet fault))) p q answer
+TellsEnd (Wire fault) p q answer = DidIn to_link (ends_by (session_line (Wire fault))) p q answer
+TellsEnd (Client fault) p q answer = DidIn to_link (ends_by (session_line (Client fault))) p q answer
+TellsEnd TooManyFrames p q answer = DidIn to_link (ends_by (session_line TooManyFrames)) p q answer
+TellsEnd LinkFault p q answer = DidIn to_link (ends_by (session_line LinkFault)) p q answer
 TellsEnd Memory p q answer = (answer ≡ None) × (q ≡ p)
 
 -- the line says why a state's bytes have no client that watches these channels too

@@ -13,7 +13,7 @@ use Rattle.command_base.specs.declared.stop.Unmade.{Unmade}
 use Rattle.fault_lines.specs.Packets.{length_line, ended_line}
 use Rattle.outside.specs.Events.{HostState}
 use Rattle.outside.specs.Pieces.{Tells}
-use Rattle.outside.specs.Steps.{Did}
+use Rattle.outside.specs.Begun.{DidIn, to_link}
 use Rattle.schema_files.specs.Causes.{JsonCause}
 use Rattle.schema_files.specs.JsonInput.{IsJsonOf, JsonRefused}
 use Rattle.schema_files.specs.Lines.{json_line}
@@ -39,7 +39,7 @@ MakesCall p text (Err fault) = Refuses (TellsNothing p text) fault
 
 -- what came is told, which begins with no packet; out of memory is free
 abbrev pub TellsNoPacket : PacketFault → HostState → HostState → Option Status → Type 0
-TellsNoPacket (BadLength n) q r answer = Did (Tells (length_line n) PeerFault) q r answer
-TellsNoPacket (Ended had) q r answer = Did (Tells (ended_line had) PeerFault) q r answer
+TellsNoPacket (BadLength n) q r answer = DidIn to_link (Tells (length_line n) PeerFault) q r answer
+TellsNoPacket (Ended had) q r answer = DidIn to_link (Tells (ended_line had) PeerFault) q r answer
 TellsNoPacket ReadFault q r answer = Unit {0}
 TellsNoPacket Memory q r answer = Unit {0}

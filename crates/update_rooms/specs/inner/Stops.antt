@@ -4,7 +4,7 @@ use Rattle.command_base.specs.declared.status.Status.{Status}
 use Rattle.command_base.specs.declared.status.Status.TheVariants.{Refused}
 use Rattle.outside.specs.Events.{HostState}
 use Rattle.outside.specs.Pieces.{Tells}
-use Rattle.outside.specs.Steps.{Did}
+use Rattle.outside.specs.Begun.{Did}
 use Rattle.update_commands.specs.Replaying.{stop_line}
 use Rattle.update_replay.specs.declared.fault.ReplayFault.{ReplayFault}
 

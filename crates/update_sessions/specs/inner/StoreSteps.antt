@@ -1,5 +1,5 @@
 -- What one step of a store's session does to its link, its server and its entries. This project's own.
-use Rattle.std.specs.Prelude.{◌≡◌, ◌≢◌, ℕ, ◌≤◌, List, [], ◌∷◌, length, Bool, true, false, Option, Some, None, IfSome, Ok, Err}
+use Rattle.std.specs.Prelude.{◌≡◌, ◌≢◌, ℕ, ◌≤◌, List, [], ◌∷◌, length, Bool, true, false, Option, Some, None, IfSome, Result, Ok, Err}
 use Rattle.server_frames.specs.Sizes.{frame_size}
 use Rattle.box_events.specs.declared.limits.TheConstants.{MAX_FRAME_BYTES}
 use Rattle.box_events.specs.declared.replies.Frame.{Frame}
@@ -8,10 +8,13 @@ use Rattle.box_events.specs.declared.requests.Request.{Request}
 use Rattle.box_server.specs.Servers.{ServerState}
 use Rattle.box_store.specs.declared.entry.Entry.{Entry}
 use Rattle.box_store.specs.Keeping.{with_more}
+use Rattle.box_store.specs.Storing.{StoredView}
 use Rattle.wire_profile.specs.Places.{ProfileView}
 use Rattle.box_wire.specs.Kinds.{calls}
 use Rattle.box_wire.specs.Framing.{WireRefused}
 use Rattle.update_sessions.specs.declared.answering.Sent.{Sent}
+use Rattle.update_sessions.specs.declared.answering.Untaken.{Untaken}
+use Rattle.update_sessions.specs.declared.answering.Untaken.TheVariants as untaken
 use Rattle.update_sessions.specs.declared.fault.SessionFault.{SessionFault}
 use Rattle.update_sessions.specs.declared.fault.SessionFault.TheVariants.{Packet, Wire, Client, TooManyFrames, LinkFault, Memory}
 use Rattle.update_sessions.specs.Exchanges.{after_all}
@@ -48,6 +51,17 @@ pub record Took (s : ServerState) (n : ℕ) (r : Request) (entries now_entries :
   pub sends : Sends x (sent_for s n r)
   pub server : t ≡ after_request s r
   pub appended : now_entries ≡ with_more (kept_for s r) entries
+
+-- how a call was taken or not, and the keeper that comes back
+abbrev pub taken_end : {K : Type 0} → Result (StoredView K × Sent) (Untaken K) → StoreEnd Sent
+taken_end (Ok p) = ended p.0.server (Ok p.1)
+taken_end (Err (untaken.Memory store)) = ended store.server (Err Memory)
+taken_end (Err (untaken.Failed keeper)) = keeper_failed
+
+abbrev pub taken_keeper : {K : Type 0} → Result (StoredView K × Sent) (Untaken K) → K
+taken_keeper (Ok p) = p.0.keeper
+taken_keeper (Err (untaken.Memory store)) = store.keeper
+taken_keeper (Err (untaken.Failed keeper)) = keeper
 
 -- where memory runs out, or the keeper fails at a post that would be kept, nothing is taken
 abbrev pub TakesCall : ServerState → ℕ → Request → Option (List Entry) → Option (List Entry) → StoreEnd Sent → Type 0

@@ -2,7 +2,7 @@ use Rattle.std.proofs.Common.{ℕ, List, Some, ◌∙◌, subst}
 use Rattle.std.proofs.lemmas.Result.{err_from_is_err_and}
 use Rattle.command_base.specs.Answer.{done}
 use Rattle.outside.specs.Printing.{Prints}
-use Rattle.outside.specs.Steps.{Did}
+use Rattle.outside.specs.Begun.{Did}
 use Rattle.outside.proofs.Growing.{did_none}
 use Rattle.outside.proofs.Printed.{can_print}
 use Rattle.codec_commands.specs.Check.{listing}

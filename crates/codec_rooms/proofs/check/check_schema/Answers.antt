@@ -1,7 +1,10 @@
-use Rattle.std.proofs.Common.{codes, Some, None, ap, sym, ◌∙◌}
+use Rattle.std.proofs.Common.{codes, [], Some, None, ap, sym, ◌∙◌}
 use Rattle.std.proofs.lemmas.Result.{err_from_is_err_and}
 use Rattle.command_base.specs.Answer.{done}
 use Rattle.outside.specs.Pieces.{text_view}
+use Rattle.tl_base.specs.declared.host.Slot.TheVariants.{Schema}
+use Rattle.schema_files.specs.declared.schema_text.TheConstants.{SCHEMA_BYTES}
+use Rattle.outside.proofs.Begun.{may_file}
 use Rattle.outside.proofs.Growing.{did_stop, did_then_at}
 use Rattle.outside.proofs.Printed.{can_print}
 use Rattle.codec_commands.specs.Check.{listing}
@@ -18,7 +21,7 @@ returns-in_err-text g c =
 pub returns-in-Some : goal.returns-in-Some
 returns-in-Some g c =
     did_then_at _ (after_schema (codes "schema") lists) _ _ _ (text_view c.in_ok-text.field-0) (Some c.deref.result.now) _
-    (ap text_view c.in-Some.is ∙ sym (ap Some c.deref.ensures.value)) c.in_ok-text.ensures c.check_text.ensures
+    (ap text_view c.in-Some.is ∙ sym (ap Some c.deref.ensures.value)) (may_file [] Schema c.args.schema.now SCHEMA_BYTES) c.in_ok-text.ensures c.check_text.ensures
 
 pub returns-in-None : goal.returns-in-None
-returns-in-None g c = did_then_at _ (after_schema (codes "schema") lists) _ _ _ (text_view c.in_ok-text.field-0) None _ (ap text_view c.in-None.is) c.in_ok-text.ensures c.unread.ensures
+returns-in-None g c = did_then_at _ (after_schema (codes "schema") lists) _ _ _ (text_view c.in_ok-text.field-0) None _ (ap text_view c.in-None.is) (may_file [] Schema c.args.schema.now SCHEMA_BYTES) c.in_ok-text.ensures c.unread.ensures

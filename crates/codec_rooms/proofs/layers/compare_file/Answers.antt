@@ -1,7 +1,10 @@
-use Rattle.std.proofs.Common.{codes, Some, None, ap, sym, ◌∙◌}
+use Rattle.std.proofs.Common.{codes, [], Some, None, ap, sym, ◌∙◌}
 use Rattle.std.proofs.lemmas.Result.{err_from_is_err_and}
 use Rattle.tl_schema.specs.Seen.{shape}
 use Rattle.outside.specs.Pieces.{text_view}
+use Rattle.tl_base.specs.declared.host.Slot.TheVariants.{Input}
+use Rattle.schema_files.specs.declared.schema_text.TheConstants.{SCHEMA_BYTES}
+use Rattle.outside.proofs.Begun.{may_file}
 use Rattle.outside.proofs.Growing.{did_stop, did_then_at}
 use Rattle.codec_rooms.specs.Layers.{compared}
 use Rattle.codec_rooms.specs.Typed.{after_schema}
@@ -18,9 +21,9 @@ returns-in_err-text g c =
 pub returns-in-Some : goal.returns-in-Some
 returns-in-Some g c =
     did_then_at _ (after_schema (codes "new") (compared c.args.old.now (shape c.args.of.now))) _ _ _ (text_view c.in_ok-text.field-0) (Some c.deref.result.now) _
-    (ap text_view c.in-Some.is ∙ sym (ap Some c.deref.ensures.value)) c.in_ok-text.ensures c.compare_text.ensures
+    (ap text_view c.in-Some.is ∙ sym (ap Some c.deref.ensures.value)) (may_file [] Input c.args.new.now SCHEMA_BYTES) c.in_ok-text.ensures c.compare_text.ensures
 
 pub returns-in-None : goal.returns-in-None
 returns-in-None g c =
     did_then_at _ (after_schema (codes "new") (compared c.args.old.now (shape c.args.of.now))) _ _ _ (text_view c.in_ok-text.field-0) None _
-    (ap text_view c.in-None.is) c.in_ok-text.ensures c.unread.ensures
+    (ap text_view c.in-None.is) (may_file [] Input c.args.new.now SCHEMA_BYTES) c.in_ok-text.ensures c.unread.ensures

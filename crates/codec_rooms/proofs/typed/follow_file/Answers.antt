@@ -1,6 +1,9 @@
-use Rattle.std.proofs.Common.{codes, Some, None, ap, sym, ◌∙◌}
+use Rattle.std.proofs.Common.{codes, [], Some, None, ap, sym, ◌∙◌}
 use Rattle.std.proofs.lemmas.Result.{err_from_is_err_and}
 use Rattle.outside.specs.Pieces.{text_view}
+use Rattle.tl_base.specs.declared.host.Slot.TheVariants.{Schema}
+use Rattle.schema_files.specs.declared.schema_text.TheConstants.{SCHEMA_BYTES}
+use Rattle.outside.proofs.Begun.{may_file}
 use Rattle.outside.proofs.Growing.{did_stop, did_then_at}
 use Rattle.codec_rooms.specs.Typed.{after_schema}
 use Rattle.codec_rooms.specs.inner.Purposes.{asked_by}
@@ -17,9 +20,9 @@ returns-in_err-text g c =
 pub returns-in-Some : goal.returns-in-Some
 returns-in-Some g c =
     let after = after_schema (codes "schema") (asked_by c.args.purpose c.args.of.now c.args.input.now) in
-    did_then_at _ after _ _ _ (text_view c.in_ok-text.field-0) (Some c.deref.result.now) _ (ap text_view c.in-Some.is ∙ sym (ap Some c.deref.ensures.value)) c.in_ok-text.ensures c.follow_text.ensures
+    did_then_at _ after _ _ _ (text_view c.in_ok-text.field-0) (Some c.deref.result.now) _ (ap text_view c.in-Some.is ∙ sym (ap Some c.deref.ensures.value)) (may_file [] Schema c.args.schema.now SCHEMA_BYTES) c.in_ok-text.ensures c.follow_text.ensures
 
 pub returns-in-None : goal.returns-in-None
 returns-in-None g c =
     let after = after_schema (codes "schema") (asked_by c.args.purpose c.args.of.now c.args.input.now) in
-    did_then_at _ after _ _ _ (text_view c.in_ok-text.field-0) None _ (ap text_view c.in-None.is) c.in_ok-text.ensures c.unread.ensures
+    did_then_at _ after _ _ _ (text_view c.in_ok-text.field-0) None _ (ap text_view c.in-None.is) (may_file [] Schema c.args.schema.now SCHEMA_BYTES) c.in_ok-text.ensures c.unread.ensures

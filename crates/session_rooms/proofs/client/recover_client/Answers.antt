@@ -1,7 +1,11 @@
 use Rattle.std.proofs.Common.{codes, Some, None, ap, sym, ◌∙◌}
 use Rattle.std.proofs.lemmas.Result.{err_from_is_err_and}
 use Rattle.outside.specs.Pieces.{text_view}
-use Rattle.outside.proofs.Growing.{did_stop, did_then_at}
+use Rattle.tl_base.specs.declared.host.Slot.TheVariants as slots
+use Rattle.schema_files.specs.declared.schema_text.TheConstants.{SCHEMA_BYTES}
+use Rattle.outside.specs.Begun.{to_link}
+use Rattle.outside.proofs.Begun.{may_file}
+use Rattle.outside.proofs.Growing.{did_any, did_more, did_stop, did_then_at}
 use Rattle.codec_rooms.specs.Typed.{after_schema}
 use Rattle.codec_rooms.proofs.Typing.{can_schema}
 use Rattle.update_rooms.specs.Profile.{OfProfile}
@@ -15,13 +19,13 @@ returns-in_err-text g c =
     let Rest = OfStateFile c.args.address.now c.args.state.now c.args.channels.now in
     let q = err_from_is_err_and c.from_residual.result c.from_residual.ensures.1 in
     rw q.1 (did_stop _ (after_schema (codes "schema") (OfProfile Rest)) _ _
-    (can_schema (codes "schema") (OfProfile Rest) (λ schema good. can_profile Rest schema good (λ p sound. can_state_file p c.args.address.now c.args.state.now c.args.channels.now))) c.in_err-text.ensures)
+    (can_schema (codes "schema") (OfProfile Rest) (λ schema good. can_profile Rest schema good (λ p sound. can_state_file p c.args.address.now c.args.state.now c.args.channels.now))) (did_more _ _ _ _ c.in_err-text.ensures))
 
 pub returns-in-Some : goal.returns-in-Some
 returns-in-Some g c =
     did_then_at _ (after_schema (codes "schema") (OfProfile (OfStateFile c.args.address.now c.args.state.now c.args.channels.now))) _ _ _ (text_view c.in_ok-text.field-0) (Some c.deref.result.now) _
-    (ap text_view c.in-Some.is ∙ sym (ap Some c.deref.ensures.value)) c.in_ok-text.ensures c.recover_text.ensures
+    (ap text_view c.in-Some.is ∙ sym (ap Some c.deref.ensures.value)) (may_file to_link slots.Schema c.args.schema.now SCHEMA_BYTES) (did_any _ _ _ _ c.in_ok-text.ensures) c.recover_text.ensures
 
 pub returns-in-None : goal.returns-in-None
 returns-in-None g c =
-    did_then_at _ (after_schema (codes "schema") (OfProfile (OfStateFile c.args.address.now c.args.state.now c.args.channels.now))) _ _ _ (text_view c.in_ok-text.field-0) None _ (ap text_view c.in-None.is) c.in_ok-text.ensures c.tell.ensures
+    did_then_at _ (after_schema (codes "schema") (OfProfile (OfStateFile c.args.address.now c.args.state.now c.args.channels.now))) _ _ _ (text_view c.in_ok-text.field-0) None _ (ap text_view c.in-None.is) (may_file to_link slots.Schema c.args.schema.now SCHEMA_BYTES) (did_any _ _ _ _ c.in_ok-text.ensures) (did_any _ _ _ _ c.tell.ensures)

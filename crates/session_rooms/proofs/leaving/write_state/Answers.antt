@@ -1,7 +1,7 @@
 use Rattle.std.proofs.Common.{Some, List, ℕ, true, false, subst}
 use Rattle.tl_base.specs.declared.host.Out.TheVariants as outs
 use Rattle.outside.specs.Pieces.{Writes}
-use Rattle.outside.specs.Steps.{Did}
+use Rattle.outside.specs.Begun.{Did}
 use Rattle.session_rooms.proofs.LeftClients.{saved_and_told, saved_not}
 use Rattle.session_rooms.proofs.leaving.write_state.Goals as goal
 

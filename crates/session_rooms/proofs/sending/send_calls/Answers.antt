@@ -1,7 +1,7 @@
 use Rattle.std.proofs.Common.{Some, List, ℕ, subst}
 use Rattle.tl_base.specs.declared.host.Out.TheVariants.{Link}
 use Rattle.outside.specs.Pieces.{Writes}
-use Rattle.outside.specs.Steps.{Did}
+use Rattle.outside.specs.Begun.{Did}
 use Rattle.std.specs.Prelude.{is_ok}
 use Rattle.update_sessions.specs.Packed.{SpellsCall}
 use Rattle.session_rooms.proofs.SentMessages.{sent_by}

@@ -3,7 +3,7 @@ use Rattle.std.specs.Prelude.{is_ok}
 use Rattle.std.proofs.lemmas.Result.{err_from_is_err_and}
 use Rattle.tl_base.specs.declared.host.Out.TheVariants.{Link}
 use Rattle.outside.specs.Pieces.{Writes}
-use Rattle.outside.specs.Steps.{Did}
+use Rattle.outside.specs.Begun.{Did}
 use Rattle.session_rooms.proofs.Posting.{written_both, written_cut}
 use Rattle.session_rooms.proofs.sending.send_packet.Goals as goal
 

@@ -4,7 +4,7 @@ use Rattle.tl_numbers.specs.Bytes.{AreBytes}
 use Rattle.wire_profile.specs.Profiles.{IsProfile}
 use Rattle.outside.specs.Printing.{Answers}
 use Rattle.outside.specs.Runs.{answered}
-use Rattle.outside.specs.Steps.{Did}
+use Rattle.outside.specs.Begun.{DidIn, to_output}
 use Rattle.update_commands.specs.Replay.{OfJournal}
 use Rattle.update_replay.specs.Handing.{HasMade}
 use Rattle.update_replay.specs.Replays.{seen_of}
@@ -39,4 +39,4 @@ pub returns : goal.returns
 returns g c =
     let r = c.in_ok-replay.replay in
     let h = subst (λ (j : List ℕ). HasMade c.args.profile c.args.clients j [] [] r) c.from_vec.ensures c.in_ok-replay.ensures in
-    of_new c.args.profile c.args.clients c.args.text.items r h (λ q k j. Did (Answers (OfJournal q k j)) (g.H.Host.state c.args.host.now) (g.H.Host.state c.write_replay.new.host) (answered c.write_replay.result)) c.write_replay.ensures
+    of_new c.args.profile c.args.clients c.args.text.items r h (λ q k j. DidIn to_output (Answers (OfJournal q k j)) (g.H.Host.state c.args.host.now) (g.H.Host.state c.write_replay.new.host) (answered c.write_replay.result)) c.write_replay.ensures

@@ -1,0 +1,5 @@
+use Rattle.serve_rooms.proofs.ServeLaws as laws
+use Rattle.serve_rooms.proofs.laws.keep_reads_first.Goals as goal
+
+pub returns : goal.returns
+returns c = laws.keep_reads_first

@@ -1,0 +1,49 @@
+-- What a server makes of one packet.
+use Rattle.std.proofs.Common.{◌≡◌, ◌≢◌, ◌⊎◌, inl, inr, ℕ, ◌≤◌, List, ◌++◌, length, Option, refl, sym, subst}
+use Rattle.box_events.specs.declared.replies.Frame.{Frame}
+use Rattle.box_events.specs.declared.requests.Numbered.{Numbered}
+use Rattle.box_server.specs.Servers.{ServerState}
+use Rattle.box_store.specs.declared.entry.Entry.{Entry}
+use Rattle.box_store.specs.Keeping.{KeeperState, Keeps}
+use Rattle.box_store.proofs.Added.{keeps_as}
+use Rattle.wire_checks.specs.declared.fault.WireFault.{WireFault}
+use Rattle.wire_checks.specs.declared.fault.WireFault.TheVariants as wire
+use Rattle.wire_profile.specs.Places.{ProfileView}
+use Rattle.box_wire.specs.Framing.{WireRefused}
+use Rattle.box_wire.specs.Kinds.{calls}
+use Rattle.update_sessions.specs.declared.answering.Sent.{Sent}
+use Rattle.update_sessions.specs.declared.fault.SessionFault.TheVariants.{Wire}
+use Rattle.update_sessions.specs.Kept.{kept_for}
+use Rattle.update_sessions.specs.Packed.{MeansCall, Packed, SpellsFrame}
+use Rattle.update_sessions.specs.StoreEnds.{answered, refused, out_of_memory}
+use Rattle.update_sessions.specs.Turns.{AnswersPacket}
+use Rattle.update_sessions.specs.inner.StoreSteps.{Took, frames_in}
+
+module _ (p : ProfileView) (s : ServerState) (bytes out : List ℕ) (e0 e1 : Option (List Entry)) where
+  -- the bytes are no call
+  pub turn_unread : (fault : WireFault) → fault ≢ wire.Memory → (fault ≡ wire.Memory) ⊎ WireRefused p calls bytes fault → e1 ≡ e0 → AnswersPacket p s bytes out e0 e1 (refused s (Wire fault))
+  turn_unread fault other (inl e) same = absurd (other e)
+  turn_unread fault other (inr r) same = (r, refl, same)
+
+  -- a call is taken, and then
+  module _ (call : Numbered) (means : MeansCall p call bytes) (t : ServerState) (x : Sent) (took : Took s call.number call.request e0 e1 t x) where
+    -- all that is sent for it is there
+    pub turn_answered : Packed (SpellsFrame p) (frames_in x) out → AnswersPacket p s bytes out e0 e1 (answered t)
+    turn_answered packed = (
+      record { message = call; means = means; taken = tt; sent = subst (λ (fs : List Frame). Packed (SpellsFrame p) fs out) took.sends.frames packed; ends = took.server },
+      took.appended,
+    )
+
+    -- there was no memory for it
+    pub turn_unsent : AnswersPacket p s bytes out e0 e1 (out_of_memory t)
+    turn_unsent = inr (record { call = call; means = means; ends = took.server; kept = took.appended })
+
+-- there is room for what the call adds that the bytes mean
+pub turn_keeps : (p : ProfileView) (s : ServerState) (bytes : List ℕ) (a b : KeeperState) (F G : Type 0) (call : Numbered) → MeansCall p call bytes → (G → F) → Keeps a b F (λ es. length (es ++ kept_for s call.request) ≤ a.room)
+    → Keeps a b G (λ es. (m : Numbered) → MeansCall p m bytes → length (es ++ kept_for s m.request) ≤ a.room)
+turn_keeps p s bytes a b F G call means f k =
+    keeps_as a b F G (λ es. length (es ++ kept_for s call.request) ≤ a.room) (λ es. (m : Numbered) → MeansCall p m bytes → length (es ++ kept_for s m.request) ≤ a.room) (λ es fits. fits call means) f k
+
+-- likewise, of the keeper that the code has
+pub turn_keeps_same : {K : Type 0} (state : K → KeeperState) (j k : K) (a : KeeperState) (F : Type 0) (P : List Entry → Type 0) → j ≡ k → Keeps a (state k) F P → Keeps a (state j) F P
+turn_keeps_same {K} state j k a F P is h = subst (λ (i : K). Keeps a (state i) F P) (sym is) h
