@@ -253,11 +253,7 @@ fn kept_code(status: KeptStatus) -> u8 {
 }
 
 // How a run of `keep` ends by its room.
-fn kept_in_order(
-    alloc: Global,
-    case: &Case,
-    asked: KeepRequest<'_>,
-) -> Result<Ending, AllocError> {
+fn kept_in_order(alloc: Global, case: &Case, asked: KeepRequest<'_>) -> Result<Ending, AllocError> {
     let mut host = Untold::new(TracedHost::new(alloc, case.host()?));
     let (status, keeper) = run_kept(
         alloc,
