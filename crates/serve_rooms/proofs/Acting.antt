@@ -1,13 +1,11 @@
 -- Laws of acts that happen to a host and a keeper, one after the other.
-use Rattle.std.proofs.Common.{◌≡◌, ◌⊎◌, inl, inr, ℕ, ◌<◌, ◌≤◌, List, [], ◌∷◌, ◌++◌, length, map, Bool, true, false, IsTrue, Option, Some, None, IfSome, IsSome, refl, sym, ap, ◌∙◌, subst, arith}
-use Rattle.std.proofs.lemmas.List.{append-nil, append_assoc}
+use Rattle.std.proofs.Common.{◌≡◌, ◌⊎◌, inl, inr, ℕ, ◌≤◌, List, [], ◌∷◌, ◌++◌, length, map, true, false, Option, Some, None, IfSome, IsSome, refl, sym, ap, ◌∙◌, subst, arith}
 use Rattle.tl_base.specs.Causes.{Rose}
 use Rattle.box_store.specs.declared.entry.Entry.{Entry}
-use Rattle.box_store.specs.Keeping.{KeeperState, with_more}
+use Rattle.box_store.specs.Keeping.{KeeperState}
 use Rattle.outside.specs.Events.{Event, HostState}
 use Rattle.outside.specs.Grown.{Grew}
 use Rattle.outside.specs.Laws.{Happened}
-use Rattle.outside.proofs.Causing.{happened_first, happened_last}
 use Rattle.outside.proofs.Growing.{grew_none, grew_more}
 use Rattle.serve_rooms.specs.Acts.{Act, hosted, loaded, added, rebuilds, unaccepted, unread, events_in, entries_after, entries_after_all, Agrees, AgreesAll, IsKeeperFault, IsSure, KeeperGrew, KeptState, KeptGrew}
 

@@ -18,10 +18,10 @@ use Rattle.serve_rooms.specs.inner.Ends.{answered_as, answered_by, end_at, sessi
 use Rattle.serve_rooms.proofs.Doing.{Turned, can_end, did_nothing, did_stop, did_then, loop_left, loop_stopped, turned_more}
 use Rattle.serve_rooms.proofs.Answered.{leaves_at}
 
-is_less : (a b : ℕ) → a < b → ltb a b ≡ true
+pub is_less : (a b : ℕ) → a < b → ltb a b ≡ true
 is_less a b lt = grind (arith, nat_tests)
 
-not_less : (a b : ℕ) → b ≤ a → ltb a b ≡ false
+pub not_less : (a b : ℕ) → b ≤ a → ltb a b ≡ false
 not_less a b le = grind (arith, nat_tests)
 
 module _ (p : ProfileView) where

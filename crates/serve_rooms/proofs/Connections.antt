@@ -1,8 +1,7 @@
 -- Sessions over connections, by their parts.
-use Rattle.std.proofs.Common.{◌≡◌, inl, inr, ℕ, ◌+◌, ◌<◌, ◌≤◌, ltb, List, [], ◌∷◌, ◌++◌, map, Bool, true, false, Option, Some, None, Result, Ok, Err, refl, sym, subst, arith}
+use Rattle.std.proofs.Common.{◌≡◌, ℕ, ◌+◌, ◌<◌, ◌≤◌, ltb, List, [], ◌∷◌, ◌++◌, map, Bool, true, false, Option, Some, None, Result, Err, refl, sym, subst}
 use Rattle.std.specs.Prelude.{option_map}
 use Rattle.std.proofs.lemmas.List.{append-nil}
-use Rattle.std.proofs.lemmas.Bool.Decides.{nat_tests}
 use Rattle.box_server.specs.Servers.{ServerState, dated_at}
 use Rattle.box_store.specs.Keeping.{KeeperState}
 use Rattle.wire_profile.specs.Places.{ProfileView}
@@ -21,8 +20,8 @@ use Rattle.outside.proofs.Piecewise.{can_tell}
 use Rattle.update_sessions.specs.declared.fault.SessionFault.{SessionFault}
 use Rattle.serve_rooms.specs.Acts.{Act, hosted, IsKeeperFault, KeptState, beside}
 use Rattle.serve_rooms.specs.Answering.{AnswersAll, Session, over, lost}
-use Rattle.serve_rooms.specs.Doing.{Hosted, Last, IsKept, BeginsKept, DidKept}
-use Rattle.serve_rooms.specs.Telling.{Told, goes_on, is_over, TellsEnd, new_tally}
+use Rattle.serve_rooms.specs.Doing.{Hosted, IsKept, BeginsKept, DidKept}
+use Rattle.serve_rooms.specs.Telling.{Told, goes_on, is_over, TellsEnd}
 use Rattle.serve_rooms.specs.Sessions.{Next, more, no_more, keep_fault_line, TellsKeepFault, after_telling, after_session, after_moment, after_accept, ServesNext, Serving, turn_of, serves_by, ServesOn, after_listen, ServesAll}
 use Rattle.serve_rooms.specs.declared.answering.Stopped.{Stopped}
 use Rattle.serve_rooms.specs.declared.answering.Stopped.TheVariants.{Memory, Lost}
@@ -30,15 +29,10 @@ use Rattle.serve_rooms.specs.declared.status.KeptStatus.{KeptStatus}
 use Rattle.serve_rooms.specs.declared.status.KeptStatus.TheVariants.{Run, KeepFault}
 use Rattle.serve_rooms.specs.declared.telling.Tally.{Tally}
 use Rattle.serve_rooms.specs.inner.Ends.{session_by, TellsStop}
+use Rattle.serve_rooms.proofs.AnsweredAll.{is_less, not_less}
 use Rattle.serve_rooms.proofs.Answered.{lost_at_fault}
 use Rattle.serve_rooms.proofs.Doing.{Turned, Leaves, can_end, can_host, can_last, can_then, can_then_by, did_host, did_last, did_nothing, did_stop, did_then, kept_hosted_all, loop_left, loop_stopped, turned_more}
 use Rattle.serve_rooms.proofs.ToldEnds.{can_tell_end}
-
-is_less : (a b : ℕ) → a < b → ltb a b ≡ true
-is_less a b lt = grind (arith, nat_tests)
-
-not_less : (a b : ℕ) → b ≤ a → ltb a b ≡ false
-not_less a b le = grind (arith, nat_tests)
 
 -- ---- what can follow
 

@@ -1,17 +1,16 @@
 -- Laws of steps over a host and a keeper that are done one after the other.
-use Rattle.std.proofs.Common.{◌≡◌, List, [], ◌∷◌, ◌++◌, map, Bool, true, Option, Some, None, refl, sym, ap, ◌∙◌, subst}
-use Rattle.std.proofs.lemmas.List.{append-nil, append_assoc, map-append}
+use Rattle.std.proofs.Common.{◌≡◌, List, [], ◌∷◌, ◌++◌, map, Option, Some, None, refl, sym, ap, ◌∙◌, subst}
+use Rattle.std.proofs.lemmas.List.{append_assoc, map-append}
 use Rattle.tl_base.specs.declared.host.Out.{Out}
 use Rattle.box_store.specs.Keeping.{KeeperState}
 use Rattle.command_base.specs.declared.status.Status.{Status}
 use Rattle.outside.specs.Events.{Event, HostState}
 use Rattle.outside.specs.Laws.{Throughout}
 use Rattle.outside.specs.Begun.{DidIn}
-use Rattle.outside.specs.Steps.{Step, StepOf, Ends, Calls, Then, Turn, again, leave, Reaches, here, turn, Loops, Begins}
+use Rattle.outside.specs.Steps.{Step, StepOf, Ends, Then, Turn, again, leave, Reaches, here, turn, Loops, Begins}
 use Rattle.outside.proofs.Causing.{throughout_both}
-use Rattle.serve_rooms.specs.Acts.{Act, hosted, events_in, KeptState, KeptGrew, beside}
-use Rattle.serve_rooms.specs.Doing.{Hosted, Last, IsKept, BeginsKept, MeetsKept, DidKept}
-use Rattle.serve_rooms.specs.declared.status.KeptStatus.{KeptStatus}
+use Rattle.serve_rooms.specs.Acts.{Act, hosted, KeptState, KeptGrew, beside}
+use Rattle.serve_rooms.specs.Doing.{Hosted, Last, IsKept, BeginsKept, DidKept}
 use Rattle.serve_rooms.specs.declared.status.KeptStatus.TheVariants.{Run}
 use Rattle.serve_rooms.proofs.Acting.{kept_hosted, kept_none, kept_more}
 

@@ -24,13 +24,13 @@ use Rattle.outside.specs.Events.{Event, HostState}
 use Rattle.outside.specs.Pieces.{ReadsFile}
 use Rattle.outside.specs.Printing.{Prints, PrintsMade, Unread}
 use Rattle.outside.specs.Begun.{Did}
-use Rattle.outside.specs.Steps.{Step, StepOf, Ends, Then, Begins}
+use Rattle.outside.specs.Steps.{Step, Ends, Begins}
 use Rattle.outside.proofs.Growing as growing
 use Rattle.outside.proofs.Piecewise.{can_read_file, can_tell}
 use Rattle.outside.proofs.Printed.{can_print}
 use Rattle.codec_rooms.proofs.Typing as typing
 use Rattle.box_store.specs.Keeping.{KeeperState}
-use Rattle.serve_rooms.specs.Acts.{Act, KeptState, beside}
+use Rattle.serve_rooms.specs.Acts.{KeptState, beside}
 use Rattle.serve_rooms.specs.Doing.{Hosted, Last, BeginsKept, DidKept}
 use Rattle.serve_rooms.specs.Serve.{EndsBy, OfText, no_schema, schema_of, after_reading, LoadsSchema, OfProfile, OfSchema, no_profile, profiled, after_loading, OfProfiled}
 use Rattle.serve_rooms.specs.declared.loading.Loaded.{Loaded}

@@ -1,20 +1,13 @@
 -- What `serve` and `keep` touch.
-use Rattle.std.proofs.Common.{◌≡◌, ◌⊎◌, inl, inr, codes, ltb, ℕ, ◌+◌, List, [], ◌∷◌, ◌++◌, map, Bool, true, false, true≢false, Option, Some, None, Result, Ok, Err, refl, sym, ap, ◌∙◌, subst}
-use Rattle.std.proofs.lemmas.List.{append_assoc}
-use Rattle.tl_base.specs.declared.counts.Kind.TheVariants as kinds
+use Rattle.std.proofs.Common.{inl, inr, codes, ltb, ℕ, List, [], ◌∷◌, ◌++◌, map, Bool, true, false, Option, Some, None, Result, Ok, Err, refl, sym, subst}
 use Rattle.tl_base.specs.declared.host.Slot.TheVariants as slots
 use Rattle.tl_base.specs.declared.host.Out.TheVariants as outs
-use Rattle.tl_base.specs.declared.packet.PacketFault.{PacketFault}
-use Rattle.tl_base.specs.declared.packet.PacketFault.TheVariants.{BadLength, Ended}
 use Rattle.tl_schema.specs.Schemas.{Declared}
 use Rattle.box_events.specs.declared.requests.Numbered.{Numbered}
 use Rattle.box_server.specs.Servers.{ServerState, new_server, dated_at}
 use Rattle.box_store.specs.declared.entry.Entry.{Entry}
-use Rattle.wire_checks.specs.declared.fault.WireFault.{WireFault}
 use Rattle.wire_profile.specs.Places.{ProfileView}
-use Rattle.box_wire.specs.Kinds.{calls}
-use Rattle.box_wire.specs.Framing.{WireRefused}
-use Rattle.command_base.specs.Answer.{link_fault_line, memory_line, read_fault_line, refused, write_fault_line}
+use Rattle.command_base.specs.Answer.{link_fault_line, read_fault_line, refused, write_fault_line}
 use Rattle.command_base.specs.declared.status.Status.{Status}
 use Rattle.command_base.specs.declared.status.Status.TheVariants as statuses
 use Rattle.fault_lines.specs.Profiled.{form_line}
@@ -22,14 +15,14 @@ use Rattle.schema_files.specs.Lines.{schema_line}
 use Rattle.schema_files.specs.declared.schema_text.TheConstants.{SCHEMA_BYTES}
 use Rattle.outside.specs.Events.{Event, opened, took, ended, read_failed, created, put, write_failed, listened, connected, accepted, told}
 use Rattle.outside.specs.Begun.{WritesOnly}
-use Rattle.outside.specs.Laws.{Happened, Throughout, Keeps, IsFailure, IsFromLink, Explains, HasCause}
+use Rattle.outside.specs.Laws.{Throughout, Keeps}
 use Rattle.outside.specs.Packets.{PacketView, whole, TakesPacket}
 use Rattle.outside.specs.Packets as packets
-use Rattle.outside.specs.Pieces.{ReadsFile, Tells, Writes}
+use Rattle.outside.specs.Pieces.{Tells}
 use Rattle.outside.specs.Printing.{Prints, Unread}
-use Rattle.outside.specs.Steps.{Step, StepOf, Turn, again, leave, Calls, Ends, Then, Reaches, here, turn, Loops}
-use Rattle.outside.proofs.Causing.{cause_print, cause_run, cause_tell, explains_first, explains_last, happened_first, happened_last, keeps_begun, keeps_call, keeps_end, keeps_file, keeps_loop, keeps_print, keeps_tell, keeps_then, keeps_write, throughout_both, throughout_first, told_status, unread_file, unwritten}
-use Rattle.outside.proofs.TakenPackets.{IsUnbroken, broken_packet, keeps_packet, packet_came}
+use Rattle.outside.specs.Steps.{Step, StepOf, Calls}
+use Rattle.outside.proofs.Causing.{keeps_call, keeps_end, keeps_file, keeps_loop, keeps_print, keeps_tell, keeps_then, keeps_write, throughout_first}
+use Rattle.outside.proofs.TakenPackets.{keeps_packet}
 use Rattle.update_sessions.specs.declared.fault.SessionFault.{SessionFault}
 use Rattle.update_sessions.specs.declared.fault.SessionFault.TheVariants as session
 use Rattle.update_sessions.specs.declared.fault.TheConstants.{MAX_FRAMES}
@@ -38,18 +31,15 @@ use Rattle.update_sessions.specs.Packed.{SpellsFrame}
 use Rattle.update_sessions.specs.Serving.{after_request, sent_for}
 use Rattle.session_commands.specs.Keep.{bad_entry_line}
 use Rattle.session_commands.specs.Lines.{served_line}
-use Rattle.session_commands.specs.Serve.{first_fault}
 use Rattle.session_commands.specs.SessionEnds.{session_line}
-use Rattle.session_commands.proofs.ToldCauses.{call_told, told_line}
-use Rattle.session_rooms.specs.Sending.{Sends}
-use Rattle.session_rooms.proofs.SentMessages.{keeps_send, unsent}
-use Rattle.serve_rooms.specs.Acts.{Act, Loading, hosted, loaded, added, rebuilds, unaccepted, unread, events_in, IsKeeperFault}
+use Rattle.session_rooms.proofs.SentMessages.{keeps_send}
+use Rattle.serve_rooms.specs.Acts.{Act, Loading, hosted, loaded, added, rebuilds, unaccepted, unread, events_in}
 use Rattle.serve_rooms.specs.Answering.{Answered, goes_on, has_ended, fails, unkept, if_added, Adds, after_sending, after_adding, AnswersBytes, no_call, answers, after_packet, AnswersNext, Session, over, lost, Served, answers_by, AnswersOn, AnswersAll}
 use Rattle.serve_rooms.specs.Answering as answering
-use Rattle.serve_rooms.specs.Doing.{Hosted, Last, BeginsKept, Spares, to_serve}
+use Rattle.serve_rooms.specs.Doing.{Hosted, Last, BeginsKept, to_serve}
 use Rattle.serve_rooms.specs.Serve.{EndsBy, OfText, no_schema, schema_of, after_reading, LoadsSchema, OfProfile, OfSchema, no_profile, profiled, after_loading, OfProfiled, after_opening, OpensAndServes, keeps, serves}
-use Rattle.serve_rooms.specs.ServeLaws.{IsOfServe, ServeTouches, KeepTouches, IsListening, IsUnread, ReadsFirst, KeepReadsFirst, ServeHasCause, ExplainsKept, KeepHasCause}
-use Rattle.serve_rooms.specs.Sessions.{Next, more, no_more, keep_fault_line, TellsKeepFault, after_telling, after_session, after_moment, after_accept, ServesNext, Serving, turn_of, serves_by, ServesOn, after_listen, ServesAll}
+use Rattle.serve_rooms.specs.ServeLaws.{IsOfServe}
+use Rattle.serve_rooms.specs.Sessions.{more, no_more, keep_fault_line, TellsKeepFault, after_telling, after_session, after_moment, after_accept, ServesNext, Serving, turn_of, serves_by, ServesOn, after_listen, ServesAll}
 use Rattle.serve_rooms.specs.Telling.{Told, is_over, new_tally, TellsLine, TellsFault, after_line, fault_told, TellsEnd}
 use Rattle.serve_rooms.specs.Telling as telling
 use Rattle.serve_rooms.specs.declared.loading.Loaded.{Loaded}
@@ -57,7 +47,6 @@ use Rattle.serve_rooms.specs.declared.loading.Loaded.TheVariants as schema
 use Rattle.serve_rooms.specs.declared.status.KeptStatus.{KeptStatus}
 use Rattle.serve_rooms.specs.declared.status.KeptStatus.TheVariants.{Run, KeepFault}
 use Rattle.serve_rooms.specs.declared.telling.Tally.{Tally}
-use Rattle.serve_rooms.proofs.Acting.{events_more, events_hosted}
 
 -- ---- a schema's file
 

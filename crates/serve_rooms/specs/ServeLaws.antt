@@ -61,6 +61,7 @@ KeepTouches = (schema address : List ℕ) (sessions : ℕ) (t : List Act) (statu
 
 -- ---- when a keeper is read
 
+-- connections are taken at an address, or can't be
 abbrev pub IsListening : Event → Type 0
 IsListening (opened slot name ok) = ⊥
 IsListening (took slot bytes) = ⊥
@@ -97,10 +98,11 @@ KeepReadsFirst = (schema address : List ℕ) (sessions : ℕ) (t : List Act) (st
 abbrev pub ServeHasCause : Type 0
 ServeHasCause = (schema address : List ℕ) (sessions : ℕ) → HasCause (RunsIn to_serve (serves schema address sessions))
 
--- likewise over a keeper, by whose fault it ends only where a call to the keeper failed
+-- a keeper's fault comes only of a call to the keeper that failed
 abbrev pub ExplainsKept : KeptStatus → List Act → Type 0
 ExplainsKept (Run status) t = Explains status (events_in t)
 ExplainsKept KeepFault t = Happened IsKeeperFault t
 
+-- likewise over a keeper
 abbrev pub KeepHasCause : Type 0
 KeepHasCause = (schema address : List ℕ) (sessions : ℕ) (t : List Act) (status : KeptStatus) → RunsKept (keeps schema address sessions) t status → ExplainsKept status t

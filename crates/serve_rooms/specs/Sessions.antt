@@ -4,7 +4,6 @@ use Rattle.std.specs.Prelude.{ℕ, ◌+◌, ltb, List, codes, Bool, true, false}
 use Rattle.box_server.specs.Servers.{ServerState, dated_at}
 use Rattle.wire_profile.specs.Places.{ProfileView}
 use Rattle.command_base.specs.Answer.{link_fault_line}
-use Rattle.command_base.specs.declared.status.Status.{Status}
 use Rattle.command_base.specs.declared.status.Status.TheVariants.{LinkFault}
 use Rattle.outside.specs.Events.{listened, accepted, told}
 use Rattle.outside.specs.Pieces.{Tells}
