@@ -43,10 +43,10 @@ use Rattle.session_commands.specs.Linked.{next_link, over_link, saves_after}
 use Rattle.session_commands.specs.SessionEnds.{session_line}
 use Rattle.session_commands.specs.declared.state.TheConstants.{MAX_STATE_BYTES}
 use Rattle.session_rooms.specs.Client.{Leaves, WritesSaved, saves, after_state, after_create, ends_by, after_session, after_connect, Recovers, OfState, no_client, too_many, watches, after_reading, OfStateFile, recovers}
-use Rattle.session_rooms.specs.ClientAnswers.{IsSession, ClientAnswers}
+use Rattle.session_rooms.specs.ClientAnswers.{ClientAnswers}
 use Rattle.session_rooms.specs.Conversing.{Outcome, Converses}
 use Rattle.session_rooms.proofs.Conversed.{keeps_converse}
-use Rattle.session_rooms.proofs.ConversedBytes.{converses_over_bytes}
+use Rattle.session_rooms.proofs.ConversedBytes.{IsSession, converses_over_bytes}
 
 abbrev output_of : Outside → List ℕ
 output_of s = written_of outs.Output s.view
@@ -233,7 +233,7 @@ module _ (p : ProfileView) (address name : List ℕ) where
 
     -- no client is in more bytes than a state has
     long_client : (bytes : List ℕ) (c : ClientState) → MAX_STATE_BYTES < length bytes → HasClient p bytes c → ⊥
-    long_client bytes c long (begins is) = let none = ap length is in omega (arith, long, none)
+    long_client bytes c long (begins is new) = let none = ap length is in omega (arith, long, none)
     long_client bytes c long (loads s has is) = let few = has.few in omega (arith, long, few)
 
     long_told : (bytes file line : List ℕ) → MAX_STATE_BYTES < length bytes → MAX_STATE_BYTES < length file → TellsNoClient p bytes line → TellsNoClient p file line
@@ -275,20 +275,20 @@ module _ (p : ProfileView) (address name : List ℕ) where
 
 module _ (address name : List ℕ) (channels : List ℤ) where
   -- what is answered to a schema, over these files and what the link gives
-  abbrev Tells_of : Files → List ℕ → Declared → Answer → Type 0
-  Tells_of files given = profiles.OfProfile (old.OfStateFile address name channels files given)
+  abbrev OfSchema : Files → List ℕ → Declared → Answer → Type 0
+  OfSchema files given = profiles.OfProfile (old.OfStateFile address name channels files given)
 
-  profile_ends : (S : Declared) (t : List Event) (r : Status) (a b : Outside) → OfProfile (OfStateFile address name channels) S t r → Fits t a b → IsWhole r → Ends (Tells_of a.view.files (next_link a.view) S) r a b
+  profile_ends : (S : Declared) (t : List Event) (r : Status) (a b : Outside) → OfProfile (OfStateFile address name channels) S t r → Fits t a b → IsWhole r → Ends (OfSchema a.view.files (next_link a.view) S) r a b
   profile_ends S t r a b (no_profile fault lacks h) f whole = (refused (form_line fault), profiles.no_profile fault lacks refl, print_ends (refused (form_line fault)) t r a b h f whole.0)
-  profile_ends S t r a b (profiled p is h) f whole = ends_as _ (Tells_of a.view.files (next_link a.view) S) r a b (λ x of. profiles.profiled p is of) (state_file_ends p address name channels t r a b h f whole)
+  profile_ends S t r a b (profiled p is h) f whole = ends_as _ (OfSchema a.view.files (next_link a.view) S) r a b (λ x of. profiles.profiled p is of) (state_file_ends p address name channels t r a b h f whole)
 
   text_ends : (text : List ℕ) (t : List Event) (r : Status) (a b : Outside) → OfText (codes "schema") (OfProfile (OfStateFile address name channels)) text t r → Fits t a b → IsWhole r
-      → Ends (answering.OfSchemaText (codes "schema") (Tells_of a.view.files (next_link a.view)) text) r a b
+      → Ends (answering.OfSchemaText (codes "schema") (OfSchema a.view.files (next_link a.view)) text) r a b
   text_ends text t r a b (no_schema cause refuses h) f whole =
       let line = schema_line (codes "schema") cause in
       (refused line, answering.no_schema cause refuses refl, print_ends (refused line) t r a b h f whole.0)
   text_ends text t r a b (schema_of schema is h) f whole =
-      ends_as (Tells_of a.view.files (next_link a.view) schema) (answering.OfSchemaText (codes "schema") (Tells_of a.view.files (next_link a.view)) text) r a b (λ x of. answering.schema_of schema is of) (profile_ends schema t r a b h f whole)
+      ends_as (OfSchema a.view.files (next_link a.view) schema) (answering.OfSchemaText (codes "schema") (OfSchema a.view.files (next_link a.view)) text) r a b (λ x of. answering.schema_of schema is of) (profile_ends schema t r a b h f whole)
 
   schema_ends : (schema : List ℕ) (o : Option (List ℕ)) (t u : List Event) (r : Status) (a m b : Outside) → ReadsFile slots.Schema schema SCHEMA_BYTES t o → after_schema (codes "schema") (OfProfile (OfStateFile address name channels)) o u r → Fits t a m → Fits u m b → IsWhole r
       → Ends (ClientAnswer a.view.files (next_link a.view) schema address name channels) r a b
@@ -299,9 +299,9 @@ module _ (address name : List ℕ) (channels : List ℤ) where
       let same = spares t a m (keeps_file SparesOutput slots.Schema schema SCHEMA_BYTES (λ _. tt) (λ _. tt) tt tt t (Some text) read) f in
       let given = links_wait t a m reads f in
       let files = (fits_keeps t a m f).files in
-      let e = ends_later (answering.OfSchemaText what (Tells_of m.view.files (next_link m.view)) text) r a m b same (text_ends text u r m b h g whole) in
-      let of_text = subst (λ (fs : Files). answering.OfSchemaText what (Tells_of fs (next_link a.view)) text e.0) files (subst (λ (l : List ℕ). answering.OfSchemaText what (Tells_of m.view.files l) text e.0) given e.1) in
-      let of_file = text_stays what (Tells_of a.view.files (next_link a.view)) file.0 e.0 (subst (λ (l : List ℕ). answering.OfSchemaText what (Tells_of a.view.files (next_link a.view)) l e.0) file.2 of_text) in
+      let e = ends_later (answering.OfSchemaText what (OfSchema m.view.files (next_link m.view)) text) r a m b same (text_ends text u r m b h g whole) in
+      let of_text = subst (λ (fs : Files). answering.OfSchemaText what (OfSchema fs (next_link a.view)) text e.0) files (subst (λ (l : List ℕ). answering.OfSchemaText what (OfSchema m.view.files l) text e.0) given e.1) in
+      let of_file = text_stays what (OfSchema a.view.files (next_link a.view)) file.0 e.0 (subst (λ (l : List ℕ). answering.OfSchemaText what (OfSchema a.view.files (next_link a.view)) l e.0) file.2 of_text) in
       (e.0, (file.0, file.1, of_file), e.2)
   schema_ends schema None t u r a m b read h f g whole = absurd (whole.0.0 (told_status read_fault_line status.ReadFault u r h))
 

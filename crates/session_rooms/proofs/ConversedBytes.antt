@@ -31,17 +31,22 @@ use Rattle.update_sessions.specs.Heard as heard_by
 use Rattle.update_sessions.specs.Hearing.{IsTaken, client_side, hears}
 use Rattle.update_sessions.specs.Honest.{HearsHonestly}
 use Rattle.update_sessions.specs.Links.{OverLink}
-use Rattle.update_sessions.specs.Packed.{Packed, PartlyPacked, SpellsCall}
+use Rattle.update_sessions.specs.Packed.{MeansFrame, Packed, PartlyPacked, SpellsCall}
+use Rattle.update_sessions.specs.Receiving.{ComesFirst}
 use Rattle.update_sessions.specs.inner.Steps as steps
 use Rattle.update_sessions.proofs.ClientSteps.{hears_done, hears_full, hears_stopped}
 use Rattle.update_sessions.proofs.Exchanging.{cut_none, cut_one, exchanged_one}
 use Rattle.update_sessions.proofs.HonestFrames.{begins, honestly}
 use Rattle.update_sessions.proofs.Stepping.{many_none, many_then}
 use Rattle.session_commands.specs.SessionEnds.{IsShort}
-use Rattle.session_rooms.specs.ClientAnswers.{IsSession, ConversesOverBytes}
 use Rattle.session_rooms.specs.Conversing.{Outcome, Asks, after_asking, HearsBytes, no_frame, refused, heard, after_packet, HearsNext, Heard, turn_of, hears_by, HearsOn, after_begin, Converses}
 use Rattle.session_rooms.specs.Sending.{PartlySent, Sends}
 use Rattle.session_rooms.proofs.LeftPackets.{packet_left}
+
+-- the session with this outcome over a link that gives these bytes, to which this is written
+abbrev pub IsSession : ProfileView → ClientState → List ℕ → List ℕ → Outcome → Type 0
+IsSession p c given sent (Ok d) = (frames : ℕ) × HearsHonestly p c given sent d (Ok frames)
+IsSession p c given sent (Err fault) = (d : ClientState) × HearsHonestly p c given sent d (Err fault) × IsShort fault
 
 abbrev given_by : Outside → List ℕ
 given_by s = left_of Link s.view
@@ -123,12 +128,15 @@ module _ (p : ProfileView) where
   abbrev NextOver : ClientState → ClientState → Result (Unit {0}) SessionFault → Outside → Outside → Type 0
   NextOver c d r a b = steps.HearsNext p c (Some (given_by a)) (Some (sent_by a)) (Some (given_by b)) (Some (sent_by b)) d r
 
+  comes_first : (frame : Frame) (bytes : List ℕ) (t : List Event) (a m : Outside) → TakesPacket Link t (whole bytes) → MeansFrame p frame bytes → Fits t a m → ComesFirst (MeansFrame p) frame (given_by a) (given_by m)
+  comes_first frame bytes t a m takes means f = record { body = bytes; fits = (whole_packet Link t bytes takes).0; parts = packet_left Link t (whole bytes) a m takes f; means = means }
+
   heard_more : (c d : ClientState) (bytes : List ℕ) (t u : List Event) (a m b : Outside) → TakesPacket Link t (whole bytes) → HearsBytes p c bytes u (Ok d) → Fits t a m → Fits u m b → NextOver c d (Ok tt) a b
   heard_more c d bytes t u a m b takes (no_frame fault refuses none is) f g = absurd (let no : ◌≡◌ {A = Outcome} (Ok d) (Err (session.Wire fault)) = is in cc)
   heard_more c d bytes t u a m b takes (refused fault refuses none is) f g = absurd (let no : ◌≡◌ {A = Outcome} (Ok d) (Err (session.Client fault)) = is in cc)
   heard_more c d bytes t u a m b takes (heard frame means taken asks) f g =
       let asked = asked_all (hears c frame) d u m b asks g in
-      let comes = record { body = bytes; fits = (whole_packet Link t bytes takes).0; parts = packet_left Link t (whole bytes) a m takes f; means = means } in
+      let comes = comes_first frame bytes t a m takes means f in
       (frame ∷ [], refl, (given_by m, asked.out, asked.wrote ∙ ap (λ (l : List ℕ). l ++ asked.out) (taking_sent t (whole bytes) a m takes f), ap Some asked.left, exchanged_one (client_side p) c d (given_by a) (given_by m) asked.out frame comes taken asked.packed asked.is))
 
   packet_more : (c d : ClientState) (v : PacketView) (t u : List Event) (a m b : Outside) → TakesPacket Link t v → after_packet p c v u (Ok d) → Fits t a m → Fits u m b → NextOver c d (Ok tt) a b
@@ -162,12 +170,12 @@ module _ (p : ProfileView) where
       unsent c fault (session.Wire wire) t u (whole bytes) a m b takes f g none is tt
       ((refl, refl), record { body = bytes; rest = given_by m; fits = (whole_packet Link t bytes takes).0; parts = packet_left Link t (whole bytes) a m takes f; refused = refuses })
   heard_none c fault bytes t u a m b takes (refused e refuses none is) f g =
-      let comes = record { body = bytes; fits = (whole_packet Link t bytes takes).0; parts = packet_left Link t (whole bytes) a m takes f; means = refuses.means } in
+      let comes = comes_first refuses.frame bytes t a m takes refuses.means f in
       unsent c fault (session.Client e) t u (whole bytes) a m b takes f g none is tt
       (refuses.frame, (refl, refl), record { rest = given_by m; comes = comes; cause = refuses.cause; refuses = refuses.refuses; is = refuses.is })
   heard_none c fault bytes t u a m b takes (heard frame means taken asks) f g =
       let asked = asked_part (hears c frame) fault u m b asks g in
-      let comes = record { body = bytes; fits = (whole_packet Link t bytes takes).0; parts = packet_left Link t (whole bytes) a m takes f; means = means } in
+      let comes = comes_first frame bytes t a m takes means f in
       let d = (ticks (hears c frame)).client in
       let cut = cut_one (client_side p) c d (given_by a) (given_by m) asked.part frame comes taken asked.packed refl in
       subst (λ (e : SessionFault). Stops c e a b) (sym asked.is)
@@ -297,7 +305,9 @@ module _ (p : ProfileView) where
       let stays : b ≡ m = subst (λ (l : List Event). Fits l m b) h.0 g in
       subst (λ (x : Outcome). Session c x a b) (sym h.1) (subst (λ (o : Outside). Session c (Err fault) a o) (sym stays) (begun_cut c fault a m (asked_part (wakes c) fault t a m asks f)))
 
-pub converses_over_bytes : ConversesOverBytes
+-- a conversation is a session over what is left of the link, and the link has what that writes
+pub converses_over_bytes : (p : ProfileView) (c : ClientState) (t : List Event) (r : Outcome) (s n : Outside) → Converses p c t r → Fits t s n
+    → (sent : List ℕ) × (written_of outs.Link n.view ≡ written_of outs.Link s.view ++ sent) × IsSession p c (left_of Link s.view) sent r
 converses_over_bytes p c t r s n h f =
     let parts = fits_both h.first h.rest s n (subst (λ (l : List Event). Fits l s n) h.splits f) in
     after_first p c h.between r h.first h.rest s parts.0 n h.does h.goes parts.1 parts.2
