@@ -1,8 +1,6 @@
 -- A conversation over a link that gives bytes is a session over them.
-use Rattle.std.proofs.Common.{◌≡◌, ℕ, ◌+◌, ◌<◌, ◌≤◌, ltb, List, [], ◌∷◌, ◌++◌, length, length-append, append-nil, append_assoc, map, Bool, true, false, Option, Some, None, Result, Ok, Err, refl, sym, ap, ◌∙◌, subst, inl, inr, arith}
+use Rattle.std.proofs.Common.{◌≡◌, ℕ, ◌+◌, ◌<◌, ◌≤◌, ltb, List, [], ◌∷◌, ◌++◌, length, append-nil, map, Bool, true, false, Some, Result, Ok, Err, refl, sym, ap, ◌∙◌, subst, inl, inr, arith}
 use Rattle.std.proofs.lemmas.Bool.{ltb-true, ltb-false}
-use Rattle.std.proofs.KnownBytes.{Appends-nil}
-use Rattle.tl_base.specs.Packets.{IsPacketLength, packet}
 use Rattle.tl_base.specs.Outside.{Written, left_of, out_part, written_of}
 use Rattle.tl_base.specs.declared.host.Out.TheVariants as outs
 use Rattle.tl_base.specs.declared.host.Slot.TheVariants.{Link}
@@ -10,10 +8,7 @@ use Rattle.tl_base.specs.declared.packet.PacketFault.TheVariants.{BadLength, End
 use Rattle.box_events.specs.declared.replies.Frame.{Frame}
 use Rattle.box_client.specs.Asking.{ticks, wakes, is_one_asking}
 use Rattle.box_client.specs.States.{ClientState}
-use Rattle.box_client.specs.declared.fault.ClientFault.{ClientFault}
-use Rattle.box_events.specs.declared.requests.Numbered.{Numbered}
 use Rattle.box_world.specs.Streams.{begun}
-use Rattle.wire_checks.specs.declared.fault.WireFault.{WireFault}
 use Rattle.wire_profile.specs.Places.{ProfileView}
 use Rattle.outside.specs.Events.{Event, Outside, put, write_failed}
 use Rattle.outside.specs.Packets.{PacketView, whole, TakesPacket}
@@ -28,7 +23,7 @@ use Rattle.update_sessions.specs.declared.fault.SessionFault.{SessionFault}
 use Rattle.update_sessions.specs.declared.fault.SessionFault.TheVariants as session
 use Rattle.update_sessions.specs.declared.fault.TheConstants.{MAX_FRAMES}
 use Rattle.update_sessions.specs.Heard as heard_by
-use Rattle.update_sessions.specs.Hearing.{IsTaken, client_side, hears}
+use Rattle.update_sessions.specs.Hearing.{client_side, hears}
 use Rattle.update_sessions.specs.Honest.{HearsHonestly}
 use Rattle.update_sessions.specs.Links.{OverLink}
 use Rattle.update_sessions.specs.Packed.{MeansFrame, Packed, PartlyPacked, SpellsCall}

@@ -1,11 +1,11 @@
 -- What is left of a slot where a packet was taken from it.
-use Rattle.std.proofs.Common.{◌≡◌, ℕ, ◌+◌, ◌<◌, ◌^◌, List, [], ◌∷◌, ◌++◌, length, length-append, append-nil, append_assoc, refl, sym, ap, ◌∙◌, subst, inl, inr, arith}
+use Rattle.std.proofs.Common.{◌≡◌, ℕ, ◌+◌, ◌<◌, ◌^◌, List, [], ◌∷◌, ◌++◌, length, length-append, append-nil, append_assoc, sym, ap, ◌∙◌, subst, inl, inr, arith}
 use Rattle.tl_numbers.specs.Numbers.{word, word_number}
 use Rattle.tl_numbers.proofs.Spelled.{words}
 use Rattle.tl_base.specs.Outside.{left_of}
 use Rattle.tl_base.specs.Packets.{IsPacketLength, IsCutShort, packet}
 use Rattle.tl_base.specs.declared.host.Slot.{Slot}
-use Rattle.outside.specs.Events.{Event, Outside, took, ended}
+use Rattle.outside.specs.Events.{Event, Outside, ended}
 use Rattle.outside.specs.Packets.{PacketView, whole, none, bad_length, AfterLength, bad, good, TakesPacket, after_head, content_of, cut_off}
 use Rattle.outside.specs.Packets as packets
 use Rattle.outside.specs.Pieces.{TakenView, full, short, broken, Takes}

@@ -9,3 +9,4 @@ pub mod PostLaws
 pub mod LeftPackets
 pub mod ConversedBytes
 pub mod AnsweredClients
+pub mod LeftViews

@@ -3,6 +3,7 @@ use Rattle.std.specs.Prelude.{◌≡◌, ◌≢◌, ℕ, ℤ, List, ◌++◌}
 use Rattle.tl_base.specs.Outside.{written_of}
 use Rattle.tl_base.specs.declared.host.Out.TheVariants.{Output}
 use Rattle.command_base.specs.Answer.{Answer}
+use Rattle.command_base.specs.Kept.{Leaves}
 use Rattle.command_base.specs.declared.status.Status.{Status}
 use Rattle.command_base.specs.declared.status.Status.TheVariants.{LinkFault}
 use Rattle.outside.specs.Begun.{to_link}
@@ -15,8 +16,8 @@ use Rattle.session_commands.specs.Linked.{next_link}
 use Rattle.session_rooms.specs.Client.{recovers}
 
 -- A run that neither files, nor the link, nor memory stopped ends by an answer to the first files with the names, over what the next link gives: that is its
--- status, and Output has grown by it.
+-- status, Output has grown by it, and what is left of the outside is the answer's: State, what was sent over the link, and the address.
 abbrev pub ClientAnswers : Type 0
 ClientAnswers = (schema address state : List ℕ) (channels : List ℤ) (t : List Event) (status : Status) (s n : Outside) → RunsIn to_link (recovers schema address state channels) t status → Fits t s n
     → IsAnswer status → status ≢ LinkFault
-    → (a : Answer) × ClientAnswer s.view.files (next_link s.view) schema address state channels a × (status ≡ a.status) × (written_of Output n.view ≡ written_of Output s.view ++ a.output)
+    → (a : Answer) × ClientAnswer s.view.files (next_link s.view) schema address state channels a × (status ≡ a.status) × (written_of Output n.view ≡ written_of Output s.view ++ a.output) × Leaves a s.view n.view

@@ -15,7 +15,7 @@ pub fn client_has_cause()
 {}
 
 /// Over an outside whose files and links give bytes, a run that neither files, nor the link, nor memory stopped ends by an answer to the first files with the
-/// names, over what the next link gives: that is its status, and Output has grown by it.
+/// names, over what the next link gives: that is its status, Output has grown by it, and State, what was sent over the link, and the address are the answer's.
 pub fn client_answers()
     ensures { ClientAnswers }
 {}
