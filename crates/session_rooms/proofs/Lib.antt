@@ -6,3 +6,7 @@ pub mod States
 pub mod ClientLaws
 pub mod Posting
 pub mod PostLaws
+pub mod LeftPackets
+pub mod ConversedBytes
+pub mod AnsweredClients
+pub mod LeftViews

@@ -5,3 +5,4 @@ pub mod ClientLaws
 pub mod Post
 pub mod PostLaws
 pub mod inner
+pub mod ClientAnswers

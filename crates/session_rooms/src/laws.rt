@@ -1,4 +1,5 @@
 //! Laws of what `client` and `post` do.
+ghost use Rattle.session_rooms.specs.ClientAnswers.{ClientAnswers};
 ghost use Rattle.session_rooms.specs.ClientLaws.{ClientHasCause, ClientTouches};
 ghost use Rattle.session_rooms.specs.PostLaws.{PostHasCause, PostTouches};
 
@@ -11,6 +12,12 @@ pub fn client_touches()
 /// It ends by the status of a fault only where a call of that kind failed.
 pub fn client_has_cause()
     ensures { ClientHasCause }
+{}
+
+/// Over an outside whose files and links give bytes, a run that neither files, nor the link, nor memory stopped ends by an answer to the first files with the
+/// names, over what the next link gives: that is its status, Output has grown by it, and State, what was sent over the link, and the address are the answer's.
+pub fn client_answers()
+    ensures { ClientAnswers }
 {}
 
 /// A run of `post` opens and reads the schema's file and the input's, makes a link to the address, writes and reads it, and writes to Output and Errors. It does
