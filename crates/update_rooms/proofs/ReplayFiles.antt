@@ -1,5 +1,5 @@
 -- What `replay` tells over files is the one answer to them.
-use Rattle.std.proofs.Common.{◌≡◌, codes, ℕ, ◌+◌, ◌<◌, List, length, take, drop, Bool, Option, Some, None, Ok, refl, sym, subst, arith, inl, inr}
+use Rattle.std.proofs.Common.{◌≡◌, codes, ℕ, ◌+◌, List, length, take, drop, Bool, Option, Some, None, Ok, refl, sym, subst, arith, inl, inr}
 use Rattle.std.proofs.lemmas.Bool.{cases_lt}
 use Rattle.std.proofs.lemmas.List.{take_all, take-append-drop, length-take}
 use Rattle.tl_numbers.specs.Bytes.{AreBytes}
