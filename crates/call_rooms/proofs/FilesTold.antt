@@ -1,5 +1,5 @@
 -- What `calls` tells over files is the one answer to them.
-use Rattle.std.proofs.Common.{◌≡◌, ◌⊎◌, ℕ, zero, suc, ◌+◌, ◌<◌, ◌≤◌, ◌^◌, List, [], ◌∷◌, ◌++◌, length, take, length-append, append-nil, append_assoc, Bool, true, false, Option, Some, None, codes, decimal, refl, sym, ap, ◌∙◌, subst, inl, inr, arith}
+use Rattle.std.proofs.Common.{◌≡◌, ℕ, ◌+◌, ◌<◌, ◌^◌, List, [], ◌∷◌, ◌++◌, length, take, length-append, append-nil, append_assoc, Bool, true, false, Option, Some, None, codes, decimal, refl, sym, ap, ◌∙◌, subst, inl, inr, arith}
 use Rattle.std.proofs.lemmas.Bool.{cases_lt}
 use Rattle.std.proofs.lemmas.List.{take_all, length-take}
 use Rattle.tl_numbers.specs.Bytes.{AreBytes}
@@ -7,26 +7,26 @@ use Rattle.tl_numbers.specs.Numbers.{word, word_number}
 use Rattle.tl_numbers.proofs.Spelled.{words}
 use Rattle.tl_base.specs.Contents.{Files, HoldBytes}
 use Rattle.tl_base.specs.Packets.{IsPacketLength, IsCutShort, packet}
-use Rattle.tl_base.specs.Outside.{View, Written, HasFile, HasRoom, left_of, written_of}
+use Rattle.tl_base.specs.Outside.{Written, HasFile, HasRoom, left_of, written_of}
 use Rattle.tl_base.proofs.Parts.{left_back}
 use Rattle.tl_base.specs.declared.host.Out.TheVariants as outs
 use Rattle.tl_base.specs.declared.host.Slot.{Slot}
 use Rattle.tl_base.specs.declared.host.Slot.TheVariants.{Schema, Input}
 use Rattle.tl_schema.specs.CheckedPrograms.{IsSchema}
 use Rattle.tl_schema.specs.Schemas.{Declared}
-use Rattle.tl_calls.specs.Events.{Log, Logged}
+use Rattle.tl_calls.specs.Events.{Logged}
 use Rattle.command_base.specs.Answer.{Answer, done, refused, refused_after, write_fault_line}
 use Rattle.command_base.specs.declared.status.Status.{Status}
 use Rattle.command_base.specs.declared.status.Status.TheVariants as status
 use Rattle.command_base.proofs.SameFiles.{file_bytes, same_file}
 use Rattle.outside.specs.Begun.{to_output}
-use Rattle.outside.specs.Events.{Event, Outside, opened, took, ended, put}
+use Rattle.outside.specs.Events.{Event, Outside, opened, ended}
 use Rattle.outside.specs.Laws.{Throughout}
 use Rattle.outside.specs.Packets.{PacketView, whole, none, bad_length, AfterLength, bad, good, TakesPacket, after_head, content_of, cut_off}
 use Rattle.outside.specs.Packets as packets
 use Rattle.outside.specs.Pieces.{TakenView, full, short, broken, Takes, Writes, ReadsFile}
 use Rattle.outside.specs.Pieces as piece
-use Rattle.outside.specs.Printing.{Prints, after_output}
+use Rattle.outside.specs.Printing.{after_output}
 use Rattle.outside.specs.Runs.{RunsIn}
 use Rattle.outside.specs.Steps.{Step, Turn, again, leave, Reaches, here, turn}
 use Rattle.outside.proofs.Causing.{keeps_file, told_status}
@@ -44,14 +44,13 @@ use Rattle.call_commands.specs.CallReports.{Began, HasPacket, Tells, ContentRefu
 use Rattle.call_commands.specs.CallReports as reports
 use Rattle.call_commands.specs.Calls.{OfInputFile, OfPackets, CallsAnswer}
 use Rattle.call_commands.specs.Calls as answers
-use Rattle.call_commands.specs.declared.limits.TheConstants.{MAX_PACKET_END}
 use Rattle.call_commands.proofs.EachFile.{output_after}
 use Rattle.call_commands.proofs.OneCalls.{one_calls}
 use Rattle.codec_rooms.specs.Laws.{IsAnswer, EndsAs}
 use Rattle.codec_rooms.specs.Typed.{OfText, no_schema, schema_of, after_schema}
 use Rattle.codec_rooms.proofs.FileLaws.{run_done}
 use Rattle.codec_rooms.proofs.TypedFiles.{text_stays}
-use Rattle.call_rooms.specs.Calls.{SoFar, so_far, ends_by, Last, TellsRefusal, after_line, end_of, OfPacket, too_long, no_packet, told, after_packet, TellsNext, TellsPackets, after_opening, OfInput, tells_calls}
+use Rattle.call_rooms.specs.Calls.{SoFar, so_far, Last, TellsRefusal, after_line, end_of, OfPacket, too_long, no_packet, told, after_packet, TellsNext, TellsPackets, after_opening, OfInput, tells_calls}
 use Rattle.call_rooms.specs.CallsLaws.{EndsByAnswer, EndsFilesOfBytes}
 use Rattle.call_rooms.specs.Commands.{calls}
 use Rattle.call_rooms.proofs.CallingLaws.{calls_reads}

@@ -1,5 +1,5 @@
 -- What can be said of `calls` over files. This project's own.
-use Rattle.std.specs.Prelude.{◌≡◌, ◌≢◌, ℕ, List, ◌++◌, length}
+use Rattle.std.specs.Prelude.{◌≡◌, ◌≢◌, List, ◌++◌, length}
 use Rattle.tl_base.specs.Contents.{HoldBytes}
 use Rattle.tl_base.specs.Outside.{HasRoom, written_of}
 use Rattle.tl_base.specs.declared.host.Out.TheVariants.{Output}
