@@ -69,7 +69,7 @@ module _ (schema journal : List ℕ) (n : ℕ) where
   -- ---- a journal
 
   module _ (p : ProfileView) where
-    -- the same for what is looked at
+    -- what is looked at are bytes, and this is told of them
     abbrev OfSeen : List ℕ → Answer → Type 0
     OfSeen text a = AreBytes (seen_of text) × OfJournal p n text a
 
