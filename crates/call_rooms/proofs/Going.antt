@@ -1,5 +1,5 @@
 -- That `calls` can go on to its end from each of its parts.
-use Rattle.std.proofs.Common.{◌≡◌, ℕ, ◌<◌, ◌≤◌, List, [], ◌∷◌, length, Bool, true, false, Some, None, refl, sym, subst, inl, inr, codes}
+use Rattle.std.proofs.Common.{◌≡◌, ℕ, List, [], ◌∷◌, length, Bool, true, false, Some, None, refl, sym, subst, inl, inr, codes}
 use Rattle.std.proofs.lemmas.Bool.{cases_lt}
 use Rattle.tl_numbers.specs.Bytes.{AreBytes}
 use Rattle.tl_base.specs.Packets.{IsPacketLength}
@@ -22,7 +22,6 @@ use Rattle.outside.specs.Packets as taken
 use Rattle.outside.specs.Pieces.{Writes}
 use Rattle.outside.specs.Begun.{Did, WritesOnly, to_output}
 use Rattle.outside.specs.Steps.{Step, again, leave, Begins, Ends, Then}
-use Rattle.outside.specs.Steps as steps
 use Rattle.outside.specs.Laws.{Throughout}
 use Rattle.outside.proofs.Causing.{keeps_write, throughout_both}
 use Rattle.outside.proofs.Growing.{Leaves, can_end, can_then, did_nothing, did_both, did_stop, did_stop_by}

@@ -1,5 +1,5 @@
 -- What a turn of `calls` does.
-use Rattle.std.proofs.Common.{◌≡◌, ℕ, ◌+◌, ◌<◌, ◌≤◌, ◌^◌, List, [], ◌∷◌, ◌++◌, length, Some, None, Result, Ok, Err, Vec, Global, refl, sym, subst, codes, decimal, arith}
+use Rattle.std.proofs.Common.{◌≡◌, ℕ, ◌+◌, ◌<◌, ◌≤◌, List, [], ◌∷◌, ◌++◌, Some, None, Result, Ok, Err, Vec, Global, refl, sym, subst, codes, decimal, arith}
 use Rattle.std.specs.Prelude.{IfOk}
 use Rattle.std.specs.declared.alloc.AllocError.{AllocError}
 use Rattle.tl_base.specs.declared.host.Out.TheVariants.{Output}
@@ -12,7 +12,6 @@ use Rattle.command_base.specs.Answer.{refused}
 use Rattle.command_base.specs.Jobs.{Making, of_fault}
 use Rattle.command_base.specs.Loading.{Refuses, RefusesAs}
 use Rattle.command_base.specs.declared.status.Status.{Status}
-use Rattle.command_base.specs.declared.status.Status.TheVariants.{Done}
 use Rattle.command_base.specs.declared.stop.Unmade.{Unmade}
 use Rattle.command_base.specs.declared.stop.Unmade.TheVariants as unmade
 use Rattle.outside.specs.Events.{Event, HostState}

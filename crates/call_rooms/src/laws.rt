@@ -4,7 +4,7 @@ ghost use Rattle.outside.specs.Begun.{to_output};
 ghost use Rattle.outside.specs.Laws.{HasCause};
 ghost use Rattle.outside.specs.Runs.{RunsIn};
 ghost use Rattle.codec_rooms.specs.Laws.{ReadsFiles, Touches};
-ghost use Rattle.call_rooms.specs.CallsLaws.{EndsByAnswer};
+ghost use Rattle.call_rooms.specs.CallsLaws.{EndsByAnswer, EndsFilesOfBytes};
 ghost use Rattle.call_rooms.specs.Commands.{calls};
 
 /// A run of `calls` opens and reads the schema's file and the input's, each by its slot, and writes to Output and Errors. It does nothing else, also where
@@ -27,4 +27,10 @@ pub fn calls_reads()
 /// there is (`files_have_one_answer` of `call_commands`).
 pub fn calls_answers()
     ensures { (schema input : List ℕ) → EndsByAnswer (calls schema input) }
+{}
+
+/// Over files of bytes, where Output has room for the answer too, it ends by that: its status is the answer's, Output has grown by what the answer writes, and
+/// Errors by its line, where that fits.
+pub fn calls_ends()
+    ensures { (schema input : List ℕ) → EndsFilesOfBytes (calls schema input) }
 {}

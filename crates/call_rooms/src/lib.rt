@@ -6,4 +6,4 @@ mod laws;
 mod turns;
 
 pub use calls::{run_calls, tell_calls};
-pub use laws::{calls_answers, calls_has_cause, calls_reads, calls_touches};
+pub use laws::{calls_answers, calls_ends, calls_has_cause, calls_reads, calls_touches};

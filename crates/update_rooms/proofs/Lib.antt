@@ -4,4 +4,5 @@ mod RunsMade
 mod MakingLaws
 mod Parts
 mod Replayed
+mod ReplayFiles
 mod ReplayingLaws

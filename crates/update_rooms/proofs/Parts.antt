@@ -1,5 +1,5 @@
 -- An answer whose Output is put by parts.
-use Rattle.std.proofs.Common.{◌≡◌, ℕ, List, [], ◌∷◌, ◌++◌, length-append, map, Bool, true, false, Option, Some, None, refl, sym, ap, ◌∙◌, subst, arith, inl}
+use Rattle.std.proofs.Common.{◌≡◌, ℕ, List, [], ◌∷◌, ◌++◌, length-append, map, Bool, true, false, Some, None, refl, sym, ap, ◌∙◌, subst, arith, inl}
 use Rattle.std.proofs.lemmas.List.{append-nil, append_assoc, map-append}
 use Rattle.tl_base.specs.declared.host.Out.TheVariants.{Output}
 use Rattle.command_base.specs.Answer.{Answer, done, refused_after, write_fault_line}

@@ -41,7 +41,17 @@ pub fn replay_has_cause()
     ensures { (schema journal : List ℕ) (clients : ℕ) → HasCause (RunsIn to_output (replay schema journal clients).work) }
 {}
 
+/// Over files, unless the outside or memory stopped it, its status is that of the one answer to the first files with these names.
+pub fn replay_answers()
+    ensures { (schema journal : List ℕ) (clients : ℕ) → AnswersFiles (replay schema journal clients) }
+{}
+
 /// Where the files are there and no call was told to fail, no read fault ends it.
 pub fn replay_reads()
     ensures { (schema journal : List ℕ) (clients : ℕ) → ReadsFiles (replay schema journal clients) }
+{}
+
+/// Where Output has room for the answer too, it ends by that: its status is the answer's, Output has grown by what the answer writes, and Errors by its line, where that fits.
+pub fn replay_ends()
+    ensures { (schema journal : List ℕ) (clients : ℕ) → EndsFiles (replay schema journal clients) }
 {}

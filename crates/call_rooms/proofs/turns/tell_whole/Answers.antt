@@ -1,4 +1,4 @@
-use Rattle.std.proofs.Common.{◌+◌, Ok, Err, arith, length, ap}
+use Rattle.std.proofs.Common.{◌+◌, arith, length}
 use Rattle.command_base.specs.Jobs.{of_fault}
 use Rattle.call_commands.proofs.NextPackets.{packet_long}
 use Rattle.call_rooms.specs.Calls.{so_far}

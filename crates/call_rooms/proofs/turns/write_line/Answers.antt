@@ -1,5 +1,4 @@
 use Rattle.std.proofs.Common.{true, false}
-use Rattle.command_base.specs.declared.status.Status.TheVariants.{WriteFault}
 use Rattle.outside.proofs.Growing.{did_nothing, did_both}
 use Rattle.call_rooms.specs.Calls.{after_line, so_far}
 use Rattle.call_rooms.proofs.Going.{did_last}
