@@ -6,3 +6,6 @@ pub mod States
 pub mod ClientLaws
 pub mod Posting
 pub mod PostLaws
+pub mod PacketsLeft
+pub mod PostFiles
+pub mod Spared

@@ -4,4 +4,5 @@ pub mod Client
 pub mod ClientLaws
 pub mod Post
 pub mod PostLaws
+pub mod PostAnswers
 pub mod inner

@@ -1,6 +1,7 @@
 //! Laws of what `client` and `post` do.
 ghost use Rattle.session_rooms.specs.ClientLaws.{ClientHasCause, ClientTouches};
 ghost use Rattle.session_rooms.specs.PostLaws.{PostHasCause, PostTouches};
+ghost use Rattle.session_rooms.specs.PostAnswers.{PostAnswers};
 
 /// A run of `client` opens and reads the schema's file and the state's, makes a link to the address, reads and writes it, creates State under the state's name,
 /// and writes to Output, Errors and State. It does nothing else, also where memory runs out.
@@ -22,4 +23,10 @@ pub fn post_touches()
 /// It ends by the status of a fault only where a call of that kind failed.
 pub fn post_has_cause()
     ensures { PostHasCause }
+{}
+
+/// Over files and links, unless the outside or memory stopped it, it ends by the answer to the first files with these names and to what the next link gives: that
+/// is its status, Output has grown by it, a link was taken only where it has one, and what was sent over that is the answer's.
+pub fn post_answers()
+    ensures { PostAnswers }
 {}
