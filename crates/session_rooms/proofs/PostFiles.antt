@@ -5,7 +5,7 @@ use Rattle.std.proofs.lemmas.Bool.{cases_lt}
 use Rattle.std.proofs.lemmas.List.{get_or_at, set_at, take_all, length-take}
 use Rattle.tl_base.specs.Calls.{link_taken}
 use Rattle.tl_base.specs.Contents.{Files}
-use Rattle.tl_base.specs.Outside.{View, HasFile, left_of, last_or, with_last, written_of}
+use Rattle.tl_base.specs.Outside.{View, HasFile, HasRoom, left_of, last_or, with_last, written_of}
 use Rattle.tl_base.specs.Packets.{packet}
 use Rattle.tl_base.specs.declared.packet.PacketFault.{PacketFault}
 use Rattle.tl_base.specs.declared.packet.PacketFault.TheVariants as faults
@@ -20,7 +20,6 @@ use Rattle.command_base.specs.Jobs.{GivesOutput}
 use Rattle.command_base.specs.declared.status.Status.{Status}
 use Rattle.command_base.specs.declared.status.Status.TheVariants.{Done, LinkFault, PeerFault, ReadFault, Refused, WriteFault}
 use Rattle.outside.specs.Events.{Event, Outside, connected, put}
-use Rattle.outside.specs.Laws.{Keeps, Throughout}
 use Rattle.outside.specs.Packets.{PacketView, whole, TakesPacket}
 use Rattle.outside.specs.Packets as packets
 use Rattle.outside.specs.Pieces.{ReadsFile, Tells, Writes, joined}
@@ -29,7 +28,8 @@ use Rattle.outside.specs.Steps.{Step, Then}
 use Rattle.outside.proofs.Causing.{keeps_file, told_status}
 use Rattle.outside.proofs.TakenPackets.{keeps_packet, whole_packet}
 use Rattle.mem_host.specs.Fits.{Fits}
-use Rattle.mem_host.proofs.Fitting.{files_are_read, fits_both, writes_append}
+use Rattle.mem_host.specs.Reliable.{IsReliable}
+use Rattle.mem_host.proofs.Fitting.{Keeps as KeepsOutside, files_are_read, fits_both, fits_keeps, reliable_on, writes_append, writes_fail_full}
 use Rattle.mem_host.proofs.Sparing.{IsReading}
 use Rattle.schema_files.specs.Answering.{OfSchemaText}
 use Rattle.schema_files.specs.Answering as answering
@@ -52,7 +52,7 @@ use Rattle.session_commands.specs.Linked.{next_link, over_link}
 use Rattle.session_commands.specs.Post.{IsWordLong, Outcome, OfLink, OfSent, PostAnswer, answer_of, no_packet, packet_of, peer, shows}
 use Rattle.session_commands.specs.Post as answer
 use Rattle.session_rooms.specs.Post.{CallsOver, OfCall, no_call, long_call, calls_it, OfInputFile, OfText, no_json, json_of, after_connect, after_packet, after_reading, after_sending, posts, told_as}
-use Rattle.session_rooms.specs.PostAnswers.{PostAnswers}
+use Rattle.session_rooms.specs.PostAnswers.{EndsWith, PostAnswers}
 use Rattle.session_rooms.proofs.PacketsLeft.{packet_left, rest_of}
 use Rattle.session_rooms.proofs.Spared.{OnlySlots, reading_spares, writes_spare}
 
@@ -65,6 +65,9 @@ IsTold r = IsAnswer r × (r ≢ LinkFault)
 abbrev output_of : Outside → List ℕ
 output_of s = written_of outs.Output s.view
 
+abbrev errors_of : Outside → List ℕ
+errors_of s = written_of outs.Errors s.view
+
 -- all but slots, Output and Errors
 abbrev aside : View → View
 aside v = record v { left = record { schema = []; input = []; state = []; link = [] }; written = record v.written { output = []; errors = [] } }
@@ -73,40 +76,56 @@ aside v = record v { left = record { schema = []; input = []; state = []; link =
 abbrev bare : View → View
 bare v = record v { left = record { schema = []; input = []; state = []; link = [] }; written = record v.written { output = []; errors = []; unlinked = []; links = [] } }
 
--- a run's end by this status, with this for Output and nothing else but a line
-record Adds (status : Status) (output : List ℕ) (r : Status) (s n : Outside) : Type 0 where
+-- where no call was told to fail, Errors has grown by this line, where that has room for it
+abbrev AddsLine : List ℕ → Outside → Outside → Type 0
+AddsLine line s n = IsReliable s → HasRoom outs.Errors (length line) s.view → errors_of n ≡ errors_of s ++ line
+
+-- a run's end by this status, with this for Output, this line, and nothing else
+record Adds (status : Status) (output line : List ℕ) (r : Status) (s n : Outside) : Type 0 where
   ends : r ≡ status
   wrote : output_of n ≡ output_of s ++ output
+  told : AddsLine line s n
   rest : aside n.view ≡ aside s.view
 
-adds_later : (status r : Status) (output : List ℕ) (s m n : Outside) → OnlySlots s m → Adds status output r m n → Adds status output r s n
-adds_later status r output s m n same e = record {
+-- what changes neither Errors, the room nor which calls fail
+line_later : (line : List ℕ) (s m n : Outside) → errors_of m ≡ errors_of s → KeepsOutside s m → AddsLine line m n → AddsLine line s n
+line_later line s m n same kept told reliable room = told (reliable_on s m kept reliable) (omega (arith, room, ap length same, kept.room)) ∙ ap (λ (z : List ℕ). z ++ line) same
+
+adds_later : (status r : Status) (output line : List ℕ) (s m n : Outside) → OnlySlots s m → KeepsOutside s m → Adds status output line r m n → Adds status output line r s n
+adds_later status r output line s m n same kept e = record {
   ends = e.ends;
   wrote = e.wrote ∙ ap (λ (v : View). written_of outs.Output v ++ output) same;
+  told = line_later line s m n (ap (written_of outs.Errors) same) kept e.told;
   rest = e.rest ∙ ap aside same;
 }
 
-tell_adds : (line : List ℕ) (status r : Status) (t : List Event) (s n : Outside) → Tells line status t r → Fits t s n → Adds status [] r s n
+line_told : (line : List ℕ) (ok : Bool) (t : List Event) (s n : Outside) → Writes outs.Errors line t ok → Fits t s n → AddsLine line s n
+line_told line true t s n w f reliable room = writes_append outs.Errors line t s n w f
+line_told line false t s n w f reliable room = absurd (omega (arith, room, writes_fail_full outs.Errors line t s n w f reliable))
+
+tell_adds : (line : List ℕ) (status r : Status) (t : List Event) (s n : Outside) → Tells line status t r → Fits t s n → Adds status [] line r s n
 tell_adds line status r t s n h f =
     let parts = fits_both h.first h.rest s n (subst (λ (l : List Event). Fits l s n) h.splits f) in
     let stays : n ≡ parts.0 = subst (λ (l : List Event). Fits l parts.0 n) h.goes.0 parts.2 in
     record {
       ends = h.goes.1;
       wrote = ap output_of stays ∙ writes_spare outs.Errors (written_of outs.Output) (λ bytes v. refl) line h.first h.between s parts.0 h.does parts.1 ∙ sym (append-nil (output_of s));
+      told = λ reliable room. ap errors_of stays ∙ line_told line h.between h.first s parts.0 h.does parts.1 reliable room;
       rest = ap (λ (o : Outside). aside o.view) stays ∙ writes_spare outs.Errors aside (λ bytes v. refl) line h.first h.between s parts.0 h.does parts.1;
     }
 
-output_adds : (a : Answer) (ok : Bool) (t u : List Event) (r : Status) (s m n : Outside) → Writes outs.Output a.output t ok → after_output a ok u r → Fits t s m → Fits u m n → IsTold r → Adds a.status a.output r s n
+output_adds : (a : Answer) (ok : Bool) (t u : List Event) (r : Status) (s m n : Outside) → Writes outs.Output a.output t ok → after_output a ok u r → Fits t s m → Fits u m n → IsTold r → Adds a.status a.output a.errors r s n
 output_adds a true t u r s m n w h f g is =
     let e = tell_adds a.errors a.status r u m n h g in
     record {
       ends = e.ends;
       wrote = e.wrote ∙ append-nil (output_of m) ∙ writes_append outs.Output a.output t s m w f;
+      told = line_later a.errors s m n (writes_spare outs.Output (written_of outs.Errors) (λ bytes v. refl) a.output t true s m w f) (fits_keeps t s m f) e.told;
       rest = e.rest ∙ writes_spare outs.Output aside (λ bytes v. refl) a.output t true s m w f;
     }
 output_adds a false t u r s m n w h f g is = absurd (is.0.1 (told_status write_fault_line WriteFault u r h))
 
-print_adds : (a : Answer) (t : List Event) (r : Status) (s n : Outside) → Prints a t r → Fits t s n → IsTold r → Adds a.status a.output r s n
+print_adds : (a : Answer) (t : List Event) (r : Status) (s n : Outside) → Prints a t r → Fits t s n → IsTold r → Adds a.status a.output a.errors r s n
 print_adds a t r s n h f is =
     let parts = fits_both h.first h.rest s n (subst (λ (l : List Event). Fits l s n) h.splits f) in
     output_adds a h.between h.first h.rest r s parts.0 n h.does h.goes parts.1 parts.2 is
@@ -141,7 +160,11 @@ abbrev shown_of : Outcome → List ℕ
 shown_of (shows line) = line
 shown_of (peer line) = []
 
-told_adds : (o : Outcome) (t : List Event) (r : Status) (s n : Outside) → told_as o t r → Fits t s n → IsTold r → Adds (status_of o) (shown_of o) r s n
+abbrev line_of : Outcome → List ℕ
+line_of (shows line) = []
+line_of (peer line) = line
+
+told_adds : (o : Outcome) (t : List Event) (r : Status) (s n : Outside) → told_as o t r → Fits t s n → IsTold r → Adds (status_of o) (shown_of o) (line_of o) r s n
 told_adds (shows line) t r s n h f is = print_adds (done line) t r s n h f is
 told_adds (peer line) t r s n h f is = tell_adds line PeerFault r t s n h f
 
@@ -150,7 +173,7 @@ module _ (p : ProfileView) (number : ℕ) where
   record Came (given : List ℕ) (r : Status) (s n : Outside) : Type 0 where
     outcome : Outcome
     of : OfLink p number given outcome
-    adds : Adds (status_of outcome) (shown_of outcome) r s n
+    adds : Adds (status_of outcome) (shown_of outcome) (line_of outcome) r s n
 
   none_came : (given : List ℕ) (fault : PacketFault) (line : List ℕ) (t : List Event) (r : Status) (s n : Outside) → NoFrame given fault → IsWordLong fault → packet_line fault ≡ Some line → Tells line PeerFault t r → Fits t s n → Came given r s n
   none_came given fault line t r s n frame long is h f = record { outcome = peer line; of = no_packet fault line frame long is refl; adds = tell_adds line PeerFault r t s n h f }
@@ -176,24 +199,24 @@ module _ (p : ProfileView) (number : ℕ) where
       let parts = fits_both h.first h.rest s n (subst (λ (l : List Event). Fits l s n) h.splits f) in
       let c = packet_came h.between h.first h.rest r s parts.0 n h.does h.goes parts.1 parts.2 is in
       let same = reading_spares h.first s parts.0 parts.1 (keeps_packet slots.Link IsReading (λ _. tt) tt tt h.first h.between h.does) in
-      record { outcome = c.outcome; of = c.of; adds = adds_later (status_of c.outcome) r (shown_of c.outcome) s parts.0 n same c.adds }
+      record { outcome = c.outcome; of = c.of; adds = adds_later (status_of c.outcome) r (shown_of c.outcome) (line_of c.outcome) s parts.0 n same (fits_keeps h.first s parts.0 parts.1) c.adds }
 
 -- ---- what a run comes to
 
 -- an answer of this kind is given
 abbrev Gives : (Answer → Type 0) → Status → Outside → Outside → Type 0
-Gives Is r s n = (a : Answer) × Is a × (r ≡ a.status) × GivesOutput a s.view n.view
+Gives Is r s n = (a : Answer) × Is a × EndsWith a r s n
 
 -- each step that is so gives an answer of this kind to files and to what the next link gives
 abbrev Ends : (Files → List ℕ → Answer → Type 0) → Step Status → Type 0
 Ends Of W = (t : List Event) (r : Status) (s n : Outside) → W t r → Fits t s n → IsTold r → Gives (Of s.view.files (next_link s.view)) r s n
 
 gives_as : (Is J : Answer → Type 0) (r : Status) (s n : Outside) → ((a : Answer) → Is a → J a) → Gives Is r s n → Gives J r s n
-gives_as Is J r s n into g = (g.0, into g.0 g.1, g.2, g.3)
+gives_as Is J r s n into g = (g.0, into g.0 g.1, g.2)
 
 -- ---- a refusal
 
-adds_printed : (status r : Status) (output line : List ℕ) (s n : Outside) → Adds status output r s n → GivesOutput (printed status output line) s.view n.view
+adds_printed : (status r : Status) (output line : List ℕ) (s n : Outside) → Adds status output line r s n → GivesOutput (printed status output line) s.view n.view
 adds_printed status r output line s n e = record {
   output = e.wrote;
   leaves = record {
@@ -210,9 +233,13 @@ adds_printed status r output line s n e = record {
 refusal_gives : (Is : Answer → Type 0) (line : List ℕ) (t : List Event) (r : Status) (s n : Outside) → Is (refused line) → Prints (refused line) t r → Fits t s n → IsTold r → Gives Is r s n
 refusal_gives Is line t r s n of h f is =
     let e = print_adds (refused line) t r s n h f is in
-    (refused line, of, e.ends, adds_printed Refused r [] line s n e)
+    (refused line, of, record { ends = e.ends; gives = adds_printed Refused r [] line s n e; told = e.told })
 
 -- ---- a link
+
+fits_joined : (t u : List Event) (s m n : Outside) → Fits t s m → Fits u m n → Fits (t ++ u) s n
+fits_joined [] u s m n f g = subst (λ (o : Outside). Fits u o n) f g
+fits_joined (e ∷ t) u s m n f g = (f.0, f.1, fits_joined t u f.0 m n f.2 g)
 
 -- the view after a link was made to an address
 abbrev linked : List ℕ → View → View
@@ -233,32 +260,37 @@ over_gives address sent status output line v w wrote links rest = record {
   };
 }
 
-outcome_gives : (address sent : List ℕ) (o : Outcome) (r : Status) (v w : View) → r ≡ status_of o → w.written.output ≡ v.written.output ++ shown_of o → w.written.links ≡ v.written.links ++ sent ∷ [] → bare w ≡ bare (linked address v)
-    → (r ≡ (answer_of address sent o).status) × GivesOutput (answer_of address sent o) v w
-outcome_gives address sent (shows line) r v w is wrote links rest = (is, over_gives address sent Done line [] v w wrote links rest)
-outcome_gives address sent (peer line) r v w is wrote links rest = (is, over_gives address sent PeerFault [] line v w wrote links rest)
+outcome_ends : (address sent : List ℕ) (o : Outcome) (r : Status) (s n : Outside) → r ≡ status_of o → output_of n ≡ output_of s ++ shown_of o → AddsLine (line_of o) s n → n.view.written.links ≡ s.view.written.links ++ sent ∷ []
+    → bare n.view ≡ bare (linked address s.view) → EndsWith (answer_of address sent o) r s n
+outcome_ends address sent (shows line) r s n is wrote told links rest = record { ends = is; gives = over_gives address sent Done line [] s.view n.view wrote links rest; told = told }
+outcome_ends address sent (peer line) r s n is wrote told links rest = record { ends = is; gives = over_gives address sent PeerFault [] line s.view n.view wrote links rest; told = told }
 
 module _ (p : ProfileView) (number : ℕ) (address b : List ℕ) where
   abbrev Of : List ℕ → Answer → Type 0
   Of given = OfSent p number address b given
 
-  sent_gives : (ok : Bool) (t u : List Event) (r : Status) (s m k n : Outside) → m.view ≡ linked address s.view → Writes outs.Link (packet b) t ok → after_sending p number ok u r → Fits t m k → Fits u k n → IsTold r
+  sent_gives : (ok : Bool) (t u : List Event) (r : Status) (s m k n : Outside) → m.view ≡ linked address s.view → KeepsOutside s k → Writes outs.Link (packet b) t ok → after_sending p number ok u r → Fits t m k → Fits u k n → IsTold r
       → Gives (Of (next_link s.view)) r s n
-  sent_gives true t u r s m k n is w h f g told =
+  sent_gives true t u r s m k n is kept w h f g told =
       let c = reply_came p number u r k n h g told in
       let gave : rest_of slots.Link k ≡ next_link s.view = writes_spare outs.Link (left_of slots.Link) (λ bytes v. refl) (packet b) t true m k w f ∙ ap (left_of slots.Link) is in
       let wrote : output_of k ≡ output_of s = writes_spare outs.Link (written_of outs.Output) (λ bytes v. refl) (packet b) t true m k w f ∙ ap (written_of outs.Output) is in
+      let lines : errors_of k ≡ errors_of s = writes_spare outs.Link (written_of outs.Errors) (λ bytes v. refl) (packet b) t true m k w f ∙ ap (written_of outs.Errors) is in
       let links : k.view.written.links ≡ s.view.written.links ++ packet b ∷ [] = sent_bytes s.view.written.links (packet b) t m k (ap (λ (v : View). v.written.links) is) w f in
-      let rest : bare k.view ≡ bare (linked address s.view) = writes_spare outs.Link bare (λ bytes v. refl) (packet b) t true m k w f ∙ ap bare is in
-      let o = outcome_gives address (packet b) c.outcome r s.view n.view c.adds.ends (c.adds.wrote ∙ ap (λ (z : List ℕ). z ++ shown_of c.outcome) wrote) (ap (λ (v : View). v.written.links) c.adds.rest ∙ links) (ap bare c.adds.rest ∙ rest) in
-      (answer_of address (packet b) c.outcome, (c.outcome, subst (λ (z : List ℕ). OfLink p number z c.outcome) gave c.of, refl), o.0, o.1)
-  sent_gives false t u r s m k n is w h f g told = absurd (told.1 (told_status link_fault_line LinkFault u r h))
+      let rest : bare k.view ≡ bare (linked address s.view) = writes_spare outs.Link bare (λ bytes v. refl) (packet b) t true m k w f ∙ ap bare is in (
+        answer_of address (packet b) c.outcome,
+        (c.outcome, subst (λ (z : List ℕ). OfLink p number z c.outcome) gave c.of, refl),
+        outcome_ends address (packet b) c.outcome r s n c.adds.ends (c.adds.wrote ∙ ap (λ (z : List ℕ). z ++ shown_of c.outcome) wrote) (line_later (line_of c.outcome) s k n lines kept c.adds.told)
+        (ap (λ (v : View). v.written.links) c.adds.rest ∙ links) (ap bare c.adds.rest ∙ rest),
+      )
+  sent_gives false t u r s m k n is kept w h f g told = absurd (told.1 (told_status link_fault_line LinkFault u r h))
 
   linked_gives : (ok : Bool) (t u : List Event) (r : Status) (s m n : Outside) → t ≡ connected address ok ∷ [] → after_connect p number b ok u r → Fits t s m → Fits u m n → IsTold r → Gives (Of (next_link s.view)) r s n
   linked_gives true t u r s m n is h f g told =
       let c = subst (λ (l : List Event). Fits l s m) is f in
       let parts = fits_both h.first h.rest m n (subst (λ (l : List Event). Fits l m n) h.splits g) in
-      sent_gives h.between h.first h.rest r s m parts.0 n (ap (λ (o : Outside). o.view) c.2 ∙ c.1.0.1) h.does h.goes parts.1 parts.2 told
+      let kept = fits_keeps (t ++ h.first) s parts.0 (fits_joined t h.first s m parts.0 f parts.1) in
+      sent_gives h.between h.first h.rest r s m parts.0 n (ap (λ (o : Outside). o.view) c.2 ∙ c.1.0.1) kept h.does h.goes parts.1 parts.2 told
   linked_gives false t u r s m n is h f g told = absurd (told.1 (told_status link_fault_line LinkFault u r h))
 
   over_ends : Ends (λ files given. Of given) (CallsOver p address number b)
@@ -301,23 +333,26 @@ module _ (p : ProfileView) (address : List ℕ) where
 -- ---- files
 
 -- nothing was read but slots, and then it is given
-gives_later : (Of : Files → List ℕ → Answer → Type 0) (r : Status) (s m n : Outside) → OnlySlots s m → Gives (Of m.view.files (next_link m.view)) r m n → Gives (Of s.view.files (next_link s.view)) r s n
-gives_later Of r s m n same (a, is, ends, gives) =
-    let g : GivesOutput a (record s.view { left = m.view.left }) n.view = subst (λ (v : View). GivesOutput a v n.view) same gives in (
+gives_later : (Of : Files → List ℕ → Answer → Type 0) (r : Status) (s m n : Outside) → OnlySlots s m → KeepsOutside s m → Gives (Of m.view.files (next_link m.view)) r m n → Gives (Of s.view.files (next_link s.view)) r s n
+gives_later Of r s m n same kept (a, is, e) =
+    let g : GivesOutput a (record s.view { left = m.view.left }) n.view = subst (λ (v : View). GivesOutput a v n.view) same e.gives in (
       a,
       subst (λ (v : View). Of v.files (next_link v) a) same is,
-      ends,
       record {
-        output = g.output;
-        leaves = record {
-          files = g.leaves.files;
-          moments = g.leaves.moments;
-          coming = g.leaves.coming;
-          state_name = g.leaves.state_name;
-          state = g.leaves.state;
-          links = g.leaves.links;
-          address = g.leaves.address;
+        ends = e.ends;
+        gives = record {
+          output = g.output;
+          leaves = record {
+            files = g.leaves.files;
+            moments = g.leaves.moments;
+            coming = g.leaves.coming;
+            state_name = g.leaves.state_name;
+            state = g.leaves.state;
+            links = g.leaves.links;
+            address = g.leaves.address;
+          };
         };
+        told = line_later a.errors s m n (ap (written_of outs.Errors) same) kept e.told;
       },
     )
 
@@ -332,7 +367,7 @@ module _ (slot : Slot) (name : List ℕ) (limit : ℕ) (W : Option (List ℕ) �
   read_gives (Some text) t u r s m n read h f g told =
       let file = files_are_read slot name limit t text s m read f in
       let same = reading_spares t s m f (keeps_file IsReading slot name limit (λ _. tt) (λ _. tt) tt tt t (Some text) read) in
-      let e = gives_later (Of text) r s m n same (each text u r m n h g told) in
+      let e = gives_later (Of text) r s m n same (fits_keeps t s m f) (each text u r m n h g told) in
       gives_as (Of text s.view.files (next_link s.view)) (OfNamed s.view.files (next_link s.view)) r s n
       (λ a of. (file.0, file.1, stays file.0 s.view.files (next_link s.view) a (subst (λ (l : List ℕ). Of l s.view.files (next_link s.view) a) file.2 of))) e
   read_gives None t u r s m n read h f g told = absurd (told.0.0 (none u r h))

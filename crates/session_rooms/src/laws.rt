@@ -25,7 +25,7 @@ pub fn post_has_cause()
     ensures { PostHasCause }
 {}
 
-/// Over files and links, unless the outside or memory stopped it, it ends by the answer to the first files with these names and to what the next link gives: that
+/// Over files and links, unless the outside or memory stopped it, it ends with an answer to the first files with these names and to what the next link gives: that
 /// is its status, Output has grown by it, a link was taken only where it has one, and what was sent over that is the answer's.
 pub fn post_answers()
     ensures { PostAnswers }
