@@ -8,4 +8,5 @@ pub mod Posting
 pub mod PostLaws
 pub mod PacketsLeft
 pub mod PostFiles
+pub mod PostUnfailing
 pub mod Spared

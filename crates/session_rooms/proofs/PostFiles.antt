@@ -57,12 +57,12 @@ use Rattle.session_rooms.proofs.PacketsLeft.{packet_left, rest_of}
 use Rattle.session_rooms.proofs.Spared.{OnlySlots, reading_spares, writes_spare}
 
 -- the status of a run that neither the outside nor memory stopped
-abbrev IsTold : Status → Type 0
+abbrev pub IsTold : Status → Type 0
 IsTold r = IsAnswer r × (r ≢ LinkFault)
 
 -- ---- what is looked at
 
-abbrev output_of : Outside → List ℕ
+abbrev pub output_of : Outside → List ℕ
 output_of s = written_of outs.Output s.view
 
 abbrev errors_of : Outside → List ℕ
@@ -132,7 +132,7 @@ print_adds a t r s n h f is =
 
 -- ---- what was written to the link
 
-last_push : (none x : List ℕ) (xs : List (List ℕ)) → last_or none (xs ++ x ∷ []) ≡ x
+pub last_push : (none x : List ℕ) (xs : List (List ℕ)) → last_or none (xs ++ x ∷ []) ≡ x
 last_push none x xs = get_or_at xs x [] none (length (xs ++ x ∷ []) - 1) (omega (arith, length-append xs (x ∷ [])))
 
 with_push : (bytes x : List ℕ) (xs : List (List ℕ)) → with_last bytes (xs ++ x ∷ []) ≡ xs ++ bytes ∷ []
@@ -156,7 +156,7 @@ abbrev status_of : Outcome → Status
 status_of (shows line) = Done
 status_of (peer line) = PeerFault
 
-abbrev shown_of : Outcome → List ℕ
+abbrev pub shown_of : Outcome → List ℕ
 shown_of (shows line) = line
 shown_of (peer line) = []
 
@@ -242,7 +242,7 @@ fits_joined [] u s m n f g = subst (λ (o : Outside). Fits u o n) f g
 fits_joined (e ∷ t) u s m n f g = (f.0, f.1, fits_joined t u f.0 m n f.2 g)
 
 -- the view after a link was made to an address
-abbrev linked : List ℕ → View → View
+abbrev pub linked : List ℕ → View → View
 linked address v = record (link_taken v) { address = Some address }
 
 over_gives : (address sent : List ℕ) (status : Status) (output line : List ℕ) (v w : View) → w.written.output ≡ v.written.output ++ output → w.written.links ≡ v.written.links ++ sent ∷ [] → bare w ≡ bare (linked address v)
@@ -323,7 +323,7 @@ module _ (p : ProfileView) (address : List ℕ) where
   long_json read file given a here there (answer.no_json cause refuses is) = answer.no_json cause (long_refused p.schema read file cause here there refuses) is
   long_json read file given a here there (answer.json_of x b json spells are of) = absurd (omega (arith, here, json.1.0))
 
-  json_stays : (file given : List ℕ) (a : Answer) → answer.OfJson p address (take (JSON_BYTES + 1) file) given a → answer.OfJson p address file given a
+  pub json_stays : (file given : List ℕ) (a : Answer) → answer.OfJson p address (take (JSON_BYTES + 1) file) given a → answer.OfJson p address file given a
   json_stays file given a h =
       elim (cases_lt JSON_BYTES (length file)) [
         | inl long ↦ long_json (take (JSON_BYTES + 1) file) file given a (omega (arith, long, length-take (JSON_BYTES + 1) file)) long h
@@ -378,7 +378,7 @@ module _ (slot : Slot) (name : List ℕ) (limit : ℕ) (W : Option (List ℕ) �
       read_gives h.between h.first h.rest r s parts.0 n h.does h.goes parts.1 parts.2 told
 
 module _ (schema address input : List ℕ) where
-  abbrev OfInput : Files → List ℕ → ProfileView → Answer → Type 0
+  abbrev pub OfInput : Files → List ℕ → ProfileView → Answer → Type 0
   OfInput = answer.OfInput address input
 
   input_ends : (p : ProfileView) → Ends (λ files given. OfInput files given p) (OfInputFile address input p)

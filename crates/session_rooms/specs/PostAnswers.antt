@@ -30,3 +30,9 @@ abbrev pub PostAnswers : Type 0
 PostAnswers =
     (schema address input : List ℕ) (t : List Event) (status : Status) (s n : Outside) → RunsIn to_link (posts schema address input) t status → Fits t s n → IsAnswer status → status ≢ LinkFault
     → (a : Answer) × PostAnswer s.view.files (next_link s.view) schema address input a × EndsWith a status s n
+
+-- where the files are there, no call was told to fail, the next link gives bytes, and there is room for the answer, a run that memory didn't stop ends with it
+abbrev pub PostEnds : Type 0
+PostEnds =
+    (schema address input : List ℕ) (t : List Event) (status : Status) (s n : Outside) (a : Answer) → RunsIn to_link (posts schema address input) t status → status ≢ Memory → Fits t s n → IsReliable s
+    → IsThere schema s.view → IsThere input s.view → AreBytes (next_link s.view) → PostAnswer s.view.files (next_link s.view) schema address input a → HasRoomFor a s.view → EndsWith a status s n

@@ -1,7 +1,7 @@
 //! Laws of what `client` and `post` do.
 ghost use Rattle.session_rooms.specs.ClientLaws.{ClientHasCause, ClientTouches};
 ghost use Rattle.session_rooms.specs.PostLaws.{PostHasCause, PostTouches};
-ghost use Rattle.session_rooms.specs.PostAnswers.{PostAnswers};
+ghost use Rattle.session_rooms.specs.PostAnswers.{PostAnswers, PostEnds};
 
 /// A run of `client` opens and reads the schema's file and the state's, makes a link to the address, reads and writes it, creates State under the state's name,
 /// and writes to Output, Errors and State. It does nothing else, also where memory runs out.
@@ -29,4 +29,9 @@ pub fn post_has_cause()
 /// is its status, Output has grown by it, a link was taken only where it has one, and what was sent over that is the answer's.
 pub fn post_answers()
     ensures { PostAnswers }
+{}
+
+/// Where the files are there, no call was told to fail, the next link gives bytes, and there is room for the answer, it ends with that, unless memory ran out.
+pub fn post_ends()
+    ensures { PostEnds }
 {}
