@@ -281,7 +281,7 @@ module _ (p : ProfileView) (number : ℕ) (address b : List ℕ) where
         answer_of address (packet b) c.outcome,
         (c.outcome, subst (λ (z : List ℕ). OfLink p number z c.outcome) gave c.of, refl),
         outcome_ends address (packet b) c.outcome r s n c.adds.ends (c.adds.wrote ∙ ap (λ (z : List ℕ). z ++ shown_of c.outcome) wrote) (line_later (line_of c.outcome) s k n lines kept c.adds.told)
-        (ap (λ (v : View). v.written.links) c.adds.rest ∙ links) (ap bare c.adds.rest ∙ rest),
+            (ap (λ (v : View). v.written.links) c.adds.rest ∙ links) (ap bare c.adds.rest ∙ rest),
       )
   sent_gives false t u r s m k n is kept w h f g told = absurd (told.1 (told_status link_fault_line LinkFault u r h))
 

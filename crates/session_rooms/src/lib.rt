@@ -9,6 +9,7 @@ mod post;
 mod sending;
 
 pub use client::{recover_client, run_client};
-pub use laws::{post_answers, post_ends};
-pub use laws::{client_has_cause, client_touches, post_has_cause, post_touches};
+pub use laws::{
+    client_has_cause, client_touches, post_answers, post_ends, post_has_cause, post_touches,
+};
 pub use post::{post_call, run_post};
