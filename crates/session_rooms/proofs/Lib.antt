@@ -9,4 +9,5 @@ pub mod PostLaws
 pub mod PacketsLeft
 pub mod PostFiles
 pub mod PostUnfailing
+pub mod PostWriting
 pub mod Spared

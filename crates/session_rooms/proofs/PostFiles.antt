@@ -69,7 +69,7 @@ abbrev errors_of : Outside → List ℕ
 errors_of s = written_of outs.Errors s.view
 
 -- all but slots, Output and Errors
-abbrev aside : View → View
+abbrev pub aside : View → View
 aside v = record v { left = record { schema = []; input = []; state = []; link = [] }; written = record v.written { output = []; errors = [] } }
 
 -- likewise, and but what was written to links
@@ -77,15 +77,15 @@ abbrev bare : View → View
 bare v = record v { left = record { schema = []; input = []; state = []; link = [] }; written = record v.written { output = []; errors = []; unlinked = []; links = [] } }
 
 -- where no call was told to fail, Errors has grown by this line, where that has room for it
-abbrev AddsLine : List ℕ → Outside → Outside → Type 0
+abbrev pub AddsLine : List ℕ → Outside → Outside → Type 0
 AddsLine line s n = IsReliable s → HasRoom outs.Errors (length line) s.view → errors_of n ≡ errors_of s ++ line
 
 -- a run's end by this status, with this for Output, this line, and nothing else
-record Adds (status : Status) (output line : List ℕ) (r : Status) (s n : Outside) : Type 0 where
-  ends : r ≡ status
-  wrote : output_of n ≡ output_of s ++ output
-  told : AddsLine line s n
-  rest : aside n.view ≡ aside s.view
+pub record Adds (status : Status) (output line : List ℕ) (r : Status) (s n : Outside) : Type 0 where
+  pub ends : r ≡ status
+  pub wrote : output_of n ≡ output_of s ++ output
+  pub told : AddsLine line s n
+  pub rest : aside n.view ≡ aside s.view
 
 -- what changes neither Errors, the room nor which calls fail
 line_later : (line : List ℕ) (s m n : Outside) → errors_of m ≡ errors_of s → KeepsOutside s m → AddsLine line m n → AddsLine line s n
@@ -103,7 +103,7 @@ line_told : (line : List ℕ) (ok : Bool) (t : List Event) (s n : Outside) → W
 line_told line true t s n w f reliable room = writes_append outs.Errors line t s n w f
 line_told line false t s n w f reliable room = absurd (omega (arith, room, writes_fail_full outs.Errors line t s n w f reliable))
 
-tell_adds : (line : List ℕ) (status r : Status) (t : List Event) (s n : Outside) → Tells line status t r → Fits t s n → Adds status [] line r s n
+pub tell_adds : (line : List ℕ) (status r : Status) (t : List Event) (s n : Outside) → Tells line status t r → Fits t s n → Adds status [] line r s n
 tell_adds line status r t s n h f =
     let parts = fits_both h.first h.rest s n (subst (λ (l : List Event). Fits l s n) h.splits f) in
     let stays : n ≡ parts.0 = subst (λ (l : List Event). Fits l parts.0 n) h.goes.0 parts.2 in
@@ -147,7 +147,7 @@ sent_pieces before (p ∷ pieces) x s n is f =
     ∙ ap (λ (z : List ℕ). with_last (z ++ p) (before ++ x ∷ [])) (last_push s.view.written.unlinked x before) ∙ with_push (x ++ p) x before in
     sent_pieces before pieces (x ++ p) f.0 n one f.2 ∙ ap (λ (z : List ℕ). before ++ z ∷ []) (append_assoc x p (joined pieces))
 
-sent_bytes : (before : List (List ℕ)) (bytes : List ℕ) (t : List Event) (s n : Outside) → s.view.written.links ≡ before ++ [] ∷ [] → Writes outs.Link bytes t true → Fits t s n → n.view.written.links ≡ before ++ bytes ∷ []
+pub sent_bytes : (before : List (List ℕ)) (bytes : List ℕ) (t : List Event) (s n : Outside) → s.view.written.links ≡ before ++ [] ∷ [] → Writes outs.Link bytes t true → Fits t s n → n.view.written.links ≡ before ++ bytes ∷ []
 sent_bytes before bytes t s n is w f = sent_pieces before w.pieces [] s n is (subst (λ (l : List Event). Fits l s n) w.events f) ∙ ap (λ (z : List ℕ). before ++ z ∷ []) w.join
 
 -- ---- what comes back

@@ -149,7 +149,7 @@ module _ (p : ProfileView) (number : ℕ) where
       (told.0, packet_of first.body first.rest first.fits first.parts told.1)
   begun_outcome good given bytes (inr cause) = (_, no_packet cause.fault cause.line cause.none cause.few cause.tells refl)
 
-  some_outcome : IsProfile p → (given : List ℕ) → AreBytes given → (o : Outcome) × OfLink p number given o
+  pub some_outcome : IsProfile p → (given : List ℕ) → AreBytes given → (o : Outcome) × OfLink p number given o
   some_outcome good given bytes = begun_outcome good given bytes (begins_so given (begins_word given bytes))
 
   module _ (address b : List ℕ) where

@@ -5,4 +5,5 @@ pub mod ClientLaws
 pub mod Post
 pub mod PostLaws
 pub mod PostAnswers
+pub mod PostWrites
 pub mod inner

@@ -2,6 +2,7 @@
 ghost use Rattle.session_rooms.specs.ClientLaws.{ClientHasCause, ClientTouches};
 ghost use Rattle.session_rooms.specs.PostLaws.{PostHasCause, PostTouches};
 ghost use Rattle.session_rooms.specs.PostAnswers.{PostAnswers, PostEnds};
+ghost use Rattle.session_rooms.specs.PostWrites.{PostWrites};
 
 /// A run of `client` opens and reads the schema's file and the state's, makes a link to the address, reads and writes it, creates State under the state's name,
 /// and writes to Output, Errors and State. It does nothing else, also where memory runs out.
@@ -34,4 +35,9 @@ pub fn post_answers()
 /// Where the files are there, no call was told to fail, the next link gives bytes, and there is room for the answer, it ends with that, unless memory ran out.
 pub fn post_ends()
     ensures { PostEnds }
+{}
+
+/// Whatever fault stops it, it has written nothing to Output and taken no link; or it has sent a prefix of what an answer sends, and written a prefix of its Output.
+pub fn post_writes()
+    ensures { PostWrites }
 {}
