@@ -10,3 +10,8 @@ pub mod LeftPackets
 pub mod ConversedBytes
 pub mod AnsweredClients
 pub mod LeftViews
+pub mod PacketsLeft
+pub mod PostFiles
+pub mod PostUnfailing
+pub mod PostWriting
+pub mod Spared

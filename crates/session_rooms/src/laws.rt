@@ -2,6 +2,8 @@
 ghost use Rattle.session_rooms.specs.ClientAnswers.{ClientAnswers};
 ghost use Rattle.session_rooms.specs.ClientLaws.{ClientHasCause, ClientTouches};
 ghost use Rattle.session_rooms.specs.PostLaws.{PostHasCause, PostTouches};
+ghost use Rattle.session_rooms.specs.PostAnswers.{PostAnswers, PostEnds};
+ghost use Rattle.session_rooms.specs.PostWrites.{PostWrites};
 
 /// A run of `client` opens and reads the schema's file and the state's, makes a link to the address, reads and writes it, creates State under the state's name,
 /// and writes to Output, Errors and State. It does nothing else, also where memory runs out.
@@ -29,4 +31,20 @@ pub fn post_touches()
 /// It ends by the status of a fault only where a call of that kind failed.
 pub fn post_has_cause()
     ensures { PostHasCause }
+{}
+
+/// Over files and links, unless the outside or memory stopped it, it ends with an answer to the first files with these names and to what the next link gives: that
+/// is its status, Output has grown by it, a link was taken only where it has one, and what was sent over that is the answer's.
+pub fn post_answers()
+    ensures { PostAnswers }
+{}
+
+/// Where the files are there, no call was told to fail, the next link gives bytes, and there is room for the answer, it ends with that, unless memory ran out.
+pub fn post_ends()
+    ensures { PostEnds }
+{}
+
+/// Whatever fault stops it, it has written nothing to Output and taken no link; or it has sent a prefix of what an answer sends, and written a prefix of its Output.
+pub fn post_writes()
+    ensures { PostWrites }
 {}
