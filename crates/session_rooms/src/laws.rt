@@ -37,7 +37,8 @@ pub fn post_ends()
     ensures { PostEnds }
 {}
 
-/// Whatever fault stops it, it has written nothing to Output and taken no link; or it has sent a prefix of what an answer sends, and written a prefix of its Output.
+/// Whatever stops it, it has written nothing to Output and taken no link; or it has sent a prefix of what an answer sends, and written a prefix of its Output. Where
+/// memory runs out it has written nothing to Output.
 pub fn post_writes()
     ensures { PostWrites }
 {}
