@@ -8,6 +8,7 @@ pub mod Posting
 pub mod PostLaws
 pub mod PacketsLeft
 pub mod PostFiles
+pub mod PostLeaving
 pub mod PostUnfailing
 pub mod PostWriting
 pub mod Spared

@@ -2,7 +2,7 @@
 ghost use Rattle.session_rooms.specs.ClientLaws.{ClientHasCause, ClientTouches};
 ghost use Rattle.session_rooms.specs.PostLaws.{PostHasCause, PostTouches};
 ghost use Rattle.session_rooms.specs.PostAnswers.{PostAnswers, PostEnds};
-ghost use Rattle.session_rooms.specs.PostWrites.{PostWrites};
+ghost use Rattle.session_rooms.specs.PostWrites.{PostLeaves, PostWrites};
 
 /// A run of `client` opens and reads the schema's file and the state's, makes a link to the address, reads and writes it, creates State under the state's name,
 /// and writes to Output, Errors and State. It does nothing else, also where memory runs out.
@@ -41,4 +41,9 @@ pub fn post_ends()
 /// memory runs out it has written nothing to Output.
 pub fn post_writes()
     ensures { PostWrites }
+{}
+
+/// Whatever happens, files, moments, the room and State are as before.
+pub fn post_leaves()
+    ensures { PostLeaves }
 {}
