@@ -1,5 +1,5 @@
 -- What `post` has written, whatever fault stops it.
-use Rattle.std.proofs.Common.{◌≡◌, ◌⊎◌, ℕ, ◌+◌, List, [], ◌∷◌, ◌++◌, map, length, length-append, append-nil, take, Bool, true, false, Option, Some, None, codes, refl, sym, ap, ◌∙◌, subst, inl, inr, arith}
+use Rattle.std.proofs.Common.{◌≡◌, ◌⊎◌, ℕ, ◌+◌, List, [], ◌∷◌, ◌++◌, map, length, append-nil, take, Bool, true, false, Option, Some, None, codes, refl, sym, ap, ◌∙◌, subst, inl, inr, arith}
 use Rattle.tl_numbers.specs.Bytes.{AreBytes}
 use Rattle.tl_base.specs.Calls.{with_name}
 use Rattle.tl_base.specs.Contents.{Files}
@@ -9,7 +9,6 @@ use Rattle.tl_base.specs.declared.host.Out.{Out}
 use Rattle.tl_base.specs.declared.host.Out.TheVariants as outs
 use Rattle.tl_base.specs.declared.host.Slot.{Slot}
 use Rattle.tl_base.specs.declared.host.Slot.TheVariants as slots
-use Rattle.tl_base.specs.declared.packet.PacketFault.TheVariants as faults
 use Rattle.tl_schema.specs.CheckedPrograms.{IsSchema}
 use Rattle.tl_schema.specs.Schemas.{Declared}
 use Rattle.wire_profile.specs.Places.{ProfileView}
@@ -17,7 +16,7 @@ use Rattle.wire_profile.specs.Profiles.{IsProfile}
 use Rattle.command_base.specs.Answer.{Answer, done, link_fault_line, refused, write_fault_line}
 use Rattle.command_base.specs.Kept.{AddsPrefix}
 use Rattle.command_base.specs.declared.status.Status.{Status}
-use Rattle.command_base.specs.declared.status.Status.TheVariants.{Done, LinkFault, PeerFault, ReadFault, Refused, WriteFault}
+use Rattle.command_base.specs.declared.status.Status.TheVariants.{LinkFault, PeerFault, ReadFault, WriteFault}
 use Rattle.outside.specs.Begun.{WritesOnly, to_link}
 use Rattle.outside.specs.Events.{Event, Outside, opened, took, ended, read_failed, created, put, write_failed, listened, connected, accepted, told}
 use Rattle.outside.specs.Laws.{Throughout}
@@ -43,7 +42,7 @@ use Rattle.codec_rooms.specs.Typed as typed
 use Rattle.codec_rooms.proofs.TypedFiles.{text_stays}
 use Rattle.update_rooms.specs.Profile.{OfProfile, no_profile, profiled}
 use Rattle.session_commands.specs.Linked.{next_link}
-use Rattle.session_commands.specs.Post.{Outcome, OfLink, OfSent, PostAnswer, answer_of, no_packet, packet_of, peer, shows}
+use Rattle.session_commands.specs.Post.{Outcome, OfLink, OfSent, PostAnswer, answer_of, packet_of, peer, shows}
 use Rattle.session_commands.specs.Post as answer
 use Rattle.session_rooms.specs.Post.{CallsOver, OfCall, no_call, long_call, calls_it, OfInputFile, OfText, no_json, json_of, after_connect, after_packet, after_reading, after_sending, posts, told_as}
 use Rattle.session_rooms.specs.PostWrites.{PostWrites, WritesNone, WritesSome}
