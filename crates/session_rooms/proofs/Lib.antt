@@ -12,6 +12,7 @@ pub mod AnsweredClients
 pub mod LeftViews
 pub mod PacketsLeft
 pub mod PostFiles
+pub mod PostLeaving
 pub mod PostUnfailing
 pub mod PostWriting
 pub mod Spared

@@ -1,5 +1,5 @@
 -- What is taken of a slot as a packet is what was left of it.
-use Rattle.std.proofs.Common.{◌≡◌, ℕ, ◌+◌, ◌<◌, ◌^◌, List, [], ◌∷◌, ◌++◌, length, length-append, append-nil, append_assoc, refl, sym, ap, ◌∙◌, subst, inl, inr, arith}
+use Rattle.std.proofs.Common.{◌≡◌, ℕ, ◌+◌, ◌<◌, ◌^◌, List, [], ◌∷◌, ◌++◌, length, length-append, append-nil, append_assoc, sym, ap, ◌∙◌, subst, inl, inr, arith}
 use Rattle.tl_numbers.specs.Numbers.{word, word_number}
 use Rattle.tl_numbers.proofs.Spelled.{words}
 use Rattle.tl_base.specs.Packets.{IsPacketLength, IsCutShort, packet}

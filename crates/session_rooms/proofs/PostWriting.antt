@@ -1,14 +1,14 @@
 -- What `post` has written, whatever fault stops it.
-use Rattle.std.proofs.Common.{◌≡◌, ◌⊎◌, ℕ, ◌+◌, List, [], ◌∷◌, ◌++◌, map, length, length-append, append-nil, take, Bool, true, false, Option, Some, None, codes, refl, sym, ap, ◌∙◌, subst, inl, inr, arith}
+use Rattle.std.proofs.Common.{◌≡◌, ◌⊎◌, ℕ, ◌+◌, List, [], ◌∷◌, ◌++◌, map, length, append-nil, take, Bool, true, false, Option, Some, None, codes, refl, sym, ap, ◌∙◌, subst, inl, inr, arith}
 use Rattle.tl_numbers.specs.Bytes.{AreBytes}
+use Rattle.tl_base.specs.Calls.{with_name}
 use Rattle.tl_base.specs.Contents.{Files}
-use Rattle.tl_base.specs.Outside.{View, HasFile, left_of, written_of}
+use Rattle.tl_base.specs.Outside.{View, HasFile, left_of, with_written, written_of}
 use Rattle.tl_base.specs.Packets.{packet}
 use Rattle.tl_base.specs.declared.host.Out.{Out}
 use Rattle.tl_base.specs.declared.host.Out.TheVariants as outs
 use Rattle.tl_base.specs.declared.host.Slot.{Slot}
 use Rattle.tl_base.specs.declared.host.Slot.TheVariants as slots
-use Rattle.tl_base.specs.declared.packet.PacketFault.TheVariants as faults
 use Rattle.tl_schema.specs.CheckedPrograms.{IsSchema}
 use Rattle.tl_schema.specs.Schemas.{Declared}
 use Rattle.wire_profile.specs.Places.{ProfileView}
@@ -16,16 +16,19 @@ use Rattle.wire_profile.specs.Profiles.{IsProfile}
 use Rattle.command_base.specs.Answer.{Answer, done, link_fault_line, refused, write_fault_line}
 use Rattle.command_base.specs.Kept.{AddsPrefix}
 use Rattle.command_base.specs.declared.status.Status.{Status}
-use Rattle.command_base.specs.declared.status.Status.TheVariants.{Done, LinkFault, PeerFault, ReadFault, Refused, WriteFault}
-use Rattle.outside.specs.Events.{Event, Outside, connected, put, write_failed}
+use Rattle.command_base.specs.declared.status.Status.TheVariants.{LinkFault, PeerFault, ReadFault, WriteFault}
+use Rattle.outside.specs.Begun.{WritesOnly, to_link}
+use Rattle.outside.specs.Events.{Event, Outside, opened, took, ended, read_failed, created, put, write_failed, listened, connected, accepted, told}
+use Rattle.outside.specs.Laws.{Throughout}
 use Rattle.outside.specs.Packets.{PacketView, whole, TakesPacket}
 use Rattle.outside.specs.Packets as packets
 use Rattle.outside.specs.Pieces.{InPieces, ReadsFile, Tells, Writes}
 use Rattle.outside.specs.Printing.{Prints, after_output}
+use Rattle.outside.specs.Runs as runs
 use Rattle.outside.specs.Steps.{Step, Then}
-use Rattle.outside.proofs.Causing.{keeps_file}
+use Rattle.outside.proofs.Causing.{keeps_file, told_status}
 use Rattle.outside.proofs.TakenPackets.{keeps_packet, whole_packet}
-use Rattle.mem_host.specs.Fits.{Fits}
+use Rattle.mem_host.specs.Fits.{Fits, Happens}
 use Rattle.mem_host.proofs.Fitting.{files_are_read, fits_both, writes_append}
 use Rattle.mem_host.proofs.Sparing.{IsReading}
 use Rattle.schema_files.specs.Answering.{OfSchemaText}
@@ -36,11 +39,10 @@ use Rattle.fault_lines.specs.Packets.{ended_line, length_line}
 use Rattle.fault_lines.specs.Profiled as profiling
 use Rattle.fault_lines.proofs.Profiled.{are_profiles}
 use Rattle.codec_rooms.specs.Typed as typed
-use Rattle.codec_rooms.proofs.FileLaws.{run_done}
 use Rattle.codec_rooms.proofs.TypedFiles.{text_stays}
 use Rattle.update_rooms.specs.Profile.{OfProfile, no_profile, profiled}
 use Rattle.session_commands.specs.Linked.{next_link}
-use Rattle.session_commands.specs.Post.{Outcome, OfLink, OfSent, PostAnswer, answer_of, no_packet, packet_of, peer, shows}
+use Rattle.session_commands.specs.Post.{Outcome, OfLink, OfSent, PostAnswer, answer_of, packet_of, peer, shows}
 use Rattle.session_commands.specs.Post as answer
 use Rattle.session_rooms.specs.Post.{CallsOver, OfCall, no_call, long_call, calls_it, OfInputFile, OfText, no_json, json_of, after_connect, after_packet, after_reading, after_sending, posts, told_as}
 use Rattle.session_rooms.specs.PostWrites.{PostWrites, WritesNone, WritesSome}
@@ -271,5 +273,36 @@ module _ (schema address input : List ℕ) where
       (λ text files given. OfSchemaText (codes "schema") (profiling.OfProfile (Of files given)) text) (λ file files given. text_stays (codes "schema") (profiling.OfProfile (Of files given)) file) schema_part
       (λ t r s n h f. told_none s n (tell_only _ ReadFault r t s n h f))
 
+-- ---- memory runs out
+
+-- nothing is written to Output where only the link is written to
+link_only : (e : Event) (s n : Outside) → Happens e s n → WritesOnly to_link e → output_of n ≡ output_of s
+link_only (opened slot name true) s n h is = ap (written_of outs.Output) h.0.2
+link_only (opened slot name false) s n h is = ap (written_of outs.Output) h.0
+link_only (took slot bytes) s n h is = ap (written_of outs.Output) h.1
+link_only (ended slot) s n h is = ap (written_of outs.Output) h.1
+link_only (read_failed slot) s n h is = ap (written_of outs.Output) h.0
+link_only (created out name false) s n h is = ap (written_of outs.Output) h.0
+link_only (created out name true) s n h (inl is) = ap (written_of outs.Output) (h.0 ∙ ap (λ (o : Out). with_name o name (with_written o [] s.view)) is)
+link_only (created out name true) s n h (inr is) = absurd is
+link_only (put out bytes) s n h (inl is) = ap (written_of outs.Output) (h.0 ∙ ap (λ (o : Out). with_written o (written_of o s.view ++ bytes) s.view) is)
+link_only (put out bytes) s n h (inr is) = absurd is
+link_only (write_failed out) s n h is = ap (written_of outs.Output) h.0
+link_only (listened address true) s n h is = ap (written_of outs.Output) h.0
+link_only (listened address false) s n h is = ap (written_of outs.Output) h.0
+link_only (connected address true) s n h is = ap (written_of outs.Output) h.0.1
+link_only (connected address false) s n h is = ap (written_of outs.Output) h.0
+link_only (accepted true) s n h is = ap (written_of outs.Output) h.0.1
+link_only (accepted false) s n h is = ap (written_of outs.Output) h.0
+link_only (told moment) s n h is = ap (written_of outs.Output) h.0.1
+
+links_only : (t : List Event) (s n : Outside) → Fits t s n → Throughout (WritesOnly to_link) t → output_of n ≡ output_of s
+links_only [] s n f are = ap output_of f
+links_only (e ∷ t) s n f are = links_only t f.0 n f.2 are.1 ∙ link_only e s f.0 f.1 are.0
+
 pub post_writes : PostWrites
-post_writes schema address input t r s n run other f bytes = post_part schema address input t r s n (run_done (posts schema address input) t r run other) f bytes
+post_writes schema address input t r s n (runs.done h) f bytes = elim (post_part schema address input t r s n h f bytes) [ inl none ↦ inl none | inr some ↦ inr (inl some) ]
+post_writes schema address input t r s n (runs.out_of_memory h) f bytes =
+    let parts = fits_both h.first h.rest s n (subst (λ (l : List Event). Fits l s n) h.splits f) in
+    let e = tell_only _ h.between r h.rest parts.0 n h.goes parts.2 in
+    inr (inr (told_status _ h.between h.rest r h.goes ∙ h.does.1, e.0 ∙ links_only h.first s parts.0 parts.1 h.does.0.only))

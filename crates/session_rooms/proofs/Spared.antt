@@ -1,5 +1,5 @@
 -- What is read leaves all but the slots as it was, and what is written all but its out.
-use Rattle.std.proofs.Common.{◌≡◌, ℕ, List, [], ◌∷◌, ◌++◌, map, Bool, true, false, refl, sym, ap, ◌∙◌, subst}
+use Rattle.std.proofs.Common.{◌≡◌, ℕ, List, [], ◌∷◌, ◌++◌, map, Bool, true, false, sym, ap, ◌∙◌, subst}
 use Rattle.tl_base.specs.Outside.{View, Left, with_slot, left_of, written_of, with_written}
 use Rattle.tl_base.specs.declared.host.Out.{Out}
 use Rattle.outside.specs.Events.{Event, Outside, opened, took, ended, read_failed, created, put, write_failed, listened, connected, accepted, told}

@@ -3,7 +3,7 @@ ghost use Rattle.session_rooms.specs.ClientAnswers.{ClientAnswers};
 ghost use Rattle.session_rooms.specs.ClientLaws.{ClientHasCause, ClientTouches};
 ghost use Rattle.session_rooms.specs.PostLaws.{PostHasCause, PostTouches};
 ghost use Rattle.session_rooms.specs.PostAnswers.{PostAnswers, PostEnds};
-ghost use Rattle.session_rooms.specs.PostWrites.{PostWrites};
+ghost use Rattle.session_rooms.specs.PostWrites.{PostLeaves, PostWrites};
 
 /// A run of `client` opens and reads the schema's file and the state's, makes a link to the address, reads and writes it, creates State under the state's name,
 /// and writes to Output, Errors and State. It does nothing else, also where memory runs out.
@@ -44,7 +44,13 @@ pub fn post_ends()
     ensures { PostEnds }
 {}
 
-/// Whatever fault stops it, it has written nothing to Output and taken no link; or it has sent a prefix of what an answer sends, and written a prefix of its Output.
+/// Whatever stops it, it has written nothing to Output and taken no link; or it has sent a prefix of what an answer sends, and written a prefix of its Output. Where
+/// memory runs out it has written nothing to Output.
 pub fn post_writes()
     ensures { PostWrites }
+{}
+
+/// Whatever happens, files, moments, the room and State are as before.
+pub fn post_leaves()
+    ensures { PostLeaves }
 {}
