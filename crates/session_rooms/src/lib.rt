@@ -10,7 +10,7 @@ mod sending;
 
 pub use client::{recover_client, run_client};
 pub use laws::{
-    client_answers, client_has_cause, client_touches, post_answers, post_ends, post_has_cause, post_leaves,
-    post_touches, post_writes,
+    client_answers, client_has_cause, client_touches, post_answers, post_ends, post_has_cause,
+    post_leaves, post_touches, post_writes,
 };
 pub use post::{post_call, run_post};
