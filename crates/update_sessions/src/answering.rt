@@ -46,6 +46,7 @@ pub enum Untaken<K: Keeper> {
 /// Answers the call that a packet's bytes mean. A new post is kept before anything is to be sent for it. Puts the packets of all that is sent for the call
 /// in place of what stands in `out`.
 /// A packet that is refused leaves the server and the entries as they were, and nothing is to be sent, nor where memory runs out or the keeper fails.
+#[inline(never)]
 pub fn answer_packet<K: Keeper>(
     alloc: Global,
     profile: &Profile,

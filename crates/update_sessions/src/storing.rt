@@ -70,7 +70,8 @@ pub fn store_session<K: Keeper, L: Link>(
     })
 }
 
-// Answers the next call. False: the link has ended.
+// Answers the next call. False: the link has ended. Not in line: LLVM takes twenty minutes over the copies of a large keeper else.
+#[inline(never)]
 fn serve_next<K: Keeper, L: Link>(
     alloc: Global,
     profile: &Profile,
