@@ -75,7 +75,7 @@ pub fn answer_packet<K: Keeper>(
         Err(Untaken::Failed { keeper }) => return Err(StoreSession::Failed { keeper }),
     };
     let put = put_sent(alloc, profile, &sent, out);
-    // Once, in place of at each end: for the proof alone.
+    // Dropped here, and not at each end: for the proof alone.
     drop(sent);
     match put {
         Ok(()) => Ok(store),
