@@ -11,3 +11,4 @@ pub mod Opening
 pub mod KeptRuns
 pub mod ServeLaws
 pub mod Touching
+pub mod AnsweredBytes

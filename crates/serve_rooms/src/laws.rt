@@ -1,5 +1,6 @@
 //! Laws of what `serve` and `keep` do.
 ghost use Rattle.serve_rooms.specs.ServeLaws.{KeepHasCause, KeepReadsFirst, KeepTouches, ServeHasCause, ServeTouches};
+ghost use Rattle.serve_rooms.specs.ServedBytes.{SessionsAnswer};
 
 /// A run of `serve` opens and reads the schema's file, takes links at the address, reads and writes them, reads the clock, and writes to Output and Errors. It does
 /// nothing else, also where memory runs out.
@@ -25,4 +26,10 @@ pub fn keep_reads_first()
 /// It ends by the status of a fault only where a call of that kind failed, and by the keeper's fault only where a call to the keeper failed.
 pub fn keep_has_cause()
     ensures { KeepHasCause }
+{}
+
+/// Over an outside whose link gives bytes, what is answered until the link ends is a session of the server over these bytes, however it ends: this was sent, these
+/// calls were taken, and their entries are those that were added.
+pub fn sessions_answer()
+    ensures { SessionsAnswer }
 {}
