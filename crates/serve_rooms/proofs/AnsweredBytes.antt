@@ -313,7 +313,7 @@ module _ (p : ProfileView) where
         let parts = fits_parts rest h.first h.rest m b h.splits f in
         one_on (ltb-true n MAX_FRAMES is) h.first h.rest h.splits parts.0 parts.1 parts.2 x h.between h.does h.goes
 
-    full_on : (r : Session) → n ≡ MAX_FRAMES → Ends (leave (over u (Err session.TooManyFrames))) rest (leave r) → Fits (events_in rest) m b → EndsOver s r t a b
+    full_on : (r : Session) → n ≡ MAX_FRAMES → Ends {A = Turn Served Session} (leave (over u (Err session.TooManyFrames))) rest (leave r) → Fits (events_in rest) m b → EndsOver s r t a b
     full_on r full h f =
         let stays : b ≡ m = fits_none rest m b (ap events_in h.0) f in
         let more : added_in first ≡ added_in t = sym (joined ∙ ap (λ (l : List Entry). added_in first ++ l) (ap added_in h.0) ∙ append-nil (added_in first)) in
