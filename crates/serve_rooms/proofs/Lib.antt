@@ -12,3 +12,5 @@ pub mod KeptRuns
 pub mod ServeLaws
 pub mod Touching
 pub mod AnsweredBytes
+pub mod SessionEvents
+pub mod ServedNext

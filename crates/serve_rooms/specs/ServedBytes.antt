@@ -1,5 +1,5 @@
--- What a server's session comes to over an outside whose link gives bytes. This project's own.
-use Rattle.std.specs.Prelude.{◌≡◌, ℕ, List, [], ◌∷◌, ◌++◌, true, false}
+-- What a server's session comes to over an outside whose links give bytes. This project's own.
+use Rattle.std.specs.Prelude.{◌≡◌, ℕ, List, [], ◌∷◌, ◌++◌, get_or, true, false, None}
 use Rattle.tl_base.specs.Outside.{left_of, written_of}
 use Rattle.tl_base.specs.declared.host.Out.TheVariants as outs
 use Rattle.tl_base.specs.declared.host.Slot.TheVariants as slots
@@ -7,11 +7,20 @@ use Rattle.box_events.specs.declared.requests.Numbered.{Numbered}
 use Rattle.box_server.specs.Servers.{ServerState}
 use Rattle.box_store.specs.declared.entry.Entry.{Entry}
 use Rattle.wire_profile.specs.Places.{ProfileView}
+use Rattle.command_base.specs.Answer.{Answer}
+use Rattle.command_base.specs.Kept.{Leaves}
 use Rattle.outside.specs.Events.{Outside}
 use Rattle.mem_host.specs.Fits.{Fits}
 use Rattle.update_sessions.specs.Kept.{EndsSession, StoreEnd, ended, keeper_failed, kept_in}
+use Rattle.session_commands.specs.Linked.{next_link}
+use Rattle.session_commands.specs.Serve.{SessionEnd, end_errors, end_output, end_status, first_fault}
+use Rattle.session_commands.specs.Serve as commands
 use Rattle.serve_rooms.specs.Acts.{Act, hosted, loaded, added, events_in}
 use Rattle.serve_rooms.specs.Answering.{AnswersAll, Session, over, lost}
+use Rattle.serve_rooms.specs.Sessions.{ServesNext, more}
+use Rattle.serve_rooms.specs.declared.telling.Tally.{Tally}
+
+-- ---- one session
 
 -- the entries that were added, in their order
 abbrev pub added_in : List Act → List Entry
@@ -37,3 +46,25 @@ pub record SessionOver (p : ProfileView) (s : ServerState) (t : List Act) (r : S
 -- What is answered until the link ends is such a session, however it ends.
 abbrev pub SessionsAnswer : Type 0
 SessionsAnswer = (p : ProfileView) (s : ServerState) (t : List Act) (r : Session) (x y : Outside) → AnswersAll p s t r → Fits (events_in t) x y → SessionOver p s t r x y
+
+-- ---- one connection
+
+-- what one session answers that has this number, over which this was sent
+abbrev pub session_answer : ℕ → SessionEnd → List ℕ → Answer
+session_answer number e sent = record { status = end_status e; output = end_output number e; errors = end_errors e; state = None; taken = 1; links = sent ∷ []; moments = 1; address = None }
+
+-- A session at the next moment over what the next link gives: what is left of the outside is its answer's, Output has grown by it, and so has Errors, where all lines
+-- stand there whole.
+pub record ServedNext (p : ProfileView) (number : ℕ) (s t : ServerState) (tally later : Tally) (acts : List Act) (x y : Outside) : Type 0 where
+  pub sent : List ℕ
+  pub ends : SessionEnd
+  pub session : commands.Session p s (get_or x.view.moments 0 0) (next_link x.view) sent t (added_in acts) ends
+  pub status : later.status ≡ first_fault tally.status (end_status ends)
+  pub output : written_of outs.Output y.view ≡ written_of outs.Output x.view ++ end_output number ends
+  pub whole : later.whole ≡ true → tally.whole ≡ true
+  pub errors : later.whole ≡ true → written_of outs.Errors y.view ≡ written_of outs.Errors x.view ++ end_errors ends
+  pub leaves : Leaves (session_answer number ends sent) x.view y.view
+
+-- after the next session others may come: then it is such a one, however it ends
+abbrev pub NextAnswers : Type 0
+NextAnswers = (p : ProfileView) (number : ℕ) (s t : ServerState) (tally later : Tally) (acts : List Act) (x y : Outside) → ServesNext p number s tally acts (more t later) → Fits (events_in acts) x y → ServedNext p number s t tally later acts x y

@@ -1,6 +1,6 @@
 //! Laws of what `serve` and `keep` do.
 ghost use Rattle.serve_rooms.specs.ServeLaws.{KeepHasCause, KeepReadsFirst, KeepTouches, ServeHasCause, ServeTouches};
-ghost use Rattle.serve_rooms.specs.ServedBytes.{SessionsAnswer};
+ghost use Rattle.serve_rooms.specs.ServedBytes.{NextAnswers, SessionsAnswer};
 
 /// A run of `serve` opens and reads the schema's file, takes links at the address, reads and writes them, reads the clock, and writes to Output and Errors. It does
 /// nothing else, also where memory runs out.
@@ -32,4 +32,10 @@ pub fn keep_has_cause()
 /// calls were taken, and their entries are those that were added.
 pub fn sessions_answer()
     ensures { SessionsAnswer }
+{}
+
+/// So is the session over the next link, at the next moment, where others may come after it: what is left of the outside is its answer's, and so is what Output has
+/// grown by, and Errors, where all lines stand there whole.
+pub fn next_answers()
+    ensures { NextAnswers }
 {}
