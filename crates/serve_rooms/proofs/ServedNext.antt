@@ -55,8 +55,8 @@ use Rattle.serve_rooms.proofs.SessionEvents.{session_keeps}
 -- it is an end of which something is told
 record Known (end : Result ℕ SessionFault) : Type 0 where
   word : IsShortEnd end
-  as : SessionEnd
-  is : end_of end ≡ Some as
+  ends : SessionEnd
+  is : end_of end ≡ Some ends
 
 abbrev IsKnown : Session → Type 0
 IsKnown (over s end) = Known end
@@ -69,7 +69,7 @@ CanEnd (fails s fault) = Known (Err fault)
 CanEnd unkept = Unit {0}
 
 broken_known : Known (Err session.LinkFault)
-broken_known = record { word = tt; as = link_fault; is = refl }
+broken_known = record { word = tt; ends = link_fault; is = refl }
 
 left_is : (r q : Session) → ◌≡◌ {A = Turn Served Session} (leave r) (leave q) → q ≡ r
 left_is r q is = cc
@@ -86,14 +86,14 @@ module _ (p : ProfileView) where
   bytes_known : (s : ServerState) (bytes : List ℕ) (t : List Act) (r : Answered) → AnswersBytes p s bytes t r → CanEnd r
   bytes_known s bytes t r (no_call fault refuses none is) =
       let line = told_line p calls call_told (codes "peer") bytes fault refuses in
-      subst CanEnd (sym is) (record { word = tt; as = peer_fault line.0; is = ap (option_map (λ (l : List ℕ). peer_fault l)) line.1 })
+      subst CanEnd (sym is) (record { word = tt; ends = peer_fault line.0; is = ap (option_map (λ (l : List ℕ). peer_fault l)) line.1 })
   bytes_known s bytes t r (answers c means h) = added_known s c h.between h.rest r h.goes
 
   packet_known : (s : ServerState) (v : PacketView) (t : List Event) (u : List Act) (r : Answered) (a m : Outside) → TakesPacket Link t v → Fits t a m → after_packet p s v u r → CanEnd r
   packet_known s (whole bytes) t u r a m takes f h = bytes_known s bytes u r h
   packet_known s packets.none t u r a m takes f h = subst CanEnd (sym h.1) tt
-  packet_known s (packets.bad_length n) t u r a m takes f h = subst CanEnd (sym h.1) (record { word = (packet_left Link t (packets.bad_length n) a m takes f).0; as = peer_fault (length_line n); is = refl })
-  packet_known s (packets.ended had) t u r a m takes f h = subst CanEnd (sym h.1) (record { word = tt; as = peer_fault (ended_line had); is = refl })
+  packet_known s (packets.bad_length n) t u r a m takes f h = subst CanEnd (sym h.1) (record { word = (packet_left Link t (packets.bad_length n) a m takes f).0; ends = peer_fault (length_line n); is = refl })
+  packet_known s (packets.ended had) t u r a m takes f h = subst CanEnd (sym h.1) (record { word = tt; ends = peer_fault (ended_line had); is = refl })
   packet_known s packets.broken t u r a m takes f h = subst CanEnd (sym h.1) broken_known
 
   next_known : (s : ServerState) (t : List Act) (r : Answered) (a b : Outside) → AnswersNext p s t r → Fits (events_in t) a b → CanEnd r
@@ -103,12 +103,12 @@ module _ (p : ProfileView) where
 
   turn_known : (n : ℕ) (r : Answered) (q : Session) → CanEnd r → leave q ≡ turn_of n r → IsKnown q
   turn_known n (goes_on s) q known is = absurd (let no : ◌≡◌ {A = Turn Served Session} (leave q) (again (s, n + 1)) = is in cc)
-  turn_known n (has_ended s) q known is = subst IsKnown (left_is q (over s (Ok n)) is) (record { word = tt; as = served n; is = refl })
+  turn_known n (has_ended s) q known is = subst IsKnown (left_is q (over s (Ok n)) is) (record { word = tt; ends = served n; is = refl })
   turn_known n (fails s fault) q known is = subst IsKnown (left_is q (over s (Err fault)) is) known
   turn_known n unkept q known is = subst IsKnown (left_is q lost is) tt
 
   by_known : (goes : Bool) (s : ServerState) (n : ℕ) (t : List Act) (q : Session) (a b : Outside) → answers_by p goes (s, n) t (leave q) → Fits (events_in t) a b → IsKnown q
-  by_known false s n t q a b h f = subst IsKnown (left_is q (over s (Err session.TooManyFrames)) h.1) (record { word = tt; as = peer_fault many_frames_line; is = refl })
+  by_known false s n t q a b h f = subst IsKnown (left_is q (over s (Err session.TooManyFrames)) h.1) (record { word = tt; ends = peer_fault many_frames_line; is = refl })
   by_known true s n t q a b h f =
       let parts = fits_parts t h.first h.rest a b h.splits f in
       turn_known n h.between q (next_known s h.first h.between a parts.0 h.does parts.1) h.goes.1
@@ -267,14 +267,14 @@ module _ (p : ProfileView) (number : ℕ) (s d : ServerState) (tally later : Tal
     session_next (over x end) answered h =
         let known = session_known p (dated_at s now) t (over x end) k j answered f in
         let served = sessions_answer p (dated_at s now) t (over x end) k j answered f in
-        let line = end_told x end known.as u j b known.is h g in
+        let line = end_told x end known.ends u j b known.is h g in
         let spares : unlinked j.view ≡ unlinked k.view = link_spares k j (events_in t) (session_keeps IsOverLink (λ _. refl) tt (λ _. tt) tt tt p (dated_at s now) t (over x end) answered) f in
-        let here : commands.Session p s now (left_of Link k.view) served.sent x (added_in t) known.as = record { answer = end; calls = served.calls; serves = served.ends; entries = served.entries; word = known.word; ended = known.is } in
+        let here : commands.Session p s now (left_of Link k.view) served.sent x (added_in t) known.ends = record { answer = end; calls = served.calls; serves = served.ends; entries = served.entries; word = known.word; ended = known.is } in
         let entries : added_in t ≡ added_in acts = sym (more_is ∙ ap (λ (l : List Entry). added_in t ++ l) line.added ∙ append-nil (added_in t)) in
-        let there : commands.Session p s now (next_link a.view) served.sent d (added_in acts) known.as =
-        subst (λ (l : List ℕ). commands.Session p s now l served.sent d (added_in acts) known.as) (ap (left_of Link) view)
-        (subst (λ (y : ServerState). commands.Session p s now (left_of Link k.view) served.sent y (added_in acts) known.as) line.server (subst (λ (l : List Entry). commands.Session p s now (left_of Link k.view) served.sent x l known.as) entries here)) in
-        let leaves : Leaves (session_answer number known.as served.sent) a.view j.view = record {
+        let there : commands.Session p s now (next_link a.view) served.sent d (added_in acts) known.ends =
+        subst (λ (l : List ℕ). commands.Session p s now l served.sent d (added_in acts) known.ends) (ap (left_of Link) view)
+        (subst (λ (y : ServerState). commands.Session p s now (left_of Link k.view) served.sent y (added_in acts) known.ends) line.server (subst (λ (l : List Entry). commands.Session p s now (left_of Link k.view) served.sent x l known.ends) entries here)) in
+        let leaves : Leaves (session_answer number known.ends served.sent) a.view j.view = record {
           files = ap (λ (v : View). v.files) spares ∙ ap (λ (v : View). v.files) view;
           moments = ap (λ (v : View). v.moments) spares ∙ ap (λ (v : View). v.moments) view;
           coming = ap (λ (v : View). v.links) spares ∙ ap (λ (v : View). v.links) view;
@@ -285,13 +285,13 @@ module _ (p : ProfileView) (number : ℕ) (s d : ServerState) (tally later : Tal
         } in
         record {
           sent = served.sent;
-          ends = known.as;
-          session = subst (λ (n : ℕ). commands.Session p s n (next_link a.view) served.sent d (added_in acts) known.as) moment there;
+          ends = known.ends;
+          session = subst (λ (n : ℕ). commands.Session p s n (next_link a.view) served.sent d (added_in acts) known.ends) moment there;
           status = line.says.status;
-          output = line.says.output ∙ ap (λ (l : List ℕ). l ++ end_output number known.as) (ap (λ (v : View). v.written.output) spares ∙ ap (λ (v : View). v.written.output) view);
+          output = line.says.output ∙ ap (λ (l : List ℕ). l ++ end_output number known.ends) (ap (λ (v : View). v.written.output) spares ∙ ap (λ (v : View). v.written.output) view);
           whole = line.says.whole;
-          errors = λ so. line.says.errors so ∙ ap (λ (l : List ℕ). l ++ end_errors known.as) (ap (λ (v : View). v.written.errors) spares ∙ ap (λ (v : View). v.written.errors) view);
-          leaves = leaves_then (session_answer number known.as served.sent) a.view j.view b.view leaves line.says.rest;
+          errors = λ so. line.says.errors so ∙ ap (λ (l : List ℕ). l ++ end_errors known.ends) (ap (λ (v : View). v.written.errors) spares ∙ ap (λ (v : View). v.written.errors) view);
+          leaves = leaves_then (session_answer number known.ends served.sent) a.view j.view b.view leaves line.says.rest;
         }
     session_next lost answered h = absurd (let no : ◌≡◌ {A = Next} (more d later) (no_more h.between) = h.goes.1 in cc)
 
