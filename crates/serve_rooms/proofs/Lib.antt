@@ -14,3 +14,4 @@ pub mod Touching
 pub mod AnsweredBytes
 pub mod SessionEvents
 pub mod ServedNext
+pub mod ServedAll

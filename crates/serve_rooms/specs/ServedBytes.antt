@@ -1,5 +1,5 @@
 -- What a server's session comes to over an outside whose links give bytes. This project's own.
-use Rattle.std.specs.Prelude.{◌≡◌, ℕ, List, [], ◌∷◌, ◌++◌, get_or, true, false, None}
+use Rattle.std.specs.Prelude.{◌≡◌, ◌≢◌, ℕ, List, [], ◌∷◌, ◌++◌, get_or, true, false, None}
 use Rattle.tl_base.specs.Outside.{left_of, written_of}
 use Rattle.tl_base.specs.declared.host.Out.TheVariants as outs
 use Rattle.tl_base.specs.declared.host.Slot.TheVariants as slots
@@ -9,15 +9,18 @@ use Rattle.box_store.specs.declared.entry.Entry.{Entry}
 use Rattle.wire_profile.specs.Places.{ProfileView}
 use Rattle.command_base.specs.Answer.{Answer}
 use Rattle.command_base.specs.Kept.{Leaves}
+use Rattle.command_base.specs.declared.status.Status.{Status}
+use Rattle.command_base.specs.declared.status.Status.TheVariants.{LinkFault, WriteFault}
 use Rattle.outside.specs.Events.{Outside}
 use Rattle.mem_host.specs.Fits.{Fits}
 use Rattle.update_sessions.specs.Kept.{EndsSession, StoreEnd, ended, keeper_failed, kept_in}
 use Rattle.session_commands.specs.Linked.{next_link}
-use Rattle.session_commands.specs.Serve.{SessionEnd, end_errors, end_output, end_status, first_fault}
+use Rattle.session_commands.specs.Serve.{SessionEnd, IsAny, Sessions, Total, end_errors, end_output, end_status, first_fault, total_answer}
 use Rattle.session_commands.specs.Serve as commands
 use Rattle.serve_rooms.specs.Acts.{Act, hosted, loaded, added, events_in}
 use Rattle.serve_rooms.specs.Answering.{AnswersAll, Session, over, lost}
-use Rattle.serve_rooms.specs.Sessions.{ServesNext, more}
+use Rattle.serve_rooms.specs.Sessions.{ServesAll, ServesNext, more}
+use Rattle.serve_rooms.specs.declared.status.KeptStatus.TheVariants.{Run}
 use Rattle.serve_rooms.specs.declared.telling.Tally.{Tally}
 
 -- ---- one session
@@ -68,3 +71,20 @@ pub record ServedNext (p : ProfileView) (number : ℕ) (s t : ServerState) (tall
 -- after the next session others may come: then it is such a one, however it ends
 abbrev pub NextAnswers : Type 0
 NextAnswers = (p : ProfileView) (number : ℕ) (s t : ServerState) (tally later : Tally) (acts : List Act) (x y : Outside) → ServesNext p number s tally acts (more t later) → Fits (events_in acts) x y → ServedNext p number s t tally later acts x y
+
+-- ---- all sessions
+
+-- So many sessions from a server on, however each ends: the status is that of the first fault, Output has grown by what is told of them, what is left of the outside is
+-- their answer's, and the entries of their posts are those that were added.
+pub record ServedAll (p : ProfileView) (address : List ℕ) (n : ℕ) (s : ServerState) (acts : List Act) (status : Status) (x y : Outside) : Type 0 where
+  pub total : Total
+  pub sessions : Sessions IsAny p s x.view.links x.view.moments n total
+  pub entries : added_in acts ≡ total.entries
+  pub status_is : status ≡ total.status
+  pub output : written_of outs.Output y.view ≡ written_of outs.Output x.view ++ total.output
+  pub leaves : Leaves (total_answer address n total) x.view y.view
+
+-- A run that ended by no fault of Output, nor by one of a link before all were served, served all.
+abbrev pub AllAnswer : Type 0
+AllAnswer = (p : ProfileView) (address : List ℕ) (n : ℕ) (s : ServerState) (acts : List Act) (status : Status) (x y : Outside) → ServesAll address n s p acts (Run status) → Fits (events_in acts) x y
+    → status ≢ WriteFault → status ≢ LinkFault → ServedAll p address n s acts status x y

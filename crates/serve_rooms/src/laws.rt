@@ -1,6 +1,6 @@
 //! Laws of what `serve` and `keep` do.
 ghost use Rattle.serve_rooms.specs.ServeLaws.{KeepHasCause, KeepReadsFirst, KeepTouches, ServeHasCause, ServeTouches};
-ghost use Rattle.serve_rooms.specs.ServedBytes.{NextAnswers, SessionsAnswer};
+ghost use Rattle.serve_rooms.specs.ServedBytes.{AllAnswer, NextAnswers, SessionsAnswer};
 
 /// A run of `serve` opens and reads the schema's file, takes links at the address, reads and writes them, reads the clock, and writes to Output and Errors. It does
 /// nothing else, also where memory runs out.
@@ -38,4 +38,9 @@ pub fn sessions_answer()
 /// grown by, and Errors, where all lines stand there whole.
 pub fn next_answers()
     ensures { NextAnswers }
+{}
+
+/// And so are all sessions of a run, one after the other, that ended by no fault of Output, nor by one of a link before all were served.
+pub fn all_answer()
+    ensures { AllAnswer }
 {}
