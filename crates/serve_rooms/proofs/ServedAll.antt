@@ -1,11 +1,11 @@
 -- Connections in turn over an outside whose links give bytes.
-use Rattle.std.proofs.Common.{◌≡◌, ◌≢◌, ◌⊎◌, inl, inr, ℕ, suc, ◌+◌, ◌<◌, ◌≤◌, ltb, List, [], ◌∷◌, ◌++◌, append-nil, append_assoc, drop, Bool, true, false, Option, Some, None, Result, Ok, Err, refl, sym, ap, ◌∙◌, subst, arith}
+use Rattle.std.proofs.Common.{◌≡◌, ◌≢◌, ℕ, suc, ◌+◌, ◌<◌, ◌≤◌, ltb, List, [], ◌∷◌, ◌++◌, append-nil, append_assoc, drop, Bool, true, false, Option, Some, None, Result, Ok, Err, refl, sym, ap, ◌∙◌, subst, arith}
 use Rattle.std.specs.Prelude.{get_or}
 use Rattle.std.proofs.lemmas.Bool.{ltb-true, ltb-false}
 use Rattle.std.proofs.lemmas.List.{drop-drop}
 use Rattle.tl_base.specs.Outside.{View, written_of}
 use Rattle.tl_base.specs.declared.host.Out.TheVariants as outs
-use Rattle.box_server.specs.Servers.{ServerState, dated_at}
+use Rattle.box_server.specs.Servers.{ServerState}
 use Rattle.box_store.specs.declared.entry.Entry.{Entry}
 use Rattle.wire_profile.specs.Places.{ProfileView}
 use Rattle.command_base.specs.Answer.{Answer, link_fault_line, write_fault_line}
@@ -22,7 +22,7 @@ use Rattle.session_commands.specs.Serve.{SessionEnd, IsAny, Sessions, Total, end
 use Rattle.session_commands.specs.Serve as commands
 use Rattle.session_commands.specs.SessionEnds.{session_line}
 use Rattle.session_commands.proofs.ServeRuns.{at_zero}
-use Rattle.serve_rooms.specs.Acts.{Act, hosted, events_in}
+use Rattle.serve_rooms.specs.Acts.{Act, events_in}
 use Rattle.serve_rooms.specs.Answering.{Session, over, lost}
 use Rattle.serve_rooms.specs.ServedBytes.{AllAnswer, ServedAll, ServedNext, added_in, session_answer}
 use Rattle.serve_rooms.specs.Sessions.{Next, more, no_more, keep_fault_line, after_telling, after_session, after_accept, ServesNext, Serving, turn_of, serves_by, ServesOn, after_listen}

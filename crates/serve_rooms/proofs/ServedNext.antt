@@ -15,12 +15,11 @@ use Rattle.command_base.specs.Kept.{Leaves}
 use Rattle.command_base.specs.declared.status.Status.{Status}
 use Rattle.command_base.specs.declared.status.Status.TheVariants as statuses
 use Rattle.fault_lines.specs.Packets.{length_line, ended_line}
-use Rattle.outside.specs.Events.{Event, Outside, accepted, told}
-use Rattle.outside.specs.Laws.{Throughout}
+use Rattle.outside.specs.Events.{Event, Outside, accepted}
 use Rattle.outside.specs.Packets.{PacketView, whole, TakesPacket}
 use Rattle.outside.specs.Packets as packets
 use Rattle.outside.specs.Pieces.{Writes}
-use Rattle.outside.specs.Steps.{Turn, again, leave, Calls}
+use Rattle.outside.specs.Steps.{Turn, again, leave}
 use Rattle.outside.proofs.Causing.{keeps_write}
 use Rattle.mem_host.specs.Fits.{Fits}
 use Rattle.mem_host.proofs.Fitting.{fits_both, writes_append}
@@ -40,11 +39,10 @@ use Rattle.session_rooms.proofs.LeftViews.{IsOverLink, SparesRest, beside, last_
 use Rattle.serve_rooms.specs.Acts.{Act, hosted, events_in}
 use Rattle.serve_rooms.specs.Answering.{Answered, goes_on, has_ended, fails, unkept, after_sending, after_adding, AnswersBytes, no_call, answers, after_packet, AnswersNext, Session, over, lost, Served, turn_of, answers_by, AnswersAll}
 use Rattle.serve_rooms.specs.Doing.{Hosted}
-use Rattle.serve_rooms.specs.ServedBytes.{NextAnswers, ServedNext, SessionOver, added_in, session_answer}
-use Rattle.serve_rooms.specs.Sessions.{Next, more, no_more, after_telling, after_session, after_moment, after_accept, ServesNext}
+use Rattle.serve_rooms.specs.ServedBytes.{NextAnswers, ServedNext, added_in, session_answer}
+use Rattle.serve_rooms.specs.Sessions.{Next, more, no_more, after_telling, after_session, after_moment, after_accept}
 use Rattle.serve_rooms.specs.Telling.{Told, is_over, TellsLine, TellsFault, after_line, fault_told, TellsEnd}
 use Rattle.serve_rooms.specs.Telling as telling
-use Rattle.serve_rooms.specs.declared.status.KeptStatus.{KeptStatus}
 use Rattle.serve_rooms.specs.declared.status.KeptStatus.TheVariants.{Run}
 use Rattle.serve_rooms.specs.declared.telling.Tally.{Tally}
 use Rattle.serve_rooms.proofs.AnsweredBytes.{added_more, fits_hosted, fits_none, fits_parts, nothing_added, sessions_answer}
