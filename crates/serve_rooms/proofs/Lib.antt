@@ -15,3 +15,4 @@ pub mod AnsweredBytes
 pub mod SessionEvents
 pub mod ServedNext
 pub mod ServedAll
+pub mod ServedRuns
