@@ -1,11 +1,9 @@
 -- A run of `serve` over an outside whose files and links give bytes.
-use Rattle.std.proofs.Common.{◌≡◌, ◌≢◌, codes, ℕ, List, [], ◌∷◌, ◌++◌, Option, Some, None, Ok, Err, refl, sym, ap, ◌∙◌, subst}
-use Rattle.tl_base.specs.Contents.{Files}
+use Rattle.std.proofs.Common.{◌≡◌, codes, ℕ, List, Option, Some, None, refl, sym, ap, ◌∙◌, subst}
 use Rattle.tl_base.specs.Outside.{View}
 use Rattle.tl_base.specs.declared.host.Slot.TheVariants as slots
 use Rattle.tl_schema.specs.Schemas.{Declared}
 use Rattle.box_server.specs.Servers.{new_server}
-use Rattle.wire_profile.specs.Places.{ProfileView}
 use Rattle.command_base.specs.Answer.{Answer, read_fault_line, refused}
 use Rattle.command_base.specs.declared.status.Status.{Status}
 use Rattle.command_base.specs.declared.status.Status.TheVariants as statuses
@@ -16,7 +14,7 @@ use Rattle.outside.specs.Pieces.{ReadsFile}
 use Rattle.outside.specs.Printing.{Prints}
 use Rattle.outside.proofs.Causing.{told_status}
 use Rattle.mem_host.specs.Fits.{Fits}
-use Rattle.mem_host.proofs.Fitting.{files_are_read, fits_both, fits_keeps}
+use Rattle.mem_host.proofs.Fitting.{files_are_read, fits_both}
 use Rattle.schema_files.specs.Answering as answering
 use Rattle.schema_files.specs.Lines.{schema_line}
 use Rattle.schema_files.specs.declared.schema_text.TheConstants.{SCHEMA_BYTES}
@@ -26,13 +24,12 @@ use Rattle.codec_rooms.proofs.TypedFiles.{text_stays}
 use Rattle.session_commands.specs.Serve.{IsAny, OfSessions, total_answer}
 use Rattle.session_rooms.proofs.AnsweredClients.{Ends, EndsBy, IsWhole, ends_as, ends_later, read_only, refusal_ends}
 use Rattle.serve_rooms.specs.Acts.{Act, events_in}
-use Rattle.serve_rooms.specs.Doing.{Last, to_serve}
-use Rattle.serve_rooms.specs.Serve.{EndsBy as EndsLoad, OfText, no_schema, schema_of, after_reading, LoadsSchema, OfSchema, no_profile, profiled, after_loading, OfProfiled, serves}
+use Rattle.serve_rooms.specs.Doing.{Last}
+use Rattle.serve_rooms.specs.Serve.{OfText, no_schema, schema_of, after_reading, OfSchema, no_profile, profiled, after_loading, OfProfiled, serves}
 use Rattle.serve_rooms.specs.ServedBytes.{ServeAnswers}
 use Rattle.serve_rooms.specs.Sessions.{ServesAll}
 use Rattle.serve_rooms.specs.declared.loading.Loaded.{Loaded}
 use Rattle.serve_rooms.specs.declared.loading.Loaded.TheVariants as schema
-use Rattle.serve_rooms.specs.declared.status.KeptStatus.{KeptStatus}
 use Rattle.serve_rooms.specs.declared.status.KeptStatus.TheVariants.{Run}
 use Rattle.serve_rooms.proofs.AnsweredBytes.{fits_hosted, fits_none, fits_parts}
 use Rattle.serve_rooms.proofs.ServedAll.{all_answer}
