@@ -57,7 +57,7 @@ SessionsAnswer = (p : ProfileView) (s : ServerState) (t : List Act) (r : Session
 
 -- ---- one connection
 
--- what one session answers that has this number, over which this was sent
+-- what is answered by the session with this number, in which this was sent
 abbrev pub session_answer : ℕ → SessionEnd → List ℕ → Answer
 session_answer number e sent = record { status = end_status e; output = end_output number e; errors = end_errors e; state = None; taken = 1; links = sent ∷ []; moments = 1; address = None }
 
