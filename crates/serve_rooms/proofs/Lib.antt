@@ -11,3 +11,8 @@ pub mod Opening
 pub mod KeptRuns
 pub mod ServeLaws
 pub mod Touching
+pub mod AnsweredBytes
+pub mod SessionEvents
+pub mod ServedNext
+pub mod ServedAll
+pub mod ServedRuns

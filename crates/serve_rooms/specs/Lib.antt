@@ -6,3 +6,4 @@ pub mod Sessions
 pub mod Serve
 pub mod ServeLaws
 pub mod inner
+pub mod ServedBytes

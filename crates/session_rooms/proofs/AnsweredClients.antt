@@ -51,7 +51,7 @@ use Rattle.session_rooms.proofs.Conversed.{keeps_converse}
 use Rattle.session_rooms.proofs.ConversedBytes.{IsSession, converses_over_bytes}
 use Rattle.session_rooms.proofs.LeftViews.{SparesOutput, spares_output, beside, SparesRest, spares_rest, plain_leaves, leaves_later, leaves_then, IsOverLink, link_left, IsToState, saves_line, state_left, saved_left}
 
-abbrev output_of : Outside → List ℕ
+abbrev pub output_of : Outside → List ℕ
 output_of s = written_of outs.Output s.view
 
 no_errors : outs.Errors ≡ outs.Output → ⊥
@@ -63,33 +63,33 @@ no_link is = cc
 -- ---- how a run ends
 
 -- the answer's status is this; Output has grown by it, and what it leaves is left
-abbrev EndsBy : Answer → Status → Outside → Outside → Type 0
+abbrev pub EndsBy : Answer → Status → Outside → Outside → Type 0
 EndsBy x r a b = (r ≡ x.status) × GivesOutput x a.view b.view
 
-abbrev Ends : (Answer → Type 0) → Status → Outside → Outside → Type 0
+abbrev pub Ends : (Answer → Type 0) → Status → Outside → Outside → Type 0
 Ends Is r a b = (x : Answer) × Is x × EndsBy x r a b
 
 -- neither files, nor the link, nor memory stopped it
-abbrev IsWhole : Status → Type 0
+abbrev pub IsWhole : Status → Type 0
 IsWhole r = IsAnswer r × (r ≢ status.LinkFault)
 
 -- slots were read until then
-record OnlyRead (a m : Outside) : Type 0 where
-  rest : beside m.view ≡ beside a.view
-  output : output_of m ≡ output_of a
+pub record OnlyRead (a m : Outside) : Type 0 where
+  pub rest : beside m.view ≡ beside a.view
+  pub output : output_of m ≡ output_of a
 
-read_only : (slot : Slot) (name : List ℕ) (limit : ℕ) (o : Option (List ℕ)) (t : List Event) (a m : Outside) → ReadsFile slot name limit t o → Fits t a m → OnlyRead a m
+pub read_only : (slot : Slot) (name : List ℕ) (limit : ℕ) (o : Option (List ℕ)) (t : List Event) (a m : Outside) → ReadsFile slot name limit t o → Fits t a m → OnlyRead a m
 read_only slot name limit o t a m read f = record {
   rest = spares_rest t a m (keeps_file SparesRest slot name limit (λ _. tt) (λ _. tt) tt tt t o read) f;
   output = spares_output t a m (keeps_file SparesOutput slot name limit (λ _. tt) (λ _. tt) tt tt t o read) f;
 }
 
-ends_later : (Is : Answer → Type 0) (r : Status) (a m b : Outside) → OnlyRead a m → Ends Is r m b → Ends Is r a b
+pub ends_later : (Is : Answer → Type 0) (r : Status) (a m b : Outside) → OnlyRead a m → Ends Is r m b → Ends Is r a b
 ends_later Is r a m b same e =
     let gives = e.2.1 in
     (e.0, e.1, (e.2.0, record { output = gives.output ∙ ap (λ (z : List ℕ). z ++ e.0.output) same.output; leaves = leaves_later e.0 a.view m.view b.view same.rest gives.leaves }))
 
-ends_as : (Is Of : Answer → Type 0) (r : Status) (a b : Outside) → ((x : Answer) → Is x → Of x) → Ends Is r a b → Ends Of r a b
+pub ends_as : (Is Of : Answer → Type 0) (r : Status) (a b : Outside) → ((x : Answer) → Is x → Of x) → Ends Is r a b → Ends Of r a b
 ends_as Is Of r a b into e = (e.0, into e.0 e.1, e.2)
 
 -- ---- what is printed
@@ -119,7 +119,7 @@ printed_by x t r a b h f is =
     let parts = fits_both h.first h.rest a b (subst (λ (l : List Event). Fits l a b) h.splits f) in
     output_printed x h.between h.first h.rest r a parts.0 b h.does h.goes parts.1 parts.2 is
 
-refusal_ends : (line : List ℕ) (t : List Event) (r : Status) (a b : Outside) → Prints (refused line) t r → Fits t a b → IsAnswer r → EndsBy (refused line) r a b
+pub refusal_ends : (line : List ℕ) (t : List Event) (r : Status) (a b : Outside) → Prints (refused line) t r → Fits t a b → IsAnswer r → EndsBy (refused line) r a b
 refusal_ends line t r a b h f is =
     let e = printed_by (refused line) t r a b h f is in
     (e.status_is, record { output = e.output; leaves = plain_leaves status.Refused [] line a.view b.view e.rest })

@@ -24,8 +24,8 @@ use Rattle.outside.specs.Packets as packets
 use Rattle.outside.specs.Pieces.{ReadsFile, Writes}
 use Rattle.outside.specs.Runs as runs
 use Rattle.outside.specs.Steps.{Turn, again, leave, Reaches, here, turn}
-use Rattle.outside.proofs.Causing.{cause_print, cause_run, cause_tell, cause_then, explains_last, happened_first, happened_last, keeps_begun, keeps_call, keeps_end, keeps_file, keeps_loop, keeps_print, keeps_tell, keeps_then, keeps_write, throughout_both, unread_file, unwritten}
-use Rattle.outside.proofs.TakenPackets.{IsUnbroken, broken_packet, keeps_packet, packet_came}
+use Rattle.outside.proofs.Causing.{cause_print, cause_run, cause_tell, cause_then, explains_last, happened_first, happened_last, keeps_begun, keeps_call, keeps_file, keeps_print, keeps_tell, keeps_then, keeps_write, throughout_both, unread_file, unwritten}
+use Rattle.outside.proofs.TakenPackets.{IsUnbroken, broken_packet, packet_came}
 use Rattle.codec_rooms.proofs.TypedLaws.{keeps_of_file, cause_of_file}
 use Rattle.update_rooms.specs.Profile.{OfProfile}
 use Rattle.update_rooms.proofs.ProfiledLaws.{keeps_profile, cause_profile}
@@ -43,7 +43,7 @@ use Rattle.session_rooms.specs.ClientLaws.{IsOfClient, ClientTouches, ClientHasC
 use Rattle.session_rooms.specs.Conversing.{Outcome, Asks, after_asking, HearsBytes, no_frame, refused as refused_frame, heard, after_packet, HearsNext, Heard, turn_of, hears_by, HearsOn, after_begin, Converses}
 use Rattle.session_rooms.specs.Sending.{Sends}
 use Rattle.session_rooms.proofs.Conversed.{keeps_converse}
-use Rattle.session_rooms.proofs.SentMessages.{keeps_send, unsent}
+use Rattle.session_rooms.proofs.SentMessages.{unsent}
 
 -- ---- events
 

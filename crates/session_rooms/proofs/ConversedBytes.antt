@@ -43,26 +43,26 @@ abbrev pub IsSession : ProfileView → ClientState → List ℕ → List ℕ →
 IsSession p c given sent (Ok d) = (frames : ℕ) × HearsHonestly p c given sent d (Ok frames)
 IsSession p c given sent (Err fault) = (d : ClientState) × HearsHonestly p c given sent d (Err fault) × IsShort fault
 
-abbrev given_by : Outside → List ℕ
+abbrev pub given_by : Outside → List ℕ
 given_by s = left_of Link s.view
 
-abbrev sent_by : Outside → List ℕ
+abbrev pub sent_by : Outside → List ℕ
 sent_by s = written_of outs.Link s.view
 
 -- ---- what is sent
 
 -- less than all was put
-part_put : (part : List ℕ) (t : List Event) (a b : Outside) → InPieces (put outs.Link) part (write_failed outs.Link ∷ []) t → Fits t a b → sent_by b ≡ sent_by a ++ part
+pub part_put : (part : List ℕ) (t : List Event) (a b : Outside) → InPieces (put outs.Link) part (write_failed outs.Link ∷ []) t → Fits t a b → sent_by b ≡ sent_by a ++ part
 part_put part t a b q f =
     let parts = fits_both (map (put outs.Link) q.pieces) (write_failed outs.Link ∷ []) a b (subst (λ (l : List Event). Fits l a b) q.events f) in
     ap sent_by parts.2.2 ∙ (ap (written_of outs.Link) parts.2.1.0
     ∙ writes_append outs.Link part (map (put outs.Link) q.pieces) a parts.0 (record { pieces = q.pieces; events = sym (append-nil (map (put outs.Link) q.pieces)); join = q.join }) parts.1)
 
 -- a packet that is taken leaves what was sent
-taking_sent : (t : List Event) (v : PacketView) (a b : Outside) → TakesPacket Link t v → Fits t a b → sent_by b ≡ sent_by a
+pub taking_sent : (t : List Event) (v : PacketView) (a b : Outside) → TakesPacket Link t v → Fits t a b → sent_by b ≡ sent_by a
 taking_sent t v a b h f = ap (λ (w : Written). out_part outs.Link w) (reading_leaves t a b f (keeps_packet Link IsReading (λ _. tt) tt tt t v h))
 
-partly : {M : Type 0} (Spells : M → List ℕ → Type 0) (ms : List M) (part : List ℕ) → PartlySent Spells ms part → PartlyPacked Spells ms part
+pub partly : {M : Type 0} (Spells : M → List ℕ → Type 0) (ms : List M) (part : List ℕ) → PartlySent Spells ms part → PartlyPacked Spells ms part
 partly Spells [] part h = absurd h
 partly Spells (m ∷ ms) part (inl none) = inl none
 partly Spells (m ∷ ms) part (inr (b, spells, inl (rest, is, some))) = inr (b, rest, spells, inl is)

@@ -142,7 +142,7 @@ leaves_then a v u w l same = record {
 -- ---- a link
 
 -- all that a conversation over a link leaves
-abbrev unlinked : View → View
+abbrev pub unlinked : View → View
 unlinked v = record v { left = none_left; written = record v.written { unlinked = []; links = [] } }
 
 -- slots are read, and the link is written to
@@ -210,30 +210,32 @@ module _ (ls : List (List ℕ)) where
   keeps_link [] s n k f l = subst (λ (o : Outside). HasLink o.view) (sym f) l
   keeps_link (e ∷ t) s n k f l = keeps_link t f.0 n k.1 f.2 (event_link e s f.0 f.1 k.0 l)
 
--- a link was taken, and this was sent over it
-module _ (address sent : List ℕ) (a m k : Outside) (t : List Event) (taken : m.view ≡ record (link_taken a.view) { address = Some address }) (over : Throughout IsOverLink t) (fits : Fits t m k) (wrote : written_of outs.Link k.view ≡ written_of outs.Link m.view ++ sent) where
-  first_links : m.view.written.links ≡ a.view.written.links ++ [] ∷ []
-  first_links = ap (λ (u : View). u.written.links) taken
+-- after a conversation
+module _ (m k : Outside) (t : List Event) (over : Throughout IsOverLink t) (fits : Fits t m k) where
+  pub link_spares : unlinked k.view ≡ unlinked m.view
+  link_spares = all_leave unlinked IsOverLink link_spared t m k over fits
 
-  last_links : k.view.written.links ≡ a.view.written.links ++ sent ∷ []
-  last_links =
-      let ls = a.view.written.links in
-      let more = keeps_link ls t m k over fits ([], first_links) in
-      let none : written_of outs.Link m.view ≡ [] = ap (last_or m.view.written.unlinked) first_links ∙ last_is m.view.written.unlinked [] ls in
+  -- the link that was taken last has what was sent
+  pub last_link : (ls : List (List ℕ)) (sent : List ℕ) → m.view.written.links ≡ ls ++ [] ∷ [] → written_of outs.Link k.view ≡ written_of outs.Link m.view ++ sent → k.view.written.links ≡ ls ++ sent ∷ []
+  last_link ls sent first wrote =
+      let more = keeps_link ls t m k over fits ([], first) in
+      let none : written_of outs.Link m.view ≡ [] = ap (last_or m.view.written.unlinked) first ∙ last_is m.view.written.unlinked [] ls in
       let now : written_of outs.Link k.view ≡ more.0 = ap (last_or k.view.written.unlinked) more.1 ∙ last_is k.view.written.unlinked more.0 ls in
       let same : more.0 ≡ sent = sym now ∙ (wrote ∙ ap (λ (l : List ℕ). l ++ sent) none) in
       more.1 ∙ ap (λ (x : List ℕ). ls ++ x ∷ []) same
 
+-- a link was taken, and this was sent over it
+module _ (address sent : List ℕ) (a m k : Outside) (t : List Event) (taken : m.view ≡ record (link_taken a.view) { address = Some address }) (over : Throughout IsOverLink t) (fits : Fits t m k) (wrote : written_of outs.Link k.view ≡ written_of outs.Link m.view ++ sent) where
   pub link_left : (s : Status) (output line : List ℕ) → Leaves (over_link address sent s output line) a.view k.view
   link_left s output line =
-      let same : unlinked k.view ≡ unlinked m.view = all_leave unlinked IsOverLink link_spared t m k over fits in
+      let same : unlinked k.view ≡ unlinked m.view = link_spares m k t over fits in
       record {
         files = ap (λ (u : View). u.files) same ∙ ap (λ (u : View). u.files) taken;
         moments = ap (λ (u : View). u.moments) same ∙ ap (λ (u : View). u.moments) taken;
         coming = ap (λ (u : View). u.links) same ∙ ap (λ (u : View). u.links) taken;
         state_name = ap (λ (u : View). u.state_name) same ∙ ap (λ (u : View). u.state_name) taken;
         state = ap (λ (u : View). u.written.state) same ∙ ap (λ (u : View). u.written.state) taken;
-        links = last_links;
+        links = last_link m k t over fits a.view.written.links sent (ap (λ (u : View). u.written.links) taken) wrote;
         address = ap (λ (u : View). u.address) same ∙ ap (λ (u : View). u.address) taken;
       }
 
