@@ -1,0 +1,2 @@
+//! How runs end over an outside that shows what it holds.
+#![tactic(auto)]
