@@ -5,8 +5,9 @@ use crate::setting::Setting;
 use crate::traffic::Traffic;
 use crate::words::{bytes_of, cut_word, number_of, words_of};
 use box_store::MemKeeper;
+use mem_host::MemHost;
 use std::alloc::{AllocError, Global};
-use tl_base::{MemHost, Memory};
+use tl_base::Memory;
 
 // So many bytes of what differs are shown.
 const SHOWN_BYTES: usize = 160;

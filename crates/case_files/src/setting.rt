@@ -4,8 +4,9 @@ use crate::fault::CaseFault;
 use crate::kept::CaseKeeper;
 use crate::words::{Moment, bytes_of, cut_word, moments_of, number_of, numbered_call, numbers_of};
 use box_store::MemKeeper;
+use mem_host::MemHost;
 use std::alloc::{AllocError, Global};
-use tl_base::{Bytes, HostCall, MemHost, Memory};
+use tl_base::{Bytes, HostCall, Memory};
 use wire_profile::PROFILE_TEXT;
 
 // How many bytes each out takes, where no line says it.
@@ -294,16 +295,14 @@ impl Setting {
 
     fn host_files(&self, host: &mut MemHost) -> Result<(), AllocError> {
         for file in self.files.iter() {
-            let bytes = Bytes::from_slice(self.alloc, &file.bytes)?;
-            host.file(self.alloc, file.name.as_str(), bytes)?;
+            host.file(file.name.as_str(), &file.bytes)?;
         }
         Ok(())
     }
 
     fn host_links(&self, host: &mut MemHost) -> Result<(), AllocError> {
         for link in self.links.iter() {
-            let bytes = Bytes::from_slice(self.alloc, link)?;
-            host.link(self.alloc, bytes)?;
+            host.link(link)?;
         }
         Ok(())
     }

@@ -1,7 +1,8 @@
 //! A host whose traffic is noted.
 use crate::traffic::Traffic;
+use outside::Host;
 use std::alloc::Global;
-use tl_base::{Failed, Host, Out, Slot};
+use tl_base::{Failed, Out, Slot};
 
 /// A host, and the traffic of the calls that went well.
 #[derive(Drop)]
@@ -25,8 +26,6 @@ impl<H: Host> TracedHost<H> {
 
 impl<H: Host> Host for TracedHost<H> {
     ghost state = { λ t. H.state t.host };
-
-    ghost are_bytes = { λ t. H.are_bytes t.host };
 
     fn open_slot(&mut self, slot: Slot, name: &str) -> Result<(), Failed> {
         self.host.open_slot(slot, name)

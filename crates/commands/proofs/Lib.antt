@@ -10,9 +10,4 @@ pub mod CommandsRead
 pub mod Found
 pub mod WordsRead
 pub mod WordsParted
-pub mod OneAnswer
-pub mod AnAnswer
-pub mod Endings
-pub mod StoredEnds
 mod Digits
-pub mod Waits

@@ -6,10 +6,9 @@ use Rattle.commands.proofs.Decided.{Decided, decided_as, decided_and, decided_no
 use Rattle.commands.proofs.NumberWords.{number_decided}
 use Rattle.commands.proofs.Channels.{channels_are, channels_decided}
 use Rattle.commands.specs.Numbers.{IsNumberWord, number_from}
-use Rattle.commands.specs.Requests.{RequestText, check, decode, encode, replay, make, serve, post, client, layers, calls, IsOperand, AreChannels, clients_range, run_range, sessions_range, steps_range, AsksFor, AsksNothing}
+use Rattle.commands.specs.Requests.{RequestText, check, decode, encode, replay, make, serve, post, client, layers, calls, IsOperand, AreChannels, clients_range, run_range, sessions_range, steps_range, Asks, AsksFor, AsksNothing, nothing, something}
 use Rattle.commands.specs.CommandLine.{channel_of}
 use Rattle.commands.specs.declared.number.Range.{Range}
-use Rattle.commands.specs.Answers.{Asks, nothing, something}
 
 -- ---- one request
 

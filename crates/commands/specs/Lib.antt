@@ -1,7 +1,6 @@
+pub mod Numbers
 pub mod Requests
 pub mod CommandLine
-pub mod Answers
-pub mod Runs
-pub mod Numbers
-pub mod Stored
-pub mod Laws
+pub mod KeepWords
+pub mod Usage
+pub mod Work

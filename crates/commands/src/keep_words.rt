@@ -1,6 +1,6 @@
 //! The words of `keep`.
 ghost use Rattle.std.specs.Prelude.{map, string_bytes};
-ghost use Rattle.commands.specs.Stored.{FindsKeep, FindsOperands};
+ghost use Rattle.commands.specs.KeepWords.{FindsKeep, FindsOperands};
 
 use crate::number::{Range, number_in};
 use crate::request::is_operand;

@@ -1,14 +1,15 @@
 //! The real outside: files, the standard streams, TCP and the clock. What they hold or take is not told: this is the trusted edge.
-ghost use Rattle.std.specs.Prelude.{None, false, IfSome, ◌≤◌, ◌<◌, ◌^◌, length};
+ghost use Rattle.std.specs.Prelude.{IfSome, ◌≡◌, ◌≤◌, ◌<◌, ◌^◌, length};
 
 use crate::links::{Link, accept, connect, end_late, listen};
 use crate::state_file::{StateFile, hold};
+use outside::Host;
 use std::fs::File;
 use std::io::{BufReader, ErrorKind, Read, Write};
 use std::net::TcpListener;
 use std::time::{SystemTime, UNIX_EPOCH};
 use std::{fs, io};
-use tl_base::{Counts, Failed, Host, Kind, Out, Slot};
+use tl_base::{Counts, Failed, Kind, Out, Slot};
 
 /// Files and a link that are read through buffers, the file that State is written to, the standard streams and one listener.
 pub struct RealHost {
@@ -74,6 +75,100 @@ impl RealHost {
         }
     }
 
+    // Opens a file for a slot. None: that failed, or the slot is a link's.
+    fn open_for(&mut self, slot: Slot, name: &str) -> Option<()>
+        ensures { self.new.counts ≡ self.old.counts }
+    {
+        let file = self.open(name).ok()?;
+        match slot {
+            Slot::Schema => self.schema = Some(file),
+            Slot::Input => self.input = Some(file),
+            Slot::State => {
+                hold(&self.rt, name, file.get_ref()).ok()?;
+                self.state = Some(file);
+            }
+            Slot::Link => return None,
+        }
+        Some(())
+    }
+
+    // Takes bytes of a slot.
+    fn read_from(&mut self, slot: Slot, into: &mut [u8]) -> Option<usize>
+        ensures count { IfSome result (λ n. n ≤ length into.new) }
+        ensures counts { self.new.counts ≡ self.old.counts }
+    {
+        match slot {
+            Slot::Schema => read_some(&mut self.schema, into),
+            Slot::Input => read_some(&mut self.input, into),
+            Slot::State => read_some(&mut self.state, into),
+            Slot::Link => {
+                end_late(&self.rt, &mut self.link);
+                read_some(&mut self.link, into)
+            }
+        }
+    }
+
+    // Begins the file that State is written to. What was written under another name is given up.
+    fn create_state(&mut self, name: &str) -> Option<()>
+        ensures { self.new.counts ≡ self.old.counts }
+    {
+        if let Some(file) = self.saved.take() {
+            file.discard(&self.rt);
+        }
+        let file = StateFile::create(&self.rt, name).ok()?;
+        self.saved = Some(file);
+        Some(())
+    }
+
+    // Puts bytes to an out, at least one.
+    fn write_to(&mut self, out: Out, piece: &[u8]) -> Option<usize>
+        ensures count { IfSome result (λ n. (0 < n) × (n ≤ length piece.now)) }
+        ensures counts { self.new.counts ≡ self.old.counts }
+    {
+        let wrote = match out {
+            Out::Output => write_some(&mut self.rt.stdout(), piece),
+            Out::Errors => write_some(&mut self.rt.stderr(), piece),
+            Out::State => write_open(&mut self.saved, piece),
+            Out::Link => {
+                end_late(&self.rt, &mut self.link);
+                write_open(&mut self.link, piece)
+            }
+        };
+        wrote.filter(|count| *count > 0)
+    }
+
+    // Takes connections at an address.
+    fn listen_at(&mut self, address: &str) -> Option<()>
+        ensures { self.new.counts ≡ self.old.counts }
+    {
+        let listener = listen(&self.rt, address).ok()?;
+        self.listener = Some(listener);
+        Some(())
+    }
+
+    // Makes a link to an address, once the one before is closed.
+    fn connect_to(&mut self, address: &str) -> Option<()>
+        ensures { self.new.counts ≡ self.old.counts }
+    {
+        self.link = None;
+        let link = connect(&self.rt, address).ok()?;
+        self.link = Some(link);
+        Some(())
+    }
+
+    // Takes the next link. The one before is closed now, and not when the next one comes: its other end may wait for that.
+    fn accept_next(&mut self) -> Option<()>
+        ensures { self.new.counts ≡ self.old.counts }
+    {
+        self.link = None;
+        let link = match &self.listener {
+            None => return None,
+            Some(listener) => accept(&self.rt, listener).ok()?,
+        };
+        self.link = Some(link);
+        Some(())
+    }
+
     // The seconds since 1970, where the clock can be read and shows fewer than 2^31.
     fn seconds(&self) -> Option<u32>
         ensures { IfSome result (λ n. n < 2 ^ 31) }
@@ -130,64 +225,36 @@ fn write_open<W: Write>(to: &mut Option<W>, piece: &[u8]) -> Option<usize>
 }
 
 impl Host for RealHost {
-    ghost use Rattle.tl_base.specs.Outside.{HostState};
+    ghost use Rattle.outside.specs.Unseen.{unseen};
 
-    ghost state = { λ h. record { view = None; counts = h.counts; sound = false } };
-
-    ghost are_bytes = { λ _. tt };
+    ghost state = { λ h. unseen h.counts };
 
     fn open_slot(&mut self, slot: Slot, name: &str) -> Result<(), Failed> {
-        let Ok(file) = self.open(name) else {
-            return Err(self.counts.fail(slot.kind()));
-        };
-        match slot {
-            Slot::Schema => self.schema = Some(file),
-            Slot::Input => self.input = Some(file),
-            Slot::State => {
-                if hold(&self.rt, name, file.get_ref()).is_err() {
-                    return Err(self.counts.fail(slot.kind()));
-                }
-                self.state = Some(file);
-            }
-            // A link is no file.
-            Slot::Link => return Err(self.counts.fail(slot.kind())),
+        match self.open_for(slot, name) {
+            Some(()) => Ok(()),
+            None => Err(self.counts.fail(slot.kind())),
         }
-        Ok(())
     }
 
     fn read(&mut self, slot: Slot, into: &mut [u8]) -> Result<usize, Failed> {
         if into.is_empty() {
             return Ok(0);
         }
-        let got = match slot {
-            Slot::Schema => read_some(&mut self.schema, into),
-            Slot::Input => read_some(&mut self.input, into),
-            Slot::State => read_some(&mut self.state, into),
-            Slot::Link => {
-                end_late(&self.rt, &mut self.link);
-                read_some(&mut self.link, into)
-            }
-        };
-        match got {
+        match self.read_from(slot, into) {
             Some(count) => Ok(count),
             None => Err(self.counts.fail(slot.kind())),
         }
     }
 
     fn create(&mut self, out: Out, name: &str) -> Result<(), Failed> {
-        if out != Out::State {
-            return Err(self.counts.fail(out.kind()));
-        }
-        // What was written under another name is given up.
-        if let Some(file) = self.saved.take() {
-            file.discard(&self.rt);
-        }
-        match StateFile::create(&self.rt, name) {
-            Ok(file) => {
-                self.saved = Some(file);
-                Ok(())
-            }
-            Err(_) => Err(self.counts.fail(out.kind())),
+        let created = if out == Out::State {
+            self.create_state(name)
+        } else {
+            None
+        };
+        match created {
+            Some(()) => Ok(()),
+            None => Err(self.counts.fail(out.kind())),
         }
     }
 
@@ -195,54 +262,29 @@ impl Host for RealHost {
         if piece.is_empty() {
             return Ok(0);
         }
-        let wrote = match out {
-            Out::Output => write_some(&mut self.rt.stdout(), piece),
-            Out::Errors => write_some(&mut self.rt.stderr(), piece),
-            Out::State => write_open(&mut self.saved, piece),
-            Out::Link => {
-                end_late(&self.rt, &mut self.link);
-                write_open(&mut self.link, piece)
-            }
-        };
-        match wrote {
-            Some(count) if count > 0 => Ok(count),
-            _ => Err(self.counts.fail(out.kind())),
+        match self.write_to(out, piece) {
+            Some(count) => Ok(count),
+            None => Err(self.counts.fail(out.kind())),
         }
     }
 
     fn listen(&mut self, address: &str) -> Result<(), Failed> {
-        match listen(&self.rt, address) {
-            Ok(listener) => {
-                self.listener = Some(listener);
-                Ok(())
-            }
-            Err(_) => Err(self.counts.fail(Kind::Links)),
+        match self.listen_at(address) {
+            Some(()) => Ok(()),
+            None => Err(self.counts.fail(Kind::Links)),
         }
     }
 
     fn connect(&mut self, address: &str) -> Result<(), Failed> {
-        self.link = None;
-        match connect(&self.rt, address) {
-            Ok(link) => {
-                self.link = Some(link);
-                Ok(())
-            }
-            Err(_) => Err(self.counts.fail(Kind::Links)),
+        match self.connect_to(address) {
+            Some(()) => Ok(()),
+            None => Err(self.counts.fail(Kind::Links)),
         }
     }
 
     fn accept(&mut self) -> Result<(), Failed> {
-        // The link before is closed now, and not when the next one comes: its other end may wait for that.
-        self.link = None;
-        let accepted = match &self.listener {
-            None => None,
-            Some(listener) => accept(&self.rt, listener).ok(),
-        };
-        match accepted {
-            Some(link) => {
-                self.link = Some(link);
-                Ok(())
-            }
+        match self.accept_next() {
+            Some(()) => Ok(()),
             None => Err(self.counts.fail(Kind::Links)),
         }
     }

@@ -7,3 +7,4 @@ pub mod Serve
 pub mod ServeLaws
 pub mod inner
 pub mod ServedBytes
+pub mod Status

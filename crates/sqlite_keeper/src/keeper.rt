@@ -11,7 +11,8 @@ use tl_base::Failed;
 
 /// Entries in a database: a row for each, and one for each of its posts. It can't be dropped, only closed.
 pub struct SqliteKeeper<S: Alter> {
-    database: Database<S>,
+    // Boxed, since a session moves its keeper from call to call.
+    database: Box<Database<S>>,
     // How many entries there are.
     entries: u32,
     // Where their number is told as well.
@@ -30,7 +31,9 @@ fn is_told(count: &Option<CountFile>, entries: u32) -> bool {
 impl<S: Alter + Drop> SqliteKeeper<S> {
     /// A keeper of the entries of a database; its tables are made where there are none.
     pub fn over(alloc: Global, conn: Connection<S>) -> Result<SqliteKeeper<S>, Error> {
-        let mut database = Database::over(alloc, conn)?;
+        let Ok(mut database) = Box::new(alloc, Database::over(alloc, conn)?) else {
+            return Err(Error::SqliteFailure(ErrorCode::OutOfMemory));
+        };
         let entries = database.count()?;
         Ok(SqliteKeeper {
             database,
@@ -58,6 +61,7 @@ impl<S: Alter + Drop> SqliteKeeper<S> {
             count,
             faults: _,
         } = self;
+        let database = *database;
         (database.into_connection(), count)
     }
 }

@@ -1,32 +1,25 @@
 //! tlbox: reads schemas of Telegram's TL language, values that are spelled in them, and journals of updates.
 #![tactic(auto)]
 
-use commands::{Status, StoredStatus, keep_in, run, run_stored};
+use commands::{KeptStatus, Status, keep_in, run, run_stored};
+use outside::tell;
 use real_host::{RealHost, hold_streams, words_of};
 use sqlite_keeper::{FileKeeper, OpenError, close_keeper, open_keeper};
 use std::alloc::Global;
 use std::process::ExitCode;
-use tl_base::{Out, SinkOf, write_all};
 
-const MEMORY_LINE: &[u8] = b"tlbox: memory\n";
-
-const WRITE_FAULT_LINE: &[u8] = b"tlbox: write fault\n";
-
-const KEEP_FAULT_LINE: &[u8] = b"tlbox: keep fault\n";
-
-// Says a line on Errors. Where it can't be written the status still tells it.
-fn say(host: &mut RealHost, line: &[u8]) {
-    let _told = write_all(&mut SinkOf::new(host, Out::Errors), line);
+// Tells that memory ran out.
+fn tell_memory(host: &mut RealHost) -> u8 {
+    tell(host, b"tlbox: memory\n", Status::Memory).code()
 }
 
 // Runs a command other than `keep`. State takes its name where all went well.
 fn run_words(alloc: Global, host: &mut RealHost, words: &[String]) -> u8 {
     let status = run(alloc, words, host);
-    if host.end_state(status == Status::Done).is_err() {
-        say(host, WRITE_FAULT_LINE);
-        return Status::WriteFault.code();
+    match host.end_state(status == Status::Done) {
+        Ok(()) => status.code(),
+        Err(_) => tell(host, b"tlbox: write fault\n", Status::WriteFault).code(),
     }
-    status.code()
 }
 
 // Runs `keep` over the keeper of its file, if that could be opened.
@@ -42,13 +35,9 @@ fn run_keep(
             close_keeper(keeper);
             status.code()
         }
-        Err(OpenError::Memory) => {
-            say(host, MEMORY_LINE);
-            Status::Memory.code()
-        }
+        Err(OpenError::Memory) => tell_memory(host),
         Err(OpenError::Fault) => {
-            say(host, KEEP_FAULT_LINE);
-            StoredStatus::KeepFault.code()
+            tell(host, b"tlbox: keep fault\n", KeptStatus::KeepFault).code()
         }
     }
 }
@@ -57,8 +46,7 @@ fn main(rt: HostRuntime) -> ExitCode {
     hold_streams(&rt);
     let alloc = rt.alloc();
     let Some(words) = words_of(&rt) else {
-        say(&mut RealHost::new(rt), MEMORY_LINE);
-        return ExitCode::from(Status::Memory.code());
+        return ExitCode::from(tell_memory(&mut RealHost::new(rt)));
     };
     let words = words.as_slice();
     // The database is opened only where the words ask for it: a run that ends by its usage makes no file.

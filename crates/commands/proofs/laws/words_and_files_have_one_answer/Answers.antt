@@ -1,5 +1,0 @@
-use Rattle.commands.proofs.OneAnswer.{one_answer}
-use Rattle.commands.proofs.laws.words_and_files_have_one_answer.Goals as goal
-
-pub returns : goal.returns
-returns c = one_answer

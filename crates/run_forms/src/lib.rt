@@ -1,2 +1,0 @@
-//! How runs end over an outside that shows what it holds.
-#![tactic(auto)]

@@ -1,0 +1,118 @@
+-- How runs of words end over an outside that shows what it holds: as the runs of their requests' jobs.
+use Rattle.std.proofs.Common.{◌≡◌, ℕ, List, [], ◌∷◌, ◌++◌, append-nil, Bool, true, false, refl, sym, ap, ◌∙◌, subst, inl, inr}
+use Rattle.tl_base.specs.Outside.{View}
+use Rattle.command_base.specs.Answer.{Answer, memory_line}
+use Rattle.command_base.specs.Jobs as jobs
+use Rattle.command_base.specs.Kept.{Leaves, OnlyErrors}
+use Rattle.command_base.specs.Sound as sound
+use Rattle.command_base.specs.Sound.{HasRoomFor, IsFault}
+use Rattle.command_base.specs.Telling.{Tells}
+use Rattle.command_base.specs.declared.status.Status.{Status}
+use Rattle.command_base.specs.declared.status.Status.TheVariants.{Usage, ReadFault, WriteFault, Memory, LinkFault}
+use Rattle.outside.specs.Events.{Event, Outside}
+use Rattle.outside.specs.Pieces as pieces
+use Rattle.outside.proofs.Causing.{told_status}
+use Rattle.mem_host.specs.Fits.{Fits}
+use Rattle.mem_host.specs.Reliable.{IsReliable}
+use Rattle.commands.specs.Requests.{RequestText, AsksFor, AsksNothing, check, decode, encode, replay, make, serve, post, client, layers, calls}
+use Rattle.commands.specs.Usage.{usage_line}
+use Rattle.commands.specs.Work.{RunsWords, no_request, requested, no_memory, outs_of, work_of}
+use Rattle.commands.proofs.Rows.{one_request}
+use Rattle.run_laws.specs.Answers.{Answers, usage}
+use Rattle.run_laws.specs.Answers as answers
+use Rattle.run_laws.specs.Ended.{Ended, IsShown, LinkFailed, ReadFailed, RunsJob, Stops, WriteFailed}
+use Rattle.run_laws.specs.Ended as job
+use Rattle.run_laws.specs.Requests.{job_of}
+use Rattle.run_laws.specs.Runs.{AnswerFits, Ends, Keeps, MayAnswer, RunsOver, StopsAfter, WordsAreSound, WordsEnd, WordsKeep, answered, read_failed, read_failed_later, write_failed, link_failed, out_of_memory, out_of_memory_later}
+use Rattle.run_laws.proofs.OneAnswer.{answer_to}
+use Rattle.run_laws.proofs.Told.{tells_line, only_errors, output_kept, leaves_all}
+use Rattle.run_laws.proofs.Touching.{telling}
+use Rattle.run_laws.proofs.Kept as kept
+
+-- ---- a request's run is its job's
+
+runs_job : (r : RequestText) → RunsJob (job_of r) (outs_of r) (work_of r)
+runs_job (check schema) = files.check_runs schema
+runs_job (decode schema type input) = files.decode_runs schema type input
+runs_job (encode schema type input) = files.encode_runs schema type input
+runs_job (replay schema journal clients) = files.replay_runs schema journal clients
+runs_job (make schema number steps) = files.make_runs schema number steps
+runs_job (serve schema address sessions) = serves.serve_runs schema address sessions
+runs_job (post schema address input) = links.post_runs schema address input
+runs_job (client schema address state channels) = links.client_runs schema address state channels
+runs_job (layers old new type) = files.layers_runs old new type
+runs_job (calls schema input) = files.calls_runs schema input
+
+module _ (words : List (List ℕ)) (r : RequestText) (asks : AsksFor words r) (R W L : Type 0) (status : Status) (v w : View) where
+  may : (a : Answer) → jobs.MayAnswer (job_of r) L v a → MayAnswer words L v a
+  may a (inl is) = inl (answers.requested r asks is)
+  may a (inr (failed, broken)) = inr (failed, r, asks, broken)
+
+  stops : (line : List ℕ) → Stops (job_of r) W L line v w → StopsAfter words W L line v w
+  stops line h = record { request = r; asked = asks; stops = h }
+
+  ends_as : Ended (job_of r) R W L status v w → Ends words R W L status v w
+  ends_as (job.answered a is ends output leaves tells) = answered a (may a is) ends output leaves tells
+  ends_as (job.read_failed rose is output tells) = read_failed (r, asks) rose is output tells
+  ends_as (job.read_failed_later rose is h on) = read_failed_later rose is (stops _ h) on
+  ends_as (job.write_failed rose is h) = write_failed rose is (stops _ h)
+  ends_as (job.link_failed rose is h) = link_failed rose is (stops _ h)
+  ends_as (job.out_of_memory is output tells) = out_of_memory is output tells
+  ends_as (job.out_of_memory_later is h on) = out_of_memory_later is (stops _ h) on
+
+-- ---- a line alone
+
+-- words of no request have the usage line for an answer
+usage_ends : (words : List (List ℕ)) (t : List Event) (status : Status) (s n : Outside) → AsksNothing words → pieces.Tells usage_line Usage t status → Fits t s n → Ends words (ReadFailed t) (WriteFailed t) (LinkFailed t) status s.view n.view
+usage_ends words t status s n none h f =
+    let only = only_errors t s n (telling usage_line Usage status t h) f in
+    answered usage (inl (answers.no_request none refl)) (told_status usage_line Usage t status h) (output_kept s.view n.view only ∙ sym (append-nil s.view.written.output)) (leaves_all Usage [] usage_line s.view n.view only) (tells_line usage_line Usage status t s n h f)
+
+memory_ends : (words : List (List ℕ)) (t : List Event) (status : Status) (s n : Outside) → pieces.Tells memory_line Memory t status → Fits t s n → Ends words (ReadFailed t) (WriteFailed t) (LinkFailed t) status s.view n.view
+memory_ends words t status s n h f =
+    out_of_memory (told_status memory_line Memory t status h) (output_kept s.view n.view (only_errors t s n (telling memory_line Memory status t h) f)) (tells_line memory_line Memory status t s n h f)
+
+-- ---- the laws
+
+ended : (words : List (List ℕ)) (t : List Event) (status : Status) (s n : Outside) → IsShown s.view → Fits t s n → RunsWords words t status → Ends words (ReadFailed t) (WriteFailed t) (LinkFailed t) status s.view n.view
+ended words t status s n shown f (no_request none h) = usage_ends words t status s n none h f
+ended words t status s n shown f (requested r asks h) = ends_as words r asks (ReadFailed t) (WriteFailed t) (LinkFailed t) status s.view n.view ((runs_job r).ends t status s n shown h f)
+ended words t status s n shown f (no_memory h) = memory_ends words t status s n h f
+
+pub words_end : WordsEnd
+words_end words t status s n over = ended words t status s n over.shown over.fits over.runs
+
+-- ---- what is kept
+
+-- a line alone is all that a job leaves to Errors
+keeps_line : (r : RequestText) (v w : View) → OnlyErrors v w → (job_of r).keeps v w
+keeps_line r v w is = kept.job_keeps r v w is
+
+kept_by : (words : List (List ℕ)) (t : List Event) (status : Status) (s n : Outside) → IsShown s.view → Fits t s n → RunsWords words t status → Keeps words s.view n.view
+kept_by words t status s n shown f (no_request none h) = record { of_none = λ _. only_errors t s n (telling usage_line Usage status t h) f; of_request = λ r asks. absurd (none r asks) }
+kept_by words t status s n shown f (requested r asks h) = record {
+  of_none = λ none. absurd (none r asks);
+  of_request = λ x also. subst (λ (y : RequestText). (job_of y).keeps s.view n.view) (one_request words r x asks also) ((runs_job r).keeps t status s n shown h f);
+}
+kept_by words t status s n shown f (no_memory h) =
+    let only = only_errors t s n (telling memory_line Memory status t h) f in
+    record { of_none = λ _. only; of_request = λ r asks. keeps_line r s.view n.view only }
+
+pub words_keep : WordsKeep
+words_keep words t status s n over = kept_by words t status s n over.shown over.fits over.runs
+
+-- ---- no faults
+
+no_fault : (status is : Status) → status ≡ is → IsFault status → (is ≡ ReadFault → ⊥) → (is ≡ WriteFault → ⊥) → (is ≡ LinkFault → ⊥) → ⊥
+no_fault status is same (inl e) read write link = read (sym same ∙ e)
+no_fault status is same (inr (inl e)) read write link = write (sym same ∙ e)
+no_fault status is same (inr (inr e)) read write link = link (sym same ∙ e)
+
+sound_by : (words : List (List ℕ)) (t : List Event) (status : Status) (s n : Outside) → IsShown s.view → Fits t s n → RunsWords words t status → IsReliable s → AnswerFits words s.view → IsFault status → ⊥
+sound_by words t status s n shown f (no_request none h) reliable fits fault = no_fault status Usage (told_status usage_line Usage t status h) fault (λ e. cc) (λ e. cc) (λ e. cc)
+sound_by words t status s n shown f (requested r asks h) reliable fits fault =
+    (runs_job r).sound t status s n shown h f reliable (fits.0, (answer_to words s.view r fits.0 asks fits.1, fits.2)) fault
+sound_by words t status s n shown f (no_memory h) reliable fits fault = no_fault status Memory (told_status memory_line Memory t status h) fault (λ e. cc) (λ e. cc) (λ e. cc)
+
+pub words_are_sound : WordsAreSound
+words_are_sound words t status s n over reliable fits fault = sound_by words t status s n over.shown over.fits over.runs reliable fits fault

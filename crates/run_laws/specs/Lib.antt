@@ -1,0 +1,6 @@
+pub mod Ended
+pub mod Kept
+pub mod Requests
+pub mod Answers
+pub mod Runs
+pub mod Touched

@@ -1,0 +1,48 @@
+//! Laws over the definitions.
+ghost use Rattle.std.specs.Prelude.{ℕ, List};
+ghost use Rattle.commands.specs.Requests.{Asks};
+ghost use Rattle.run_laws.specs.Answers.{HasAnAnswer, HasOneAnswer};
+ghost use Rattle.run_laws.specs.Runs.{StoredEnds, WordsAreSound, WordsEnd, WordsKeep};
+ghost use Rattle.run_laws.specs.Touched.{WordsHaveCause, WordsLeaveLinks, WordsTouch};
+
+/// Over any host a run of words of no request does nothing but tell a line, and one of a request nothing but what is of it: its files, each by its slot, its
+/// address, and its outs. One that uses no links touches none.
+pub fn words_touch()
+    ensures touched { WordsTouch }
+    ensures unlinked { WordsLeaveLinks }
+{}
+
+/// Over any host a fault's status comes only of a request, and only where a call of that kind failed.
+pub fn words_have_cause()
+    ensures { WordsHaveCause }
+{}
+
+/// Over an outside that shows what it holds a run ends with the answer to its words, or is stopped where a call failed or memory ran out; and by no fault where none was
+/// told to fail, the files and links are there, and there is room.
+pub fn words_end()
+    ensures ends { WordsEnd }
+    ensures sound { WordsAreSound }
+{}
+
+/// What isn't of its words is as before, whatever happens.
+pub fn words_keep()
+    ensures { WordsKeep }
+{}
+
+/// A run of `keep` ends as its job over the entries that were there, and adds the entries of its posts.
+pub fn stored_runs_end()
+    ensures { StoredEnds }
+{}
+
+/// Words have one answer at most, so that a run which ends with an answer ends with theirs: of `replay` and `calls` where files hold bytes, of `serve`,
+/// `post` and `client` where all that is shown are bytes, as each host shows them.
+pub fn words_and_files_have_one_answer()
+    ensures { HasOneAnswer }
+{}
+
+/// Words have an answer where the files that they name are there and files hold bytes, as do links where they are used, moments have 31 bits, as each
+/// host's have, and a client's link gives fewer than 2^30 bytes; and words ask for nothing or for a request.
+pub fn words_and_files_have_an_answer()
+    ensures answered { HasAnAnswer }
+    ensures asked { (words : List (List ℕ)) → Asks words }
+{}
