@@ -1,7 +1,5 @@
 -- A run of `client` that ends with status 0 has recovered its client.
-use Rattle.std.proofs.Common.{◌≡◌, inl, inr, ℕ, ℤ, List, [], ◌∷◌, ◌++◌, Option, Some, Ok, sym, ap, ◌∙◌, subst, codes}
-use Rattle.tl_base.specs.Calls.{Told}
-use Rattle.tl_base.specs.Causes.{Rose}
+use Rattle.std.proofs.Common.{◌≡◌, inl, inr, ℕ, ℤ, List, [], ◌∷◌, ◌++◌, Some, Ok, sym, ap, ◌∙◌, subst, codes}
 use Rattle.tl_numbers.specs.Bytes.{AreBytes}
 use Rattle.tl_base.specs.Outside.{View, HasFile}
 use Rattle.tl_schema.specs.Schemas.{Declared}
@@ -27,9 +25,12 @@ use Rattle.update_sessions.specs.Heard.{Hears, IsBrokenOff, asked, broke_off}
 use Rattle.update_sessions.specs.Honest.{told_all}
 use Rattle.session_commands.specs.Client.{ClientAnswer, HasClient, OfSession, OfState, OfStateFile, client_line, failed, no_client, recovered, too_many, watch_all, watches}
 use Rattle.session_commands.specs.Linked.{next_link}
-use Rattle.commands.specs.Requests.{AsksFor, RequestText, client, job_of}
-use Rattle.commands.specs.Runs.{Ends, MayAnswer, answered, link_failed, out_of_memory, out_of_memory_later, read_failed, read_failed_later, write_failed}
-use Rattle.commands.proofs.OneAnswer.{answer_to}
+use Rattle.commands.specs.Requests.{AsksFor, RequestText, client}
+use Rattle.run_laws.specs.Ended.{LinkFailed, ReadFailed, WriteFailed}
+use Rattle.run_laws.specs.Requests.{job_of}
+use Rattle.run_laws.specs.Runs.{Ends, MayAnswer, answered, link_failed, out_of_memory, out_of_memory_later, out_of_memory_told, read_failed, read_failed_later, write_failed}
+use Rattle.run_laws.proofs.Endings.{words_end}
+use Rattle.run_laws.proofs.OneAnswer.{answer_to}
 use Rattle.commands.proofs.Rows.{one_request}
 use Rattle.headline.specs.Client.{ClientEnds, ClientHeadline}
 use Rattle.headline.specs.Recovered.{Recovers}
@@ -173,15 +174,11 @@ client_ends words schema_name address state_name channels R W L v w schema state
 client_ends words schema_name address state_name channels R W L v w schema state asks has holds (link_failed rose is s) = absurd (not_link is)
 client_ends words schema_name address state_name channels R W L v w schema state asks has holds (out_of_memory is output tells) = absurd (not_memory is)
 client_ends words schema_name address state_name channels R W L v w schema state asks has holds (out_of_memory_later is s pieces) = absurd (not_memory is)
-
--- over an outside that shows its files
-pub told_here : (P : View → View → Type 0) (a b : Option View) (v w : View) → a ≡ Some v → b ≡ Some w → Told a b P → P v w
-told_here P a b v w is at h = subst (λ (y : Option View). Told (Some v) y P → P v w) (sym at) (λ k. k) (subst (λ (x : Option View). Told x b P) is h)
+client_ends words schema_name address state_name channels R W L v w schema state asks has holds (out_of_memory_told is r also tells u before told) = absurd (not_memory is)
 
 pub client_headline : ClientHeadline
-client_headline words schema_name address state_name channels old new v w schema state is at asks good has holds ends =
-    let R : Type 0 = Rose old.counts.reads new.counts.reads in
-    let W : Type 0 = Rose old.counts.writes new.counts.writes in
-    let L : Type 0 = Rose old.counts.links new.counts.links in
-    let r = client_ends words schema_name address state_name channels R W L v w schema state asks has holds (told_here (Ends words R W L Done) old.view new.view v w is at ends) in
-    ends_by schema state_name channels state v w (file_bytes v.files state_name state good holds) r (recovers_by schema state_name channels state v w r r.hears)
+client_headline words schema_name address state_name channels t before after schema state asks has holds over =
+    let v : View = before.view in
+    let w : View = after.view in
+    let r = client_ends words schema_name address state_name channels (ReadFailed t) (WriteFailed t) (LinkFailed t) v w schema state asks has holds (words_end words t Done before after over) in
+    ends_by schema state_name channels state v w (file_bytes v.files state_name state over.shown.bytes.files holds) r (recovers_by schema state_name channels state v w r r.hears)

@@ -1,7 +1,6 @@
 -- A run of `client` in a session of a run of `keep` saves a client that is up to date.
-use Rattle.std.proofs.Common.{◌≡◌, inl, inr, ℕ, zero, suc, ◌+◌, ◌<◌, ◌≤◌, ℤ, List, [], ◌++◌, append-nil, length, get_or, Option, Some, Result, Ok, Err, refl, sym, ap, ◌∙◌, subst, arith}
+use Rattle.std.proofs.Common.{◌≡◌, inl, inr, ℕ, zero, suc, ◌+◌, ◌<◌, ◌≤◌, ℤ, List, [], ◌++◌, append-nil, length, get_or, Option, Some, refl, sym, ap, ◌∙◌, subst, arith}
 use Rattle.tl_numbers.specs.Bytes.{AreBytes}
-use Rattle.tl_base.specs.Causes.{Rose}
 use Rattle.tl_base.specs.Outside.{View, HasFile}
 use Rattle.box_server.specs.Servers.{ServerState, dated_at}
 use Rattle.box_store.specs.declared.entry.Entry.{Entry}
@@ -9,37 +8,34 @@ use Rattle.box_store.specs.Rebuilding.{Rebuilds, rebuilt}
 use Rattle.box_store.proofs.Rebuilt.{one_server}
 use Rattle.box_world.specs.Streams.{Doing}
 use Rattle.wire_profile.specs.Places.{ProfileView}
-use Rattle.command_base.specs.declared.status.Status.{Status}
 use Rattle.command_base.specs.declared.status.Status.TheVariants.{Done}
-use Rattle.command_base.specs.declared.stop.Stop.TheVariants as stop
 use Rattle.command_base.proofs.SameFiles.{same_file}
 use Rattle.fault_lines.specs.Profiled.{IsProfileText}
-use Rattle.session_commands.specs.Keep.{KeepsByFile, SessionsBy}
+use Rattle.session_commands.specs.Keep.{SessionsBy}
 use Rattle.session_commands.specs.Serve.{IsAny, Sessions, Total}
-use Rattle.session_commands.specs.declared.stored.StoreStop.{StoreStop}
-use Rattle.session_commands.specs.declared.stored.StoreStop.TheVariants as store_stop
 use Rattle.session_commands.proofs.OneTotal.{any_of}
-use Rattle.commands.specs.Stored.{stored_status}
-use Rattle.commands.specs.declared.stored.StoredStatus.TheVariants.{Run}
+use Rattle.serve_rooms.specs.Acts.{events_in}
+use Rattle.serve_rooms.specs.declared.status.KeptStatus.TheVariants.{Run}
+use Rattle.run_laws.specs.Ended.{LinkFailed}
+use Rattle.run_laws.specs.Kept.{KeptByFile, KeptEnd, kept_status, keeper_failed, served, stopped}
+use Rattle.run_laws.proofs.Stored.{stored_runs_end}
 use Rattle.headline.specs.Histories.{AreMoments, HasHistory, IsThere}
 use Rattle.headline.specs.KeptRuns.{KeepsOver, KeptClientsMeet, KeptRunsMeet, SavesOfKept}
-use Rattle.headline.proofs.ClientEnding.{Ran, profile_is, told_here}
-use Rattle.headline.proofs.RunsMeeting.{RanBy, ran_by, ran_over, saves_by}
+use Rattle.headline.proofs.ClientEnding.{Ran, profile_is}
+use Rattle.headline.proofs.RunsMeeting.{RanBy, ran_by, ran_over, saves_by, shown_as}
 use Rattle.headline.proofs.ServeEnding.{IsAmong, is_among, written_at}
 use Rattle.headline.proofs.SessionHistories.{rebuilds_itself, rebuilt_below, some_sessions}
 use Rattle.headline.proofs.TwoClients.{both_by}
 
 -- ---- a run that ended with status 0
 
-ends_well : (end : Result Status StoreStop) → Run Done ≡ stored_status end → end ≡ Ok Done
-ends_well (Ok s) e = (let same : Done ≡ s = cc in ap (λ (z : Status). Ok z) (sym same))
-ends_well (Err (store_stop.Stop (stop.Refused line))) e = absurd cc
-ends_well (Err (store_stop.Stop stop.ReadFault)) e = absurd cc
-ends_well (Err (store_stop.Stop stop.WriteFault)) e = absurd cc
-ends_well (Err (store_stop.Stop stop.LinkFault)) e = absurd cc
-ends_well (Err (store_stop.Stop (stop.Peer line))) e = absurd cc
-ends_well (Err (store_stop.Stop stop.Memory)) e = absurd cc
-ends_well (Err store_stop.KeepFault) e = absurd cc
+-- it served all its sessions
+served_all : (L : Type 0) (schema_name address : List ℕ) (n : ℕ) (entries after : Option (List Entry)) (v w : View) (end : KeptEnd) → Run Done ≡ kept_status end → KeptByFile L schema_name address n entries after end v w
+    → KeptByFile L schema_name address n entries after (served Done) v w
+served_all L schema_name address n entries after v w (served status) e h = h
+served_all L schema_name address n entries after v w (stopped Done) e h = absurd h
+served_all L schema_name address n entries after v w (stopped status) e h = absurd cc
+served_all L schema_name address n entries after v w keeper_failed e h = absurd cc
 
 -- its sessions, and what was sent in them
 record Kept (schema : List ℕ) (es : List Entry) (k : ℕ) (v w : View) : Type 0 where
@@ -53,7 +49,7 @@ any_by : (L : Type 0) (p : ProfileView) (s : ServerState) (given : List (List �
 any_by L p s given moments n r (inl whole) = any_of p s given moments n r whole
 any_by L p s given moments n r (inr (rose, any)) = any
 
-kept_by : (L : Type 0) (schema_name address schema : List ℕ) (n k : ℕ) (es : List Entry) (after : Option (List Entry)) (v w : View) → HasFile v.files schema_name schema → k < n → KeepsByFile L schema_name address n (Some es) after (Ok Done) v w → Kept schema es k v w
+kept_by : (L : Type 0) (schema_name address schema : List ℕ) (n k : ℕ) (es : List Entry) (after : Option (List Entry)) (v w : View) → HasFile v.files schema_name schema → k < n → KeptByFile L schema_name address n (Some es) after (served Done) v w → Kept schema es k v w
 kept_by L schema_name address schema n k es after v w has less (h, s, starts, kept) =
     let r : Total = kept.0 in
     let sessions : Sessions IsAny h.p (rebuilt es) v.links v.moments n r = subst (λ (z : ServerState). Sessions IsAny h.p z v.links v.moments n r) starts.1 (any_by L h.p s v.links v.moments n r kept.1) in
@@ -67,11 +63,12 @@ kept_by L schema_name address schema n k es after v w has less (h, s, starts, ke
 
 kept_over : (schema : List ℕ) (es : List Entry) (k : ℕ) (came sent : List ℕ) (v w : View) → KeepsOver schema es k came sent v w → Kept schema es k v w
 kept_over schema es k came sent v w s =
-    let L : Type 0 = Rose s.old.counts.links s.new.counts.links in
-    let told = told_here (KeepsByFile L s.request.schema s.request.address s.request.sessions s.file_old.entries s.file_new.entries s.runs.end) s.old.view s.new.view v w s.shown.0 s.shown.1 s.runs.entries in
-    let well = subst (λ (e : Result Status StoreStop). KeepsByFile L s.request.schema s.request.address s.request.sessions s.file_old.entries s.file_new.entries e v w) (ends_well s.runs.end s.runs.status_is) told in
-    let known = subst (λ (o : Option (List Entry)). KeepsByFile L s.request.schema s.request.address s.request.sessions o s.file_new.entries (Ok Done) v w) s.shown.2 well in
-    kept_by L s.request.schema s.request.address schema s.request.sessions k es s.file_new.entries v w s.has s.among known
+    let L : Type 0 = LinkFailed (events_in s.acts) in
+    let P : Option (List Entry) → View → View → Type 0 = λ o x y. KeptByFile L s.request.schema s.request.address s.request.sessions o s.file_new.entries (served Done) x y in
+    let runs = stored_runs_end s.words s.request s.acts (Run Done) s.before s.after s.file_old s.file_new s.asks s.runs in
+    let well = served_all L s.request.schema s.request.address s.request.sessions s.file_old.entries s.file_new.entries s.before.view s.after.view runs.end runs.status_is runs.entries in
+    let known = subst (λ (o : Option (List Entry)). P o s.before.view s.after.view) s.shown.2 well in
+    kept_by L s.request.schema s.request.address schema s.request.sessions k es s.file_new.entries v w s.has s.among (shown_as (P (Some es)) s.before.view s.after.view v w s.shown.0 s.shown.1 known)
 
 -- ---- the server's history
 

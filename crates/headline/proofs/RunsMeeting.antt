@@ -1,7 +1,6 @@
 -- A run of `client` in a session of a run of `serve` saves a client that is up to date.
 use Rattle.std.proofs.Common.{◌≡◌, ℕ, ◌+◌, ◌≤◌, ℤ, List, [], ◌∷◌, ◌++◌, length, get_or, Some, Ok, refl, sym, ap, ◌∙◌, subst, arith}
 use Rattle.tl_numbers.specs.Bytes.{AreBytes}
-use Rattle.tl_base.specs.Causes.{Rose}
 use Rattle.tl_base.specs.Outside.{View}
 use Rattle.tl_schema.specs.Schemas.{Declared}
 use Rattle.box_events.specs.declared.replies.Frame.{Frame}
@@ -24,17 +23,23 @@ use Rattle.update_sessions.specs.Served.{Serves}
 use Rattle.session_commands.specs.Client.{HasClient, watch_all}
 use Rattle.session_commands.specs.Linked.{next_link}
 use Rattle.session_commands.specs.Serve.{Total}
-use Rattle.commands.specs.Runs.{Ends}
+use Rattle.run_laws.specs.Ended.{LinkFailed, ReadFailed, WriteFailed}
+use Rattle.run_laws.specs.Runs.{Ends}
 use Rattle.headline.specs.Histories.{AreMoments, HasHistory}
 use Rattle.headline.specs.Answering.{IsUpToDate}
 use Rattle.headline.specs.Recovered.{StateAgrees}
 use Rattle.headline.specs.ServedRuns.{RecoversOver, SavesUpToDate, ServedRunsMeet, ServesOver}
 use Rattle.headline.specs.TwoPrograms.{Converse}
-use Rattle.headline.proofs.ClientEnding.{Ran, client_ends, profile_is, told_here, unbroken}
+use Rattle.run_laws.proofs.Endings.{words_end}
+use Rattle.headline.proofs.ClientEnding.{Ran, client_ends, profile_is, unbroken}
 use Rattle.headline.proofs.Meeting.{meets_by}
 use Rattle.headline.proofs.Recoveries.{later_state}
 use Rattle.headline.proofs.ServeEnding.{IsAmong, Served, at_length, serve_ends, written_at}
 use Rattle.headline.proofs.SessionHistories.{histories_are_sound, sessions_go_on}
+
+-- of the same outsides
+pub shown_as : (P : View → View → Type 0) (a b v w : View) → a ≡ v → b ≡ w → P a b → P v w
+shown_as P a b v w is at h = subst (P v) at (subst (λ (x : View). P x b) is h)
 
 -- a text is one profile's
 ok_profile : (S : Declared) (p q : ProfileView) → IsAnswer S (Ok p) → IsAnswer S (Ok q) → p ≡ q
@@ -141,16 +146,18 @@ met schema state_name state asks answers channels k v w x y are heard given low 
           (saved.up_to_date, saved.agrees);
     }
 
--- over outsides that show their files
+-- over outsides that show what they hold
 pub ran_over : (schema state came sent : List ℕ) (x y : View) (c : RecoversOver schema state came sent x y) → Ran schema c.state_name c.channels state x y
 ran_over schema state came sent x y c =
-    let also = told_here (Ends c.words (Rose c.old.counts.reads c.new.counts.reads) (Rose c.old.counts.writes c.new.counts.writes) (Rose c.old.counts.links c.new.counts.links) Done) c.old.view c.new.view x y c.shown.0 c.shown.1 c.ends in
-    client_ends c.words c.schema_name c.address c.state_name c.channels _ _ _ x y schema state c.asks c.has c.holds also
+    let ends = words_end c.words c.trace Done c.before c.after c.runs in
+    let here : Ends c.words (ReadFailed c.trace) (WriteFailed c.trace) (LinkFailed c.trace) Done x y = shown_as (Ends c.words (ReadFailed c.trace) (WriteFailed c.trace) (LinkFailed c.trace) Done) c.before.view c.after.view x y c.shown.0 c.shown.1 ends in
+    client_ends c.words c.schema_name c.address c.state_name c.channels _ _ _ x y schema state c.asks c.has c.holds here
 
 pub served_over : (schema : List ℕ) (k : ℕ) (came sent : List ℕ) (v w : View) → ServesOver schema k came sent v w → Served schema k v w
 served_over schema k came sent v w s =
-    let ended = told_here (Ends s.words (Rose s.old.counts.reads s.new.counts.reads) (Rose s.old.counts.writes s.new.counts.writes) (Rose s.old.counts.links s.new.counts.links) Done) s.old.view s.new.view v w s.shown.0 s.shown.1 s.ends in
-    serve_ends s.schema_name s.address s.sessions schema v w s.has k s.among s.words _ _ _ s.asks ended
+    let ends = words_end s.words s.trace Done s.before s.after s.runs in
+    let here : Ends s.words (ReadFailed s.trace) (WriteFailed s.trace) (LinkFailed s.trace) Done v w = shown_as (Ends s.words (ReadFailed s.trace) (WriteFailed s.trace) (LinkFailed s.trace) Done) s.before.view s.after.view v w s.shown.0 s.shown.1 ends in
+    serve_ends s.schema_name s.address s.sessions schema v w s.has k s.among s.words _ _ _ s.asks here
 
 pub served_runs_meet : ServedRunsMeet
 served_runs_meet schema state asks answers k v w x y are heard given low s c =

@@ -18,9 +18,10 @@ use Rattle.schema_files.specs.Loaded.{IsSchemaText}
 use Rattle.fault_lines.specs.Profiled.{IsProfileText, OfProfile, no_profile, profiled}
 use Rattle.session_commands.specs.Serve.{IsAny, IsWhole, OfSessions, ServeAnswer, Session, SessionEnd, Sessions, Total}
 use Rattle.session_commands.proofs.OneTotal.{any_of, given_bytes}
-use Rattle.commands.specs.Requests.{AsksFor, RequestText, job_of, serve}
-use Rattle.commands.specs.Runs.{Ends, MayAnswer, answered, link_failed, out_of_memory, out_of_memory_later, read_failed, read_failed_later, write_failed}
-use Rattle.commands.proofs.OneAnswer.{answer_to}
+use Rattle.commands.specs.Requests.{AsksFor, RequestText, serve}
+use Rattle.run_laws.specs.Requests.{job_of}
+use Rattle.run_laws.specs.Runs.{Ends, MayAnswer, answered, link_failed, out_of_memory, out_of_memory_later, out_of_memory_told, read_failed, read_failed_later, write_failed}
+use Rattle.run_laws.proofs.OneAnswer.{answer_to}
 use Rattle.commands.proofs.Rows.{one_request}
 use Rattle.headline.specs.Histories.{AreMoments, HasHistory}
 use Rattle.headline.proofs.ClientEnding.{not_link, not_memory, not_read, not_refused, not_write}
@@ -149,3 +150,4 @@ module _ (schema_name address : List ℕ) (n : ℕ) (schema : List ℕ) (v w : V
     serve_ends (link_failed rose is s) = absurd (not_link is)
     serve_ends (out_of_memory is output tells) = absurd (not_memory is)
     serve_ends (out_of_memory_later is s pieces) = absurd (not_memory is)
+    serve_ends (out_of_memory_told is r also tells u before told) = absurd (not_memory is)

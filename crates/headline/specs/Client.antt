@@ -1,7 +1,6 @@
 -- What `client` promises. This project's own.
 use Rattle.std.specs.Prelude.{◌≡◌, ◌≤◌, ℕ, ℤ, List, ◌++◌, length, Some}
-use Rattle.tl_base.specs.Contents.{HoldBytes}
-use Rattle.tl_base.specs.Outside.{View, HasFile, HostState}
+use Rattle.tl_base.specs.Outside.{View, HasFile}
 use Rattle.box_events.specs.declared.replies.Frame.{Frame}
 use Rattle.wire_profile.specs.Places.{ProfileView}
 use Rattle.channel_box.specs.States.{ids_of}
@@ -13,7 +12,8 @@ use Rattle.fault_lines.specs.Profiled.{IsProfileText}
 use Rattle.session_commands.specs.Client.{client_line}
 use Rattle.session_commands.specs.Linked.{next_link}
 use Rattle.commands.specs.Requests.{AsksFor, client}
-use Rattle.commands.specs.Runs.{EndsOver}
+use Rattle.outside.specs.Events.{Event, Outside}
+use Rattle.run_laws.specs.Runs.{RunsOver}
 use Rattle.headline.specs.Recovered.{IsRecovered, Recovers, StateAgrees}
 
 -- State has a client that was recovered, with the channels that it watched; and where the state that was there agreed with a server, and the frames are that server's, it is recovered by it.
@@ -29,9 +29,9 @@ pub record ClientEnds (schema state_name : List ℕ) (channels : List ℤ) (stat
   pub told : w.written.output ≡ v.written.output ++ client_line d
   pub honest : (h : List Doing) (m : ℕ) → m ≤ length h → StateAgrees p h m state → Honest h (begun c) m (told_all frames) → IsRecovered p h m w.written.state frames c d
 
--- Whatever `run` admits by its clause `ends`, over an outside that shows its files, where the words are `client SCHEMA ADDRESS STATE [CHANNEL ..]`, and the
+-- Whatever `run` admits by its clause, over an outside that shows what it holds, where the words are `client SCHEMA ADDRESS STATE [CHANNEL ..]`, and the
 -- status is 0.
 abbrev pub ClientHeadline : Type 0
 ClientHeadline =
-    (words : List (List ℕ)) (schema_name address state_name : List ℕ) (channels : List ℤ) (old new : HostState) (v w : View) (schema state : List ℕ) → old.view ≡ Some v → new.view ≡ Some w
-    → AsksFor words (client schema_name address state_name channels) → HoldBytes v.files → HasFile v.files schema_name schema → HasFile v.files state_name state → EndsOver words old new Done → ClientEnds schema state_name channels state v w
+    (words : List (List ℕ)) (schema_name address state_name : List ℕ) (channels : List ℤ) (t : List Event) (before after : Outside) (schema state : List ℕ) → AsksFor words (client schema_name address state_name channels)
+    → HasFile before.view.files schema_name schema → HasFile before.view.files state_name state → RunsOver words t Done before after → ClientEnds schema state_name channels state before.view after.view

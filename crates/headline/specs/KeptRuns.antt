@@ -1,7 +1,7 @@
 -- A run of `keep` and one of `client` over one link. This project's own.
 use Rattle.std.specs.Prelude.{◌≡◌, ℕ, ◌+◌, ◌<◌, ◌≤◌, List, [], ◌∷◌, ◌++◌, length, get_or, Some}
 use Rattle.tl_numbers.specs.Bytes.{AreBytes}
-use Rattle.tl_base.specs.Outside.{View, HasFile, HostState}
+use Rattle.tl_base.specs.Outside.{View, HasFile}
 use Rattle.wire_profile.specs.Places.{ProfileView}
 use Rattle.wire_values.specs.SavedClients.{saved_tree}
 use Rattle.box_wire.specs.Framing.{Framed}
@@ -16,8 +16,11 @@ use Rattle.box_world.specs.Streams.{Doing, dates}
 use Rattle.command_base.specs.declared.status.Status.TheVariants.{Done}
 use Rattle.fault_lines.specs.Profiled.{IsProfileText}
 use Rattle.session_commands.specs.Serve.{IsAny, Sessions, Total}
-use Rattle.commands.specs.Stored.{AsksToKeep, KeepText, RunsStored}
-use Rattle.commands.specs.declared.stored.StoredStatus.TheVariants.{Run}
+use Rattle.outside.specs.Events.{Outside}
+use Rattle.serve_rooms.specs.Acts.{Act}
+use Rattle.serve_rooms.specs.declared.status.KeptStatus.TheVariants.{Run}
+use Rattle.commands.specs.KeepWords.{AsksToKeep, KeepText}
+use Rattle.run_laws.specs.Runs.{StoresOver}
 use Rattle.headline.specs.Answering.{IsUpToDate}
 use Rattle.headline.specs.Histories.{AreMoments, HasHistory, IsThere}
 use Rattle.headline.specs.Recovered.{StateAgrees}
@@ -29,14 +32,15 @@ use Rattle.headline.specs.TwoClients.{BothAreUpToDate}
 pub record KeepsOver (schema : List ℕ) (es : List Entry) (k : ℕ) (came sent : List ℕ) (v w : View) : Type 0 where
   pub words : List (List ℕ)
   pub request : KeepText
-  pub old : HostState
-  pub new : HostState
+  pub acts : List Act
+  pub before : Outside
+  pub after : Outside
   pub file_old : KeeperState
   pub file_new : KeeperState
-  pub shown : (old.view ≡ Some v) × (new.view ≡ Some w) × (file_old.entries ≡ Some es)
+  pub shown : (before.view ≡ v) × (after.view ≡ w) × (file_old.entries ≡ Some es)
   pub asks : AsksToKeep words request
   pub has : HasFile v.files request.schema schema
-  pub runs : RunsStored request old new file_old file_new (Run Done)
+  pub runs : StoresOver words acts (Run Done) before after file_old file_new
   pub among : k < request.sessions
   pub given : get_or v.links k [] ≡ came
   pub written : get_or w.written.links (length v.written.links + k) [] ≡ sent

@@ -1,7 +1,6 @@
 -- What `replay` promises. This project's own.
 use Rattle.std.specs.Prelude.{◌≡◌, ℕ, List, ◌++◌, codes, Some, Err}
-use Rattle.tl_base.specs.Causes.{Rose}
-use Rattle.tl_base.specs.Outside.{View, HasFile, HostState}
+use Rattle.tl_base.specs.Outside.{View, HasFile}
 use Rattle.tl_schema.specs.Schemas.{Declared}
 use Rattle.box_events.specs.declared.steps.Step.{Step}
 use Rattle.wire_profile.specs.Faults.{FaultView, IsAnswer}
@@ -18,7 +17,9 @@ use Rattle.schema_files.specs.Loaded.{IsSchemaText, SchemaRefused}
 use Rattle.fault_lines.specs.Profiled.{IsProfileText, form_line}
 use Rattle.update_commands.specs.Replay.{ending_answer}
 use Rattle.commands.specs.Requests.{AsksFor, replay}
-use Rattle.commands.specs.Runs.{EndsOver}
+use Rattle.outside.specs.Events.{Event, Outside}
+use Rattle.run_laws.specs.Ended.{LinkFailed, ReadFailed, WriteFailed}
+use Rattle.run_laws.specs.Runs.{RunsOver}
 use Rattle.headline.specs.Reports.{Reports}
 
 abbrev pub IsRefusal : Ending → Type 0
@@ -32,17 +33,17 @@ pub data Refuses (schema journal : List ℕ) (n : ℕ) (a : Answer) : Type 0 whe
   no_journal : (p : ProfileView) (steps : List Step) (lines : List ℕ) (ending : Ending) → IsProfileText schema p → Replayed p n journal steps lines ending → IsRefusal ending → ending_answer lines ending ≡ Some a → Refuses schema journal n a
 
 -- A run of `replay` from what the outside shows to what it shows then: a report was written; or a refusal was told; or a fault ended it, or memory.
-pub data ReplayEnds (schema journal : List ℕ) (n : ℕ) (read_rose write_rose link_rose : Type 0) (status : Status) (v w : View) : Type 0 where
-  reports : (p : ProfileView) (text : List ℕ) → IsProfileText schema p → Reports p n journal text → status ≡ Done → w.written.output ≡ v.written.output ++ text → w.written.errors ≡ v.written.errors → ReplayEnds schema journal n read_rose write_rose link_rose status v w
-  refuses : (a : Answer) → Refuses schema journal n a → status ≡ Refused → w.written.output ≡ v.written.output ++ a.output → Tells write_rose a.errors v w → ReplayEnds schema journal n read_rose write_rose link_rose status v w
-  read_failed : read_rose → status ≡ ReadFault → ReplayEnds schema journal n read_rose write_rose link_rose status v w
-  write_failed : write_rose → status ≡ WriteFault → ReplayEnds schema journal n read_rose write_rose link_rose status v w
-  link_failed : link_rose → status ≡ LinkFault → ReplayEnds schema journal n read_rose write_rose link_rose status v w
-  out_of_memory : status ≡ Memory → ReplayEnds schema journal n read_rose write_rose link_rose status v w
+pub data ReplayEnds (schema journal : List ℕ) (n : ℕ) (read_happened write_happened link_happened : Type 0) (status : Status) (v w : View) : Type 0 where
+  reports : (p : ProfileView) (text : List ℕ) → IsProfileText schema p → Reports p n journal text → status ≡ Done → w.written.output ≡ v.written.output ++ text → w.written.errors ≡ v.written.errors → ReplayEnds schema journal n read_happened write_happened link_happened status v w
+  refuses : (a : Answer) → Refuses schema journal n a → status ≡ Refused → w.written.output ≡ v.written.output ++ a.output → Tells write_happened a.errors v w → ReplayEnds schema journal n read_happened write_happened link_happened status v w
+  read_failed : read_happened → status ≡ ReadFault → ReplayEnds schema journal n read_happened write_happened link_happened status v w
+  write_failed : write_happened → status ≡ WriteFault → ReplayEnds schema journal n read_happened write_happened link_happened status v w
+  link_failed : link_happened → status ≡ LinkFault → ReplayEnds schema journal n read_happened write_happened link_happened status v w
+  out_of_memory : status ≡ Memory → ReplayEnds schema journal n read_happened write_happened link_happened status v w
 
--- Whatever `run` admits by its clause `ends`, over an outside that shows its files, where the words are `replay SCHEMA JOURNAL N`.
+-- Whatever `run` admits by its clause, over an outside that shows what it holds, where the words are `replay SCHEMA JOURNAL N`.
 abbrev pub ReplayHeadline : Type 0
 ReplayHeadline =
-    (words : List (List ℕ)) (schema_name journal_name : List ℕ) (n : ℕ) (old new : HostState) (status : Status) (v w : View) (schema journal : List ℕ) → old.view ≡ Some v → new.view ≡ Some w
-    → AsksFor words (replay schema_name journal_name n) → HasFile v.files schema_name schema → HasFile v.files journal_name journal → EndsOver words old new status
-    → ReplayEnds schema journal n (Rose old.counts.reads new.counts.reads) (Rose old.counts.writes new.counts.writes) (Rose old.counts.links new.counts.links) status v w
+    (words : List (List ℕ)) (schema_name journal_name : List ℕ) (n : ℕ) (t : List Event) (status : Status) (before after : Outside) (schema journal : List ℕ) → AsksFor words (replay schema_name journal_name n)
+    → HasFile before.view.files schema_name schema → HasFile before.view.files journal_name journal → RunsOver words t status before after
+    → ReplayEnds schema journal n (ReadFailed t) (WriteFailed t) (LinkFailed t) status before.view after.view

@@ -1,7 +1,7 @@
 -- Two runs of the program over one link: one of `serve`, and one of `client` in one of its sessions. This project's own.
-use Rattle.std.specs.Prelude.{◌≡◌, ℕ, ◌+◌, ◌<◌, ◌≤◌, ℤ, List, [], ◌∷◌, ◌++◌, length, get_or, Some}
+use Rattle.std.specs.Prelude.{◌≡◌, ℕ, ◌+◌, ◌<◌, ◌≤◌, ℤ, List, [], ◌∷◌, ◌++◌, length, get_or}
 use Rattle.tl_numbers.specs.Bytes.{AreBytes}
-use Rattle.tl_base.specs.Outside.{View, HasFile, HostState}
+use Rattle.tl_base.specs.Outside.{View, HasFile}
 use Rattle.wire_profile.specs.Places.{ProfileView}
 use Rattle.wire_values.specs.SavedClients.{saved_tree}
 use Rattle.box_wire.specs.Framing.{Framed}
@@ -15,7 +15,8 @@ use Rattle.fault_lines.specs.Profiled.{IsProfileText}
 use Rattle.session_commands.specs.Linked.{next_link}
 use Rattle.session_commands.specs.Serve.{IsAny, Sessions, Total}
 use Rattle.commands.specs.Requests.{AsksFor, client, serve}
-use Rattle.commands.specs.Runs.{EndsOver}
+use Rattle.outside.specs.Events.{Event, Outside}
+use Rattle.run_laws.specs.Runs.{RunsOver}
 use Rattle.headline.specs.Answering.{IsUpToDate}
 use Rattle.headline.specs.Recovered.{StateAgrees}
 use Rattle.headline.specs.Histories.{AreMoments, HasHistory}
@@ -26,12 +27,13 @@ pub record ServesOver (schema : List ℕ) (k : ℕ) (came sent : List ℕ) (v w 
   pub schema_name : List ℕ
   pub address : List ℕ
   pub sessions : ℕ
-  pub old : HostState
-  pub new : HostState
-  pub shown : (old.view ≡ Some v) × (new.view ≡ Some w)
+  pub trace : List Event
+  pub before : Outside
+  pub after : Outside
+  pub shown : (before.view ≡ v) × (after.view ≡ w)
   pub asks : AsksFor words (serve schema_name address sessions)
   pub has : HasFile v.files schema_name schema
-  pub ends : EndsOver words old new Done
+  pub runs : RunsOver words trace Done before after
   pub among : k < sessions
   pub given : get_or v.links k [] ≡ came
   pub written : get_or w.written.links (length v.written.links + k) [] ≡ sent
@@ -43,13 +45,14 @@ pub record RecoversOver (schema state : List ℕ) (came sent : List ℕ) (v w : 
   pub address : List ℕ
   pub state_name : List ℕ
   pub channels : List ℤ
-  pub old : HostState
-  pub new : HostState
-  pub shown : (old.view ≡ Some v) × (new.view ≡ Some w)
+  pub trace : List Event
+  pub before : Outside
+  pub after : Outside
+  pub shown : (before.view ≡ v) × (after.view ≡ w)
   pub asks : AsksFor words (client schema_name address state_name channels)
   pub has : HasFile v.files schema_name schema
   pub holds : HasFile v.files state_name state
-  pub ends : EndsOver words old new Done
+  pub runs : RunsOver words trace Done before after
   pub given : next_link v ≡ came
   pub written : get_or w.written.links (length v.written.links) [] ≡ sent
 

@@ -23,7 +23,7 @@ use Rattle.run_laws.specs.Answers as answers
 use Rattle.run_laws.specs.Ended.{Ended, IsShown, LinkFailed, ReadFailed, RunsJob, Stops, WriteFailed}
 use Rattle.run_laws.specs.Ended as job
 use Rattle.run_laws.specs.Requests.{job_of}
-use Rattle.run_laws.specs.Runs.{AnswerFits, Ends, Keeps, MayAnswer, RunsOver, StopsAfter, WordsAreSound, WordsEnd, WordsKeep, answered, read_failed, read_failed_later, write_failed, link_failed, out_of_memory, out_of_memory_later}
+use Rattle.run_laws.specs.Runs.{AnswerFits, Ends, Keeps, MayAnswer, RunsOver, StopsAfter, WordsAreSound, WordsEnd, WordsKeep, answered, read_failed, read_failed_later, write_failed, link_failed, out_of_memory, out_of_memory_later, out_of_memory_told}
 use Rattle.run_laws.proofs.OneAnswer.{answer_to}
 use Rattle.run_laws.proofs.Told.{tells_line, only_errors, output_kept, leaves_all}
 use Rattle.run_laws.proofs.Touching.{telling}
@@ -59,6 +59,7 @@ module _ (words : List (List ℕ)) (r : RequestText) (asks : AsksFor words r) (R
   ends_as (job.link_failed rose is h) = link_failed rose is (stops _ h)
   ends_as (job.out_of_memory is output tells) = out_of_memory is output tells
   ends_as (job.out_of_memory_later is h on) = out_of_memory_later is (stops _ h) on
+  ends_as (job.out_of_memory_told is u before told tells) = out_of_memory_told is r asks tells u before told
 
 -- ---- a line alone
 

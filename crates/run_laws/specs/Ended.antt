@@ -6,7 +6,7 @@ use Rattle.tl_base.specs.declared.counts.Kind.TheVariants as kinds
 use Rattle.tl_base.specs.declared.host.Out.{Out}
 use Rattle.command_base.specs.Answer.{Answer, read_fault_line, write_fault_line, link_fault_line, memory_line}
 use Rattle.command_base.specs.Jobs.{Job, MayAnswer, WritesSomeOf}
-use Rattle.command_base.specs.Kept.{Leaves}
+use Rattle.command_base.specs.Kept.{Leaves, WritesNothing}
 use Rattle.command_base.specs.Sound.{IsFault}
 use Rattle.command_base.specs.Sound as sound
 use Rattle.command_base.specs.Telling.{Tells, TellsLine}
@@ -25,8 +25,21 @@ pub record Stops (job : Job) (write_failed link_failed : Type 0) (line : List �
   pub given : WritesSomeOf job link_failed v stopped
   pub told : TellsLine write_failed line stopped w
 
+-- the line of a fault of such a kind
+abbrev pub IsFaultLine : Type 0 → Type 0 → Type 0 → List ℕ → Type 0
+IsFaultLine read_happened write_happened link_happened line = (read_happened × (line ≡ read_fault_line)) ⊎ (write_happened × (line ≡ write_fault_line)) ⊎ (link_happened × (line ≡ link_fault_line))
+
+-- A fault stopped the work, and its line was told, or a prefix of it.
+pub record ToldBefore (job : Job) (read_happened write_happened link_happened : Type 0) (v w : View) : Type 0 where
+  pub line : List ℕ
+  pub fault : IsFaultLine read_happened write_happened link_happened line
+  pub stopped : View
+  pub given : WritesNothing v stopped ⊎ WritesSomeOf job link_happened v stopped
+  pub told : TellsLine (Unit {0}) line stopped w
+
 -- A run ends with its answer; or with a fault, where a call of that kind failed; or out of memory. What it wrote until then is none of its Output, or a
--- prefix: out of memory only in a job that writes in pieces, after a failed read only in one that reads on between these.
+-- prefix: out of memory only in a job that writes in pieces, after a failed read only in one that reads on between these. Where a job tells lines as it goes, memory
+-- may run out after a fault was told.
 pub data Ended (job : Job) (read_happened write_happened link_happened : Type 0) (status : Status) (v w : View) : Type 0 where
   answered : (a : Answer) → MayAnswer job link_happened v a → status ≡ a.status → w.written.output ≡ v.written.output ++ a.output → Leaves a v w → Tells write_happened a.errors v w
       → Ended job read_happened write_happened link_happened status v w
@@ -36,6 +49,8 @@ pub data Ended (job : Job) (read_happened write_happened link_happened : Type 0)
   link_failed : link_happened → status ≡ LinkFault → Stops job write_happened link_happened link_fault_line v w → Ended job read_happened write_happened link_happened status v w
   out_of_memory : status ≡ Memory → w.written.output ≡ v.written.output → Tells write_happened memory_line v w → Ended job read_happened write_happened link_happened status v w
   out_of_memory_later : status ≡ Memory → Stops job write_happened link_happened memory_line v w → job.in_pieces → Ended job read_happened write_happened link_happened status v w
+  out_of_memory_told : status ≡ Memory → (u : View) → ToldBefore job read_happened write_happened link_happened v u → TellsLine write_happened memory_line u w → job.tells
+      → Ended job read_happened write_happened link_happened status v w
 
 -- a call of the kind failed
 abbrev pub ReadFailed : List Event → Type 0

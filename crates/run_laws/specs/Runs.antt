@@ -4,7 +4,7 @@ use Rattle.tl_base.specs.Outside.{View}
 use Rattle.command_base.specs.Answer.{Answer, read_fault_line, write_fault_line, link_fault_line, memory_line}
 use Rattle.command_base.specs.Kept.{Leaves, OnlyErrors}
 use Rattle.command_base.specs.Sound.{HasRoomFor, IsFault}
-use Rattle.command_base.specs.Telling.{Tells}
+use Rattle.command_base.specs.Telling.{Tells, TellsLine}
 use Rattle.command_base.specs.declared.status.Status.{Status}
 use Rattle.command_base.specs.declared.status.Status.TheVariants.{ReadFault, WriteFault, Memory, LinkFault}
 use Rattle.outside.specs.Events.{Event, Outside}
@@ -17,7 +17,7 @@ use Rattle.commands.specs.KeepWords.{AsksToKeep, KeepText}
 use Rattle.commands.specs.Requests.{RequestText, AsksFor, AsksNothing, AskForOne}
 use Rattle.commands.specs.Work.{RunsStored, RunsWords}
 use Rattle.run_laws.specs.Answers.{Answers}
-use Rattle.run_laws.specs.Ended.{IsShown, LinkFailed, ReadFailed, Stops, WriteFailed}
+use Rattle.run_laws.specs.Ended.{IsShown, LinkFailed, ReadFailed, Stops, ToldBefore, WriteFailed}
 use Rattle.run_laws.specs.Kept.{KeptEnds}
 use Rattle.run_laws.specs.Requests.{job_of}
 
@@ -32,7 +32,8 @@ pub record StopsAfter (words : List (List ℕ)) (write_failed link_failed : Type
   pub stops : Stops (job_of request) write_failed link_failed line v w
 
 -- A run ends with its answer; or, where the words ask for a request, with a fault, where a call of that kind failed; or out of memory. What it wrote until then is
--- none of its Output, or a prefix: out of memory only in a job that writes in pieces, after a failed read only in one that reads on between these.
+-- none of its Output, or a prefix: out of memory only in a job that writes in pieces, after a failed read only in one that reads on between these. Where a job tells lines as
+-- it goes, memory may run out after a fault was told.
 pub data Ends (words : List (List ℕ)) (read_happened write_happened link_happened : Type 0) (status : Status) (v w : View) : Type 0 where
   answered : (a : Answer) → MayAnswer words link_happened v a → status ≡ a.status → w.written.output ≡ v.written.output ++ a.output → Leaves a v w → Tells write_happened a.errors v w
       → Ends words read_happened write_happened link_happened status v w
@@ -42,6 +43,8 @@ pub data Ends (words : List (List ℕ)) (read_happened write_happened link_happe
   link_failed : link_happened → status ≡ LinkFault → StopsAfter words write_happened link_happened link_fault_line v w → Ends words read_happened write_happened link_happened status v w
   out_of_memory : status ≡ Memory → w.written.output ≡ v.written.output → Tells write_happened memory_line v w → Ends words read_happened write_happened link_happened status v w
   out_of_memory_later : status ≡ Memory → (s : StopsAfter words write_happened link_happened memory_line v w) → (job_of s.request).in_pieces → Ends words read_happened write_happened link_happened status v w
+  out_of_memory_told : status ≡ Memory → (r : RequestText) → AsksFor words r → (job_of r).tells → (u : View) → ToldBefore (job_of r) read_happened write_happened link_happened v u → TellsLine write_happened memory_line u w
+      → Ends words read_happened write_happened link_happened status v w
 
 -- Where the words ask for nothing, all is as before but what was written to Errors. Where they ask for a request, what its job keeps is kept.
 pub record Keeps (words : List (List ℕ)) (v w : View) : Type 0 where
