@@ -11,7 +11,3 @@ pub mod Offsets
 pub mod ToldFaults
 pub mod ToldEvents
 pub mod NextPackets
-pub mod Turns
-pub mod ToldPackets
-pub mod ToldFiles
-pub mod LoadedFiles

@@ -1,11 +1,9 @@
 -- Packets that are told: a call that is sent, the value that an answer gives, and an answer to no open call.
-use Rattle.std.proofs.Common.{◌≡◌, ◌≢◌, ℕ, ◌+◌, ◌<◌, ◌≤◌, ◌^◌, List, ◌++◌, length, codes, Option, Some, None, Result, Ok, Err, Vec, Global, refl, sym, ap, ◌∙◌, subst, arith}
+use Rattle.std.proofs.Common.{◌≡◌, ◌≢◌, ℕ, ◌+◌, ◌<◌, ◌^◌, List, ◌++◌, length, codes, Option, Some, None, Result, Ok, Vec, Global, refl, sym, ap, ◌∙◌, subst, arith}
 use Rattle.tl_numbers.specs.Numbers.{word}
-use Rattle.tl_schema.specs.Types.{Shape}
 use Rattle.tl_schema.specs.Types as type
 use Rattle.tl_schema.specs.Schemas.{Declared}
 use Rattle.tl_schema.specs.Seen.{shape}
-use Rattle.tl_schema.specs.Formed.{IsFormed}
 use Rattle.tl_schema.specs.declared.schema.TypeRef.TheVariants as ref
 use Rattle.tl_types.specs.Values.{ValueView}
 use Rattle.tl_types.specs.Seen.{view}
@@ -15,8 +13,6 @@ use Rattle.tl_calls.specs.Calling.{CallsView, ReadsAnswer, Sends, LogsSent, Answ
 use Rattle.tl_calls.specs.Events.{sent, came}
 use Rattle.tl_calls.specs.Results.{result_type}
 use Rattle.tl_calls.specs.declared.fault.AnswerFault.{AnswerFault}
-use Rattle.tl_calls.specs.declared.fault.SendFault.{SendFault}
-use Rattle.tl_calls.specs.declared.fault.SendFault.TheVariants as send
 use Rattle.tl_calls.proofs.Answers.{none_logs}
 use Rattle.tl_calls.proofs.Stands.{found_open, open_found}
 use Rattle.schema_files.specs.Lines.{line_text}
@@ -28,12 +24,6 @@ use Rattle.call_commands.specs.inner.Tellings.{numbered_line}
 
 pub called : shape ref.Call ≡ type.call
 called = shape-Call ref.Call refl
-
-pub called_formed : (schema : Declared) → IsFormed schema (shape ref.Call)
-called_formed schema = subst (λ (T : Shape). IsFormed schema T) (sym called) tt
-
-pub as_called : {X : Type 0} (f : Shape → X) → f (shape ref.Call) ≡ f type.call
-as_called f = ap f called
 
 -- ---- calls
 
@@ -71,16 +61,3 @@ stale_told schema old at n b line fits some none is = λ past stands. (
 )
 
 -- ---- numbers
-
--- one number more at most
-pub sent_few : (schema : Declared) (old new : CallsView) (v : ValueView) (r : Result ℕ SendFault) → Sends schema old new v r → new.next ≤ old.next + 1
-sent_few schema old new v (Ok n) (few, has, number, same) = omega (arith, ap (λ (c : CallsView). c.next) same)
-sent_few schema old new v (Err send.Full) (many, same) = omega (arith, ap (λ (c : CallsView). c.next) same)
-sent_few schema old new v (Err (send.Result cause)) (few, has, same) = omega (arith, ap (λ (c : CallsView). c.next) same)
-sent_few schema old new v (Err send.Memory) same = omega (arith, ap (λ (c : CallsView). c.next) same)
-
--- an answer to an open call takes no number
-pub came_few : (schema : Declared) (old new : CallsView) (n : ℕ) (c : ValueView) (b : List ℕ) (r : Result (Option Value) AnswerFault) → ToCall schema old new n c b r → new.next ≤ old.next + 1
-came_few schema old new n c b (Ok None) never = absurd never
-came_few schema old new n c b (Ok (Some v)) (whole, same) = omega (arith, ap (λ (x : CallsView). x.next) same)
-came_few schema old new n c b (Err fault) (read, same) = omega (arith, ap (λ (x : CallsView). x.next) same)

@@ -1,17 +1,13 @@
 //! The command `calls`: calls and answers of a file, each answer told in its call's own result, and once.
 #![tactic(auto)]
 
-mod calls;
 mod laws;
 mod limits;
 mod lines;
 mod packets;
-mod reading;
 mod refusals;
-mod telling;
 mod words;
 
-pub use calls::tell_calls;
 pub use laws::{each_file_has_one_answer, each_log_is_given, files_have_one_answer};
 pub use limits::MAX_PACKET_END;
 pub use packets::tell_packet;

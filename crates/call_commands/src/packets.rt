@@ -12,7 +12,7 @@ use crate::words::first_word;
 use command_base::Unmade;
 use schema_files::printed_line;
 use std::alloc::{AllocError, Global};
-use tl_calls::{Calls, ResultFault, result_of, whole_value};
+use tl_calls::{Calls, result_of, whole_value};
 use tl_schema::{Schema, TypeRef};
 use tl_show::JsonPrinter;
 

@@ -1,12 +1,8 @@
 pub mod OneSpelling
-pub mod Loading
 pub mod OneTyped
 pub mod OneDecode
 pub mod OneEncode
-pub mod OneTold
 pub mod OneCheck
 pub mod EachAnswer
 pub mod ListedLines
-pub mod TypedLines
 pub mod EncodedValues
-pub mod Listings

@@ -1,12 +1,12 @@
 -- The list of a schema's declarations, from its lines so far.
-use Rattle.std.proofs.Common.{◌≡◌, ℕ, ◌+◌, ◌≤◌, Bool, true, false, not, ◌&&◌, List, [], ◌∷◌, ◌++◌, append_assoc, append-nil, length, take, slice_get, Some, refl, sym, ap, ap₂, ◌∙◌, arith}
+use Rattle.std.proofs.Common.{◌≡◌, ℕ, ◌+◌, Bool, true, false, not, ◌&&◌, List, [], ◌∷◌, ◌++◌, append_assoc, append-nil, take, slice_get, Some, sym, ap, ap₂, ◌∙◌, arith}
 use Rattle.std.specs.List.{count_by, flat_map}
-use Rattle.std.proofs.lemmas.List.{length-take, take_all, take_more}
+use Rattle.std.proofs.lemmas.List.{take_more}
 use Rattle.std.proofs.lemmas.List.Concat.{flat_map-append}
-use Rattle.std.proofs.lemmas.List.Sums.{count_by-le-length, count_by_more_yes, count_by_more_no}
+use Rattle.std.proofs.lemmas.List.Sums.{count_by_more_yes, count_by_more_no}
 use Rattle.std.proofs.lemmas.Option.{get_or_from_slice_get, slice_get_within}
 use Rattle.tl_schema.specs.Schemas.{Declaration}
-use Rattle.codec_commands.specs.Check.{is_listed, entry_line, is_listed_constructor, is_listed_function, counts_line, listing}
+use Rattle.codec_commands.specs.Check.{is_listed, entry_line, is_listed_constructor, is_listed_function}
 
 take_push : {X : Type 0} (xs : List X) (i : ℕ) (x : X) → slice_get xs i ≡ Some x → take (i + 1) xs ≡ take i xs ++ x ∷ []
 take_push xs i x at = take_more xs i x (slice_get_within xs i x at) ∙ ap (λ y. take i xs ++ y ∷ []) (get_or_from_slice_get xs i x x at)
@@ -18,14 +18,6 @@ pub record Listed (es : List Declaration) (i : ℕ) (text : List ℕ) (construct
   pub functions_are : functions ≡ count_by is_listed_function (take i es)
 
 module _ (es : List Declaration) (i : ℕ) (text : List ℕ) (constructors functions : ℕ) (so_far : Listed es i text constructors functions) where
-  pub few : (constructors ≤ i) × (functions ≤ i)
-  few = (
-    omega (arith, so_far.constructors_are, count_by-le-length is_listed_constructor (take i es), length-take i es),
-    omega (arith, so_far.functions_are, count_by-le-length is_listed_function (take i es), length-take i es),
-  )
-
-  pub all_listed : length es ≤ i → text ++ counts_line constructors functions ≡ listing es
-  all_listed all = rw (so_far.lines, so_far.constructors_are, so_far.functions_are, take_all i es all) refl
 
   module _ (e : Declaration) (at : slice_get es i ≡ Some e) where
     one_line : text ++ entry_line e ≡ flat_map entry_line (take (i + 1) es)

@@ -2,5 +2,3 @@ pub mod Typed
 pub mod Check
 pub mod Decode
 pub mod Encode
-pub mod Inputs
-pub mod Codings

@@ -1,10 +1,8 @@
 -- What a command answers that takes a schema, one of its types and an input: what the input tells, or where and why schema, type or plan is refused.
 -- This project's own.
-use Rattle.std.specs.Prelude.{◌≡◌, ℕ, List, Result, Vec, codes}
-use Rattle.std.specs.declared.alloc.Global.{Global}
+use Rattle.std.specs.Prelude.{◌≡◌, ℕ, List, codes}
 use Rattle.tl_base.specs.Contents.{Files}
-use Rattle.tl_base.specs.Outside.{View, HasFile}
-use Rattle.tl_base.specs.declared.host.Slot.TheVariants.{Input}
+use Rattle.tl_base.specs.Outside.{HasFile}
 use Rattle.tl_schema.specs.Types.{Shape}
 use Rattle.tl_schema.specs.Schemas.{Declared}
 use Rattle.tl_schema.specs.AskedTypes.{IsTypeText}
@@ -12,11 +10,9 @@ use Rattle.schema_files.specs.Answering.{OfSchemaFile}
 use Rattle.schema_files.specs.Causes.{TypeNameCause, PlanCause}
 use Rattle.schema_files.specs.Loaded.{IsSchemaText, TypeNameRefused, HasPlan, PlanRefused}
 use Rattle.schema_files.specs.Lines.{type_line, plan_line}
-use Rattle.command_base.specs.Answer.{Answer, done, refused}
+use Rattle.command_base.specs.Answer.{Answer, refused}
 use Rattle.command_base.specs.Jobs.{Job, unlinked_job}
 use Rattle.command_base.specs.Kept.{KeepsUnread}
-use Rattle.command_base.specs.Loading.{Gives, Loads}
-use Rattle.command_base.specs.declared.stop.Unmade.{Unmade}
 
 -- what is answered to the bytes of an input, of a type of the schema
 abbrev pub ToInput : Type 1
@@ -50,16 +46,4 @@ pub record ReachesInput (files : Files) (schema type : List ℕ) : Type 0 where
 abbrev pub typed_job : ToInput → List ℕ → List ℕ → List ℕ → Job
 typed_job Tells schema type input = unlinked_job (λ v a. TypedAnswer Tells v.files schema type input a) ⊥ (λ v w. KeepsUnread (ReachesInput v.files schema type) v w)
 
--- what it does once it has its schema
-abbrev pub loaded_job : ToInput → Declared → List ℕ → List ℕ → Job
-loaded_job Tells schema type input = unlinked_job (λ v a. OfType Tells schema type input v.files a) ⊥ (λ v w. KeepsUnread (HasPlannedType schema type) v w)
-
 -- ---- what is made of an input
-
--- what is made of an input's bytes: the Output or the refusal that they tell
-abbrev pub MakesTold : ToInput → Declared → Shape → List ℕ → Result (Vec ℕ Global) Unmade → Type 0
-MakesTold Tells schema T bytes result = Gives (λ given out. Tells schema T given (done out.items)) (λ given line. Tells schema T given (refused line)) bytes result
-
--- the same of a file, which is read by the slot Input
-abbrev pub LoadsTold : ToInput → Declared → Shape → List ℕ → Result (Vec ℕ Global) Unmade → View → View → Type 0
-LoadsTold Tells schema T name result v w = Loads Input name (λ bytes out. Tells schema T bytes (done out.items)) (λ bytes line. Tells schema T bytes (refused line)) result v w

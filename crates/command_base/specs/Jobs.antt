@@ -2,19 +2,13 @@
 use Rattle.std.specs.Prelude.{◌≡◌, ◌⊎◌, ℕ, List, ◌++◌, Result, Ok, Err, Vec}
 use Rattle.std.specs.declared.alloc.Global.{Global}
 use Rattle.std.specs.declared.alloc.AllocError.{AllocError}
-use Rattle.tl_base.specs.Calls.{Told}
-use Rattle.tl_base.specs.Causes.{Rose}
-use Rattle.tl_base.specs.Outside.{View, HostState, written_of, with_written}
-use Rattle.tl_base.specs.declared.host.Out.TheVariants.{Output}
+use Rattle.tl_base.specs.Outside.{View}
 use Rattle.command_base.specs.declared.stop.Stop.{Stop}
 use Rattle.command_base.specs.declared.stop.Stop.TheVariants as stop
 use Rattle.command_base.specs.declared.stop.Unmade.{Unmade}
 use Rattle.command_base.specs.declared.stop.Unmade.TheVariants as unmade
-use Rattle.command_base.specs.declared.status.Status.{Status}
-use Rattle.command_base.specs.declared.status.Status.TheVariants as status
-use Rattle.command_base.specs.Answer.{Answer, done, refused}
-use Rattle.command_base.specs.Kept.{WritesNothing, OnlyReads, AddsPrefix, Leaves}
-use Rattle.command_base.specs.Telling.{Tells}
+use Rattle.command_base.specs.Answer.{Answer}
+use Rattle.command_base.specs.Kept.{AddsPrefix, Leaves}
 
 -- A job: what is answered over an outside; what may be answered there where a link failed that others follow; what its first parts gave, where its
 -- work may stop between them, before there is an answer; whether its work writes its Output in pieces and may stop between them, reads on between these
@@ -56,25 +50,6 @@ MayGive job link_rose v a = MayAnswer job link_rose v a ⊎ job.partial v a
 abbrev pub WritesSomeOf : Job → Type 0 → View → View → Type 0
 WritesSomeOf job link_rose v w = (a : Answer) × MayGive job link_rose v a × AddsPrefix v.written.output w.written.output a.output × ToldSome job a v w
 
--- the answer that ends with this status and this line is given, but for the line
-abbrev pub EndsBy : Job → Status → List ℕ → View → View → Type 0
-EndsBy job status line v w =
-    (a : Answer) × job.answers v a × (a.status ≡ status) × (a.errors ≡ line) × GivesOutput a v w × (w.written.errors ≡ v.written.errors) × ((w.written.output ≡ v.written.output) ⊎ job.in_pieces)
-
--- The work of a job: its answer is given, or why not; where a count of faults rose. What is left else where it stops is said by what it keeps.
-abbrev pub Works : Type 0 → Type 0 → Job → Result Status Stop → View → View → Type 0
-Works write_rose link_rose job (Ok status) v w = (a : Answer) × MayAnswer job link_rose v a × (a.status ≡ status) × GivesOutput a v w × Tells write_rose a.errors v w
-Works write_rose link_rose job (Err (stop.Refused line)) v w = EndsBy job status.Refused line.items v w
-Works write_rose link_rose job (Err (stop.Peer line)) v w = EndsBy job status.PeerFault line.items v w
-Works write_rose link_rose job (Err stop.ReadFault) v w = WritesNothing v w ⊎ (job.reads_on × WritesSomeOf job link_rose v w)
-Works write_rose link_rose job (Err stop.WriteFault) v w = WritesSomeOf job link_rose v w
-Works write_rose link_rose job (Err stop.LinkFault) v w = WritesSomeOf job link_rose v w
-Works write_rose link_rose job (Err stop.Memory) v w = WritesNothing v w ⊎ (job.in_pieces × WritesSomeOf job link_rose v w)
-
--- the same over a host that tells its files, before and after
-abbrev pub WorksOver : Job → HostState → HostState → Result Status Stop → Type 0
-WorksOver job old new result = Told old.view new.view (Works (Rose old.counts.writes new.counts.writes) (Rose old.counts.links new.counts.links) job result)
-
 -- ---- a text that is made, and then written
 
 -- how the making of a text ends
@@ -93,33 +68,12 @@ abbrev pub making : Result (Vec ℕ Global) Unmade → Making
 making (Ok text) = made text.items
 making (Err fault) = of_fault fault
 
--- what a job that only reads makes for Output
-abbrev pub MakesOutput : Job → Making → View → View → Type 0
-MakesOutput job (made text) v w = job.answers v (done text) × OnlyReads v w
-MakesOutput job (refused_by line) v w = job.answers v (refused line) × OnlyReads v w
-MakesOutput job unread v w = OnlyReads v w
-MakesOutput job no_memory v w = OnlyReads v w
-
 -- the refusal with this line, or out of memory where there is no line
 abbrev pub RefusedBy : Result (Vec ℕ Global) AllocError → Unmade → Type 0
 RefusedBy (Ok line) fault = fault ≡ unmade.Refused line
 RefusedBy (Err e) fault = fault ≡ unmade.Memory
 
--- the fault tells this, or that there is no memory
-abbrev pub TellsAs : Making → Unmade → Type 0
-TellsAs m fault = (of_fault fault ≡ m) ⊎ (fault ≡ unmade.Memory)
-
 abbrev pub of_unmade : Unmade → Stop
 of_unmade (unmade.Refused line) = stop.Refused line
 of_unmade unmade.ReadFault = stop.ReadFault
 of_unmade unmade.Memory = stop.Memory
-
--- a text that was made is written, or a prefix of it where a write failed; what was not made is told, and nothing changes
-abbrev pub WritesMade : Making → Result Status Stop → View → View → Type 0
-WritesMade (made text) (Ok s) v w = (s ≡ status.Done) × (w ≡ with_written Output (written_of Output v ++ text) v)
-WritesMade (made text) (Err e) v w = (e ≡ stop.WriteFault) × (prefix : List ℕ) × (rest : List ℕ) × (prefix ++ rest ≡ text) × (w ≡ with_written Output (written_of Output v ++ prefix) v)
-WritesMade m (Ok u) v w = ⊥
-WritesMade (refused_by line) (Err (stop.Refused told)) v w = (told.items ≡ line) × (w ≡ v)
-WritesMade unread (Err e) v w = (e ≡ stop.ReadFault) × (w ≡ v)
-WritesMade no_memory (Err e) v w = (e ≡ stop.Memory) × (w ≡ v)
-WritesMade m (Err e) v w = ⊥

@@ -2,9 +2,6 @@
 use Rattle.std.specs.Prelude.{◌≡◌, ℕ, List, Result, Ok, Err, Vec}
 use Rattle.std.specs.declared.alloc.Global.{Global}
 use Rattle.std.specs.declared.alloc.AllocError.{AllocError}
-use Rattle.tl_base.specs.Outside.{View, HasFile}
-use Rattle.tl_base.specs.Hosted.{OnlySlot}
-use Rattle.tl_base.specs.declared.host.Slot.{Slot}
 use Rattle.tl_base.specs.declared.source.TextFault.{TextFault}
 use Rattle.tl_base.specs.declared.source.TextFault.TheVariants as text
 use Rattle.command_base.specs.declared.stop.Stop.{Stop}
@@ -40,13 +37,6 @@ PeerAs line stop.Memory = Unit {0}
 abbrev pub Gives : {X : Type 0} → (List ℕ → X → Type 0) → (List ℕ → List ℕ → Type 0) → List ℕ → Result X Unmade → Type 0
 Gives Is Tells text (Ok x) = Is text x
 Gives Is Tells text (Err fault) = Refuses (Tells text) fault
-
--- What is made of a file, which is read by a slot; nothing but the slot changes. Of a failed read and of memory nothing is said here.
-abbrev pub Loads : {X : Type 0} → Slot → List ℕ → (List ℕ → X → Type 0) → (List ℕ → List ℕ → Type 0) → Result X Unmade → View → View → Type 0
-Loads slot name Is Tells (Ok x) v w = ((text : List ℕ) × HasFile v.files name text × Is text x) × OnlySlot slot v w
-Loads slot name Is Tells (Err (unmade.Refused line)) v w = ((text : List ℕ) × HasFile v.files name text × Tells text line.items) × OnlySlot slot v w
-Loads slot name Is Tells (Err unmade.ReadFault) v w = OnlySlot slot v w
-Loads slot name Is Tells (Err unmade.Memory) v w = OnlySlot slot v w
 
 abbrev pub of_text : TextFault → Unmade
 of_text text.ReadFault = unmade.ReadFault

@@ -2,13 +2,9 @@
 #![tactic(auto)]
 
 mod lines;
-mod output;
 mod status;
 mod stop;
-mod telling;
 
 pub use lines::{decl_line, placed_line, unplaced_line};
-pub use output::write_made;
 pub use status::Status;
 pub use stop::{Stop, Unmade};
-pub use telling::{report, tell};

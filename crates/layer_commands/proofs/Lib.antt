@@ -1,3 +1,2 @@
-pub mod LayersLines
 pub mod OneLayers
 pub mod EachLayers

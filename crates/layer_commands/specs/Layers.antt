@@ -84,7 +84,3 @@ pub record ReachesNew (files : Files) (old type : List ℕ) : Type 0 where
 -- `layers OLD NEW TYPE`
 abbrev pub layers_job : List ℕ → List ℕ → List ℕ → Job
 layers_job old new type = unlinked_job (λ v a. LayersAnswer v.files old new type a) ⊥ (λ v w. KeepsUnread (ReachesNew v.files old type) v w)
-
--- what it does once it has the old schema
-abbrev pub old_job : Declared → List ℕ → List ℕ → Job
-old_job old new type = unlinked_job (λ v a. OfType old type new v.files a) ⊥ (λ v w. KeepsUnread (NamesType old type) v w)

@@ -2,10 +2,8 @@
 #![tactic(auto)]
 
 mod laws;
-mod layers;
 mod lines;
 mod verdict;
 
 pub use laws::files_have_one_answer;
-pub use layers::compare_schemas;
 pub use verdict::verdict_line;

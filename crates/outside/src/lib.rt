@@ -7,7 +7,6 @@ mod packets;
 mod pieces;
 mod printing;
 mod reading;
-mod untold;
 
 pub use ending::finish;
 pub use host::Host;
@@ -15,4 +14,3 @@ pub use packets::{Packet, take_packet};
 pub use pieces::{Taken, take_bytes, tell, write_out};
 pub use printing::{print, print_made, unread};
 pub use reading::read_file;
-pub use untold::Untold;

@@ -1,8 +1,5 @@
 -- The value that an input of JSON is, from its text and its file.
-use Rattle.std.proofs.Common.{◌≡◌, ℕ, ◌<◌, ◌≤◌, List, ◌++◌, length, None, Ok, Err, ap, arith}
-use Rattle.std.specs.Prelude.{IsErrOf}
-use Rattle.std.proofs.lemmas.List.{length-append}
-use Rattle.tl_base.specs.declared.host.Slot.TheVariants.{Input}
+use Rattle.std.proofs.Common.{◌≡◌, ℕ, ◌≤◌, List, length, None, Err}
 use Rattle.tl_schema.specs.Types.{Shape}
 use Rattle.tl_schema.specs.Schemas.{Declared}
 use Rattle.tl_types.specs.Fitting.{TellsMisfit, misfit}
@@ -14,24 +11,14 @@ use Rattle.tl_show.specs.Texts.{TellsText}
 use Rattle.tl_show.specs.declared.fault.JsonTextFault.{JsonTextFault}
 use Rattle.tl_show.specs.declared.fault.JsonTextFault.TheVariants as reading
 use Rattle.command_base.specs.declared.stop.Unmade.{Unmade}
-use Rattle.command_base.specs.declared.stop.Unmade.TheVariants as unmade
 use Rattle.command_base.specs.Loading.{Refuses, RefusesAs}
-use Rattle.command_base.proofs.Loaded.{refuses_as, memory_refuses, StaysLong}
+use Rattle.command_base.proofs.Loaded.{refuses_as, memory_refuses}
 use Rattle.schema_files.specs.declared.json_input.TheConstants.{JSON_BYTES}
-use Rattle.schema_files.specs.Causes.{JsonCause, TooLong, NoJson, Unformed, Misfit}
+use Rattle.schema_files.specs.Causes.{JsonCause, NoJson, Unformed, Misfit}
 use Rattle.schema_files.specs.Lines.{json_line}
 use Rattle.schema_files.specs.JsonInput.{FormRefused, IsForm}
-use Rattle.schema_files.specs.Parts.{IsFormValue, TellsForm, TellsJson, TellsUnfit}
+use Rattle.schema_files.specs.Parts.{TellsForm, TellsJson, TellsUnfit}
 use Rattle.schema_files.specs.inner.Tellings.{TellsNoForm}
-
--- telling of a value that doesn't fit is no failed read
-pub unfit_unread : {X : Type 0} (f : FitFault) (u : Unmade) → TellsUnfit f u → IsErrOf {T = X} (Err u) unmade.ReadFault → ⊥
-unfit_unread (fit.Misfit m) (unmade.Refused line) h failed = absurd cc
-unfit_unread (fit.Misfit m) unmade.ReadFault h failed = h
-unfit_unread (fit.Misfit m) unmade.Memory h failed = absurd cc
-unfit_unread fit.Memory (unmade.Refused line) h failed = absurd cc
-unfit_unread fit.Memory unmade.ReadFault h failed = absurd cc
-unfit_unread fit.Memory unmade.Memory h failed = absurd cc
 
 module _ (schema : Declared) (T : Shape) where
   -- ---- a text
@@ -52,15 +39,3 @@ module _ (schema : Declared) (T : Shape) where
   unfit bytes v fit.Memory u is tells is_told = memory_refuses (TellsJson schema T bytes) u is_told
 
   -- ---- a file
-
-  -- a text that is too long stays so, and is refused for nothing else
-  long_form : (bytes read rest : List ℕ) (cause : JsonCause) → bytes ≡ read ++ rest → JSON_BYTES < length read → FormRefused schema T read cause → FormRefused schema T bytes cause
-  long_form bytes read rest TooLong e long h = omega (arith, ap length e, length-append read rest)
-  long_form bytes read rest NoJson e long h = absurd (omega (arith, h.0))
-  long_form bytes read rest (Unformed path cause) e long (d, is, as_read) = absurd (omega (arith, is.0))
-  long_form bytes read rest (Misfit path cause) e long h = absurd h
-
-  pub stays_long : (name : List ℕ) → StaysLong Input name JSON_BYTES (IsFormValue schema T) (TellsForm schema T)
-  stays_long name bytes read rest (Ok value) e long (d, is, as_read) = absurd (omega (arith, is.0))
-  stays_long name bytes read rest (Err u) e long h =
-      refuses_as (TellsForm schema T read) (TellsForm schema T bytes) u (λ line (cause, refused, is). (cause, long_form bytes read rest cause e long refused, is)) h

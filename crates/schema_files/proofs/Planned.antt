@@ -21,7 +21,3 @@ pub formed_planned : (schema : Declared) (T : Shape) (p : PlanView) → answer s
 formed_planned schema T p is formed U at =
     let of = planned schema T p is in
     subst (IsFormed p.schema) (same_type p T U of.2 at) (subst (λ (S : Declared). IsFormed S T) (sym of.0) formed)
-
--- what is said of the plan's schema and its root's type is said of the schema and the type
-pub by_plan : (schema : Declared) (T : Shape) (p : PlanView) (P : Declared → Shape → Type 0) → answer schema (T ∷ []) ≡ Ok p → ((U : Shape) → IsInstance p 0 U → P p.schema U) → P schema T
-by_plan schema T p P is h = let of = planned schema T p is in subst (λ (S : Declared). P S T) of.0 (h T of.2)

@@ -1,7 +1,6 @@
 -- A schema from its text and its file.
-use Rattle.std.proofs.Common.{◌≡◌, ℕ, ◌<◌, List, ◌++◌, length, Ok, Err, refl, ap, arith, inl, inr}
+use Rattle.std.proofs.Common.{◌≡◌, ℕ, ◌<◌, List, ◌++◌, length, Err, refl, ap, arith, inl, inr}
 use Rattle.std.proofs.lemmas.List.{length-append}
-use Rattle.tl_base.specs.declared.host.Slot.{Slot}
 use Rattle.tl_lexer.specs.declared.token.Token.{Token}
 use Rattle.tl_lexer.specs.declared.fault.LexFault.{LexFault}
 use Rattle.tl_lexer.specs.declared.fault.LexFault.TheVariants as lex
@@ -16,10 +15,10 @@ use Rattle.tl_schema.specs.declared.fault.CheckFault.{CheckFault}
 use Rattle.tl_schema.specs.declared.fault.CheckFault.TheVariants as check
 use Rattle.command_base.specs.declared.stop.Unmade.{Unmade}
 use Rattle.command_base.specs.Loading.{Refuses, RefusesAs}
-use Rattle.command_base.proofs.Loaded.{refuses_as, memory_refuses, StaysLong}
+use Rattle.command_base.proofs.Loaded.{refuses_as, memory_refuses}
 use Rattle.schema_files.specs.Causes.{TextCause, TextTooLong, BadByte, OpenComment, Unexpected, NotProfile, TooMany, SchemaCause, Text, Checked}
 use Rattle.schema_files.specs.Lines.{schema_line}
-use Rattle.schema_files.specs.Loaded.{IsSchemaText, TextRefused, too_long, bad_byte, open_comment, unexpected, not_profile, too_many, SchemaRefused, by_text, by_checks}
+use Rattle.schema_files.specs.Loaded.{TextRefused, too_long, bad_byte, open_comment, unexpected, not_profile, too_many, SchemaRefused, by_text, by_checks}
 use Rattle.schema_files.specs.Parts.{TellsSchema}
 use Rattle.schema_files.specs.inner.Tellings.{TellsLex, TellsSyntax, TellsCheck}
 
@@ -63,8 +62,3 @@ long_text bytes read rest _ e long (too_many ts at t r) = absurd (omega (arith, 
 pub long_schema : (bytes read rest : List ℕ) (cause : SchemaCause) → bytes ≡ read ++ rest → 4194304 < length read → SchemaRefused read cause → SchemaRefused bytes cause
 long_schema bytes read rest _ e long (by_text cause r) = by_text cause (long_text bytes read rest cause e long r)
 long_schema bytes read rest _ e long (by_checks ts ds k c t r has) = absurd (omega (arith, t.0))
-
-pub stays_long : (slot : Slot) (what name : List ℕ) → StaysLong slot name 4194304 IsSchemaText (TellsSchema what)
-stays_long slot what name bytes read rest (Ok schema) e long h = absurd (omega (arith, h.lexed.0))
-stays_long slot what name bytes read rest (Err u) e long h =
-    refuses_as (TellsSchema what read) (TellsSchema what bytes) u (λ line (cause, refused, is). (cause, long_schema bytes read rest cause e long refused, is)) h

@@ -1,10 +1,9 @@
 -- The type that a word means.
-use Rattle.std.proofs.Common.{◌≡◌, ℕ, List, Ok, Err, subst}
+use Rattle.std.proofs.Common.{◌≡◌, ℕ, List, Err, subst}
 use Rattle.tl_lexer.specs.declared.fault.LexFault.TheVariants as lex
 use Rattle.tl_combinators.specs.declared.fault.SyntaxFault.TheVariants as syntax
 use Rattle.tl_schema.specs.Schemas.{Declared}
 use Rattle.tl_schema.specs.AskedTypes.{NamesType}
-use Rattle.tl_schema.specs.declared.schema.TypeRef.{TypeRef}
 use Rattle.tl_schema.specs.declared.fault.TypeFault.{TypeFault}
 use Rattle.tl_schema.specs.declared.fault.TypeFault.TheVariants as type
 use Rattle.command_base.specs.declared.stop.Unmade.{Unmade}
@@ -13,7 +12,7 @@ use Rattle.command_base.proofs.Loaded.{refuses_as, memory_refuses}
 use Rattle.schema_files.specs.Causes.{TextTooLong, BadByte, OpenComment, Unexpected, NotProfile, TooMany, TypeNameCause, Word, Asked}
 use Rattle.schema_files.specs.Lines.{type_line}
 use Rattle.schema_files.specs.Loaded.{TypeNameRefused, too_long, bad_byte, open_comment, unexpected, not_profile, too_many, by_text, by_checks}
-use Rattle.schema_files.specs.Parts.{TellsType, MeansType}
+use Rattle.schema_files.specs.Parts.{TellsType}
 use Rattle.schema_files.specs.inner.Tellings.{TellsNoType}
 
 module _ (schema : Declared) (text : List ℕ) where
@@ -35,6 +34,3 @@ module _ (schema : Declared) (text : List ℕ) where
   -- the word's bytes are the text
   pub no_type_of : (bytes : List ℕ) (e : TypeFault) (u : Unmade) → bytes ≡ text → NamesType schema.program bytes (Err e) → TellsNoType e u → Refuses (TellsType schema text) u
   no_type_of bytes e u same h = no_type e u (subst (λ (x : List ℕ). NamesType schema.program x (Err e)) same h)
-
-  pub type_meant : (bytes : List ℕ) (of : TypeRef) → bytes ≡ text → NamesType schema.program bytes (Ok of) → MeansType schema text (Ok of)
-  type_meant bytes of same h = subst (λ (x : List ℕ). NamesType schema.program x (Ok of)) same h

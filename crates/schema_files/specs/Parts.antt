@@ -1,8 +1,5 @@
 -- What is made of schemas, types and inputs: the thing, or a refusal with its line. This project's own.
 use Rattle.std.specs.Prelude.{◌≡◌, ℕ, List, [], ◌∷◌, Result, Ok, Err}
-use Rattle.tl_base.specs.Outside.{View}
-use Rattle.tl_base.specs.declared.host.Slot.{Slot}
-use Rattle.tl_base.specs.declared.host.Slot.TheVariants.{Input}
 use Rattle.tl_schema.specs.Types.{Shape}
 use Rattle.tl_schema.specs.Schemas.{Declared}
 use Rattle.tl_schema.specs.AskedTypes.{IsTypeText}
@@ -15,7 +12,7 @@ use Rattle.tl_types.specs.declared.misfit.FitFault.{FitFault}
 use Rattle.tl_types.specs.declared.misfit.FitFault.TheVariants as fit
 use Rattle.command_base.specs.declared.stop.Unmade.{Unmade}
 use Rattle.command_base.specs.declared.stop.Unmade.TheVariants as unmade
-use Rattle.command_base.specs.Loading.{Refuses, RefusesAs, Gives, Loads}
+use Rattle.command_base.specs.Loading.{Refuses, RefusesAs, Gives}
 use Rattle.schema_files.specs.Causes.{SchemaCause, TypeNameCause, PlanCause, JsonCause, Misfit}
 use Rattle.schema_files.specs.Loaded.{IsSchemaText, SchemaRefused, TypeNameRefused, PlanRefused}
 use Rattle.schema_files.specs.JsonInput.{FormRefused, IsForm, IsJsonOf, JsonRefused}
@@ -30,10 +27,6 @@ TellsSchema what text line = (cause : SchemaCause) × SchemaRefused text cause �
 -- the schema of a text
 abbrev pub ReadsSchema : List ℕ → List ℕ → Result Declared Unmade → Type 0
 ReadsSchema what text result = Gives IsSchemaText (TellsSchema what) text result
-
--- the schema of a file, which is read by a slot
-abbrev pub LoadsSchema : Slot → List ℕ → List ℕ → Result Declared Unmade → View → View → Type 0
-LoadsSchema slot what name result v w = Loads slot name IsSchemaText (TellsSchema what) result v w
 
 -- ---- types
 
@@ -70,10 +63,6 @@ TellsForm schema T bytes line = (cause : JsonCause) × FormRefused schema T byte
 abbrev pub ReadsForm : Declared → Shape → List ℕ → Result Value Unmade → Type 0
 ReadsForm schema T bytes result = Gives (IsFormValue schema T) (TellsForm schema T) bytes result
 
--- the value that a file is the form of
-abbrev pub LoadsForm : Declared → Shape → List ℕ → Result Value Unmade → View → View → Type 0
-LoadsForm schema T name result v w = Loads Input name (IsFormValue schema T) (TellsForm schema T) result v w
-
 -- what is told of a value that doesn't fit; out of memory has no line
 abbrev pub TellsUnfit : FitFault → Unmade → Type 0
 TellsUnfit (fit.Misfit told) u = RefusesAs (json_line (Misfit told.path.items told.cause)) u
@@ -89,7 +78,3 @@ TellsJson schema T bytes line = (cause : JsonCause) × JsonRefused schema T byte
 -- the value that a text is the JSON of
 abbrev pub ReadsJson : Declared → Shape → List ℕ → Result Value Unmade → Type 0
 ReadsJson schema T bytes result = Gives (IsJsonValue schema T) (TellsJson schema T) bytes result
-
--- the value that a file is the JSON of
-abbrev pub LoadsJson : Declared → Shape → List ℕ → Result Value Unmade → View → View → Type 0
-LoadsJson schema T name result v w = Loads Input name (IsJsonValue schema T) (TellsJson schema T) result v w

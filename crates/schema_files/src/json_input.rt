@@ -1,25 +1,16 @@
 //! Values from inputs of JSON.
-ghost use Rattle.std.specs.Prelude.{◌≡◌, ℕ, List, None, IfOk, IsErrOf};
-ghost use Rattle.tl_base.specs.Calls.{Told};
-ghost use Rattle.tl_base.specs.Outside.{IsThere};
-ghost use Rattle.tl_base.specs.Using.{MeetsFaults};
-ghost use Rattle.tl_base.specs.declared.counts.Kind.TheVariants as kinds;
 ghost use Rattle.tl_schema.specs.Seen.{shape};
 ghost use Rattle.tl_show.specs.inner.Kept.{AreKeysOf};
 ghost use Rattle.tl_types.specs.Fitting.{misfit};
-ghost use Rattle.tl_types.specs.Seen.{view};
-ghost use Rattle.tl_types.specs.declared.value.TheConstants.{MAX_LEVELS};
 ghost use Rattle.command_base.specs.Loading.{RefusesAs};
 ghost use Rattle.schema_files.specs.Causes.{Misfit, Unformed};
 ghost use Rattle.schema_files.specs.Lines.{json_line};
-ghost use Rattle.schema_files.specs.JsonInput.{IsForm};
-ghost use Rattle.schema_files.specs.Parts.{LoadsForm, LoadsJson, ReadsForm, ReadsJson, TellsUnfit};
+ghost use Rattle.schema_files.specs.Parts.{ReadsForm, TellsUnfit};
 ghost use Rattle.schema_files.specs.inner.Tellings.{TellsNoForm};
 
 use crate::lines::{form_text, misfit_text};
 use command_base::Unmade;
 use std::alloc::Global;
-use tl_base::{Host, Slot, read_file};
 use tl_schema::{Schema, TypeRef};
 use tl_show::{FormCause, JsonKeys, JsonTextFault};
 use tl_types::{FitFault, MisfitCause, Value, fits};
@@ -101,47 +92,4 @@ pub fn formed_value(
         Ok(keys) => form_by(alloc, &keys, schema, of, text),
         Err(_) => Err(Unmade::Memory),
     }
-}
-
-/// The value that the JSON of a file is the form of, whether it fits its type or not. The file is read by the slot Input.
-pub fn load_form<H: Host>(
-    alloc: Global,
-    host: &mut H,
-    schema: &Schema,
-    of: &TypeRef,
-    name: &str,
-) -> Result<Value, Unmade>
-    ensures loads { Told (H.state host.old).view (H.state host.new).view (LoadsForm schema.now (shape of.now) name.now result) }
-    ensures faults { MeetsFaults kinds.Reads (H.state host.old) (H.state host.new) (IsErrOf result Unmade.ReadFault) (IsThere name.now) }
-{
-    let text = read_file(alloc, host, Slot::Input, name, JSON_BYTES)?;
-    formed_value(alloc, schema, of, &text)
-}
-
-// The value, if it fits.
-fn fitting(alloc: Global, schema: &Schema, of: &TypeRef, value: Value) -> Result<Value, Unmade>
-    ensures reads { (bytes : List ℕ) → IsForm schema.now (shape of.now) bytes (view value) → ReadsJson schema.now (shape of.now) bytes result }
-    ensures fits { IfOk result (λ v. misfit schema.now.decls MAX_LEVELS None (shape of.now) (view v) ≡ None) }
-    ensures unread { IsErrOf result Unmade.ReadFault → ⊥ }
-{
-    match fits(alloc, schema, of, &value) {
-        Ok(()) => Ok(value),
-        Err(fault) => Err(fit_unmade(alloc, &fault)),
-    }
-}
-
-/// The value that the JSON of a file is, which is read by the slot Input.
-pub fn load_json<H: Host>(
-    alloc: Global,
-    host: &mut H,
-    schema: &Schema,
-    of: &TypeRef,
-    name: &str,
-) -> Result<Value, Unmade>
-    ensures loads { Told (H.state host.old).view (H.state host.new).view (LoadsJson schema.now (shape of.now) name.now result) }
-    ensures fits { IfOk result (λ value. misfit schema.now.decls MAX_LEVELS None (shape of.now) (view value) ≡ None) }
-    ensures faults { MeetsFaults kinds.Reads (H.state host.old) (H.state host.new) (IsErrOf result Unmade.ReadFault) (IsThere name.now) }
-{
-    let value = load_form(alloc, host, schema, of, name)?;
-    fitting(alloc, schema, of, value)
 }

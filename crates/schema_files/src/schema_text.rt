@@ -1,17 +1,11 @@
 //! Schemas from their texts and files.
-ghost use Rattle.std.specs.Prelude.{IsErrOf};
-ghost use Rattle.tl_base.specs.Calls.{Told};
-ghost use Rattle.tl_base.specs.Kinds.{slot_kind};
-ghost use Rattle.tl_base.specs.Outside.{IsThere};
-ghost use Rattle.tl_base.specs.Using.{MeetsFaults};
-ghost use Rattle.schema_files.specs.Parts.{LoadsSchema, ReadsSchema};
+ghost use Rattle.schema_files.specs.Parts.{ReadsSchema};
 ghost use Rattle.schema_files.specs.inner.Tellings.{TellsCheck};
 
 use crate::lines::check_name;
 use crate::text::{lex_unmade, syntax_unmade};
 use command_base::Unmade;
 use std::alloc::Global;
-use tl_base::{Host, Slot, read_file};
 use tl_combinators::parse;
 use tl_lexer::{TEXT_LIMIT, lex};
 use tl_schema::{CheckFault, Schema, check};
@@ -49,19 +43,4 @@ pub fn schema_of(alloc: Global, what: &str, text: &[u8]) -> Result<Schema, Unmad
         Ok(schema) => Ok(schema),
         Err(fault) => Err(check_unmade(alloc, what, fault)),
     }
-}
-
-/// The schema that a file spells, which is read by a slot. `what` is what lines call the input: `schema`, where a command reads one alone.
-pub fn load_schema<H: Host>(
-    alloc: Global,
-    host: &mut H,
-    slot: Slot,
-    what: &str,
-    name: &str,
-) -> Result<Schema, Unmade>
-    ensures loads { Told (H.state host.old).view (H.state host.new).view (LoadsSchema slot what.now name.now result) }
-    ensures faults { MeetsFaults (slot_kind slot) (H.state host.old) (H.state host.new) (IsErrOf result Unmade.ReadFault) (IsThere name.now) }
-{
-    let text = read_file(alloc, host, slot, name, SCHEMA_BYTES)?;
-    schema_of(alloc, what, &text)
 }

@@ -18,7 +18,6 @@ use Rattle.wire_profile.specs.SpelledForms.{owned}
 use Rattle.wire_values.specs.Calls.{call_in, call_tree}
 use Rattle.box_wire.specs.Kinds.{calls}
 use Rattle.box_wire.specs.Framing.{WireRefused}
-use Rattle.box_wire.specs.declared.fault.SpellFault.TheVariants.{TooLong}
 use Rattle.box_wire.proofs.CallLaws.{call_laws}
 use Rattle.server_frames.proofs.Lengths.{has_size}
 use Rattle.server_frames.proofs.Multiples.{is_whole, whole}
@@ -27,18 +26,14 @@ use Rattle.update_sessions.specs.Packed.{MeansCall}
 use Rattle.command_base.specs.Jobs.{RefusedBy}
 use Rattle.command_base.specs.Loading.{Refuses, RefusesAs}
 use Rattle.command_base.specs.declared.stop.Unmade.{Unmade}
-use Rattle.command_base.specs.declared.stop.Unmade.TheVariants as unmade
 use Rattle.command_base.proofs.Loaded.{memory_refuses, refuses_as}
-use Rattle.fault_lines.specs.Messages.{spell_line, wire_line}
+use Rattle.fault_lines.specs.Messages.{wire_line}
 use Rattle.session_commands.specs.Lines.{long_call_line}
 use Rattle.session_commands.specs.declared.sending.Sending.{Sending}
 use Rattle.session_commands.specs.inner.Posting.{TellsNoCall, TellsUnsent, NumbersCall, MaySendCall, Sends}
 
 none_some : {A : Type 0} (x : A) → None ≡ Some x → ⊥
 none_some x e = cc
-
-some_is : {A : Type 0} (x y : A) → Some x ≡ Some y → x ≡ y
-some_is x y e = cc
 
 -- a cause has its line; there is none for want of memory
 told_line : (p : ProfileView) (b line : List ℕ) (fault : WireFault) → (fault ≡ wire.Memory) ⊎ WireRefused p calls b fault → wire_line (codes "input") fault ≡ Some line → TellsNoCall p b line
@@ -49,10 +44,6 @@ pub no_call_told : (p : ProfileView) (b : List ℕ) (fault : WireFault) (line : 
     → RefusedBy line u → Refuses (TellsNoCall p b) u
 no_call_told p b fault (Ok line) u told tells is = subst (Refuses (TellsNoCall p b)) (sym is) (told_line p b line.items fault told tells)
 no_call_told p b fault (Err e) u told tells is = memory_refuses (TellsNoCall p b) u is
-
-pub long_told : (n : ℕ) (line : Result (Vec ℕ Global) AllocError) (u : Unmade) → IfOk line (λ l. spell_line (TooLong n) ≡ Some l.items) → RefusedBy line u → RefusesAs (long_call_line n) u
-long_told n (Ok line) u tells is = subst (RefusesAs (long_call_line n)) (sym is) (sym (some_is _ _ tells))
-long_told n (Err e) u tells is = memory_refuses (λ told. told ≡ long_call_line n) u is
 
 -- ---- the spelling
 
@@ -68,10 +59,6 @@ whole_call p good c b means =
     whole (length b) (q.0, has_size p good means.v Query b call_laws.alone means.spelled.0 r.kind_is ∙ q.1)
 
 -- ---- answers
-
-pub memory_sends : (p : ProfileView) (b : List ℕ) (r : Result Sending Unmade) → IsErrAnd r (λ z. z ≡ unmade.Memory) → Sends p b r
-memory_sends p b (Ok s) is = absurd is
-memory_sends p b (Err e) is = memory_refuses (TellsUnsent p b) e is
 
 pub no_call_sends : (p : ProfileView) (b bytes : List ℕ) (e : Unmade) (r : Result Sending Unmade) → bytes ≡ b → AreBytes bytes → Refuses (TellsNoCall p bytes) e → IsErrAnd r (λ z. z ≡ e) → Sends p b r
 no_call_sends p b bytes e (Ok s) same are told is = absurd is

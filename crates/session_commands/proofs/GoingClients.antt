@@ -1,6 +1,6 @@
 -- A client that goes on: what it asks has a spelling, and so has what it saves.
 use Rattle.std.specs.Prelude.{pos}
-use Rattle.std.proofs.Common.{◌≡◌, ℕ, suc, ◌+◌, ◌*◌, ◌<◌, ◌≤◌, ◌^◌, List, [], ◌∷◌, length, cond, Bool, true, false, refl, sym, subst, arith}
+use Rattle.std.proofs.Common.{◌≡◌, ℕ, suc, ◌+◌, ◌*◌, ◌<◌, ◌≤◌, ◌^◌, List, [], ◌∷◌, length, cond, Bool, true, false, refl, sym, arith}
 use Rattle.std.specs.Int.{w32}
 use Rattle.std.specs.List.{All}
 use Rattle.std.proofs.lemmas.Int.{to_z_pos}
@@ -71,12 +71,6 @@ pub record IsGoing (k d : ℕ) (c : ClientState) : Type 0 where
   pub dated : IsDatedClient c
   pub low : LowClient d c
   pub next : c.next ≤ 2000000000 + 65 * k
-
-more_low : (d e : ℕ) (c : ClientState) → d ≡ e → LowClient d c → LowClient e c
-more_low d e c is h = subst (λ (n : ℕ). LowClient n c) is h
-
-none_more : (d : ℕ) → d ≡ d + 0
-none_more d = omega arith
 
 reply_goes : (k d : ℕ) (c : ClientState) (n : ℕ) (r : SomeReply) (o : Outcome) → replied c n r ≡ o → (after_reply c o).next ≡ c.next → IsGoing k d c → IsHeard (Reply n r) → (LowClient d c → LowClient (d + settings_of r) c) → IsGoing k (d + settings_of r) (after_reply c o)
 reply_goes k d c n r ignored is next h f more = record { fits = h.fits; dated = h.dated; low = more h.low; next = h.next }

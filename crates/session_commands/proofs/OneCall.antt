@@ -1,5 +1,5 @@
 -- What is answered to an input is one.
-use Rattle.std.proofs.Common.{◌≡◌, ℕ, ◌≤◌, List, length, sym, ap, ◌∙◌, subst, codes, arith}
+use Rattle.std.proofs.Common.{◌≡◌, ℕ, List, sym, ap, ◌∙◌, subst, codes, arith}
 use Rattle.std.specs.Prelude.{⊤}
 use Rattle.tl_numbers.specs.Bytes.{AreBytes}
 use Rattle.tl_base.specs.Contents.{Files}
@@ -21,7 +21,6 @@ use Rattle.update_sessions.specs.Packed.{MeansCall}
 use Rattle.command_base.specs.Answer.{Answer, refused}
 use Rattle.command_base.proofs.SameFiles.{same_file}
 use Rattle.schema_files.specs.Causes.{JsonCause}
-use Rattle.schema_files.specs.JsonInput.{IsJsonOf}
 use Rattle.schema_files.specs.Lines.{json_line}
 use Rattle.fault_lines.specs.Messages.{wire_line}
 use Rattle.session_commands.specs.Post.{OfSent, answer_of, OfCall, no_call, long_call, sent, OfJson, no_json, json_of, OfInput}
@@ -54,12 +53,6 @@ module _ (p : ProfileView) (good : IsProfile p) where
       one_of_call a c (sent x m few h) (long_call y k long at) = absurd (omega (arith, long, few))
       one_of_call a c (sent x m few h) (sent y k less g) = one_sent x.number a c h (subst (λ (z : Numbered). OfSent p z.number address b given c) (one_call y x k m) g)
 
-    -- a call that is sent is the answer's
-    call_sent : (address given : List ℕ) (c : Numbered) (n : ℕ) (a : Answer) → MeansCall p c b → c.number ≡ n → length b ≤ 1048576 → OfCall p address b given a → OfSent p n address b given a
-    call_sent address given c n a m is few (no_call e l s says at) = absurd (never_call c e m s)
-    call_sent address given c n a m is few (long_call y k long at) = absurd (omega (arith, long, few))
-    call_sent address given c n a m is few (sent y k less g) = subst (λ (z : ℕ). OfSent p z address b given a) (ap (λ (z : Numbered). z.number) (one_call y c k m) ∙ is) g
-
   same_spelling : (x y : ValueView) (b d : List ℕ) → x ≡ y → Spells p.schema call x b → Spells p.schema call y d → b ≡ d
   same_spelling x y b d same s r = one_spelling p.schema x call b d s (subst (λ (z : ValueView). Spells p.schema call z d) (sym same) r)
 
@@ -71,14 +64,6 @@ module _ (p : ProfileView) (good : IsProfile p) where
     one_of_json a c (json_of x b i s all h) (json_of y d j r too k) =
         let same = same_spelling x y b d (one_json p.schema call bytes x y i j) s r in
         one_of_call b all address given are a c h (subst (λ (z : List ℕ). OfCall p address z given c) (sym same) k)
-
-  -- the value and its call are those of the answer
-  pub json_sent : (address bytes given : List ℕ) (x : ValueView) (b : List ℕ) (c : Numbered) (n : ℕ) (a : Answer) → IsJsonOf p.schema call bytes x → Spells p.schema call x b → AreBytes b → MeansCall p c b → c.number ≡ n
-      → length b ≤ 1048576 → OfJson p address bytes given a → OfSent p n address b given a
-  json_sent address bytes given x b c n a i s all m is few (no_json e r at) = absurd (never_json p.schema call bytes x e i r)
-  json_sent address bytes given x b c n a i s all m is few (json_of y d j r too k) =
-      let same = same_spelling x y b d (one_json p.schema call bytes x y i j) s r in
-      call_sent b all address given c n a m is few (subst (λ (z : List ℕ). OfCall p address z given a) (sym same) k)
 
   pub one_input : (address input : List ℕ) (files : Files) (given : List ℕ) → AreBytes given → (a c : Answer) → OfInput address input files given p a → OfInput address input files given p c → a ≡ c
   one_input address input files given are a c (bytes, has, h) (more, also, k) =

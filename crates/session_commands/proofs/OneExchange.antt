@@ -5,7 +5,7 @@ use Rattle.tl_base.specs.Packets.{IsPacketLength, packet}
 use Rattle.tl_types.proofs.Numbers.{bytes_after}
 use Rattle.update_sessions.specs.declared.fault.TheConstants.{MAX_FRAMES}
 use Rattle.update_sessions.specs.Packed.{Packed}
-use Rattle.update_sessions.specs.Exchanges.{Side, sends_all, Exchanged, MaySend}
+use Rattle.update_sessions.specs.Exchanges.{Side, sends_all, Exchanged}
 use Rattle.update_sessions.specs.Receiving.{ComesFirst}
 use Rattle.session_commands.proofs.OnePacket.{same_packet}
 use Rattle.session_commands.proofs.OneReply.{body_bytes}
@@ -162,16 +162,6 @@ module _ {S M N : Type 0} (side : Side S M N) where
     no_more s bytes left out t ms after rest u (m ∷ more) e few k =
         let f = first_of t left after rest u m more k in
         absurd (e.stops m f.rest (omega (arith, few, length-append ms (m ∷ more))) f.comes f.takes)
-
-    -- no other sends more
-    pub sends_most : (s : S) (bytes left out sent : List ℕ) (t : S) (ms : List M) → AreBytes bytes → Ended s bytes left out t ms → MaySend side s bytes sent → length sent ≤ length out
-    sends_most s bytes left out sent t ms are e (ns, after, u, f, few) =
-        elim (goes_on ms ns s bytes left out after sent t u are e.exchanged f) [
-          | inl g ↦
-              (let last = no_more s bytes left out t ms after g.rest u g.more e (subst (λ (l : List M). length l ≤ MAX_FRAMES) g.all few) g.then_on in
-              omega (arith, ap (λ (l : List ℕ). length l) g.wrote, length-append out g.rest, ap (λ (l : List ℕ). length l) last.nothing))
-          | inr g ↦ omega (arith, ap (λ (l : List ℕ). length l) g.wrote, length-append sent g.rest)
-        ]
 
     as_one : (s : S) (bytes left out : List ℕ) (t : S) (ms : List M) (after sent : List ℕ) (u : S) (ns : List M) → Ended s bytes left out t ms → length ns ≤ MAX_FRAMES → GoesOn left out t ms after sent u ns
         → AreOne left out t ms after sent u ns

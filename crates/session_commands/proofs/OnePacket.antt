@@ -35,11 +35,6 @@ same_packet a b r s fits also e =
     let both = same_word (length a) (length b) (a ++ r) (b ++ s) (is_few _ fits) (is_few _ also) (sym (begins_so a r) ∙ e ∙ begins_so b s) in
     (same_split a b r s both.0 both.1).0
 
-pub same_after : (a b r s : List ℕ) → IsPacketLength (length a) → IsPacketLength (length b) → packet a ++ r ≡ packet b ++ s → r ≡ s
-same_after a b r s fits also e =
-    let both = same_word (length a) (length b) (a ++ r) (b ++ s) (is_few _ fits) (is_few _ also) (sym (begins_so a r) ∙ e ∙ begins_so b s) in
-    (same_split a b r s both.0 both.1).1
-
 word_is_long : (bytes r : List ℕ) (n : ℕ) → bytes ≡ word n ++ r → 4 ≤ length bytes
 word_is_long bytes r n e = omega (arith, ap length e, length-append (word n) r, words.long n)
 

@@ -21,7 +21,7 @@ use Rattle.update_sessions.specs.declared.fault.SessionFault.{SessionFault}
 use Rattle.update_sessions.specs.declared.fault.SessionFault.TheVariants as fault
 use Rattle.update_sessions.specs.declared.fault.TheConstants.{MAX_FRAMES}
 use Rattle.update_sessions.specs.Packed.{Came, MeansCall, NoPacket, SpellsFrame}
-use Rattle.update_sessions.specs.Exchanges.{Exchanged, MaySend}
+use Rattle.update_sessions.specs.Exchanges.{Exchanged}
 use Rattle.update_sessions.specs.Receiving.{RefusedPacket}
 use Rattle.update_sessions.specs.Kept.{kept_in}
 use Rattle.update_sessions.specs.Served.{Serves}
@@ -31,7 +31,7 @@ use Rattle.session_commands.specs.Serve.{SessionEnd, link_fault, end_of, IsShort
 use Rattle.session_commands.proofs.OnePacket.{never_packet, one_packet_fault, same_packet}
 use Rattle.session_commands.proofs.OneCall.{never_call, one_call}
 use Rattle.session_commands.proofs.OneReply.{body_bytes}
-use Rattle.session_commands.proofs.OneExchange.{Ended, AreOne, one_ended, rest_bytes, sends_most}
+use Rattle.session_commands.proofs.OneExchange.{Ended, AreOne, one_ended, rest_bytes}
 
 no_end : (e : SessionEnd) → None ≡ Some e → ⊥
 no_end e is = cc
@@ -155,12 +155,6 @@ module _ (p : ProfileView) (good : IsProfile p) where
   module _ (s : ServerState) (now : ℕ) (bytes : List ℕ) (are : AreBytes bytes) where
     closed_so : (out : List ℕ) (t : ServerState) (more : List Entry) (e : SessionEnd) (h : Session p s now bytes out t more e) → IsWhole e → Closed (dated_at s now) bytes out t h.answer h.calls
     closed_so out t more e h whole = closed (dated_at s now) bytes are out t h.answer h.calls e h.serves h.word h.ended whole
-
-    -- what may be sent is no more than what is sent
-    pub session_sends : (out : List ℕ) (t : ServerState) (more : List Entry) (e : SessionEnd) → Session p s now bytes out t more e → IsWhole e → (o : List ℕ) → MaySend (server_side p) (dated_at s now) bytes o → length o ≤ length out
-    session_sends out t more e h whole o may =
-        let c = closed_so out t more e h whole in
-        sends_most (server_side p) one_of one_frame (dated_at s now) bytes c.left out o t h.calls are c.ended may
 
     pub record SameSession (out o : List ℕ) (t u : ServerState) (more also_more : List Entry) (e d : SessionEnd) : Type 0 where
       pub sent : out ≡ o

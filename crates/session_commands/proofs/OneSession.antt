@@ -1,5 +1,5 @@
 -- What a client's session does over bytes is one, and no other may ask for more.
-use Rattle.std.proofs.Common.{◌≡◌, inl, inr, ℕ, ◌<◌, ◌≤◌, List, [], ◌∷◌, ◌++◌, length, length-append, true, false, true≢false, Some, None, Result, Ok, Err, refl, sym, ap, ap₂, ◌∙◌, subst, arith}
+use Rattle.std.proofs.Common.{◌≡◌, inl, inr, ℕ, ◌<◌, ◌≤◌, List, [], ◌∷◌, ◌++◌, length, true, false, true≢false, Some, None, Result, Ok, Err, refl, sym, ap, ap₂, ◌∙◌, subst, arith}
 use Rattle.tl_numbers.specs.Bytes.{AreBytes}
 use Rattle.tl_base.specs.declared.packet.PacketFault.{PacketFault}
 use Rattle.tl_encode.proofs.OneSpelling.{one_spelling}
@@ -26,12 +26,12 @@ use Rattle.update_sessions.specs.declared.fault.SessionFault.{SessionFault}
 use Rattle.update_sessions.specs.declared.fault.SessionFault.TheVariants.{Packet, Wire, Client, TooManyFrames, LinkFault, Memory}
 use Rattle.update_sessions.specs.declared.fault.TheConstants.{MAX_FRAMES}
 use Rattle.update_sessions.specs.Exchanges.{Exchanged}
-use Rattle.update_sessions.specs.Heard.{NoFrame, RefusedFrame, HearsOn, IsBrokenOff, Hears, broke_off, asked, MayAsk}
+use Rattle.update_sessions.specs.Heard.{NoFrame, RefusedFrame, HearsOn, IsBrokenOff, Hears, broke_off, asked}
 use Rattle.update_sessions.specs.Hearing.{IsTaken, IsFaultOf, cause_of, client_side}
 use Rattle.update_sessions.specs.Packed.{Came, MeansFrame, Packed, SpellsCall}
 use Rattle.update_sessions.specs.Receiving.{ComesFirst, RefusedPacket}
 use Rattle.session_commands.specs.Post.{IsWordLong}
-use Rattle.session_commands.proofs.OneExchange.{Ended, one_ended, one_packed, rest_bytes, same_first, same_rest, sends_most}
+use Rattle.session_commands.proofs.OneExchange.{Ended, one_ended, one_packed, rest_bytes, same_first, same_rest}
 use Rattle.session_commands.proofs.OnePacket.{never_packet, one_packet_fault}
 use Rattle.session_commands.proofs.OneReply.{body_bytes}
 
@@ -172,13 +172,6 @@ module _ (p : ProfileView) (good : IsProfile p) where
   same_asked c x y h k = one_packed (SpellsCall p) one_call (ticks (wakes c)).asks x y h k
 
   -- ---- no session asks for more
-
-  pub asks_most : (c : ClientState) (bytes out : List ℕ) (d : ClientState) (r : Result ℕ SessionFault) (fs last : List Frame) → AreBytes bytes → IsWhole r → Hears p c bytes out d r fs last → (other : List ℕ) → MayAsk p c bytes other
-      → length other ≤ length out
-  asks_most c bytes out d r fs last are whole h other may =
-      let w = heard c bytes out d r fs last are whole h in
-      let more = sends_most (client_side p) one_frame one_call (begun c) bytes w.ends.left w.more may.more d w.frames are w.ends.ended may.then_asked in
-      omega (arith, ap (λ (l : List ℕ). length l) w.parts, length-append w.first w.more, ap (λ (l : List ℕ). length l) may.parts, length-append may.first may.more, ap (λ (l : List ℕ). length l) (same_asked c may.first w.first may.asked w.asked), more)
 
   -- ---- it is one
 

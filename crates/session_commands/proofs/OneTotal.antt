@@ -1,17 +1,11 @@
 -- What sessions come to is one, and what their answer has room for is room for each of them.
-use Rattle.std.proofs.Common.{◌≡◌, ℕ, zero, suc, ◌+◌, ◌<◌, ◌≤◌, List, [], ◌∷◌, ◌++◌, length, length-append, get_or, refl, sym, ap, ◌∙◌, subst, arith, inl, inr}
-use Rattle.std.specs.List.{All}
-use Rattle.std.proofs.Math.Nat.{eq-or-lt_of_le}
-use Rattle.std.proofs.lemmas.List.{get_or_append_left, get_or_at}
+use Rattle.std.proofs.Common.{◌≡◌, ℕ, zero, suc, ◌+◌, ◌≤◌, List, [], ◌∷◌, length, get_or, sym, ap, ◌∙◌, subst, arith}
 use Rattle.tl_numbers.specs.Bytes.{AreBytes, ListsOfBytes}
 use Rattle.box_server.specs.Servers.{ServerState}
 use Rattle.box_store.specs.declared.entry.Entry.{Entry}
 use Rattle.wire_profile.specs.Places.{ProfileView}
 use Rattle.wire_profile.specs.Profiles.{IsProfile}
-use Rattle.command_base.specs.declared.status.Status.{Status}
-use Rattle.command_base.specs.declared.status.Status.TheVariants as status
-use Rattle.session_commands.specs.Serve.{SessionEnd, served, peer_fault, link_fault, Session, IsWhole, IsAny, end_output, end_status, first_fault, Total, Sessions, with_session}
-use Rattle.session_commands.specs.inner.Serving.{IsSessionStatus}
+use Rattle.session_commands.specs.Serve.{SessionEnd, Session, IsWhole, IsAny, end_output, Total, Sessions, with_session}
 use Rattle.session_commands.proofs.OneServed.{one_session}
 
 -- ---- bytes
@@ -27,22 +21,7 @@ given_bytes (x ∷ xs) all (suc k) = given_bytes xs all.1 k
 
 -- ---- the status of sessions whose links don't fail
 
-first_so : (a : Status) (e : SessionEnd) → IsWhole e → IsSessionStatus ⊥ a → IsSessionStatus ⊥ (first_fault a (end_status e))
-first_so status.Done (served n) whole h = tt
-first_so status.Done (peer_fault line) whole h = tt
-first_so status.Done link_fault whole h = whole
-first_so status.PeerFault e whole h = tt
-first_so status.LinkFault e whole h = h
-first_so status.Refused e whole h = h
-first_so status.Usage e whole h = h
-first_so status.ReadFault e whole h = h
-first_so status.WriteFault e whole h = h
-first_so status.Memory e whole h = h
-
 module _ (p : ProfileView) (s : ServerState) (given : List (List ℕ)) (moments : List ℕ) where
-  pub whole_status : (k : ℕ) (r : Total) → Sessions IsWhole p s given moments k r → IsSessionStatus ⊥ r.status
-  whole_status zero r is = subst (λ (x : Total). IsSessionStatus ⊥ x.status) (sym is) tt
-  whole_status (suc k) r (q, e, out, t, more, h, whole, session, is) = subst (λ (x : Total). IsSessionStatus ⊥ x.status) (sym is) (first_so q.status e whole (whole_status k q h))
 
   pub any_of : (k : ℕ) (r : Total) → Sessions IsWhole p s given moments k r → Sessions IsAny p s given moments k r
   any_of zero r is = is
@@ -62,33 +41,6 @@ module _ (p : ProfileView) (s : ServerState) (given : List (List ℕ)) (moments 
     pub session : Session p total.server (get_or moments k 0) (get_or given k []) sent server more ended
     pub link : length sent ≤ room
     pub output : before + length total.output + length (end_output k ended) ≤ room
-
-  last_of : (P : List ℕ → Type 0) (ls : List (List ℕ)) (x : List ℕ) → All P (ls ++ x ∷ []) → P x
-  last_of P ls x all = subst P (get_or_at ls x [] [] (length ls) refl) (all (length ls) [] (omega (arith, length-append ls (x ∷ []))))
-
-  first_of : (P : List ℕ → Type 0) (ls : List (List ℕ)) (x : List ℕ) → All P (ls ++ x ∷ []) → All P ls
-  first_of P ls x all = λ k d lt. subst P (get_or_append_left ls (x ∷ []) d k lt) (all k d (omega (arith, lt, length-append ls (x ∷ []))))
-
-  pub is_among : (n : ℕ) (r : Total) (before room : ℕ) → Sessions IsWhole p s given moments n r → All (λ b. length b ≤ room) r.sent → before + length r.output ≤ room → (k : ℕ) → k < n → IsAmong k before room
-  is_among zero r before room h sent output k less = absurd (omega (arith, less))
-  is_among (suc n) r before room (q, e, out, t, more, h, whole, session, is) sent output k less =
-      let links : All (λ b. length b ≤ room) (q.sent ++ out ∷ []) = subst (λ (x : Total). All (λ b. length b ≤ room) x.sent) is sent in
-      let written = ap (λ (x : Total). length x.output) is in
-      elim (eq-or-lt_of_le {n = k} {m = n} (omega (arith, less))) as (λ z. IsAmong k before room) [
-        | inl same ↦ subst (λ (z : ℕ). IsAmong z before room) (sym same) (record {
-          total = q;
-          ended = e;
-          sent = out;
-          server = t;
-          more = more;
-          sessions = h;
-          whole = whole;
-          session = session;
-          link = last_of (λ b. length b ≤ room) q.sent out links;
-          output = omega (arith, output, written, length-append q.output (end_output n e));
-        })
-        | inr earlier ↦ is_among n q before room h (first_of (λ b. length b ≤ room) q.sent out links) (omega (arith, output, written, length-append q.output (end_output n e))) k earlier
-      ]
 
 -- ---- there is one
 

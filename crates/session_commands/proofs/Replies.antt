@@ -11,15 +11,13 @@ use Rattle.tl_types.specs.Spelling.{Spells}
 use Rattle.tl_types.specs.declared.value.Value.{Value}
 use Rattle.tl_types.specs.declared.value.TheConstants.{MAX_LEVELS}
 use Rattle.tl_decode.specs.Decoding.{GivesValue}
-use Rattle.tl_plan.specs.Plans.{PlanView}
-use Rattle.tl_plan.specs.PlanLaws.{IsInstance, IsPlanOf}
 use Rattle.box_events.specs.declared.replies.Frame.{Frame}
 use Rattle.wire_forms.specs.Forms.{constructs, forms}
 use Rattle.wire_forms.specs.declared.numbers.TheConstants.{FRAME_TYPE, PUSH}
 use Rattle.wire_checks.specs.declared.fault.WireFault.{WireFault}
 use Rattle.wire_checks.specs.declared.fault.WireFault.TheVariants as wire
 use Rattle.wire_profile.specs.Places.{ProfileView, cell_shape, number_at}
-use Rattle.wire_profile.specs.Profiles.{IsProfile, root_shapes}
+use Rattle.wire_profile.specs.Profiles.{IsProfile}
 use Rattle.wire_profile.proofs.FormTable.{member_form}
 use Rattle.wire_profile.proofs.ProfileFacts.{is_member}
 use Rattle.box_wire.specs.Kinds.{frames}
@@ -75,18 +73,9 @@ is_reply b P is holds = is.0 holds
 
 -- ---- the reply
 
--- the value that the frame's bytes spell
-pub frame_value : (p : ProfileView) (f : Frame) (body : List ℕ) → MeansFrame p f body → (v : ValueView) × SpellsWhole p frames v body
-frame_value p f body means = (means.1.v, means.1.spelled)
-
 pub reply_gives : (p : ProfileView) (n : ℕ) (body : List ℕ) (f : Frame) (line : Vec ℕ Global) → MeansFrame p f body → IsReplyTo n f
     → ((v : ValueView) → SpellsWhole p frames v body → line.items ≡ line_text p.schema.decls (cell_shape p frames.cell) v) → GivesLine p n body (Ok line)
 reply_gives p n body f line means to is = reply f means.1.v means to means.1.spelled (ap shows (is means.1.v means.1.spelled))
-
--- what a value's line is, from its parts
-pub line_is : (p : ProfileView) (S : Declared) (T : Shape) (v w : ValueView) (line : List ℕ) → line ≡ line_text S.decls T w → S ≡ p.schema → T ≡ cell_shape p frames.cell → w ≡ v → line ≡ line_text p.schema.decls (cell_shape p frames.cell) v
-line_is p S T v w line is same at told =
-    is ∙ ap (λ (X : Declared). line_text X.decls T w) same ∙ ap (λ (X : Shape). line_text p.schema.decls X w) at ∙ ap (λ (x : ValueView). line_text p.schema.decls (cell_shape p frames.cell) x) told
 
 -- ---- the type of frames
 
@@ -125,9 +114,3 @@ head_is p good S k d same at there =
 pub value_is : (S : Declared) (T : Shape) (v : ValueView) (frame given left : List ℕ) (at q : ℕ) (value : Value) → given ≡ frame
     → ((w : ValueView) (x rest : List ℕ) → given ≡ x ++ rest → Spells S T w x → depth w ≤ MAX_LEVELS → GivesValue (Ok value) (Some left) at q w x rest) → Spells S T v frame → depth v ≤ MAX_LEVELS → view value ≡ v
 value_is S T v frame given left at q value same gives s deep = (gives v frame [] (same ∙ sym (append-nil frame)) s deep).0
-
--- the root of a profile's plan for frames
-pub root_value : (p : ProfileView) (q : PlanView) → IsPlanOf p.schema (root_shapes p) q → (v : ValueView) (body : List ℕ) → SpellsWhole p frames v body → (value : Value)
-    → ((T : Shape) → IsInstance q 0 T → (w : ValueView) → Spells q.schema T w body → depth w ≤ MAX_LEVELS → view value ≡ w) → view value ≡ v
-root_value p q plan v body spells value gives =
-    gives (cell_shape p frames.cell) (plan.roots 0 (cell_shape p frames.cell) refl) v (subst (λ (S : Declared). Spells S (cell_shape p frames.cell) v body) (sym plan.schema) spells.0) spells.1

@@ -1,11 +1,10 @@
 -- What is made of a state's bytes.
-use Rattle.std.proofs.Common.{◌≡◌, ◌⊎◌, ℕ, ◌<◌, ◌≤◌, List, [], ◌∷◌, ◌++◌, length, length-append, Some, None, Bool, false, true≢false, ◌==◌, Result, Ok, Err, Vec, Global, sym, ap, ◌∙◌, subst, inl, inr, codes, arith}
+use Rattle.std.proofs.Common.{◌≡◌, ◌⊎◌, ℕ, ◌<◌, ◌≤◌, List, [], ◌∷◌, length, Some, None, Bool, false, true≢false, ◌==◌, Result, Ok, Err, Vec, Global, sym, ap, ◌∙◌, subst, inl, inr, codes, arith}
 use Rattle.std.proofs.lemmas.Bool.{cases_lt}
 use Rattle.std.specs.Prelude.{IfOk, IsErrAnd}
 use Rattle.std.specs.declared.alloc.AllocError.{AllocError}
 use Rattle.box_events.specs.declared.saved.Saved.{Saved}
-use Rattle.box_client.specs.declared.fault.LoadFault.{LoadFault}
-use Rattle.box_client.specs.Loads.{IsCauseOf, IsLoadedAs}
+use Rattle.box_client.specs.Loads.{IsLoadedAs}
 use Rattle.box_client.specs.Saving.{bad_next}
 use Rattle.box_client.specs.States.{ClientState}
 use Rattle.box_client.proofs.Loadings.{next_is_bad}
@@ -19,8 +18,7 @@ use Rattle.command_base.specs.Loading.{Gives, Refuses}
 use Rattle.command_base.specs.declared.stop.Unmade.{Unmade}
 use Rattle.command_base.proofs.Loaded.{memory_refuses, refuses_as}
 use Rattle.fault_lines.specs.Messages.{wire_line}
-use Rattle.fault_lines.specs.SavedClients.{load_line}
-use Rattle.session_commands.specs.Client.{HasClient, begins, loads, TellsNoClient, too_long, no_saved, not_loaded}
+use Rattle.session_commands.specs.Client.{HasClient, loads, TellsNoClient, no_saved, not_loaded}
 use Rattle.session_commands.specs.inner.Recovering.{ReadsSaved, TellsNoSaved, LoadsClient, TellsNotLoaded}
 use Rattle.session_commands.specs.declared.state.TheConstants.{MAX_STATE_BYTES}
 
@@ -39,10 +37,6 @@ no_saved_told p b fault (Ok line) u told tells is = subst (Refuses (TellsNoSaved
 no_saved_told p b fault (Err e) u told tells is = memory_refuses (TellsNoSaved p b) u is
 
 -- ---- what was saved isn't loaded
-
-pub not_loaded_told : (s : Saved) (fault : LoadFault) (line : Result (Vec ℕ Global) AllocError) (u : Unmade) → IsCauseOf s fault → IfOk line (λ l. load_line fault ≡ Some l.items) → RefusedBy line u → Refuses (TellsNotLoaded s) u
-not_loaded_told s fault (Ok line) u cause tells is = subst (Refuses (TellsNotLoaded s)) (sym is) (fault, cause, tells)
-not_loaded_told s fault (Err e) u cause tells is = memory_refuses (TellsNotLoaded s) u is
 
 -- a client that is loaded has a number for its next request that leaves room for others
 pub next_low : (s : Saved) (c : ClientState) → IsLoadedAs s c → c.next ≤ 2000000000
@@ -65,14 +59,3 @@ module _ (p : ProfileView) (bytes : List ℕ) (some : 0 < length bytes) (few : l
   pub client_given : (s : Saved) (r : Result ClientState Unmade) → ReadsSaved p bytes (Ok s) → LoadsClient s r → Gives (HasClient p) (TellsNoClient p) bytes r
   client_given s (Ok c) h l = loads s (record { some = some; few = few; is = h.0; means = h.1 }) l
   client_given s (Err e) h l = refuses_as (TellsNotLoaded s) (TellsNoClient p bytes) e (λ line t. not_loaded s t.0 (record { some = some; few = few; is = h.0; means = h.1 }) t.1 t.2) l
-
-long_still : (p : ProfileView) (bytes read rest : List ℕ) → bytes ≡ read ++ rest → MAX_STATE_BYTES < length read → (line : List ℕ) → TellsNoClient p read line → TellsNoClient p bytes line
-long_still p bytes read rest e long line (too_long more is) = too_long (omega (arith, ap (λ (l : List ℕ). length l) e, length-append read rest, long)) is
-long_still p bytes read rest e long line (no_saved fault some few r tells) = absurd (omega (arith, few, long))
-long_still p bytes read rest e long line (not_loaded s fault h is tells) = absurd (omega (arith, h.few, long))
-
--- a state that is too long is so however it goes on
-pub stays_long : (p : ProfileView) (bytes read rest : List ℕ) (r : Result ClientState Unmade) → bytes ≡ read ++ rest → MAX_STATE_BYTES < length read → Gives (HasClient p) (TellsNoClient p) read r → Gives (HasClient p) (TellsNoClient p) bytes r
-stays_long p bytes read rest (Ok c) e long (begins none is) = absurd (omega (arith, ap (λ (l : List ℕ). length l) none, long))
-stays_long p bytes read rest (Ok c) e long (loads s h l) = absurd (omega (arith, h.few, long))
-stays_long p bytes read rest (Err u) e long tells = refuses_as (TellsNoClient p read) (TellsNoClient p bytes) u (long_still p bytes read rest e long) tells

@@ -1,6 +1,6 @@
 -- What `keep` answers: how the sessions end that it serves in turn from the server that the entries of a keeper rebuild, and which entries are then kept; or
 -- which entry isn't accepted. This project's own.
-use Rattle.std.specs.Prelude.{◌≡◌, ◌⊎◌, ℕ, ◌<◌, ◌≤◌, List, [], ◌++◌, get_or, codes, true, Option, Some, None, IsSome, IfSome, Result, Ok, Err}
+use Rattle.std.specs.Prelude.{◌≡◌, ◌⊎◌, ℕ, ◌<◌, ◌≤◌, List, [], ◌++◌, get_or, codes, true, Option, Some, None, IsSome}
 use Rattle.tl_base.specs.Outside.{View}
 use Rattle.box_server.specs.Servers.{ServerState, dated_at}
 use Rattle.box_store.specs.declared.entry.Entry.{Entry}
@@ -12,32 +12,10 @@ use Rattle.update_sessions.specs.declared.fault.TheConstants.{MAX_FRAMES}
 use Rattle.update_sessions.specs.Kept.{RoomFor}
 use Rattle.command_base.specs.Answer.{placed_line, refused}
 use Rattle.command_base.specs.Jobs.{Job}
-use Rattle.command_base.specs.declared.status.Status.{Status}
-use Rattle.command_base.specs.declared.stop.Stop.{Stop}
-use Rattle.command_base.specs.declared.stop.Stop.TheVariants.{LinkFault, Memory, Peer, ReadFault, Refused, WriteFault}
 use Rattle.fault_lines.specs.Profiled.{HasProfile}
-use Rattle.session_commands.specs.declared.stored.StoreStop.{StoreStop}
-use Rattle.session_commands.specs.declared.stored.StoreStop.TheVariants as store_stop
 use Rattle.session_commands.specs.Serve.{IsAny, IsWhole, OfSessions, Sessions, SessionsAnswer, Total, serving_job}
 
 -- ---- how a run ends
-
--- to its host a keeper that failed ends a run as memory that ran out
-abbrev pub host_stop : StoreStop → Stop
-host_stop (store_stop.Stop e) = e
-host_stop store_stop.KeepFault = Memory
-
-abbrev pub host_end : {T : Type 0} → Result T StoreStop → Result T Stop
-host_end (Ok x) = Ok x
-host_end (Err e) = Err (host_stop e)
-
-abbrev pub IsKeepFault : StoreStop → Type 0
-IsKeepFault (store_stop.Stop e) = ⊥
-IsKeepFault store_stop.KeepFault = Unit {0}
-
-abbrev pub EndsByKeeper : {T : Type 0} → Result T StoreStop → Type 0
-EndsByKeeper (Ok x) = ⊥
-EndsByKeeper (Err e) = IsKeepFault e
 
 -- ---- answers
 
@@ -73,18 +51,6 @@ told_job entries schema address n = serving_job schema n (OfToldEntries entries 
 
 -- ---- entries
 
--- entries are only added
-abbrev pub Grows : Option (List Entry) → Option (List Entry) → Type 0
-Grows old new = (more : List Entry) × (new ≡ with_more more old)
-
--- where they are told, each is accepted in its turn
-abbrev pub AreRight : Option (List Entry) → Type 0
-AreRight entries = IfSome entries (λ es. are_right es ≡ true)
-
--- right entries stay right
-abbrev pub StaysRight : Option (List Entry) → Option (List Entry) → Type 0
-StaysRight old new = IfSome old (λ es. are_right es ≡ true → AreRight new)
-
 -- sessions from a server on; the link of one failed only where the count of links' faults rose
 abbrev pub SessionsBy : Type 0 → ProfileView → ServerState → List (List ℕ) → List ℕ → ℕ → Total → Type 0
 SessionsBy link_rose p s given moments n r = Sessions IsWhole p s given moments n r ⊎ (link_rose × Sessions IsAny p s given moments n r)
@@ -98,24 +64,6 @@ KeepsSessions link_rose p address s n entries now_entries v w =
 -- so of the first sessions, n at most
 abbrev pub KeepsFirst : Type 0 → ProfileView → List ℕ → ServerState → ℕ → Option (List Entry) → Option (List Entry) → View → View → Type 0
 KeepsFirst link_rose p address s n entries now_entries v w = (k : ℕ) × (k ≤ n) × KeepsSessions link_rose p address s k entries now_entries v w
-
--- What a run that stopped has kept: that of its first sessions where nobody could be listened to or taken, or Output failed; that of no session where
--- something was refused or unread. The keeper is asked only where the schema is the protocol's; where it failed, or memory ran out, its entries are right
--- all the same.
-abbrev pub StopKeeps : Type 0 → Type 0 → Type 0 → StoreStop → Type 0
-StopKeeps Few Same Asked (store_stop.Stop LinkFault) = Few
-StopKeeps Few Same Asked (store_stop.Stop WriteFault) = Few
-StopKeeps Few Same Asked (store_stop.Stop (Refused line)) = Same
-StopKeeps Few Same Asked (store_stop.Stop ReadFault) = Same
-StopKeeps Few Same Asked (store_stop.Stop (Peer line)) = Same
-StopKeeps Few Same Asked (store_stop.Stop Memory) = Unit {0}
-StopKeeps Few Same Asked store_stop.KeepFault = Asked
-
--- what a run has kept
-abbrev pub KeepsByFile : Type 0 → List ℕ → List ℕ → ℕ → Option (List Entry) → Option (List Entry) → Result Status StoreStop → View → View → Type 0
-KeepsByFile link_rose schema address n entries now_entries (Ok status) v w = (h : HasProfile v.files schema) × (s : ServerState) × Starts entries s × KeepsSessions link_rose h.p address s n entries now_entries v w
-KeepsByFile link_rose schema address n entries now_entries (Err e) v w =
-    StopKeeps ((h : HasProfile v.files schema) × (s : ServerState) × Starts entries s × KeepsFirst link_rose h.p address s n entries now_entries v w) (now_entries ≡ entries) (HasProfile v.files schema) e
 
 -- ---- room
 

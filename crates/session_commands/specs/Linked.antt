@@ -1,8 +1,6 @@
 -- What a command does over a link of its host, and what it leaves. This project's own.
-use Rattle.std.specs.Prelude.{◌≡◌, ◌⊎◌, ℕ, ◌+◌, ◌≤◌, List, [], ◌∷◌, ◌++◌, length, get_or, drop, Option, Some, None}
-use Rattle.tl_base.specs.Outside.{View, left_of, with_left, with_slot, written_of, with_written}
-use Rattle.tl_base.specs.declared.host.Slot.TheVariants as slots
-use Rattle.tl_base.specs.declared.host.Out.TheVariants as outs
+use Rattle.std.specs.Prelude.{◌≡◌, ◌⊎◌, ℕ, ◌+◌, List, [], ◌∷◌, ◌++◌, get_or, Option, Some, None}
+use Rattle.tl_base.specs.Outside.{View}
 use Rattle.command_base.specs.declared.status.Status.{Status}
 use Rattle.command_base.specs.declared.status.Status.TheVariants.{Done, LinkFault}
 use Rattle.command_base.specs.Answer.{Answer, printed, link_fault_line}
@@ -31,23 +29,6 @@ linking_job answers keeps = record { answers = answers; broken = λ v a. a ≡ c
 -- what the next link to come gives
 abbrev pub next_link : View → List ℕ
 next_link v = get_or v.links 0 []
-
--- the view with these bytes left in the slot Link and written to the out Link
-abbrev pub with_link : List ℕ → List ℕ → View → View
-with_link left written v = with_left slots.Link left (with_written outs.Link written v)
-
--- the view after a link was taken: this is left of what it gave, this was written to it, and the address is this
-abbrev pub used_link : Option (List ℕ) → List ℕ → List ℕ → View → View
-used_link address left out v =
-    record v { left = with_slot slots.Link left v.left; links = drop 1 v.links; written = record v.written { links = v.written.links ++ out ∷ [] }; address = address }
-
--- P holds of what the link gives and of what is written to it now, and nothing changes but the link
-abbrev pub OverHost : (List ℕ → List ℕ → Type 0) → View → View → Type 0
-OverHost P v w = (out : List ℕ) × (w ≡ with_link (left_of slots.Link w) (written_of outs.Link v ++ out) v) × P (left_of slots.Link v) out
-
--- the link has room for whatever may be written
-abbrev pub HasLinkRoom : (List ℕ → List ℕ → Type 0) → View → Type 0
-HasLinkRoom MayWrite v = (out : List ℕ) → MayWrite (left_of slots.Link v) out → length (written_of outs.Link v) + length out ≤ v.room
 
 -- ---- what is left as it was
 

@@ -3,36 +3,21 @@
 #![tactic(auto)]
 
 mod channels;
-mod client;
-mod connection;
 mod ending;
-mod exchange;
-mod keep;
 mod kept_laws;
 mod laws;
 mod leaving;
-mod post;
 mod reply;
 mod sending;
-mod serve;
 mod serve_laws;
-mod session;
-mod sessions;
 mod state;
-mod stored;
-mod telling;
 
 pub use channels::watch_all;
-pub use client::recover_client;
 pub use ending::session_stop;
-pub use keep::serve_kept;
 pub use kept_laws::runs_of_keep_are_one_of_serve;
 pub use laws::{client_has_one_answer, post_has_one_answer};
 pub use leaving::{Leaving, leaving_of};
-pub use post::post_call;
 pub use reply::reply_line;
 pub use sending::{Sending, call_of};
-pub use serve::serve_sessions;
 pub use serve_laws::serve_has_one_answer;
 pub use state::{MAX_STATE_BYTES, client_in};
-pub use stored::{StoreStop, StoredRun};

@@ -1,13 +1,8 @@
 //! The client of a state file.
-ghost use Rattle.std.specs.Prelude.{◌≡◌, ◌≤◌, IfOk, IsErrOf};
-ghost use Rattle.tl_base.specs.Calls.{Told};
-ghost use Rattle.tl_base.specs.Outside.{IsThere};
-ghost use Rattle.tl_base.specs.Using.{MeetsFaults};
-ghost use Rattle.tl_base.specs.declared.counts.Kind.TheVariants as kinds;
-ghost use Rattle.tl_base.specs.declared.host.Slot.TheVariants as slots;
+ghost use Rattle.std.specs.Prelude.{◌≤◌, IfOk};
 ghost use Rattle.box_client.specs.Ranges.{IsSavedInRange};
 ghost use Rattle.wire_profile.specs.Profiles.{IsProfile};
-ghost use Rattle.command_base.specs.Loading.{Gives, Loads};
+ghost use Rattle.command_base.specs.Loading.{Gives};
 ghost use Rattle.session_commands.specs.Client.{HasClient, TellsNoClient};
 ghost use Rattle.session_commands.specs.inner.Recovering.{LoadsClient, ReadsSaved};
 
@@ -17,27 +12,10 @@ use box_wire::read_saved;
 use command_base::Unmade;
 use fault_lines::{load_line, wire_line};
 use std::alloc::Global;
-use tl_base::{Host, Slot, read_file};
 use wire_profile::Profile;
 
 /// The most bytes that a state file may have.
 pub const MAX_STATE_BYTES: u32 = 268_435_456;
-
-/// The client of a state file, which is a new one where the file is empty.
-pub fn load_state<H: Host>(
-    alloc: Global,
-    host: &mut H,
-    profile: &Profile,
-    name: &str,
-) -> Result<Client, Unmade>
-    requires sound { IsProfile profile.now }
-    ensures loads { Told (H.state host.old).view (H.state host.new).view (Loads slots.State name.now (HasClient profile.now) (TellsNoClient profile.now) result) }
-    ensures next { IfOk result (λ client. client.next ≤ 2000000000) }
-    ensures faults { MeetsFaults kinds.Reads (H.state host.old) (H.state host.new) (IsErrOf result Unmade.ReadFault) (IsThere name.now) }
-{
-    let bytes = read_file(alloc, host, Slot::State, name, MAX_STATE_BYTES)?;
-    client_in(alloc, profile, &bytes)
-}
 
 /// The client of a state's bytes, which is a new one where there are none.
 pub fn client_in(alloc: Global, profile: &Profile, bytes: &[u8]) -> Result<Client, Unmade>

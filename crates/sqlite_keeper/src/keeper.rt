@@ -61,8 +61,7 @@ impl<S: Alter + Drop> SqliteKeeper<S> {
             count,
             faults: _,
         } = self;
-        let database = *database;
-        (database.into_connection(), count)
+        (Box::into_inner(database).into_connection(), count)
     }
 }
 

@@ -1,8 +1,6 @@
 pub mod ToldCauses
 pub mod OneReplay
 pub mod Reports
-pub mod LentOutput
 pub mod JournalFiles
 pub mod ProfiledFiles
 pub mod OneMake
-pub mod MadeLines

@@ -6,7 +6,7 @@ use Rattle.box_events.specs.declared.steps.Step.{Step}
 use Rattle.wire_profile.specs.Places.{ProfileView}
 use Rattle.command_base.specs.Answer.{Answer, done, refused_after, placed_line}
 use Rattle.command_base.specs.Jobs.{Job, unlinked_job}
-use Rattle.command_base.specs.Kept.{KeepsRest, KeepsUnread}
+use Rattle.command_base.specs.Kept.{KeepsUnread}
 use Rattle.fault_lines.specs.Messages.{step_line}
 use Rattle.fault_lines.specs.Profiled.{HasProfile, OfProfileFile}
 use Rattle.update_replay.specs.Endings.{Ending, whole, no_step, not_made, too_long}
@@ -51,10 +51,3 @@ EachHasOneReplay = (files : Files) → HoldBytes files → (schema journal : Lis
 -- `replay SCHEMA JOURNAL CLIENTS`, which writes as it goes, and comes to Input where the schema is a profile
 abbrev pub replay_job : List ℕ → List ℕ → ℕ → Job
 replay_job schema journal n = unlinked_job (λ v a. ReplayAnswer v.files schema journal n a) (Unit {0}) (λ v w. KeepsUnread (HasProfile v.files schema) v w)
-
--- what is left to do of it for a profile, and for a journal that was read
-abbrev pub file_job : ProfileView → List ℕ → ℕ → Job
-file_job p journal n = unlinked_job (λ v a. OfJournalFile v.files journal n p a) (Unit {0}) KeepsRest
-
-abbrev pub journal_job : ProfileView → ℕ → List ℕ → Job
-journal_job p n journal = unlinked_job (λ v a. OfJournal p n journal a) (Unit {0}) KeepsRest

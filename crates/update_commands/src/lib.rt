@@ -3,10 +3,8 @@
 
 mod laws;
 mod make;
-mod replay;
 mod steps;
 
 pub use laws::{journals_have_one_answer, made_runs_have_one_answer};
-pub use make::{make_run, run_text};
-pub use replay::replay_journal;
+pub use make::run_text;
 pub use steps::unmade_line;

@@ -1,10 +1,9 @@
 -- What the parts of `post` do. This project's own.
-use Rattle.std.specs.Prelude.{◌≡◌, ◌⊎◌, ℕ, ◌<◌, ◌≤◌, List, ◌++◌, length, codes, Some, Result, Ok, Err, Vec}
+use Rattle.std.specs.Prelude.{◌≡◌, ◌⊎◌, ℕ, ◌<◌, ◌≤◌, List, length, codes, Some, Result, Ok, Err, Vec}
 use Rattle.std.specs.declared.alloc.Global.{Global}
 use Rattle.tl_numbers.specs.Bytes.{AreBytes}
 use Rattle.tl_base.specs.Outside.{View, IsThere}
-use Rattle.tl_base.specs.Packets.{IsPacketLength, packet}
-use Rattle.tl_base.specs.declared.packet.PacketFault.{PacketFault}
+use Rattle.tl_base.specs.Packets.{IsPacketLength}
 use Rattle.box_events.specs.declared.limits.TheConstants.{MAX_FRAME_BYTES}
 use Rattle.box_events.specs.declared.requests.Numbered.{Numbered}
 use Rattle.wire_checks.specs.declared.fault.WireFault.{WireFault}
@@ -12,17 +11,15 @@ use Rattle.wire_profile.specs.Places.{ProfileView}
 use Rattle.box_wire.specs.Kinds.{calls}
 use Rattle.box_wire.specs.Framing.{WireRefused}
 use Rattle.update_sessions.specs.Packed.{MeansCall}
-use Rattle.update_sessions.specs.Heard.{NoFrame}
-use Rattle.command_base.specs.Jobs.{Job}
 use Rattle.command_base.specs.Loading.{Refuses}
 use Rattle.command_base.specs.declared.stop.Stop.{Stop}
 use Rattle.command_base.specs.declared.stop.Stop.TheVariants as stop
 use Rattle.command_base.specs.declared.stop.Unmade.{Unmade}
 use Rattle.fault_lines.specs.Messages.{wire_line}
 use Rattle.session_commands.specs.declared.sending.Sending.{Sending}
-use Rattle.session_commands.specs.Linked.{linking_job, next_link, used_link, KeepsFiles, LeavesLinks}
-use Rattle.session_commands.specs.Lines.{packet_line, long_call_line}
-use Rattle.session_commands.specs.Post.{IsWordLong, Outcome, OfBody, OfInput, OfSent, shows, peer}
+use Rattle.session_commands.specs.Linked.{KeepsFiles, LeavesLinks}
+use Rattle.session_commands.specs.Lines.{long_call_line}
+use Rattle.session_commands.specs.Post.{Outcome, OfBody, shows, peer}
 
 -- ---- a call
 
@@ -57,35 +54,6 @@ Sends p b (Err fault) = Refuses (TellsUnsent p b) fault
 
 -- ---- a packet that comes
 
--- it is the first; or the bytes begin with none, and the line says why
-abbrev pub Comes : List ℕ → List ℕ → Result (Unit {0}) Stop → Type 0
-Comes bytes frame (Ok u) = (rest : List ℕ) × IsPacketLength (length frame) × (bytes ≡ packet frame ++ rest)
-Comes bytes frame (Err (stop.Peer line)) = (fault : PacketFault) × NoFrame bytes fault × IsWordLong fault × (packet_line fault ≡ Some line.items)
-Comes bytes frame (Err stop.LinkFault) = Unit {0}
-Comes bytes frame (Err stop.Memory) = Unit {0}
-Comes bytes frame (Err e) = ⊥
-
--- a link stops a run by the other end's fault, by its own, or where memory runs out
-abbrev pub LinkStops : Result (Unit {0}) Stop → Type 0
-LinkStops (Ok u) = Unit {0}
-LinkStops (Err (stop.Peer line)) = Unit {0}
-LinkStops (Err stop.LinkFault) = Unit {0}
-LinkStops (Err stop.Memory) = Unit {0}
-LinkStops (Err e) = ⊥
-
--- likewise after this was sent; where the link failed or memory ran out a prefix of it was
-abbrev pub Exchanges : List ℕ → List ℕ → List ℕ → List ℕ → Result (Unit {0}) Stop → Type 0
-Exchanges sent bytes out frame (Ok u) = (out ≡ sent) × Comes bytes frame (Ok u)
-Exchanges sent bytes out frame (Err (stop.Peer line)) = (out ≡ sent) × Comes bytes frame (Err (stop.Peer line))
-Exchanges sent bytes out frame (Err stop.LinkFault) = Unit {0}
-Exchanges sent bytes out frame (Err stop.Memory) = Unit {0}
-Exchanges sent bytes out frame (Err e) = ⊥
-
--- a link is made to an address, and then all that
-abbrev pub CallsAddress : List ℕ → List ℕ → List ℕ → Result (Unit {0}) Stop → View → View → Type 0
-CallsAddress address sent frame r v w =
-    ((r ≡ Err stop.LinkFault) × (w ≡ v)) ⊎ ((left : List ℕ) × (out : List ℕ) × (w ≡ used_link (Some address) left out v) × Exchanges sent (next_link v) out frame r)
-
 -- there is a link to come, and room for the address and for what is sent
 pub record HasRoomToCall (address sent : List ℕ) (v : View) : Type 0 where
   pub coming : 0 < length v.links
@@ -111,25 +79,10 @@ TellsNoFrame fault s = ⊥
 
 -- ---- the parts as jobs; what they keep is told beside them
 
-abbrev pub keeps_all : View → View → Type 0
-keeps_all v w = Unit {0}
-
--- from where the profile is known
-abbrev pub input_job : ProfileView → List ℕ → List ℕ → Job
-input_job p address input = linking_job (λ v a. OfInput address input v.files (next_link v) p a) keeps_all
-
--- from where the call is known
-abbrev pub sent_job : ProfileView → ℕ → List ℕ → List ℕ → Job
-sent_job p n address b = linking_job (λ v a. OfSent p n address b (next_link v) a) keeps_all
-
 -- files, State and moments are as before
 pub record KeepsMost (v w : View) : Type 0 where
   pub rest : KeepsFiles v w
   pub state : (w.written.state ≡ v.written.state) × (w.state_name ≡ v.state_name)
-
--- and so is Input
-abbrev pub KeepsInput : View → View → Type 0
-KeepsInput v w = KeepsMost v w × (w.left.input ≡ v.left.input)
 
 -- files, State and moments are as before, and links too where there is no file of this name
 pub record KeepsInputAt (name : List ℕ) (v w : View) : Type 0 where

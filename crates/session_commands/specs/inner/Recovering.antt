@@ -12,21 +12,13 @@ use Rattle.wire_values.specs.Carried.{IsSaved}
 use Rattle.wire_values.specs.SavedClients.{saved_tree}
 use Rattle.box_wire.specs.Kinds.{saved_clients}
 use Rattle.box_wire.specs.Framing.{Framed, Means, WireRefused}
-use Rattle.update_sessions.specs.Honest.{HearsHonestly}
-use Rattle.update_sessions.specs.declared.fault.SessionFault.{SessionFault}
-use Rattle.command_base.specs.Jobs.{Job}
 use Rattle.command_base.specs.Loading.{Refuses}
-use Rattle.command_base.specs.declared.stop.Stop.{Stop}
-use Rattle.command_base.specs.declared.stop.Stop.TheVariants as stop
 use Rattle.command_base.specs.declared.stop.Unmade.{Unmade}
 use Rattle.fault_lines.specs.Messages.{wire_line}
 use Rattle.fault_lines.specs.SavedClients.{load_line}
 use Rattle.session_commands.specs.declared.leaving.Leaving.{Leaving}
-use Rattle.session_commands.specs.Client.{OfSession, OfStateFile, client_line, many_channels_line}
-use Rattle.session_commands.specs.Linked.{linking_job, next_link, KeepsFiles, LeavesLinks, LeavesState}
-use Rattle.session_commands.specs.SessionEnds.{IsShort, session_line}
-use Rattle.session_commands.specs.inner.Calling.{CallsOver}
-use Rattle.session_commands.specs.inner.Posting.{keeps_all}
+use Rattle.session_commands.specs.Client.{OfStateFile, client_line, many_channels_line}
+use Rattle.session_commands.specs.Linked.{next_link, KeepsFiles, LeavesLinks, LeavesState}
 
 -- ---- the state file
 
@@ -57,18 +49,6 @@ Watches o (Err e) d = Refuses (λ line. (o ≡ None) × (line ≡ many_channels_
 
 -- ---- the session
 
--- what a session does; where the link fails or memory runs out nothing is said here
-abbrev pub Converses : ProfileView → ClientState → List ℕ → List ℕ → ClientState → Result (Unit {0}) Stop → Type 0
-Converses p c given sent d (Ok u) = (frames : ℕ) × HearsHonestly p c given sent d (Ok frames)
-Converses p c given sent d (Err (stop.Peer line)) = (fault : SessionFault) × HearsHonestly p c given sent d (Err fault) × IsShort fault × (session_line fault ≡ Some line.items)
-Converses p c given sent d (Err stop.LinkFault) = Unit {0}
-Converses p c given sent d (Err stop.Memory) = Unit {0}
-Converses p c given sent d (Err e) = ⊥
-
--- a link is made to an address, and then all that
-abbrev pub CallsServer : ProfileView → List ℕ → ClientState → ClientState → Result (Unit {0}) Stop → View → View → Type 0
-CallsServer p address c d r v w = CallsOver address (λ given sent. Converses p c given sent d r) r v w
-
 -- ---- what is left of a client
 
 -- its spelling and its line
@@ -77,14 +57,6 @@ pub record LeavesOf (p : ProfileView) (c : ClientState) (l : Leaving) : Type 0 w
   pub line : l.line.items ≡ client_line c
 
 -- ---- the parts as jobs; what they keep is told beside them
-
--- from where the profile is known
-abbrev pub state_job : ProfileView → List ℕ → List ℕ → List ℤ → Job
-state_job p address name channels = linking_job (λ v a. OfStateFile address name channels v.files (next_link v) p a) keeps_all
-
--- from where the client is known
-abbrev pub session_job : ProfileView → List ℕ → List ℕ → ClientState → Job
-session_job p address name c = linking_job (λ v a. OfSession p address name c (next_link v) a) keeps_all
 
 -- files, moments and Input are as before, and State too, unless an answer creates it; links, where there is no file of this name
 pub record KeepsStateFile (p : ProfileView) (address name : List ℕ) (channels : List ℤ) (v w : View) : Type 0 where
