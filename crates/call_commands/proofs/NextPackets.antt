@@ -7,5 +7,3 @@ use Rattle.tl_numbers.proofs.Spelled.{words}
 -- a packet's length and its content
 pub packet_long : (content : List ℕ) → length (packet content) ≡ 4 + length content
 packet_long content = omega (arith, length-append (word (length content)) content, words.long (length content))
-
--- ---- failed reads

@@ -59,5 +59,3 @@ stale_told schema old at n b line fits some none is = λ past stands. (
   stale n b fits some refl (λ c here. none_some c (sym none ∙ open_found schema old past n c stands here)) refl is,
   none_logs schema old n b none past stands,
 )
-
--- ---- numbers

@@ -50,11 +50,3 @@ TellsUnpacked at (packet_fault.BadLength n) u = (n < 2 ^ 32) × RefusesAs (count
 TellsUnpacked at (packet_fault.Ended had) u = RefusesAs (counted_line at (codes "Ended") had) u
 TellsUnpacked at packet_fault.ReadFault u = u ≡ unmade.ReadFault
 TellsUnpacked at packet_fault.Memory u = u ≡ unmade.Memory
-
--- ---- the next packet is read
-
--- ---- the next packet is told
-
--- ---- calls that read and write
-
--- ---- jobs of parts

@@ -45,5 +45,3 @@ pub record ReachesInput (files : Files) (schema type : List ℕ) : Type 0 where
 -- the command, of SCHEMA, TYPE and INPUT
 abbrev pub typed_job : ToInput → List ℕ → List ℕ → List ℕ → Job
 typed_job Tells schema type input = unlinked_job (λ v a. TypedAnswer Tells v.files schema type input a) ⊥ (λ v w. KeepsUnread (ReachesInput v.files schema type) v w)
-
--- ---- what is made of an input

@@ -22,7 +22,3 @@ module _ {X : Type 0} (slot : Slot) (name : List ℕ) (limit : ℕ) (Is : List �
   -- what is made of a text that is too long is made of all that begin so
   abbrev pub StaysLong : Type 0
   StaysLong = (bytes read rest : List ℕ) (r : Result X Unmade) → bytes ≡ read ++ rest → limit < length read → Gives Is Tells read r → Gives Is Tells bytes r
-
--- ---- what is made of what was loaded
-
--- ---- what loading leaves

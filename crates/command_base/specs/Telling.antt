@@ -10,5 +10,3 @@ Tells write_rose line v w = (w.written.errors ≡ v.written.errors ++ line) ⊎ 
 -- a line on Errors, and nothing else
 abbrev pub TellsLine : Type 0 → List ℕ → View → View → Type 0
 TellsLine rose line v w = (w.written.output ≡ v.written.output) × Tells rose line v w
-
--- ---- a run that stopped

@@ -37,5 +37,3 @@ module _ (schema : Declared) (T : Shape) where
       refuses_as (λ line. line ≡ json_line (Misfit m.path.items m.cause)) (TellsJson schema T bytes) u
       (λ line says. (Misfit m.path.items m.cause, (d, v, is, as_read, tells), says)) is_told
   unfit bytes v fit.Memory u is tells is_told = memory_refuses (TellsJson schema T bytes) u is_told
-
-  -- ---- a file

@@ -14,15 +14,9 @@ use Rattle.schema_files.specs.JsonInput.{IsJsonOf}
 
 module _ (p : ProfileView) (good : IsProfile p) (address input : List ℕ) where
 
-  -- ---- the input is refused
-
   -- ---- the value has a spelling
 
   pub spelled : (bytes : List ℕ) (x : Value) → IsJsonOf p.schema call bytes (view x) → (b : List ℕ) × Spells p.schema call (view x) b
   spelled bytes x (d, is, reads, fits) =
       let s = (each_fits_exactly p.schema good.schema MAX_LEVELS call (view x) (subst (λ (T : Shape). IsFormed p.schema T) called (called_formed p.schema))).spelled fits in
       (s.0, s.1)
-
-  -- ---- the call is sent
-
-  -- ---- what is kept

@@ -171,8 +171,6 @@ module _ (p : ProfileView) (good : IsProfile p) where
   same_asked : (c : ClientState) (x y : List ℕ) → Packed (SpellsCall p) (ticks (wakes c)).asks x → Packed (SpellsCall p) (ticks (wakes c)).asks y → x ≡ y
   same_asked c x y h k = one_packed (SpellsCall p) one_call (ticks (wakes c)).asks x y h k
 
-  -- ---- no session asks for more
-
   -- ---- it is one
 
   one_count : (m n k : ℕ) → m ≡ k → n ≡ k → ◌≡◌ {A = Result ℕ SessionFault} (Ok m) (Ok n)

@@ -40,8 +40,6 @@ whole_told session.TooManyFrames line short tells = tt
 whole_told session.LinkFault line short tells = none_some line tells
 whole_told session.Memory line short tells = none_some line tells
 
--- ---- what a session that failed is told as
-
 -- ---- answers
 
 module _ (p : ProfileView) (good : IsProfile p) (address name : List ℕ) (c : ClientState) where

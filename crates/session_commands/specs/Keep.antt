@@ -15,8 +15,6 @@ use Rattle.command_base.specs.Jobs.{Job}
 use Rattle.fault_lines.specs.Profiled.{HasProfile}
 use Rattle.session_commands.specs.Serve.{IsAny, IsWhole, OfSessions, Sessions, SessionsAnswer, Total, serving_job}
 
--- ---- how a run ends
-
 -- ---- answers
 
 -- the server that entries rebuild; any, where they aren't told

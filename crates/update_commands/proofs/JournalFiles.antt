@@ -21,5 +21,3 @@ pub stays_long : (name : List ℕ) → StaysLong Input name MAX_JOURNAL_BYTES Is
 stays_long name bytes read rest (Ok x) e long h =
     (h.0 ∙ seen_alike read rest long ∙ ap seen_of (sym e), h.1 ∙ goes_alike read rest long ∙ ap goes_on (sym e))
 stays_long name bytes read rest (Err u) e long h = refuses_as (NoLine read) (NoLine bytes) u (λ line none. none) h
-
--- ---- the stage

@@ -33,5 +33,3 @@ module _ (files : Files) (good : HoldBytes files) (journal : List ℕ) (n : ℕ)
 
 pub each_has_one : EachHasOneReplay
 each_has_one files good schema journal n = record { one = one_replay files good journal n schema; there = each_replay files good journal n schema }
-
--- ---- the stages

@@ -33,7 +33,3 @@ fault_told output (whole k) f line is tells = no_fault f k is
 fault_told output (no_step at fault) f line is tells = ap (option_map (refused_after output)) (ap stop_line (sym (same_fault f (replay.Wire at fault) is)) ∙ tells)
 fault_told output (not_made at cause) f line is tells = cause_told output at cause line (ap stop_line (sym (same_fault f (replay.Step at (fault_of cause)) is)) ∙ tells)
 fault_told output (too_long at) f line is tells = ap (option_map (refused_after output)) (ap stop_line (sym (same_fault f (replay.TooLong at) is)) ∙ tells)
-
--- ---- the job of a journal
-
--- ---- a replay that doesn't begin

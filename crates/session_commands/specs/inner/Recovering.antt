@@ -47,8 +47,6 @@ abbrev pub Watches : Option ClientState → Result (Unit {0}) Unmade → ClientS
 Watches o (Ok u) d = o ≡ Some d
 Watches o (Err e) d = Refuses (λ line. (o ≡ None) × (line ≡ many_channels_line)) e
 
--- ---- the session
-
 -- ---- what is left of a client
 
 -- its spelling and its line

@@ -11,11 +11,3 @@ GoesOn true true old new line = new ≡ old ++ line
 GoesOn true false old new line = AddsPrefix old new line
 GoesOn false true old new line = ⊥
 GoesOn false false old new line = new ≡ old
-
--- ---- a session over a store
-
--- ---- a connection
-
--- ---- a part as a job; what it keeps is told beside it
-
--- ---- sessions in turn
