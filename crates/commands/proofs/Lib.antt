@@ -11,3 +11,4 @@ pub mod Found
 pub mod WordsRead
 pub mod WordsParted
 mod Digits
+pub mod RunsWords
