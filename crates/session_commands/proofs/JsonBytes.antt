@@ -299,6 +299,23 @@ tokens_hold text are = punctuated fresh (lex between text) (lexed between text a
 
 -- ---- values of JSON, as they stand; keys aside
 
+abbrev mutual
+  JsonHolds : Json → Type 0
+  JsonHolds (json.string s) = AreBytes s
+  JsonHolds (json.array js) = JsonsHold js
+  JsonHolds (json.object ms) = MembersHold ms
+  JsonHolds (json.number s) = ⊤
+  JsonHolds (json.boolean b) = ⊤
+  JsonHolds json.null = ⊤
+
+  JsonsHold : json.Items → Type 0
+  JsonsHold json.no_items = ⊤
+  JsonsHold (json.item j js) = JsonHolds j × JsonsHold js
+
+  MembersHold : json.Members → Type 0
+  MembersHold json.no_members = ⊤
+  MembersHold (json.member k j ms) = JsonHolds j × MembersHold ms
+
 -- what was read, and what is left
 abbrev Reads : {A : Type 0} → (A → Type 0) → Option (A × List Token) → Type 0
 Reads P None = ⊤
@@ -386,6 +403,23 @@ value_holds (suc n) =
     (λ ts h. members_hold (value n) (value_holds n) (length ts) ts h)
 
 -- ---- values, each key once
+
+abbrev mutual
+  pub DataHolds : Data → Type 0
+  DataHolds (string s) = AreBytes s
+  DataHolds (array ds) = ItemsHold ds
+  DataHolds (object ms) = PartsHold ms
+  DataHolds (number n) = ⊤
+  DataHolds (boolean b) = ⊤
+  DataHolds null = ⊤
+
+  pub ItemsHold : Items → Type 0
+  ItemsHold no_items = ⊤
+  ItemsHold (item d ds) = DataHolds d × ItemsHold ds
+
+  pub PartsHold : Members → Type 0
+  PartsHold no_members = ⊤
+  PartsHold (member k d ms) = DataHolds d × PartsHold ms
 
 one_of_three : (o : Ordering) (a b c : Members) → PartsHold a → PartsHold b → PartsHold c → PartsHold (match_ordering o a b c)
 one_of_three Less a b c p q r = p

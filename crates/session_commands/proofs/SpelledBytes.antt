@@ -1,7 +1,7 @@
 -- Values whose texts are bytes are spelled by bytes.
 use Rattle.std.proofs.Common.{◌≡◌, ℕ, zero, suc, ◌+◌, ◌/◌, ◌%◌, ◌<◌, ◌^◌, List, [], ◌∷◌, ◌++◌, length, replicate, Bool, true, false, refl, sym, subst, inl, inr, arith}
 use Rattle.std.proofs.lemmas.Bool.{leb-true}
-use Rattle.std.specs.Prelude.{nat_le, if◌then◌else◌}
+use Rattle.std.specs.Prelude.{⊤, nat_le, if◌then◌else◌}
 use Rattle.tl_numbers.specs.Bytes.{AreBytes}
 use Rattle.tl_numbers.specs.Numbers.{word, double_word}
 use Rattle.tl_numbers.specs.declared.numbers.TheConstants.{BOXED_VECTOR}
@@ -12,6 +12,24 @@ use Rattle.tl_types.specs.Values.{ValueView, int, long, nat, opaque, text, truth
 use Rattle.tl_types.specs.Texts.{missing, text_bytes, text_head, three_bytes}
 use Rattle.tl_types.specs.Spelling.{Begins, boxed, bare, vector_prefix, Spells, SpellEach, SpellFields}
 use Rattle.session_commands.proofs.JsonBytes.{no_bytes, one_more_byte, bytes_joined}
+
+-- the texts in a value are of bytes
+abbrev mutual
+  pub ValueHolds : ValueView → Type 0
+  ValueHolds (opaque s) = AreBytes s
+  ValueHolds (text s) = AreBytes s
+  ValueHolds (list vs) = ValuesHold vs
+  ValueHolds (node i vs) = ValuesHold vs
+  ValueHolds (call i vs) = ValuesHold vs
+  ValueHolds (int z) = ⊤
+  ValueHolds (long z) = ⊤
+  ValueHolds (nat n) = ⊤
+  ValueHolds truth = ⊤
+  ValueHolds absent = ⊤
+
+  pub ValuesHold : ValueViews → Type 0
+  ValuesHold no_values = ⊤
+  ValuesHold (value v vs) = ValueHolds v × ValuesHold vs
 
 are_so : (x y : List ℕ) → x ≡ y → AreBytes y → AreBytes x
 are_so x y is are = subst AreBytes (sym is) are
