@@ -12,7 +12,7 @@ use Rattle.commands.proofs.KeepWords.{one_keep}
 use Rattle.run_laws.specs.Ended.{IsShown}
 use Rattle.run_laws.specs.Kept.{KeptEnds}
 use Rattle.run_laws.specs.Runs.{StoredEnds}
-use Rattle.run_laws.proofs.Keeping.{keep_ends}
+use Rattle.run_laws.proofs.keeping.Running.{keep_ends}
 
 ends_by : (words : List (List ℕ)) (k : KeepText) (t : List Act) (status : KeptStatus) (s n : Outside) (old new : KeeperState) → AsksToKeep words k → IsShown s.view → Fits (events_in t) s n → KeeperGrew old t new → RunsStored words t status
     → KeptEnds k.schema k.address k.sessions (events_in t) s.view n.view (IsReliable s) old new status

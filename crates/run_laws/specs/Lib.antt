@@ -1,4 +1,5 @@
 pub mod Ended
+pub mod Client
 pub mod Kept
 pub mod Requests
 pub mod Answers
