@@ -5,3 +5,4 @@ pub mod Touching
 pub mod Kept
 pub mod Endings
 pub mod Stored
+pub mod Counted

@@ -1,12 +1,16 @@
 -- What can be said of a run of words over any host: what it touches, and why it ends by a fault. This project's own.
-use Rattle.std.specs.Prelude.{◌≡◌, ◌≢◌, ℕ, List}
+use Rattle.std.specs.Prelude.{◌≡◌, ◌≢◌, ◌<◌, ◌^◌, ℕ, List}
+use Rattle.tl_base.specs.Causes.{Rose}
+use Rattle.tl_base.specs.Kinds.{count_of}
+use Rattle.tl_base.specs.declared.counts.Counts.{Counts}
+use Rattle.tl_base.specs.declared.counts.Kind.{Kind}
 use Rattle.tl_base.specs.declared.host.Out.{Out}
 use Rattle.tl_base.specs.declared.host.Out.TheVariants as outs
 use Rattle.tl_base.specs.declared.host.Slot.TheVariants as slots
 use Rattle.command_base.specs.declared.status.Status.{Status}
 use Rattle.command_base.specs.declared.status.Status.TheVariants.{Usage, ReadFault, WriteFault, LinkFault, PeerFault}
-use Rattle.outside.specs.Events.{Event, opened, took, ended, read_failed, created, put, write_failed, listened, connected, accepted, told}
-use Rattle.outside.specs.Laws.{Happened, IsFromLink, Throughout}
+use Rattle.outside.specs.Events.{Event, counted_all, opened, took, ended, read_failed, created, put, write_failed, listened, connected, accepted, told}
+use Rattle.outside.specs.Laws.{Happened, IsFailure, IsFromLink, Throughout}
 use Rattle.codec_rooms.specs.Commands as codec
 use Rattle.codec_rooms.specs.Laws.{IsOf}
 use Rattle.call_rooms.specs.Commands as calling
@@ -92,3 +96,13 @@ pub record Explained (words : List (List ℕ)) (t : List Event) (status : Status
 
 abbrev pub WordsHaveCause : Type 0
 WordsHaveCause = (words : List (List ℕ)) (t : List Event) (status : Status) → RunsWords words t status → Explained words t status
+
+-- ---- counts
+
+-- counts of 64 bits, as those of each host
+abbrev pub AreCounts : Counts → Type 0
+AreCounts c = (kind : Kind) → count_of kind c < 2 ^ 64
+
+-- where a call of a kind failed, the count of that kind rose: so a host that tells nothing but its counts shows that it did
+abbrev pub FailuresAreCounted : Type 0
+FailuresAreCounted = (kind : Kind) (t : List Event) (c : Counts) → AreCounts c → Happened (IsFailure kind) t → Rose (count_of kind c) (count_of kind (counted_all t c))

@@ -3,7 +3,7 @@ ghost use Rattle.std.specs.Prelude.{ℕ, List};
 ghost use Rattle.commands.specs.Requests.{Asks};
 ghost use Rattle.run_laws.specs.Answers.{HasAnAnswer, HasOneAnswer};
 ghost use Rattle.run_laws.specs.Runs.{StoredEnds, WordsAreSound, WordsEnd, WordsKeep};
-ghost use Rattle.run_laws.specs.Touched.{WordsHaveCause, WordsLeaveLinks, WordsTouch};
+ghost use Rattle.run_laws.specs.Touched.{FailuresAreCounted, WordsHaveCause, WordsLeaveLinks, WordsTouch};
 
 /// Over any host a run of words of no request does nothing but tell a line, and one of a request nothing but what is of it: its files, each by its slot, its
 /// address, and its outs. One that uses no links touches none.
@@ -12,9 +12,11 @@ pub fn words_touch()
     ensures unlinked { WordsLeaveLinks }
 {}
 
-/// Over any host a fault's status comes only of a request, and only where a call of that kind failed.
+/// Over any host a fault's status comes only of a request, and only where a call of that kind failed; and where one failed its count rose, which a host shows that
+/// tells nothing else.
 pub fn words_have_cause()
-    ensures { WordsHaveCause }
+    ensures caused { WordsHaveCause }
+    ensures counted { FailuresAreCounted }
 {}
 
 /// Over an outside that shows what it holds a run ends with the answer to its words, or is stopped where a call failed or memory ran out; and by no fault where none was
