@@ -41,8 +41,8 @@ found words a b d e h None is keep none = λ k asked.
 
 -- ---- words ask to keep one thing
 
-parts : (words : List (List ℕ)) (a b d e k l m n : List ℕ) → words ≡ codes "keep" ∷ a ∷ b ∷ d ∷ e ∷ [] → words ≡ codes "keep" ∷ k ∷ l ∷ m ∷ n ∷ [] → (a ≡ k) × (b ≡ l) × (d ≡ m) × (e ≡ n)
-parts words a b d e k l m n is at = (cc, cc, cc, cc)
+same_words : (words : List (List ℕ)) (a b d e k l m n : List ℕ) → words ≡ codes "keep" ∷ a ∷ b ∷ d ∷ e ∷ [] → words ≡ codes "keep" ∷ k ∷ l ∷ m ∷ n ∷ [] → (a ≡ k) × (b ≡ l) × (d ≡ m) × (e ≡ n)
+same_words words a b d e k l m n is at = (cc, cc, cc, cc)
 
 same_text : (j k : KeepText) → j.schema ≡ k.schema → j.address ≡ k.address → j.sessions ≡ k.sessions → j.file ≡ k.file → j ≡ k
 same_text j k a b m x =
@@ -51,6 +51,6 @@ same_text j k a b m x =
 
 pub one_keep : (words : List (List ℕ)) (j k : KeepText) → AsksToKeep words j → AsksToKeep words k → j ≡ k
 one_keep words j k a b =
-    let p = parts words j.schema j.address a.0 j.file k.schema k.address b.0 k.file a.1 b.1 in
+    let p = same_words words j.schema j.address a.0 j.file k.schema k.address b.0 k.file a.1 b.1 in
     let number : j.sessions ≡ k.sessions = a.4.value ∙ ap (λ (w : List ℕ). number_from 0 w) p.2 ∙ sym b.4.value in
     same_text j k p.0 p.1 number p.3
