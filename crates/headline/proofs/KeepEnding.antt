@@ -17,7 +17,7 @@ use Rattle.session_commands.proofs.OneTotal.{any_of}
 use Rattle.serve_rooms.specs.Acts.{events_in}
 use Rattle.serve_rooms.specs.declared.status.KeptStatus.TheVariants.{Run}
 use Rattle.run_laws.specs.Ended.{LinkFailed}
-use Rattle.run_laws.specs.Kept.{KeptByFile, KeptEnd, kept_status, keeper_failed, served, stopped}
+use Rattle.run_laws.specs.Kept.{KeptByFile, KeptEnd, kept_status, keeper_failed, keeper_untold, served, stopped}
 use Rattle.run_laws.proofs.Stored.{stored_runs_end}
 use Rattle.headline.specs.Histories.{AreMoments, HasHistory, IsThere}
 use Rattle.headline.specs.KeptRuns.{KeepsOver, KeptClientsMeet, KeptRunsMeet, SavesOfKept}
@@ -36,6 +36,7 @@ served_all L schema_name address n entries after v w (served status) e h = h
 served_all L schema_name address n entries after v w (stopped Done) e h = absurd h
 served_all L schema_name address n entries after v w (stopped status) e h = absurd cc
 served_all L schema_name address n entries after v w keeper_failed e h = absurd cc
+served_all L schema_name address n entries after v w keeper_untold e h = absurd cc
 
 -- its sessions, and what was sent in them
 record Kept (schema : List ℕ) (es : List Entry) (k : ℕ) (v w : View) : Type 0 where

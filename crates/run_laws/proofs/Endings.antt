@@ -41,7 +41,7 @@ use Rattle.run_laws.proofs.files.Decoded as decoded
 use Rattle.run_laws.proofs.files.Encoded as encoded
 use Rattle.run_laws.proofs.files.Made as made
 use Rattle.run_laws.proofs.files.Replayed as replayed
-use Rattle.run_laws.proofs.links.ClientRuns as recovered
+use Rattle.run_laws.proofs.Recovering as recovered
 use Rattle.run_laws.proofs.links.PostRuns as posted
 use Rattle.run_laws.proofs.serving.ServeRuns as served
 

@@ -1,8 +1,13 @@
+pub mod keeping
+pub mod serving
+pub mod links
+pub mod files
 pub mod OneAnswer
 pub mod AnAnswer
 pub mod Told
 pub mod Touching
 pub mod Kept
+pub mod Recovering
 pub mod Endings
 pub mod Stored
 pub mod Counted

@@ -4,9 +4,9 @@ use Rattle.tl_base.specs.Outside.{View}
 use Rattle.box_server.specs.Servers.{ServerState}
 use Rattle.box_store.specs.declared.entry.Entry.{Entry}
 use Rattle.box_store.specs.Keeping.{KeeperState, Keeps}
-use Rattle.command_base.specs.Answer.{read_fault_line}
+use Rattle.command_base.specs.Answer.{memory_line}
 use Rattle.command_base.specs.Jobs.{Job}
-use Rattle.command_base.specs.Telling.{Tells}
+use Rattle.command_base.specs.Telling.{TellsLine}
 use Rattle.command_base.specs.Sound.{IsFault}
 use Rattle.command_base.specs.Sound as sound
 use Rattle.command_base.specs.declared.status.Status.{Status}
@@ -28,34 +28,40 @@ use Rattle.run_laws.specs.Ended.{Ended, IsShown, LinkFailed, ReadFailed, Stops, 
 abbrev pub keep_fault_line : List ℕ
 keep_fault_line = codes "tlbox: keep fault\n"
 
--- how a run ends: all its sessions were served, with this status of their first fault; it was stopped with this status; or a call to the keeper failed
+-- how a run ends: all its sessions were served, with this status of their first fault; it was stopped with this status; a call to the keeper failed; or memory ran out
+-- as that was told
 pub data KeptEnd : Type 0 where
   served : Status → KeptEnd
   stopped : Status → KeptEnd
   keeper_failed : KeptEnd
+  keeper_untold : KeptEnd
 
 -- the status that it ends with
 abbrev pub kept_status : KeptEnd → KeptStatus
 kept_status (served status) = Run status
 kept_status (stopped status) = Run status
 kept_status keeper_failed = KeepFault
+kept_status keeper_untold = Run Memory
 
 abbrev pub IsKeeperEnd : KeptEnd → Type 0
 IsKeeperEnd (served status) = ⊥
 IsKeeperEnd (stopped status) = ⊥
 IsKeeperEnd keeper_failed = Unit {0}
+IsKeeperEnd keeper_untold = Unit {0}
 
--- the host's part: as the run of its job, where the keeper failed as one that was stopped, by the keeper's line
+-- the host's part: as the run of its job, where the keeper failed as one that was stopped, by the keeper's line, or by a prefix of it and that of memory
 abbrev pub HostEnds : Job → Type 0 → Type 0 → Type 0 → KeptEnd → View → View → Type 0
 HostEnds job R W L (served status) v w = Ended job R W L status v w
 HostEnds job R W L (stopped status) v w = Ended job R W L status v w
 HostEnds job R W L keeper_failed v w = Stops job W L keep_fault_line v w
+HostEnds job R W L keeper_untold v w = (u : View) × Stops job (Unit {0}) L keep_fault_line v u × TellsLine W memory_line u w
 
 -- a fault of the outside stopped it
 abbrev pub IsOutsideFault : KeptEnd → Type 0
 IsOutsideFault (served status) = IsFault status
 IsOutsideFault (stopped status) = IsFault status
 IsOutsideFault keeper_failed = ⊥
+IsOutsideFault keeper_untold = ⊥
 
 -- What a run that was stopped has kept: that of its first sessions where nobody could be listened to or taken, or Output failed; that of no session where something
 -- was refused or unread.
@@ -75,6 +81,7 @@ KeptByFile L schema address n entries now_entries (served status) v w = (h : Has
 KeptByFile L schema address n entries now_entries (stopped status) v w =
     StopKeeps ((h : HasProfile v.files schema) × (s : ServerState) × Starts entries s × KeepsFirst L h.p address s n entries now_entries v w) (now_entries ≡ entries) status
 KeptByFile L schema address n entries now_entries keeper_failed v w = HasProfile v.files schema
+KeptByFile L schema address n entries now_entries keeper_untold v w = HasProfile v.files schema
 
 -- A run of `keep SCHEMA ADDRESS SESSIONS FILE` over a keeper: how it ended, what it left of the outside, and what of the keeper.
 pub record KeptEnds (schema address : List ℕ) (sessions : ℕ) (t : List Event) (v w : View) (reliable : Type 0) (old new : KeeperState) (status : KeptStatus) : Type 0 where

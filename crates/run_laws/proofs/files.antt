@@ -1,0 +1,17 @@
+pub mod Called
+pub mod Checked
+pub mod Coming
+pub mod Compared
+pub mod Cutting
+pub mod Decoded
+pub mod Encoded
+pub mod Ending
+pub mod InputLeft
+pub mod Made
+pub mod Packets
+pub mod Profiled
+pub mod RefusedLonger
+pub mod Replayed
+pub mod Schemas
+pub mod Spared
+pub mod Turning

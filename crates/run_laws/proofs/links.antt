@@ -1,0 +1,12 @@
+pub mod ClientComing
+pub mod ClientRuns
+pub mod ClientSound
+pub mod Coming
+pub mod Ending
+pub mod PostComing
+pub mod PostRuns
+pub mod Reaching
+pub mod SentLess
+pub mod StateFiles
+pub mod ToldLines
+pub mod Unbroken
