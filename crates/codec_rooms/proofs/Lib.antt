@@ -1,16 +1,16 @@
 pub mod InputRead
-mod Checking
+pub mod Checking
 pub mod Typing
 mod Encoding
 pub mod TypedLaws
 mod RefusedLonger
 pub mod FileLaws
 pub mod TypedFiles
-mod EncodingLaws
+pub mod EncodingLaws
 mod Decoding
 mod InputTaken
 mod InputLeft
-mod DecodingLaws
+pub mod DecodingLaws
 mod Layering
 mod Following
-mod LayeringLaws
+pub mod LayeringLaws

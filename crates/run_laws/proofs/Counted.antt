@@ -1,5 +1,5 @@
 -- A failure raises the count of its kind, and no count falls.
-use Rattle.std.proofs.Common.{◌≡◌, ◌×◌, ◌<◌, ◌≤◌, ◌^◌, ℕ, List, [], ◌∷◌, Bool, true, false, Some, None, refl, sym, ap, ◌∙◌, subst, arith, inl, inr}
+use Rattle.std.proofs.Common.{◌≡◌, ◌<◌, ◌≤◌, ◌^◌, ℕ, List, [], ◌∷◌, Bool, true, false, Some, None, refl, sym, ap, ◌∙◌, subst, arith, inl, inr}
 use Rattle.tl_base.specs.Causes.{Rose, one_more}
 use Rattle.tl_base.specs.Kinds.{count_of, with_count, slot_kind, out_kind}
 use Rattle.tl_base.specs.declared.counts.Counts.{Counts}

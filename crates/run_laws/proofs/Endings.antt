@@ -118,7 +118,7 @@ module _ (words : List (List ℕ)) (t : List Event) (status : Status) (s n : Out
       elim (cases_lt (length (next_link s.view)) (2 ^ 30)) [
         | inl short ↦ ends_as words (client schema address state channels) asks (ReadFailed t) (WriteFailed t) (LinkFailed t) status s.view n.view (e.short (are_long asks.0 channels asks.5) short)
         | inr long ↦ (elim e.some [
-          | inl as ↦ ends_as words (client schema address state channels) asks (ReadFailed t) (WriteFailed t) (LinkFailed t) status s.view n.view as
+          | inl known ↦ ends_as words (client schema address state channels) asks (ReadFailed t) (WriteFailed t) (LinkFailed t) status s.view n.view known
           | inr un ↦ unsaved schema address state channels asks (omega (arith, long)) un.failed un.ends un.output un.told
         ])
       ]

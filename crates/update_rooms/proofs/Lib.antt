@@ -1,8 +1,8 @@
 pub mod Profiling
 pub mod ProfiledLaws
 mod RunsMade
-mod MakingLaws
+pub mod MakingLaws
 mod Parts
 mod Replayed
 mod ReplayFiles
-mod ReplayingLaws
+pub mod ReplayingLaws
