@@ -93,7 +93,7 @@ module _ (words : List (List ℕ)) (r : RequestText) (asks : AsksFor words r) (R
   may a (inl is) = inl (answers.requested r asks is)
   may a (inr (failed, broken)) = inr (failed, r, asks, broken)
 
-  stops : (line : List ℕ) → Stops (job_of r) W L line v w → StopsAfter words W L line v w
+  abbrev stops : (line : List ℕ) → Stops (job_of r) W L line v w → StopsAfter words W L line v w
   stops line h = record { request = r; asked = asks; stops = h }
 
   ends_as : Ended (job_of r) R W L status v w → Ends words R W L status v w
@@ -161,7 +161,7 @@ words_end words t status s n over = ended words t status s n over.shown over.fit
 
 -- a line alone is all that a job leaves to Errors
 keeps_line : (r : RequestText) (v w : View) → OnlyErrors v w → (job_of r).keeps v w
-keeps_line r v w is = kept.job_keeps r v w is
+keeps_line r v w is = kept.job_keeps v w is r
 
 kept_by : (words : List (List ℕ)) (t : List Event) (status : Status) (s n : Outside) → IsShown s.view → Fits t s n → RunsWords words t status → Keeps words s.view n.view
 kept_by words t status s n shown f (no_request none h) = record { of_none = λ _. only_errors t s n (telling usage_line Usage status t h) f; of_request = λ r asks. absurd (none r asks) }
@@ -186,7 +186,7 @@ no_fault status is same (inr (inr e)) read write link = link (sym same ∙ e)
 sound_by : (words : List (List ℕ)) (t : List Event) (status : Status) (s n : Outside) → IsShown s.view → Fits t s n → RunsWords words t status → IsReliable s → AnswerFits words s.view → IsFault status → ⊥
 sound_by words t status s n shown f (no_request none h) reliable fits fault = no_fault status Usage (told_status usage_line Usage t status h) fault (λ e. cc) (λ e. cc) (λ e. cc)
 sound_by words t status s n shown f (requested r asks h) reliable fits fault =
-    sound_job r t status s n shown h f reliable (fits.0, (answer_to words s.view r fits.0 asks fits.1, fits.2)) fault
+    sound_job r t status s n shown h f reliable (fits.0, answer_to words s.view r fits.0 asks fits.1, fits.2) fault
 sound_by words t status s n shown f (no_memory h) reliable fits fault = no_fault status Memory (told_status memory_line Memory t status h) fault (λ e. cc) (λ e. cc) (λ e. cc)
 
 pub words_are_sound : WordsAreSound

@@ -115,15 +115,15 @@ input_unlinked e = cc
 
 request_unlinked : (r : RequestText) → ((job_of r).linked → ⊥) → (t : List Event) → Throughout (IsOfRequest r) t → Throughout IsUnlinked t
 request_unlinked (check schema) none t is = all_unlinked (codec.check schema).reads (schema_unlinked, tt) t is
-request_unlinked (decode schema type input) none t is = all_unlinked (codec.decode schema type input).reads (schema_unlinked, input_unlinked, tt) t is
-request_unlinked (encode schema type input) none t is = all_unlinked (codec.encode schema type input).reads (schema_unlinked, input_unlinked, tt) t is
-request_unlinked (replay schema journal clients) none t is = all_unlinked (updating.replay schema journal clients).reads (schema_unlinked, input_unlinked, tt) t is
+request_unlinked (decode schema type input) none t is = all_unlinked (codec.decode schema type input).reads (schema_unlinked, (input_unlinked, tt)) t is
+request_unlinked (encode schema type input) none t is = all_unlinked (codec.encode schema type input).reads (schema_unlinked, (input_unlinked, tt)) t is
+request_unlinked (replay schema journal clients) none t is = all_unlinked (updating.replay schema journal clients).reads (schema_unlinked, (input_unlinked, tt)) t is
 request_unlinked (make schema number steps) none t is = all_unlinked (updating.make schema number steps).reads (schema_unlinked, tt) t is
 request_unlinked (serve schema address sessions) none t is = absurd (none tt)
 request_unlinked (post schema address input) none t is = absurd (none tt)
 request_unlinked (client schema address state channels) none t is = absurd (none tt)
-request_unlinked (layers old new type) none t is = all_unlinked (codec.layers old new type).reads (schema_unlinked, input_unlinked, tt) t is
-request_unlinked (calls schema input) none t is = all_unlinked (calling.calls schema input).reads (schema_unlinked, input_unlinked, tt) t is
+request_unlinked (layers old new type) none t is = all_unlinked (codec.layers old new type).reads (schema_unlinked, (input_unlinked, tt)) t is
+request_unlinked (calls schema input) none t is = all_unlinked (calling.calls schema input).reads (schema_unlinked, (input_unlinked, tt)) t is
 
 -- an event that touches no link is no failure of one, and nothing comes from there
 told_unlinked : (e : Event) → IsTelling e → IsUnlinked e
