@@ -18,7 +18,6 @@ pub record Listed (es : List Declaration) (i : ℕ) (text : List ℕ) (construct
   pub functions_are : functions ≡ count_by is_listed_function (take i es)
 
 module _ (es : List Declaration) (i : ℕ) (text : List ℕ) (constructors functions : ℕ) (so_far : Listed es i text constructors functions) where
-
   module _ (e : Declaration) (at : slice_get es i ≡ Some e) where
     one_line : text ++ entry_line e ≡ flat_map entry_line (take (i + 1) es)
     one_line =

@@ -18,7 +18,6 @@ memory_refuses P fault is = subst (Refuses P) (sym is) tt
 -- ---- a file
 
 module _ {X : Type 0} (slot : Slot) (name : List ℕ) (limit : ℕ) (Is : List ℕ → X → Type 0) (Tells : List ℕ → List ℕ → Type 0) where
-
   -- what is made of a text that is too long is made of all that begin so
   abbrev pub StaysLong : Type 0
   StaysLong = (bytes read rest : List ℕ) (r : Result X Unmade) → bytes ≡ read ++ rest → limit < length read → Gives Is Tells read r → Gives Is Tells bytes r

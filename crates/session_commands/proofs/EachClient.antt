@@ -217,7 +217,6 @@ module _ (p : ProfileView) (good : IsProfile p) where
   -- ---- sessions
 
   module _ (address name : List ℕ) (c : ClientState) (given first : List ℕ) (packed : Packed (SpellsCall p) (ticks (wakes c)).asks first) (g : Hearing MAX_FRAMES (begun c) given) where
-
     of_hears : (result : Result ℕ SessionFault) (last : List Frame) → HearsOn p (begun c) given g.out g.client_after result g.taken_frames last → HearsHonestly p c given (first ++ g.out) g.client_after result
     of_hears result last on = honestly p c g.client_after given (first ++ g.out) result g.taken_frames last (asked first g.out packed refl on)
 

@@ -13,7 +13,6 @@ use Rattle.box_wire.proofs.Called.{called, called_formed}
 use Rattle.schema_files.specs.JsonInput.{IsJsonOf}
 
 module _ (p : ProfileView) (good : IsProfile p) (address input : List ℕ) where
-
   -- ---- the value has a spelling
 
   pub spelled : (bytes : List ℕ) (x : Value) → IsJsonOf p.schema call bytes (view x) → (b : List ℕ) × Spells p.schema call (view x) b

@@ -22,7 +22,6 @@ given_bytes (x ∷ xs) all (suc k) = given_bytes xs all.1 k
 -- ---- the status of sessions whose links don't fail
 
 module _ (p : ProfileView) (s : ServerState) (given : List (List ℕ)) (moments : List ℕ) where
-
   pub any_of : (k : ℕ) (r : Total) → Sessions IsWhole p s given moments k r → Sessions IsAny p s given moments k r
   any_of zero r is = is
   any_of (suc k) r (q, e, out, t, more, h, whole, session, is) = (q, e, out, t, more, any_of k q h, tt, session, is)
