@@ -1,4 +1,4 @@
--- What the parts of `calls` answer, and what they do to the outside. This project's own.
+-- What the parts of `calls` answer. This project's own.
 use Rattle.std.specs.Prelude.{◌≡◌, ℕ, ◌+◌, ◌<◌, ◌^◌, List, ◌∷◌, ◌++◌, Option, Some, None, Result, Ok, Err, Vec, codes, decimal}
 use Rattle.std.specs.declared.alloc.Global.{Global}
 use Rattle.tl_base.specs.declared.packet.PacketFault.{PacketFault}

@@ -1,4 +1,4 @@
-//! The command `calls`: calls and answers of a file, each answer told in its call's own result, and once.
+//! What `calls` tells of a file's packets: its calls and answers, each answer in its call's own result, and once.
 #![tactic(auto)]
 
 mod laws;

@@ -1,4 +1,4 @@
-//! The commands over schemas and the values that are spelled in them: `check`, `decode` and `encode`.
+//! What `check`, `decode` and `encode` answer to files, and the list of a schema's declarations.
 #![tactic(auto)]
 
 mod listed;

@@ -1,4 +1,4 @@
--- What is made of a text and of a file: something, or a refusal with its line. This project's own.
+-- What is made of a text: something, or a refusal with its line. This project's own.
 use Rattle.std.specs.Prelude.{◌≡◌, ℕ, List, Result, Ok, Err, Vec}
 use Rattle.std.specs.declared.alloc.Global.{Global}
 use Rattle.std.specs.declared.alloc.AllocError.{AllocError}

@@ -1,4 +1,4 @@
--- Where a call may fail, and where it can't: over a sound outside that tells its view, over which the job has an answer, with room for it.
+-- Where a job has an answer over an outside, with room for it, and which statuses are those of a fault.
 -- This project's own.
 use Rattle.std.specs.Prelude.{◌≡◌, ◌⊎◌, ◌≤◌, length, IfSome}
 use Rattle.std.specs.List.{All}

@@ -1,4 +1,4 @@
--- How a run that stopped is told on Errors, and the status that it ends with. This project's own.
+-- How a run that stopped is told on Errors. This project's own.
 use Rattle.std.specs.Prelude.{◌≡◌, ◌⊎◌, ℕ, List, ◌++◌}
 use Rattle.tl_base.specs.Outside.{View}
 use Rattle.command_base.specs.Kept.{AddsPrefix}

@@ -1,4 +1,4 @@
-//! What every command shares: how a job ends, its line on Errors, its status, and what a job is. No schema, no journal.
+//! What every command shares: how a job ends, its line on Errors, its status, and what a job is. No schema, no journal, no host.
 #![tactic(auto)]
 
 mod lines;

@@ -1,4 +1,4 @@
-//! The command over layers: `layers`, which tells whether a new schema still reads the bytes of an old one.
+//! What `layers` answers to files: whether a new schema still reads the bytes of an old one.
 #![tactic(auto)]
 
 mod laws;

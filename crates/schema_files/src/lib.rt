@@ -1,4 +1,4 @@
-//! Schemas, their types and inputs of JSON from files and words, for each command: the thing, or a refusal with its line.
+//! Schemas, their types and inputs of JSON from texts and words, for each command: the thing, or a refusal with its line.
 #![tactic(auto)]
 
 mod json_input;

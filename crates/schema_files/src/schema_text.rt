@@ -1,4 +1,4 @@
-//! Schemas from their texts and files.
+//! Schemas from their texts.
 ghost use Rattle.schema_files.specs.Parts.{ReadsSchema};
 ghost use Rattle.schema_files.specs.inner.Tellings.{TellsCheck};
 

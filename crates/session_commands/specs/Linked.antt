@@ -1,4 +1,4 @@
--- What a command does over a link of its host, and what it leaves. This project's own.
+-- What a command over a link answers, and what it leaves. This project's own.
 use Rattle.std.specs.Prelude.{◌≡◌, ◌⊎◌, ℕ, ◌+◌, List, [], ◌∷◌, ◌++◌, get_or, Option, Some, None}
 use Rattle.tl_base.specs.Outside.{View}
 use Rattle.command_base.specs.declared.status.Status.{Status}

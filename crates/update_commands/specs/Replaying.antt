@@ -1,4 +1,4 @@
--- What the parts of `replay` answer, and what they do to the outside. This project's own.
+-- What the parts of `replay` answer. This project's own.
 use Rattle.std.specs.Prelude.{◌≡◌, ℕ, List, Option, Some, None}
 use Rattle.box_events.specs.declared.steps.Step.{Step}
 use Rattle.fault_lines.specs.Messages.{step_line}

@@ -1,4 +1,4 @@
-//! The commands over journals of updates: `replay`, and `make`, which makes a run of draws.
+//! What `replay` and `make` answer to files: the report of a journal, and the summary of a run that is made of draws.
 #![tactic(auto)]
 
 mod laws;

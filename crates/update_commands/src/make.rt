@@ -1,4 +1,4 @@
-//! `make`: a run is made of draws over a schema with the protocol, and its summary is written.
+//! `make`: the summary of a run that is made of draws over a schema with the protocol.
 ghost use Rattle.std.specs.Prelude.{◌≤◌};
 ghost use Rattle.command_base.specs.Loading.{RefusesAs};
 ghost use Rattle.update_commands.specs.Make.{TellsRun, full_line};

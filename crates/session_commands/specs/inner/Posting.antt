@@ -77,7 +77,7 @@ TellsNoFrame fault (stop.Peer line) = wire_line (codes "peer") fault ≡ Some li
 TellsNoFrame fault stop.Memory = Unit {0}
 TellsNoFrame fault s = ⊥
 
--- ---- the parts as jobs; what they keep is told beside them
+-- ---- what is left as it was
 
 -- files, State and moments are as before
 pub record KeepsMost (v w : View) : Type 0 where

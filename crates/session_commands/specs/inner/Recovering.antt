@@ -54,7 +54,7 @@ pub record LeavesOf (p : ProfileView) (c : ClientState) (l : Leaving) : Type 0 w
   pub state : Framed p saved_clients (saved_tree (saved_of c)) l.state
   pub line : l.line.items ≡ client_line c
 
--- ---- the parts as jobs; what they keep is told beside them
+-- ---- what is left as it was
 
 -- files, moments and Input are as before, and State too, unless an answer creates it; links, where there is no file of this name
 pub record KeepsStateFile (p : ProfileView) (address name : List ℕ) (channels : List ℤ) (v w : View) : Type 0 where
