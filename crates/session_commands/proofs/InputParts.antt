@@ -1,4 +1,4 @@
--- What `post` makes of its input, and then of the call that this is.
+-- The value that `post` makes of its input has a spelling.
 use Rattle.std.proofs.Common.{ℕ, List, subst}
 use Rattle.tl_schema.specs.Types.{Shape, call}
 use Rattle.tl_schema.specs.Formed.{IsFormed}

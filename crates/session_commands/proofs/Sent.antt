@@ -1,4 +1,4 @@
--- What sending a call does, from what comes of it.
+-- What the next link gives are bytes, where an outside shows bytes.
 use Rattle.std.proofs.Common.{◌≡◌, ℕ, List, [], ◌∷◌, get_or, refl, sym, ap, subst, arith}
 use Rattle.tl_numbers.specs.Bytes.{AreBytes, ListsOfBytes}
 use Rattle.tl_base.specs.Outside.{View, ShowsBytes}

@@ -1,4 +1,4 @@
--- Sessions one after the other, and how a run of them ends.
+-- Sessions one after the other: which link is the next.
 use Rattle.std.proofs.Common.{◌≡◌, ℕ, ◌+◌, List, get_or, drop, ap, ◌∙◌, arith}
 use Rattle.std.proofs.lemmas.List.{get_or-drop}
 

@@ -1,4 +1,4 @@
--- The replay of a journal that is read from its file.
+-- What is looked at of a journal, where it is read to one byte past the limit.
 use Rattle.std.proofs.Common.{◌≡◌, ℕ, ◌<◌, List, ◌++◌, length, length-append, Ok, Err, sym, ap, ◌∙◌, arith, lt-ltb}
 use Rattle.std.proofs.lemmas.List.{take-append-le}
 use Rattle.tl_base.specs.declared.host.Slot.TheVariants.{Input}

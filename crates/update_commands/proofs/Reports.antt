@@ -1,4 +1,4 @@
--- A journal's replay, written to Output.
+-- How the end of a replay is told.
 use Rattle.std.proofs.Common.{◌≡◌, ℕ, List, Some, Result, Ok, Err, option_map, sym, ap, ◌∙◌}
 use Rattle.box_events.specs.declared.steps.Step.{Step}
 use Rattle.command_base.specs.Answer.{refused_after}
