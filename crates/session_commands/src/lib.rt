@@ -1,5 +1,5 @@
-//! What the commands over a link answer: `post`, which sends one call and prints its reply, `serve`, which serves connections from one new server, `keep`, which
-//! does so from a server whose posts are kept, and `client`, which brings a saved client up to date; and the parts of these that know no host.
+//! What the commands over a link answer: `post`, which sends one call and prints its reply, `serve`, which serves connections from one new server,
+//! `keep`, which does so from a server whose posts are kept, and `client`, which brings a saved client up to date; and the parts of these that know no host.
 #![tactic(auto)]
 
 mod channels;
