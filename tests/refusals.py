@@ -225,7 +225,7 @@ HEAD = """# What stays after a refusal
 
 A call that refuses answers a fault. What stands then of what it was lent to change (`&mut`) is a clause of its contract, the last column. `tests/refusals.py` makes this page: calls, faults and names of clauses are read from the sources, and what a clause says from `tests/refusals.txt`. **open**: no clause says what stays.
 
-A call that is lent nothing to change changes nothing, and isn't listed. What a call takes by value is gone, whatever it answers. Memory that a call has taken may stay taken (`spare`, room) where no clause says that nothing changed. A count of faults never falls, and rises where `Failed`, `ReadFault`, `WriteFault` or `LinkFault` is answered; what stands beside the slot, out or link that was lent is kept (`used`, `faults`, `beside`). Of `codec_commands`, `call_commands`, `layer_commands` and `update_commands` *the rest* is Errors, files, State, links, the address and moments, and what is left of Input, unless the work came to it.
+A call that is lent nothing to change changes nothing, and isn't listed. What a call takes by value is gone, whatever it answers. Memory that a call has taken may stay taken (`spare`, room) where no clause says that nothing changed. A count of faults never falls, and rises where `Failed`, `ReadFault`, `WriteFault` or `LinkFault` is answered; what stands beside the slot, out or link that was lent is kept (`used`, `faults`, `beside`).
 """
 
 
