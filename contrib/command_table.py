@@ -1,9 +1,9 @@
-"""The table of commands, as the sources have it: the usage line of crates/commands/specs/Answers.antt, the rows of crates/commands/src/table.rt, and that of
+"""The table of commands, as the sources have it: the usage line of crates/commands/specs/Usage.antt, the rows of crates/commands/src/table.rt, and that of
 `keep` in crates/commands/src/keep_words.rt."""
 import os, re
 
 ROOT = os.path.dirname(os.path.dirname(os.path.realpath(__file__)))
-USAGE = "crates/commands/specs/Answers.antt"
+USAGE = "crates/commands/specs/Usage.antt"
 TABLE = "crates/commands/src/table.rt"
 KEEP = "crates/commands/src/keep_words.rt"
 
