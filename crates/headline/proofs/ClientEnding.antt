@@ -28,7 +28,7 @@ use Rattle.session_commands.specs.Linked.{next_link}
 use Rattle.commands.specs.Requests.{AsksFor, RequestText, client}
 use Rattle.run_laws.specs.Ended.{LinkFailed, ReadFailed, WriteFailed}
 use Rattle.run_laws.specs.Requests.{job_of}
-use Rattle.run_laws.specs.Runs.{Ends, MayAnswer, answered, link_failed, out_of_memory, out_of_memory_later, out_of_memory_told, unsaved, read_failed, read_failed_later, write_failed}
+use Rattle.run_laws.specs.Runs.{Ends, MayAnswer, answered, link_failed, out_of_memory, out_of_memory_later, out_of_memory_told, read_failed, read_failed_later, write_failed}
 use Rattle.run_laws.proofs.Endings.{words_end}
 use Rattle.run_laws.proofs.OneAnswer.{answer_to}
 use Rattle.commands.proofs.Rows.{one_request}
@@ -175,7 +175,6 @@ client_ends words schema_name address state_name channels R W L v w schema state
 client_ends words schema_name address state_name channels R W L v w schema state asks has holds (out_of_memory is output tells) = absurd (not_memory is)
 client_ends words schema_name address state_name channels R W L v w schema state asks has holds (out_of_memory_later is s pieces) = absurd (not_memory is)
 client_ends words schema_name address state_name channels R W L v w schema state asks has holds (out_of_memory_told is r also tells u before told) = absurd (not_memory is)
-client_ends words schema_name address state_name channels R W L v w schema state asks has holds (unsaved name to given ids also long rose is output tells) = absurd (not_write is)
 
 pub client_headline : ClientHeadline
 client_headline words schema_name address state_name channels t before after schema state asks has holds over =

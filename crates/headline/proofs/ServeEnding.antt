@@ -20,7 +20,7 @@ use Rattle.session_commands.specs.Serve.{IsAny, IsWhole, OfSessions, ServeAnswer
 use Rattle.session_commands.proofs.OneTotal.{any_of, given_bytes}
 use Rattle.commands.specs.Requests.{AsksFor, RequestText, serve}
 use Rattle.run_laws.specs.Requests.{job_of}
-use Rattle.run_laws.specs.Runs.{Ends, MayAnswer, answered, link_failed, out_of_memory, out_of_memory_later, out_of_memory_told, unsaved, read_failed, read_failed_later, write_failed}
+use Rattle.run_laws.specs.Runs.{Ends, MayAnswer, answered, link_failed, out_of_memory, out_of_memory_later, out_of_memory_told, read_failed, read_failed_later, write_failed}
 use Rattle.run_laws.proofs.OneAnswer.{answer_to}
 use Rattle.commands.proofs.Rows.{one_request}
 use Rattle.headline.specs.Histories.{AreMoments, HasHistory}
@@ -151,4 +151,3 @@ module _ (schema_name address : List ℕ) (n : ℕ) (schema : List ℕ) (v w : V
     serve_ends (out_of_memory is output tells) = absurd (not_memory is)
     serve_ends (out_of_memory_later is s pieces) = absurd (not_memory is)
     serve_ends (out_of_memory_told is r also tells u before told) = absurd (not_memory is)
-    serve_ends (unsaved name to given ids also long rose is output tells) = absurd (not_write is)

@@ -1,5 +1,4 @@
 pub mod Ended
-pub mod Client
 pub mod Kept
 pub mod Requests
 pub mod Answers

@@ -1,5 +1,5 @@
 -- How a run of words ends over an outside that shows what it holds. This project's own.
-use Rattle.std.specs.Prelude.{◌≡◌, ◌⊎◌, ◌≤◌, ◌^◌, ℕ, ℤ, List, ◌++◌, length}
+use Rattle.std.specs.Prelude.{◌≡◌, ◌⊎◌, ℕ, List, ◌++◌}
 use Rattle.tl_base.specs.Outside.{View}
 use Rattle.command_base.specs.Answer.{Answer, read_fault_line, write_fault_line, link_fault_line, memory_line}
 use Rattle.command_base.specs.Kept.{Leaves, OnlyErrors}
@@ -14,8 +14,7 @@ use Rattle.box_store.specs.Keeping.{KeeperState}
 use Rattle.serve_rooms.specs.Acts.{Act, KeeperGrew, events_in}
 use Rattle.serve_rooms.specs.declared.status.KeptStatus.{KeptStatus}
 use Rattle.commands.specs.KeepWords.{AsksToKeep, KeepText}
-use Rattle.session_commands.specs.Linked.{next_link}
-use Rattle.commands.specs.Requests.{RequestText, AsksFor, AsksNothing, AskForOne, client}
+use Rattle.commands.specs.Requests.{RequestText, AsksFor, AsksNothing, AskForOne}
 use Rattle.commands.specs.Work.{RunsStored, RunsWords}
 use Rattle.run_laws.specs.Answers.{Answers}
 use Rattle.run_laws.specs.Ended.{IsShown, LinkFailed, ReadFailed, Stops, ToldBefore, WriteFailed}
@@ -34,8 +33,7 @@ pub record StopsAfter (words : List (List ℕ)) (write_failed link_failed : Type
 
 -- A run ends with its answer; or, where the words ask for a request, with a fault, where a call of that kind failed; or out of memory. What it wrote until then is
 -- none of its Output, or a prefix: out of memory only in a job that writes in pieces, after a failed read only in one that reads on between these. Where a job tells lines as
--- it goes, memory may run out after a fault was told. And where State can't be created for a client whose link gave 2^30 bytes and more, there may be no answer, since what is to be saved may be more than
--- a saved client can have.
+-- it goes, memory may run out after a fault was told.
 pub data Ends (words : List (List ℕ)) (read_happened write_happened link_happened : Type 0) (status : Status) (v w : View) : Type 0 where
   answered : (a : Answer) → MayAnswer words link_happened v a → status ≡ a.status → w.written.output ≡ v.written.output ++ a.output → Leaves a v w → Tells write_happened a.errors v w
       → Ends words read_happened write_happened link_happened status v w
@@ -45,8 +43,6 @@ pub data Ends (words : List (List ℕ)) (read_happened write_happened link_happe
   link_failed : link_happened → status ≡ LinkFault → StopsAfter words write_happened link_happened link_fault_line v w → Ends words read_happened write_happened link_happened status v w
   out_of_memory : status ≡ Memory → w.written.output ≡ v.written.output → Tells write_happened memory_line v w → Ends words read_happened write_happened link_happened status v w
   out_of_memory_later : status ≡ Memory → (s : StopsAfter words write_happened link_happened memory_line v w) → (job_of s.request).in_pieces → Ends words read_happened write_happened link_happened status v w
-  unsaved : (schema address state : List ℕ) (channels : List ℤ) → AsksFor words (client schema address state channels) → 2 ^ 30 ≤ length (next_link v) → write_happened → status ≡ WriteFault → w.written.output ≡ v.written.output → Tells write_happened write_fault_line v w
-      → Ends words read_happened write_happened link_happened status v w
   out_of_memory_told : status ≡ Memory → (r : RequestText) → AsksFor words r → (job_of r).tells → (u : View) → ToldBefore (job_of r) read_happened write_happened link_happened v u → TellsLine write_happened memory_line u w
       → Ends words read_happened write_happened link_happened status v w
 

@@ -15,7 +15,7 @@ use Rattle.wire_profile.specs.Places.{ProfileView}
 use Rattle.wire_values.specs.SavedClients.{saved_tree}
 use Rattle.box_wire.specs.Framing.{Framed}
 use Rattle.box_wire.specs.Kinds.{saved_clients}
-use Rattle.command_base.specs.Answer.{Answer, done, link_fault_line, read_fault_line, refused, write_fault_line}
+use Rattle.command_base.specs.Answer.{Answer, done, link_fault_line, memory_line, read_fault_line, refused, write_fault_line}
 use Rattle.command_base.specs.Jobs.{GivesOutput}
 use Rattle.command_base.specs.Kept.{Leaves}
 use Rattle.command_base.specs.declared.status.Status.{Status}
@@ -44,7 +44,7 @@ use Rattle.session_commands.specs.Linked.{next_link, over_link, saves_after}
 use Rattle.session_commands.specs.SessionEnds.{session_line}
 use Rattle.session_commands.specs.declared.state.TheConstants.{MAX_STATE_BYTES}
 use Rattle.session_rooms.specs.Client as rooms
-use Rattle.session_rooms.specs.Client.{saves, after_state, after_create, ends_by, after_session, after_connect, Recovers, OfState, no_client, too_many, watches, after_reading, OfStateFile, recovers}
+use Rattle.session_rooms.specs.Client.{no_memory, saves, after_state, after_create, ends_by, after_session, after_connect, Recovers, OfState, no_client, too_many, watches, after_reading, OfStateFile, recovers}
 use Rattle.session_rooms.specs.ClientAnswers.{ClientAnswers}
 use Rattle.session_rooms.specs.Conversing.{Outcome, Converses}
 use Rattle.session_rooms.proofs.Conversed.{keeps_converse}
@@ -151,18 +151,20 @@ module _ (p : ProfileView) (address name : List ℕ) where
       }
   state_written c bytes false t u r a m k b made framed w h f g is = absurd (is.1 (told_status write_fault_line status.WriteFault u r h))
 
-  state_created : (c : ClientState) (ok : Bool) (t u : List Event) (r : Status) (a m b : Outside) → t ≡ created outs.State name ok ∷ [] → after_create p c ok u r → Fits t a m → Fits u m b → IsAnswer r → Saved c r a b
-  state_created c true t u r a m b event (saves bytes framed h) f g is =
+  state_created : (c : ClientState) (bytes : List ℕ) (ok : Bool) (t u : List Event) (r : Status) (a m b : Outside) → Framed p saved_clients (saved_tree (saved_of c)) bytes → t ≡ created outs.State name ok ∷ [] → after_create c bytes ok u r → Fits t a m → Fits u m b → IsAnswer r
+      → Saved c r a b
+  state_created c bytes true t u r a m b framed event h f g is =
       let o = subst (λ (l : List Event). Fits l a m) event f in
       let made : m.view ≡ with_name outs.State name (with_written outs.State [] a.view) = ap (λ (x : Outside). x.view) o.2 ∙ o.1.0 in
       let parts = fits_both h.first h.rest m b (subst (λ (l : List Event). Fits l m b) h.splits g) in
       state_written c bytes h.between h.first h.rest r a m parts.0 b made framed h.does h.goes parts.1 parts.2 is
-  state_created c false t u r a m b event h f g is = absurd (is.1 (told_status write_fault_line status.WriteFault u r h))
+  state_created c bytes false t u r a m b framed event h f g is = absurd (is.1 (told_status write_fault_line status.WriteFault u r h))
 
   client_left : (c : ClientState) (t : List Event) (r : Status) (a b : Outside) → rooms.Leaves p name c t r → Fits t a b → IsAnswer r → Saved c r a b
-  client_left c t r a b h f is =
+  client_left c t r a b (no_memory h) f is = absurd (is.2 (told_status memory_line status.Memory t r h))
+  client_left c t r a b (saves bytes framed h) f is =
       let parts = fits_both h.first h.rest a b (subst (λ (l : List Event). Fits l a b) h.splits f) in
-      state_created c h.between h.first h.rest r a parts.0 b h.does h.goes parts.1 parts.2 is
+      state_created c bytes h.between h.first h.rest r a parts.0 b framed h.does h.goes parts.1 parts.2 is
 
   -- ---- the session
 

@@ -14,9 +14,9 @@ use Rattle.box_wire.specs.Kinds.{frames}
 use Rattle.fault_lines.specs.Answers.{answer_line}
 use Rattle.box_client.specs.Asking.{ticks, wakes, is_one_asking}
 use Rattle.wire_profile.specs.Places.{ProfileView}
-use Rattle.command_base.specs.Answer.{done, link_fault_line, refused, write_fault_line}
+use Rattle.command_base.specs.Answer.{done, link_fault_line, memory_line, refused, write_fault_line}
 use Rattle.command_base.specs.declared.status.Status.{Status}
-use Rattle.command_base.specs.declared.status.Status.TheVariants.{LinkFault, PeerFault, ReadFault, WriteFault}
+use Rattle.command_base.specs.declared.status.Status.TheVariants.{LinkFault, Memory, PeerFault, ReadFault, WriteFault}
 use Rattle.outside.specs.Events.{Event, connected, created}
 use Rattle.outside.specs.Laws.{Throughout, Keeps, Happened, IsFailure, IsFromLink, Explains, HasCause}
 use Rattle.outside.specs.Packets.{PacketView, whole, TakesPacket}
@@ -38,7 +38,7 @@ use Rattle.session_commands.specs.Client.{client_line, many_channels_line}
 use Rattle.session_commands.specs.SessionEnds.{session_line}
 use Rattle.session_commands.proofs.ToldCauses.{frame_told, told_line}
 use Rattle.session_commands.specs.declared.state.TheConstants.{MAX_STATE_BYTES}
-use Rattle.session_rooms.specs.Client.{OfState, no_client, too_many, watches, OfStateFile, Recovers, after_reading, after_connect, after_session, Leaves, after_create, WritesSaved, saves, after_state, ends_by, recovers}
+use Rattle.session_rooms.specs.Client.{OfState, no_client, too_many, watches, OfStateFile, Recovers, after_reading, after_connect, after_session, Leaves, after_create, no_memory, saves, after_state, ends_by, recovers}
 use Rattle.session_rooms.specs.ClientLaws.{IsOfClient, ClientTouches, ClientHasCause}
 use Rattle.session_rooms.specs.Conversing.{Outcome, Asks, after_asking, HearsBytes, no_frame, refused as refused_frame, heard, after_packet, HearsNext, Heard, turn_of, hears_by, HearsOn, after_begin, Converses}
 use Rattle.session_rooms.specs.Sending.{Sends}
@@ -58,12 +58,13 @@ module _ (schema address state : List ℕ) where
     keeps_written c true = keeps_print P (λ _. tt) tt (λ _. tt) tt (done (client_line c))
     keeps_written c false = keeps_tell P (λ _. tt) tt write_fault_line WriteFault
 
-    keeps_created : (c : ClientState) (ok : Bool) → Keeps P (after_create p c ok)
-    keeps_created c true t s (saves bytes framed h) = keeps_then P _ _ (keeps_write P outs.State bytes (λ _. tt) tt) (keeps_written c) t s h
-    keeps_created c false t s h = keeps_tell P (λ _. tt) tt write_fault_line WriteFault t s h
+    keeps_created : (c : ClientState) (bytes : List ℕ) (ok : Bool) → Keeps P (after_create c bytes ok)
+    keeps_created c bytes true t s h = keeps_then P _ _ (keeps_write P outs.State bytes (λ _. tt) tt) (keeps_written c) t s h
+    keeps_created c bytes false t s h = keeps_tell P (λ _. tt) tt write_fault_line WriteFault t s h
 
     keeps_leave : (c : ClientState) → Keeps P (Leaves p state c)
-    keeps_leave c = keeps_then P _ _ (keeps_call P (created outs.State state) (λ ok. refl)) (keeps_created c)
+    keeps_leave c t s (saves bytes framed h) = keeps_then P _ _ (keeps_call P (created outs.State state) (λ ok. refl)) (keeps_created c bytes) t s h
+    keeps_leave c t s (no_memory h) = keeps_tell P (λ _. tt) tt memory_line Memory t s h
 
     keeps_ends : (o : Option (List ℕ)) → Keeps P (ends_by o)
     keeps_ends (Some line) = keeps_tell P (λ _. tt) tt line PeerFault
@@ -244,15 +245,16 @@ module _ (p : ProfileView) (state : List ℕ) where
   state_cause c bytes true t u status w h = explains_last status t u (cause_print (done (client_line c)) tt u status h)
   state_cause c bytes false t u status w h = cause_tell write_fault_line WriteFault t u status (unwritten outs.State bytes t w) h
 
-  saved_cause : (c : ClientState) → HasCause (WritesSaved p c)
-  saved_cause c t status (saves bytes framed h) = cause_then (Writes outs.State bytes) (after_state c) (state_cause c bytes) t status h
+  create_cause : (c : ClientState) (bytes : List ℕ) (ok : Bool) (t u : List Event) (status : Status) → t ≡ created outs.State state ok ∷ [] → after_create c bytes ok u status → Explains status (t ++ u)
+  create_cause c bytes true t u status is h = explains_last status t u (cause_then (Writes outs.State bytes) (after_state c) (state_cause c bytes) u status h)
+  create_cause c bytes false t u status is h = cause_tell write_fault_line WriteFault t u status (subst (Happened (IsFailure kinds.Writes)) (sym is) (inl refl)) h
 
-  create_cause : (c : ClientState) (ok : Bool) (t u : List Event) (status : Status) → t ≡ created outs.State state ok ∷ [] → after_create p c ok u status → Explains status (t ++ u)
-  create_cause c true t u status is h = explains_last status t u (saved_cause c u status h)
-  create_cause c false t u status is h = cause_tell write_fault_line WriteFault t u status (subst (Happened (IsFailure kinds.Writes)) (sym is) (inl refl)) h
+  leave_cause : (c : ClientState) → HasCause (Leaves p state c)
+  leave_cause c t status (saves bytes framed h) = cause_then _ (after_create c bytes) (create_cause c bytes) t status h
+  leave_cause c t status (no_memory h) = cause_tell memory_line Memory [] t status tt h
 
   session_cause : (c : ClientState) (r : Outcome) (t u : List Event) (status : Status) → Converses p c t r → after_session p state r u status → Explains status (t ++ u)
-  session_cause c (Ok d) t u status over h = explains_last status t u (cause_then _ (after_create p d) (create_cause d) u status h)
+  session_cause c (Ok d) t u status over h = explains_last status t u (leave_cause d u status h)
   session_cause c (Err fault) t u status over h = ends_cause (session_line fault) t u status (converse_ended p fault c t over) h
 
   module _ (address : List ℕ) where

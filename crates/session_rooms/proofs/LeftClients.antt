@@ -1,45 +1,44 @@
 -- What is left of a client, and how a session's fault is told.
-use Rattle.std.proofs.Common.{◌≡◌, ℕ, List, [], ◌∷◌, Bool, true, false, Option, Some, None, Ok, Err, Vec, Global, refl, sym, ap, ◌∙◌, subst}
+use Rattle.std.proofs.Common.{◌≡◌, ℕ, List, [], true, false, Option, Some, None, Ok, Err, Vec, Global, refl, sym, ap, ◌∙◌, subst}
 use Rattle.tl_base.specs.declared.host.Out.TheVariants as outs
 use Rattle.box_client.specs.States.{ClientState}
 use Rattle.wire_profile.specs.Places.{ProfileView}
-use Rattle.command_base.specs.Answer.{done, link_fault_line, write_fault_line}
+use Rattle.command_base.specs.Answer.{done, link_fault_line, memory_line, write_fault_line}
 use Rattle.command_base.specs.declared.status.Status.{Status}
-use Rattle.command_base.specs.declared.status.Status.TheVariants.{LinkFault, PeerFault, WriteFault}
+use Rattle.command_base.specs.declared.status.Status.TheVariants.{LinkFault, Memory, PeerFault, WriteFault}
 use Rattle.command_base.specs.declared.stop.Stop.TheVariants as stop
 use Rattle.outside.specs.Events.{HostState, created}
 use Rattle.outside.specs.Pieces.{Tells, Writes}
 use Rattle.outside.specs.Printing.{Prints}
 use Rattle.outside.specs.Begun.{Did, DidIn, to_link}
-use Rattle.outside.specs.Steps.{Begins, Then}
+use Rattle.outside.specs.Steps.{Begins, Calls, Then}
 use Rattle.outside.proofs.Growing.{did_any, did_both, did_none, did_stop, did_then}
 use Rattle.outside.proofs.Piecewise.{can_tell}
 use Rattle.codec_rooms.proofs.Typing.{did_as}
 use Rattle.update_sessions.specs.declared.fault.SessionFault.{SessionFault}
 use Rattle.update_sessions.specs.declared.fault.SessionFault.TheVariants as session
+use Rattle.session_commands.specs.Client.{client_line}
 use Rattle.session_commands.specs.SessionEnds.{TellsSession, session_line}
 use Rattle.session_commands.specs.declared.leaving.Leaving.{Leaving}
 use Rattle.session_commands.specs.inner.Recovering.{LeavesOf}
 use Rattle.session_rooms.proofs.Conversed.{may_converse}
-use Rattle.session_rooms.specs.Client.{Leaves, WritesSaved, saves, after_connect, after_create, after_session, after_state, ends_by}
+use Rattle.session_rooms.specs.Client.{Leaves, no_memory, saves, after_connect, after_create, after_session, after_state, ends_by}
 use Rattle.session_rooms.specs.Conversing.{Converses, Outcome, outcome}
 use Rattle.session_rooms.specs.inner.Ends.{TellsEnd}
 
--- State may not be created
+-- memory may run out
 pub can_leave : (p : ProfileView) (name : List ℕ) (c : ClientState) → Begins (Leaves p name c) []
-can_leave p name c =
-    let m = can_tell write_fault_line WriteFault in
-    record { rest = created outs.State name false ∷ m.rest; answer = m.answer; whole = record { first = created outs.State name false ∷ []; rest = m.rest; between = false; splits = refl; does = refl; goes = m.whole } }
+can_leave p name c = let m = can_tell memory_line Memory in record { rest = m.rest; answer = m.answer; whole = no_memory m.whole }
 
-module _ (p : ProfileView) (c : ClientState) (l : Leaving) (of : LeavesOf p c l) (q r s : HostState) where
-  saved : (ok : Bool) (status : Status) → Did (Writes outs.State l.state) q r (Some ok) → Did (after_state c ok) r s (Some status) → Did (WritesSaved p c) q s (Some status)
-  saved ok status h then_so = did_as (Then (Writes outs.State l.state) (after_state c)) (WritesSaved p c) q s (Some status) (λ t x w. saves l.state of.state w) (did_both _ (after_state c) q r s ok _ h then_so)
+pub left_so : (p : ProfileView) (name : List ℕ) (c : ClientState) (l : Leaving) → LeavesOf p c l → (q r : HostState) (status : Status) → Did (Then (Calls (created outs.State name)) (after_create c l.state)) q r (Some status) → DidIn to_link (Leaves p name c) q r (Some status)
+left_so p name c l of q r status h = did_any _ q r status (did_as (Then (Calls (created outs.State name)) (after_create c l.state)) (Leaves p name c) q r (Some status) (λ t x w. saves l.state of.state w) h)
 
-  pub saved_and_told : (line : List ℕ) (status : Status) → line ≡ l.line.items → Did (Writes outs.State l.state) q r (Some true) → Did (Prints (done line)) r s (Some status) → Did (after_create p c true) q s (Some status)
-  saved_and_told line status is h prints = saved true status h (subst (λ (x : List ℕ). Did (Prints (done x)) r s (Some status)) (is ∙ of.line) prints)
+module _ (c : ClientState) (l : Leaving) (of : l.line.items ≡ client_line c) (q r s : HostState) where
+  pub saved_and_told : (line : List ℕ) (status : Status) → line ≡ l.line.items → Did (Writes outs.State l.state) q r (Some true) → Did (Prints (done line)) r s (Some status) → Did (after_create c l.state true) q s (Some status)
+  saved_and_told line status is h prints = did_both _ (after_state c) q r s true _ h (subst (λ (x : List ℕ). Did (Prints (done x)) r s (Some status)) (is ∙ of) prints)
 
-  pub saved_not : (status : Status) → Did (Writes outs.State l.state) q r (Some false) → Did (Tells write_fault_line WriteFault) r s (Some status) → Did (after_create p c true) q s (Some status)
-  saved_not status h tells = saved false status h tells
+  pub saved_not : (status : Status) → Did (Writes outs.State l.state) q r (Some false) → Did (Tells write_fault_line WriteFault) r s (Some status) → Did (after_create c l.state true) q s (Some status)
+  saved_not status h tells = did_both _ (after_state c) q r s false _ h tells
 
 -- ---- a session's fault
 

@@ -8,9 +8,9 @@ use Rattle.wire_profile.specs.Places.{ProfileView}
 use Rattle.wire_values.specs.SavedClients.{saved_tree}
 use Rattle.box_wire.specs.Kinds.{saved_clients}
 use Rattle.box_wire.specs.Framing.{Framed}
-use Rattle.command_base.specs.Answer.{done, refused, link_fault_line, write_fault_line}
+use Rattle.command_base.specs.Answer.{done, refused, link_fault_line, memory_line, write_fault_line}
 use Rattle.command_base.specs.declared.status.Status.{Status}
-use Rattle.command_base.specs.declared.status.Status.TheVariants.{LinkFault, PeerFault, WriteFault}
+use Rattle.command_base.specs.declared.status.Status.TheVariants.{LinkFault, Memory, PeerFault, WriteFault}
 use Rattle.outside.specs.Events.{Event, created, connected}
 use Rattle.outside.specs.Pieces.{ReadsFile, Tells, Writes}
 use Rattle.outside.specs.Printing.{Prints, Unread}
@@ -32,17 +32,16 @@ abbrev pub after_state : ClientState → Bool → Step Status
 after_state c true = Prints (done (client_line c))
 after_state c false = unwritten
 
--- State was created: what the client saves is written there
-pub data WritesSaved (p : ProfileView) (c : ClientState) (t : List Event) (status : Status) : Type 0 where
-  saves : (bytes : List ℕ) → Framed p saved_clients (saved_tree (saved_of c)) bytes → Then (Writes outs.State bytes) (after_state c) t status → WritesSaved p c t status
+-- State was created, and takes these bytes; or it could not be
+abbrev pub after_create : ClientState → List ℕ → Bool → Step Status
+after_create c bytes true = Then (Writes outs.State bytes) (after_state c)
+after_create c bytes false = unwritten
 
-abbrev pub after_create : ProfileView → ClientState → Bool → Step Status
-after_create p c true = WritesSaved p c
-after_create p c false = unwritten
-
--- State is created under the name, and written, and then it is told where the client is
-abbrev pub Leaves : ProfileView → List ℕ → ClientState → Step Status
-Leaves p name c = Then (Calls (created outs.State name)) (after_create p c)
+-- What the client saves has these bytes: State is created under the name, and written, and then it is told where the client is. Or there is no memory for them, as
+-- where they are more than a saved client can have; that is told.
+pub data Leaves (p : ProfileView) (name : List ℕ) (c : ClientState) (t : List Event) (status : Status) : Type 0 where
+  saves : (bytes : List ℕ) → Framed p saved_clients (saved_tree (saved_of c)) bytes → Then (Calls (created outs.State name)) (after_create c bytes) t status → Leaves p name c t status
+  no_memory : Tells memory_line Memory t status → Leaves p name c t status
 
 -- ---- the session
 

@@ -1,10 +1,9 @@
 //! What is left of a client: State, and the line of where it is.
-ghost use Rattle.std.specs.Prelude.{Some, true};
-ghost use Rattle.wire_profile.specs.Places.{ProfileView};
+ghost use Rattle.std.specs.Prelude.{◌≡◌, Some, true};
 ghost use Rattle.box_client.specs.States.{ClientState};
 ghost use Rattle.outside.specs.Runs.{answered};
 ghost use Rattle.outside.specs.Begun.{Did, DidIn, to_link};
-ghost use Rattle.session_commands.specs.inner.Recovering.{LeavesOf};
+ghost use Rattle.session_commands.specs.Client.{client_line};
 ghost use Rattle.session_rooms.specs.Client.{Leaves, after_create};
 ghost use Rattle.session_rooms.specs.inner.Ends.{TellsEnd};
 
@@ -36,7 +35,7 @@ pub fn leave_client<H: Host>(
 
 // Writes State, which was created, and then the line.
 fn write_state<H: Host>(host: &mut H, leaving: &Leaving) -> Status
-    ensures { (p : ProfileView) (c : ClientState) → LeavesOf p c leaving.now → Did (after_create p c true) (H.state host.old) (H.state host.new) (Some result) }
+    ensures { (c : ClientState) → leaving.now.line.items ≡ client_line c → Did (after_create c leaving.now.state true) (H.state host.old) (H.state host.new) (Some result) }
 {
     match write_out(host, Out::State, leaving.state.as_slice()) {
         Ok(()) => print(host, &leaving.line),

@@ -10,7 +10,7 @@ use Rattle.wire_profile.specs.Places.{ProfileView}
 use Rattle.wire_values.specs.SavedClients.{saved_tree}
 use Rattle.box_wire.specs.Framing.{Framed}
 use Rattle.box_wire.specs.Kinds.{saved_clients}
-use Rattle.command_base.specs.Answer.{Answer, done, link_fault_line, read_fault_line, refused, write_fault_line}
+use Rattle.command_base.specs.Answer.{Answer, done, link_fault_line, memory_line, read_fault_line, refused, write_fault_line}
 use Rattle.command_base.specs.Kept.{AddsPrefix, Leaves}
 use Rattle.command_base.specs.Telling.{Tells as TellsOn}
 use Rattle.command_base.specs.declared.status.Status.{Status}
@@ -28,14 +28,14 @@ use Rattle.session_commands.specs.Linked.{BeginsState, LeavesState, next_link, o
 use Rattle.session_commands.specs.SessionEnds.{session_line}
 use Rattle.session_commands.specs.declared.state.TheConstants.{MAX_STATE_BYTES}
 use Rattle.session_rooms.specs.Client as rooms
-use Rattle.session_rooms.specs.Client.{saves, after_state, after_create, ends_by, after_session, after_connect, Recovers, OfState, no_client, too_many, watches, after_reading, OfStateFile, recovers}
+use Rattle.session_rooms.specs.Client.{no_memory, saves, after_state, after_create, ends_by, after_session, after_connect, Recovers, OfState, no_client, too_many, watches, after_reading, OfStateFile, recovers}
 use Rattle.session_rooms.specs.Conversing.{Outcome, Converses}
 use Rattle.session_rooms.proofs.Conversed.{keeps_converse}
 use Rattle.session_rooms.proofs.ConversedBytes.{IsSession, converses_over_bytes}
 use Rattle.session_rooms.proofs.LeftViews.{beside, leaves_then, IsOverLink, link_left, link_spares, IsToState, saves_line, state_left, saved_left}
 use Rattle.session_rooms.proofs.PostFiles.{output_of}
 use Rattle.session_rooms.proofs.Spared.{OnlySlots, writes_spare}
-use Rattle.run_laws.proofs.links.Coming.{Came, gave, cut, unfinished, uncreated, came_as, came_later, Comes, command_comes, file_comes, missing_comes, refusal_comes}
+use Rattle.run_laws.proofs.links.Coming.{Came, gave, cut, out_of_memory, unfinished, came_as, came_later, Comes, command_comes, file_comes, missing_comes, refusal_comes}
 use Rattle.run_laws.proofs.links.StateFiles.{state_stays}
 use Rattle.run_laws.proofs.links.ToldLines.{Causes, Printed, all_printed, part_printed, cause_last, errors_of, print_comes, put_part, tell_alone, tells_later}
 
@@ -63,34 +63,35 @@ printed_beside W status output line r s n (part_printed e wrote tells rest) = re
 module _ (W : Type 0) where
   -- what a run comes to, and what it leaves of State
   abbrev pub End : (Answer → Type 0) → Status → Outside → Outside → Type 0
-  End Is r s n = Came Is W (Unit {0}) r s n × LeavesState Is s.view n.view
+  End Is r s n = Came Is W r s n × LeavesState Is s.view n.view
 
   end_as : (Is J : Answer → Type 0) (r : Status) (s n : Outside) → ((a : Answer) → Is a → J a) → End Is r s n → End J r s n
-  end_as Is J r s n into e = (came_as W (Unit {0}) Is J r s n into e.0, state_as Is J s.view n.view into e.1)
+  end_as Is J r s n into e = (came_as W Is J r s n into e.0, state_as Is J s.view n.view into e.1)
 
   end_later : (Is : Answer → Type 0) (r : Status) (s m n : Outside) → OnlySlots s m → End Is r m n → End Is r s n
   end_later Is r s m n same e =
-      (came_later W (Unit {0}) Is r s m n same e.0, state_later Is s.view m.view n.view (ap (λ (v : View). v.written.state) same, ap (λ (v : View). v.state_name) same) e.1)
+      (came_later W Is r s m n same e.0, state_later Is s.view m.view n.view (ap (λ (v : View). v.written.state) same, ap (λ (v : View). v.state_name) same) e.1)
 
   end_refusal : (Is : Answer → Type 0) (line : List ℕ) (t : List Event) (r : Status) (s n : Outside) → Is (refused line) → Prints (refused line) t r → Fits t s n → Causes W t → End Is r s n
   end_refusal Is line t r s n is h f c =
-      (refusal_comes W (Unit {0}) Is line t r s n is h f c, inl (same_beside s.view n.view (printed_beside W status.Refused [] line r s n (print_comes W (refused line) t r s n h f c))))
+      (refusal_comes W Is line t r s n is h f c, inl (same_beside s.view n.view (printed_beside W status.Refused [] line r s n (print_comes W (refused line) t r s n h f c))))
 
   end_missing : (Is : Answer → Type 0) (t : List Event) (r : Status) (s n : Outside) → Unread t r → Fits t s n → Causes W t → End Is r s n
   end_missing Is t r s n h f c =
       let e = tell_alone W read_fault_line status.ReadFault r t s n h f c in
-      (missing_comes W (Unit {0}) Is t r s n h f c, inl (same_beside s.view n.view e.rest))
+      (missing_comes W Is t r s n h f c, inl (same_beside s.view n.view e.rest))
 
   module _ (p : ProfileView) (address name : List ℕ) where
     -- ---- what is left of a client
 
-    -- the client was saved, and is told; or a write failed after State was created; or it could not be created
+    -- the client was saved, and is told; or a write failed after State was created; or it could not be created; or there was no memory for what is saved
     data Left (c : ClientState) (r : Status) (a b : Outside) : Type 0 where
       saved_all : (bytes : List ℕ) → Framed p saved_clients (saved_tree (saved_of c)) bytes → r ≡ status.Done → output_of b ≡ output_of a ++ client_line c → TellsOn W [] a.view b.view → Leaves (saves_line name bytes (client_line c)) a.view b.view
           → Left c r a b
       saved_part : (bytes : List ℕ) → Framed p saved_clients (saved_tree (saved_of c)) bytes → r ≡ status.WriteFault → AddsPrefix (output_of a) (output_of b) (client_line c) → TellsOn W write_fault_line a.view b.view
           → BeginsState (Some (name, bytes)) b.view → Left c r a b
-      saved_none : r ≡ status.WriteFault → output_of b ≡ output_of a → TellsOn W write_fault_line a.view b.view → SameState a.view b.view → Left c r a b
+      saved_none : (bytes : List ℕ) → Framed p saved_clients (saved_tree (saved_of c)) bytes → r ≡ status.WriteFault → output_of b ≡ output_of a → TellsOn W write_fault_line a.view b.view → SameState a.view b.view → Left c r a b
+      unsaved : r ≡ status.Memory → output_of b ≡ output_of a → TellsOn W memory_line a.view b.view → SameState a.view b.view → Left c r a b
 
     -- all of State was written
     line_printed : (c : ClientState) (bytes : List ℕ) (r : Status) (a k b : Outside) → Framed p saved_clients (saved_tree (saved_of c)) bytes → Leaves (saves_line name bytes (client_line c)) a.view k.view → output_of k ≡ output_of a → errors_of k ≡ errors_of a
@@ -118,24 +119,28 @@ module _ (W : Type 0) where
         saved_part bytes framed h.goes.1 ([], client_line c, refl, e.output ∙ (same ∙ sym (append-nil (output_of a)))) (tells_later W write_fault_line a k b errors e.line_is)
         (kept.1 ∙ named, w.1, ap (λ (z : List ℕ). z ++ w.1) (kept.0 ∙ begun) ∙ w.3)
 
-    state_created : (c : ClientState) (ok : Bool) (t u : List Event) (r : Status) (a m b : Outside) → t ≡ created outs.State name ok ∷ [] → after_create p c ok u r → Fits t a m → Fits u m b → Causes W u → Left c r a b
-    state_created c true t u r a m b event (saves bytes framed h) f g causes =
+    state_created : (c : ClientState) (bytes : List ℕ) (ok : Bool) (t u : List Event) (r : Status) (a m b : Outside) → Framed p saved_clients (saved_tree (saved_of c)) bytes → t ≡ created outs.State name ok ∷ [] → after_create c bytes ok u r → Fits t a m → Fits u m b
+        → Causes W u → Left c r a b
+    state_created c bytes true t u r a m b framed event h f g causes =
         let o = subst (λ (l : List Event). Fits l a m) event f in
         let made : m.view ≡ with_name outs.State name (with_written outs.State [] a.view) = ap (λ (x : Outside). x.view) o.2 ∙ o.1.0 in
         let parts = fits_both h.first h.rest m b (subst (λ (l : List Event). Fits l m b) h.splits g) in
         state_written c bytes h.between h.first h.rest r a m parts.0 b made framed h.does h.goes parts.1 parts.2 (cause_last W u h.first h.rest h.splits causes)
-    state_created c false t u r a m b event h f g causes =
+    state_created c bytes false t u r a m b framed event h f g causes =
         let o = subst (λ (l : List Event). Fits l a m) event f in
         let same : m.view ≡ a.view = ap (λ (x : Outside). x.view) o.2 ∙ o.1.0 in
         let e = tell_alone W write_fault_line status.WriteFault r u m b h g causes in
         let kept = same_beside m.view b.view e.rest in
-        saved_none h.goes.1 (e.output ∙ ap (written_of outs.Output) same) (tells_later W write_fault_line a m b (ap (written_of outs.Errors) same) e.line_is)
+        saved_none bytes framed h.goes.1 (e.output ∙ ap (written_of outs.Output) same) (tells_later W write_fault_line a m b (ap (written_of outs.Errors) same) e.line_is)
         (kept.0 ∙ ap (λ (v : View). v.written.state) same, kept.1 ∙ ap (λ (v : View). v.state_name) same)
 
     client_left : (c : ClientState) (t : List Event) (r : Status) (a b : Outside) → rooms.Leaves p name c t r → Fits t a b → Causes W t → Left c r a b
-    client_left c t r a b h f causes =
+    client_left c t r a b (no_memory h) f causes =
+        let e = tell_alone W memory_line status.Memory r t a b h f causes in
+        unsaved h.goes.1 e.output e.line_is (same_beside a.view b.view e.rest)
+    client_left c t r a b (saves bytes framed h) f causes =
         let parts = fits_both h.first h.rest a b (subst (λ (l : List Event). Fits l a b) h.splits f) in
-        state_created c h.between h.first h.rest r a parts.0 b h.does h.goes parts.1 parts.2 (cause_last W t h.first h.rest h.splits causes)
+        state_created c bytes h.between h.first h.rest r a parts.0 b framed h.does h.goes parts.1 parts.2 (cause_last W t h.first h.rest h.splits causes)
 
     -- ---- the session
 
@@ -165,8 +170,14 @@ module _ (W : Type 0) where
             unfinished (saves_after address sent name bytes line) is e (prefix.0, prefix.1, prefix.2, prefix.3 ∙ ap (λ (z : List ℕ). z ++ prefix.0) link.output) (tells_later W write_fault_line a k b link.errors tells),
             inr (saves_after address sent name bytes line, is, begun),
           )
-      left_ends d r a k b session link (saved_none e output tells state) =
-          (uncreated tt e (output ∙ link.output) (tells_later W write_fault_line a k b link.errors tells), inl (state.0 ∙ link.state.0, state.1 ∙ link.state.1))
+      left_ends d r a k b session link (saved_none bytes framed e output tells state) =
+          let line = client_line d in
+          let is : Of (saves_after address sent name bytes line) = old.recovered session.0 sent bytes d session.1 framed refl in (
+            unfinished (saves_after address sent name bytes line) is e ([], line, refl, output ∙ (link.output ∙ sym (append-nil (output_of a)))) (tells_later W write_fault_line a k b link.errors tells),
+            inl (state.0 ∙ link.state.0, state.1 ∙ link.state.1),
+          )
+      left_ends d r a k b session link (unsaved e output tells state) =
+          (out_of_memory e (output ∙ link.output) (tells_later W memory_line a k b link.errors tells), inl (state.0 ∙ link.state.0, state.1 ∙ link.state.1))
 
       fault_ends : (fault : SessionFault) (o : Option (List ℕ)) (t : List Event) (r : Status) (a k b : Outside) → session_line fault ≡ o → IsSession p c given sent (Err fault) → Sent sent a k → ends_by o t r → Fits t k b → Causes W t → End Of r a b
       fault_ends fault (Some line) t r a k b is (d, hears, short) link h f causes =

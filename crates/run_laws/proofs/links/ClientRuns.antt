@@ -1,41 +1,31 @@
 -- How a run of `client` ends, and what it leaves.
-use Rattle.std.proofs.Common.{◌≡◌, ℕ, ℤ, List, [], ◌++◌, length, length-append, Bool, true, false, Option, Some, None, codes, refl, sym, ap, ◌∙◌, subst, inl, inr, arith}
+use Rattle.std.proofs.Common.{◌≡◌, ℕ, ℤ, List, [], ◌++◌, true, false, refl, ap, ◌∙◌, subst, inl}
 use Rattle.tl_base.specs.Calls.{with_name}
 use Rattle.tl_base.specs.Contents.{Files}
-use Rattle.tl_base.specs.Outside.{View, HasFile, IsThere, left_of, with_left, with_written, written_of}
+use Rattle.tl_base.specs.Outside.{View, left_of, with_left, with_written, written_of}
 use Rattle.tl_base.specs.declared.host.Out.{Out}
 use Rattle.tl_base.specs.declared.host.Out.TheVariants as outs
 use Rattle.tl_base.specs.declared.host.Slot.{Slot}
 use Rattle.tl_base.specs.declared.host.Slot.TheVariants as slots
-use Rattle.wire_profile.specs.Places.{ProfileView}
-use Rattle.command_base.specs.Answer.{Answer, memory_line, refused}
+use Rattle.command_base.specs.Answer.{Answer, memory_line}
 use Rattle.command_base.specs.declared.status.Status.{Status}
-use Rattle.command_base.specs.declared.status.Status.TheVariants.{ReadFault, Refused, WriteFault}
 use Rattle.outside.specs.Begun.{to_link}
 use Rattle.outside.specs.Events.{Event, Outside, opened, took, ended, read_failed, created, put, write_failed, listened, connected, accepted, told}
-use Rattle.outside.specs.Pieces.{ReadsFile, Writes}
-use Rattle.outside.specs.Printing.{Prints, Unread, after_output}
 use Rattle.outside.specs.Runs.{RunsIn}
 use Rattle.outside.specs.Runs as runs
-use Rattle.outside.proofs.Causing.{keeps_tell, told_status}
+use Rattle.outside.proofs.Causing.{keeps_tell}
 use Rattle.mem_host.specs.Fits.{Fits, Happens}
-use Rattle.mem_host.proofs.Fitting.{files_are_read, fits_both, fits_keeps}
-use Rattle.schema_files.specs.declared.schema_text.TheConstants.{SCHEMA_BYTES}
-use Rattle.codec_rooms.specs.Typed as typed
-use Rattle.update_rooms.specs.Profile.{OfProfile, no_profile, profiled}
+use Rattle.mem_host.proofs.Fitting.{fits_both}
 use Rattle.session_commands.specs.Client.{ClientAnswer, ClientKeeps, client_job}
 use Rattle.session_commands.specs.Linked.{LeavesState, next_link}
 use Rattle.session_commands.specs.declared.state.TheConstants.{MAX_STATE_BYTES}
-use Rattle.session_commands.proofs.EachClient.{each_client}
-use Rattle.session_commands.proofs.OneTotal.{given_bytes}
-use Rattle.session_rooms.specs.Client.{OfStateFile, after_reading, recovers}
+use Rattle.session_rooms.specs.Client.{after_reading, recovers}
 use Rattle.session_rooms.specs.ClientLaws.{IsOfClient, IsOpenedByClient, IsReadByClient}
 use Rattle.session_rooms.proofs.ClientLaws.{client_has_cause, client_touches}
 use Rattle.session_rooms.proofs.LeftViews.{SparesRest, all_leave}
-use Rattle.run_laws.specs.Ended.{IsShown, RunKeeps, WriteFailed}
-use Rattle.run_laws.specs.Client.{ClientEnds, Unsaved}
+use Rattle.run_laws.specs.Ended.{RunEnds, RunKeeps, WriteFailed}
 use Rattle.run_laws.proofs.links.ClientComing.{client_comes}
-use Rattle.run_laws.proofs.links.Ending.{EndsSo, ended_or, links_only, memory_ends, unsaved_ends}
+use Rattle.run_laws.proofs.links.Ending.{ends_so, links_only, memory_ends}
 use Rattle.run_laws.proofs.links.PostRuns.{links_kept}
 use Rattle.run_laws.proofs.links.Reaching.{run_reach}
 use Rattle.run_laws.proofs.links.ToldLines.{tell_alone}
@@ -86,55 +76,7 @@ module _ (schema address name : List ℕ) where
   event_keeps (accepted ok) s n h is = absurd is
   event_keeps (told moment) s n h is = absurd is
 
--- ---- the files of a run that a failed write stops
-
-not_both : ReadFault ≡ WriteFault → ⊥
-not_both e = cc
-
-not_refused : Refused ≡ WriteFault → ⊥
-not_refused e = cc
-
-after_refused : (line : List ℕ) (ok : Bool) (t u : List Event) (r : Status) → Writes outs.Output [] t ok → after_output (refused line) ok u r → r ≡ WriteFault → ⊥
-after_refused line true t u r w h e = not_refused (sym (told_status line Refused u r h) ∙ e)
-after_refused line false t u r w h e = absurd (omega (arith, w.4, ap length w.3, length-append w.0 w.1))
-
-refusal_never : (line : List ℕ) (t : List Event) (r : Status) → Prints (refused line) t r → r ≡ WriteFault → ⊥
-refusal_never line t r h e = after_refused line h.between h.first h.rest r h.does h.goes e
-
-unread_never : (t : List Event) (r : Status) → Unread t r → r ≡ WriteFault → ⊥
-unread_never t r h e = not_both (sym (told_status _ ReadFault t r h) ∙ e)
-
 module _ (schema address name : List ℕ) (channels : List ℤ) where
-  abbrev HasFiles : View → Type 0
-  HasFiles v = IsThere schema v × IsThere name v
-
-  state_read : (p : ProfileView) (o : Option (List ℕ)) (t u : List Event) (r : Status) (m k : Outside) → ReadsFile slots.State name MAX_STATE_BYTES t o → after_reading p address name channels o u r → Fits t m k → r ≡ WriteFault → IsThere name m.view
-  state_read p (Some text) t u r m k read h f e = let file = files_are_read slots.State name MAX_STATE_BYTES t text m k read f in (file.0, file.1)
-  state_read p None t u r m k read h f e = absurd (unread_never u r h e)
-
-  state_there : (p : ProfileView) (t : List Event) (r : Status) (m n : Outside) → OfStateFile address name channels p t r → Fits t m n → r ≡ WriteFault → IsThere name m.view
-  state_there p t r m n h f e =
-      let parts = fits_both h.first h.rest m n (subst (λ (l : List Event). Fits l m n) h.splits f) in
-      state_read p h.between h.first h.rest r m parts.0 h.does h.goes parts.1 e
-
-  text_there : (text : List ℕ) (t : List Event) (r : Status) (m n : Outside) → typed.OfText (codes "schema") (OfProfile (OfStateFile address name channels)) text t r → Fits t m n → r ≡ WriteFault → IsThere name m.view
-  text_there text t r m n (typed.no_schema cause refuses h) f e = absurd (refusal_never _ t r h e)
-  text_there text t r m n (typed.schema_of S is (no_profile fault lacks h)) f e = absurd (refusal_never _ t r h e)
-  text_there text t r m n (typed.schema_of S is (profiled p answers h)) f e = state_there p t r m n h f e
-
-  schema_read : (o : Option (List ℕ)) (t u : List Event) (r : Status) (s m n : Outside) → ReadsFile slots.Schema schema SCHEMA_BYTES t o → typed.after_schema (codes "schema") (OfProfile (OfStateFile address name channels)) o u r → Fits t s m → Fits u m n
-      → r ≡ WriteFault → HasFiles s.view
-  schema_read (Some text) t u r s m n read h f g e =
-      let file = files_are_read slots.Schema schema SCHEMA_BYTES t text s m read f in
-      let there = text_there text u r m n h g e in
-      ((file.0, file.1), (there.0, subst (λ (fs : Files). HasFile fs name there.0) (fits_keeps t s m f).files there.1))
-  schema_read None t u r s m n read h f g e = absurd (unread_never u r h e)
-
-  files_there : (t : List Event) (r : Status) (s n : Outside) → recovers schema address name channels t r → Fits t s n → r ≡ WriteFault → HasFiles s.view
-  files_there t r s n h f e =
-      let parts = fits_both h.first h.rest s n (subst (λ (l : List Event). Fits l s n) h.splits f) in
-      schema_read h.between h.first h.rest r s parts.0 n h.does h.goes parts.1 parts.2 e
-
   -- ---- how it ends
 
   abbrev Answers : View → Answer → Type 0
@@ -143,22 +85,9 @@ module _ (schema address name : List ℕ) (channels : List ℤ) where
   abbrev Kept : View → View → Type 0
   Kept = ClientKeeps schema address name channels
 
-  pub ends : (t : List Event) (r : Status) (s n : Outside) → IsShown s.view → RunsIn to_link (recovers schema address name channels) t r → Fits t s n → ClientEnds schema address name channels t r s n
-  ends t r s n shown (runs.out_of_memory h) f =
-      let e = memory_ends (client_job schema address name channels) (recovers schema address name channels) t r s n h f in
-      record { some = inl e; answered = λ a. e; short = λ long few. e }
-  ends t r s n shown (runs.done h) f =
-      let came = client_comes (WriteFailed t) schema address name channels t r s n h f (λ x. x) in
-      let either = ended_or Answers Kept t r s n (Unit {0}) (client_has_cause schema address name channels t r (runs.done h)) came.0 in
-      let given_one : ((u : Unsaved t r s.view n.view) → (a : Answer) × Answers s.view a) → EndsSo Answers Kept t r s n =
-      λ any. elim either [ inl e ↦ e | inr u ↦ (let a = any u.1 in unsaved_ends Answers Kept t r s n a.0 a.1 u.1) ] in
-      record {
-        some = elim either [ inl e ↦ inl e | inr u ↦ inr u.1 ];
-        answered = λ a. given_one (λ u. a);
-        short = λ long few. given_one (λ u.
-            let there = files_there t r s n h f u.ends in
-            each_client s.view.files shown.bytes.files (next_link s.view) (given_bytes s.view.links shown.bytes.links 0) few schema address name channels long there.0 there.1);
-      }
+  pub ends : RunEnds (client_job schema address name channels) to_link (recovers schema address name channels)
+  ends t r s n shown (runs.out_of_memory h) f = memory_ends (client_job schema address name channels) (recovers schema address name channels) t r s n h f
+  ends t r s n shown (runs.done h) f = ends_so Answers Kept t r s n (client_has_cause schema address name channels t r (runs.done h)) (client_comes (WriteFailed t) schema address name channels t r s n h f (λ x. x)).0
 
   -- ---- what it leaves
 

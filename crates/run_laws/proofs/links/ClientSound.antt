@@ -50,7 +50,7 @@ use Rattle.session_commands.proofs.OneState.{never_client, one_client}
 use Rattle.session_commands.proofs.OneTotal.{given_bytes}
 use Rattle.session_commands.proofs.SessionAnswers.{one_of_session, whole_told}
 use Rattle.session_rooms.specs.Client as rooms
-use Rattle.session_rooms.specs.Client.{saves, after_state, after_create, ends_by, after_session, after_connect, Recovers, OfState, no_client, too_many, watches, after_reading, OfStateFile, recovers}
+use Rattle.session_rooms.specs.Client.{no_memory, saves, after_state, after_create, ends_by, after_session, after_connect, Recovers, OfState, no_client, too_many, watches, after_reading, OfStateFile, recovers}
 use Rattle.session_rooms.specs.Conversing.{Outcome, Converses}
 use Rattle.session_rooms.proofs.Conversed.{keeps_converse}
 use Rattle.session_rooms.proofs.ConversedBytes.{IsSession, converses_over_bytes, given_by, sent_by}
@@ -110,25 +110,25 @@ module _ (p : ProfileView) (good : IsProfile p) (address name : List ℕ) where
       print_safe c u r k n h g (reliable_on m k kept reliable) (omega (arith, room, ap length same, kept.room))
   written_safe c bytes false t u r m k n w h f g reliable none fits room = absurd (omega (arith, fits, ap length none, writes_fail_full outs.State bytes t m k w f reliable))
 
-  created_safe : (c : ClientState) (ok : Bool) (t u : List Event) (r : Status) (k m n : Outside) → t ≡ created outs.State name ok ∷ [] → after_create p c ok u r → Fits t k m → Fits u m n → IsReliable k → length name ≤ k.view.room
-      → ((bytes : List ℕ) → Framed p saved_clients (saved_tree (saved_of c)) bytes → (length bytes ≤ k.view.room) × HasRoom outs.Output (length (client_line c)) k.view) → IsSafe r
-  created_safe c true t u r k m n event (saves bytes framed h) f g reliable named place =
+  created_safe : (c : ClientState) (bytes : List ℕ) (ok : Bool) (t u : List Event) (r : Status) (k m n : Outside) → t ≡ created outs.State name ok ∷ [] → after_create c bytes ok u r → Fits t k m → Fits u m n → IsReliable k → length name ≤ k.view.room
+      → (length bytes ≤ k.view.room) × HasRoom outs.Output (length (client_line c)) k.view → IsSafe r
+  created_safe c bytes true t u r k m n event h f g reliable named room =
       let o = subst (λ (l : List Event). Fits l k m) event f in
       let made : m.view ≡ with_name outs.State name (with_written outs.State [] k.view) = ap (λ (x : Outside). x.view) o.2 ∙ o.1.0 in
       let parts = fits_both h.first h.rest m n (subst (λ (l : List Event). Fits l m n) h.splits g) in
       let kept = fits_keeps t k m f in
-      let room = place bytes framed in
       let same : output_of m ≡ output_of k = ap (written_of outs.Output) made in
       written_safe c bytes h.between h.first h.rest r m parts.0 n h.does h.goes parts.1 parts.2 (reliable_on k m kept reliable) (ap (λ (v : View). v.written.state) made) (omega (arith, room.0, kept.room)) (omega (arith, room.1, ap length same, kept.room))
-  created_safe c false t u r k m n event h f g reliable named place =
+  created_safe c bytes false t u r k m n event h f g reliable named room =
       let o = subst (λ (l : List Event). Fits l k m) event f in
       elim o.1.1.0 [ inl fails ↦ absurd (omega (arith, fails.1, reliable)) | inr none ↦ absurd (none named) ]
 
   left_safe : (c : ClientState) (t : List Event) (r : Status) (k n : Outside) → rooms.Leaves p name c t r → Fits t k n → IsReliable k → length name ≤ k.view.room
       → ((bytes : List ℕ) → Framed p saved_clients (saved_tree (saved_of c)) bytes → (length bytes ≤ k.view.room) × HasRoom outs.Output (length (client_line c)) k.view) → IsSafe r
-  left_safe c t r k n h f reliable named place =
+  left_safe c t r k n (no_memory h) f reliable named place = safe_as r status.Memory (told_status memory_line status.Memory t r h) memory_safe
+  left_safe c t r k n (saves bytes framed h) f reliable named place =
       let parts = fits_both h.first h.rest k n (subst (λ (l : List Event). Fits l k n) h.splits f) in
-      created_safe c h.between h.first h.rest r k parts.0 n h.does h.goes parts.1 parts.2 reliable named place
+      created_safe c bytes h.between h.first h.rest r k parts.0 n h.does h.goes parts.1 parts.2 reliable named (place bytes framed)
 
   -- ---- the session
 

@@ -9,7 +9,7 @@ use Rattle.tl_schema.specs.CheckedPrograms.{IsSchema}
 use Rattle.tl_schema.specs.Schemas.{Declared}
 use Rattle.wire_profile.specs.Places.{ProfileView}
 use Rattle.wire_profile.specs.Profiles.{IsProfile}
-use Rattle.command_base.specs.Answer.{Answer, link_fault_line, read_fault_line, refused, write_fault_line}
+use Rattle.command_base.specs.Answer.{Answer, link_fault_line, memory_line, read_fault_line, refused, write_fault_line}
 use Rattle.command_base.specs.Jobs.{GivesOutput}
 use Rattle.command_base.specs.Kept.{AddsPrefix}
 use Rattle.command_base.specs.Telling.{Tells as TellsOn}
@@ -40,20 +40,20 @@ use Rattle.session_rooms.proofs.PostFiles.{output_of}
 use Rattle.session_rooms.proofs.Spared.{OnlySlots, reading_spares}
 use Rattle.run_laws.proofs.links.ToldLines.{Causes, Printed, all_printed, part_printed, cause_last, print_comes, tell_alone, tells_later}
 
--- An answer of this kind is given; a file can't be read; the link failed; a prefix of an answer's Output was written, and a write failed; or State could not be created.
-pub data Came (Is : Answer → Type 0) (W U : Type 0) (r : Status) (s n : Outside) : Type 0 where
-  gave : (a : Answer) → Is a → r ≡ a.status → GivesOutput a s.view n.view → TellsOn W a.errors s.view n.view → Came Is W U r s n
-  unread : r ≡ status.ReadFault → output_of n ≡ output_of s → TellsOn W read_fault_line s.view n.view → Came Is W U r s n
-  cut : r ≡ status.LinkFault → output_of n ≡ output_of s → TellsOn W link_fault_line s.view n.view → Came Is W U r s n
-  unfinished : (a : Answer) → Is a → r ≡ status.WriteFault → AddsPrefix (output_of s) (output_of n) a.output → TellsOn W write_fault_line s.view n.view → Came Is W U r s n
-  uncreated : U → r ≡ status.WriteFault → output_of n ≡ output_of s → TellsOn W write_fault_line s.view n.view → Came Is W U r s n
+-- An answer of this kind is given; a file can't be read; the link failed; a prefix of an answer's Output was written, and a write failed; or memory ran out.
+pub data Came (Is : Answer → Type 0) (W : Type 0) (r : Status) (s n : Outside) : Type 0 where
+  gave : (a : Answer) → Is a → r ≡ a.status → GivesOutput a s.view n.view → TellsOn W a.errors s.view n.view → Came Is W r s n
+  unread : r ≡ status.ReadFault → output_of n ≡ output_of s → TellsOn W read_fault_line s.view n.view → Came Is W r s n
+  cut : r ≡ status.LinkFault → output_of n ≡ output_of s → TellsOn W link_fault_line s.view n.view → Came Is W r s n
+  unfinished : (a : Answer) → Is a → r ≡ status.WriteFault → AddsPrefix (output_of s) (output_of n) a.output → TellsOn W write_fault_line s.view n.view → Came Is W r s n
+  out_of_memory : r ≡ status.Memory → output_of n ≡ output_of s → TellsOn W memory_line s.view n.view → Came Is W r s n
 
-pub came_as : (W U : Type 0) (Is J : Answer → Type 0) (r : Status) (s n : Outside) → ((a : Answer) → Is a → J a) → Came Is W U r s n → Came J W U r s n
-came_as W U Is J r s n into (gave a is e gives tells) = gave a (into a is) e gives tells
-came_as W U Is J r s n into (unread e output tells) = unread e output tells
-came_as W U Is J r s n into (cut e output tells) = cut e output tells
-came_as W U Is J r s n into (unfinished a is e output tells) = unfinished a (into a is) e output tells
-came_as W U Is J r s n into (uncreated u e output tells) = uncreated u e output tells
+pub came_as : (W : Type 0) (Is J : Answer → Type 0) (r : Status) (s n : Outside) → ((a : Answer) → Is a → J a) → Came Is W r s n → Came J W r s n
+came_as W Is J r s n into (gave a is e gives tells) = gave a (into a is) e gives tells
+came_as W Is J r s n into (unread e output tells) = unread e output tells
+came_as W Is J r s n into (cut e output tells) = cut e output tells
+came_as W Is J r s n into (unfinished a is e output tells) = unfinished a (into a is) e output tells
+came_as W Is J r s n into (out_of_memory e output tells) = out_of_memory e output tells
 
 gives_later : (a : Answer) (s m n : Outside) → OnlySlots s m → GivesOutput a m.view n.view → GivesOutput a s.view n.view
 gives_later a s m n same g = record {
@@ -62,31 +62,31 @@ gives_later a s m n same g = record {
 }
 
 -- slots were read until then
-module _ (W U : Type 0) (Is : Answer → Type 0) (r : Status) (s m n : Outside) (same : OnlySlots s m) where
+module _ (W : Type 0) (Is : Answer → Type 0) (r : Status) (s m n : Outside) (same : OnlySlots s m) where
   line_later : (line : List ℕ) → TellsOn W line m.view n.view → TellsOn W line s.view n.view
   line_later line = tells_later W line s m n (ap (written_of outs.Errors) same)
 
   output_later : output_of n ≡ output_of m → output_of n ≡ output_of s
   output_later e = e ∙ ap (written_of outs.Output) same
 
-  pub came_later : Came Is W U r m n → Came Is W U r s n
+  pub came_later : Came Is W r m n → Came Is W r s n
   came_later (gave a is e gives tells) = gave a is e (gives_later a s m n same gives) (line_later a.errors tells)
   came_later (unread e output tells) = unread e (output_later output) (line_later read_fault_line tells)
   came_later (cut e output tells) = cut e (output_later output) (line_later link_fault_line tells)
   came_later (unfinished a is e p tells) = unfinished a is e (p.0, p.1, p.2, p.3 ∙ ap (λ (v : View). written_of outs.Output v ++ p.0) same) (line_later write_fault_line tells)
-  came_later (uncreated u e output tells) = uncreated u e (output_later output) (line_later write_fault_line tells)
+  came_later (out_of_memory e output tells) = out_of_memory e (output_later output) (line_later memory_line tells)
 
 -- ---- a refusal, and a file that can't be read
 
-refusal_came : (W U : Type 0) (Is : Answer → Type 0) (line : List ℕ) (r : Status) (s n : Outside) → Is (refused line) → Printed W status.Refused [] line r s n → Came Is W U r s n
-refusal_came W U Is line r s n is (all_printed e output tells rest) = gave (refused line) is e (record { output = output; leaves = plain_leaves status.Refused [] line s.view n.view rest }) tells
-refusal_came W U Is line r s n is (part_printed e output tells rest) = unfinished (refused line) is e output tells
+refusal_came : (W : Type 0) (Is : Answer → Type 0) (line : List ℕ) (r : Status) (s n : Outside) → Is (refused line) → Printed W status.Refused [] line r s n → Came Is W r s n
+refusal_came W Is line r s n is (all_printed e output tells rest) = gave (refused line) is e (record { output = output; leaves = plain_leaves status.Refused [] line s.view n.view rest }) tells
+refusal_came W Is line r s n is (part_printed e output tells rest) = unfinished (refused line) is e output tells
 
-pub refusal_comes : (W U : Type 0) (Is : Answer → Type 0) (line : List ℕ) (t : List Event) (r : Status) (s n : Outside) → Is (refused line) → Prints (refused line) t r → Fits t s n → Causes W t → Came Is W U r s n
-refusal_comes W U Is line t r s n is h f c = refusal_came W U Is line r s n is (print_comes W (refused line) t r s n h f c)
+pub refusal_comes : (W : Type 0) (Is : Answer → Type 0) (line : List ℕ) (t : List Event) (r : Status) (s n : Outside) → Is (refused line) → Prints (refused line) t r → Fits t s n → Causes W t → Came Is W r s n
+refusal_comes W Is line t r s n is h f c = refusal_came W Is line r s n is (print_comes W (refused line) t r s n h f c)
 
-pub missing_comes : (W U : Type 0) (Is : Answer → Type 0) (t : List Event) (r : Status) (s n : Outside) → Unread t r → Fits t s n → Causes W t → Came Is W U r s n
-missing_comes W U Is t r s n h f c =
+pub missing_comes : (W : Type 0) (Is : Answer → Type 0) (t : List Event) (r : Status) (s n : Outside) → Unread t r → Fits t s n → Causes W t → Came Is W r s n
+missing_comes W Is t r s n h f c =
     let e = tell_alone W read_fault_line status.ReadFault r t s n h f c in
     unread h.goes.1 e.output e.line_is
 

@@ -1,5 +1,5 @@
 -- How a run ends, by what it comes to.
-use Rattle.std.proofs.Common.{◌≡◌, ◌⊎◌, ℕ, List, [], ◌++◌, length, length-append, Bool, true, false, Option, append-nil, refl, sym, ap, ◌∙◌, subst, inl, inr, arith}
+use Rattle.std.proofs.Common.{◌≡◌, ℕ, List, [], ◌++◌, length, length-append, Bool, true, false, Option, append-nil, refl, sym, ap, ◌∙◌, subst, inl, inr, arith}
 use Rattle.tl_base.specs.Calls.{with_name}
 use Rattle.tl_base.specs.Outside.{View, with_written, written_of}
 use Rattle.tl_base.specs.declared.host.Out.{Out}
@@ -25,8 +25,7 @@ use Rattle.session_rooms.proofs.LeftViews.{all_leave}
 use Rattle.session_rooms.proofs.PostFiles.{output_of}
 use Rattle.run_laws.specs.Ended as forms
 use Rattle.run_laws.specs.Ended.{Ended, LinkFailed, ReadFailed, Stops, WriteFailed}
-use Rattle.run_laws.specs.Client.{Unsaved}
-use Rattle.run_laws.proofs.links.Coming.{Came, gave, unread, cut, unfinished, uncreated}
+use Rattle.run_laws.proofs.links.Coming.{Came, gave, unread, cut, out_of_memory, unfinished}
 use Rattle.run_laws.proofs.links.ToldLines.{cause_last, tell_alone, tells_later}
 
 -- between what was written to Output and what was told
@@ -49,18 +48,14 @@ module _ (Answers : View → Answer → Type 0) (Kept : View → View → Type 0
     nothing_more : (text : List ℕ) → output_of n ≡ output_of s → AddsPrefix (output_of s) (output_of n) text
     nothing_more text output = ([], text, refl, output ∙ sym (append-nil (output_of s)))
 
-    -- State could not be created
-    pub unsaved_ends : (a : Answer) → Answers s.view a → Unsaved t r s.view n.view → EndsSo t r s n
-    unsaved_ends a is e = forms.write_failed e.failed e.ends (stops write_fault_line a (inl (inl is)) (nothing_more a.output e.output) e.told)
-
-    pub ended_or : (U : Type 0) → Explains r t → Came (Answers s.view) (WriteFailed t) U r s n → EndsSo t r s n ⊎ (U × Unsaved t r s.view n.view)
-    ended_or U cause (gave a is e gives tells) = inl (forms.answered a (inl is) e gives.output gives.leaves tells)
-    ended_or U cause (unread e output tells) = inl (forms.read_failed (subst (λ (x : Status). Explains x t) e cause) e output tells)
-    ended_or U cause (cut e output tells) =
+    pub ends_so : Explains r t → Came (Answers s.view) (WriteFailed t) r s n → EndsSo t r s n
+    ends_so cause (gave a is e gives tells) = forms.answered a (inl is) e gives.output gives.leaves tells
+    ends_so cause (unread e output tells) = forms.read_failed (subst (λ (x : Status). Explains x t) e cause) e output tells
+    ends_so cause (cut e output tells) =
         let failed : LinkFailed t = subst (λ (x : Status). Explains x t) e cause in
-        inl (forms.link_failed failed e (stops link_fault_line cut_off (inl (inr (failed, refl))) (nothing_more [] output) tells))
-    ended_or U cause (unfinished a is e p tells) = inl (forms.write_failed (subst (λ (x : Status). Explains x t) e cause) e (stops write_fault_line a (inl (inl is)) p tells))
-    ended_or U cause (uncreated u e output tells) = inr (u, record { failed = subst (λ (x : Status). Explains x t) e cause; ends = e; output = output; told = tells })
+        forms.link_failed failed e (stops link_fault_line cut_off (inl (inr (failed, refl))) (nothing_more [] output) tells)
+    ends_so cause (unfinished a is e p tells) = forms.write_failed (subst (λ (x : Status). Explains x t) e cause) e (stops write_fault_line a (inl (inl is)) p tells)
+    ends_so cause (out_of_memory e output tells) = forms.out_of_memory e output tells
 
 -- ---- memory runs out
 

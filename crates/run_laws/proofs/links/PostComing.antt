@@ -49,7 +49,7 @@ line_of (peer line) = line
 
 module _ (W : Type 0) where
   abbrev End : (Answer → Type 0) → Status → Outside → Outside → Type 0
-  End Is r s n = Came Is W ⊥ r s n
+  End Is r s n = Came Is W r s n
 
   outcome_printed : (o : Outcome) (t : List Event) (r : Status) (s n : Outside) → told_as o t r → Fits t s n → Causes W t → Printed W (status_of o) (shown_of o) (line_of o) r s n
   outcome_printed (shows line) t r s n h f c = print_comes W (done line) t r s n h f c
@@ -116,7 +116,7 @@ module _ (W : Type 0) where
         errors : errors_of k ≡ errors_of s
         leaves : (status : Status) (wrote line : List ℕ) → Leaves (over_link address (packet b) status wrote line) s.view k.view
 
-      outcome_came : (given : List ℕ) (o : Outcome) (r : Status) (s k n : Outside) → Sent s k → OfLink p number given o → Printed W (status_of o) (shown_of o) (line_of o) r k n → Came (Of given) W ⊥ r s n
+      outcome_came : (given : List ℕ) (o : Outcome) (r : Status) (s k n : Outside) → Sent s k → OfLink p number given o → Printed W (status_of o) (shown_of o) (line_of o) r k n → Came (Of given) W r s n
       outcome_came given (shows line) r s k n sent of (all_printed e wrote tells rest) =
           gave (answer_of address (packet b) (shows line)) (shows line, of, refl) e
           (record { output = wrote ∙ ap (λ (z : List ℕ). z ++ line) sent.output; leaves = leaves_then (over_link address (packet b) Done line []) s.view k.view n.view (sent.leaves Done line []) rest })
@@ -130,11 +130,11 @@ module _ (W : Type 0) where
       outcome_came given (peer line) r s k n sent of (part_printed e p tells rest) =
           unfinished (answer_of address (packet b) (peer line)) (peer line, of, refl) e (p.0, p.1, p.2, p.3 ∙ ap (λ (z : List ℕ). z ++ p.0) sent.output) (tells_later W write_fault_line s k n sent.errors tells)
 
-      heard_came : (given : List ℕ) (r : Status) (s k n : Outside) → Sent s k → Heard given r k n → Came (Of given) W ⊥ r s n
+      heard_came : (given : List ℕ) (r : Status) (s k n : Outside) → Sent s k → Heard given r k n → Came (Of given) W r s n
       heard_came given r s k n sent (came o of printed) = outcome_came given o r s k n sent of printed
       heard_came given r s k n sent (lost e alone) = cut e (alone.output ∙ sent.output) (tells_later W link_fault_line s k n sent.errors alone.line_is)
 
-      sent_comes : (ok : Bool) (t u : List Event) (r : Status) (s m k n : Outside) → m.view ≡ linked address s.view → Writes outs.Link (packet b) t ok → after_sending p number ok u r → Fits t m k → Fits u k n → Causes W u → Came (Of (next_link s.view)) W ⊥ r s n
+      sent_comes : (ok : Bool) (t u : List Event) (r : Status) (s m k n : Outside) → m.view ≡ linked address s.view → Writes outs.Link (packet b) t ok → after_sending p number ok u r → Fits t m k → Fits u k n → Causes W u → Came (Of (next_link s.view)) W r s n
       sent_comes true t u r s m k n view w h f g c =
           let given : rest_of slots.Link k ≡ next_link s.view = writes_spare outs.Link (left_of slots.Link) (λ bytes v. refl) (packet b) t true m k w f ∙ ap (left_of slots.Link) view in
           let sent : Sent s k = record {
@@ -142,13 +142,13 @@ module _ (W : Type 0) where
             errors = writes_spare outs.Link (written_of outs.Errors) (λ bytes v. refl) (packet b) t true m k w f ∙ ap (written_of outs.Errors) view;
             leaves = link_left address (packet b) s m k t view (keeps_write IsOverLink outs.Link (packet b) (λ _. refl) tt t true w) f (writes_append outs.Link (packet b) t m k w f);
           } in
-          subst (λ (z : List ℕ). Came (Of z) W ⊥ r s n) given (heard_came (rest_of slots.Link k) r s k n sent (reply_heard u r k n h g c))
+          subst (λ (z : List ℕ). Came (Of z) W r s n) given (heard_came (rest_of slots.Link k) r s k n sent (reply_heard u r k n h g c))
       sent_comes false t u r s m k n view w h f g c =
           let e = tell_alone W link_fault_line LinkFault r u k n h g c in
           cut h.goes.1 (e.output ∙ (writes_spare outs.Link (written_of outs.Output) (λ bytes v. refl) (packet b) t false m k w f ∙ ap (written_of outs.Output) view))
           (tells_later W link_fault_line s k n (writes_spare outs.Link (written_of outs.Errors) (λ bytes v. refl) (packet b) t false m k w f ∙ ap (written_of outs.Errors) view) e.line_is)
 
-      linked_comes : (ok : Bool) (t u : List Event) (r : Status) (s m n : Outside) → t ≡ connected address ok ∷ [] → after_connect p number b ok u r → Fits t s m → Fits u m n → Causes W u → Came (Of (next_link s.view)) W ⊥ r s n
+      linked_comes : (ok : Bool) (t u : List Event) (r : Status) (s m n : Outside) → t ≡ connected address ok ∷ [] → after_connect p number b ok u r → Fits t s m → Fits u m n → Causes W u → Came (Of (next_link s.view)) W r s n
       linked_comes true t u r s m n is h f g c =
           let o = subst (λ (l : List Event). Fits l s m) is f in
           let parts = fits_both h.first h.rest m n (subst (λ (l : List Event). Fits l m n) h.splits g) in
@@ -168,24 +168,24 @@ module _ (W : Type 0) where
 
   module _ (p : ProfileView) (address : List ℕ) where
     call_comes : (b : List ℕ) → Comes W End (λ files given. answer.OfCall p address b given) (OfCall p address b)
-    call_comes b t r s n (no_call fault line refuses is h) f c = refusal_comes W ⊥ (answer.OfCall p address b (next_link s.view)) line t r s n (answer.no_call fault line refuses is refl) h f c
-    call_comes b t r s n (long_call x means long h) f c = refusal_comes W ⊥ (answer.OfCall p address b (next_link s.view)) (long_call_line (length b)) t r s n (answer.long_call x means long refl) h f c
+    call_comes b t r s n (no_call fault line refuses is h) f c = refusal_comes W (answer.OfCall p address b (next_link s.view)) line t r s n (answer.no_call fault line refuses is refl) h f c
+    call_comes b t r s n (long_call x means long h) f c = refusal_comes W (answer.OfCall p address b (next_link s.view)) (long_call_line (length b)) t r s n (answer.long_call x means long refl) h f c
     call_comes b t r s n (calls_it x means few h) f c =
-        came_as W ⊥ (OfSent p x.number address b (next_link s.view)) (answer.OfCall p address b (next_link s.view)) r s n (λ a of. answer.sent x means few of) (over_comes p x.number address b t r s n h f c)
+        came_as W (OfSent p x.number address b (next_link s.view)) (answer.OfCall p address b (next_link s.view)) r s n (λ a of. answer.sent x means few of) (over_comes p x.number address b t r s n h f c)
 
     text_comes : (text : List ℕ) → Comes W End (λ files given. answer.OfJson p address text given) (OfText p address text)
-    text_comes text t r s n (no_json cause refuses h) f c = refusal_comes W ⊥ (answer.OfJson p address text (next_link s.view)) (json_line cause) t r s n (answer.no_json cause refuses refl) h f c
+    text_comes text t r s n (no_json cause refuses h) f c = refusal_comes W (answer.OfJson p address text (next_link s.view)) (json_line cause) t r s n (answer.no_json cause refuses refl) h f c
     text_comes text t r s n (json_of x b is spells are h) f c =
-        came_as W ⊥ (answer.OfCall p address b (next_link s.view)) (answer.OfJson p address text (next_link s.view)) r s n (λ a of. answer.json_of x b is spells are of) (call_comes b t r s n h f c)
+        came_as W (answer.OfCall p address b (next_link s.view)) (answer.OfJson p address text (next_link s.view)) r s n (λ a of. answer.json_of x b is spells are of) (call_comes b t r s n h f c)
 
   -- ---- files
 
   module _ (schema address input : List ℕ) where
     input_comes : (p : ProfileView) → IsProfile p → Comes W End (λ files given. answer.OfInput address input files given p) (OfInputFile address input p)
     input_comes p good =
-        file_comes W End (came_as W ⊥) (came_later W ⊥) (refusal_comes W ⊥) (missing_comes W ⊥) slots.Input input JSON_BYTES (after_reading p address) (λ text files given. answer.OfJson p address text given)
+        file_comes W End (came_as W) (came_later W) (refusal_comes W) (missing_comes W) slots.Input input JSON_BYTES (after_reading p address) (λ text files given. answer.OfJson p address text given)
         (λ file files given. json_stays p address file given) (text_comes p address) (λ t r h. h)
 
     pub post_comes : Comes W End (λ files given. PostAnswer files given schema address input) (posts schema address input)
     post_comes =
-        command_comes W End (came_as W ⊥) (came_later W ⊥) (refusal_comes W ⊥) (missing_comes W ⊥) (OfInputFile address input) (λ files given. answer.OfInput address input files given) input_comes schema
+        command_comes W End (came_as W) (came_later W) (refusal_comes W) (missing_comes W) (OfInputFile address input) (λ files given. answer.OfInput address input files given) input_comes schema

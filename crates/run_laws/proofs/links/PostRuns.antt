@@ -35,7 +35,7 @@ use Rattle.session_rooms.proofs.PostLaws.{post_has_cause}
 use Rattle.session_rooms.proofs.PostLeaving.{post_leaves}
 use Rattle.session_rooms.proofs.PostUnfailing.{post_ends}
 use Rattle.run_laws.specs.Ended.{IsShown, RunEnds, RunKeeps, RunIsSound, RunsJob, WriteFailed}
-use Rattle.run_laws.proofs.links.Ending.{IsSafe, done_safe, ended_or, memory_ends, memory_safe, peer_safe, refusal_safe, refused_safe, safe_as}
+use Rattle.run_laws.proofs.links.Ending.{IsSafe, done_safe, ends_so, memory_ends, memory_safe, peer_safe, refusal_safe, refused_safe, safe_as}
 use Rattle.run_laws.proofs.links.PostComing.{post_comes}
 use Rattle.run_laws.proofs.links.Reaching.{Reach, at_schema, at_file, at_link, run_reach, schema_stays}
 
@@ -43,9 +43,8 @@ module _ (schema address input : List ℕ) where
   -- ---- how it ends
 
   pub ends : RunEnds (post_job schema address input) to_link (posts schema address input)
-  ends t r s n shown (runs.done h) f = elim (
-      ended_or (λ v a. PostAnswer v.files (next_link v) schema address input a) (PostKeeps schema input) t r s n ⊥ (post_has_cause schema address input t r (runs.done h)) (post_comes (WriteFailed t) schema address input t r s n h f (λ x. x))
-      ) [ inl e ↦ e | inr never ↦ absurd never.0 ]
+  ends t r s n shown (runs.done h) f =
+      ends_so (λ v a. PostAnswer v.files (next_link v) schema address input a) (PostKeeps schema input) t r s n (post_has_cause schema address input t r (runs.done h)) (post_comes (WriteFailed t) schema address input t r s n h f (λ x. x))
   ends t r s n shown (runs.out_of_memory h) f = memory_ends (post_job schema address input) (posts schema address input) t r s n h f
 
   -- ---- what it leaves

@@ -2,9 +2,9 @@ use Rattle.std.proofs.Common.{true, false}
 use Rattle.std.proofs.lemmas.Result.{err_from_is_err_and}
 use Rattle.tl_base.specs.declared.host.Out.TheVariants as outs
 use Rattle.outside.specs.Events.{created}
-use Rattle.outside.proofs.Growing.{did_any, did_both, did_call, did_none}
+use Rattle.outside.proofs.Growing.{did_both, did_call, did_none}
 use Rattle.session_rooms.specs.Client.{Leaves, after_create}
-use Rattle.session_rooms.proofs.LeftClients.{can_leave}
+use Rattle.session_rooms.proofs.LeftClients.{can_leave, left_so}
 use Rattle.session_rooms.proofs.leaving.leave_client.Goals as goal
 
 pub returns-in_err-leaving : goal.returns-in_err-leaving
@@ -14,8 +14,11 @@ returns-in_err-leaving g c =
 
 pub returns-in-Ok : goal.returns-in-Ok
 returns-in-Ok g c =
-    did_both _ (after_create c.args.profile.now c.args.client.now) _ _ _ true _ (did_call (created outs.State c.args.name.now) _ _ true c.in-Ok.ensures)
-    (did_any _ _ _ _ (c.write_state.ensures c.args.profile.now c.args.client.now c.in_ok-leaving.ensures))
+    let of = c.in_ok-leaving.ensures in
+    left_so c.args.profile.now c.args.name.now c.args.client.now c.leaving of _ _ _
+    (did_both _ (after_create c.args.client.now c.leaving.state) _ _ _ true _ (did_call (created outs.State c.args.name.now) _ _ true c.in-Ok.ensures) (c.write_state.ensures c.args.client.now of.line))
 
 pub returns : goal.returns
-returns g c = did_both _ (after_create c.args.profile.now c.args.client.now) _ _ _ false _ (did_call (created outs.State c.args.name.now) _ _ false c.in-Err.ensures) (did_any _ _ _ _ c.tell.ensures)
+returns g c =
+    left_so c.args.profile.now c.args.name.now c.args.client.now c.leaving c.in_ok-leaving.ensures _ _ _
+    (did_both _ (after_create c.args.client.now c.leaving.state) _ _ _ false _ (did_call (created outs.State c.args.name.now) _ _ false c.in-Err.ensures) c.tell.ensures)
