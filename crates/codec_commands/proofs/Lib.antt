@@ -6,3 +6,5 @@ pub mod OneCheck
 pub mod EachAnswer
 pub mod ListedLines
 pub mod EncodedValues
+pub mod OneLayers
+pub mod EachLayers

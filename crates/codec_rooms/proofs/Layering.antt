@@ -14,8 +14,8 @@ use Rattle.outside.proofs.Growing.{can_then}
 use Rattle.outside.proofs.Piecewise.{can_read_file}
 use Rattle.outside.proofs.Printed.{can_answer}
 use Rattle.schema_files.specs.declared.schema_text.TheConstants.{SCHEMA_BYTES}
-use Rattle.layer_commands.specs.Layers.{OfLayers, TellsLayers}
-use Rattle.layer_commands.proofs.EachLayers.{each_told}
+use Rattle.codec_commands.specs.Layers.{OfLayers, TellsLayers}
+use Rattle.codec_commands.proofs.EachLayers.{each_told}
 use Rattle.codec_rooms.specs.Layers.{OfNew, compared}
 use Rattle.codec_rooms.proofs.Typing.{can_schema, refused_made}
 

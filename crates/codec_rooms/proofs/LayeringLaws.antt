@@ -9,9 +9,9 @@ use Rattle.outside.specs.Runs.{Runs}
 use Rattle.outside.proofs.Causing.{keeps_answer, cause_answer, cause_run}
 use Rattle.schema_files.specs.Answering.{OfSchemaFile}
 use Rattle.schema_files.specs.Lines.{type_line}
-use Rattle.layer_commands.specs.Layers.{OfLayers, broken, whole, OfType}
-use Rattle.layer_commands.specs.Layers as answer
-use Rattle.layer_commands.proofs.OneLayers.{one_layers}
+use Rattle.codec_commands.specs.Layers.{OfLayers, broken, whole, OfType}
+use Rattle.codec_commands.specs.Layers as answer
+use Rattle.codec_commands.proofs.OneLayers.{one_layers}
 use Rattle.codec_rooms.specs.Commands.{layers}
 use Rattle.codec_rooms.specs.Layers.{OfNew, compared, compares}
 use Rattle.codec_rooms.specs.Laws.{Named, IsOf, Touches, AnswersFiles, ReadsFiles, EndsFiles}

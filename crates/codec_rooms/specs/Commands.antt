@@ -4,7 +4,7 @@ use Rattle.tl_base.specs.declared.host.Slot.TheVariants.{Schema, Input}
 use Rattle.codec_commands.specs.Check.{CheckAnswer}
 use Rattle.codec_commands.specs.Decode.{DecodeAnswer}
 use Rattle.codec_commands.specs.Encode.{EncodeAnswer}
-use Rattle.layer_commands.specs.Layers.{LayersAnswer}
+use Rattle.codec_commands.specs.Layers.{LayersAnswer}
 use Rattle.codec_rooms.specs.Check.{checks}
 use Rattle.codec_rooms.specs.Decode.{decodes}
 use Rattle.codec_rooms.specs.Encode.{encodes}

@@ -6,7 +6,7 @@ use Rattle.tl_schema.specs.Schemas.{Declared}
 use Rattle.command_base.specs.declared.status.Status.{Status}
 use Rattle.outside.specs.Printing.{Answers}
 use Rattle.outside.specs.Steps.{Step}
-use Rattle.layer_commands.specs.Layers.{OfLayers}
+use Rattle.codec_commands.specs.Layers.{OfLayers}
 use Rattle.codec_rooms.specs.Typed.{OfAsked, OfCommand, OfFile, OfSchema, OfType}
 
 -- what follows of the old schema, its type and the new schema

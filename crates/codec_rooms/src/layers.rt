@@ -10,7 +10,7 @@ ghost use Rattle.codec_rooms.specs.Typed.{OfText};
 
 use crate::typed::{Purpose, follow_file};
 use command_base::Status;
-use layer_commands::verdict_line;
+use codec_commands::verdict_line;
 use outside::{Host, finish, print_made, read_file, unread};
 use schema_files::{SCHEMA_BYTES, schema_of};
 use std::alloc::{AllocError, Global};

@@ -5,7 +5,7 @@ use Rattle.tl_base.specs.Outside.{View}
 use Rattle.command_base.specs.Answer.{Answer}
 use Rattle.call_commands.proofs.EachCalls.{each_calls}
 use Rattle.codec_commands.proofs.EachAnswer.{each_check, each_decode, each_encode}
-use Rattle.layer_commands.proofs.EachLayers.{each_layers}
+use Rattle.codec_commands.proofs.EachLayers.{each_layers}
 use Rattle.session_commands.proofs.EachClient.{each_client}
 use Rattle.session_commands.proofs.EachPost.{each_post}
 use Rattle.session_commands.proofs.EachServe.{each_serve}

@@ -9,7 +9,7 @@ use Rattle.call_commands.proofs.OneCalls.{one_calls}
 use Rattle.codec_commands.proofs.OneCheck.{one_check}
 use Rattle.codec_commands.proofs.OneDecode.{one_decode}
 use Rattle.codec_commands.proofs.OneEncode.{one_encode}
-use Rattle.layer_commands.proofs.OneLayers.{one_layers}
+use Rattle.codec_commands.proofs.OneLayers.{one_layers}
 use Rattle.session_commands.proofs.OnePost.{one_post}
 use Rattle.session_commands.proofs.OneRecovery.{one_recovery}
 use Rattle.session_commands.proofs.OneServe.{one_serve}

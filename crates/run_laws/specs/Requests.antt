@@ -8,7 +8,7 @@ use Rattle.call_commands.specs.Calls.{calls_job}
 use Rattle.codec_commands.specs.Check.{check_job}
 use Rattle.codec_commands.specs.Decode.{decode_job}
 use Rattle.codec_commands.specs.Encode.{encode_job}
-use Rattle.layer_commands.specs.Layers.{layers_job}
+use Rattle.codec_commands.specs.Layers.{layers_job}
 use Rattle.session_commands.specs.Client.{client_job}
 use Rattle.session_commands.specs.Linked.{next_link}
 use Rattle.session_commands.specs.Post.{post_job}

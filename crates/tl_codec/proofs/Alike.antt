@@ -13,7 +13,7 @@ use Rattle.codec_commands.specs.Decode as decode
 use Rattle.codec_commands.specs.Encode as encode
 use Rattle.codec_commands.specs.Typed.{OfType, ToInput, TypedAnswer, no_plan, no_type, typed}
 use Rattle.codec_commands.proofs.EncodedValues.{refused_json}
-use Rattle.layer_commands.specs.Layers as layers
+use Rattle.codec_commands.specs.Layers as layers
 use Rattle.tl_codec.specs.Codings.{Decodes, Encodes, IsLine, IsSpelling, Made, TellsBytes, faulty, longer}
 use Rattle.tl_codec.specs.Typings.{IsPlannedType, TellsName}
 use Rattle.tl_codec.specs.Comparing as comparing

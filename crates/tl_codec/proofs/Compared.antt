@@ -11,7 +11,7 @@ use Rattle.command_base.proofs.Loaded.{refuses_as}
 use Rattle.schema_files.specs.Answering.{OfSchemaText, no_schema, schema_of}
 use Rattle.schema_files.specs.Loaded.{IsSchemaText}
 use Rattle.schema_files.specs.Parts.{TellsSchema, TellsType}
-use Rattle.layer_commands.specs.Layers.{OfLayers, TellsLayers}
+use Rattle.codec_commands.specs.Layers.{OfLayers, TellsLayers}
 use Rattle.tl_codec.specs.Codings.{Made}
 use Rattle.tl_codec.specs.Comparing.{MakesAnswer, OfTypeText, no_type, typed}
 

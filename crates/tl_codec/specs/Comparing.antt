@@ -9,7 +9,7 @@ use Rattle.schema_files.specs.Answering.{OfSchemaText}
 use Rattle.schema_files.specs.Causes.{TypeNameCause}
 use Rattle.schema_files.specs.Lines.{type_line}
 use Rattle.schema_files.specs.Loaded.{TypeNameRefused}
-use Rattle.layer_commands.specs.Layers.{OfLayers}
+use Rattle.codec_commands.specs.Layers.{OfLayers}
 use Rattle.tl_codec.specs.Codings.{Made}
 
 -- what an answer writes, or the line with which it refuses; out of memory is free

@@ -10,7 +10,7 @@ use Rattle.schema_files.specs.Parts.{TellsSchema}
 use Rattle.codec_commands.specs.Check.{CheckAnswer, listing}
 use Rattle.codec_commands.specs.Decode.{DecodeAnswer}
 use Rattle.codec_commands.specs.Encode.{EncodeAnswer}
-use Rattle.layer_commands.specs.Layers.{LayersAnswer}
+use Rattle.codec_commands.specs.Layers.{LayersAnswer}
 use Rattle.tl_codec.specs.Codings.{Decodes, Encodes, Made}
 use Rattle.tl_codec.specs.Typings.{IsPlannedType, TellsName}
 use Rattle.tl_codec.specs.Comparing.{MakesAnswer, OfTexts}

@@ -2,7 +2,7 @@
 ghost use Rattle.tl_codec.specs.Comparing.{MakesAnswer, OfTexts, OfTypeText};
 
 use command_base::Unmade;
-use layer_commands::verdict_line;
+use codec_commands::verdict_line;
 use schema_files::{schema_of, type_spelled};
 use std::alloc::Global;
 use tl_schema::Schema;

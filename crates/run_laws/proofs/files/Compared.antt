@@ -10,9 +10,9 @@ use Rattle.command_base.specs.Answer.{Answer, refused}
 use Rattle.schema_files.specs.Answering.{OfSchemaFile}
 use Rattle.schema_files.specs.Lines.{type_line}
 use Rattle.schema_files.proofs.OneTypeName.{never_type}
-use Rattle.layer_commands.specs.Layers.{LayersAnswer, NamesType, OfLayers, OfType, ReachesNew, broken, layers_job, whole}
-use Rattle.layer_commands.specs.Layers as answer
-use Rattle.layer_commands.proofs.OneLayers.{one_layers}
+use Rattle.codec_commands.specs.Layers.{LayersAnswer, NamesType, OfLayers, OfType, ReachesNew, broken, layers_job, whole}
+use Rattle.codec_commands.specs.Layers as answer
+use Rattle.codec_commands.proofs.OneLayers.{one_layers}
 use Rattle.codec_rooms.specs.Layers.{OfNew, compared, compares}
 use Rattle.codec_rooms.specs.Typed.{OfAsked, no_type, typed}
 use Rattle.outside.specs.Events.{Outside}

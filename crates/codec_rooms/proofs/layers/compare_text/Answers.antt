@@ -2,8 +2,8 @@ use Rattle.std.proofs.Common.{codes}
 use Rattle.tl_schema.specs.Seen.{shape}
 use Rattle.command_base.specs.Jobs.{making}
 use Rattle.outside.proofs.Printed.{made_printed}
-use Rattle.layer_commands.specs.Layers.{OfLayers}
-use Rattle.layer_commands.proofs.EachLayers.{each_told}
+use Rattle.codec_commands.specs.Layers.{OfLayers}
+use Rattle.codec_commands.proofs.EachLayers.{each_told}
 use Rattle.codec_rooms.specs.Layers.{compared}
 use Rattle.codec_rooms.proofs.Layering.{can_compare, layers_made}
 use Rattle.codec_rooms.proofs.Typing.{text_read, text_refused}

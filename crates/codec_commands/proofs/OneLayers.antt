@@ -14,7 +14,7 @@ use Rattle.schema_files.proofs.OneTypeName.{one_type_cause, never_type}
 use Rattle.tl_layers.proofs.OneCount.{one_count}
 use Rattle.tl_layers.specs.declared.fault.Break.{Break}
 use Rattle.tl_layers.proofs.OneBreak.{never_both, one_break}
-use Rattle.layer_commands.specs.Layers.{layers_line, yes_line, OfLayers, broken, whole, OfType, no_type, typed, LayersAnswer}
+use Rattle.codec_commands.specs.Layers.{layers_line, yes_line, OfLayers, broken, whole, OfType, no_type, typed, LayersAnswer}
 
 -- ---- answers
 

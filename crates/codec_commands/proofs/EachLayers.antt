@@ -11,8 +11,8 @@ use Rattle.schema_files.proofs.FormedWords.{word_formed}
 use Rattle.schema_files.proofs.Answering.{each_of_file}
 use Rattle.schema_files.proofs.OneTypeName.{type_or_refused}
 use Rattle.tl_layers.proofs.EachBreaks.{each_is_unbroken_or_breaks}
-use Rattle.layer_commands.proofs.OneLayers.{one_layers}
-use Rattle.layer_commands.specs.Layers.{OfLayers, broken, whole, OfType, no_type, typed, LayersAnswer, EachHasOneAnswer}
+use Rattle.codec_commands.proofs.OneLayers.{one_layers}
+use Rattle.codec_commands.specs.Layers.{OfLayers, broken, whole, OfType, no_type, typed, LayersAnswer, EachHasOneAnswer}
 
 pub each_told : (old : Declared) → IsSchema old → (T : Shape) → IsFormed old T → (new : Declared) → IsSchema new → (a : Answer) × OfLayers old new T a
 each_told old good T formed new sound =

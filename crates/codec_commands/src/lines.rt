@@ -1,6 +1,6 @@
 //! The words of lines.
 ghost use Rattle.std.specs.Prelude.{◌≡◌, IfOk, string_bytes};
-ghost use Rattle.layer_commands.specs.Layers.{break_text, yes_line};
+ghost use Rattle.codec_commands.specs.Layers.{break_text, yes_line};
 
 use std::alloc::{AllocError, Global};
 use tl_layers::Break;

@@ -1,5 +1,5 @@
 //! Laws of the definitions, each carried by a function that does nothing.
-ghost use Rattle.layer_commands.specs.Layers.{EachHasOneAnswer};
+ghost use Rattle.codec_commands.specs.Layers.{EachHasOneAnswer};
 
 /// Where both files are there, `layers` has one answer.
 pub fn files_have_one_answer()

@@ -6,8 +6,8 @@ use Rattle.command_base.proofs.Loaded.{refuses_as}
 use Rattle.tl_layers.specs.Reached.{Reached}
 use Rattle.tl_layers.specs.Compared.{LayersView, IsCount, Compares}
 use Rattle.tl_layers.specs.declared.fault.LayerFault.{LayerFault}
-use Rattle.layer_commands.specs.Layers.{OfLayers, broken, whole, layers_line}
-use Rattle.layer_commands.proofs.verdict.verdict_line.Goals as goal
+use Rattle.codec_commands.specs.Layers.{OfLayers, broken, whole, layers_line}
+use Rattle.codec_commands.proofs.verdict.verdict_line.Goals as goal
 
 pub returns-in_ok-line-in-Ok : goal.returns-in_ok-line-in-Ok
 returns-in_ok-line-in-Ok c =

@@ -2,7 +2,7 @@
 ghost use Rattle.command_base.specs.Loading.{RefusesAs};
 ghost use Rattle.tl_schema.specs.Formed.{IsFormed};
 ghost use Rattle.tl_schema.specs.Seen.{shape};
-ghost use Rattle.layer_commands.specs.Layers.{TellsLayers, layers_line};
+ghost use Rattle.codec_commands.specs.Layers.{TellsLayers, layers_line};
 
 use crate::lines::{break_text, yes_line};
 use command_base::Unmade;

@@ -1,2 +1,0 @@
-pub mod OneLayers
-pub mod EachLayers

@@ -1,5 +1,0 @@
-use Rattle.layer_commands.proofs.EachLayers.{each_has_one_answer}
-use Rattle.layer_commands.proofs.laws.files_have_one_answer.Goals as goal
-
-pub returns : goal.returns
-returns c = each_has_one_answer
