@@ -31,10 +31,10 @@ use Rattle.outside.specs.Runs.{RunsIn}
 use Rattle.outside.specs.Steps.{Step, Turn, again, leave, Reaches, here, turn}
 use Rattle.outside.proofs.Causing.{keeps_file, told_status}
 use Rattle.outside.proofs.TakenPackets.{keeps_packet, whole_packet}
-use Rattle.mem_host.specs.Fits.{Fits}
-use Rattle.mem_host.specs.Reliable.{IsReliable}
-use Rattle.mem_host.proofs.Fitting.{Keeps, files_are_read, fits_both, fits_keeps, reliable_on, took_bytes, writes_append, writes_fail_full}
-use Rattle.mem_host.proofs.Sparing.{IsReading, reading_leaves, writes_leave}
+use Rattle.outside.specs.Fits.{Fits}
+use Rattle.outside.specs.Reliable.{IsReliable}
+use Rattle.outside.proofs.Fitting.{Keeps, files_are_read, fits_both, fits_keeps, reliable_on, took_bytes, writes_append, writes_fail_full}
+use Rattle.outside.proofs.Sparing.{IsReading, reading_leaves, writes_leave}
 use Rattle.schema_files.specs.Answering as answering
 use Rattle.schema_files.specs.Lines.{input_line, schema_line}
 use Rattle.schema_files.specs.Loaded.{IsSchemaText}

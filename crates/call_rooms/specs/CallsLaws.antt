@@ -8,8 +8,8 @@ use Rattle.command_base.specs.declared.status.Status.{Status}
 use Rattle.command_base.specs.declared.status.Status.TheVariants.{Memory}
 use Rattle.outside.specs.Events.{Event, Outside}
 use Rattle.outside.specs.Runs.{RunsIn}
-use Rattle.mem_host.specs.Fits.{Fits}
-use Rattle.mem_host.specs.Reliable.{IsReliable}
+use Rattle.outside.specs.Fits.{Fits}
+use Rattle.outside.specs.Reliable.{IsReliable}
 use Rattle.codec_rooms.specs.Laws.{Command, IsAnswer, AreThere, EndsAs}
 
 -- A run that neither the outside nor memory stopped ends by an answer to the first files with the names: that is its status, and Output has grown by it.

@@ -4,7 +4,7 @@ use crate::fault::CaseFault;
 use crate::kept::CaseKeeper;
 use crate::words::{Moment, bytes_of, cut_word, moments_of, number_of, numbered_call, numbers_of};
 use box_store::MemKeeper;
-use mem_host::MemHost;
+use outside::MemHost;
 use std::alloc::{AllocError, Global};
 use tl_base::{Bytes, HostCall, Memory};
 use wire_profile::PROFILE_TEXT;

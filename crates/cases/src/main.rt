@@ -4,7 +4,7 @@
 use box_store::MemKeeper;
 use case_files::{BadLine, Case, Ending, TracedHost, entries_text, read_cases, shown_run};
 use commands::{keep_in, run, run_stored};
-use mem_host::MemHost;
+use outside::MemHost;
 use std::alloc::{AllocError, Global};
 use std::process::ExitCode;
 use std::{env, fs, io};

@@ -17,8 +17,8 @@ use Rattle.outside.specs.Laws.{Happened, Throughout, Keeps, IsFailure, Explains,
 use Rattle.outside.specs.Runs.{Runs}
 use Rattle.outside.specs.Steps.{Turn, again, leave, Calls, Then}
 use Rattle.outside.proofs.Causing.{happened_last, keeps_then, keeps_call, keeps_loop, keeps_tell, keeps_print, cause_then, cause_print, cause_tell, cause_run, explains_last, told_status}
-use Rattle.mem_host.specs.Fits.{Fits}
-use Rattle.mem_host.proofs.Sparing.{IsReading}
+use Rattle.outside.specs.Fits.{Fits}
+use Rattle.outside.proofs.Sparing.{IsReading}
 use Rattle.schema_files.specs.Lines.{cause_text, input_line, line_text}
 use Rattle.codec_commands.specs.Decode.{OfInput}
 use Rattle.codec_commands.specs.Typed.{OfType}

@@ -15,10 +15,10 @@ use Rattle.outside.specs.Printing.{Prints, after_output}
 use Rattle.outside.specs.Runs.{RunsIn, done, out_of_memory}
 use Rattle.outside.specs.Steps.{Step, Then}
 use Rattle.outside.proofs.Causing.{keeps_begun, keeps_tell, throughout_both, told_status}
-use Rattle.mem_host.specs.Fits.{Fits}
-use Rattle.mem_host.specs.Reliable.{IsReliable, IsMissing}
-use Rattle.mem_host.proofs.Fitting.{fits_both, fits_keeps, reads_fail_alone, reliable_on, writes_append, writes_fail_full}
-use Rattle.mem_host.proofs.Sparing.{IsReading, reading_leaves, writes_leave}
+use Rattle.outside.specs.Fits.{Fits}
+use Rattle.outside.specs.Reliable.{IsReliable, IsMissing}
+use Rattle.outside.proofs.Fitting.{fits_both, fits_keeps, reads_fail_alone, reliable_on, writes_append, writes_fail_full}
+use Rattle.outside.proofs.Sparing.{IsReading, reading_leaves, writes_leave}
 use Rattle.codec_rooms.specs.Laws.{Named, Command, IsRead, IsOf, Touches, IsAnswer, AnswersFiles, AreThere, ReadsFiles, EndsAs, EndsFiles}
 
 -- ---- what a command comes to

@@ -16,9 +16,9 @@ use Rattle.outside.specs.Pieces.{ReadsFile}
 use Rattle.outside.specs.Printing.{Answers}
 use Rattle.outside.specs.Steps.{Step, Then}
 use Rattle.outside.proofs.Causing.{keeps_file, told_status}
-use Rattle.mem_host.specs.Fits.{Fits}
-use Rattle.mem_host.proofs.Fitting.{files_are_read, fits_keeps}
-use Rattle.mem_host.proofs.Sparing.{IsReading}
+use Rattle.outside.specs.Fits.{Fits}
+use Rattle.outside.proofs.Fitting.{files_are_read, fits_keeps}
+use Rattle.outside.proofs.Sparing.{IsReading}
 use Rattle.schema_files.specs.Answering.{OfSchemaText, OfSchemaFile}
 use Rattle.schema_files.specs.Answering as answering
 use Rattle.schema_files.specs.Lines.{schema_line, type_line, plan_line}

@@ -13,8 +13,8 @@ use Rattle.outside.specs.Events.{Event, Outside, opened, took, ended, read_faile
 use Rattle.outside.specs.Laws.{Throughout}
 use Rattle.outside.specs.Runs.{RunsIn}
 use Rattle.outside.specs.Steps.{Step}
-use Rattle.mem_host.specs.Fits.{Fits}
-use Rattle.mem_host.specs.Reliable.{IsReliable}
+use Rattle.outside.specs.Fits.{Fits}
+use Rattle.outside.specs.Reliable.{IsReliable}
 
 -- slots, and the name of the file that is read by each
 abbrev pub Named : Type 0

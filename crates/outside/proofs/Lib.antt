@@ -5,3 +5,6 @@ pub mod Piecewise
 pub mod Running
 pub mod Printed
 pub mod TakenPackets
+pub mod Noting
+pub mod Fitting
+pub mod Sparing

@@ -9,3 +9,7 @@ pub mod Packets
 pub mod Printing
 pub mod Runs
 pub mod Laws
+pub mod Logs
+pub mod Fits
+pub mod Memory
+pub mod Reliable

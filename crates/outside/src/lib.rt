@@ -3,6 +3,9 @@
 
 mod ending;
 mod host;
+mod laws;
+mod logged;
+mod mem_host;
 mod packets;
 mod pieces;
 mod printing;
@@ -10,6 +13,10 @@ mod reading;
 
 pub use ending::finish;
 pub use host::Host;
+pub use laws::{
+    files_are_read, files_can_be_read, reads_fail_alone, writes_append, writes_fail_full,
+};
+pub use mem_host::MemHost;
 pub use packets::{Packet, take_packet};
 pub use pieces::{Taken, take_bytes, tell, write_out};
 pub use printing::{print, print_made, unread};

@@ -12,8 +12,8 @@ use Rattle.command_base.specs.declared.status.Status.TheVariants.{Usage, ReadFau
 use Rattle.outside.specs.Events.{Event, Outside}
 use Rattle.outside.specs.Pieces as pieces
 use Rattle.outside.proofs.Causing.{told_status}
-use Rattle.mem_host.specs.Fits.{Fits}
-use Rattle.mem_host.specs.Reliable.{IsReliable}
+use Rattle.outside.specs.Fits.{Fits}
+use Rattle.outside.specs.Reliable.{IsReliable}
 use Rattle.commands.specs.Requests.{RequestText, AsksFor, AsksNothing, check, decode, encode, replay, make, serve, post, client, layers, calls}
 use Rattle.commands.specs.Usage.{usage_line}
 use Rattle.commands.specs.Work.{RunsRequest, RunsWords, no_request, requested, no_memory, outs_of, work_of}

@@ -1,8 +1,8 @@
 -- How runs of `keep` end.
 use Rattle.std.proofs.Common.{◌≡◌, ℕ, List, ◌∷◌, refl, sym, ap, ◌∙◌, subst}
 use Rattle.outside.specs.Events.{Outside}
-use Rattle.mem_host.specs.Fits.{Fits}
-use Rattle.mem_host.specs.Reliable.{IsReliable}
+use Rattle.outside.specs.Fits.{Fits}
+use Rattle.outside.specs.Reliable.{IsReliable}
 use Rattle.box_store.specs.Keeping.{KeeperState}
 use Rattle.serve_rooms.specs.Acts.{Act, KeeperGrew, events_in}
 use Rattle.serve_rooms.specs.declared.status.KeptStatus.{KeptStatus}

@@ -12,7 +12,7 @@ use Rattle.outside.specs.Laws.{Throughout}
 use Rattle.outside.specs.Pieces as pieces
 use Rattle.outside.specs.Pieces.{InPieces, joined, Writes}
 use Rattle.outside.proofs.Causing.{unwritten}
-use Rattle.mem_host.specs.Fits.{Fits, Happens}
+use Rattle.outside.specs.Fits.{Fits, Happens}
 use Rattle.run_laws.specs.Ended.{WriteFailed}
 use Rattle.run_laws.specs.Touched.{IsTelling}
 

@@ -16,8 +16,8 @@ use Rattle.outside.specs.Events.{Event, Outside}
 use Rattle.outside.specs.Laws.{Happened, IsFailure}
 use Rattle.outside.specs.Runs.{RunsIn}
 use Rattle.outside.specs.Steps.{Step}
-use Rattle.mem_host.specs.Fits.{Fits}
-use Rattle.mem_host.specs.Reliable.{IsReliable}
+use Rattle.outside.specs.Fits.{Fits}
+use Rattle.outside.specs.Reliable.{IsReliable}
 
 -- The work was stopped: a prefix of what the job gives was written, and then a fault's line was told. `stopped` is what the outside shows between these.
 pub record Stops (job : Job) (write_failed link_failed : Type 0) (line : List ℕ) (v w : View) : Type 0 where

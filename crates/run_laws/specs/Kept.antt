@@ -15,8 +15,8 @@ use Rattle.fault_lines.specs.Profiled.{HasProfile}
 use Rattle.session_commands.specs.Keep.{KeepsFirst, KeepsSessions, RoomForRun, RoomOver, Starts, keep_job, told_job}
 use Rattle.session_commands.specs.Serve.{ServeKeeps}
 use Rattle.outside.specs.Events.{Event, Outside}
-use Rattle.mem_host.specs.Fits.{Fits}
-use Rattle.mem_host.specs.Reliable.{IsReliable}
+use Rattle.outside.specs.Fits.{Fits}
+use Rattle.outside.specs.Reliable.{IsReliable}
 use Rattle.serve_rooms.specs.Acts.{Act, KeeperGrew, events_in}
 use Rattle.serve_rooms.specs.Doing.{RunsKept}
 use Rattle.serve_rooms.specs.Serve.{keeps}

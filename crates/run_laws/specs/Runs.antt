@@ -8,8 +8,8 @@ use Rattle.command_base.specs.Telling.{Tells, TellsLine}
 use Rattle.command_base.specs.declared.status.Status.{Status}
 use Rattle.command_base.specs.declared.status.Status.TheVariants.{ReadFault, WriteFault, Memory, LinkFault}
 use Rattle.outside.specs.Events.{Event, Outside}
-use Rattle.mem_host.specs.Fits.{Fits}
-use Rattle.mem_host.specs.Reliable.{IsReliable}
+use Rattle.outside.specs.Fits.{Fits}
+use Rattle.outside.specs.Reliable.{IsReliable}
 use Rattle.box_store.specs.Keeping.{KeeperState}
 use Rattle.serve_rooms.specs.Acts.{Act, KeeperGrew, events_in}
 use Rattle.serve_rooms.specs.declared.status.KeptStatus.{KeptStatus}

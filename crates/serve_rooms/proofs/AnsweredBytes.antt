@@ -19,9 +19,9 @@ use Rattle.outside.specs.Packets as packets
 use Rattle.outside.specs.Pieces.{InPieces}
 use Rattle.outside.specs.Steps.{Turn, again, leave, Ends, Then, Reaches, here, turn}
 use Rattle.outside.proofs.TakenPackets.{whole_packet}
-use Rattle.mem_host.specs.Fits.{Fits}
-use Rattle.mem_host.proofs.Fitting.{fits_both, writes_append}
-use Rattle.mem_host.proofs.Sparing.{writes_leave}
+use Rattle.outside.specs.Fits.{Fits}
+use Rattle.outside.proofs.Fitting.{fits_both, writes_append}
+use Rattle.outside.proofs.Sparing.{writes_leave}
 use Rattle.update_sessions.specs.declared.fault.SessionFault.TheVariants as session
 use Rattle.update_sessions.specs.declared.fault.SessionFault.{SessionFault}
 use Rattle.update_sessions.specs.declared.fault.TheConstants.{MAX_FRAMES}

@@ -15,7 +15,7 @@ use Rattle.command_base.specs.declared.status.Status.TheVariants as statuses
 use Rattle.outside.specs.Events.{Event, Outside, listened}
 use Rattle.outside.specs.Steps.{Turn, again, leave, Ends, Reaches, here, turn}
 use Rattle.outside.proofs.Causing.{told_status}
-use Rattle.mem_host.specs.Fits.{Fits}
+use Rattle.outside.specs.Fits.{Fits}
 use Rattle.update_sessions.specs.declared.fault.SessionFault.{SessionFault}
 use Rattle.session_commands.specs.Linked.{next_link}
 use Rattle.session_commands.specs.Serve.{SessionEnd, IsAny, Sessions, Total, end_output, end_status, first_fault, no_sessions, total_answer, with_session}

@@ -21,9 +21,9 @@ use Rattle.outside.specs.Packets as packets
 use Rattle.outside.specs.Pieces.{Writes}
 use Rattle.outside.specs.Steps.{Turn, again, leave}
 use Rattle.outside.proofs.Causing.{keeps_write}
-use Rattle.mem_host.specs.Fits.{Fits}
-use Rattle.mem_host.proofs.Fitting.{fits_both, writes_append}
-use Rattle.mem_host.proofs.Sparing.{writes_leave}
+use Rattle.outside.specs.Fits.{Fits}
+use Rattle.outside.proofs.Fitting.{fits_both, writes_append}
+use Rattle.outside.proofs.Sparing.{writes_leave}
 use Rattle.update_sessions.specs.declared.fault.SessionFault.{SessionFault}
 use Rattle.update_sessions.specs.declared.fault.SessionFault.TheVariants as session
 use Rattle.update_sessions.specs.declared.fault.TheConstants.{MAX_FRAMES}

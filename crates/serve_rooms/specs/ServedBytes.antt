@@ -14,7 +14,7 @@ use Rattle.command_base.specs.declared.status.Status.TheVariants.{LinkFault, Wri
 use Rattle.fault_lines.specs.Profiled.{OfProfileFile}
 use Rattle.outside.specs.Events.{Event, Outside}
 use Rattle.outside.specs.Runs.{RunsIn}
-use Rattle.mem_host.specs.Fits.{Fits}
+use Rattle.outside.specs.Fits.{Fits}
 use Rattle.update_sessions.specs.Kept.{EndsSession, StoreEnd, ended, keeper_failed, kept_in}
 use Rattle.codec_rooms.specs.Laws.{IsAnswer}
 use Rattle.session_commands.specs.Linked.{next_link}

@@ -26,9 +26,9 @@ use Rattle.outside.specs.Events.{Event, Outside, created, connected}
 use Rattle.outside.specs.Pieces.{ReadsFile, Tells, Writes}
 use Rattle.outside.specs.Printing.{Prints, after_output}
 use Rattle.outside.proofs.Causing.{keeps_file, keeps_tell, keeps_write, told_status}
-use Rattle.mem_host.specs.Fits.{Fits}
-use Rattle.mem_host.proofs.Fitting.{files_are_read, fits_both, fits_keeps, writes_append}
-use Rattle.mem_host.proofs.Sparing.{writes_leave}
+use Rattle.outside.specs.Fits.{Fits}
+use Rattle.outside.proofs.Fitting.{files_are_read, fits_both, fits_keeps, writes_append}
+use Rattle.outside.proofs.Sparing.{writes_leave}
 use Rattle.schema_files.specs.Answering as answering
 use Rattle.schema_files.specs.Lines.{schema_line}
 use Rattle.schema_files.specs.declared.schema_text.TheConstants.{SCHEMA_BYTES}

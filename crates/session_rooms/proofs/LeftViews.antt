@@ -10,7 +10,7 @@ use Rattle.command_base.specs.Kept.{Leaves, address_after, name_after, bytes_aft
 use Rattle.command_base.specs.declared.status.Status.{Status}
 use Rattle.outside.specs.Events.{Event, Outside, opened, took, ended, read_failed, created, put, write_failed, listened, connected, accepted, told}
 use Rattle.outside.specs.Laws.{Throughout}
-use Rattle.mem_host.specs.Fits.{Happens, Fits}
+use Rattle.outside.specs.Fits.{Happens, Fits}
 use Rattle.codec_rooms.specs.Laws.{IsPrinted}
 use Rattle.session_commands.specs.Linked.{over_link, saves_after}
 

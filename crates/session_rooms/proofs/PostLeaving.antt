@@ -6,7 +6,7 @@ use Rattle.tl_base.specs.declared.host.Out.{Out}
 use Rattle.tl_base.specs.declared.host.Out.TheVariants as outs
 use Rattle.outside.specs.Events.{Event, Outside, opened, took, ended, read_failed, created, put, write_failed, listened, connected, accepted, told}
 use Rattle.outside.specs.Laws.{Throughout}
-use Rattle.mem_host.specs.Fits.{Fits, Happens}
+use Rattle.outside.specs.Fits.{Fits, Happens}
 use Rattle.session_rooms.specs.PostLaws.{IsOfPost, IsWrittenByPost}
 use Rattle.session_rooms.specs.PostWrites.{PostLeaves}
 use Rattle.session_rooms.proofs.PostLaws.{post_touches}

@@ -27,10 +27,10 @@ use Rattle.outside.specs.Printing.{Prints, after_output}
 use Rattle.outside.specs.Steps.{Step, Then}
 use Rattle.outside.proofs.Causing.{keeps_file, told_status}
 use Rattle.outside.proofs.TakenPackets.{broken_packet, keeps_packet, whole_packet}
-use Rattle.mem_host.specs.Fits.{Fits, Happens}
-use Rattle.mem_host.specs.Reliable.{IsReliable}
-use Rattle.mem_host.proofs.Fitting.{Keeps as KeepsOutside, files_are_read, files_can_be_read, fits_both, fits_keeps, reliable_on, writes_fail_full}
-use Rattle.mem_host.proofs.Sparing.{IsReading}
+use Rattle.outside.specs.Fits.{Fits, Happens}
+use Rattle.outside.specs.Reliable.{IsReliable}
+use Rattle.outside.proofs.Fitting.{Keeps as KeepsOutside, files_are_read, files_can_be_read, fits_both, fits_keeps, reliable_on, writes_fail_full}
+use Rattle.outside.proofs.Sparing.{IsReading}
 use Rattle.schema_files.specs.Answering.{OfSchemaText}
 use Rattle.schema_files.specs.Answering as answering
 use Rattle.schema_files.specs.declared.json_input.TheConstants.{JSON_BYTES}

@@ -28,9 +28,9 @@ use Rattle.outside.specs.Runs as runs
 use Rattle.outside.specs.Steps.{Step, Then}
 use Rattle.outside.proofs.Causing.{keeps_file, told_status}
 use Rattle.outside.proofs.TakenPackets.{keeps_packet, whole_packet}
-use Rattle.mem_host.specs.Fits.{Fits, Happens}
-use Rattle.mem_host.proofs.Fitting.{files_are_read, fits_both, writes_append}
-use Rattle.mem_host.proofs.Sparing.{IsReading}
+use Rattle.outside.specs.Fits.{Fits, Happens}
+use Rattle.outside.proofs.Fitting.{files_are_read, fits_both, writes_append}
+use Rattle.outside.proofs.Sparing.{IsReading}
 use Rattle.schema_files.specs.Answering.{OfSchemaText}
 use Rattle.schema_files.specs.Answering as answering
 use Rattle.schema_files.specs.declared.json_input.TheConstants.{JSON_BYTES}

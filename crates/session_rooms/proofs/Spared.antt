@@ -5,8 +5,8 @@ use Rattle.tl_base.specs.declared.host.Out.{Out}
 use Rattle.outside.specs.Events.{Event, Outside, opened, took, ended, read_failed, created, put, write_failed, listened, connected, accepted, told}
 use Rattle.outside.specs.Laws.{Throughout}
 use Rattle.outside.specs.Pieces.{Writes}
-use Rattle.mem_host.specs.Fits.{Happens, Fits}
-use Rattle.mem_host.proofs.Sparing.{IsReading}
+use Rattle.outside.specs.Fits.{Happens, Fits}
+use Rattle.outside.proofs.Sparing.{IsReading}
 
 -- ---- what is read
 

@@ -11,8 +11,8 @@ use Rattle.command_base.specs.declared.status.Status.TheVariants.{LinkFault, Mem
 use Rattle.outside.specs.Begun.{to_link}
 use Rattle.outside.specs.Events.{Event, Outside}
 use Rattle.outside.specs.Runs.{RunsIn}
-use Rattle.mem_host.specs.Fits.{Fits}
-use Rattle.mem_host.specs.Reliable.{IsReliable}
+use Rattle.outside.specs.Fits.{Fits}
+use Rattle.outside.specs.Reliable.{IsReliable}
 use Rattle.codec_rooms.specs.Laws.{IsAnswer}
 use Rattle.session_commands.specs.Linked.{next_link}
 use Rattle.session_commands.specs.Post.{PostAnswer}

@@ -10,7 +10,7 @@ use Rattle.command_base.specs.declared.status.Status.TheVariants.{Memory}
 use Rattle.outside.specs.Begun.{to_link}
 use Rattle.outside.specs.Events.{Event, Outside}
 use Rattle.outside.specs.Runs.{RunsIn}
-use Rattle.mem_host.specs.Fits.{Fits}
+use Rattle.outside.specs.Fits.{Fits}
 use Rattle.session_commands.specs.Linked.{next_link, KeepsFiles}
 use Rattle.session_commands.specs.Post.{PostAnswer}
 use Rattle.session_rooms.specs.Post.{posts}

@@ -25,9 +25,9 @@ use Rattle.outside.specs.Printing.{Prints, Unread, after_output}
 use Rattle.outside.specs.Runs.{RunsIn}
 use Rattle.outside.specs.Runs as runs
 use Rattle.outside.proofs.Causing.{happened_first, happened_last, keeps_file, keeps_tell, keeps_write, throughout_both, throughout_first, told_status, unread_file}
-use Rattle.mem_host.specs.Fits.{Fits}
-use Rattle.mem_host.specs.Reliable.{IsReliable, IsMissing}
-use Rattle.mem_host.proofs.Fitting.{files_are_read, files_can_be_read, fits_both, fits_keeps, reads_fail_alone, reliable_on, writes_append}
+use Rattle.outside.specs.Fits.{Fits}
+use Rattle.outside.specs.Reliable.{IsReliable, IsMissing}
+use Rattle.outside.proofs.Fitting.{files_are_read, files_can_be_read, fits_both, fits_keeps, reads_fail_alone, reliable_on, writes_append}
 use Rattle.schema_files.specs.Answering as answering
 use Rattle.schema_files.specs.Lines.{input_line, schema_line}
 use Rattle.schema_files.specs.Loaded.{IsSchemaText}

@@ -13,9 +13,9 @@ use Rattle.outside.specs.Pieces.{ReadsFile}
 use Rattle.outside.specs.Printing.{Prints, Unread}
 use Rattle.outside.specs.Steps.{Step, Then}
 use Rattle.outside.proofs.Causing.{happened_last, keeps_file, throughout_both, throughout_first, unread_file}
-use Rattle.mem_host.specs.Fits.{Fits}
-use Rattle.mem_host.specs.Reliable.{IsMissing, IsReliable}
-use Rattle.mem_host.proofs.Fitting.{files_are_read, files_can_be_read, fits_both}
+use Rattle.outside.specs.Fits.{Fits}
+use Rattle.outside.specs.Reliable.{IsMissing, IsReliable}
+use Rattle.outside.proofs.Fitting.{files_are_read, files_can_be_read, fits_both}
 use Rattle.run_laws.proofs.files.Cutting.{Cut, past, within, cut}
 use Rattle.run_laws.proofs.files.Spared.{IsDry, IsFileRead, IsFileSlot, IsSchemaSlot}
 

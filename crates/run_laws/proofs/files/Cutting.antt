@@ -12,8 +12,8 @@ use Rattle.outside.specs.Events.{Event, Outside, put, write_failed}
 use Rattle.outside.specs.Laws.{Happened, IsFailure}
 use Rattle.outside.specs.Pieces.{joined, Tells, Writes}
 use Rattle.outside.proofs.Causing.{keeps_tell, unwritten}
-use Rattle.mem_host.specs.Fits.{Fits}
-use Rattle.mem_host.proofs.Fitting.{writes_append}
+use Rattle.outside.specs.Fits.{Fits}
+use Rattle.outside.proofs.Fitting.{writes_append}
 use Rattle.run_laws.proofs.files.Spared.{ToErrors, output_left}
 
 -- ---- where a trace is cut

@@ -17,9 +17,9 @@ use Rattle.outside.specs.Events.{Event, Outside, opened}
 use Rattle.outside.specs.Laws.{Happened, IsFailure, Throughout}
 use Rattle.outside.specs.Steps.{Turn, again, leave, Calls, Then}
 use Rattle.outside.proofs.Causing.{happened_last, keeps_call}
-use Rattle.mem_host.specs.Fits.{Fits}
-use Rattle.mem_host.specs.Reliable.{IsMissing}
-use Rattle.mem_host.proofs.Fitting.{fits_keeps, reads_fail_alone, reliable_on}
+use Rattle.outside.specs.Fits.{Fits}
+use Rattle.outside.specs.Reliable.{IsMissing}
+use Rattle.outside.proofs.Fitting.{fits_keeps, reads_fail_alone, reliable_on}
 use Rattle.schema_files.specs.Lines.{cause_text, input_line, line_text}
 use Rattle.codec_commands.specs.Decode.{DecodeAnswer, OfInput, decode_job}
 use Rattle.codec_commands.specs.Decode as answer

@@ -21,9 +21,9 @@ use Rattle.outside.specs.Runs.{RunsIn}
 use Rattle.outside.specs.Runs as runs
 use Rattle.outside.specs.Steps.{Step}
 use Rattle.outside.proofs.Causing.{happened_first, happened_last, keeps_print, keeps_tell, keeps_write, throughout_both, throughout_first, told_status, unwritten}
-use Rattle.mem_host.specs.Fits.{Fits}
-use Rattle.mem_host.specs.Reliable.{IsReliable}
-use Rattle.mem_host.proofs.Fitting.{fits_both, fits_keeps, reliable_on, writes_append, writes_fail_full}
+use Rattle.outside.specs.Fits.{Fits}
+use Rattle.outside.specs.Reliable.{IsReliable}
+use Rattle.outside.proofs.Fitting.{fits_both, fits_keeps, reliable_on, writes_append, writes_fail_full}
 use Rattle.run_laws.specs.Ended.{Ended, IsShown, LinkFailed, ReadFailed, RunsJob, WriteFailed}
 use Rattle.run_laws.specs.Ended as ends
 use Rattle.run_laws.proofs.files.Coming.{ComesTo, reading, unread, answered, Comes, Spares, spares_more}

@@ -11,8 +11,8 @@ use Rattle.tl_decode.specs.declared.whole.WholeFault.{WholeFault}
 use Rattle.tl_decode.specs.declared.whole.WholeFault.TheVariants as whole
 use Rattle.outside.specs.Events.{Event, Outside, took}
 use Rattle.outside.specs.Steps.{Turn, again, leave, Reaches, here, turn}
-use Rattle.mem_host.specs.Fits.{Fits}
-use Rattle.mem_host.proofs.Fitting.{fits_both}
+use Rattle.outside.specs.Fits.{Fits}
+use Rattle.outside.proofs.Fitting.{fits_both}
 use Rattle.codec_commands.specs.Decode.{OfInput}
 use Rattle.codec_commands.specs.Decode as answer
 use Rattle.codec_rooms.specs.Decode.{Verdict, Decides, faulty, longer, HasVerdict, cut_off, is_value, ReadsOn, more, decided, at_end, failed, ReadsValue, at_once, reads, answer_of}

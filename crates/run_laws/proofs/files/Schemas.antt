@@ -16,8 +16,8 @@ use Rattle.command_base.specs.Answer.{Answer, refused}
 use Rattle.command_base.specs.declared.status.Status.{Status}
 use Rattle.outside.specs.Events.{Event, Outside}
 use Rattle.outside.specs.Printing.{Answers}
-use Rattle.mem_host.specs.Fits.{Fits}
-use Rattle.mem_host.proofs.Fitting.{fits_keeps, reliable_on}
+use Rattle.outside.specs.Fits.{Fits}
+use Rattle.outside.proofs.Fitting.{fits_keeps, reliable_on}
 use Rattle.schema_files.specs.Answering.{OfSchemaText, OfSchemaFile}
 use Rattle.schema_files.specs.Answering as answering
 use Rattle.schema_files.specs.Lines.{schema_line, type_line, plan_line}

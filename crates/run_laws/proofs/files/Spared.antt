@@ -9,7 +9,7 @@ use Rattle.command_base.specs.Kept.{KeepsRest}
 use Rattle.outside.specs.Begun.{IsAmong, WritesOnly, to_output}
 use Rattle.outside.specs.Events.{Event, Outside, opened, took, ended, read_failed, created, put, write_failed, listened, connected, accepted, told}
 use Rattle.outside.specs.Laws.{Throughout}
-use Rattle.mem_host.specs.Fits.{Happens, Fits}
+use Rattle.outside.specs.Fits.{Happens, Fits}
 
 -- ---- events
 

@@ -22,9 +22,9 @@ use Rattle.outside.specs.Printing.{Prints, Unread, after_output}
 use Rattle.outside.specs.Steps.{Step, Turn, again, leave, Ends, Reaches, here, turn, Then}
 use Rattle.outside.proofs.Causing.{happened_last, keeps_write, throughout_both, throughout_first, unwritten as not_written}
 use Rattle.outside.proofs.TakenPackets.{broken_packet, keeps_packet, whole_packet}
-use Rattle.mem_host.specs.Fits.{Fits}
-use Rattle.mem_host.specs.Reliable.{IsReliable, IsMissing}
-use Rattle.mem_host.proofs.Fitting.{fits_both, fits_keeps, reads_fail_alone, reliable_on, writes_append, writes_fail_full}
+use Rattle.outside.specs.Fits.{Fits}
+use Rattle.outside.specs.Reliable.{IsReliable, IsMissing}
+use Rattle.outside.proofs.Fitting.{fits_both, fits_keeps, reads_fail_alone, reliable_on, writes_append, writes_fail_full}
 use Rattle.schema_files.specs.Lines.{input_line}
 use Rattle.call_commands.specs.CallReports.{Began, HasPacket, Next, PacketRefused, nothing, a_line}
 use Rattle.call_commands.specs.CallReports as reports

@@ -12,7 +12,7 @@ use Rattle.command_base.specs.declared.status.Status.TheVariants as statuses
 use Rattle.fault_lines.specs.Profiled.{HasProfile}
 use Rattle.outside.specs.Events.{Outside}
 use Rattle.outside.specs.Laws.{Happened}
-use Rattle.mem_host.specs.Reliable.{IsReliable}
+use Rattle.outside.specs.Reliable.{IsReliable}
 use Rattle.update_sessions.proofs.Entries.{more_none}
 use Rattle.session_commands.specs.Keep.{RoomForRun, told_job}
 use Rattle.session_rooms.proofs.LeftViews.{beside, plain_leaves}

@@ -14,8 +14,8 @@ use Rattle.outside.specs.Events.{Event, Outside}
 use Rattle.outside.specs.Laws.{Happened}
 use Rattle.outside.specs.Pieces.{Tells}
 use Rattle.outside.proofs.Causing.{happened_last, told_status}
-use Rattle.mem_host.specs.Fits.{Fits}
-use Rattle.mem_host.specs.Reliable.{IsReliable}
+use Rattle.outside.specs.Fits.{Fits}
+use Rattle.outside.specs.Reliable.{IsReliable}
 use Rattle.schema_files.specs.Answering as answering
 use Rattle.session_commands.specs.Keep.{IsBadEntry, OfEntries, Starts, bad_entry_line, keep_job}
 use Rattle.session_commands.specs.Serve.{IsWhole, no_sessions, total_answer}

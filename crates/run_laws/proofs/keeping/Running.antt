@@ -9,7 +9,7 @@ use Rattle.outside.specs.Events.{Event, Outside}
 use Rattle.outside.specs.Laws.{Happened}
 use Rattle.outside.specs.Pieces.{Tells}
 use Rattle.outside.proofs.Causing.{happened_first, happened_last, told_status}
-use Rattle.mem_host.specs.Fits.{Fits}
+use Rattle.outside.specs.Fits.{Fits}
 use Rattle.session_commands.specs.Keep.{RoomForRun, RoomOver}
 use Rattle.serve_rooms.specs.Acts.{Act, AgreesAll, IsKeeperFault, IsSure, KeeperGrew, events_in}
 use Rattle.serve_rooms.specs.Doing.{BeginsKept, Hosted, RunsKept, done, out_of_memory}

@@ -22,9 +22,9 @@ use Rattle.fault_lines.proofs.Profiled.{are_profiles}
 use Rattle.outside.specs.Events.{Event, Outside}
 use Rattle.outside.specs.Laws.{Happened, IsFailure}
 use Rattle.outside.proofs.Causing.{happened_first, happened_last}
-use Rattle.mem_host.specs.Fits.{Fits}
-use Rattle.mem_host.specs.Reliable.{IsReliable}
-use Rattle.mem_host.proofs.Fitting.{fits_keeps, reliable_on}
+use Rattle.outside.specs.Fits.{Fits}
+use Rattle.outside.specs.Reliable.{IsReliable}
+use Rattle.outside.proofs.Fitting.{fits_keeps, reliable_on}
 use Rattle.update_sessions.specs.Kept.{KeeperBroke, kept_in}
 use Rattle.session_commands.specs.Keep.{KeepsFirst, RoomForAll, RoomForRun, SessionsBy, Starts, told_job}
 use Rattle.session_commands.specs.Serve.{Total, no_sessions, total_answer}

@@ -7,7 +7,7 @@ use Rattle.tl_base.specs.declared.host.Slot.{Slot}
 use Rattle.tl_base.specs.declared.host.Slot.TheVariants as slots
 use Rattle.outside.specs.Events.{Event, Outside, opened, took, ended, read_failed, created, put, write_failed, listened, connected, accepted, told}
 use Rattle.outside.specs.Laws.{Throughout}
-use Rattle.mem_host.specs.Fits.{Fits, Happens}
+use Rattle.outside.specs.Fits.{Fits, Happens}
 use Rattle.fault_lines.specs.Profiled.{HasProfile}
 use Rattle.session_commands.specs.Serve.{KeepsServing, ServeKeeps}
 use Rattle.session_rooms.proofs.LeftViews.{all_leave, beside}

@@ -19,8 +19,8 @@ use Rattle.outside.specs.Events.{Event, Outside, created, connected}
 use Rattle.outside.specs.Pieces.{Writes}
 use Rattle.outside.specs.Printing.{Prints, Unread}
 use Rattle.outside.proofs.Causing.{keeps_write}
-use Rattle.mem_host.specs.Fits.{Fits}
-use Rattle.mem_host.proofs.Fitting.{fits_both, writes_append}
+use Rattle.outside.specs.Fits.{Fits}
+use Rattle.outside.proofs.Fitting.{fits_both, writes_append}
 use Rattle.update_sessions.specs.declared.fault.SessionFault.{SessionFault}
 use Rattle.session_commands.specs.Client.{ClientAnswer, client_line, many_channels_line}
 use Rattle.session_commands.specs.Client as old

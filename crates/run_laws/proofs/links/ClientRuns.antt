@@ -14,8 +14,8 @@ use Rattle.outside.specs.Events.{Event, Outside, opened, took, ended, read_faile
 use Rattle.outside.specs.Runs.{RunsIn}
 use Rattle.outside.specs.Runs as runs
 use Rattle.outside.proofs.Causing.{keeps_tell}
-use Rattle.mem_host.specs.Fits.{Fits, Happens}
-use Rattle.mem_host.proofs.Fitting.{fits_both}
+use Rattle.outside.specs.Fits.{Fits, Happens}
+use Rattle.outside.proofs.Fitting.{fits_both}
 use Rattle.session_commands.specs.Client.{ClientAnswer, ClientKeeps, client_job}
 use Rattle.session_commands.specs.Linked.{LeavesState, next_link}
 use Rattle.session_commands.specs.declared.state.TheConstants.{MAX_STATE_BYTES}

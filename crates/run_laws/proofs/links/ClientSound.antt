@@ -29,10 +29,10 @@ use Rattle.outside.specs.Pieces.{ReadsFile, Writes}
 use Rattle.outside.specs.Printing.{Prints, after_output}
 use Rattle.outside.specs.Runs as runs
 use Rattle.outside.proofs.Causing.{keeps_file, told_status}
-use Rattle.mem_host.specs.Fits.{Fits}
-use Rattle.mem_host.specs.Reliable.{IsReliable}
-use Rattle.mem_host.proofs.Fitting.{files_are_read, files_can_be_read, fits_both, fits_keeps, reliable_on, writes_fail_full}
-use Rattle.mem_host.proofs.Sparing.{IsReading}
+use Rattle.outside.specs.Fits.{Fits}
+use Rattle.outside.specs.Reliable.{IsReliable}
+use Rattle.outside.proofs.Fitting.{files_are_read, files_can_be_read, fits_both, fits_keeps, reliable_on, writes_fail_full}
+use Rattle.outside.proofs.Sparing.{IsReading}
 use Rattle.fault_lines.proofs.Profiled.{are_profiles, profile_tells}
 use Rattle.codec_rooms.specs.Typed as typed
 use Rattle.update_rooms.specs.Profile.{OfProfile, no_profile, profiled}

@@ -20,9 +20,9 @@ use Rattle.outside.specs.Pieces.{ReadsFile}
 use Rattle.outside.specs.Printing.{Prints, Unread}
 use Rattle.outside.specs.Steps.{Step, Then}
 use Rattle.outside.proofs.Causing.{keeps_file}
-use Rattle.mem_host.specs.Fits.{Fits}
-use Rattle.mem_host.proofs.Fitting.{files_are_read, fits_both}
-use Rattle.mem_host.proofs.Sparing.{IsReading}
+use Rattle.outside.specs.Fits.{Fits}
+use Rattle.outside.proofs.Fitting.{files_are_read, fits_both}
+use Rattle.outside.proofs.Sparing.{IsReading}
 use Rattle.schema_files.specs.Answering.{OfSchemaText}
 use Rattle.schema_files.specs.Answering as answering
 use Rattle.schema_files.specs.Lines.{schema_line}

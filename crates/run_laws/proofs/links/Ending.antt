@@ -18,8 +18,8 @@ use Rattle.outside.proofs.Causing.{told_status}
 use Rattle.outside.specs.Pieces.{Tells, Writes}
 use Rattle.outside.specs.Printing.{Prints, after_output}
 use Rattle.outside.specs.Steps.{Step, Then}
-use Rattle.mem_host.specs.Fits.{Fits, Happens}
-use Rattle.mem_host.proofs.Fitting.{fits_both}
+use Rattle.outside.specs.Fits.{Fits, Happens}
+use Rattle.outside.proofs.Fitting.{fits_both}
 use Rattle.session_commands.specs.Linked.{cut_off, linking_job}
 use Rattle.session_rooms.proofs.LeftViews.{all_leave}
 use Rattle.session_rooms.proofs.PostFiles.{output_of}

@@ -18,9 +18,9 @@ use Rattle.outside.specs.Packets as packets
 use Rattle.outside.specs.Pieces.{Tells, Writes}
 use Rattle.outside.proofs.Causing.{keeps_write}
 use Rattle.outside.proofs.TakenPackets.{keeps_packet, whole_packet}
-use Rattle.mem_host.specs.Fits.{Fits}
-use Rattle.mem_host.proofs.Fitting.{fits_both, writes_append}
-use Rattle.mem_host.proofs.Sparing.{IsReading}
+use Rattle.outside.specs.Fits.{Fits}
+use Rattle.outside.proofs.Fitting.{fits_both, writes_append}
+use Rattle.outside.proofs.Sparing.{IsReading}
 use Rattle.fault_lines.specs.Packets.{ended_line, length_line}
 use Rattle.schema_files.specs.Lines.{json_line}
 use Rattle.schema_files.specs.declared.json_input.TheConstants.{JSON_BYTES}

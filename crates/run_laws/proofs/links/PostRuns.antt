@@ -15,9 +15,9 @@ use Rattle.outside.specs.Pieces.{ReadsFile}
 use Rattle.outside.specs.Runs.{RunsIn}
 use Rattle.outside.specs.Runs as runs
 use Rattle.outside.proofs.Causing.{keeps_tell, told_status}
-use Rattle.mem_host.specs.Fits.{Fits}
-use Rattle.mem_host.specs.Reliable.{IsReliable}
-use Rattle.mem_host.proofs.Fitting.{files_are_read, files_can_be_read, fits_both}
+use Rattle.outside.specs.Fits.{Fits}
+use Rattle.outside.specs.Reliable.{IsReliable}
+use Rattle.outside.proofs.Fitting.{files_are_read, files_can_be_read, fits_both}
 use Rattle.schema_files.specs.declared.json_input.TheConstants.{JSON_BYTES}
 use Rattle.schema_files.specs.declared.schema_text.TheConstants.{SCHEMA_BYTES}
 use Rattle.schema_files.specs.Loaded.{IsSchemaText}

@@ -21,8 +21,8 @@ use Rattle.outside.specs.Runs.{RunsIn}
 use Rattle.outside.specs.Runs as runs
 use Rattle.outside.specs.Steps.{Step, Then, Begins}
 use Rattle.outside.proofs.Causing.{keeps_file, keeps_print, keeps_tell, throughout_first}
-use Rattle.mem_host.specs.Fits.{Fits, Happens}
-use Rattle.mem_host.proofs.Fitting.{files_are_read, fits_both, fits_keeps}
+use Rattle.outside.specs.Fits.{Fits, Happens}
+use Rattle.outside.proofs.Fitting.{files_are_read, fits_both, fits_keeps}
 use Rattle.schema_files.specs.Answering.{OfSchemaText}
 use Rattle.schema_files.specs.Answering as answering
 use Rattle.schema_files.specs.Loaded.{IsSchemaText}

@@ -14,8 +14,8 @@ use Rattle.outside.specs.Laws.{Happened, IsFailure}
 use Rattle.outside.specs.Pieces.{InPieces, Tells, Writes}
 use Rattle.outside.specs.Printing.{Prints, after_output}
 use Rattle.outside.proofs.Causing.{happened_first, happened_last, unwritten}
-use Rattle.mem_host.specs.Fits.{Fits}
-use Rattle.mem_host.proofs.Fitting.{fits_both, writes_append}
+use Rattle.outside.specs.Fits.{Fits}
+use Rattle.outside.proofs.Fitting.{fits_both, writes_append}
 use Rattle.session_rooms.proofs.LeftViews.{beside}
 use Rattle.session_rooms.proofs.PostFiles.{output_of}
 use Rattle.session_rooms.proofs.Spared.{writes_spare}

@@ -13,9 +13,9 @@ use Rattle.outside.specs.Events.{Event, Outside, listened}
 use Rattle.outside.specs.Laws.{Happened, Throughout}
 use Rattle.outside.specs.Steps.{Turn, again, leave, Loops, Reaches, here, turn}
 use Rattle.outside.proofs.Causing.{happened_first, happened_last}
-use Rattle.mem_host.specs.Fits.{Fits}
-use Rattle.mem_host.specs.Reliable.{IsReliable}
-use Rattle.mem_host.proofs.Fitting.{fits_keeps, reliable_on}
+use Rattle.outside.specs.Fits.{Fits}
+use Rattle.outside.specs.Reliable.{IsReliable}
+use Rattle.outside.proofs.Fitting.{fits_keeps, reliable_on}
 use Rattle.update_sessions.specs.declared.fault.SessionFault.{SessionFault}
 use Rattle.session_commands.specs.Lines.{served_line}
 use Rattle.session_commands.specs.Serve.{served, IsAny, Sessions, Total, end_errors, end_output}

@@ -18,9 +18,9 @@ use Rattle.outside.specs.Events.{Event, Outside, accepted, told}
 use Rattle.outside.specs.Laws.{Happened, Throughout}
 use Rattle.outside.specs.Pieces.{Tells}
 use Rattle.outside.specs.Steps.{Ends, Then}
-use Rattle.mem_host.specs.Fits.{Fits}
-use Rattle.mem_host.specs.Reliable.{IsReliable}
-use Rattle.mem_host.proofs.Fitting.{Keeps as KeepsOutside, fits_keeps, reliable_on}
+use Rattle.outside.specs.Fits.{Fits}
+use Rattle.outside.specs.Reliable.{IsReliable}
+use Rattle.outside.proofs.Fitting.{Keeps as KeepsOutside, fits_keeps, reliable_on}
 use Rattle.update_sessions.specs.declared.fault.SessionFault.{SessionFault}
 use Rattle.update_sessions.specs.declared.fault.SessionFault.TheVariants as session
 use Rattle.session_commands.specs.Linked.{next_link}

@@ -13,7 +13,7 @@ use Rattle.outside.specs.Events.{Event, Outside}
 use Rattle.outside.specs.Packets.{PacketView, whole, TakesPacket}
 use Rattle.outside.specs.Packets as packets
 use Rattle.outside.specs.Steps.{Turn, again, leave}
-use Rattle.mem_host.specs.Fits.{Fits}
+use Rattle.outside.specs.Fits.{Fits}
 use Rattle.update_sessions.specs.declared.fault.SessionFault.{SessionFault}
 use Rattle.update_sessions.specs.declared.fault.SessionFault.TheVariants as session
 use Rattle.update_sessions.specs.declared.fault.TheConstants.{MAX_FRAMES}

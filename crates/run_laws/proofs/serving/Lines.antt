@@ -11,8 +11,8 @@ use Rattle.outside.specs.Laws.{Throughout}
 use Rattle.outside.specs.Pieces.{joined, Tells, Writes}
 use Rattle.outside.specs.Steps.{StepOf, Ends, Then}
 use Rattle.outside.proofs.Causing.{keeps_write, throughout_first, unwritten}
-use Rattle.mem_host.specs.Fits.{Happens, Fits}
-use Rattle.mem_host.proofs.Fitting.{writes_append}
+use Rattle.outside.specs.Fits.{Happens, Fits}
+use Rattle.outside.proofs.Fitting.{writes_append}
 use Rattle.session_rooms.proofs.LeftViews.{all_leave, beside}
 use Rattle.serve_rooms.specs.Acts.{Act, events_in}
 use Rattle.serve_rooms.specs.Doing.{Hosted}

@@ -19,10 +19,10 @@ use Rattle.outside.specs.Packets.{PacketView, whole, TakesPacket}
 use Rattle.outside.specs.Packets as packets
 use Rattle.outside.specs.Steps.{StepOf, Turn, again, leave, Reaches, here, turn}
 use Rattle.outside.proofs.TakenPackets.{broken_packet, keeps_packet, whole_packet}
-use Rattle.mem_host.specs.Fits.{Fits, Happens}
-use Rattle.mem_host.specs.Reliable.{IsReliable}
-use Rattle.mem_host.proofs.Fitting.{fits_keeps, reliable_on, writes_append, writes_fail_full}
-use Rattle.mem_host.proofs.Sparing.{writes_leave}
+use Rattle.outside.specs.Fits.{Fits, Happens}
+use Rattle.outside.specs.Reliable.{IsReliable}
+use Rattle.outside.proofs.Fitting.{fits_keeps, reliable_on, writes_append, writes_fail_full}
+use Rattle.outside.proofs.Sparing.{writes_leave}
 use Rattle.update_sessions.specs.declared.fault.SessionFault.{SessionFault}
 use Rattle.update_sessions.specs.declared.fault.SessionFault.TheVariants as session
 use Rattle.update_sessions.specs.declared.fault.TheConstants.{MAX_FRAMES}

@@ -23,10 +23,10 @@ use Rattle.outside.specs.Pieces.{joined, ReadsFile, Writes}
 use Rattle.outside.specs.Pieces as pieces
 use Rattle.outside.specs.Printing.{Prints, Unread, after_output}
 use Rattle.outside.proofs.Causing.{happened_first, happened_last, keeps_file, keeps_tell, keeps_write, throughout_first, told_status, unread_file, unwritten}
-use Rattle.mem_host.specs.Fits.{Fits, Happens}
-use Rattle.mem_host.specs.Reliable.{IsReliable}
-use Rattle.mem_host.proofs.Fitting.{files_are_read, files_can_be_read, fits_both, writes_append}
-use Rattle.mem_host.proofs.Sparing.{IsReading, reading_leaves}
+use Rattle.outside.specs.Fits.{Fits, Happens}
+use Rattle.outside.specs.Reliable.{IsReliable}
+use Rattle.outside.proofs.Fitting.{files_are_read, files_can_be_read, fits_both, writes_append}
+use Rattle.outside.proofs.Sparing.{IsReading, reading_leaves}
 use Rattle.schema_files.specs.Answering.{OfSchemaFile, OfSchemaText}
 use Rattle.schema_files.specs.Answering as answering
 use Rattle.schema_files.specs.Lines.{schema_line}

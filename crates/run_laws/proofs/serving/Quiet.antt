@@ -6,7 +6,7 @@ use Rattle.tl_base.specs.declared.host.Out.TheVariants as outs
 use Rattle.outside.specs.Events.{Event, Outside, opened, took, ended, read_failed, created, put, write_failed, listened, connected, accepted, told}
 use Rattle.outside.specs.Laws.{Throughout}
 use Rattle.outside.proofs.Causing.{throughout_first}
-use Rattle.mem_host.specs.Fits.{Happens, Fits}
+use Rattle.outside.specs.Fits.{Happens, Fits}
 use Rattle.session_rooms.proofs.LeftViews.{all_leave}
 use Rattle.serve_rooms.specs.Acts.{Act, events_in}
 use Rattle.serve_rooms.proofs.Acting.{events_more}

@@ -16,9 +16,9 @@ use Rattle.outside.specs.Pieces as pieces
 use Rattle.outside.specs.Runs as runs
 use Rattle.outside.specs.Steps.{StepOf}
 use Rattle.outside.proofs.Causing.{happened_first, happened_last, throughout_first}
-use Rattle.mem_host.specs.Fits.{Fits}
-use Rattle.mem_host.specs.Reliable.{IsReliable}
-use Rattle.mem_host.proofs.Fitting.{fits_both}
+use Rattle.outside.specs.Fits.{Fits}
+use Rattle.outside.specs.Reliable.{IsReliable}
+use Rattle.outside.proofs.Fitting.{fits_both}
 use Rattle.schema_files.specs.Answering.{schema_of}
 use Rattle.session_commands.specs.Serve.{IsAny, IsWhole, OfSessions, Sessions, Total, serve_job, total_answer}
 use Rattle.session_commands.specs.inner.Serving.{GoesOn}

@@ -13,8 +13,8 @@ use Rattle.outside.specs.Events.{Event, Outside, opened, took, ended, read_faile
 use Rattle.outside.specs.Laws.{Throughout}
 use Rattle.outside.specs.Pieces as pieces
 use Rattle.outside.specs.Runs as runs
-use Rattle.mem_host.specs.Fits.{Fits, Happens}
-use Rattle.mem_host.proofs.Fitting.{fits_both, fits_keeps}
+use Rattle.outside.specs.Fits.{Fits, Happens}
+use Rattle.outside.proofs.Fitting.{fits_both, fits_keeps}
 use Rattle.session_commands.specs.Serve.{KeepsServing, ServeKeeps, serve_job}
 use Rattle.session_rooms.proofs.LeftViews.{all_leave, beside}
 use Rattle.serve_rooms.specs.Acts.{Act, events_in}

@@ -13,8 +13,8 @@ use Rattle.fault_lines.proofs.Profiled.{are_profiles, profile_tells}
 use Rattle.outside.specs.Events.{Event, Outside}
 use Rattle.outside.specs.Runs as runs
 use Rattle.outside.proofs.Causing.{told_status}
-use Rattle.mem_host.specs.Fits.{Fits}
-use Rattle.mem_host.proofs.Fitting.{fits_keeps, reliable_on}
+use Rattle.outside.specs.Fits.{Fits}
+use Rattle.outside.proofs.Fitting.{fits_keeps, reliable_on}
 use Rattle.session_commands.specs.Serve.{IsWhole, OfSessions, serve_job}
 use Rattle.session_rooms.proofs.LeftViews.{beside}
 use Rattle.serve_rooms.specs.Acts.{Act, events_in}

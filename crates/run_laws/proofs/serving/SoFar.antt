@@ -12,9 +12,9 @@ use Rattle.command_base.specs.Answer.{Answer}
 use Rattle.command_base.specs.Kept.{AddsPrefix, Leaves}
 use Rattle.command_base.specs.declared.status.Status.{Status}
 use Rattle.outside.specs.Events.{Outside}
-use Rattle.mem_host.specs.Fits.{Fits}
-use Rattle.mem_host.specs.Reliable.{IsReliable}
-use Rattle.mem_host.proofs.Fitting.{fits_keeps, reliable_on}
+use Rattle.outside.specs.Fits.{Fits}
+use Rattle.outside.specs.Reliable.{IsReliable}
+use Rattle.outside.proofs.Fitting.{fits_keeps, reliable_on}
 use Rattle.update_sessions.specs.declared.fault.SessionFault.{SessionFault}
 use Rattle.session_commands.specs.Keep.{SessionsBy}
 use Rattle.session_commands.specs.Linked.{next_link}

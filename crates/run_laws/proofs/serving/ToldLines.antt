@@ -13,9 +13,9 @@ use Rattle.outside.specs.Steps.{Ends, Then}
 use Rattle.outside.proofs.Causing.{happened_first, happened_last, unwritten}
 use Rattle.outside.specs.Laws.{IsFailure}
 use Rattle.tl_base.specs.declared.counts.Kind.TheVariants as kinds
-use Rattle.mem_host.specs.Fits.{Fits}
-use Rattle.mem_host.specs.Reliable.{IsReliable}
-use Rattle.mem_host.proofs.Fitting.{fits_both, writes_append, writes_fail_full}
+use Rattle.outside.specs.Fits.{Fits}
+use Rattle.outside.specs.Reliable.{IsReliable}
+use Rattle.outside.proofs.Fitting.{fits_both, writes_append, writes_fail_full}
 use Rattle.update_sessions.specs.declared.fault.SessionFault.{SessionFault}
 use Rattle.update_sessions.specs.declared.fault.SessionFault.TheVariants as session
 use Rattle.session_commands.specs.Lines.{served_line}

@@ -13,7 +13,7 @@ use Rattle.command_base.specs.Sound.{IsFault}
 use Rattle.command_base.specs.Sound as sound
 use Rattle.command_base.specs.declared.status.Status.{Status}
 use Rattle.outside.specs.Events.{Outside}
-use Rattle.mem_host.specs.Reliable.{IsReliable}
+use Rattle.outside.specs.Reliable.{IsReliable}
 use Rattle.session_commands.specs.Serve.{IsWhole, OfSessions, Session, Sessions, Total, end_output}
 use Rattle.run_laws.proofs.serving.AmongSessions.{IsSessionStatus, is_among, sessions_job, whole_status}
 use Rattle.session_commands.proofs.OneTotal.{given_bytes, one_total}

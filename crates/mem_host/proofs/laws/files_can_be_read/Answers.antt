@@ -1,5 +1,0 @@
-use Rattle.mem_host.proofs.Fitting as fitting
-use Rattle.mem_host.proofs.laws.files_can_be_read.Goals as goal
-
-pub returns : goal.returns
-returns c = fitting.files_can_be_read

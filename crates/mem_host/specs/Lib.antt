@@ -1,4 +1,0 @@
-pub mod Logs
-pub mod Fits
-pub mod Memory
-pub mod Reliable
