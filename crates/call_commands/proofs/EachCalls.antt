@@ -4,8 +4,8 @@ use Rattle.tl_base.specs.Outside.{IsFile}
 use Rattle.tl_base.specs.Contents.{Files, HoldBytes}
 use Rattle.tl_schema.specs.CheckedPrograms.{IsSchema}
 use Rattle.tl_schema.specs.Schemas.{Declared}
-use Rattle.command_base.specs.Answer.{Answer}
-use Rattle.command_base.proofs.SameFiles.{file_bytes}
+use Rattle.outside.specs.Answer.{Answer}
+use Rattle.outside.proofs.SameFiles.{file_bytes}
 use Rattle.schema_files.proofs.Answering.{each_of_file}
 use Rattle.call_commands.specs.Calls.{CallsAnswer, EachFileHasOneAnswer, EachHasOneAnswer, OfInputFile}
 use Rattle.call_commands.proofs.EachFile.{each_file}

@@ -3,8 +3,8 @@ use Rattle.std.proofs.Common.{◌≡◌, ℕ, List, codes, subst}
 use Rattle.tl_base.specs.Contents.{Files, HoldBytes}
 use Rattle.tl_schema.specs.CheckedPrograms.{IsSchema}
 use Rattle.tl_schema.specs.Schemas.{Declared}
-use Rattle.command_base.specs.Answer.{Answer}
-use Rattle.command_base.proofs.SameFiles.{file_bytes, same_file}
+use Rattle.outside.specs.Answer.{Answer}
+use Rattle.outside.proofs.SameFiles.{file_bytes, same_file}
 use Rattle.schema_files.proofs.Answering.{one_of_file}
 use Rattle.call_commands.specs.Calls.{CallsAnswer, OfInputFile, OfPackets}
 use Rattle.call_commands.proofs.OneFile.{one_file}

@@ -13,7 +13,7 @@ use Rattle.tl_calls.specs.Results.{HasResult}
 use Rattle.tl_calls.specs.Events.{Logged, Log, IsOpen}
 use Rattle.tl_calls.specs.Laws.{AreProper, IsProper, events_of}
 use Rattle.tl_calls.proofs.OneLog.{call_proper}
-use Rattle.command_base.specs.Answer.{Answer, done, refused_after}
+use Rattle.outside.specs.Answer.{Answer, done, refused_after}
 use Rattle.schema_files.specs.Lines.{input_line}
 use Rattle.call_commands.specs.CallReports.{Began, none, one_more, HasPacket, Tells, call, answer, stale, ContentRefused, PacketRefused, bad_length, ended, too_long, content}
 use Rattle.call_commands.specs.Calls.{OfPackets, told, no_packet}

@@ -17,9 +17,9 @@ use Rattle.tl_calls.specs.declared.fault.AnswerFault.TheVariants as answer
 use Rattle.tl_calls.specs.declared.fault.SendFault.{SendFault}
 use Rattle.tl_calls.specs.declared.fault.SendFault.TheVariants as send
 use Rattle.tl_calls.proofs.Stands.{found_open}
-use Rattle.command_base.specs.Loading.{Refuses, RefusesAs}
-use Rattle.command_base.specs.declared.stop.Unmade.{Unmade}
-use Rattle.command_base.proofs.Loaded.{refuses_as, memory_refuses}
+use Rattle.outside.specs.Loading.{Refuses, RefusesAs}
+use Rattle.outside.specs.declared.stop.Unmade.{Unmade}
+use Rattle.outside.proofs.Loaded.{refuses_as, memory_refuses}
 use Rattle.schema_files.specs.Lines.{cause_text, input_line}
 use Rattle.call_commands.specs.CallReports.{IsWhole, NoWhole, refused, trailing, ContentRefused, no_number, no_call, no_answer, full, no_result, result_cause_name}
 use Rattle.call_commands.specs.Answering.{SaysRefused}

@@ -11,9 +11,9 @@ use Rattle.tl_types.specs.Values.{ValueView}
 use Rattle.tl_calls.specs.Results.{result_type}
 use Rattle.tl_calls.specs.Calling.{CallsView, StandsFor, open_at}
 use Rattle.tl_calls.specs.Events.{Log, Logged}
-use Rattle.command_base.specs.declared.stop.Unmade.{Unmade}
-use Rattle.command_base.specs.declared.stop.Unmade.TheVariants as unmade
-use Rattle.command_base.specs.Loading.{Refuses, RefusesAs}
+use Rattle.outside.specs.declared.stop.Unmade.{Unmade}
+use Rattle.outside.specs.declared.stop.Unmade.TheVariants as unmade
+use Rattle.outside.specs.Loading.{Refuses, RefusesAs}
 use Rattle.schema_files.specs.Lines.{input_line}
 use Rattle.call_commands.specs.CallReports.{Tells, ContentRefused}
 

@@ -6,9 +6,9 @@ use Rattle.tl_base.specs.Contents.{Files, HoldBytes}
 use Rattle.tl_base.specs.Outside.{HasFile, IsFile}
 use Rattle.tl_schema.specs.CheckedPrograms.{IsSchema}
 use Rattle.tl_schema.specs.Schemas.{Declared}
-use Rattle.command_base.specs.Answer.{Answer, done, refused_after}
-use Rattle.command_base.specs.Jobs.{Job, unlinked_job}
-use Rattle.command_base.specs.Kept.{KeepsUnread}
+use Rattle.outside.specs.Answer.{Answer, done, refused_after}
+use Rattle.outside.specs.Jobs.{Job, unlinked_job}
+use Rattle.outside.specs.Kept.{KeepsUnread}
 use Rattle.schema_files.specs.Answering.{OfSchemaFile}
 use Rattle.schema_files.specs.Loaded.{IsSchemaText}
 use Rattle.schema_files.specs.Lines.{input_line}

@@ -9,7 +9,7 @@ ghost use Rattle.call_commands.specs.Answering.{AnsweredIn, TellsPacket, IsAnswe
 use crate::lines::{numbered_line, stale_line};
 use crate::refusals::{unread, unsent};
 use crate::words::first_word;
-use command_base::Unmade;
+use outside::Unmade;
 use schema_files::printed_line;
 use std::alloc::{AllocError, Global};
 use tl_calls::{Calls, result_of, whole_value};

@@ -1,12 +1,12 @@
 //! What is told of a packet that is refused.
 ghost use Rattle.std.specs.Prelude.{◌<◌, ◌+◌, ◌^◌};
-ghost use Rattle.command_base.specs.Loading.{RefusesAs};
+ghost use Rattle.outside.specs.Loading.{RefusesAs};
 ghost use Rattle.schema_files.specs.Lines.{cause_text, input_line};
 ghost use Rattle.call_commands.specs.Answering.{TellsUnpacked, counted_line};
 ghost use Rattle.call_commands.specs.inner.Tellings.{TellsUnread, TellsUnsent, offset_in};
 
 use crate::lines::result_cause_name;
-use command_base::Unmade;
+use outside::Unmade;
 use schema_files::cause_text;
 use std::alloc::Global;
 use tl_base::PacketFault;

@@ -4,9 +4,9 @@ use Rattle.tl_base.specs.declared.counts.Kind.TheVariants as kinds
 use Rattle.tl_base.specs.declared.host.Out.TheVariants.{Output}
 use Rattle.tl_base.specs.declared.host.Slot.TheVariants.{Schema, Input}
 use Rattle.tl_schema.specs.Schemas.{Declared}
-use Rattle.command_base.specs.Answer.{refused, write_fault_line}
-use Rattle.command_base.specs.declared.status.Status.{Status}
-use Rattle.command_base.specs.declared.status.Status.TheVariants as status
+use Rattle.outside.specs.Answer.{refused, write_fault_line}
+use Rattle.outside.specs.declared.status.Status.{Status}
+use Rattle.outside.specs.declared.status.Status.TheVariants as status
 use Rattle.outside.specs.Events.{Event, opened}
 use Rattle.outside.specs.Laws.{Happened, Keeps, IsFailure, Explains, HasCause}
 use Rattle.outside.specs.Packets.{PacketView, TakesPacket}

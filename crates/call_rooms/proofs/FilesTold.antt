@@ -15,10 +15,10 @@ use Rattle.tl_base.specs.declared.host.Slot.TheVariants.{Schema, Input}
 use Rattle.tl_schema.specs.CheckedPrograms.{IsSchema}
 use Rattle.tl_schema.specs.Schemas.{Declared}
 use Rattle.tl_calls.specs.Events.{Logged}
-use Rattle.command_base.specs.Answer.{Answer, done, refused, refused_after, write_fault_line}
-use Rattle.command_base.specs.declared.status.Status.{Status}
-use Rattle.command_base.specs.declared.status.Status.TheVariants as status
-use Rattle.command_base.proofs.SameFiles.{file_bytes, same_file}
+use Rattle.outside.specs.Answer.{Answer, done, refused, refused_after, write_fault_line}
+use Rattle.outside.specs.declared.status.Status.{Status}
+use Rattle.outside.specs.declared.status.Status.TheVariants as status
+use Rattle.outside.proofs.SameFiles.{file_bytes, same_file}
 use Rattle.outside.specs.Begun.{to_output}
 use Rattle.outside.specs.Events.{Event, Outside, opened, ended}
 use Rattle.outside.specs.Laws.{Throughout}

@@ -13,9 +13,9 @@ use Rattle.tl_calls.specs.Events.{IsOpen, Log}
 use Rattle.tl_calls.specs.Results.{HasResult}
 use Rattle.tl_calls.proofs.Answers.{has_result}
 use Rattle.tl_calls.proofs.Stands.{open_found}
-use Rattle.command_base.specs.Answer.{refused}
-use Rattle.command_base.specs.declared.status.Status.{Status}
-use Rattle.command_base.specs.declared.status.Status.TheVariants.{Done}
+use Rattle.outside.specs.Answer.{refused}
+use Rattle.outside.specs.declared.status.Status.{Status}
+use Rattle.outside.specs.declared.status.Status.TheVariants.{Done}
 use Rattle.outside.specs.Events.{Event, HostState, ended, opened}
 use Rattle.outside.specs.Packets.{PacketView, TakesPacket}
 use Rattle.outside.specs.Packets as taken

@@ -8,12 +8,12 @@ use Rattle.tl_base.specs.declared.packet.PacketFault.TheVariants as packet_fault
 use Rattle.tl_schema.specs.Schemas.{Declared}
 use Rattle.tl_calls.specs.Calling.{CallsView, StandsFor}
 use Rattle.tl_calls.specs.Events.{Log, Logged}
-use Rattle.command_base.specs.Answer.{refused}
-use Rattle.command_base.specs.Jobs.{Making, of_fault}
-use Rattle.command_base.specs.Loading.{Refuses, RefusesAs}
-use Rattle.command_base.specs.declared.status.Status.{Status}
-use Rattle.command_base.specs.declared.stop.Unmade.{Unmade}
-use Rattle.command_base.specs.declared.stop.Unmade.TheVariants as unmade
+use Rattle.outside.specs.Answer.{refused}
+use Rattle.outside.specs.Jobs.{Making, of_fault}
+use Rattle.outside.specs.Loading.{Refuses, RefusesAs}
+use Rattle.outside.specs.declared.status.Status.{Status}
+use Rattle.outside.specs.declared.stop.Unmade.{Unmade}
+use Rattle.outside.specs.declared.stop.Unmade.TheVariants as unmade
 use Rattle.outside.specs.Events.{Event, HostState}
 use Rattle.outside.specs.Packets.{PacketView, TakesPacket, packet_view}
 use Rattle.outside.specs.Packets as taken

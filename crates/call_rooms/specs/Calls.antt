@@ -5,9 +5,9 @@ use Rattle.tl_base.specs.declared.host.Out.TheVariants.{Output}
 use Rattle.tl_base.specs.declared.host.Slot.TheVariants.{Input}
 use Rattle.tl_schema.specs.Schemas.{Declared}
 use Rattle.tl_calls.specs.Events.{Log, Logged}
-use Rattle.command_base.specs.Answer.{refused, write_fault_line}
-use Rattle.command_base.specs.declared.status.Status.{Status}
-use Rattle.command_base.specs.declared.status.Status.TheVariants.{Done, WriteFault}
+use Rattle.outside.specs.Answer.{refused, write_fault_line}
+use Rattle.outside.specs.declared.status.Status.{Status}
+use Rattle.outside.specs.declared.status.Status.TheVariants.{Done, WriteFault}
 use Rattle.outside.specs.Events.{Event, opened}
 use Rattle.outside.specs.Packets.{PacketView, TakesPacket}
 use Rattle.outside.specs.Packets as taken

@@ -3,9 +3,9 @@ use Rattle.std.specs.Prelude.{◌≡◌, ◌≢◌, List, ◌++◌, length}
 use Rattle.tl_base.specs.Contents.{HoldBytes}
 use Rattle.tl_base.specs.Outside.{HasRoom, written_of}
 use Rattle.tl_base.specs.declared.host.Out.TheVariants.{Output}
-use Rattle.command_base.specs.Answer.{Answer}
-use Rattle.command_base.specs.declared.status.Status.{Status}
-use Rattle.command_base.specs.declared.status.Status.TheVariants.{Memory}
+use Rattle.outside.specs.Answer.{Answer}
+use Rattle.outside.specs.declared.status.Status.{Status}
+use Rattle.outside.specs.declared.status.Status.TheVariants.{Memory}
 use Rattle.outside.specs.Events.{Event, Outside}
 use Rattle.outside.specs.Runs.{RunsIn}
 use Rattle.outside.specs.Fits.{Fits}

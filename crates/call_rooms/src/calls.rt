@@ -7,7 +7,7 @@ ghost use Rattle.codec_rooms.specs.Typed.{OfText};
 ghost use Rattle.call_rooms.specs.Calls.{OfInput, tells_calls};
 
 use crate::turns::tell_packets;
-use command_base::Status;
+use outside::Status;
 use outside::{Host, finish, print_made, read_file, unread};
 use schema_files::{SCHEMA_BYTES, schema_of};
 use std::alloc::{AllocError, Global};

@@ -5,7 +5,7 @@ ghost use Rattle.tl_base.specs.declared.host.Out.TheVariants.{Output};
 ghost use Rattle.tl_schema.specs.CheckedPrograms.{IsSchema};
 ghost use Rattle.tl_calls.specs.Calling.{AreOpenIn, StandsFor};
 ghost use Rattle.tl_calls.specs.Events.{Log};
-ghost use Rattle.command_base.specs.Jobs.{of_fault};
+ghost use Rattle.outside.specs.Jobs.{of_fault};
 ghost use Rattle.outside.specs.Pieces.{Writes};
 ghost use Rattle.outside.specs.Runs.{answered};
 ghost use Rattle.outside.specs.Begun.{Did, DidIn, to_output};
@@ -14,7 +14,7 @@ ghost use Rattle.call_rooms.specs.Calls.{OfPacket, TellsNext, TellsPackets, afte
 ghost use Rattle.call_rooms.specs.inner.Turning.{EndsMade, GoesOn, IsNext, Turns, turn_of};
 
 use call_commands::{MAX_PACKET_END, tell_packet, unpacked};
-use command_base::{Status, Unmade};
+use outside::{Status, Unmade};
 use outside::{Host, Packet, print_made, take_packet, tell, unread, write_out};
 use std::alloc::{AllocError, Global};
 use tl_base::{Out, PacketFault, Slot};

@@ -20,8 +20,8 @@ use Rattle.tl_types.proofs.Exactly.{exactly_one}
 use Rattle.tl_types.proofs.FitsAreSpelled.{each_fits_exactly}
 use Rattle.tl_types.specs.declared.value.TheConstants.{MAX_LEVELS}
 use Rattle.tl_show.specs.Reading.{read, Read}
-use Rattle.command_base.specs.Answer.{Answer, done}
-use Rattle.command_base.proofs.SameFiles.{file_bytes}
+use Rattle.outside.specs.Answer.{Answer, done}
+use Rattle.outside.proofs.SameFiles.{file_bytes}
 use Rattle.codec_commands.specs.Check.{listing, CheckAnswer}
 use Rattle.codec_commands.specs.Typed.{ToInput, OfType, no_type, no_plan, typed, TypedAnswer}
 use Rattle.codec_commands.specs.Decode.{OfInput, whole, longer, faulty, DecodeAnswer}

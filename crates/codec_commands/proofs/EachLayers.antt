@@ -6,7 +6,7 @@ use Rattle.tl_schema.specs.CheckedPrograms.{IsSchema}
 use Rattle.tl_schema.specs.Formed.{IsFormed}
 use Rattle.tl_schema.specs.Types.{Shape}
 use Rattle.tl_schema.specs.Schemas.{Declared}
-use Rattle.command_base.specs.Answer.{Answer}
+use Rattle.outside.specs.Answer.{Answer}
 use Rattle.schema_files.proofs.FormedWords.{word_formed}
 use Rattle.schema_files.proofs.Answering.{each_of_file}
 use Rattle.schema_files.proofs.OneTypeName.{type_or_refused}

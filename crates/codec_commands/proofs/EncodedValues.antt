@@ -2,7 +2,7 @@
 use Rattle.std.proofs.Common.{ℕ, List, ap}
 use Rattle.tl_schema.specs.Types.{Shape}
 use Rattle.tl_schema.specs.Schemas.{Declared}
-use Rattle.command_base.specs.Answer.{refused}
+use Rattle.outside.specs.Answer.{refused}
 use Rattle.schema_files.specs.Causes as cause
 use Rattle.schema_files.specs.Parts.{TellsForm, TellsJson}
 use Rattle.codec_commands.specs.Encode.{OfJson, too_long, no_json, badly_formed, misfit}

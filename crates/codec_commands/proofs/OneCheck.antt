@@ -1,7 +1,7 @@
 -- What `check` answers is one.
 use Rattle.std.proofs.Common.{◌≡◌, ℕ, List, codes, sym, ◌∙◌}
 use Rattle.tl_base.specs.Contents.{Files}
-use Rattle.command_base.specs.Answer.{Answer, done}
+use Rattle.outside.specs.Answer.{Answer, done}
 use Rattle.schema_files.proofs.Answering.{one_of_file}
 use Rattle.codec_commands.specs.Check.{listing, CheckAnswer}
 

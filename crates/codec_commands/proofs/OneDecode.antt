@@ -1,7 +1,7 @@
 -- What `decode` answers is one.
 use Rattle.std.proofs.Common.{◌≡◌, ℕ, List}
 use Rattle.tl_base.specs.Contents.{Files}
-use Rattle.command_base.specs.Answer.{Answer}
+use Rattle.outside.specs.Answer.{Answer}
 use Rattle.codec_commands.specs.Decode.{OfInput, DecodeAnswer}
 use Rattle.codec_commands.proofs.OneSpelling.{one_input}
 use Rattle.codec_commands.proofs.OneTyped.{one_typed}

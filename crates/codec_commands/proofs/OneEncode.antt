@@ -16,7 +16,7 @@ use Rattle.tl_types.proofs.FitsAreSpelled.{each_fits_exactly}
 use Rattle.tl_encode.proofs.OneSpelling.{one_spelling}
 use Rattle.tl_show.specs.Reading.{read, Read, FaultView}
 use Rattle.tl_show.specs.declared.fault.FormCause.{FormCause}
-use Rattle.command_base.specs.Answer.{Answer, done, refused}
+use Rattle.outside.specs.Answer.{Answer, done, refused}
 use Rattle.schema_files.specs.declared.json_input.TheConstants.{JSON_BYTES}
 use Rattle.schema_files.specs.JsonInput.{IsJson, IsNoJson}
 use Rattle.schema_files.specs.Lines.{whole_input_line, form_text, misfit_text}

@@ -5,7 +5,7 @@ use Rattle.tl_schema.specs.Types.{Shape}
 use Rattle.tl_schema.specs.Schemas.{Declared}
 use Rattle.tl_schema.specs.CheckedPrograms.{IsSchema}
 use Rattle.tl_schema.proofs.OneType.{one_meaning}
-use Rattle.command_base.specs.Answer.{Answer, done, refused}
+use Rattle.outside.specs.Answer.{Answer, done, refused}
 use Rattle.schema_files.specs.Answering.{OfSchemaFile}
 use Rattle.schema_files.specs.Causes.{TypeNameCause}
 use Rattle.schema_files.specs.Lines.{type_line}

@@ -14,7 +14,7 @@ use Rattle.tl_types.proofs.Spelling.{spelled}
 use Rattle.tl_types.proofs.Refusal.{refused as refused_so}
 use Rattle.tl_types.proofs.SchemaTells.{schema_tells}
 use Rattle.tl_types.specs.declared.value.TheConstants.{MAX_LEVELS}
-use Rattle.command_base.specs.Answer.{Answer, done, refused}
+use Rattle.outside.specs.Answer.{Answer, done, refused}
 use Rattle.schema_files.specs.Lines.{line_text, input_line, cause_text}
 use Rattle.codec_commands.specs.Decode.{OfInput, whole, longer, faulty}
 

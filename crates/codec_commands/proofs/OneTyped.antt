@@ -6,8 +6,8 @@ use Rattle.tl_schema.specs.Schemas.{Declared}
 use Rattle.tl_schema.specs.CheckedPrograms.{IsSchema}
 use Rattle.tl_schema.specs.Formed.{IsFormed}
 use Rattle.tl_schema.proofs.OneType.{one_meaning}
-use Rattle.command_base.specs.Answer.{Answer, refused}
-use Rattle.command_base.proofs.SameFiles.{same_file}
+use Rattle.outside.specs.Answer.{Answer, refused}
+use Rattle.outside.proofs.SameFiles.{same_file}
 use Rattle.schema_files.specs.Causes.{TypeNameCause}
 use Rattle.schema_files.specs.Causes.{PlanCause}
 use Rattle.schema_files.specs.Lines.{type_line, plan_line}

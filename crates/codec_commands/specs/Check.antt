@@ -7,9 +7,9 @@ use Rattle.tl_base.specs.Contents.{Files}
 use Rattle.tl_schema.specs.Schemas.{Declaration}
 use Rattle.tl_schema.specs.Meanings.{base_shape}
 use Rattle.schema_files.specs.Answering.{OfSchemaFile}
-use Rattle.command_base.specs.Answer.{Answer, done}
-use Rattle.command_base.specs.Jobs.{Job, unlinked_job}
-use Rattle.command_base.specs.Kept.{KeepsUnread}
+use Rattle.outside.specs.Answer.{Answer, done}
+use Rattle.outside.specs.Jobs.{Job, unlinked_job}
+use Rattle.outside.specs.Kept.{KeepsUnread}
 
 -- ---- the list
 

@@ -10,8 +10,8 @@ use Rattle.tl_types.specs.Offsets.{moved}
 use Rattle.tl_types.specs.declared.cause.Cause.{Cause}
 use Rattle.tl_types.specs.declared.value.TheConstants.{MAX_LEVELS}
 use Rattle.codec_commands.specs.Typed.{TypedAnswer, typed_job}
-use Rattle.command_base.specs.Answer.{Answer, done, refused}
-use Rattle.command_base.specs.Jobs.{Job}
+use Rattle.outside.specs.Answer.{Answer, done, refused}
+use Rattle.outside.specs.Jobs.{Job}
 use Rattle.schema_files.specs.Lines.{line_text, input_line, cause_text}
 
 -- The input is the spelling of one value of the type, or more bytes stand after such a spelling, or it is refused.

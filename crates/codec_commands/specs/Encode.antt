@@ -14,8 +14,8 @@ use Rattle.tl_show.specs.declared.fault.FormCause.{FormCause}
 use Rattle.schema_files.specs.declared.json_input.TheConstants.{JSON_BYTES}
 use Rattle.schema_files.specs.JsonInput.{IsJson, IsNoJson}
 use Rattle.codec_commands.specs.Typed.{TypedAnswer, typed_job}
-use Rattle.command_base.specs.Answer.{Answer, done, refused}
-use Rattle.command_base.specs.Jobs.{Job}
+use Rattle.outside.specs.Answer.{Answer, done, refused}
+use Rattle.outside.specs.Jobs.{Job}
 use Rattle.schema_files.specs.Lines.{whole_input_line, form_text, misfit_text}
 
 -- The input is too long, or no JSON; or its JSON is not of the form of the type's values, or of the form of one that doesn't fit, at the path and for the

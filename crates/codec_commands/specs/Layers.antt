@@ -6,11 +6,11 @@ use Rattle.tl_base.specs.Outside.{HasFile, IsFile}
 use Rattle.tl_schema.specs.Types.{Shape}
 use Rattle.tl_schema.specs.Schemas.{Declared}
 use Rattle.tl_schema.specs.AskedTypes.{IsTypeText}
-use Rattle.command_base.specs.Answer.{Answer, done, refused, decl_line}
-use Rattle.command_base.specs.Jobs.{Job, unlinked_job}
-use Rattle.command_base.specs.Kept.{KeepsUnread}
-use Rattle.command_base.specs.Loading.{Refuses}
-use Rattle.command_base.specs.declared.stop.Unmade.{Unmade}
+use Rattle.outside.specs.Answer.{Answer, done, refused, decl_line}
+use Rattle.outside.specs.Jobs.{Job, unlinked_job}
+use Rattle.outside.specs.Kept.{KeepsUnread}
+use Rattle.outside.specs.Loading.{Refuses}
+use Rattle.outside.specs.declared.stop.Unmade.{Unmade}
 use Rattle.schema_files.specs.Answering.{OfSchemaFile}
 use Rattle.schema_files.specs.Causes.{TypeNameCause}
 use Rattle.schema_files.specs.Loaded.{IsSchemaText, TypeNameRefused}

@@ -10,9 +10,9 @@ use Rattle.schema_files.specs.Answering.{OfSchemaFile}
 use Rattle.schema_files.specs.Causes.{TypeNameCause, PlanCause}
 use Rattle.schema_files.specs.Loaded.{IsSchemaText, TypeNameRefused, HasPlan, PlanRefused}
 use Rattle.schema_files.specs.Lines.{type_line, plan_line}
-use Rattle.command_base.specs.Answer.{Answer, refused}
-use Rattle.command_base.specs.Jobs.{Job, unlinked_job}
-use Rattle.command_base.specs.Kept.{KeepsUnread}
+use Rattle.outside.specs.Answer.{Answer, refused}
+use Rattle.outside.specs.Jobs.{Job, unlinked_job}
+use Rattle.outside.specs.Kept.{KeepsUnread}
 
 -- what is answered to the bytes of an input, of a type of the schema
 abbrev pub ToInput : Type 1

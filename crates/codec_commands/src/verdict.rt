@@ -1,11 +1,11 @@
 //! What is told of two schemas.
-ghost use Rattle.command_base.specs.Loading.{RefusesAs};
+ghost use Rattle.outside.specs.Loading.{RefusesAs};
 ghost use Rattle.tl_schema.specs.Formed.{IsFormed};
 ghost use Rattle.tl_schema.specs.Seen.{shape};
 ghost use Rattle.codec_commands.specs.Layers.{TellsLayers, layers_line};
 
 use crate::lines::{break_text, yes_line};
-use command_base::Unmade;
+use outside::Unmade;
 use std::alloc::Global;
 use tl_layers::{Break, LayerFault, compare};
 use tl_schema::{Schema, TypeRef};

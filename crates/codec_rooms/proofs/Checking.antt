@@ -1,7 +1,7 @@
 -- Laws of `check`.
 use Rattle.std.proofs.Common.{◌≡◌, ℕ, List, codes, refl, inl}
 use Rattle.tl_base.specs.declared.host.Slot.TheVariants.{Schema}
-use Rattle.command_base.specs.Answer.{done}
+use Rattle.outside.specs.Answer.{done}
 use Rattle.outside.specs.Laws.{Keeps, HasCause}
 use Rattle.outside.specs.Runs.{Runs}
 use Rattle.outside.proofs.Causing.{keeps_print, cause_print, cause_run}

@@ -3,11 +3,11 @@ use Rattle.std.proofs.Common.{◌≡◌, ℕ, List, [], ◌∷◌, false, Option
 use Rattle.tl_base.specs.declared.host.Slot.TheVariants.{Input}
 use Rattle.tl_schema.specs.Schemas.{Declared}
 use Rattle.tl_schema.specs.Types.{Shape}
-use Rattle.command_base.specs.Answer.{Answer, refused}
-use Rattle.command_base.specs.Jobs.{Making, of_fault}
-use Rattle.command_base.specs.Loading.{RefusesAs}
-use Rattle.command_base.specs.declared.status.Status.{Status}
-use Rattle.command_base.specs.declared.stop.Unmade.{Unmade}
+use Rattle.outside.specs.Answer.{Answer, refused}
+use Rattle.outside.specs.Jobs.{Making, of_fault}
+use Rattle.outside.specs.Loading.{RefusesAs}
+use Rattle.outside.specs.declared.status.Status.{Status}
+use Rattle.outside.specs.declared.stop.Unmade.{Unmade}
 use Rattle.outside.specs.Events.{Event, HostState, opened}
 use Rattle.outside.specs.Printing.{Answers, Makes, Prints, PrintsMade}
 use Rattle.outside.specs.Begun.{Did, WritesOnly}

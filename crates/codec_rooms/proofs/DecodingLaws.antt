@@ -9,9 +9,9 @@ use Rattle.tl_schema.specs.Schemas.{Declared}
 use Rattle.tl_schema.specs.Types.{Shape}
 use Rattle.tl_decode.specs.declared.whole.WholeFault.{WholeFault}
 use Rattle.tl_decode.specs.declared.whole.WholeFault.TheVariants as whole
-use Rattle.command_base.specs.Answer.{Answer, done, refused}
-use Rattle.command_base.specs.declared.status.Status.{Status}
-use Rattle.command_base.specs.declared.status.Status.TheVariants as status
+use Rattle.outside.specs.Answer.{Answer, done, refused}
+use Rattle.outside.specs.declared.status.Status.{Status}
+use Rattle.outside.specs.declared.status.Status.TheVariants as status
 use Rattle.outside.specs.Events.{Event, Outside, opened, took, ended, read_failed}
 use Rattle.outside.specs.Laws.{Happened, Throughout, Keeps, IsFailure, Explains, HasCause}
 use Rattle.outside.specs.Runs.{Runs}

@@ -5,9 +5,9 @@ use Rattle.tl_base.specs.Outside.{Written, IsThere, HasRoom, out_part, written_o
 use Rattle.tl_base.specs.declared.host.Slot.{Slot}
 use Rattle.tl_base.specs.declared.host.Out.{Out}
 use Rattle.tl_base.specs.declared.host.Out.TheVariants.{Output, Errors}
-use Rattle.command_base.specs.Answer.{Answer, memory_line, write_fault_line}
-use Rattle.command_base.specs.declared.status.Status.{Status}
-use Rattle.command_base.specs.declared.status.Status.TheVariants.{ReadFault, WriteFault, Memory}
+use Rattle.outside.specs.Answer.{Answer, memory_line, write_fault_line}
+use Rattle.outside.specs.declared.status.Status.{Status}
+use Rattle.outside.specs.declared.status.Status.TheVariants.{ReadFault, WriteFault, Memory}
 use Rattle.outside.specs.Events.{Event, Outside, opened, took, ended, read_failed, created, put, write_failed, listened, connected, accepted, told}
 use Rattle.outside.specs.Laws.{Happened, Throughout, Keeps, HasCause}
 use Rattle.outside.specs.Pieces.{Writes, Tells}

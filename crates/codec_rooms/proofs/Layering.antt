@@ -5,9 +5,9 @@ use Rattle.tl_schema.specs.CheckedPrograms.{IsSchema}
 use Rattle.tl_schema.specs.Formed.{IsFormed}
 use Rattle.tl_schema.specs.Schemas.{Declared}
 use Rattle.tl_schema.specs.Types.{Shape}
-use Rattle.command_base.specs.Answer.{refused}
-use Rattle.command_base.specs.Jobs.{making}
-use Rattle.command_base.specs.declared.stop.Unmade.{Unmade}
+use Rattle.outside.specs.Answer.{refused}
+use Rattle.outside.specs.Jobs.{making}
+use Rattle.outside.specs.declared.stop.Unmade.{Unmade}
 use Rattle.outside.specs.Printing.{Makes}
 use Rattle.outside.specs.Steps.{Begins}
 use Rattle.outside.proofs.Growing.{can_then}

@@ -3,7 +3,7 @@ use Rattle.std.proofs.Common.{ℕ, List, [], codes, refl, sym, subst, inl, inr}
 use Rattle.tl_base.specs.declared.host.Slot.TheVariants.{Schema, Input}
 use Rattle.tl_schema.specs.Schemas.{Declared}
 use Rattle.tl_schema.specs.Types.{Shape}
-use Rattle.command_base.specs.Answer.{Answer, refused}
+use Rattle.outside.specs.Answer.{Answer, refused}
 use Rattle.outside.specs.Laws.{Keeps, Explains, HasCause}
 use Rattle.outside.specs.Runs.{Runs}
 use Rattle.outside.proofs.Causing.{keeps_answer, cause_answer, cause_run}

@@ -8,9 +8,9 @@ use Rattle.tl_base.specs.declared.host.Slot.{Slot}
 use Rattle.tl_base.specs.declared.host.Slot.TheVariants.{Input}
 use Rattle.tl_schema.specs.Schemas.{Declared}
 use Rattle.tl_schema.specs.Types.{Shape}
-use Rattle.command_base.specs.Answer.{Answer, refused}
-use Rattle.command_base.specs.declared.status.Status.{Status}
-use Rattle.command_base.specs.declared.status.Status.TheVariants.{ReadFault}
+use Rattle.outside.specs.Answer.{Answer, refused}
+use Rattle.outside.specs.declared.status.Status.{Status}
+use Rattle.outside.specs.declared.status.Status.TheVariants.{ReadFault}
 use Rattle.outside.specs.Events.{Event, Outside}
 use Rattle.outside.specs.Pieces.{ReadsFile}
 use Rattle.outside.specs.Printing.{Answers}

@@ -8,9 +8,9 @@ use Rattle.tl_base.specs.declared.host.Slot.TheVariants.{Input}
 use Rattle.tl_base.specs.declared.host.Out.TheVariants as outs
 use Rattle.tl_schema.specs.Schemas.{Declared}
 use Rattle.tl_schema.specs.Types.{Shape}
-use Rattle.command_base.specs.Answer.{Answer, refused}
-use Rattle.command_base.specs.declared.status.Status.{Status}
-use Rattle.command_base.specs.declared.status.Status.TheVariants.{ReadFault}
+use Rattle.outside.specs.Answer.{Answer, refused}
+use Rattle.outside.specs.declared.status.Status.{Status}
+use Rattle.outside.specs.declared.status.Status.TheVariants.{ReadFault}
 use Rattle.outside.specs.Events.{Event, opened, took, ended, read_failed, put, write_failed}
 use Rattle.outside.specs.Laws.{Happened, IsFailure, Keeps, Explains, HasCause}
 use Rattle.outside.specs.Pieces.{ReadsFile}

@@ -7,12 +7,12 @@ use Rattle.tl_schema.specs.CheckedPrograms.{IsSchema}
 use Rattle.tl_schema.specs.Formed.{IsFormed}
 use Rattle.tl_schema.specs.Schemas.{Declared}
 use Rattle.tl_schema.specs.Types.{Shape}
-use Rattle.command_base.specs.Answer.{Answer, refused}
-use Rattle.command_base.specs.Jobs.{of_fault}
-use Rattle.command_base.specs.Loading.{Refuses}
-use Rattle.command_base.specs.declared.status.Status.{Status}
-use Rattle.command_base.specs.declared.stop.Unmade.{Unmade}
-use Rattle.command_base.specs.declared.stop.Unmade.TheVariants as unmade
+use Rattle.outside.specs.Answer.{Answer, refused}
+use Rattle.outside.specs.Jobs.{of_fault}
+use Rattle.outside.specs.Loading.{Refuses}
+use Rattle.outside.specs.declared.status.Status.{Status}
+use Rattle.outside.specs.declared.stop.Unmade.{Unmade}
+use Rattle.outside.specs.declared.stop.Unmade.TheVariants as unmade
 use Rattle.outside.specs.Events.{Event, HostState}
 use Rattle.outside.specs.Printing.{Makes, Prints, PrintsMade}
 use Rattle.outside.specs.Begun.{DidIn}

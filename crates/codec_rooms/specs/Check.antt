@@ -1,7 +1,7 @@
 -- What `check` does. This project's own.
 use Rattle.std.specs.Prelude.{ℕ, List}
-use Rattle.command_base.specs.Answer.{done}
-use Rattle.command_base.specs.declared.status.Status.{Status}
+use Rattle.outside.specs.Answer.{done}
+use Rattle.outside.specs.declared.status.Status.{Status}
 use Rattle.outside.specs.Printing.{Prints}
 use Rattle.outside.specs.Steps.{Step}
 use Rattle.codec_commands.specs.Check.{listing}

@@ -14,8 +14,8 @@ use Rattle.tl_types.specs.declared.value.Value.{Value}
 use Rattle.tl_types.specs.declared.value.TheConstants.{MAX_LEVELS}
 use Rattle.tl_decode.specs.declared.whole.WholeFault.{WholeFault}
 use Rattle.tl_decode.specs.declared.whole.WholeFault.TheVariants.{Refused, Trailing, ReadFault, Memory}
-use Rattle.command_base.specs.Answer.{Answer, done, refused}
-use Rattle.command_base.specs.declared.status.Status.{Status}
+use Rattle.outside.specs.Answer.{Answer, done, refused}
+use Rattle.outside.specs.declared.status.Status.{Status}
 use Rattle.outside.specs.Events.{Event, opened, took, ended, read_failed}
 use Rattle.outside.specs.Printing.{Prints, Unread}
 use Rattle.outside.specs.Steps.{Step, Turn, again, leave, Calls, Loops, Then}

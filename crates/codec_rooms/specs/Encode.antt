@@ -1,6 +1,6 @@
 -- What `encode` does. This project's own.
 use Rattle.std.specs.Prelude.{ℕ, List}
-use Rattle.command_base.specs.declared.status.Status.{Status}
+use Rattle.outside.specs.declared.status.Status.{Status}
 use Rattle.outside.specs.Steps.{Step}
 use Rattle.schema_files.specs.declared.json_input.TheConstants.{JSON_BYTES}
 use Rattle.codec_commands.specs.Encode.{OfJson}

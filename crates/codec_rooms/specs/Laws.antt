@@ -6,9 +6,9 @@ use Rattle.tl_base.specs.Outside.{View, IsThere, HasRoom, written_of}
 use Rattle.tl_base.specs.declared.host.Slot.{Slot}
 use Rattle.tl_base.specs.declared.host.Out.{Out}
 use Rattle.tl_base.specs.declared.host.Out.TheVariants as outs
-use Rattle.command_base.specs.Answer.{Answer}
-use Rattle.command_base.specs.declared.status.Status.{Status}
-use Rattle.command_base.specs.declared.status.Status.TheVariants.{ReadFault, WriteFault, Memory}
+use Rattle.outside.specs.Answer.{Answer}
+use Rattle.outside.specs.declared.status.Status.{Status}
+use Rattle.outside.specs.declared.status.Status.TheVariants.{ReadFault, WriteFault, Memory}
 use Rattle.outside.specs.Events.{Event, Outside, opened, took, ended, read_failed, created, put, write_failed, listened, connected, accepted, told}
 use Rattle.outside.specs.Laws.{Throughout}
 use Rattle.outside.specs.Runs.{RunsIn}

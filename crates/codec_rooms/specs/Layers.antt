@@ -3,7 +3,7 @@ use Rattle.std.specs.Prelude.{ℕ, List, codes}
 use Rattle.tl_base.specs.declared.host.Slot.TheVariants.{Input}
 use Rattle.tl_schema.specs.Types.{Shape}
 use Rattle.tl_schema.specs.Schemas.{Declared}
-use Rattle.command_base.specs.declared.status.Status.{Status}
+use Rattle.outside.specs.declared.status.Status.{Status}
 use Rattle.outside.specs.Printing.{Answers}
 use Rattle.outside.specs.Steps.{Step}
 use Rattle.codec_commands.specs.Layers.{OfLayers}

@@ -6,7 +6,7 @@ ghost use Rattle.codec_rooms.specs.Check.{checks, lists};
 ghost use Rattle.codec_rooms.specs.Typed.{OfText};
 
 use codec_commands::listing;
-use command_base::Status;
+use outside::Status;
 use outside::{Host, finish, print, print_made, read_file, unread};
 use schema_files::{SCHEMA_BYTES, schema_of};
 use std::alloc::{AllocError, Global};

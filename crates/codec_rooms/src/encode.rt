@@ -1,5 +1,5 @@
 //! `encode`: a schema's file is read, its type is looked for, the input's file is read, and the spelling of its value is written.
-ghost use Rattle.command_base.specs.Jobs.{making};
+ghost use Rattle.outside.specs.Jobs.{making};
 ghost use Rattle.outside.specs.Printing.{Makes};
 ghost use Rattle.outside.specs.Runs.{Ran, answered};
 ghost use Rattle.outside.specs.Begun.{Did};
@@ -13,7 +13,7 @@ ghost use Rattle.codec_rooms.specs.Typed.{OfInput, OfPlan};
 ghost use Rattle.codec_rooms.specs.inner.Purposes.{IsPlanOf, MakesForm};
 
 use crate::typed::{Purpose, follow_file};
-use command_base::{Status, Unmade};
+use outside::{Status, Unmade};
 use outside::{Host, finish, print_made, read_file, unread};
 use schema_files::{JSON_BYTES, fit_unmade, formed_value, plan_of};
 use std::alloc::{AllocError, Global};

@@ -9,7 +9,7 @@ ghost use Rattle.codec_rooms.specs.Layers.{OfNew, compared, compares};
 ghost use Rattle.codec_rooms.specs.Typed.{OfText};
 
 use crate::typed::{Purpose, follow_file};
-use command_base::Status;
+use outside::Status;
 use codec_commands::verdict_line;
 use outside::{Host, finish, print_made, read_file, unread};
 use schema_files::{SCHEMA_BYTES, schema_of};

@@ -11,7 +11,7 @@ ghost use Rattle.codec_rooms.specs.inner.Purposes.{asked_by, of_type};
 use crate::decode::decode_planned;
 use crate::encode::encode_planned;
 use crate::layers::compare_file;
-use command_base::Status;
+use outside::Status;
 use outside::{Host, print_made, read_file, unread};
 use schema_files::{SCHEMA_BYTES, schema_of, type_named};
 use std::alloc::{AllocError, Global};

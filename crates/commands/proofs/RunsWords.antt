@@ -1,8 +1,8 @@
 -- What a run does, from what its words are found to be.
 use Rattle.std.proofs.Common.{ℕ, List, Some}
-use Rattle.command_base.specs.Answer.{memory_line}
-use Rattle.command_base.specs.declared.status.Status.{Status}
-use Rattle.command_base.specs.declared.status.Status.TheVariants.{Usage, Memory}
+use Rattle.outside.specs.Answer.{memory_line}
+use Rattle.outside.specs.declared.status.Status.{Status}
+use Rattle.outside.specs.declared.status.Status.TheVariants.{Usage, Memory}
 use Rattle.outside.specs.Begun.{Did}
 use Rattle.outside.specs.Events.{HostState}
 use Rattle.outside.specs.Pieces.{Tells}

@@ -1,9 +1,9 @@
 -- What a run does: what its words ask for, in order. This project's own.
 use Rattle.std.specs.Prelude.{ℕ, List, []}
 use Rattle.tl_base.specs.declared.host.Out.{Out}
-use Rattle.command_base.specs.Answer.{memory_line}
-use Rattle.command_base.specs.declared.status.Status.{Status}
-use Rattle.command_base.specs.declared.status.Status.TheVariants.{Usage, Memory}
+use Rattle.outside.specs.Answer.{memory_line}
+use Rattle.outside.specs.declared.status.Status.{Status}
+use Rattle.outside.specs.declared.status.Status.TheVariants.{Usage, Memory}
 use Rattle.outside.specs.Begun.{to_link, to_output}
 use Rattle.outside.specs.Events.{Event, HostState}
 use Rattle.outside.specs.Pieces.{Tells}

@@ -8,7 +8,7 @@ mod request;
 mod stored;
 mod table;
 
-pub use command_base::Status;
+pub use outside::Status;
 pub use keep_words::{KeepRequest, keep_in};
 pub use number::{Range, number_in};
 pub use program::run;

@@ -7,7 +7,7 @@ ghost use Rattle.commands.specs.Work.{RanWords, RunsRequest};
 use crate::request::{Request, request_of};
 use call_rooms::run_calls;
 use codec_rooms::{run_check, run_decode, run_encode, run_layers};
-use command_base::Status;
+use outside::Status;
 use outside::{Host, tell};
 use serve_rooms::run_serve;
 use session_rooms::{run_client, run_post};

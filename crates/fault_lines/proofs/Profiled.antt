@@ -19,11 +19,11 @@ use Rattle.wire_profile.specs.Faults.{FaultView, missing, differs, AnswersProfil
 use Rattle.wire_profile.specs.inner.Heads.{head_in}
 use Rattle.wire_profile.proofs.Found.{head_found}
 use Rattle.wire_profile.proofs.Passing.{is_profile}
-use Rattle.command_base.specs.Answer.{Answer, refused}
-use Rattle.command_base.specs.Jobs.{RefusedBy}
-use Rattle.command_base.specs.Loading.{Refuses}
-use Rattle.command_base.specs.declared.stop.Unmade.{Unmade}
-use Rattle.command_base.proofs.Loaded.{memory_refuses}
+use Rattle.outside.specs.Answer.{Answer, refused}
+use Rattle.outside.specs.Jobs.{RefusedBy}
+use Rattle.outside.specs.Loading.{Refuses}
+use Rattle.outside.specs.declared.stop.Unmade.{Unmade}
+use Rattle.outside.proofs.Loaded.{memory_refuses}
 use Rattle.schema_files.specs.Causes.{TypeNameCause}
 use Rattle.schema_files.specs.Loaded.{IsSchemaText, TypeNameRefused}
 use Rattle.schema_files.proofs.Answering.{each_of_file, of_schema, one_of_file}

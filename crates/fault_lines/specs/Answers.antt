@@ -1,7 +1,7 @@
 -- The lines of answers that a client refuses. Out of memory has none. This project's own.
 use Rattle.std.specs.Prelude.{List, ◌++◌, ℕ, Option, Some, None, option_map, codes, decimal}
 use Rattle.std.specs.Fmt.{signed_decimal}
-use Rattle.command_base.specs.Answer.{unplaced_line}
+use Rattle.outside.specs.Answer.{unplaced_line}
 use Rattle.difference.specs.declared.fault.WeaveFault.{WeaveFault}
 use Rattle.difference.specs.declared.fault.WeaveFault.TheVariants as weave
 use Rattle.box_client.specs.declared.fault.ClientFault.{ClientFault}

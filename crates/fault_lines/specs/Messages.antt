@@ -2,7 +2,7 @@
 use Rattle.std.specs.Prelude.{ℕ, ℤ, List, ◌++◌, Option, Some, None, option_map, codes, decimal}
 use Rattle.std.specs.Fmt.{signed_decimal}
 use Rattle.tl_types.specs.Offsets.{moved}
-use Rattle.command_base.specs.Answer.{placed_line, unplaced_line}
+use Rattle.outside.specs.Answer.{placed_line, unplaced_line}
 use Rattle.schema_files.specs.Lines.{cause_text}
 use Rattle.wire_checks.specs.declared.fault.WireFault.{WireFault}
 use Rattle.wire_checks.specs.declared.fault.WireFault.TheVariants as wire

@@ -2,10 +2,10 @@
 use Rattle.std.specs.Prelude.{◌≡◌, ℕ, List, ◌++◌, codes, decimal}
 use Rattle.tl_base.specs.declared.packet.PacketFault.{PacketFault}
 use Rattle.tl_base.specs.declared.packet.PacketFault.TheVariants as packet
-use Rattle.command_base.specs.Answer.{unplaced_line}
-use Rattle.command_base.specs.Loading.{PeerAs}
-use Rattle.command_base.specs.declared.stop.Stop.{Stop}
-use Rattle.command_base.specs.declared.stop.Stop.TheVariants as stop
+use Rattle.outside.specs.Answer.{unplaced_line}
+use Rattle.outside.specs.Loading.{PeerAs}
+use Rattle.outside.specs.declared.stop.Stop.{Stop}
+use Rattle.outside.specs.declared.stop.Stop.TheVariants as stop
 
 -- the length that no packet has
 abbrev pub length_line : ℕ → List ℕ

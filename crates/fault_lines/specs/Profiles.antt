@@ -1,6 +1,6 @@
 -- The lines of schemas without the protocol's forms. Out of memory has none. This project's own.
 use Rattle.std.specs.Prelude.{ℕ, List, ◌++◌, Option, Some, None, codes}
-use Rattle.command_base.specs.Answer.{unplaced_line}
+use Rattle.outside.specs.Answer.{unplaced_line}
 use Rattle.wire_profile.specs.declared.fault.ProfileFault.{ProfileFault}
 use Rattle.wire_profile.specs.declared.fault.ProfileFault.TheVariants as profile
 

@@ -1,7 +1,7 @@
 -- The lines of saved clients that aren't loaded. Out of memory has none. This project's own.
 use Rattle.std.specs.Prelude.{ℕ, List, ◌++◌, Option, Some, None, codes, decimal}
 use Rattle.std.specs.Fmt.{signed_decimal}
-use Rattle.command_base.specs.Answer.{placed_line, unplaced_line}
+use Rattle.outside.specs.Answer.{placed_line, unplaced_line}
 use Rattle.box_events.specs.declared.positions.LaneName.{LaneName}
 use Rattle.box_events.specs.declared.positions.LaneName.TheVariants as lanes
 use Rattle.box_client.specs.declared.fault.LoadFault.{LoadFault}

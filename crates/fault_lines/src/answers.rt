@@ -3,7 +3,7 @@ ghost use Rattle.std.specs.Prelude.{◌≡◌, IfOk, Some, string_bytes};
 ghost use Rattle.fault_lines.specs.Answers.{answer_line, answer_words, seq_words, uneven_words, weave_words};
 
 use box_client::ClientFault;
-use command_base::unplaced_line;
+use outside::unplaced_line;
 use difference::WeaveFault;
 use std::alloc::{AllocError, Global};
 

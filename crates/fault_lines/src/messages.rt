@@ -3,7 +3,7 @@ ghost use Rattle.std.specs.Prelude.{◌≡◌, IfOk, Some, string_bytes};
 ghost use Rattle.fault_lines.specs.Messages.{count_words, seq_words, spell_line, step_line, wire_line, wire_place, wire_words};
 
 use box_wire::SpellFault;
-use command_base::{placed_line, unplaced_line};
+use outside::{placed_line, unplaced_line};
 use schema_files::cause_text;
 use std::alloc::{AllocError, Global};
 use wire_checks::WireFault;

@@ -2,7 +2,7 @@
 ghost use Rattle.std.specs.Prelude.{◌≡◌, IfOk};
 ghost use Rattle.fault_lines.specs.Packets.{TellsPacket, ended_line, length_line};
 
-use command_base::{Stop, unplaced_line};
+use outside::{Stop, unplaced_line};
 use std::alloc::{AllocError, Global};
 use tl_base::PacketFault;
 

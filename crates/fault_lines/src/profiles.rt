@@ -3,7 +3,7 @@ ghost use Rattle.std.specs.Prelude.{◌≡◌, IfOk, Some};
 ghost use Rattle.fault_lines.specs.Profiled.{MakesProfile};
 ghost use Rattle.fault_lines.specs.Profiles.{named_line, profile_line};
 
-use command_base::Unmade;
+use outside::Unmade;
 use std::alloc::{AllocError, Global};
 use tl_base::Bytes;
 use tl_schema::Schema;

@@ -4,7 +4,7 @@ ghost use Rattle.fault_lines.specs.SavedClients.{lane_words, load_line};
 
 use box_client::LoadFault;
 use box_events::LaneName;
-use command_base::{placed_line, unplaced_line};
+use outside::{placed_line, unplaced_line};
 use std::alloc::{AllocError, Global};
 
 // A lane by its name, a channel's by its id.

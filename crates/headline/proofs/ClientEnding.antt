@@ -13,10 +13,10 @@ use Rattle.wire_profile.specs.Profiles.{IsProfile}
 use Rattle.wire_values.specs.SavedClients.{saved_tree}
 use Rattle.box_wire.specs.Framing.{Framed}
 use Rattle.box_wire.specs.Kinds.{saved_clients}
-use Rattle.command_base.specs.Answer.{Answer}
-use Rattle.command_base.specs.Kept.{Leaves, bytes_after, name_after}
-use Rattle.command_base.specs.declared.status.Status.TheVariants.{Done, Refused, ReadFault, WriteFault, Memory, LinkFault, PeerFault}
-use Rattle.command_base.proofs.SameFiles.{file_bytes, same_file}
+use Rattle.outside.specs.Answer.{Answer}
+use Rattle.outside.specs.Kept.{Leaves, bytes_after, name_after}
+use Rattle.outside.specs.declared.status.Status.TheVariants.{Done, Refused, ReadFault, WriteFault, Memory, LinkFault, PeerFault}
+use Rattle.outside.proofs.SameFiles.{file_bytes, same_file}
 use Rattle.schema_files.specs.Answering.{OfSchemaText, no_schema, schema_of}
 use Rattle.schema_files.specs.Loaded.{IsSchemaText}
 use Rattle.fault_lines.specs.Profiled.{IsProfileText, OfProfile, no_profile, profiled}

@@ -8,8 +8,8 @@ use Rattle.box_store.specs.Rebuilding.{Rebuilds, rebuilt}
 use Rattle.box_store.proofs.Rebuilt.{one_server}
 use Rattle.box_world.specs.Streams.{Doing}
 use Rattle.wire_profile.specs.Places.{ProfileView}
-use Rattle.command_base.specs.declared.status.Status.TheVariants.{Done}
-use Rattle.command_base.proofs.SameFiles.{same_file}
+use Rattle.outside.specs.declared.status.Status.TheVariants.{Done}
+use Rattle.outside.proofs.SameFiles.{same_file}
 use Rattle.fault_lines.specs.Profiled.{IsProfileText}
 use Rattle.session_commands.specs.Keep.{SessionsBy}
 use Rattle.session_commands.specs.Serve.{IsAny, Sessions, Total}

@@ -18,9 +18,9 @@ use Rattle.update_world.specs.Spelled.{IsSpelled, packet_size}
 use Rattle.update_replay.specs.Endings.{Ending, is_cut_short, no_step, not_made, of_refusal, too_long, whole}
 use Rattle.update_replay.specs.Replays.{Began, BeginsStep, Replayed, StepFollows, at_its_end, goes_on, no_step_follows, none, not_possible, one_more, one_too_many, seen_of}
 use Rattle.update_replay.specs.declared.limits.TheConstants.{MAX_JOURNAL_BYTES, MAX_STEPS}
-use Rattle.command_base.specs.Answer.{Answer, done, refused_after}
-use Rattle.command_base.specs.declared.status.Status.TheVariants.{Refused}
-use Rattle.command_base.proofs.SameFiles.{same_file}
+use Rattle.outside.specs.Answer.{Answer, done, refused_after}
+use Rattle.outside.specs.declared.status.Status.TheVariants.{Refused}
+use Rattle.outside.proofs.SameFiles.{same_file}
 use Rattle.schema_files.specs.Answering.{OfSchemaText, no_schema as no_schema_text, schema_of}
 use Rattle.schema_files.specs.Loaded.{IsSchemaText}
 use Rattle.fault_lines.specs.Messages.{step_line}

@@ -14,7 +14,7 @@ use Rattle.wire_profile.specs.Profiles.{IsProfile}
 use Rattle.wire_values.specs.SavedClients.{saved_tree}
 use Rattle.box_wire.specs.Framing.{Framed}
 use Rattle.box_wire.specs.Kinds.{saved_clients}
-use Rattle.command_base.specs.declared.status.Status.TheVariants.{Done}
+use Rattle.outside.specs.declared.status.Status.TheVariants.{Done}
 use Rattle.schema_files.proofs.OneSchemaText.{one_schema_text}
 use Rattle.fault_lines.specs.Profiled.{IsProfileText}
 use Rattle.fault_lines.proofs.Profiled.{one_schema}

@@ -9,10 +9,10 @@ use Rattle.tl_numbers.specs.Bytes.{ListsOfBytes}
 use Rattle.box_world.specs.Streams.{Doing}
 use Rattle.wire_profile.specs.Places.{ProfileView}
 use Rattle.wire_profile.specs.Profiles.{IsProfile}
-use Rattle.command_base.specs.Answer.{Answer}
-use Rattle.command_base.specs.Kept.{Leaves}
-use Rattle.command_base.specs.declared.status.Status.TheVariants.{Done}
-use Rattle.command_base.proofs.SameFiles.{same_file}
+use Rattle.outside.specs.Answer.{Answer}
+use Rattle.outside.specs.Kept.{Leaves}
+use Rattle.outside.specs.declared.status.Status.TheVariants.{Done}
+use Rattle.outside.proofs.SameFiles.{same_file}
 use Rattle.schema_files.specs.Answering.{OfSchemaText, no_schema, schema_of}
 use Rattle.schema_files.specs.Loaded.{IsSchemaText}
 use Rattle.fault_lines.specs.Profiled.{IsProfileText, OfProfile, no_profile, profiled}

@@ -7,7 +7,7 @@ use Rattle.channel_box.specs.States.{ids_of}
 use Rattle.box_client.specs.States.{ClientState}
 use Rattle.box_world.specs.Streams.{Doing, Honest, begun}
 use Rattle.update_sessions.specs.Honest.{told_all}
-use Rattle.command_base.specs.declared.status.Status.TheVariants.{Done}
+use Rattle.outside.specs.declared.status.Status.TheVariants.{Done}
 use Rattle.fault_lines.specs.Profiled.{IsProfileText}
 use Rattle.session_commands.specs.Client.{client_line}
 use Rattle.session_commands.specs.Linked.{next_link}

@@ -13,7 +13,7 @@ use Rattle.box_store.specs.declared.entry.Entry.{Entry}
 use Rattle.box_store.specs.Keeping.{KeeperState}
 use Rattle.box_store.specs.Rebuilding.{Rebuilds, rebuilt}
 use Rattle.box_world.specs.Streams.{Doing, dates}
-use Rattle.command_base.specs.declared.status.Status.TheVariants.{Done}
+use Rattle.outside.specs.declared.status.Status.TheVariants.{Done}
 use Rattle.fault_lines.specs.Profiled.{IsProfileText}
 use Rattle.session_commands.specs.Serve.{IsAny, Sessions, Total}
 use Rattle.outside.specs.Events.{Outside}

@@ -7,10 +7,10 @@ use Rattle.wire_profile.specs.Faults.{FaultView, IsAnswer}
 use Rattle.wire_profile.specs.Places.{ProfileView}
 use Rattle.update_replay.specs.Endings.{Ending, whole}
 use Rattle.update_replay.specs.Replays.{Replayed}
-use Rattle.command_base.specs.Answer.{Answer, refused}
-use Rattle.command_base.specs.Telling.{Tells}
-use Rattle.command_base.specs.declared.status.Status.{Status}
-use Rattle.command_base.specs.declared.status.Status.TheVariants.{Done, Refused, ReadFault, WriteFault, LinkFault, Memory}
+use Rattle.outside.specs.Answer.{Answer, refused}
+use Rattle.outside.specs.Telling.{Tells}
+use Rattle.outside.specs.declared.status.Status.{Status}
+use Rattle.outside.specs.declared.status.Status.TheVariants.{Done, Refused, ReadFault, WriteFault, LinkFault, Memory}
 use Rattle.schema_files.specs.Causes.{SchemaCause}
 use Rattle.schema_files.specs.Lines.{schema_line}
 use Rattle.schema_files.specs.Loaded.{IsSchemaText, SchemaRefused}

@@ -10,7 +10,7 @@ use Rattle.box_client.specs.Saving.{saved_of}
 use Rattle.box_client.specs.States.{ClientState}
 use Rattle.box_server.specs.Servers.{new_server}
 use Rattle.box_world.specs.Streams.{Doing, dates}
-use Rattle.command_base.specs.declared.status.Status.TheVariants.{Done}
+use Rattle.outside.specs.declared.status.Status.TheVariants.{Done}
 use Rattle.fault_lines.specs.Profiled.{IsProfileText}
 use Rattle.session_commands.specs.Linked.{next_link}
 use Rattle.session_commands.specs.Serve.{IsAny, Sessions, Total}

@@ -5,9 +5,9 @@ use Rattle.tl_base.specs.declared.counts.Kind.TheVariants as kinds
 use Rattle.tl_base.specs.declared.host.Slot.{Slot}
 use Rattle.tl_base.specs.declared.host.Out.{Out}
 use Rattle.tl_base.specs.declared.host.Out.TheVariants as outs
-use Rattle.command_base.specs.Answer.{Answer, write_fault_line}
-use Rattle.command_base.specs.declared.status.Status.{Status}
-use Rattle.command_base.specs.declared.status.Status.TheVariants.{Done, Refused, Usage, ReadFault, WriteFault, Memory, LinkFault, PeerFault}
+use Rattle.outside.specs.Answer.{Answer, write_fault_line}
+use Rattle.outside.specs.declared.status.Status.{Status}
+use Rattle.outside.specs.declared.status.Status.TheVariants.{Done, Refused, Usage, ReadFault, WriteFault, Memory, LinkFault, PeerFault}
 use Rattle.outside.specs.Events.{Event, opened, took, ended, read_failed, put, write_failed}
 use Rattle.outside.specs.Laws.{Happened, Throughout, Keeps, IsFailure, IsFromLink, Explains, HasCause}
 use Rattle.outside.specs.Pieces.{InPieces, TakenView, full, short, broken, Takes, Writes, Tells, ReadsFile, after_open, text_of}

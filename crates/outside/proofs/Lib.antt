@@ -8,3 +8,5 @@ pub mod TakenPackets
 pub mod Noting
 pub mod Fitting
 pub mod Sparing
+pub mod SameFiles
+pub mod Loaded

@@ -2,10 +2,10 @@
 use Rattle.std.proofs.Common.{◌≡◌, ℕ, List, [], ◌++◌, Bool, true, false, Option, Some, None, refl, sym, subst}
 use Rattle.tl_base.specs.declared.host.Out.{Out}
 use Rattle.tl_base.specs.declared.host.Out.TheVariants.{Output}
-use Rattle.command_base.specs.Answer.{Answer, done, refused}
-use Rattle.command_base.specs.Jobs.{Making, made, refused_by, unread, no_memory}
-use Rattle.command_base.specs.declared.status.Status.{Status}
-use Rattle.command_base.specs.declared.status.Status.TheVariants.{Refused}
+use Rattle.outside.specs.Answer.{Answer, done, refused}
+use Rattle.outside.specs.Jobs.{Making, made, refused_by, unread, no_memory}
+use Rattle.outside.specs.declared.status.Status.{Status}
+use Rattle.outside.specs.declared.status.Status.TheVariants.{Refused}
 use Rattle.outside.specs.Events.{HostState}
 use Rattle.outside.specs.Begun.{Did, DidIn}
 use Rattle.outside.specs.Steps.{Begins}

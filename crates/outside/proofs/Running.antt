@@ -1,13 +1,13 @@
 -- Laws of runs.
 use Rattle.std.proofs.Common.{List, ◌++◌, Some, None, Result, Ok, Err, refl, subst, sym}
 use Rattle.tl_base.specs.declared.host.Out.{Out}
-use Rattle.command_base.specs.declared.status.Status.{Status}
-use Rattle.command_base.specs.declared.status.Status.TheVariants.{Memory}
+use Rattle.outside.specs.declared.status.Status.{Status}
+use Rattle.outside.specs.declared.status.Status.TheVariants.{Memory}
 use Rattle.outside.specs.Begun.{Did, DidIn}
 use Rattle.outside.specs.Events.{HostState}
 use Rattle.outside.specs.Steps.{Step}
 use Rattle.outside.specs.Pieces.{Tells}
-use Rattle.command_base.specs.Answer.{memory_line}
+use Rattle.outside.specs.Answer.{memory_line}
 use Rattle.outside.specs.Runs.{done, out_of_memory, RanIn, Finishes, answered}
 use Rattle.outside.proofs.Growing.{grew_more}
 

@@ -13,3 +13,9 @@ pub mod Logs
 pub mod Fits
 pub mod Memory
 pub mod Reliable
+pub mod Answer
+pub mod Kept
+pub mod Telling
+pub mod Jobs
+pub mod Sound
+pub mod Loading

@@ -1,10 +1,10 @@
 -- How an answer is printed: Output, and then its line. This project's own.
 use Rattle.std.specs.Prelude.{◌≡◌, Bool, true, false, Option, None}
 use Rattle.tl_base.specs.declared.host.Out.TheVariants.{Output}
-use Rattle.command_base.specs.Answer.{Answer, done, refused, read_fault_line, write_fault_line}
-use Rattle.command_base.specs.Jobs.{Making, made, refused_by, unread, no_memory}
-use Rattle.command_base.specs.declared.status.Status.{Status}
-use Rattle.command_base.specs.declared.status.Status.TheVariants.{ReadFault, WriteFault}
+use Rattle.outside.specs.Answer.{Answer, done, refused, read_fault_line, write_fault_line}
+use Rattle.outside.specs.Jobs.{Making, made, refused_by, unread, no_memory}
+use Rattle.outside.specs.declared.status.Status.{Status}
+use Rattle.outside.specs.declared.status.Status.TheVariants.{ReadFault, WriteFault}
 use Rattle.outside.specs.Events.{HostState}
 use Rattle.outside.specs.Begun.{Did}
 use Rattle.outside.specs.Steps.{Step, Then}

@@ -1,9 +1,9 @@
 -- What a run does. This project's own.
 use Rattle.std.specs.Prelude.{◌≡◌, List, [], Option, Some, None, Result, Ok, Err}
 use Rattle.tl_base.specs.declared.host.Out.{Out}
-use Rattle.command_base.specs.Answer.{memory_line}
-use Rattle.command_base.specs.declared.status.Status.{Status}
-use Rattle.command_base.specs.declared.status.Status.TheVariants.{Memory}
+use Rattle.outside.specs.Answer.{memory_line}
+use Rattle.outside.specs.declared.status.Status.{Status}
+use Rattle.outside.specs.declared.status.Status.TheVariants.{Memory}
 use Rattle.outside.specs.Events.{Event, HostState}
 use Rattle.outside.specs.Begun.{BeginsIn, Did}
 use Rattle.outside.specs.Steps.{Step, Then, Grows}

@@ -3,7 +3,7 @@ ghost use Rattle.outside.specs.Runs.{Finishes};
 
 use crate::host::Host;
 use crate::pieces::tell;
-use command_base::Status;
+use crate::Status;
 use std::alloc::AllocError;
 
 /// The status of a run. Where it ran out of memory, that is told.

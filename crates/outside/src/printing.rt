@@ -1,14 +1,14 @@
 //! Answers, printed.
 ghost use Rattle.std.specs.Prelude.{Some};
-ghost use Rattle.command_base.specs.Answer.{done};
-ghost use Rattle.command_base.specs.Jobs.{making};
+ghost use Rattle.outside.specs.Answer.{done};
+ghost use Rattle.outside.specs.Jobs.{making};
 ghost use Rattle.outside.specs.Begun.{Did};
 ghost use Rattle.outside.specs.Printing.{Prints, PrintsMade, Unread};
 ghost use Rattle.outside.specs.Runs.{answered};
 
 use crate::host::Host;
 use crate::pieces::{tell, write_out};
-use command_base::{Status, Unmade};
+use crate::{Status, Unmade};
 use std::alloc::AllocError;
 use tl_base::Out;
 

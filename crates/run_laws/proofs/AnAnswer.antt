@@ -2,7 +2,7 @@
 use Rattle.std.proofs.Common.{ℕ, List, refl}
 use Rattle.tl_base.specs.Contents.{HoldBytes}
 use Rattle.tl_base.specs.Outside.{View}
-use Rattle.command_base.specs.Answer.{Answer}
+use Rattle.outside.specs.Answer.{Answer}
 use Rattle.call_commands.proofs.EachCalls.{each_calls}
 use Rattle.codec_commands.proofs.EachAnswer.{each_check, each_decode, each_encode}
 use Rattle.codec_commands.proofs.EachLayers.{each_layers}

@@ -1,14 +1,14 @@
 -- How runs of words end over an outside that shows what it holds: as the runs of their requests' jobs.
 use Rattle.std.proofs.Common.{◌≡◌, ℕ, List, [], append-nil, refl, sym, ◌∙◌, subst, inl, inr}
 use Rattle.tl_base.specs.Outside.{View}
-use Rattle.command_base.specs.Answer.{Answer, memory_line}
-use Rattle.command_base.specs.Jobs as jobs
-use Rattle.command_base.specs.Kept.{OnlyErrors}
-use Rattle.command_base.specs.Sound as sound
-use Rattle.command_base.specs.Sound.{IsFault}
-use Rattle.command_base.specs.Telling.{Tells}
-use Rattle.command_base.specs.declared.status.Status.{Status}
-use Rattle.command_base.specs.declared.status.Status.TheVariants.{Usage, ReadFault, WriteFault, Memory, LinkFault}
+use Rattle.outside.specs.Answer.{Answer, memory_line}
+use Rattle.outside.specs.Jobs as jobs
+use Rattle.outside.specs.Kept.{OnlyErrors}
+use Rattle.outside.specs.Sound as sound
+use Rattle.outside.specs.Sound.{IsFault}
+use Rattle.outside.specs.Telling.{Tells}
+use Rattle.outside.specs.declared.status.Status.{Status}
+use Rattle.outside.specs.declared.status.Status.TheVariants.{Usage, ReadFault, WriteFault, Memory, LinkFault}
 use Rattle.outside.specs.Events.{Event, Outside}
 use Rattle.outside.specs.Pieces as pieces
 use Rattle.outside.proofs.Causing.{told_status}

@@ -1,7 +1,7 @@
 -- Words have one answer at most.
 use Rattle.std.proofs.Common.{◌≡◌, List, ℕ, sym, ◌∙◌, subst}
 use Rattle.tl_base.specs.Outside.{View}
-use Rattle.command_base.specs.Answer.{Answer}
+use Rattle.outside.specs.Answer.{Answer}
 use Rattle.commands.specs.Requests.{RequestText, check, decode, encode, replay, make, serve, post, client, layers, calls, AsksFor, AsksNothing}
 use Rattle.run_laws.specs.Requests.{ShowsBytesFor}
 use Rattle.run_laws.specs.Answers.{usage, AnswerTo, Answers, no_request, requested, HasOneAnswer}

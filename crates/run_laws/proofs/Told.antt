@@ -3,10 +3,10 @@ use Rattle.std.proofs.Common.{◌≡◌, ℕ, List, [], ◌∷◌, ◌++◌, map
 use Rattle.tl_base.specs.Outside.{View}
 use Rattle.tl_base.specs.declared.host.Out.{Out}
 use Rattle.tl_base.specs.declared.host.Out.TheVariants.{Errors}
-use Rattle.command_base.specs.Answer.{printed}
-use Rattle.command_base.specs.declared.status.Status.{Status}
-use Rattle.command_base.specs.Kept.{AddsPrefix, Leaves, OnlyErrors}
-use Rattle.command_base.specs.Telling.{Tells}
+use Rattle.outside.specs.Answer.{printed}
+use Rattle.outside.specs.declared.status.Status.{Status}
+use Rattle.outside.specs.Kept.{AddsPrefix, Leaves, OnlyErrors}
+use Rattle.outside.specs.Telling.{Tells}
 use Rattle.outside.specs.Events.{Event, Outside, opened, took, ended, read_failed, created, put, write_failed, listened, connected, accepted, told}
 use Rattle.outside.specs.Laws.{Throughout}
 use Rattle.outside.specs.Pieces as pieces

@@ -7,9 +7,9 @@ use Rattle.tl_base.specs.declared.host.Out.{Out}
 use Rattle.tl_base.specs.declared.host.Out.TheVariants as outs
 use Rattle.tl_base.specs.declared.host.Slot.{Slot}
 use Rattle.tl_base.specs.declared.host.Slot.TheVariants as slots
-use Rattle.command_base.specs.Answer.{memory_line}
-use Rattle.command_base.specs.declared.status.Status.{Status}
-use Rattle.command_base.specs.declared.status.Status.TheVariants.{Usage, ReadFault, WriteFault, Memory, LinkFault, PeerFault}
+use Rattle.outside.specs.Answer.{memory_line}
+use Rattle.outside.specs.declared.status.Status.{Status}
+use Rattle.outside.specs.declared.status.Status.TheVariants.{Usage, ReadFault, WriteFault, Memory, LinkFault, PeerFault}
 use Rattle.outside.specs.Events.{Event, opened, took, ended, read_failed, created, put, write_failed, listened, connected, accepted, told}
 use Rattle.outside.specs.Laws.{Explains, Happened, IsFailure, IsFromLink, Throughout}
 use Rattle.outside.specs.Pieces.{Tells}

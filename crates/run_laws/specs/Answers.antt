@@ -2,7 +2,7 @@
 use Rattle.std.specs.Prelude.{◌≡◌, ℕ, List}
 use Rattle.tl_base.specs.Contents.{HoldBytes}
 use Rattle.tl_base.specs.Outside.{View}
-use Rattle.command_base.specs.Answer.{Answer, misused}
+use Rattle.outside.specs.Answer.{Answer, misused}
 use Rattle.commands.specs.Requests.{RequestText, AsksFor, AsksNothing}
 use Rattle.commands.specs.Usage.{usage_line}
 use Rattle.run_laws.specs.Requests.{HasFilesOf, HasComingOf, ShowsBytesFor, job_of}

@@ -4,14 +4,14 @@ use Rattle.std.specs.List.{AllByRecursion}
 use Rattle.tl_base.specs.Outside.{View, ShowsBytes}
 use Rattle.tl_base.specs.declared.counts.Kind.TheVariants as kinds
 use Rattle.tl_base.specs.declared.host.Out.{Out}
-use Rattle.command_base.specs.Answer.{Answer, read_fault_line, write_fault_line, link_fault_line, memory_line}
-use Rattle.command_base.specs.Jobs.{Job, MayAnswer, WritesSomeOf}
-use Rattle.command_base.specs.Kept.{Leaves, WritesNothing}
-use Rattle.command_base.specs.Sound.{IsFault}
-use Rattle.command_base.specs.Sound as sound
-use Rattle.command_base.specs.Telling.{Tells, TellsLine}
-use Rattle.command_base.specs.declared.status.Status.{Status}
-use Rattle.command_base.specs.declared.status.Status.TheVariants.{ReadFault, WriteFault, Memory, LinkFault}
+use Rattle.outside.specs.Answer.{Answer, read_fault_line, write_fault_line, link_fault_line, memory_line}
+use Rattle.outside.specs.Jobs.{Job, MayAnswer, WritesSomeOf}
+use Rattle.outside.specs.Kept.{Leaves, WritesNothing}
+use Rattle.outside.specs.Sound.{IsFault}
+use Rattle.outside.specs.Sound as sound
+use Rattle.outside.specs.Telling.{Tells, TellsLine}
+use Rattle.outside.specs.declared.status.Status.{Status}
+use Rattle.outside.specs.declared.status.Status.TheVariants.{ReadFault, WriteFault, Memory, LinkFault}
 use Rattle.outside.specs.Events.{Event, Outside}
 use Rattle.outside.specs.Laws.{Happened, IsFailure}
 use Rattle.outside.specs.Runs.{RunsIn}

@@ -4,13 +4,13 @@ use Rattle.tl_base.specs.Outside.{View}
 use Rattle.box_server.specs.Servers.{ServerState}
 use Rattle.box_store.specs.declared.entry.Entry.{Entry}
 use Rattle.box_store.specs.Keeping.{KeeperState, Keeps}
-use Rattle.command_base.specs.Answer.{memory_line}
-use Rattle.command_base.specs.Jobs.{Job}
-use Rattle.command_base.specs.Telling.{TellsLine}
-use Rattle.command_base.specs.Sound.{IsFault}
-use Rattle.command_base.specs.Sound as sound
-use Rattle.command_base.specs.declared.status.Status.{Status}
-use Rattle.command_base.specs.declared.status.Status.TheVariants.{Done, Refused, Usage, ReadFault, WriteFault, Memory, LinkFault, PeerFault}
+use Rattle.outside.specs.Answer.{memory_line}
+use Rattle.outside.specs.Jobs.{Job}
+use Rattle.outside.specs.Telling.{TellsLine}
+use Rattle.outside.specs.Sound.{IsFault}
+use Rattle.outside.specs.Sound as sound
+use Rattle.outside.specs.declared.status.Status.{Status}
+use Rattle.outside.specs.declared.status.Status.TheVariants.{Done, Refused, Usage, ReadFault, WriteFault, Memory, LinkFault, PeerFault}
 use Rattle.fault_lines.specs.Profiled.{HasProfile}
 use Rattle.session_commands.specs.Keep.{KeepsFirst, KeepsSessions, RoomForRun, RoomOver, Starts, keep_job, told_job}
 use Rattle.session_commands.specs.Serve.{ServeKeeps}

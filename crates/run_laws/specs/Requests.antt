@@ -3,7 +3,7 @@ use Rattle.std.specs.Prelude.{◌<◌, ◌^◌, ℕ, List, length}
 use Rattle.std.specs.List.{AllByRecursion}
 use Rattle.tl_base.specs.Contents.{Files, HoldBytes}
 use Rattle.tl_base.specs.Outside.{View, ShowsBytes, IsFile}
-use Rattle.command_base.specs.Jobs.{Job}
+use Rattle.outside.specs.Jobs.{Job}
 use Rattle.call_commands.specs.Calls.{calls_job}
 use Rattle.codec_commands.specs.Check.{check_job}
 use Rattle.codec_commands.specs.Decode.{decode_job}

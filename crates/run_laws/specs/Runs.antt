@@ -1,12 +1,12 @@
 -- How a run of words ends over an outside that shows what it holds. This project's own.
 use Rattle.std.specs.Prelude.{◌≡◌, ◌⊎◌, ℕ, List, ◌++◌}
 use Rattle.tl_base.specs.Outside.{View}
-use Rattle.command_base.specs.Answer.{Answer, read_fault_line, write_fault_line, link_fault_line, memory_line}
-use Rattle.command_base.specs.Kept.{Leaves, OnlyErrors}
-use Rattle.command_base.specs.Sound.{HasRoomFor, IsFault}
-use Rattle.command_base.specs.Telling.{Tells, TellsLine}
-use Rattle.command_base.specs.declared.status.Status.{Status}
-use Rattle.command_base.specs.declared.status.Status.TheVariants.{ReadFault, WriteFault, Memory, LinkFault}
+use Rattle.outside.specs.Answer.{Answer, read_fault_line, write_fault_line, link_fault_line, memory_line}
+use Rattle.outside.specs.Kept.{Leaves, OnlyErrors}
+use Rattle.outside.specs.Sound.{HasRoomFor, IsFault}
+use Rattle.outside.specs.Telling.{Tells, TellsLine}
+use Rattle.outside.specs.declared.status.Status.{Status}
+use Rattle.outside.specs.declared.status.Status.TheVariants.{ReadFault, WriteFault, Memory, LinkFault}
 use Rattle.outside.specs.Events.{Event, Outside}
 use Rattle.outside.specs.Fits.{Fits}
 use Rattle.outside.specs.Reliable.{IsReliable}

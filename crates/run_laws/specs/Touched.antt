@@ -7,8 +7,8 @@ use Rattle.tl_base.specs.declared.counts.Kind.{Kind}
 use Rattle.tl_base.specs.declared.host.Out.{Out}
 use Rattle.tl_base.specs.declared.host.Out.TheVariants as outs
 use Rattle.tl_base.specs.declared.host.Slot.TheVariants as slots
-use Rattle.command_base.specs.declared.status.Status.{Status}
-use Rattle.command_base.specs.declared.status.Status.TheVariants.{Usage, ReadFault, WriteFault, LinkFault, PeerFault}
+use Rattle.outside.specs.declared.status.Status.{Status}
+use Rattle.outside.specs.declared.status.Status.TheVariants.{Usage, ReadFault, WriteFault, LinkFault, PeerFault}
 use Rattle.outside.specs.Events.{Event, counted_all, opened, took, ended, read_failed, created, put, write_failed, listened, connected, accepted, told}
 use Rattle.outside.specs.Laws.{Happened, IsFailure, IsFromLink, Throughout}
 use Rattle.codec_rooms.specs.Commands as codec

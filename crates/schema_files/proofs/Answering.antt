@@ -4,8 +4,8 @@ use Rattle.tl_base.specs.Contents.{Files}
 use Rattle.tl_base.specs.Outside.{HasFile}
 use Rattle.tl_schema.specs.Schemas.{Declared}
 use Rattle.tl_schema.specs.CheckedPrograms.{IsSchema}
-use Rattle.command_base.specs.Answer.{Answer, refused}
-use Rattle.command_base.proofs.SameFiles.{same_file}
+use Rattle.outside.specs.Answer.{Answer, refused}
+use Rattle.outside.proofs.SameFiles.{same_file}
 use Rattle.schema_files.specs.Answering.{OfSchemaText, no_schema, schema_of, OfSchemaFile}
 use Rattle.schema_files.specs.Causes.{SchemaCause}
 use Rattle.schema_files.specs.Lines.{schema_line}

@@ -10,9 +10,9 @@ use Rattle.tl_types.specs.declared.value.TheConstants.{MAX_LEVELS}
 use Rattle.tl_show.specs.Texts.{TellsText}
 use Rattle.tl_show.specs.declared.fault.JsonTextFault.{JsonTextFault}
 use Rattle.tl_show.specs.declared.fault.JsonTextFault.TheVariants as reading
-use Rattle.command_base.specs.declared.stop.Unmade.{Unmade}
-use Rattle.command_base.specs.Loading.{Refuses, RefusesAs}
-use Rattle.command_base.proofs.Loaded.{refuses_as, memory_refuses}
+use Rattle.outside.specs.declared.stop.Unmade.{Unmade}
+use Rattle.outside.specs.Loading.{Refuses, RefusesAs}
+use Rattle.outside.proofs.Loaded.{refuses_as, memory_refuses}
 use Rattle.schema_files.specs.declared.json_input.TheConstants.{JSON_BYTES}
 use Rattle.schema_files.specs.Causes.{JsonCause, NoJson, Unformed, Misfit}
 use Rattle.schema_files.specs.Lines.{json_line}

@@ -13,9 +13,9 @@ use Rattle.tl_combinators.specs.Sentences.{Reads, SyntaxRefused, FaultIs}
 use Rattle.tl_schema.specs.CheckedPrograms.{Checks}
 use Rattle.tl_schema.specs.declared.fault.CheckFault.{CheckFault}
 use Rattle.tl_schema.specs.declared.fault.CheckFault.TheVariants as check
-use Rattle.command_base.specs.declared.stop.Unmade.{Unmade}
-use Rattle.command_base.specs.Loading.{Refuses, RefusesAs}
-use Rattle.command_base.proofs.Loaded.{refuses_as, memory_refuses}
+use Rattle.outside.specs.declared.stop.Unmade.{Unmade}
+use Rattle.outside.specs.Loading.{Refuses, RefusesAs}
+use Rattle.outside.proofs.Loaded.{refuses_as, memory_refuses}
 use Rattle.schema_files.specs.Causes.{TextCause, TextTooLong, BadByte, OpenComment, Unexpected, NotProfile, TooMany, SchemaCause, Text, Checked}
 use Rattle.schema_files.specs.Lines.{schema_line}
 use Rattle.schema_files.specs.Loaded.{TextRefused, too_long, bad_byte, open_comment, unexpected, not_profile, too_many, SchemaRefused, by_text, by_checks}

@@ -14,9 +14,9 @@ use Rattle.schema_files.specs.Lines.{plan_line}
 use Rattle.schema_files.specs.Loaded.{HasPlan, PlanRefused}
 use Rattle.schema_files.specs.Parts.{TellsPlan}
 use Rattle.schema_files.specs.inner.Tellings.{TellsNoPlan}
-use Rattle.command_base.specs.declared.stop.Unmade.{Unmade}
-use Rattle.command_base.specs.Loading.{Refuses}
-use Rattle.command_base.proofs.Loaded.{refuses_as, memory_refuses}
+use Rattle.outside.specs.declared.stop.Unmade.{Unmade}
+use Rattle.outside.specs.Loading.{Refuses}
+use Rattle.outside.proofs.Loaded.{refuses_as, memory_refuses}
 
 -- the fault for a cause
 abbrev fault_of : PlanCause → PlanFault

@@ -6,9 +6,9 @@ use Rattle.tl_schema.specs.Schemas.{Declared}
 use Rattle.tl_schema.specs.AskedTypes.{NamesType}
 use Rattle.tl_schema.specs.declared.fault.TypeFault.{TypeFault}
 use Rattle.tl_schema.specs.declared.fault.TypeFault.TheVariants as type
-use Rattle.command_base.specs.declared.stop.Unmade.{Unmade}
-use Rattle.command_base.specs.Loading.{Refuses, RefusesAs}
-use Rattle.command_base.proofs.Loaded.{refuses_as, memory_refuses}
+use Rattle.outside.specs.declared.stop.Unmade.{Unmade}
+use Rattle.outside.specs.Loading.{Refuses, RefusesAs}
+use Rattle.outside.proofs.Loaded.{refuses_as, memory_refuses}
 use Rattle.schema_files.specs.Causes.{TextTooLong, BadByte, OpenComment, Unexpected, NotProfile, TooMany, TypeNameCause, Word, Asked}
 use Rattle.schema_files.specs.Lines.{type_line}
 use Rattle.schema_files.specs.Loaded.{TypeNameRefused, too_long, bad_byte, open_comment, unexpected, not_profile, too_many, by_text, by_checks}

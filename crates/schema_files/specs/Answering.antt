@@ -3,7 +3,7 @@ use Rattle.std.specs.Prelude.{◌≡◌, ℕ, List}
 use Rattle.tl_base.specs.Contents.{Files}
 use Rattle.tl_base.specs.Outside.{HasFile}
 use Rattle.tl_schema.specs.Schemas.{Declared}
-use Rattle.command_base.specs.Answer.{Answer, refused}
+use Rattle.outside.specs.Answer.{Answer, refused}
 use Rattle.schema_files.specs.Causes.{SchemaCause}
 use Rattle.schema_files.specs.Loaded.{IsSchemaText, SchemaRefused}
 use Rattle.schema_files.specs.Lines.{schema_line}

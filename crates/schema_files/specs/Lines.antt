@@ -19,7 +19,7 @@ use Rattle.tl_combinators.specs.declared.fault.Form.{Form}
 use Rattle.tl_combinators.specs.declared.fault.Form.TheVariants as form
 use Rattle.tl_schema.specs.declared.fault.TypeCause.{TypeCause}
 use Rattle.tl_schema.specs.declared.fault.TypeCause.TheVariants as type
-use Rattle.command_base.specs.Answer.{decl_line, placed_line, unplaced_line}
+use Rattle.outside.specs.Answer.{decl_line, placed_line, unplaced_line}
 use Rattle.schema_files.specs.Causes.{TextCause, TextTooLong, BadByte, OpenComment, Unexpected, NotProfile, TooMany, SchemaCause, Text, Checked, TypeNameCause, Word, Asked, PlanCause, TypeTooDeep, TooManyInstances, JsonCause, TooLong, NoJson, Unformed, Misfit}
 
 -- a value of a type: its JSON, and a line feed

@@ -10,9 +10,9 @@ use Rattle.tl_types.specs.Seen.{view}
 use Rattle.tl_types.specs.declared.value.Value.{Value}
 use Rattle.tl_types.specs.declared.misfit.FitFault.{FitFault}
 use Rattle.tl_types.specs.declared.misfit.FitFault.TheVariants as fit
-use Rattle.command_base.specs.declared.stop.Unmade.{Unmade}
-use Rattle.command_base.specs.declared.stop.Unmade.TheVariants as unmade
-use Rattle.command_base.specs.Loading.{Refuses, RefusesAs, Gives}
+use Rattle.outside.specs.declared.stop.Unmade.{Unmade}
+use Rattle.outside.specs.declared.stop.Unmade.TheVariants as unmade
+use Rattle.outside.specs.Loading.{Refuses, RefusesAs, Gives}
 use Rattle.schema_files.specs.Causes.{SchemaCause, TypeNameCause, PlanCause, JsonCause, Misfit}
 use Rattle.schema_files.specs.Loaded.{IsSchemaText, SchemaRefused, TypeNameRefused, PlanRefused}
 use Rattle.schema_files.specs.JsonInput.{FormRefused, IsForm, IsJsonOf, JsonRefused}

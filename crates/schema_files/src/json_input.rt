@@ -2,14 +2,14 @@
 ghost use Rattle.tl_schema.specs.Seen.{shape};
 ghost use Rattle.tl_show.specs.inner.Kept.{AreKeysOf};
 ghost use Rattle.tl_types.specs.Fitting.{misfit};
-ghost use Rattle.command_base.specs.Loading.{RefusesAs};
+ghost use Rattle.outside.specs.Loading.{RefusesAs};
 ghost use Rattle.schema_files.specs.Causes.{Misfit, Unformed};
 ghost use Rattle.schema_files.specs.Lines.{json_line};
 ghost use Rattle.schema_files.specs.Parts.{ReadsForm, TellsUnfit};
 ghost use Rattle.schema_files.specs.inner.Tellings.{TellsNoForm};
 
 use crate::lines::{form_text, misfit_text};
-use command_base::Unmade;
+use outside::Unmade;
 use std::alloc::Global;
 use tl_schema::{Schema, TypeRef};
 use tl_show::{FormCause, JsonKeys, JsonTextFault};

@@ -4,7 +4,7 @@ ghost use Rattle.schema_files.specs.inner.Tellings.{TellsCheck};
 
 use crate::lines::check_name;
 use crate::text::{lex_unmade, syntax_unmade};
-use command_base::Unmade;
+use outside::Unmade;
 use std::alloc::Global;
 use tl_combinators::parse;
 use tl_lexer::{TEXT_LIMIT, lex};

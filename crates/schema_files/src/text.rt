@@ -1,11 +1,11 @@
 //! What is told of a text that is refused, that of a schema or of a type.
-ghost use Rattle.command_base.specs.Loading.{RefusesAs};
+ghost use Rattle.outside.specs.Loading.{RefusesAs};
 ghost use Rattle.schema_files.specs.Causes.{NotProfile};
 ghost use Rattle.schema_files.specs.Lines.{text_line};
 ghost use Rattle.schema_files.specs.inner.Tellings.{TellsLex, TellsSyntax};
 
 use crate::lines::form_name;
-use command_base::Unmade;
+use outside::Unmade;
 use std::alloc::Global;
 use tl_combinators::{Form, SyntaxFault};
 use tl_lexer::LexFault;

@@ -4,7 +4,7 @@ ghost use Rattle.tl_schema.specs.Seen.{shape};
 ghost use Rattle.schema_files.specs.Parts.{PlansType};
 ghost use Rattle.schema_files.specs.inner.Tellings.{TellsNoPlan};
 
-use command_base::Unmade;
+use outside::Unmade;
 use std::alloc::Global;
 use std::slice::from_ref;
 use tl_plan::{Plan, PlanFault, plan};

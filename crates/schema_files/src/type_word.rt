@@ -7,7 +7,7 @@ ghost use Rattle.schema_files.specs.inner.Tellings.{TellsNoType};
 
 use crate::lines::type_cause_name;
 use crate::text::{lex_unmade, syntax_unmade};
-use command_base::Unmade;
+use outside::Unmade;
 use std::alloc::Global;
 use tl_schema::{Schema, TypeFault, TypeRef, type_of};
 

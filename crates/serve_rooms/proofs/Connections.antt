@@ -5,9 +5,9 @@ use Rattle.std.proofs.lemmas.List.{append-nil}
 use Rattle.box_server.specs.Servers.{ServerState, dated_at}
 use Rattle.box_store.specs.Keeping.{KeeperState}
 use Rattle.wire_profile.specs.Places.{ProfileView}
-use Rattle.command_base.specs.Answer.{link_fault_line}
-use Rattle.command_base.specs.declared.status.Status.{Status}
-use Rattle.command_base.specs.declared.status.Status.TheVariants.{LinkFault}
+use Rattle.outside.specs.Answer.{link_fault_line}
+use Rattle.outside.specs.declared.status.Status.{Status}
+use Rattle.outside.specs.declared.status.Status.TheVariants.{LinkFault}
 use Rattle.outside.specs.Events.{Event, HostState, listened, accepted, told}
 use Rattle.outside.specs.Grown.{Grew}
 use Rattle.outside.specs.Laws.{Happened, Throughout}

@@ -3,7 +3,7 @@ use Rattle.std.proofs.Common.{◌≡◌, List, [], ◌∷◌, ◌++◌, map, Opt
 use Rattle.std.proofs.lemmas.List.{append_assoc, map-append}
 use Rattle.tl_base.specs.declared.host.Out.{Out}
 use Rattle.box_store.specs.Keeping.{KeeperState}
-use Rattle.command_base.specs.declared.status.Status.{Status}
+use Rattle.outside.specs.declared.status.Status.{Status}
 use Rattle.outside.specs.Events.{Event, HostState}
 use Rattle.outside.specs.Laws.{Throughout}
 use Rattle.outside.specs.Begun.{DidIn}

@@ -1,9 +1,9 @@
 -- Laws of runs over a keeper.
 use Rattle.std.proofs.Common.{◌≡◌, ◌++◌, Option, Some, None, refl, subst}
 use Rattle.box_store.specs.Keeping.{KeeperState}
-use Rattle.command_base.specs.Answer.{memory_line}
-use Rattle.command_base.specs.declared.status.Status.{Status}
-use Rattle.command_base.specs.declared.status.Status.TheVariants.{Memory}
+use Rattle.outside.specs.Answer.{memory_line}
+use Rattle.outside.specs.declared.status.Status.{Status}
+use Rattle.outside.specs.declared.status.Status.TheVariants.{Memory}
 use Rattle.outside.specs.Events.{HostState}
 use Rattle.outside.specs.Pieces.{Tells}
 use Rattle.outside.specs.Begun.{Did}

@@ -6,13 +6,13 @@ use Rattle.tl_schema.specs.CheckedPrograms.{IsSchema}
 use Rattle.tl_schema.specs.Schemas.{Declared}
 use Rattle.wire_profile.specs.Faults.{FaultView, IsAnswer}
 use Rattle.wire_profile.specs.Places.{ProfileView}
-use Rattle.command_base.specs.Answer.{refused, read_fault_line}
-use Rattle.command_base.specs.Jobs.{of_fault}
-use Rattle.command_base.specs.Loading.{Refuses}
-use Rattle.command_base.specs.declared.status.Status.{Status}
-use Rattle.command_base.specs.declared.status.Status.TheVariants.{ReadFault}
-use Rattle.command_base.specs.declared.stop.Unmade.{Unmade}
-use Rattle.command_base.specs.declared.stop.Unmade.TheVariants as unmade
+use Rattle.outside.specs.Answer.{refused, read_fault_line}
+use Rattle.outside.specs.Jobs.{of_fault}
+use Rattle.outside.specs.Loading.{Refuses}
+use Rattle.outside.specs.declared.status.Status.{Status}
+use Rattle.outside.specs.declared.status.Status.TheVariants.{ReadFault}
+use Rattle.outside.specs.declared.stop.Unmade.{Unmade}
+use Rattle.outside.specs.declared.stop.Unmade.TheVariants as unmade
 use Rattle.fault_lines.specs.Profiled.{TellsProfile, form_line}
 use Rattle.fault_lines.proofs.Profiled.{each_schema}
 use Rattle.schema_files.specs.Lines.{schema_line}

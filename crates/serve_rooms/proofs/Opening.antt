@@ -15,8 +15,8 @@ use Rattle.outside.specs.Steps.{StepOf, Calls}
 use Rattle.outside.proofs.Growing.{grew_none}
 use Rattle.session_commands.specs.Keep.{Starts, IsBadEntry, bad_entry_line}
 use Rattle.wire_profile.specs.Places.{ProfileView}
-use Rattle.command_base.specs.declared.status.Status.{Status}
-use Rattle.command_base.specs.declared.status.Status.TheVariants.{Refused}
+use Rattle.outside.specs.declared.status.Status.{Status}
+use Rattle.outside.specs.declared.status.Status.TheVariants.{Refused}
 use Rattle.serve_rooms.specs.Acts.{Act, Loading, rebuilds, unaccepted, unread, loaded, Agrees, IsKeeperFault, IsSure, KeeperGrew, KeptState, beside}
 use Rattle.serve_rooms.specs.Doing.{Last, BeginsKept, DidKept}
 use Rattle.serve_rooms.specs.Serve.{OpensAndServes, after_opening}

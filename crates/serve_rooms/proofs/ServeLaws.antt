@@ -10,9 +10,9 @@ use Rattle.box_events.specs.declared.requests.Numbered.{Numbered}
 use Rattle.box_server.specs.Servers.{ServerState, new_server, dated_at}
 use Rattle.wire_profile.specs.Places.{ProfileView}
 use Rattle.box_wire.specs.Kinds.{calls}
-use Rattle.command_base.specs.Answer.{link_fault_line, memory_line, read_fault_line, refused, write_fault_line}
-use Rattle.command_base.specs.declared.status.Status.{Status}
-use Rattle.command_base.specs.declared.status.Status.TheVariants as statuses
+use Rattle.outside.specs.Answer.{link_fault_line, memory_line, read_fault_line, refused, write_fault_line}
+use Rattle.outside.specs.declared.status.Status.{Status}
+use Rattle.outside.specs.declared.status.Status.TheVariants as statuses
 use Rattle.fault_lines.specs.Profiled.{form_line}
 use Rattle.schema_files.specs.Lines.{schema_line}
 use Rattle.schema_files.specs.declared.schema_text.TheConstants.{SCHEMA_BYTES}

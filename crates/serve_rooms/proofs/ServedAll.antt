@@ -8,10 +8,10 @@ use Rattle.tl_base.specs.declared.host.Out.TheVariants as outs
 use Rattle.box_server.specs.Servers.{ServerState}
 use Rattle.box_store.specs.declared.entry.Entry.{Entry}
 use Rattle.wire_profile.specs.Places.{ProfileView}
-use Rattle.command_base.specs.Answer.{Answer, link_fault_line, write_fault_line}
-use Rattle.command_base.specs.Kept.{Leaves}
-use Rattle.command_base.specs.declared.status.Status.{Status}
-use Rattle.command_base.specs.declared.status.Status.TheVariants as statuses
+use Rattle.outside.specs.Answer.{Answer, link_fault_line, write_fault_line}
+use Rattle.outside.specs.Kept.{Leaves}
+use Rattle.outside.specs.declared.status.Status.{Status}
+use Rattle.outside.specs.declared.status.Status.TheVariants as statuses
 use Rattle.outside.specs.Events.{Event, Outside, listened}
 use Rattle.outside.specs.Steps.{Turn, again, leave, Ends, Reaches, here, turn}
 use Rattle.outside.proofs.Causing.{told_status}

@@ -4,9 +4,9 @@ use Rattle.tl_base.specs.Outside.{View}
 use Rattle.tl_base.specs.declared.host.Slot.TheVariants as slots
 use Rattle.tl_schema.specs.Schemas.{Declared}
 use Rattle.box_server.specs.Servers.{new_server}
-use Rattle.command_base.specs.Answer.{Answer, read_fault_line, refused}
-use Rattle.command_base.specs.declared.status.Status.{Status}
-use Rattle.command_base.specs.declared.status.Status.TheVariants as statuses
+use Rattle.outside.specs.Answer.{Answer, read_fault_line, refused}
+use Rattle.outside.specs.declared.status.Status.{Status}
+use Rattle.outside.specs.declared.status.Status.TheVariants as statuses
 use Rattle.fault_lines.specs.Profiled as profiles
 use Rattle.fault_lines.specs.Profiled.{form_line}
 use Rattle.outside.specs.Events.{Event, Outside}

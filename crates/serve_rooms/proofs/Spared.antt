@@ -9,11 +9,11 @@ use Rattle.wire_profile.specs.Faults.{IsAnswer}
 use Rattle.wire_profile.specs.Places.{ProfileView}
 use Rattle.box_server.specs.Servers.{ServerState, new_server}
 use Rattle.box_store.specs.Keeping.{nothing_kept}
-use Rattle.command_base.specs.Answer.{refused}
-use Rattle.command_base.specs.Jobs.{of_fault}
-use Rattle.command_base.specs.Loading.{Refuses}
-use Rattle.command_base.specs.declared.status.Status.{Status}
-use Rattle.command_base.specs.declared.stop.Unmade.{Unmade}
+use Rattle.outside.specs.Answer.{refused}
+use Rattle.outside.specs.Jobs.{of_fault}
+use Rattle.outside.specs.Loading.{Refuses}
+use Rattle.outside.specs.declared.status.Status.{Status}
+use Rattle.outside.specs.declared.stop.Unmade.{Unmade}
 use Rattle.fault_lines.specs.Profiled.{TellsProfile, form_line}
 use Rattle.outside.specs.Events.{Event, HostState}
 use Rattle.outside.specs.Laws.{Happened, Throughout}

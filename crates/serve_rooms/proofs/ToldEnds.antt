@@ -1,10 +1,10 @@
 -- How the end of a session is told.
 use Rattle.std.proofs.Common.{◌≡◌, ℕ, List, [], Bool, true, false, Option, Some, None, Result, Ok, Err, Vec, Global, sym, ap, ◌∙◌, subst}
 use Rattle.tl_base.specs.declared.host.Out.TheVariants.{Output, Errors}
-use Rattle.command_base.specs.Answer.{link_fault_line, write_fault_line}
-use Rattle.command_base.specs.declared.status.Status.{Status}
-use Rattle.command_base.specs.declared.status.Status.TheVariants.{LinkFault, PeerFault, WriteFault}
-use Rattle.command_base.specs.declared.stop.Stop.TheVariants as stop
+use Rattle.outside.specs.Answer.{link_fault_line, write_fault_line}
+use Rattle.outside.specs.declared.status.Status.{Status}
+use Rattle.outside.specs.declared.status.Status.TheVariants.{LinkFault, PeerFault, WriteFault}
+use Rattle.outside.specs.declared.stop.Stop.TheVariants as stop
 use Rattle.outside.specs.Events.{HostState}
 use Rattle.outside.specs.Pieces.{Tells, Writes}
 use Rattle.outside.specs.Begun.{Did}

@@ -2,9 +2,9 @@
 use Rattle.std.specs.Prelude.{◌≡◌, List, [], ◌∷◌, ◌++◌, map, true, Option, Some, None}
 use Rattle.tl_base.specs.declared.host.Out.{Out}
 use Rattle.tl_base.specs.declared.host.Out.TheVariants.{Output, Errors, Link}
-use Rattle.command_base.specs.Answer.{memory_line}
-use Rattle.command_base.specs.declared.status.Status.{Status}
-use Rattle.command_base.specs.declared.status.Status.TheVariants.{Memory}
+use Rattle.outside.specs.Answer.{memory_line}
+use Rattle.outside.specs.declared.status.Status.{Status}
+use Rattle.outside.specs.declared.status.Status.TheVariants.{Memory}
 use Rattle.outside.specs.Events.{Event}
 use Rattle.outside.specs.Laws.{Throughout}
 use Rattle.outside.specs.Pieces.{Tells}

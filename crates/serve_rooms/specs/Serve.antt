@@ -5,9 +5,9 @@ use Rattle.tl_schema.specs.Schemas.{Declared}
 use Rattle.box_server.specs.Servers.{new_server}
 use Rattle.wire_profile.specs.Faults.{FaultView, IsAnswer}
 use Rattle.wire_profile.specs.Places.{ProfileView}
-use Rattle.command_base.specs.Answer.{refused}
-use Rattle.command_base.specs.declared.status.Status.{Status}
-use Rattle.command_base.specs.declared.status.Status.TheVariants.{Refused}
+use Rattle.outside.specs.Answer.{refused}
+use Rattle.outside.specs.declared.status.Status.{Status}
+use Rattle.outside.specs.declared.status.Status.TheVariants.{Refused}
 use Rattle.fault_lines.specs.Profiled.{form_line}
 use Rattle.schema_files.specs.Causes.{SchemaCause}
 use Rattle.schema_files.specs.Lines.{schema_line}

@@ -3,8 +3,8 @@
 use Rattle.std.specs.Prelude.{ℕ, ◌+◌, ltb, List, codes, Bool, true, false}
 use Rattle.box_server.specs.Servers.{ServerState, dated_at}
 use Rattle.wire_profile.specs.Places.{ProfileView}
-use Rattle.command_base.specs.Answer.{link_fault_line}
-use Rattle.command_base.specs.declared.status.Status.TheVariants.{LinkFault}
+use Rattle.outside.specs.Answer.{link_fault_line}
+use Rattle.outside.specs.declared.status.Status.TheVariants.{LinkFault}
 use Rattle.outside.specs.Events.{listened, accepted, told}
 use Rattle.outside.specs.Pieces.{Tells}
 use Rattle.outside.specs.Steps.{StepOf, Turn, again, leave, Calls, Ends, Then, Loops}

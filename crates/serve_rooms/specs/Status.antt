@@ -1,6 +1,6 @@
 -- The numbers of statuses over a keeper. This project's own.
 use Rattle.std.specs.Prelude.{ℕ}
-use Rattle.command_base.specs.Answer.{status_number}
+use Rattle.outside.specs.Answer.{status_number}
 use Rattle.serve_rooms.specs.declared.status.KeptStatus.{KeptStatus}
 use Rattle.serve_rooms.specs.declared.status.KeptStatus.TheVariants.{Run, KeepFault}
 

@@ -1,9 +1,9 @@
 -- How the end of a session is told. This project's own.
 use Rattle.std.specs.Prelude.{ℕ, List, Bool, true, false, Option, Some, None, Result, Ok, Err}
 use Rattle.tl_base.specs.declared.host.Out.TheVariants.{Output, Errors}
-use Rattle.command_base.specs.Answer.{link_fault_line, write_fault_line}
-use Rattle.command_base.specs.declared.status.Status.{Status}
-use Rattle.command_base.specs.declared.status.Status.TheVariants.{Done, LinkFault, PeerFault, WriteFault}
+use Rattle.outside.specs.Answer.{link_fault_line, write_fault_line}
+use Rattle.outside.specs.declared.status.Status.{Status}
+use Rattle.outside.specs.declared.status.Status.TheVariants.{Done, LinkFault, PeerFault, WriteFault}
 use Rattle.outside.specs.Pieces.{Tells, Writes}
 use Rattle.outside.specs.Steps.{Step, Ends, Then}
 use Rattle.session_commands.specs.Lines.{served_line}

@@ -11,7 +11,7 @@ use crate::answering::{Stopped, serve_link};
 use crate::status::{KeptRun, KeptStatus};
 use crate::telling::{Tally, tell_end};
 use box_store::{Keeper, Stored};
-use command_base::Status;
+use outside::Status;
 use outside::{Host, tell};
 use std::alloc::{AllocError, Global};
 use update_sessions::SessionFault;

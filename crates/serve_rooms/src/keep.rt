@@ -1,6 +1,6 @@
 //! `keep`: sessions at an address from the server that a keeper's entries rebuild.
 ghost use Rattle.std.specs.Prelude.{◌≡◌, option_map};
-ghost use Rattle.command_base.specs.declared.status.Status.TheVariants.{Refused};
+ghost use Rattle.outside.specs.declared.status.Status.TheVariants.{Refused};
 ghost use Rattle.outside.specs.Pieces.{Tells};
 ghost use Rattle.outside.specs.Runs.{answered};
 ghost use Rattle.outside.specs.Begun.{Did};
@@ -15,7 +15,7 @@ use crate::loading::{Loaded, load_schema};
 use crate::sessions::serve_all;
 use crate::status::{KeptRun, KeptStatus};
 use box_store::{Keeper, OpenFault, Stored};
-use command_base::{Status, placed_line};
+use outside::{Status, placed_line};
 use fault_lines::profile_of;
 use outside::{Host, print_made, tell};
 use std::alloc::{AllocError, Global};

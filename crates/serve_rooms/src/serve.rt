@@ -14,7 +14,7 @@ use crate::sessions::serve_all;
 use crate::status::KeptStatus;
 use box_server::Server;
 use box_store::Stored;
-use command_base::Status;
+use outside::Status;
 use fault_lines::profile_of;
 use outside::{Host, finish, print_made};
 use std::alloc::{AllocError, Global};

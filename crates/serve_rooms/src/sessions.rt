@@ -9,7 +9,7 @@ use crate::connection::serve_next;
 use crate::status::{KeptRun, KeptStatus};
 use crate::telling::Tally;
 use box_store::{Keeper, Stored};
-use command_base::Status;
+use outside::Status;
 use outside::{Host, tell};
 use std::alloc::Global;
 use wire_profile::Profile;

@@ -3,7 +3,7 @@ ghost use Rattle.std.specs.Prelude.{◌≡◌};
 ghost use Rattle.serve_rooms.specs.Status.{kept_number};
 
 use box_store::Keeper;
-use command_base::Status;
+use outside::Status;
 use std::alloc::AllocError;
 
 /// The status of a run whose posts are kept.

@@ -23,10 +23,10 @@ use Rattle.server_frames.proofs.Lengths.{has_size}
 use Rattle.server_frames.proofs.Multiples.{is_whole, whole}
 use Rattle.server_frames.proofs.SpelledMessages.{read_of}
 use Rattle.update_sessions.specs.Packed.{MeansCall}
-use Rattle.command_base.specs.Jobs.{RefusedBy}
-use Rattle.command_base.specs.Loading.{Refuses, RefusesAs}
-use Rattle.command_base.specs.declared.stop.Unmade.{Unmade}
-use Rattle.command_base.proofs.Loaded.{memory_refuses, refuses_as}
+use Rattle.outside.specs.Jobs.{RefusedBy}
+use Rattle.outside.specs.Loading.{Refuses, RefusesAs}
+use Rattle.outside.specs.declared.stop.Unmade.{Unmade}
+use Rattle.outside.proofs.Loaded.{memory_refuses, refuses_as}
 use Rattle.fault_lines.specs.Messages.{wire_line}
 use Rattle.session_commands.specs.Lines.{long_call_line}
 use Rattle.session_commands.specs.declared.sending.Sending.{Sending}

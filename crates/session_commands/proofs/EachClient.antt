@@ -50,8 +50,8 @@ use Rattle.update_sessions.specs.Packed.{MeansFrame, Packed, SpellsCall}
 use Rattle.update_sessions.specs.Receiving.{ComesFirst, RefusedPacket}
 use Rattle.update_sessions.proofs.Exchanging.{exchanged_none, exchanged_one, exchanged_then}
 use Rattle.update_sessions.proofs.HonestFrames.{honestly}
-use Rattle.command_base.specs.Answer.{Answer, refused}
-use Rattle.command_base.proofs.SameFiles.{file_bytes}
+use Rattle.outside.specs.Answer.{Answer, refused}
+use Rattle.outside.proofs.SameFiles.{file_bytes}
 use Rattle.fault_lines.specs.Answers.{answer_line}
 use Rattle.fault_lines.specs.Messages.{wire_line}
 use Rattle.fault_lines.proofs.Profiled.{each_profiled}

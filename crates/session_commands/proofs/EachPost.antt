@@ -43,8 +43,8 @@ use Rattle.box_wire.proofs.CallLaws.{call_laws}
 use Rattle.box_wire.proofs.Exactly.{KindLaws}
 use Rattle.box_wire.proofs.FrameLaws.{frame_formed, frame_laws}
 use Rattle.update_sessions.specs.Heard.{NoFrame}
-use Rattle.command_base.specs.Answer.{Answer}
-use Rattle.command_base.proofs.SameFiles.{file_bytes}
+use Rattle.outside.specs.Answer.{Answer}
+use Rattle.outside.proofs.SameFiles.{file_bytes}
 use Rattle.schema_files.specs.Causes.{JsonCause, TooLong, NoJson, Unformed, Misfit}
 use Rattle.schema_files.specs.JsonInput.{IsJson, JsonRefused}
 use Rattle.schema_files.specs.declared.json_input.TheConstants.{JSON_BYTES}

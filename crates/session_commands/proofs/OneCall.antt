@@ -18,8 +18,8 @@ use Rattle.box_wire.specs.Framing.{WireRefused}
 use Rattle.box_wire.proofs.Exactly as exactly
 use Rattle.box_wire.proofs.CallLaws.{call_laws}
 use Rattle.update_sessions.specs.Packed.{MeansCall}
-use Rattle.command_base.specs.Answer.{Answer, refused}
-use Rattle.command_base.proofs.SameFiles.{same_file}
+use Rattle.outside.specs.Answer.{Answer, refused}
+use Rattle.outside.proofs.SameFiles.{same_file}
 use Rattle.schema_files.specs.Causes.{JsonCause}
 use Rattle.schema_files.specs.Lines.{json_line}
 use Rattle.fault_lines.specs.Messages.{wire_line}

@@ -2,7 +2,7 @@
 use Rattle.std.proofs.Common.{◌≡◌, ℕ, List}
 use Rattle.tl_numbers.specs.Bytes.{AreBytes}
 use Rattle.tl_base.specs.Contents.{Files}
-use Rattle.command_base.specs.Answer.{Answer}
+use Rattle.outside.specs.Answer.{Answer}
 use Rattle.fault_lines.proofs.Profiled.{one_profiled}
 use Rattle.session_commands.specs.Post.{OfInput, PostAnswer}
 use Rattle.session_commands.proofs.OneCall.{one_input}

@@ -5,8 +5,8 @@ use Rattle.tl_base.specs.Contents.{Files, HoldBytes}
 use Rattle.box_client.specs.States.{ClientState}
 use Rattle.wire_profile.specs.Places.{ProfileView}
 use Rattle.wire_profile.specs.Profiles.{IsProfile}
-use Rattle.command_base.specs.Answer.{Answer, refused}
-use Rattle.command_base.proofs.SameFiles.{file_bytes, same_file}
+use Rattle.outside.specs.Answer.{Answer, refused}
+use Rattle.outside.proofs.SameFiles.{file_bytes, same_file}
 use Rattle.fault_lines.proofs.Profiled.{one_profiled}
 use Rattle.session_commands.specs.Client.{OfSession, OfState, no_client, too_many, watches, OfStateFile, ClientHasOneAnswer, watch_all}
 use Rattle.session_commands.proofs.OneState.{never_client, one_client, one_state_line}

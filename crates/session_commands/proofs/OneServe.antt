@@ -5,7 +5,7 @@ use Rattle.tl_base.specs.Contents.{Files}
 use Rattle.box_server.specs.Servers.{ServerState, new_server}
 use Rattle.wire_profile.specs.Places.{ProfileView}
 use Rattle.wire_profile.specs.Profiles.{IsProfile}
-use Rattle.command_base.specs.Answer.{Answer}
+use Rattle.outside.specs.Answer.{Answer}
 use Rattle.fault_lines.proofs.Profiled.{one_profiled}
 use Rattle.session_commands.specs.Serve.{IsWhole, OfSessions, ServeAnswer, total_answer}
 use Rattle.session_commands.proofs.OneTotal.{one_total}

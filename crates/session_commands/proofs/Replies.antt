@@ -23,9 +23,9 @@ use Rattle.wire_profile.proofs.ProfileFacts.{is_member}
 use Rattle.box_wire.specs.Kinds.{frames}
 use Rattle.box_wire.specs.Framing.{SpellsWhole, WireRefused}
 use Rattle.update_sessions.specs.Packed.{MeansFrame}
-use Rattle.command_base.specs.Loading.{PeerAs, PeerBy}
-use Rattle.command_base.specs.declared.stop.Stop.{Stop}
-use Rattle.command_base.specs.declared.stop.Stop.TheVariants as stop
+use Rattle.outside.specs.Loading.{PeerAs, PeerBy}
+use Rattle.outside.specs.declared.stop.Stop.{Stop}
+use Rattle.outside.specs.declared.stop.Stop.TheVariants as stop
 use Rattle.schema_files.specs.Lines.{line_text}
 use Rattle.fault_lines.specs.Messages.{wire_line}
 use Rattle.session_commands.specs.Lines.{wrong_reply_line}

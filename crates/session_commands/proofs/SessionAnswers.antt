@@ -12,8 +12,8 @@ use Rattle.box_wire.specs.Kinds.{saved_clients}
 use Rattle.box_wire.specs.Framing.{Framed}
 use Rattle.update_sessions.specs.declared.fault.SessionFault.{SessionFault}
 use Rattle.update_sessions.specs.declared.fault.SessionFault.TheVariants as session
-use Rattle.command_base.specs.Answer.{Answer}
-use Rattle.command_base.specs.declared.status.Status.TheVariants as status
+use Rattle.outside.specs.Answer.{Answer}
+use Rattle.outside.specs.declared.status.Status.TheVariants as status
 use Rattle.session_commands.specs.Client.{OfSession, failed, recovered, client_line}
 use Rattle.session_commands.specs.Linked.{over_link, saves_after}
 use Rattle.session_commands.specs.SessionEnds.{IsShort, session_line}

@@ -13,10 +13,10 @@ use Rattle.wire_checks.specs.declared.fault.WireFault.TheVariants as wire
 use Rattle.wire_profile.specs.Places.{ProfileView}
 use Rattle.box_wire.specs.Framing.{WireRefused}
 use Rattle.box_wire.specs.Kinds.{saved_clients}
-use Rattle.command_base.specs.Jobs.{RefusedBy}
-use Rattle.command_base.specs.Loading.{Gives, Refuses}
-use Rattle.command_base.specs.declared.stop.Unmade.{Unmade}
-use Rattle.command_base.proofs.Loaded.{memory_refuses, refuses_as}
+use Rattle.outside.specs.Jobs.{RefusedBy}
+use Rattle.outside.specs.Loading.{Gives, Refuses}
+use Rattle.outside.specs.declared.stop.Unmade.{Unmade}
+use Rattle.outside.proofs.Loaded.{memory_refuses, refuses_as}
 use Rattle.fault_lines.specs.Messages.{wire_line}
 use Rattle.session_commands.specs.Client.{HasClient, loads, TellsNoClient, no_saved, not_loaded}
 use Rattle.session_commands.specs.inner.Recovering.{ReadsSaved, TellsNoSaved, LoadsClient, TellsNotLoaded}

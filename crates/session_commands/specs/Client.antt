@@ -24,9 +24,9 @@ use Rattle.box_wire.specs.Framing.{Framed, Means, WireRefused}
 use Rattle.report_lines.specs.Texts.{client_positions}
 use Rattle.update_sessions.specs.Honest.{HearsHonestly}
 use Rattle.update_sessions.specs.declared.fault.SessionFault.{SessionFault}
-use Rattle.command_base.specs.Answer.{Answer, refused, unplaced_line}
-use Rattle.command_base.specs.Jobs.{Job}
-use Rattle.command_base.specs.declared.status.Status.TheVariants.{PeerFault}
+use Rattle.outside.specs.Answer.{Answer, refused, unplaced_line}
+use Rattle.outside.specs.Jobs.{Job}
+use Rattle.outside.specs.declared.status.Status.TheVariants.{PeerFault}
 use Rattle.fault_lines.specs.Messages.{wire_line}
 use Rattle.fault_lines.specs.Profiled.{OfProfileFile}
 use Rattle.fault_lines.specs.SavedClients.{load_line}

@@ -10,8 +10,8 @@ use Rattle.box_store.specs.Storing.{Tells}
 use Rattle.wire_profile.specs.Places.{ProfileView}
 use Rattle.update_sessions.specs.declared.fault.TheConstants.{MAX_FRAMES}
 use Rattle.update_sessions.specs.Kept.{RoomFor}
-use Rattle.command_base.specs.Answer.{placed_line, refused}
-use Rattle.command_base.specs.Jobs.{Job}
+use Rattle.outside.specs.Answer.{placed_line, refused}
+use Rattle.outside.specs.Jobs.{Job}
 use Rattle.fault_lines.specs.Profiled.{HasProfile}
 use Rattle.session_commands.specs.Serve.{IsAny, IsWhole, OfSessions, Sessions, SessionsAnswer, Total, serving_job}
 

@@ -2,7 +2,7 @@
 use Rattle.std.specs.Prelude.{ℕ, List, ◌++◌, Option, Some, None, codes, decimal}
 use Rattle.tl_base.specs.declared.packet.PacketFault.{PacketFault}
 use Rattle.tl_base.specs.declared.packet.PacketFault.TheVariants as packet
-use Rattle.command_base.specs.Answer.{unplaced_line}
+use Rattle.outside.specs.Answer.{unplaced_line}
 use Rattle.fault_lines.specs.Packets.{length_line, ended_line}
 
 -- of bytes that begin with no packet; a failed read and out of memory have none

@@ -1,10 +1,10 @@
 -- What a command over a link answers, and what it leaves. This project's own.
 use Rattle.std.specs.Prelude.{◌≡◌, ◌⊎◌, ℕ, ◌+◌, List, [], ◌∷◌, ◌++◌, get_or, Option, Some, None}
 use Rattle.tl_base.specs.Outside.{View}
-use Rattle.command_base.specs.declared.status.Status.{Status}
-use Rattle.command_base.specs.declared.status.Status.TheVariants.{Done, LinkFault}
-use Rattle.command_base.specs.Answer.{Answer, printed, link_fault_line}
-use Rattle.command_base.specs.Jobs.{Job}
+use Rattle.outside.specs.declared.status.Status.{Status}
+use Rattle.outside.specs.declared.status.Status.TheVariants.{Done, LinkFault}
+use Rattle.outside.specs.Answer.{Answer, printed, link_fault_line}
+use Rattle.outside.specs.Jobs.{Job}
 
 -- ---- answers
 

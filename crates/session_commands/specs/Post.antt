@@ -20,10 +20,10 @@ use Rattle.box_wire.specs.Kinds.{calls, frames}
 use Rattle.box_wire.specs.Framing.{SpellsWhole, WireRefused}
 use Rattle.update_sessions.specs.Packed.{MeansCall, MeansFrame}
 use Rattle.update_sessions.specs.Heard.{NoFrame}
-use Rattle.command_base.specs.Answer.{Answer, refused}
-use Rattle.command_base.specs.Jobs.{Job}
-use Rattle.command_base.specs.Kept.{LeavesInput}
-use Rattle.command_base.specs.declared.status.Status.TheVariants.{Done, PeerFault}
+use Rattle.outside.specs.Answer.{Answer, refused}
+use Rattle.outside.specs.Jobs.{Job}
+use Rattle.outside.specs.Kept.{LeavesInput}
+use Rattle.outside.specs.declared.status.Status.TheVariants.{Done, PeerFault}
 use Rattle.schema_files.specs.Causes.{JsonCause}
 use Rattle.schema_files.specs.JsonInput.{IsJsonOf, JsonRefused}
 use Rattle.schema_files.specs.Lines.{json_line, line_text}

@@ -12,10 +12,10 @@ use Rattle.update_sessions.specs.declared.fault.SessionFault.{SessionFault}
 use Rattle.update_sessions.specs.declared.fault.SessionFault.TheVariants as fault
 use Rattle.update_sessions.specs.Kept.{kept_in}
 use Rattle.update_sessions.specs.Served.{Serves}
-use Rattle.command_base.specs.Answer.{Answer, link_fault_line}
-use Rattle.command_base.specs.Jobs.{Job}
-use Rattle.command_base.specs.declared.status.Status.{Status}
-use Rattle.command_base.specs.declared.status.Status.TheVariants.{Done, PeerFault, LinkFault}
+use Rattle.outside.specs.Answer.{Answer, link_fault_line}
+use Rattle.outside.specs.Jobs.{Job}
+use Rattle.outside.specs.declared.status.Status.{Status}
+use Rattle.outside.specs.declared.status.Status.TheVariants.{Done, PeerFault, LinkFault}
 use Rattle.fault_lines.specs.Profiled.{OfProfileFile, HasProfile}
 use Rattle.session_commands.specs.Linked.{LeavesLinks}
 use Rattle.session_commands.specs.Lines.{served_line}

@@ -5,7 +5,7 @@ ghost use Rattle.session_commands.specs.inner.Recovering.{Watches};
 
 use box_client::Client;
 use channel_box::WatchFault;
-use command_base::Unmade;
+use outside::Unmade;
 use std::alloc::Global;
 
 /// Watches channels in order. One that is watched already stays as it is.

@@ -2,9 +2,9 @@
 ghost use Rattle.session_commands.specs.Post.{IsWordLong};
 ghost use Rattle.session_commands.specs.SessionEnds.{IsShort, PeerWith, TellsSession, many_frames_line};
 ghost use Rattle.session_commands.specs.Lines.{packet_line};
-ghost use Rattle.command_base.specs.Loading.{PeerAs};
+ghost use Rattle.outside.specs.Loading.{PeerAs};
 
-use command_base::{Stop, unplaced_line};
+use outside::{Stop, unplaced_line};
 use fault_lines::{answer_line, packet_stop, wire_line};
 use std::alloc::Global;
 use tl_base::PacketFault;

@@ -16,11 +16,11 @@ ghost use Rattle.schema_files.specs.Lines.{line_text};
 ghost use Rattle.session_commands.specs.Post.{IsReplyTo};
 ghost use Rattle.session_commands.specs.Lines.{wrong_reply_line};
 ghost use Rattle.session_commands.specs.inner.Posting.{GivesLine, TellsNoFrame};
-ghost use Rattle.command_base.specs.Loading.{PeerAs};
+ghost use Rattle.outside.specs.Loading.{PeerAs};
 
 use box_events::Frame;
 use box_wire::read_frame;
-use command_base::{Stop, unplaced_line};
+use outside::{Stop, unplaced_line};
 use fault_lines::wire_line;
 use schema_files::value_line;
 use std::alloc::{AllocError, Global};

@@ -1,7 +1,7 @@
 //! The call that an input's value is, as the bytes that are sent.
 ghost use Rattle.std.specs.Prelude.{List, ℕ};
 ghost use Rattle.tl_numbers.specs.Bytes.{AreBytes};
-ghost use Rattle.command_base.specs.Loading.{RefusesAs};
+ghost use Rattle.outside.specs.Loading.{RefusesAs};
 ghost use Rattle.tl_schema.specs.Types.{call};
 ghost use Rattle.tl_types.specs.Seen.{view};
 ghost use Rattle.tl_types.specs.Spelling.{Spells};
@@ -10,7 +10,7 @@ ghost use Rattle.session_commands.specs.inner.Posting.{NumbersCall, Sends};
 
 use box_events::MAX_FRAME_BYTES;
 use box_wire::{SpellFault, read_call};
-use command_base::Unmade;
+use outside::Unmade;
 use fault_lines::{spell_line, wire_line};
 use std::alloc::Global;
 use tl_base::Bytes;

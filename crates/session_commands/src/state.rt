@@ -2,14 +2,14 @@
 ghost use Rattle.std.specs.Prelude.{◌≤◌, IfOk};
 ghost use Rattle.box_client.specs.Ranges.{IsSavedInRange};
 ghost use Rattle.wire_profile.specs.Profiles.{IsProfile};
-ghost use Rattle.command_base.specs.Loading.{Gives};
+ghost use Rattle.outside.specs.Loading.{Gives};
 ghost use Rattle.session_commands.specs.Client.{HasClient, TellsNoClient};
 ghost use Rattle.session_commands.specs.inner.Recovering.{LoadsClient, ReadsSaved};
 
 use box_client::Client;
 use box_events::Saved;
 use box_wire::read_saved;
-use command_base::Unmade;
+use outside::Unmade;
 use fault_lines::{load_line, wire_line};
 use std::alloc::Global;
 use wire_profile::Profile;

@@ -14,9 +14,9 @@ use Rattle.box_wire.specs.Kinds.{frames}
 use Rattle.fault_lines.specs.Answers.{answer_line}
 use Rattle.box_client.specs.Asking.{ticks, wakes, is_one_asking}
 use Rattle.wire_profile.specs.Places.{ProfileView}
-use Rattle.command_base.specs.Answer.{done, link_fault_line, memory_line, refused, write_fault_line}
-use Rattle.command_base.specs.declared.status.Status.{Status}
-use Rattle.command_base.specs.declared.status.Status.TheVariants.{LinkFault, Memory, PeerFault, ReadFault, WriteFault}
+use Rattle.outside.specs.Answer.{done, link_fault_line, memory_line, refused, write_fault_line}
+use Rattle.outside.specs.declared.status.Status.{Status}
+use Rattle.outside.specs.declared.status.Status.TheVariants.{LinkFault, Memory, PeerFault, ReadFault, WriteFault}
 use Rattle.outside.specs.Events.{Event, connected, created}
 use Rattle.outside.specs.Laws.{Throughout, Keeps, Happened, IsFailure, IsFromLink, Explains, HasCause}
 use Rattle.outside.specs.Packets.{PacketView, whole, TakesPacket}

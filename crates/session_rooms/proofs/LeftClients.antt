@@ -3,10 +3,10 @@ use Rattle.std.proofs.Common.{◌≡◌, ℕ, List, [], true, false, Option, Som
 use Rattle.tl_base.specs.declared.host.Out.TheVariants as outs
 use Rattle.box_client.specs.States.{ClientState}
 use Rattle.wire_profile.specs.Places.{ProfileView}
-use Rattle.command_base.specs.Answer.{done, link_fault_line, memory_line, write_fault_line}
-use Rattle.command_base.specs.declared.status.Status.{Status}
-use Rattle.command_base.specs.declared.status.Status.TheVariants.{LinkFault, Memory, PeerFault, WriteFault}
-use Rattle.command_base.specs.declared.stop.Stop.TheVariants as stop
+use Rattle.outside.specs.Answer.{done, link_fault_line, memory_line, write_fault_line}
+use Rattle.outside.specs.declared.status.Status.{Status}
+use Rattle.outside.specs.declared.status.Status.TheVariants.{LinkFault, Memory, PeerFault, WriteFault}
+use Rattle.outside.specs.declared.stop.Stop.TheVariants as stop
 use Rattle.outside.specs.Events.{HostState, created}
 use Rattle.outside.specs.Pieces.{Tells, Writes}
 use Rattle.outside.specs.Printing.{Prints}

@@ -5,9 +5,9 @@ use Rattle.tl_base.specs.Calls.{link_taken, with_name}
 use Rattle.tl_base.specs.Outside.{View, Left, last_or, with_last, written_of, with_written}
 use Rattle.tl_base.specs.declared.host.Out.{Out}
 use Rattle.tl_base.specs.declared.host.Out.TheVariants as outs
-use Rattle.command_base.specs.Answer.{Answer, printed, done}
-use Rattle.command_base.specs.Kept.{Leaves, address_after, name_after, bytes_after}
-use Rattle.command_base.specs.declared.status.Status.{Status}
+use Rattle.outside.specs.Answer.{Answer, printed, done}
+use Rattle.outside.specs.Kept.{Leaves, address_after, name_after, bytes_after}
+use Rattle.outside.specs.declared.status.Status.{Status}
 use Rattle.outside.specs.Events.{Event, Outside, opened, took, ended, read_failed, created, put, write_failed, listened, connected, accepted, told}
 use Rattle.outside.specs.Laws.{Throughout}
 use Rattle.outside.specs.Fits.{Happens, Fits}

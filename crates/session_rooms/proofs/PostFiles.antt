@@ -15,10 +15,10 @@ use Rattle.tl_base.specs.declared.host.Slot.TheVariants as slots
 use Rattle.tl_schema.specs.Schemas.{Declared}
 use Rattle.tl_schema.specs.Types.{call}
 use Rattle.wire_profile.specs.Places.{ProfileView}
-use Rattle.command_base.specs.Answer.{Answer, done, link_fault_line, printed, refused, write_fault_line}
-use Rattle.command_base.specs.Jobs.{GivesOutput}
-use Rattle.command_base.specs.declared.status.Status.{Status}
-use Rattle.command_base.specs.declared.status.Status.TheVariants.{Done, LinkFault, PeerFault, ReadFault, Refused, WriteFault}
+use Rattle.outside.specs.Answer.{Answer, done, link_fault_line, printed, refused, write_fault_line}
+use Rattle.outside.specs.Jobs.{GivesOutput}
+use Rattle.outside.specs.declared.status.Status.{Status}
+use Rattle.outside.specs.declared.status.Status.TheVariants.{Done, LinkFault, PeerFault, ReadFault, Refused, WriteFault}
 use Rattle.outside.specs.Events.{Event, Outside, connected, put}
 use Rattle.outside.specs.Packets.{PacketView, whole, TakesPacket}
 use Rattle.outside.specs.Packets as packets

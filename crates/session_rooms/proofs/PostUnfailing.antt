@@ -14,10 +14,10 @@ use Rattle.tl_schema.specs.Schemas.{Declared}
 use Rattle.tl_types.proofs.Numbers.{begins_word}
 use Rattle.wire_profile.specs.Places.{ProfileView}
 use Rattle.wire_profile.specs.Profiles.{IsProfile}
-use Rattle.command_base.specs.Answer.{Answer, done, refused}
-use Rattle.command_base.specs.Sound.{HasRoomFor}
-use Rattle.command_base.specs.declared.status.Status.{Status}
-use Rattle.command_base.specs.declared.status.Status.TheVariants.{Done, PeerFault, Refused}
+use Rattle.outside.specs.Answer.{Answer, done, refused}
+use Rattle.outside.specs.Sound.{HasRoomFor}
+use Rattle.outside.specs.declared.status.Status.{Status}
+use Rattle.outside.specs.declared.status.Status.TheVariants.{Done, PeerFault, Refused}
 use Rattle.outside.specs.Events.{Event, Outside, opened, took, ended, read_failed, created, put, write_failed, listened, connected, accepted, told}
 use Rattle.outside.specs.Laws.{Happened, IsFailure, Throughout}
 use Rattle.outside.specs.Packets.{PacketView, whole, TakesPacket}

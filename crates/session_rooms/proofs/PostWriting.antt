@@ -13,10 +13,10 @@ use Rattle.tl_schema.specs.CheckedPrograms.{IsSchema}
 use Rattle.tl_schema.specs.Schemas.{Declared}
 use Rattle.wire_profile.specs.Places.{ProfileView}
 use Rattle.wire_profile.specs.Profiles.{IsProfile}
-use Rattle.command_base.specs.Answer.{Answer, done, link_fault_line, refused, write_fault_line}
-use Rattle.command_base.specs.Kept.{AddsPrefix}
-use Rattle.command_base.specs.declared.status.Status.{Status}
-use Rattle.command_base.specs.declared.status.Status.TheVariants.{LinkFault, PeerFault, ReadFault, WriteFault}
+use Rattle.outside.specs.Answer.{Answer, done, link_fault_line, refused, write_fault_line}
+use Rattle.outside.specs.Kept.{AddsPrefix}
+use Rattle.outside.specs.declared.status.Status.{Status}
+use Rattle.outside.specs.declared.status.Status.TheVariants.{LinkFault, PeerFault, ReadFault, WriteFault}
 use Rattle.outside.specs.Begun.{WritesOnly, to_link}
 use Rattle.outside.specs.Events.{Event, Outside, opened, took, ended, read_failed, created, put, write_failed, listened, connected, accepted, told}
 use Rattle.outside.specs.Laws.{Throughout}

@@ -13,14 +13,14 @@ use Rattle.tl_types.specs.Spelling.{Spells}
 use Rattle.tl_types.specs.declared.value.Value.{Value}
 use Rattle.wire_profile.specs.Places.{ProfileView}
 use Rattle.wire_profile.specs.Profiles.{IsProfile}
-use Rattle.command_base.specs.Answer.{Answer, done, link_fault_line, refused}
-use Rattle.command_base.specs.Jobs.{of_fault}
-use Rattle.command_base.specs.Loading.{Refuses}
-use Rattle.command_base.specs.declared.status.Status.{Status}
-use Rattle.command_base.specs.declared.status.Status.TheVariants.{LinkFault, PeerFault}
-use Rattle.command_base.specs.declared.stop.Stop.TheVariants as stop
-use Rattle.command_base.specs.declared.stop.Unmade.{Unmade}
-use Rattle.command_base.proofs.Loaded.{refuses_as}
+use Rattle.outside.specs.Answer.{Answer, done, link_fault_line, refused}
+use Rattle.outside.specs.Jobs.{of_fault}
+use Rattle.outside.specs.Loading.{Refuses}
+use Rattle.outside.specs.declared.status.Status.{Status}
+use Rattle.outside.specs.declared.status.Status.TheVariants.{LinkFault, PeerFault}
+use Rattle.outside.specs.declared.stop.Stop.TheVariants as stop
+use Rattle.outside.specs.declared.stop.Unmade.{Unmade}
+use Rattle.outside.proofs.Loaded.{refuses_as}
 use Rattle.fault_lines.specs.Packets.{TellsPacket, ended_line, length_line}
 use Rattle.outside.specs.Events.{Event, HostState, connected, opened, put}
 use Rattle.outside.specs.Packets.{PacketView, whole, TakesPacket, packet_view}

@@ -6,13 +6,13 @@ use Rattle.tl_base.specs.declared.host.Slot.TheVariants as slots
 use Rattle.box_client.specs.States.{ClientState}
 use Rattle.wire_profile.specs.Places.{ProfileView}
 use Rattle.wire_profile.specs.Profiles.{IsProfile}
-use Rattle.command_base.specs.Answer.{link_fault_line, refused}
-use Rattle.command_base.specs.Jobs.{of_fault}
-use Rattle.command_base.specs.Loading.{Gives}
-use Rattle.command_base.specs.declared.status.Status.{Status}
-use Rattle.command_base.specs.declared.status.Status.TheVariants.{LinkFault}
-use Rattle.command_base.specs.declared.stop.Unmade.{Unmade}
-use Rattle.command_base.specs.declared.stop.Unmade.TheVariants as unmade
+use Rattle.outside.specs.Answer.{link_fault_line, refused}
+use Rattle.outside.specs.Jobs.{of_fault}
+use Rattle.outside.specs.Loading.{Gives}
+use Rattle.outside.specs.declared.status.Status.{Status}
+use Rattle.outside.specs.declared.status.Status.TheVariants.{LinkFault}
+use Rattle.outside.specs.declared.stop.Unmade.{Unmade}
+use Rattle.outside.specs.declared.stop.Unmade.TheVariants as unmade
 use Rattle.outside.specs.Events.{Event, HostState, connected, opened}
 use Rattle.outside.specs.Pieces.{ReadsFile, Takes, TakenView, full, short, broken, after_open, text_of}
 use Rattle.outside.specs.Printing.{Prints, PrintsMade}

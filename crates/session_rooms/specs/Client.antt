@@ -8,9 +8,9 @@ use Rattle.wire_profile.specs.Places.{ProfileView}
 use Rattle.wire_values.specs.SavedClients.{saved_tree}
 use Rattle.box_wire.specs.Kinds.{saved_clients}
 use Rattle.box_wire.specs.Framing.{Framed}
-use Rattle.command_base.specs.Answer.{done, refused, link_fault_line, memory_line, write_fault_line}
-use Rattle.command_base.specs.declared.status.Status.{Status}
-use Rattle.command_base.specs.declared.status.Status.TheVariants.{LinkFault, Memory, PeerFault, WriteFault}
+use Rattle.outside.specs.Answer.{done, refused, link_fault_line, memory_line, write_fault_line}
+use Rattle.outside.specs.declared.status.Status.{Status}
+use Rattle.outside.specs.declared.status.Status.TheVariants.{LinkFault, Memory, PeerFault, WriteFault}
 use Rattle.outside.specs.Events.{Event, created, connected}
 use Rattle.outside.specs.Pieces.{ReadsFile, Tells, Writes}
 use Rattle.outside.specs.Printing.{Prints, Unread}

@@ -2,10 +2,10 @@
 use Rattle.std.specs.Prelude.{◌≡◌, ◌≢◌, ℕ, ℤ, List, ◌++◌}
 use Rattle.tl_base.specs.Outside.{written_of}
 use Rattle.tl_base.specs.declared.host.Out.TheVariants.{Output}
-use Rattle.command_base.specs.Answer.{Answer}
-use Rattle.command_base.specs.Kept.{Leaves}
-use Rattle.command_base.specs.declared.status.Status.{Status}
-use Rattle.command_base.specs.declared.status.Status.TheVariants.{LinkFault}
+use Rattle.outside.specs.Answer.{Answer}
+use Rattle.outside.specs.Kept.{Leaves}
+use Rattle.outside.specs.declared.status.Status.{Status}
+use Rattle.outside.specs.declared.status.Status.TheVariants.{LinkFault}
 use Rattle.outside.specs.Begun.{to_link}
 use Rattle.outside.specs.Events.{Event, Outside}
 use Rattle.outside.specs.Runs.{RunsIn}

@@ -13,9 +13,9 @@ use Rattle.wire_checks.specs.declared.fault.WireFault.{WireFault}
 use Rattle.wire_profile.specs.Places.{ProfileView}
 use Rattle.box_wire.specs.Kinds.{calls}
 use Rattle.box_wire.specs.Framing.{WireRefused}
-use Rattle.command_base.specs.Answer.{done, refused, link_fault_line}
-use Rattle.command_base.specs.declared.status.Status.{Status}
-use Rattle.command_base.specs.declared.status.Status.TheVariants.{LinkFault, PeerFault}
+use Rattle.outside.specs.Answer.{done, refused, link_fault_line}
+use Rattle.outside.specs.declared.status.Status.{Status}
+use Rattle.outside.specs.declared.status.Status.TheVariants.{LinkFault, PeerFault}
 use Rattle.fault_lines.specs.Messages.{wire_line}
 use Rattle.fault_lines.specs.Packets.{length_line, ended_line}
 use Rattle.outside.specs.Events.{Event, connected}

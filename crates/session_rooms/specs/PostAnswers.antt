@@ -3,11 +3,11 @@ use Rattle.std.specs.Prelude.{◌≡◌, ◌≢◌, ℕ, List, ◌++◌, length}
 use Rattle.tl_numbers.specs.Bytes.{AreBytes}
 use Rattle.tl_base.specs.Outside.{IsThere, HasRoom, written_of}
 use Rattle.tl_base.specs.declared.host.Out.TheVariants.{Errors}
-use Rattle.command_base.specs.Answer.{Answer}
-use Rattle.command_base.specs.Jobs.{GivesOutput}
-use Rattle.command_base.specs.Sound.{HasRoomFor}
-use Rattle.command_base.specs.declared.status.Status.{Status}
-use Rattle.command_base.specs.declared.status.Status.TheVariants.{LinkFault, Memory}
+use Rattle.outside.specs.Answer.{Answer}
+use Rattle.outside.specs.Jobs.{GivesOutput}
+use Rattle.outside.specs.Sound.{HasRoomFor}
+use Rattle.outside.specs.declared.status.Status.{Status}
+use Rattle.outside.specs.declared.status.Status.TheVariants.{LinkFault, Memory}
 use Rattle.outside.specs.Begun.{to_link}
 use Rattle.outside.specs.Events.{Event, Outside}
 use Rattle.outside.specs.Runs.{RunsIn}

@@ -12,7 +12,7 @@ ghost use Rattle.session_rooms.specs.inner.Ends.{MakesClient};
 use crate::conversing::converse;
 use crate::leaving::{leave_client, tell_session};
 use box_client::Client;
-use command_base::{Status, Unmade};
+use outside::{Status, Unmade};
 use fault_lines::profile_of;
 use outside::{Host, finish, print_made, read_file, tell};
 use schema_files::{SCHEMA_BYTES, schema_of};

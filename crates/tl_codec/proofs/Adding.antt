@@ -10,9 +10,9 @@ use Rattle.tl_schema.specs.AskedTypes.{IsTypeText}
 use Rattle.tl_schema.specs.Seen.{shape}
 use Rattle.tl_schema.specs.declared.schema.TypeRef.{TypeRef}
 use Rattle.tl_plan.specs.Plans.{AreFormed}
-use Rattle.command_base.specs.declared.stop.Unmade.{Unmade}
-use Rattle.command_base.specs.Loading.{Refuses}
-use Rattle.command_base.proofs.Loaded.{refuses_as, memory_refuses}
+use Rattle.outside.specs.declared.stop.Unmade.{Unmade}
+use Rattle.outside.specs.Loading.{Refuses}
+use Rattle.outside.proofs.Loaded.{refuses_as, memory_refuses}
 use Rattle.schema_files.specs.Parts.{TellsPlan, TellsType}
 use Rattle.tl_codec.specs.Typings.{Adds, IsPlannedType, TellsName}
 use Rattle.tl_codec.specs.inner.Names.{Pushes}

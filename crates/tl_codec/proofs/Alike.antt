@@ -4,8 +4,8 @@ use Rattle.tl_base.specs.Contents.{Files}
 use Rattle.tl_base.specs.Outside.{HasFile}
 use Rattle.tl_schema.specs.Types.{Shape}
 use Rattle.tl_schema.specs.Schemas.{Declared}
-use Rattle.command_base.specs.Answer.{Answer, done, refused}
-use Rattle.command_base.proofs.Loaded.{refuses_as}
+use Rattle.outside.specs.Answer.{Answer, done, refused}
+use Rattle.outside.proofs.Loaded.{refuses_as}
 use Rattle.schema_files.specs.Answering as answering
 use Rattle.schema_files.specs.Loaded.{IsSchemaText}
 use Rattle.schema_files.specs.Parts.{TellsJson, TellsSchema}

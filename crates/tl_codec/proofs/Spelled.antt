@@ -5,7 +5,7 @@ use Rattle.tl_schema.specs.Schemas.{Declared}
 use Rattle.tl_types.specs.Values.{ValueView, depth}
 use Rattle.tl_types.specs.Spelling.{Spells}
 use Rattle.tl_types.specs.declared.value.TheConstants.{MAX_LEVELS}
-use Rattle.command_base.specs.declared.stop.Unmade.TheVariants as unmade
+use Rattle.outside.specs.declared.stop.Unmade.TheVariants as unmade
 use Rattle.schema_files.specs.JsonInput.{IsForm}
 use Rattle.tl_codec.specs.Codings.{Encodes, Made}
 use Rattle.tl_codec.specs.inner.Spellings.{GivesEach}

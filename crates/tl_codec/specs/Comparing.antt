@@ -3,8 +3,8 @@ use Rattle.std.specs.Prelude.{◌≡◌, ℕ, List, codes, Ok, Err}
 use Rattle.tl_schema.specs.Types.{Shape}
 use Rattle.tl_schema.specs.Schemas.{Declared}
 use Rattle.tl_schema.specs.AskedTypes.{IsTypeText}
-use Rattle.command_base.specs.Answer.{Answer, done, refused}
-use Rattle.command_base.specs.Loading.{Refuses}
+use Rattle.outside.specs.Answer.{Answer, done, refused}
+use Rattle.outside.specs.Loading.{Refuses}
 use Rattle.schema_files.specs.Answering.{OfSchemaText}
 use Rattle.schema_files.specs.Causes.{TypeNameCause}
 use Rattle.schema_files.specs.Lines.{type_line}

@@ -4,7 +4,7 @@ use Rattle.tl_base.specs.Contents.{Files}
 use Rattle.tl_base.specs.Outside.{HasFile}
 use Rattle.tl_schema.specs.Types.{Shape}
 use Rattle.tl_schema.specs.Schemas.{Declared}
-use Rattle.command_base.specs.Answer.{Answer, done, refused}
+use Rattle.outside.specs.Answer.{Answer, done, refused}
 use Rattle.schema_files.specs.Loaded.{IsSchemaText}
 use Rattle.schema_files.specs.Parts.{TellsSchema}
 use Rattle.codec_commands.specs.Check.{CheckAnswer, listing}

@@ -3,8 +3,8 @@ use Rattle.std.specs.Prelude.{◌≡◌, ◌⊎◌, ℕ, List, [], ◌∷◌, �
 use Rattle.tl_schema.specs.Types.{Shape}
 use Rattle.tl_schema.specs.Schemas.{Declared}
 use Rattle.tl_schema.specs.AskedTypes.{IsTypeText}
-use Rattle.command_base.specs.declared.stop.Unmade.{Unmade}
-use Rattle.command_base.specs.Loading.{Refuses, Gives}
+use Rattle.outside.specs.declared.stop.Unmade.{Unmade}
+use Rattle.outside.specs.Loading.{Refuses, Gives}
 use Rattle.schema_files.specs.Loaded.{HasPlan, IsSchemaText}
 use Rattle.schema_files.specs.Parts.{TellsSchema, TellsType, TellsPlan}
 use Rattle.tl_codec.specs.Codings.{Made}

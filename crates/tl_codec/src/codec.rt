@@ -3,7 +3,7 @@ use crate::line::line_of;
 use crate::naming::{planned_type, push_type};
 use crate::spelling::bytes_of;
 use codec_commands::listing;
-use command_base::Unmade;
+use outside::Unmade;
 use schema_files::schema_of;
 use std::alloc::{AllocError, Global};
 use std::marker::Model;

@@ -1,7 +1,7 @@
 //! What is told of two schemas.
 ghost use Rattle.tl_codec.specs.Comparing.{MakesAnswer, OfTexts, OfTypeText};
 
-use command_base::Unmade;
+use outside::Unmade;
 use codec_commands::verdict_line;
 use schema_files::{schema_of, type_spelled};
 use std::alloc::Global;

@@ -5,7 +5,7 @@ ghost use Rattle.tl_show.specs.inner.Kept.{AreFormsOf};
 ghost use Rattle.tl_codec.specs.Codings.{Decodes};
 
 use crate::refusals::input_unmade;
-use command_base::Unmade;
+use outside::Unmade;
 use schema_files::line_by;
 use std::alloc::Global;
 use tl_decode::decode_bytes_as;

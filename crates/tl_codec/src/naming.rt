@@ -4,7 +4,7 @@ ghost use Rattle.tl_schema.specs.Formed.{IsFormed};
 ghost use Rattle.tl_schema.specs.Seen.{shape};
 ghost use Rattle.tl_codec.specs.inner.Names.{NamesPlanned, Pushes};
 
-use command_base::Unmade;
+use outside::Unmade;
 use schema_files::{plan_of, type_spelled};
 use std::alloc::Global;
 use tl_schema::{Schema, TypeRef};

@@ -8,7 +8,7 @@ ghost use Rattle.tl_types.specs.Spelling.{Spells};
 ghost use Rattle.tl_codec.specs.Codings.{Encodes};
 ghost use Rattle.tl_codec.specs.inner.Spellings.{GivesEach, SpellsAll};
 
-use command_base::Unmade;
+use outside::Unmade;
 use schema_files::{fit_unmade, form_by};
 use std::alloc::Global;
 use tl_encode::spell;

@@ -7,8 +7,8 @@ use Rattle.tl_codec.specs.Codings.{Made}
 use Rattle.tl_codec.specs.Typings.{Adds, Coder, OfType, Opens}
 use Rattle.tl_codec.specs.Comparing.{MakesAnswer, OfTexts}
 use Rattle.codec_commands.specs.Check.{listing}
-use Rattle.command_base.specs.declared.stop.Unmade.{Unmade}
-use Rattle.command_base.specs.declared.stop.Unmade.TheVariants as unmade
+use Rattle.outside.specs.declared.stop.Unmade.{Unmade}
+use Rattle.outside.specs.declared.stop.Unmade.TheVariants as unmade
 use Rattle.tlbox_c.specs.Telling.{Fills, HandsMade, Tells, TellsNumber}
 use Rattle.tlbox_c.specs.declared.held.Held.{Held}
 use Rattle.tlbox_c.specs.declared.telling.TheConstants.{CLOSED, DONE, MEMORY, NO_TYPE, REFUSED}

@@ -1,7 +1,7 @@
 -- What of what was made is told to C. This project's own.
 use Rattle.std.specs.Prelude.{◌≡◌, ℕ, ◌<◌, ◌≤◌, List, [], ◌++◌, length, drop, Result, Ok, Err}
-use Rattle.command_base.specs.declared.stop.Unmade.{Unmade}
-use Rattle.command_base.specs.declared.stop.Unmade.TheVariants as unmade
+use Rattle.outside.specs.declared.stop.Unmade.{Unmade}
+use Rattle.outside.specs.declared.stop.Unmade.TheVariants as unmade
 use Rattle.tl_codec.specs.Codings.{Made}
 use Rattle.tlbox_c.specs.declared.telling.TheConstants.{DONE, MEMORY, REFUSED}
 

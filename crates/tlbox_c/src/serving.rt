@@ -6,7 +6,7 @@ ghost use Rattle.tlbox_c.specs.Telling.{Fills};
 
 use crate::held::Held;
 use crate::telling::{DONE, MEMORY, NO_TYPE, REFUSED, copy_out, keep, keep_number};
-use command_base::Unmade;
+use outside::Unmade;
 use std::alloc::Global;
 use tl_codec::Codec;
 

@@ -2,7 +2,7 @@
 ghost use Rattle.std.specs.Prelude.{◌≡◌, length};
 ghost use Rattle.tlbox_c.specs.Telling.{Fills, HandsMade, Tells, TellsFault, TellsNumber};
 
-use command_base::Unmade;
+use outside::Unmade;
 use std::alloc::Global;
 
 /// The work is done.

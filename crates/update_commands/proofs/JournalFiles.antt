@@ -2,7 +2,7 @@
 use Rattle.std.proofs.Common.{◌≡◌, ℕ, ◌<◌, List, ◌++◌, length, length-append, Ok, Err, sym, ap, ◌∙◌, arith, lt-ltb}
 use Rattle.std.proofs.lemmas.List.{take-append-le}
 use Rattle.tl_base.specs.declared.host.Slot.TheVariants.{Input}
-use Rattle.command_base.proofs.Loaded.{StaysLong, refuses_as}
+use Rattle.outside.proofs.Loaded.{StaysLong, refuses_as}
 use Rattle.update_replay.specs.Replays.{goes_on, seen_of}
 use Rattle.update_replay.specs.declared.limits.TheConstants.{MAX_JOURNAL_BYTES}
 use Rattle.update_commands.specs.Replaying.{IsSeen, NoLine}

@@ -2,7 +2,7 @@
 use Rattle.std.proofs.Common.{◌≡◌, ℕ, List, [], Result, Ok, Err, refl, sym, ap, ◌∙◌}
 use Rattle.tl_base.specs.Contents.{Files}
 use Rattle.tl_base.specs.Outside.{HasFile}
-use Rattle.command_base.specs.Answer.{Answer, done, refused}
+use Rattle.outside.specs.Answer.{Answer, done, refused}
 use Rattle.fault_lines.proofs.Profiled.{each_profiled, one_profiled}
 use Rattle.update_replay.specs.MadeRuns.{MakesRun}
 use Rattle.update_replay.specs.declared.made_fault.MadeFault.{MadeFault}

@@ -5,7 +5,7 @@ use Rattle.box_events.specs.declared.steps.Step.{Step}
 use Rattle.wire_profile.specs.Places.{ProfileView}
 use Rattle.wire_profile.specs.Profiles.{IsProfile}
 use Rattle.wire_checks.specs.declared.fault.WireFault.{WireFault}
-use Rattle.command_base.specs.Answer.{Answer, refused_after}
+use Rattle.outside.specs.Answer.{Answer, refused_after}
 use Rattle.fault_lines.specs.Messages.{step_line}
 use Rattle.update_replay.specs.Endings.{Ending, whole, no_step, not_made, too_long}
 use Rattle.update_replay.specs.Replays.{Replayed, no_step_follows, one_too_many, not_possible, at_its_end, goes_on, seen_of}

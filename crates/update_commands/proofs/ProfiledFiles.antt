@@ -4,8 +4,8 @@ use Rattle.tl_base.specs.Contents.{Files, HoldBytes}
 use Rattle.tl_base.specs.Outside.{IsFile}
 use Rattle.wire_profile.specs.Places.{ProfileView}
 use Rattle.wire_profile.specs.Profiles.{IsProfile}
-use Rattle.command_base.specs.Answer.{Answer}
-use Rattle.command_base.proofs.SameFiles.{same_file, file_bytes}
+use Rattle.outside.specs.Answer.{Answer}
+use Rattle.outside.proofs.SameFiles.{same_file, file_bytes}
 use Rattle.fault_lines.proofs.Profiled.{each_profiled, one_profiled}
 use Rattle.update_replay.proofs.Windows.{seen_bytes}
 use Rattle.update_commands.specs.Replay.{OfJournal, OfJournalFile, ReplayAnswer, EachHasOneReplay}

@@ -1,7 +1,7 @@
 -- How the end of a replay is told.
 use Rattle.std.proofs.Common.{◌≡◌, ℕ, List, Some, Result, Ok, Err, option_map, sym, ap, ◌∙◌}
 use Rattle.box_events.specs.declared.steps.Step.{Step}
-use Rattle.command_base.specs.Answer.{refused_after}
+use Rattle.outside.specs.Answer.{refused_after}
 use Rattle.box_world.specs.Possible.{StepCause, no_client, no_packet, wrong_end, pool_full}
 use Rattle.update_replay.specs.Endings.{Ending, whole, no_step, not_made, too_long, answer_of, fault_of}
 use Rattle.update_replay.specs.declared.fault.ReplayFault.{ReplayFault}

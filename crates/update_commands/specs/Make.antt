@@ -3,11 +3,11 @@ use Rattle.std.specs.Prelude.{◌≡◌, ℕ, List, ◌++◌, Result, Ok, Err, V
 use Rattle.std.specs.declared.alloc.Global.{Global}
 use Rattle.tl_base.specs.Contents.{Files}
 use Rattle.tl_base.specs.Outside.{HasFile}
-use Rattle.command_base.specs.Answer.{Answer, done, placed_line, refused}
-use Rattle.command_base.specs.Jobs.{Job, unlinked_job}
-use Rattle.command_base.specs.Kept.{KeepsUnread}
-use Rattle.command_base.specs.Loading.{Refuses}
-use Rattle.command_base.specs.declared.stop.Unmade.{Unmade}
+use Rattle.outside.specs.Answer.{Answer, done, placed_line, refused}
+use Rattle.outside.specs.Jobs.{Job, unlinked_job}
+use Rattle.outside.specs.Kept.{KeepsUnread}
+use Rattle.outside.specs.Loading.{Refuses}
+use Rattle.outside.specs.declared.stop.Unmade.{Unmade}
 use Rattle.fault_lines.specs.Profiled.{OfProfileFile}
 use Rattle.update_replay.specs.MadeRuns.{MakesRun}
 use Rattle.update_replay.specs.declared.made_fault.MadeFault.TheVariants.{PoolFull}

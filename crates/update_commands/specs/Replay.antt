@@ -4,9 +4,9 @@ use Rattle.tl_base.specs.Contents.{Files, HoldBytes}
 use Rattle.tl_base.specs.Outside.{HasFile, IsFile}
 use Rattle.box_events.specs.declared.steps.Step.{Step}
 use Rattle.wire_profile.specs.Places.{ProfileView}
-use Rattle.command_base.specs.Answer.{Answer, done, refused_after, placed_line}
-use Rattle.command_base.specs.Jobs.{Job, unlinked_job}
-use Rattle.command_base.specs.Kept.{KeepsUnread}
+use Rattle.outside.specs.Answer.{Answer, done, refused_after, placed_line}
+use Rattle.outside.specs.Jobs.{Job, unlinked_job}
+use Rattle.outside.specs.Kept.{KeepsUnread}
 use Rattle.fault_lines.specs.Messages.{step_line}
 use Rattle.fault_lines.specs.Profiled.{HasProfile, OfProfileFile}
 use Rattle.update_replay.specs.Endings.{Ending, whole, no_step, not_made, too_long}

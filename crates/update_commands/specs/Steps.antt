@@ -1,7 +1,7 @@
 -- The lines of steps that aren't made in a world, at the offset where the step begins in its journal. Out of memory has none. This project's own.
 use Rattle.std.specs.Prelude.{ℕ, List, ◌++◌, Option, Some, None, option_map, codes, decimal}
 use Rattle.box_world.specs.Possible.{StepCause, no_client, no_packet, wrong_end, pool_full}
-use Rattle.command_base.specs.Answer.{placed_line}
+use Rattle.outside.specs.Answer.{placed_line}
 use Rattle.update_world.specs.declared.fault.StepFault.{StepFault}
 use Rattle.update_world.specs.declared.fault.StepFault.TheVariants as fault
 

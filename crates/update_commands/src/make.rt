@@ -1,10 +1,10 @@
 //! `make`: the summary of a run that is made of draws over a schema with the protocol.
 ghost use Rattle.std.specs.Prelude.{◌≤◌};
-ghost use Rattle.command_base.specs.Loading.{RefusesAs};
+ghost use Rattle.outside.specs.Loading.{RefusesAs};
 ghost use Rattle.update_commands.specs.Make.{TellsRun, full_line};
 ghost use Rattle.update_replay.specs.declared.making.TheConstants.{MAX_MADE_STEPS};
 
-use command_base::Unmade;
+use outside::Unmade;
 use std::alloc::Global;
 use update_replay::{MadeFault, made_run};
 use wire_profile::Profile;

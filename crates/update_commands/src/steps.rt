@@ -2,7 +2,7 @@
 ghost use Rattle.std.specs.Prelude.{◌≡◌, IfOk, Some, option_map, string_bytes};
 ghost use Rattle.update_commands.specs.Steps.{cause_of, cause_words, unmade_line};
 
-use command_base::placed_line;
+use outside::placed_line;
 use std::alloc::{AllocError, Global};
 use update_world::StepFault;
 

@@ -2,7 +2,7 @@
 use Rattle.std.proofs.Common.{codes, ℕ, List, [], refl, sym, subst, inl}
 use Rattle.tl_base.specs.declared.host.Slot.TheVariants.{Schema}
 use Rattle.tl_schema.specs.Schemas.{Declared}
-use Rattle.command_base.specs.Answer.{Answer, refused}
+use Rattle.outside.specs.Answer.{Answer, refused}
 use Rattle.fault_lines.specs.Profiled.{form_line}
 use Rattle.fault_lines.specs.Profiled as answer
 use Rattle.outside.specs.Laws.{Keeps, Explains, HasCause}

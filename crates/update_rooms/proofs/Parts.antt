@@ -2,9 +2,9 @@
 use Rattle.std.proofs.Common.{◌≡◌, ℕ, List, [], ◌∷◌, ◌++◌, length-append, map, Bool, true, false, Some, None, refl, sym, ap, ◌∙◌, subst, arith, inl}
 use Rattle.std.proofs.lemmas.List.{append-nil, append_assoc, map-append}
 use Rattle.tl_base.specs.declared.host.Out.TheVariants.{Output}
-use Rattle.command_base.specs.Answer.{Answer, done, refused_after, write_fault_line}
-use Rattle.command_base.specs.declared.status.Status.{Status}
-use Rattle.command_base.specs.declared.status.Status.TheVariants.{Refused, WriteFault}
+use Rattle.outside.specs.Answer.{Answer, done, refused_after, write_fault_line}
+use Rattle.outside.specs.declared.status.Status.{Status}
+use Rattle.outside.specs.declared.status.Status.TheVariants.{Refused, WriteFault}
 use Rattle.outside.specs.Events.{Event, HostState, put}
 use Rattle.outside.specs.Pieces.{InPieces, Tells, Writes, joined}
 use Rattle.outside.specs.Printing.{Prints, after_output}

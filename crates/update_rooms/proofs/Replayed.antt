@@ -9,9 +9,9 @@ use Rattle.tl_schema.specs.Schemas.{Declared}
 use Rattle.wire_profile.specs.Places.{ProfileView}
 use Rattle.wire_profile.specs.Profiles.{IsProfile}
 use Rattle.box_events.specs.declared.steps.Step.{Step}
-use Rattle.command_base.specs.Answer.{Answer, done, refused_after, read_fault_line, write_fault_line}
-use Rattle.command_base.specs.declared.status.Status.{Status}
-use Rattle.command_base.specs.declared.status.Status.TheVariants.{ReadFault, WriteFault}
+use Rattle.outside.specs.Answer.{Answer, done, refused_after, read_fault_line, write_fault_line}
+use Rattle.outside.specs.declared.status.Status.{Status}
+use Rattle.outside.specs.declared.status.Status.TheVariants.{ReadFault, WriteFault}
 use Rattle.outside.specs.Events.{Event, HostState, opened, put}
 use Rattle.outside.specs.Pieces.{ReadsFile, Takes, Tells, TakenView, Writes, after_open, full, short, broken, text_of}
 use Rattle.outside.specs.Printing.{Answers, Prints}

@@ -3,9 +3,9 @@ use Rattle.std.proofs.Common.{◌≡◌, codes, ℕ, List, [], ◌++◌, Option,
 use Rattle.tl_base.specs.Contents.{Files}
 use Rattle.tl_base.specs.declared.host.Slot.TheVariants.{Schema, Input}
 use Rattle.wire_profile.specs.Places.{ProfileView}
-use Rattle.command_base.specs.Answer.{Answer, refused_after}
-use Rattle.command_base.specs.declared.status.Status.{Status}
-use Rattle.command_base.specs.declared.status.Status.TheVariants.{ReadFault}
+use Rattle.outside.specs.Answer.{Answer, refused_after}
+use Rattle.outside.specs.declared.status.Status.{Status}
+use Rattle.outside.specs.declared.status.Status.TheVariants.{ReadFault}
 use Rattle.outside.specs.Events.{Event}
 use Rattle.outside.specs.Laws.{Keeps, Explains, HasCause}
 use Rattle.outside.specs.Pieces.{ReadsFile}

@@ -2,9 +2,9 @@
 use Rattle.std.proofs.Common.{ℕ, [], Result, Ok, Err, Vec, Global}
 use Rattle.tl_schema.specs.CheckedPrograms.{IsSchema}
 use Rattle.tl_schema.specs.Schemas.{Declared}
-use Rattle.command_base.specs.Answer.{refused}
-use Rattle.command_base.specs.Jobs.{making}
-use Rattle.command_base.specs.declared.stop.Unmade.{Unmade}
+use Rattle.outside.specs.Answer.{refused}
+use Rattle.outside.specs.Jobs.{making}
+use Rattle.outside.specs.declared.stop.Unmade.{Unmade}
 use Rattle.outside.specs.Printing.{Makes}
 use Rattle.outside.specs.Steps.{Begins}
 use Rattle.outside.proofs.Printed.{can_answer}

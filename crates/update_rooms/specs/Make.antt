@@ -1,7 +1,7 @@
 -- What `make` does. This project's own.
 use Rattle.std.specs.Prelude.{ℕ, List}
 use Rattle.wire_profile.specs.Places.{ProfileView}
-use Rattle.command_base.specs.declared.status.Status.{Status}
+use Rattle.outside.specs.declared.status.Status.{Status}
 use Rattle.outside.specs.Printing.{Answers}
 use Rattle.outside.specs.Steps.{Step}
 use Rattle.codec_rooms.specs.Typed.{OfCommand}

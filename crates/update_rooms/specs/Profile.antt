@@ -3,8 +3,8 @@ use Rattle.std.specs.Prelude.{List, Ok, Err}
 use Rattle.tl_schema.specs.Schemas.{Declared}
 use Rattle.wire_profile.specs.Faults.{FaultView, IsAnswer}
 use Rattle.wire_profile.specs.Places.{ProfileView}
-use Rattle.command_base.specs.Answer.{refused}
-use Rattle.command_base.specs.declared.status.Status.{Status}
+use Rattle.outside.specs.Answer.{refused}
+use Rattle.outside.specs.declared.status.Status.{Status}
 use Rattle.fault_lines.specs.Profiled.{form_line}
 use Rattle.outside.specs.Events.{Event}
 use Rattle.outside.specs.Printing.{Prints}

@@ -2,7 +2,7 @@
 use Rattle.std.specs.Prelude.{ℕ, List, Option, Some, None}
 use Rattle.tl_base.specs.declared.host.Slot.TheVariants.{Input}
 use Rattle.wire_profile.specs.Places.{ProfileView}
-use Rattle.command_base.specs.declared.status.Status.{Status}
+use Rattle.outside.specs.declared.status.Status.{Status}
 use Rattle.outside.specs.Pieces.{ReadsFile}
 use Rattle.outside.specs.Printing.{Answers, Unread}
 use Rattle.outside.specs.Steps.{Step, Then}

@@ -8,7 +8,7 @@ ghost use Rattle.update_replay.specs.declared.making.TheConstants.{MAX_MADE_STEP
 ghost use Rattle.update_rooms.specs.Make.{makes, makes_by};
 ghost use Rattle.update_rooms.specs.Profile.{OfProfile};
 
-use command_base::Status;
+use outside::Status;
 use fault_lines::profile_of;
 use outside::{Host, finish, print_made, read_file, tell};
 use schema_files::{SCHEMA_BYTES, schema_of};

@@ -15,7 +15,7 @@ ghost use Rattle.update_rooms.specs.Profile.{OfProfile};
 ghost use Rattle.update_rooms.specs.Replay.{replays, replays_by};
 ghost use Rattle.update_rooms.specs.inner.Stops.{TellsStop};
 
-use command_base::{Status, placed_line};
+use outside::{Status, placed_line};
 use fault_lines::{profile_of, step_line};
 use outside::{Host, finish, print, print_made, read_file, tell, write_out};
 use schema_files::{SCHEMA_BYTES, schema_of};

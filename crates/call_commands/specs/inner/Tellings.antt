@@ -4,9 +4,9 @@ use Rattle.tl_calls.specs.declared.fault.AnswerFault.{AnswerFault}
 use Rattle.tl_calls.specs.declared.fault.AnswerFault.TheVariants as answer
 use Rattle.tl_calls.specs.declared.fault.SendFault.{SendFault}
 use Rattle.tl_calls.specs.declared.fault.SendFault.TheVariants as send
-use Rattle.command_base.specs.declared.stop.Unmade.{Unmade}
-use Rattle.command_base.specs.declared.stop.Unmade.TheVariants as unmade
-use Rattle.command_base.specs.Loading.{RefusesAs}
+use Rattle.outside.specs.declared.stop.Unmade.{Unmade}
+use Rattle.outside.specs.declared.stop.Unmade.TheVariants as unmade
+use Rattle.outside.specs.Loading.{RefusesAs}
 use Rattle.schema_files.specs.Lines.{cause_text, input_line}
 use Rattle.call_commands.specs.CallReports.{result_cause_name}
 

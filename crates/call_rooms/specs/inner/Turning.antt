@@ -4,8 +4,8 @@ use Rattle.std.specs.declared.alloc.AllocError.{AllocError}
 use Rattle.tl_schema.specs.Schemas.{Declared}
 use Rattle.tl_calls.specs.Calling.{CallsView, StandsFor}
 use Rattle.tl_calls.specs.Events.{Log, Logged}
-use Rattle.command_base.specs.Jobs.{Making}
-use Rattle.command_base.specs.declared.status.Status.{Status}
+use Rattle.outside.specs.Jobs.{Making}
+use Rattle.outside.specs.declared.status.Status.{Status}
 use Rattle.outside.specs.Events.{HostState}
 use Rattle.outside.specs.Printing.{PrintsMade}
 use Rattle.outside.specs.Begun.{Did}

@@ -9,8 +9,8 @@ use Rattle.tl_types.specs.Values.{ValueView}
 use Rattle.tl_decode.specs.Decoders.{DecoderView, HasValue}
 use Rattle.tl_decode.specs.declared.whole.WholeFault.{WholeFault}
 use Rattle.tl_decode.specs.declared.whole.WholeFault.TheVariants.{Refused, Trailing, ReadFault, Memory}
-use Rattle.command_base.specs.Answer.{Answer}
-use Rattle.command_base.specs.Jobs.{Making, unread, no_memory}
+use Rattle.outside.specs.Answer.{Answer}
+use Rattle.outside.specs.Jobs.{Making, unread, no_memory}
 use Rattle.outside.specs.Events.{HostState, took, ended, read_failed}
 use Rattle.outside.specs.Grown.{Grew}
 use Rattle.outside.specs.Printing.{Makes}

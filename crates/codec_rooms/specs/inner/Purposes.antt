@@ -6,7 +6,7 @@ use Rattle.tl_schema.specs.Formed.{IsFormed}
 use Rattle.tl_schema.specs.Schemas.{Declared}
 use Rattle.tl_schema.specs.Types.{Shape}
 use Rattle.tl_types.specs.Values.{ValueView}
-use Rattle.command_base.specs.Jobs.{Making}
+use Rattle.outside.specs.Jobs.{Making}
 use Rattle.outside.specs.Printing.{Makes}
 use Rattle.schema_files.specs.JsonInput.{IsForm}
 use Rattle.schema_files.specs.declared.json_input.TheConstants.{JSON_BYTES}

@@ -9,14 +9,14 @@ use Rattle.tl_base.specs.declared.host.Out.TheVariants as outs
 use Rattle.tl_base.specs.declared.host.Slot.TheVariants.{Schema, Input}
 use Rattle.tl_schema.specs.CheckedPrograms.{IsSchema}
 use Rattle.tl_schema.specs.Schemas.{Declared}
-use Rattle.command_base.specs.Answer.{Answer, memory_line, read_fault_line, refused, write_fault_line}
-use Rattle.command_base.specs.Jobs.{WritesSomeOf}
-use Rattle.command_base.specs.Kept.{AddsPrefix, KeepsUnread, Leaves}
-use Rattle.command_base.specs.Sound.{IsFault}
-use Rattle.command_base.specs.Sound as sound
-use Rattle.command_base.specs.declared.status.Status.{Status}
-use Rattle.command_base.specs.declared.status.Status.TheVariants as statuses
-use Rattle.command_base.proofs.SameFiles.{file_bytes, same_file}
+use Rattle.outside.specs.Answer.{Answer, memory_line, read_fault_line, refused, write_fault_line}
+use Rattle.outside.specs.Jobs.{WritesSomeOf}
+use Rattle.outside.specs.Kept.{AddsPrefix, KeepsUnread, Leaves}
+use Rattle.outside.specs.Sound.{IsFault}
+use Rattle.outside.specs.Sound as sound
+use Rattle.outside.specs.declared.status.Status.{Status}
+use Rattle.outside.specs.declared.status.Status.TheVariants as statuses
+use Rattle.outside.proofs.SameFiles.{file_bytes, same_file}
 use Rattle.outside.specs.Begun.{WritesOnly, to_output}
 use Rattle.outside.specs.Events.{Event, Outside, opened}
 use Rattle.outside.specs.Laws.{Happened, IsFailure, Throughout}

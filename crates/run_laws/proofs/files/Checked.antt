@@ -3,7 +3,7 @@ use Rattle.std.proofs.Common.{◌≡◌, ℕ, List, [], codes, refl, inl}
 use Rattle.tl_base.specs.Contents.{Files}
 use Rattle.tl_base.specs.declared.host.Slot.TheVariants.{Schema}
 use Rattle.tl_schema.specs.Schemas.{Declared}
-use Rattle.command_base.specs.Answer.{Answer, done}
+use Rattle.outside.specs.Answer.{Answer, done}
 use Rattle.codec_commands.specs.Check.{CheckAnswer, check_job, listing}
 use Rattle.codec_commands.proofs.OneCheck.{one_check}
 use Rattle.codec_rooms.specs.Check.{checks, lists}

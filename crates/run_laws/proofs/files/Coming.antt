@@ -5,8 +5,8 @@ use Rattle.tl_base.specs.Outside.{HasFile, IsThere}
 use Rattle.tl_base.specs.declared.counts.Kind.{Kind}
 use Rattle.tl_base.specs.declared.counts.Kind.TheVariants.{Reads}
 use Rattle.tl_base.specs.declared.host.Slot.{Slot}
-use Rattle.command_base.specs.Answer.{Answer}
-use Rattle.command_base.specs.declared.status.Status.{Status}
+use Rattle.outside.specs.Answer.{Answer}
+use Rattle.outside.specs.declared.status.Status.{Status}
 use Rattle.outside.specs.Events.{Event, Outside}
 use Rattle.outside.specs.Laws.{Happened, IsFailure, Keeps, Throughout}
 use Rattle.outside.specs.Pieces.{ReadsFile}

@@ -6,7 +6,7 @@ use Rattle.tl_schema.specs.AskedTypes.{IsTypeText}
 use Rattle.tl_schema.specs.Schemas.{Declared}
 use Rattle.tl_schema.specs.Types.{Shape}
 use Rattle.tl_schema.proofs.OneType.{one_meaning}
-use Rattle.command_base.specs.Answer.{Answer, refused}
+use Rattle.outside.specs.Answer.{Answer, refused}
 use Rattle.schema_files.specs.Answering.{OfSchemaFile}
 use Rattle.schema_files.specs.Lines.{type_line}
 use Rattle.schema_files.proofs.OneTypeName.{never_type}

@@ -5,9 +5,9 @@ use Rattle.tl_base.specs.declared.counts.Kind.TheVariants as kinds
 use Rattle.tl_base.specs.declared.host.Out.{Out}
 use Rattle.tl_base.specs.declared.host.Out.TheVariants as outs
 use Rattle.tl_base.proofs.Parts.{written_back}
-use Rattle.command_base.specs.Kept.{AddsPrefix}
-use Rattle.command_base.specs.Telling.{TellsLine}
-use Rattle.command_base.specs.Telling as telling
+use Rattle.outside.specs.Kept.{AddsPrefix}
+use Rattle.outside.specs.Telling.{TellsLine}
+use Rattle.outside.specs.Telling as telling
 use Rattle.outside.specs.Events.{Event, Outside, put, write_failed}
 use Rattle.outside.specs.Laws.{Happened, IsFailure}
 use Rattle.outside.specs.Pieces.{joined, Tells, Writes}

@@ -10,9 +10,9 @@ use Rattle.tl_schema.specs.Schemas.{Declared}
 use Rattle.tl_schema.specs.Types.{Shape}
 use Rattle.tl_decode.specs.declared.whole.WholeFault.{WholeFault}
 use Rattle.tl_decode.specs.declared.whole.WholeFault.TheVariants as whole
-use Rattle.command_base.specs.Answer.{Answer, done, refused}
-use Rattle.command_base.specs.declared.status.Status.{Status}
-use Rattle.command_base.proofs.SameFiles.{same_file}
+use Rattle.outside.specs.Answer.{Answer, done, refused}
+use Rattle.outside.specs.declared.status.Status.{Status}
+use Rattle.outside.proofs.SameFiles.{same_file}
 use Rattle.outside.specs.Events.{Event, Outside, opened}
 use Rattle.outside.specs.Laws.{Happened, IsFailure, Throughout}
 use Rattle.outside.specs.Steps.{Turn, again, leave, Calls, Then}

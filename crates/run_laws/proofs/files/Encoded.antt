@@ -6,7 +6,7 @@ use Rattle.tl_base.specs.Contents.{Files}
 use Rattle.tl_base.specs.declared.host.Slot.TheVariants.{Schema}
 use Rattle.tl_schema.specs.Schemas.{Declared}
 use Rattle.tl_schema.specs.Types.{Shape}
-use Rattle.command_base.specs.Answer.{Answer}
+use Rattle.outside.specs.Answer.{Answer}
 use Rattle.schema_files.specs.declared.json_input.TheConstants.{JSON_BYTES}
 use Rattle.codec_commands.specs.Encode.{EncodeAnswer, OfJson, badly_formed, encode_job, misfit, no_json, spelled, too_long}
 use Rattle.codec_commands.specs.Typed.{HasPlannedType, OfType, ReachesInput}

@@ -5,13 +5,13 @@ use Rattle.tl_base.specs.Outside.{View}
 use Rattle.tl_base.specs.declared.counts.Kind.TheVariants as kinds
 use Rattle.tl_base.specs.declared.host.Out.{Out}
 use Rattle.tl_base.specs.declared.host.Out.TheVariants as outs
-use Rattle.command_base.specs.Answer.{Answer, done, printed, refused, refused_after, memory_line, read_fault_line, write_fault_line}
-use Rattle.command_base.specs.Jobs.{Job, unlinked_job}
-use Rattle.command_base.specs.Kept.{AddsPrefix, KeepsRest, KeepsUnread, Leaves}
-use Rattle.command_base.specs.Sound.{IsFault}
-use Rattle.command_base.specs.Sound as sound
-use Rattle.command_base.specs.declared.status.Status.{Status}
-use Rattle.command_base.specs.declared.status.Status.TheVariants as statuses
+use Rattle.outside.specs.Answer.{Answer, done, printed, refused, refused_after, memory_line, read_fault_line, write_fault_line}
+use Rattle.outside.specs.Jobs.{Job, unlinked_job}
+use Rattle.outside.specs.Kept.{AddsPrefix, KeepsRest, KeepsUnread, Leaves}
+use Rattle.outside.specs.Sound.{IsFault}
+use Rattle.outside.specs.Sound as sound
+use Rattle.outside.specs.declared.status.Status.{Status}
+use Rattle.outside.specs.declared.status.Status.TheVariants as statuses
 use Rattle.outside.specs.Begun.{WritesOnly, to_output}
 use Rattle.outside.specs.Events.{Event, Outside}
 use Rattle.outside.specs.Laws.{Happened, IsFailure, Throughout}

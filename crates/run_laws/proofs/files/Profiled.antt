@@ -4,8 +4,8 @@ use Rattle.tl_base.specs.Contents.{Files}
 use Rattle.tl_schema.specs.Schemas.{Declared}
 use Rattle.wire_profile.specs.Faults.{FaultView, IsAnswer}
 use Rattle.wire_profile.specs.Places.{ProfileView}
-use Rattle.command_base.specs.Answer.{Answer, refused}
-use Rattle.command_base.specs.declared.status.Status.{Status}
+use Rattle.outside.specs.Answer.{Answer, refused}
+use Rattle.outside.specs.declared.status.Status.{Status}
 use Rattle.fault_lines.specs.Profiled.{form_line}
 use Rattle.fault_lines.specs.Profiled as answer
 use Rattle.fault_lines.proofs.Profiled.{one_schema}

@@ -7,7 +7,7 @@ use Rattle.tl_base.specs.declared.host.Slot.TheVariants.{Schema, Input}
 use Rattle.tl_schema.specs.Schemas.{Declared}
 use Rattle.wire_profile.specs.Faults.{IsAnswer}
 use Rattle.wire_profile.specs.Places.{ProfileView}
-use Rattle.command_base.specs.Answer.{Answer, refused_after}
+use Rattle.outside.specs.Answer.{Answer, refused_after}
 use Rattle.fault_lines.specs.Messages.{step_line}
 use Rattle.fault_lines.specs.Profiled.{HasProfile}
 use Rattle.fault_lines.specs.Profiled as answer

@@ -12,8 +12,8 @@ use Rattle.tl_schema.specs.AskedTypes.{IsTypeText}
 use Rattle.tl_schema.specs.Schemas.{Declared}
 use Rattle.tl_schema.specs.Types.{Shape}
 use Rattle.tl_schema.proofs.OneType.{one_meaning}
-use Rattle.command_base.specs.Answer.{Answer, refused}
-use Rattle.command_base.specs.declared.status.Status.{Status}
+use Rattle.outside.specs.Answer.{Answer, refused}
+use Rattle.outside.specs.declared.status.Status.{Status}
 use Rattle.outside.specs.Events.{Event, Outside}
 use Rattle.outside.specs.Printing.{Answers}
 use Rattle.outside.specs.Fits.{Fits}

@@ -5,7 +5,7 @@ use Rattle.tl_base.specs.declared.host.Slot.{Slot}
 use Rattle.tl_base.specs.declared.host.Slot.TheVariants as slots
 use Rattle.tl_base.specs.declared.host.Out.{Out}
 use Rattle.tl_base.specs.declared.host.Out.TheVariants as outs
-use Rattle.command_base.specs.Kept.{KeepsRest}
+use Rattle.outside.specs.Kept.{KeepsRest}
 use Rattle.outside.specs.Begun.{IsAmong, WritesOnly, to_output}
 use Rattle.outside.specs.Events.{Event, Outside, opened, took, ended, read_failed, created, put, write_failed, listened, connected, accepted, told}
 use Rattle.outside.specs.Laws.{Throughout}

@@ -9,10 +9,10 @@ use Rattle.tl_base.specs.declared.host.Slot.TheVariants.{Input}
 use Rattle.tl_schema.specs.CheckedPrograms.{IsSchema}
 use Rattle.tl_schema.specs.Schemas.{Declared}
 use Rattle.tl_calls.specs.Events.{Logged}
-use Rattle.command_base.specs.Answer.{Answer, done, refused, refused_after, write_fault_line}
-use Rattle.command_base.specs.Kept.{AddsPrefix}
-use Rattle.command_base.specs.declared.status.Status.{Status}
-use Rattle.command_base.specs.declared.status.Status.TheVariants as statuses
+use Rattle.outside.specs.Answer.{Answer, done, refused, refused_after, write_fault_line}
+use Rattle.outside.specs.Kept.{AddsPrefix}
+use Rattle.outside.specs.declared.status.Status.{Status}
+use Rattle.outside.specs.declared.status.Status.TheVariants as statuses
 use Rattle.outside.specs.Events.{Event, Outside}
 use Rattle.outside.specs.Laws.{Happened, IsFailure, Throughout}
 use Rattle.outside.specs.Packets.{PacketView, whole, bad_length, TakesPacket}

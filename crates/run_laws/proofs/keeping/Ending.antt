@@ -3,12 +3,12 @@ use Rattle.std.proofs.Common.{◌≡◌, ◌⊎◌, inl, inr, ℕ, List, [], ◌
 use Rattle.tl_base.specs.Outside.{IsThere}
 use Rattle.box_store.specs.declared.entry.Entry.{Entry}
 use Rattle.box_store.specs.Keeping.{KeeperState, with_more}
-use Rattle.command_base.specs.Answer.{memory_line, read_fault_line, refused}
-use Rattle.command_base.specs.Kept.{AddsPrefix}
-use Rattle.command_base.specs.Sound as sound
-use Rattle.command_base.specs.Sound.{IsFault}
-use Rattle.command_base.specs.Telling.{Tells, TellsLine}
-use Rattle.command_base.specs.declared.status.Status.TheVariants as statuses
+use Rattle.outside.specs.Answer.{memory_line, read_fault_line, refused}
+use Rattle.outside.specs.Kept.{AddsPrefix}
+use Rattle.outside.specs.Sound as sound
+use Rattle.outside.specs.Sound.{IsFault}
+use Rattle.outside.specs.Telling.{Tells, TellsLine}
+use Rattle.outside.specs.declared.status.Status.TheVariants as statuses
 use Rattle.fault_lines.specs.Profiled.{HasProfile}
 use Rattle.outside.specs.Events.{Outside}
 use Rattle.outside.specs.Laws.{Happened}

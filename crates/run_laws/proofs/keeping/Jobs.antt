@@ -8,9 +8,9 @@ use Rattle.box_store.specs.declared.entry.Entry.{Entry}
 use Rattle.box_store.specs.Keeping.{with_more}
 use Rattle.box_store.specs.Storing.{Tells}
 use Rattle.wire_profile.specs.Places.{ProfileView}
-use Rattle.command_base.specs.Jobs.{MayAnswer, WritesSomeOf}
-use Rattle.command_base.specs.Kept.{AddsPrefix}
-use Rattle.command_base.specs.Sound.{Fits}
+use Rattle.outside.specs.Jobs.{MayAnswer, WritesSomeOf}
+use Rattle.outside.specs.Kept.{AddsPrefix}
+use Rattle.outside.specs.Sound.{Fits}
 use Rattle.fault_lines.specs.Profiled.{HasProfile}
 use Rattle.fault_lines.proofs.Profiled.{profile_tells}
 use Rattle.outside.specs.Events.{Outside}

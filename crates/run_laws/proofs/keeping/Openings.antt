@@ -4,10 +4,10 @@ use Rattle.tl_base.specs.Outside.{View, IsThere}
 use Rattle.box_server.specs.Servers.{ServerState}
 use Rattle.box_store.specs.declared.entry.Entry.{Entry}
 use Rattle.wire_profile.specs.Places.{ProfileView}
-use Rattle.command_base.specs.Answer.{Answer, read_fault_line, refused}
-use Rattle.command_base.specs.Jobs.{Job, WritesSomeOf}
-use Rattle.command_base.specs.declared.status.Status.{Status}
-use Rattle.command_base.specs.declared.status.Status.TheVariants as statuses
+use Rattle.outside.specs.Answer.{Answer, read_fault_line, refused}
+use Rattle.outside.specs.Jobs.{Job, WritesSomeOf}
+use Rattle.outside.specs.declared.status.Status.{Status}
+use Rattle.outside.specs.declared.status.Status.TheVariants as statuses
 use Rattle.fault_lines.specs.Profiled.{HasProfile, OfProfileFile}
 use Rattle.fault_lines.specs.Profiled as profiles
 use Rattle.outside.specs.Events.{Event, Outside}

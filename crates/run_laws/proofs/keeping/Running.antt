@@ -1,10 +1,10 @@
 -- Each run of `keep` ends as its job does, and keeps what that keeps.
 use Rattle.std.proofs.Common.{◌≡◌, inl, inr, ℕ, List, [], ◌++◌, append-nil, Some, refl, sym, ap, ◌∙◌, subst, arith}
 use Rattle.box_store.specs.Keeping.{KeeperState}
-use Rattle.command_base.specs.Answer.{memory_line}
-use Rattle.command_base.specs.Telling as telling
-use Rattle.command_base.specs.declared.status.Status.{Status}
-use Rattle.command_base.specs.declared.status.Status.TheVariants as statuses
+use Rattle.outside.specs.Answer.{memory_line}
+use Rattle.outside.specs.Telling as telling
+use Rattle.outside.specs.declared.status.Status.{Status}
+use Rattle.outside.specs.declared.status.Status.TheVariants as statuses
 use Rattle.outside.specs.Events.{Event, Outside}
 use Rattle.outside.specs.Laws.{Happened}
 use Rattle.outside.specs.Pieces.{Tells}

@@ -9,14 +9,14 @@ use Rattle.box_store.specs.declared.entry.Entry.{Entry}
 use Rattle.box_store.specs.Keeping.{KeeperState, with_more}
 use Rattle.box_store.specs.Rebuilding.{rebuilt}
 use Rattle.wire_profile.specs.Profiles.{IsProfile}
-use Rattle.command_base.specs.Answer.{link_fault_line, memory_line, write_fault_line}
-use Rattle.command_base.specs.Jobs.{WritesSomeOf}
-use Rattle.command_base.specs.Kept.{AddsPrefix, Leaves}
-use Rattle.command_base.specs.Sound as sound
-use Rattle.command_base.specs.Sound.{IsFault}
-use Rattle.command_base.specs.Telling.{Tells}
-use Rattle.command_base.specs.declared.status.Status.{Status}
-use Rattle.command_base.specs.declared.status.Status.TheVariants as statuses
+use Rattle.outside.specs.Answer.{link_fault_line, memory_line, write_fault_line}
+use Rattle.outside.specs.Jobs.{WritesSomeOf}
+use Rattle.outside.specs.Kept.{AddsPrefix, Leaves}
+use Rattle.outside.specs.Sound as sound
+use Rattle.outside.specs.Sound.{IsFault}
+use Rattle.outside.specs.Telling.{Tells}
+use Rattle.outside.specs.declared.status.Status.{Status}
+use Rattle.outside.specs.declared.status.Status.TheVariants as statuses
 use Rattle.fault_lines.specs.Profiled.{HasProfile}
 use Rattle.fault_lines.proofs.Profiled.{are_profiles}
 use Rattle.outside.specs.Events.{Event, Outside}

@@ -10,11 +10,11 @@ use Rattle.wire_profile.specs.Places.{ProfileView}
 use Rattle.wire_values.specs.SavedClients.{saved_tree}
 use Rattle.box_wire.specs.Framing.{Framed}
 use Rattle.box_wire.specs.Kinds.{saved_clients}
-use Rattle.command_base.specs.Answer.{Answer, done, link_fault_line, memory_line, read_fault_line, refused, write_fault_line}
-use Rattle.command_base.specs.Kept.{AddsPrefix, Leaves}
-use Rattle.command_base.specs.Telling.{Tells as TellsOn}
-use Rattle.command_base.specs.declared.status.Status.{Status}
-use Rattle.command_base.specs.declared.status.Status.TheVariants as status
+use Rattle.outside.specs.Answer.{Answer, done, link_fault_line, memory_line, read_fault_line, refused, write_fault_line}
+use Rattle.outside.specs.Kept.{AddsPrefix, Leaves}
+use Rattle.outside.specs.Telling.{Tells as TellsOn}
+use Rattle.outside.specs.declared.status.Status.{Status}
+use Rattle.outside.specs.declared.status.Status.TheVariants as status
 use Rattle.outside.specs.Events.{Event, Outside, created, connected}
 use Rattle.outside.specs.Pieces.{Writes}
 use Rattle.outside.specs.Printing.{Prints, Unread}

@@ -7,8 +7,8 @@ use Rattle.tl_base.specs.declared.host.Out.{Out}
 use Rattle.tl_base.specs.declared.host.Out.TheVariants as outs
 use Rattle.tl_base.specs.declared.host.Slot.{Slot}
 use Rattle.tl_base.specs.declared.host.Slot.TheVariants as slots
-use Rattle.command_base.specs.Answer.{Answer, memory_line}
-use Rattle.command_base.specs.declared.status.Status.{Status}
+use Rattle.outside.specs.Answer.{Answer, memory_line}
+use Rattle.outside.specs.declared.status.Status.{Status}
 use Rattle.outside.specs.Begun.{to_link}
 use Rattle.outside.specs.Events.{Event, Outside, opened, took, ended, read_failed, created, put, write_failed, listened, connected, accepted, told}
 use Rattle.outside.specs.Runs.{RunsIn}

@@ -18,11 +18,11 @@ use Rattle.wire_profile.specs.Profiles.{IsProfile}
 use Rattle.wire_values.specs.SavedClients.{saved_tree}
 use Rattle.box_wire.specs.Framing.{Framed}
 use Rattle.box_wire.specs.Kinds.{saved_clients}
-use Rattle.command_base.specs.Answer.{Answer, done}
-use Rattle.command_base.specs.Sound.{HasRoomFor}
-use Rattle.command_base.specs.declared.status.Status.{Status}
-use Rattle.command_base.specs.declared.status.Status.TheVariants as status
-use Rattle.command_base.proofs.SameFiles.{file_bytes, same_file}
+use Rattle.outside.specs.Answer.{Answer, done}
+use Rattle.outside.specs.Sound.{HasRoomFor}
+use Rattle.outside.specs.declared.status.Status.{Status}
+use Rattle.outside.specs.declared.status.Status.TheVariants as status
+use Rattle.outside.proofs.SameFiles.{file_bytes, same_file}
 use Rattle.outside.specs.Begun.{to_link}
 use Rattle.outside.specs.Events.{Event, Outside, created, connected}
 use Rattle.outside.specs.Pieces.{ReadsFile, Writes}

@@ -9,12 +9,12 @@ use Rattle.tl_schema.specs.CheckedPrograms.{IsSchema}
 use Rattle.tl_schema.specs.Schemas.{Declared}
 use Rattle.wire_profile.specs.Places.{ProfileView}
 use Rattle.wire_profile.specs.Profiles.{IsProfile}
-use Rattle.command_base.specs.Answer.{Answer, link_fault_line, memory_line, read_fault_line, refused, write_fault_line}
-use Rattle.command_base.specs.Jobs.{GivesOutput}
-use Rattle.command_base.specs.Kept.{AddsPrefix}
-use Rattle.command_base.specs.Telling.{Tells as TellsOn}
-use Rattle.command_base.specs.declared.status.Status.{Status}
-use Rattle.command_base.specs.declared.status.Status.TheVariants as status
+use Rattle.outside.specs.Answer.{Answer, link_fault_line, memory_line, read_fault_line, refused, write_fault_line}
+use Rattle.outside.specs.Jobs.{GivesOutput}
+use Rattle.outside.specs.Kept.{AddsPrefix}
+use Rattle.outside.specs.Telling.{Tells as TellsOn}
+use Rattle.outside.specs.declared.status.Status.{Status}
+use Rattle.outside.specs.declared.status.Status.TheVariants as status
 use Rattle.outside.specs.Events.{Event, Outside}
 use Rattle.outside.specs.Pieces.{ReadsFile}
 use Rattle.outside.specs.Printing.{Prints, Unread}

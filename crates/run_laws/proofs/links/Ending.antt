@@ -4,13 +4,13 @@ use Rattle.tl_base.specs.Calls.{with_name}
 use Rattle.tl_base.specs.Outside.{View, with_written, written_of}
 use Rattle.tl_base.specs.declared.host.Out.{Out}
 use Rattle.tl_base.specs.declared.host.Out.TheVariants as outs
-use Rattle.command_base.specs.Answer.{Answer, link_fault_line, memory_line, refused, write_fault_line}
-use Rattle.command_base.specs.Jobs.{Job, MayGive}
-use Rattle.command_base.specs.Kept.{AddsPrefix}
-use Rattle.command_base.specs.Sound.{IsFault}
-use Rattle.command_base.specs.Telling.{Tells as TellsOn}
-use Rattle.command_base.specs.declared.status.Status.{Status}
-use Rattle.command_base.specs.declared.status.Status.TheVariants as status
+use Rattle.outside.specs.Answer.{Answer, link_fault_line, memory_line, refused, write_fault_line}
+use Rattle.outside.specs.Jobs.{Job, MayGive}
+use Rattle.outside.specs.Kept.{AddsPrefix}
+use Rattle.outside.specs.Sound.{IsFault}
+use Rattle.outside.specs.Telling.{Tells as TellsOn}
+use Rattle.outside.specs.declared.status.Status.{Status}
+use Rattle.outside.specs.declared.status.Status.TheVariants as status
 use Rattle.outside.specs.Begun.{BeginsIn, WritesOnly, to_link}
 use Rattle.outside.specs.Events.{Event, Outside, opened, took, ended, read_failed, created, put, write_failed, listened, connected, accepted, told}
 use Rattle.outside.specs.Laws.{Explains, Throughout}

@@ -8,10 +8,10 @@ use Rattle.tl_base.specs.declared.host.Out.TheVariants as outs
 use Rattle.tl_base.specs.declared.host.Slot.TheVariants as slots
 use Rattle.wire_profile.specs.Places.{ProfileView}
 use Rattle.wire_profile.specs.Profiles.{IsProfile}
-use Rattle.command_base.specs.Answer.{Answer, done, link_fault_line, write_fault_line}
-use Rattle.command_base.specs.Kept.{Leaves}
-use Rattle.command_base.specs.declared.status.Status.{Status}
-use Rattle.command_base.specs.declared.status.Status.TheVariants.{Done, LinkFault, PeerFault}
+use Rattle.outside.specs.Answer.{Answer, done, link_fault_line, write_fault_line}
+use Rattle.outside.specs.Kept.{Leaves}
+use Rattle.outside.specs.declared.status.Status.{Status}
+use Rattle.outside.specs.declared.status.Status.TheVariants.{Done, LinkFault, PeerFault}
 use Rattle.outside.specs.Events.{Event, Outside, connected}
 use Rattle.outside.specs.Packets.{PacketView, whole, TakesPacket}
 use Rattle.outside.specs.Packets as packets

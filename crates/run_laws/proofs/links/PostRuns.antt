@@ -4,11 +4,11 @@ use Rattle.tl_base.specs.Outside.{View}
 use Rattle.tl_base.specs.declared.host.Slot.TheVariants as slots
 use Rattle.tl_schema.specs.Schemas.{Declared}
 use Rattle.wire_profile.specs.Places.{ProfileView}
-use Rattle.command_base.specs.Answer.{Answer}
-use Rattle.command_base.specs.Kept.{LeavesInput}
-use Rattle.command_base.specs.Sound.{HasRoomFor}
-use Rattle.command_base.specs.declared.status.Status.{Status}
-use Rattle.command_base.specs.declared.status.Status.TheVariants.{Memory, PeerFault, Refused}
+use Rattle.outside.specs.Answer.{Answer}
+use Rattle.outside.specs.Kept.{LeavesInput}
+use Rattle.outside.specs.Sound.{HasRoomFor}
+use Rattle.outside.specs.declared.status.Status.{Status}
+use Rattle.outside.specs.declared.status.Status.TheVariants.{Memory, PeerFault, Refused}
 use Rattle.outside.specs.Begun.{to_link}
 use Rattle.outside.specs.Events.{Event, Outside}
 use Rattle.outside.specs.Pieces.{ReadsFile}

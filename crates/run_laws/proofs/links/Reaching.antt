@@ -9,9 +9,9 @@ use Rattle.tl_base.specs.declared.host.Slot.TheVariants as slots
 use Rattle.tl_schema.specs.Schemas.{Declared}
 use Rattle.wire_profile.specs.Places.{ProfileView}
 use Rattle.wire_profile.specs.Faults.{IsAnswer}
-use Rattle.command_base.specs.Answer.{Answer, done, memory_line, refused}
-use Rattle.command_base.specs.declared.status.Status.{Status}
-use Rattle.command_base.specs.declared.status.Status.TheVariants.{Done, Refused}
+use Rattle.outside.specs.Answer.{Answer, done, memory_line, refused}
+use Rattle.outside.specs.declared.status.Status.{Status}
+use Rattle.outside.specs.declared.status.Status.TheVariants.{Done, Refused}
 use Rattle.outside.specs.Events.{Event, Outside, opened, took, ended, read_failed, created, put, write_failed, listened, connected, accepted, told}
 use Rattle.outside.specs.Laws.{Throughout, Keeps}
 use Rattle.outside.specs.Pieces.{ReadsFile}

@@ -4,11 +4,11 @@ use Rattle.tl_base.specs.Outside.{written_of}
 use Rattle.tl_base.specs.declared.counts.Kind.TheVariants as kinds
 use Rattle.tl_base.specs.declared.host.Out.{Out}
 use Rattle.tl_base.specs.declared.host.Out.TheVariants as outs
-use Rattle.command_base.specs.Answer.{Answer, write_fault_line}
-use Rattle.command_base.specs.Kept.{AddsPrefix}
-use Rattle.command_base.specs.Telling.{Tells as TellsOn}
-use Rattle.command_base.specs.declared.status.Status.{Status}
-use Rattle.command_base.specs.declared.status.Status.TheVariants.{WriteFault}
+use Rattle.outside.specs.Answer.{Answer, write_fault_line}
+use Rattle.outside.specs.Kept.{AddsPrefix}
+use Rattle.outside.specs.Telling.{Tells as TellsOn}
+use Rattle.outside.specs.declared.status.Status.{Status}
+use Rattle.outside.specs.declared.status.Status.TheVariants.{WriteFault}
 use Rattle.outside.specs.Events.{Event, Outside, put, write_failed}
 use Rattle.outside.specs.Laws.{Happened, IsFailure}
 use Rattle.outside.specs.Pieces.{InPieces, Tells, Writes}

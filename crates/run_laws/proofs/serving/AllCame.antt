@@ -6,9 +6,9 @@ use Rattle.tl_base.specs.Outside.{View}
 use Rattle.box_server.specs.Servers.{ServerState}
 use Rattle.box_store.specs.declared.entry.Entry.{Entry}
 use Rattle.wire_profile.specs.Places.{ProfileView}
-use Rattle.command_base.specs.Answer.{link_fault_line, write_fault_line}
-use Rattle.command_base.specs.Kept.{AddsPrefix, Leaves}
-use Rattle.command_base.specs.declared.status.Status.TheVariants as statuses
+use Rattle.outside.specs.Answer.{link_fault_line, write_fault_line}
+use Rattle.outside.specs.Kept.{AddsPrefix, Leaves}
+use Rattle.outside.specs.declared.status.Status.TheVariants as statuses
 use Rattle.outside.specs.Events.{Event, Outside, listened}
 use Rattle.outside.specs.Laws.{Happened, Throughout}
 use Rattle.outside.specs.Steps.{Turn, again, leave, Loops, Reaches, here, turn}

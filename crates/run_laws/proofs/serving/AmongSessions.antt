@@ -8,10 +8,10 @@ use Rattle.box_server.specs.Servers.{ServerState, new_server}
 use Rattle.box_store.specs.declared.entry.Entry.{Entry}
 use Rattle.box_store.specs.Rebuilding.{IsBad, are_right, are_right_from, is_accepted, with_entry}
 use Rattle.wire_profile.specs.Places.{ProfileView}
-use Rattle.command_base.specs.Jobs.{Job}
-use Rattle.command_base.specs.Sound.{Fits}
-use Rattle.command_base.specs.declared.status.Status.{Status}
-use Rattle.command_base.specs.declared.status.Status.TheVariants as status
+use Rattle.outside.specs.Jobs.{Job}
+use Rattle.outside.specs.Sound.{Fits}
+use Rattle.outside.specs.declared.status.Status.{Status}
+use Rattle.outside.specs.declared.status.Status.TheVariants as status
 use Rattle.session_commands.specs.Keep.{OfToldEntries, Starts}
 use Rattle.session_commands.specs.Serve.{SessionEnd, served, peer_fault, link_fault, IsAny, IsWhole, OfSessions, Sessions, SessionsAnswer, Total, end_output, end_status, first_fault}
 use Rattle.session_commands.proofs.OneTotal.{IsAmong}

@@ -11,9 +11,9 @@ use Rattle.box_server.specs.Servers.{ServerState, dated_at}
 use Rattle.box_store.specs.declared.entry.Entry.{Entry}
 use Rattle.wire_profile.specs.Places.{ProfileView}
 use Rattle.wire_profile.specs.Profiles.{IsProfile}
-use Rattle.command_base.specs.Answer.{link_fault_line}
-use Rattle.command_base.specs.Kept.{Leaves}
-use Rattle.command_base.specs.declared.status.Status.TheVariants as statuses
+use Rattle.outside.specs.Answer.{link_fault_line}
+use Rattle.outside.specs.Kept.{Leaves}
+use Rattle.outside.specs.declared.status.Status.TheVariants as statuses
 use Rattle.outside.specs.Events.{Event, Outside, accepted, told}
 use Rattle.outside.specs.Laws.{Happened, Throughout}
 use Rattle.outside.specs.Pieces.{Tells}

@@ -4,8 +4,8 @@ use Rattle.tl_base.proofs.Parts.{written_back}
 use Rattle.tl_base.specs.Outside.{View, written_of, with_written}
 use Rattle.tl_base.specs.declared.host.Out.{Out}
 use Rattle.tl_base.specs.declared.host.Out.TheVariants as outs
-use Rattle.command_base.specs.Kept.{AddsPrefix}
-use Rattle.command_base.specs.Telling as telling
+use Rattle.outside.specs.Kept.{AddsPrefix}
+use Rattle.outside.specs.Telling as telling
 use Rattle.outside.specs.Events.{Event, Outside, opened, took, ended, read_failed, created, put, write_failed, listened, connected, accepted, told}
 use Rattle.outside.specs.Laws.{Throughout}
 use Rattle.outside.specs.Pieces.{joined, Tells, Writes}

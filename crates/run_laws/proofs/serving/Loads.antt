@@ -11,11 +11,11 @@ use Rattle.tl_base.specs.declared.host.Slot.TheVariants as slots
 use Rattle.tl_schema.specs.Schemas.{Declared}
 use Rattle.box_store.specs.declared.entry.Entry.{Entry}
 use Rattle.wire_profile.specs.Places.{ProfileView}
-use Rattle.command_base.specs.Answer.{Answer, read_fault_line, refused}
-use Rattle.command_base.specs.Kept.{AddsPrefix}
-use Rattle.command_base.specs.Telling.{Tells}
-use Rattle.command_base.specs.declared.status.Status.{Status}
-use Rattle.command_base.specs.declared.status.Status.TheVariants as statuses
+use Rattle.outside.specs.Answer.{Answer, read_fault_line, refused}
+use Rattle.outside.specs.Kept.{AddsPrefix}
+use Rattle.outside.specs.Telling.{Tells}
+use Rattle.outside.specs.declared.status.Status.{Status}
+use Rattle.outside.specs.declared.status.Status.TheVariants as statuses
 use Rattle.fault_lines.specs.Profiled.{HasProfile, OfProfileFile, form_line}
 use Rattle.fault_lines.specs.Profiled as profiles
 use Rattle.outside.specs.Events.{Event, Outside, opened, took, ended, read_failed, created, put, write_failed, listened, connected, accepted, told}

@@ -3,12 +3,12 @@ use Rattle.std.proofs.Common.{◌≡◌, ◌⊎◌, inl, inr, ℕ, ◌<◌, ◌�
 use Rattle.tl_base.specs.Outside.{View}
 use Rattle.tl_base.specs.declared.counts.Kind.TheVariants as kinds
 use Rattle.box_server.specs.Servers.{ServerState, new_server}
-use Rattle.command_base.specs.Answer.{Answer, link_fault_line, memory_line, read_fault_line, refused, write_fault_line}
-use Rattle.command_base.specs.Jobs.{Job, MayAnswer, WritesSomeOf}
-use Rattle.command_base.specs.Kept.{AddsPrefix, Leaves, WritesNothing}
-use Rattle.command_base.specs.Telling.{Tells, TellsLine}
-use Rattle.command_base.specs.declared.status.Status.{Status}
-use Rattle.command_base.specs.declared.status.Status.TheVariants as statuses
+use Rattle.outside.specs.Answer.{Answer, link_fault_line, memory_line, read_fault_line, refused, write_fault_line}
+use Rattle.outside.specs.Jobs.{Job, MayAnswer, WritesSomeOf}
+use Rattle.outside.specs.Kept.{AddsPrefix, Leaves, WritesNothing}
+use Rattle.outside.specs.Telling.{Tells, TellsLine}
+use Rattle.outside.specs.declared.status.Status.{Status}
+use Rattle.outside.specs.declared.status.Status.TheVariants as statuses
 use Rattle.fault_lines.specs.Profiled.{HasProfile, profiled}
 use Rattle.outside.specs.Events.{Event, Outside}
 use Rattle.outside.specs.Laws.{Happened, IsFailure, Throughout}

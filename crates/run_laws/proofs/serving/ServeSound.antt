@@ -5,10 +5,10 @@ use Rattle.std.specs.List.{All}
 use Rattle.tl_numbers.specs.Bytes.{ListsOfBytes}
 use Rattle.tl_base.specs.Outside.{View}
 use Rattle.box_server.specs.Servers.{new_server}
-use Rattle.command_base.specs.Answer.{Answer, memory_line}
-use Rattle.command_base.specs.Sound.{HasRoomFor, IsFault}
-use Rattle.command_base.specs.Sound as sound
-use Rattle.command_base.specs.declared.status.Status.TheVariants as statuses
+use Rattle.outside.specs.Answer.{Answer, memory_line}
+use Rattle.outside.specs.Sound.{HasRoomFor, IsFault}
+use Rattle.outside.specs.Sound as sound
+use Rattle.outside.specs.declared.status.Status.TheVariants as statuses
 use Rattle.fault_lines.proofs.Profiled.{are_profiles, profile_tells}
 use Rattle.outside.specs.Events.{Event, Outside}
 use Rattle.outside.specs.Runs as runs

@@ -8,9 +8,9 @@ use Rattle.box_server.specs.Servers.{ServerState}
 use Rattle.box_store.specs.declared.entry.Entry.{Entry}
 use Rattle.wire_profile.specs.Places.{ProfileView}
 use Rattle.wire_profile.specs.Profiles.{IsProfile}
-use Rattle.command_base.specs.Answer.{Answer}
-use Rattle.command_base.specs.Kept.{AddsPrefix, Leaves}
-use Rattle.command_base.specs.declared.status.Status.{Status}
+use Rattle.outside.specs.Answer.{Answer}
+use Rattle.outside.specs.Kept.{AddsPrefix, Leaves}
+use Rattle.outside.specs.declared.status.Status.{Status}
 use Rattle.outside.specs.Events.{Outside}
 use Rattle.outside.specs.Fits.{Fits}
 use Rattle.outside.specs.Reliable.{IsReliable}

@@ -3,10 +3,10 @@ use Rattle.std.proofs.Common.{◌≡◌, inl, inr, ℕ, ◌+◌, ◌<◌, List, 
 use Rattle.std.specs.Prelude.{option_map}
 use Rattle.tl_base.specs.declared.host.Out.TheVariants as outs
 use Rattle.box_server.specs.Servers.{ServerState}
-use Rattle.command_base.specs.Answer.{link_fault_line, write_fault_line}
-use Rattle.command_base.specs.Kept.{AddsPrefix}
-use Rattle.command_base.specs.declared.status.Status.{Status}
-use Rattle.command_base.specs.declared.status.Status.TheVariants as statuses
+use Rattle.outside.specs.Answer.{link_fault_line, write_fault_line}
+use Rattle.outside.specs.Kept.{AddsPrefix}
+use Rattle.outside.specs.declared.status.Status.{Status}
+use Rattle.outside.specs.declared.status.Status.TheVariants as statuses
 use Rattle.outside.specs.Events.{Event, Outside}
 use Rattle.outside.specs.Pieces.{Tells, Writes}
 use Rattle.outside.specs.Steps.{Ends, Then}

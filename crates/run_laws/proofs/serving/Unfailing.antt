@@ -8,10 +8,10 @@ use Rattle.tl_base.specs.Outside.{View}
 use Rattle.box_server.specs.Servers.{ServerState}
 use Rattle.wire_profile.specs.Places.{ProfileView}
 use Rattle.wire_profile.specs.Profiles.{IsProfile}
-use Rattle.command_base.specs.Answer.{Answer}
-use Rattle.command_base.specs.Sound.{IsFault}
-use Rattle.command_base.specs.Sound as sound
-use Rattle.command_base.specs.declared.status.Status.{Status}
+use Rattle.outside.specs.Answer.{Answer}
+use Rattle.outside.specs.Sound.{IsFault}
+use Rattle.outside.specs.Sound as sound
+use Rattle.outside.specs.declared.status.Status.{Status}
 use Rattle.outside.specs.Events.{Outside}
 use Rattle.outside.specs.Reliable.{IsReliable}
 use Rattle.session_commands.specs.Serve.{IsWhole, OfSessions, Session, Sessions, Total, end_output}

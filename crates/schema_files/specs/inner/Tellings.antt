@@ -12,9 +12,9 @@ use Rattle.tl_plan.specs.declared.fault.PlanFault.{PlanFault}
 use Rattle.tl_plan.specs.declared.fault.PlanFault.TheVariants as planning
 use Rattle.tl_show.specs.declared.fault.JsonTextFault.{JsonTextFault}
 use Rattle.tl_show.specs.declared.fault.JsonTextFault.TheVariants as reading
-use Rattle.command_base.specs.declared.stop.Unmade.{Unmade}
-use Rattle.command_base.specs.declared.stop.Unmade.TheVariants as unmade
-use Rattle.command_base.specs.Loading.{RefusesAs}
+use Rattle.outside.specs.declared.stop.Unmade.{Unmade}
+use Rattle.outside.specs.declared.stop.Unmade.TheVariants as unmade
+use Rattle.outside.specs.Loading.{RefusesAs}
 use Rattle.schema_files.specs.Causes.{TextTooLong, BadByte, OpenComment, Unexpected, NotProfile, TooMany, Checked, Asked, TypeTooDeep, TooManyInstances, NoJson, Unformed}
 use Rattle.schema_files.specs.Lines.{text_line, schema_line, type_line, plan_line, json_line}
 

@@ -12,8 +12,8 @@ use Rattle.wire_values.specs.Carried.{IsSaved}
 use Rattle.wire_values.specs.SavedClients.{saved_tree}
 use Rattle.box_wire.specs.Kinds.{saved_clients}
 use Rattle.box_wire.specs.Framing.{Framed, Means, WireRefused}
-use Rattle.command_base.specs.Loading.{Refuses}
-use Rattle.command_base.specs.declared.stop.Unmade.{Unmade}
+use Rattle.outside.specs.Loading.{Refuses}
+use Rattle.outside.specs.declared.stop.Unmade.{Unmade}
 use Rattle.fault_lines.specs.Messages.{wire_line}
 use Rattle.fault_lines.specs.SavedClients.{load_line}
 use Rattle.session_commands.specs.declared.leaving.Leaving.{Leaving}

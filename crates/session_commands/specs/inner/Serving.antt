@@ -1,6 +1,6 @@
 -- What the parts of `serve` do. This project's own.
 use Rattle.std.specs.Prelude.{◌≡◌, ℕ, List, ◌++◌, Bool, true, false}
-use Rattle.command_base.specs.Kept.{AddsPrefix}
+use Rattle.outside.specs.Kept.{AddsPrefix}
 
 -- ---- a session's end is told
 

@@ -6,10 +6,10 @@ use Rattle.tl_schema.specs.Types.{call}
 use Rattle.tl_types.specs.Values.{ValueView}
 use Rattle.tl_types.specs.Spelling.{Spells}
 use Rattle.wire_profile.specs.Places.{ProfileView}
-use Rattle.command_base.specs.Loading.{Refuses}
-use Rattle.command_base.specs.declared.status.Status.{Status}
-use Rattle.command_base.specs.declared.status.Status.TheVariants.{PeerFault}
-use Rattle.command_base.specs.declared.stop.Unmade.{Unmade}
+use Rattle.outside.specs.Loading.{Refuses}
+use Rattle.outside.specs.declared.status.Status.{Status}
+use Rattle.outside.specs.declared.status.Status.TheVariants.{PeerFault}
+use Rattle.outside.specs.declared.stop.Unmade.{Unmade}
 use Rattle.fault_lines.specs.Packets.{length_line, ended_line}
 use Rattle.outside.specs.Events.{HostState}
 use Rattle.outside.specs.Pieces.{Tells}

@@ -3,9 +3,9 @@ use Rattle.std.specs.Prelude.{◌≡◌, ℕ, List, [], ◌∷◌, ◌++◌, len
 use Rattle.tl_schema.specs.Seen.{shape}
 use Rattle.tl_schema.specs.Schemas.{Declared}
 use Rattle.tl_schema.specs.declared.schema.TypeRef.{TypeRef}
-use Rattle.command_base.specs.Loading.{Refuses}
-use Rattle.command_base.specs.declared.stop.Unmade.{Unmade}
-use Rattle.command_base.specs.declared.stop.Unmade.TheVariants as unmade
+use Rattle.outside.specs.Loading.{Refuses}
+use Rattle.outside.specs.declared.stop.Unmade.{Unmade}
+use Rattle.outside.specs.declared.stop.Unmade.TheVariants as unmade
 use Rattle.tl_codec.specs.Typings.{IsPlannedType, TellsName}
 
 -- the type that the text means, or why it means none, or has no plan

@@ -3,7 +3,7 @@ use Rattle.std.specs.Prelude.{◌≡◌, ℕ, List, Ok, Err}
 use Rattle.tl_schema.specs.Types.{Shape}
 use Rattle.tl_schema.specs.Schemas.{Declared}
 use Rattle.tl_types.specs.Values.{ValueView}
-use Rattle.command_base.specs.declared.stop.Unmade.TheVariants as unmade
+use Rattle.outside.specs.declared.stop.Unmade.TheVariants as unmade
 use Rattle.schema_files.specs.JsonInput.{IsForm}
 use Rattle.tl_codec.specs.Codings.{Encodes, Made}
 

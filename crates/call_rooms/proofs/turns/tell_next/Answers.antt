@@ -2,8 +2,8 @@ use Rattle.std.proofs.Common.{Ok, ap, sym, ◌∙◌, List, ℕ, length, subst}
 use Rattle.std.proofs.lemmas.Result.{err_from_is_err_and}
 use Rattle.tl_base.specs.Packets.{IsPacketLength}
 use Rattle.tl_base.specs.declared.host.Slot.TheVariants.{Input}
-use Rattle.command_base.specs.Jobs.{of_fault}
-use Rattle.command_base.specs.declared.status.Status.TheVariants.{Done}
+use Rattle.outside.specs.Jobs.{of_fault}
+use Rattle.outside.specs.declared.status.Status.TheVariants.{Done}
 use Rattle.outside.specs.Packets.{packet_view}
 use Rattle.outside.specs.Packets as taken
 use Rattle.outside.specs.Printing.{Unread}

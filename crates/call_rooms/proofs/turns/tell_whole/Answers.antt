@@ -1,5 +1,5 @@
 use Rattle.std.proofs.Common.{◌+◌, arith, length}
-use Rattle.command_base.specs.Jobs.{of_fault}
+use Rattle.outside.specs.Jobs.{of_fault}
 use Rattle.call_commands.proofs.NextPackets.{packet_long}
 use Rattle.call_rooms.specs.Calls.{so_far}
 use Rattle.call_rooms.proofs.Going.{can_packet, open_results}

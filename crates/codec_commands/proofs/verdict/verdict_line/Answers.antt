@@ -1,8 +1,8 @@
 use Rattle.std.proofs.Common.{◌≡◌, ap, subst}
 use Rattle.std.specs.Prelude.{Err}
 use Rattle.tl_schema.specs.Seen.{shape}
-use Rattle.command_base.specs.Answer.{done, refused}
-use Rattle.command_base.proofs.Loaded.{refuses_as}
+use Rattle.outside.specs.Answer.{done, refused}
+use Rattle.outside.proofs.Loaded.{refuses_as}
 use Rattle.tl_layers.specs.Reached.{Reached}
 use Rattle.tl_layers.specs.Compared.{LayersView, IsCount, Compares}
 use Rattle.tl_layers.specs.declared.fault.LayerFault.{LayerFault}

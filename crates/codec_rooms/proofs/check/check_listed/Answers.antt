@@ -1,6 +1,6 @@
 use Rattle.std.proofs.Common.{ℕ, List, Some, ◌∙◌, subst}
 use Rattle.std.proofs.lemmas.Result.{err_from_is_err_and}
-use Rattle.command_base.specs.Answer.{done}
+use Rattle.outside.specs.Answer.{done}
 use Rattle.outside.specs.Printing.{Prints}
 use Rattle.outside.specs.Begun.{Did}
 use Rattle.outside.proofs.Growing.{did_none}

@@ -1,6 +1,6 @@
 use Rattle.std.proofs.Common.{codes, [], Some, None, ap, sym, ◌∙◌}
 use Rattle.std.proofs.lemmas.Result.{err_from_is_err_and}
-use Rattle.command_base.specs.Answer.{done}
+use Rattle.outside.specs.Answer.{done}
 use Rattle.outside.specs.Pieces.{text_view}
 use Rattle.tl_base.specs.declared.host.Slot.TheVariants.{Schema}
 use Rattle.schema_files.specs.declared.schema_text.TheConstants.{SCHEMA_BYTES}

@@ -1,5 +1,5 @@
 use Rattle.std.proofs.Common.{codes}
-use Rattle.command_base.specs.Answer.{done}
+use Rattle.outside.specs.Answer.{done}
 use Rattle.outside.proofs.Printed.{can_print}
 use Rattle.codec_commands.specs.Check.{listing}
 use Rattle.codec_rooms.specs.Check.{lists}

@@ -1,7 +1,7 @@
 use Rattle.std.proofs.Common.{subst}
 use Rattle.tl_schema.specs.Schemas.{Declared}
 use Rattle.tl_schema.specs.Seen.{shape}
-use Rattle.command_base.specs.Jobs.{making}
+use Rattle.outside.specs.Jobs.{making}
 use Rattle.codec_rooms.specs.Decode.{verdict}
 use Rattle.codec_rooms.specs.inner.Feeding.{MakesVerdict}
 use Rattle.codec_rooms.proofs.Decoding.{read_printed}

@@ -1,7 +1,7 @@
 use Rattle.std.proofs.Common.{[], Some, None, ap, sym, ◌∙◌}
 use Rattle.std.proofs.lemmas.Result.{err_from_is_err_and}
 use Rattle.tl_schema.specs.Seen.{shape}
-use Rattle.command_base.specs.Jobs.{making}
+use Rattle.outside.specs.Jobs.{making}
 use Rattle.outside.specs.Pieces.{text_view}
 use Rattle.tl_base.specs.declared.host.Slot.TheVariants.{Input}
 use Rattle.schema_files.specs.declared.json_input.TheConstants.{JSON_BYTES}

@@ -2,7 +2,7 @@ use Rattle.std.proofs.Common.{subst}
 use Rattle.tl_schema.specs.Schemas.{Declared}
 use Rattle.tl_schema.specs.Seen.{shape}
 use Rattle.tl_types.specs.Seen.{view}
-use Rattle.command_base.specs.Loading.{Refuses}
+use Rattle.outside.specs.Loading.{Refuses}
 use Rattle.schema_files.specs.JsonInput.{IsForm}
 use Rattle.schema_files.specs.Parts.{TellsForm}
 use Rattle.codec_commands.specs.Encode.{OfJson}

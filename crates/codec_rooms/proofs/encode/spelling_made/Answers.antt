@@ -3,7 +3,7 @@ use Rattle.tl_schema.specs.Seen.{shape}
 use Rattle.tl_types.specs.Seen.{view}
 use Rattle.tl_types.specs.declared.value.TheConstants.{MAX_LEVELS}
 use Rattle.tl_types.proofs.FitsAreSpelled.{each_fits_exactly}
-use Rattle.command_base.specs.Answer.{done}
+use Rattle.outside.specs.Answer.{done}
 use Rattle.schema_files.specs.Parts.{TellsJson}
 use Rattle.schema_files.proofs.JsonInputs.{unfit}
 use Rattle.codec_commands.specs.Encode.{OfJson, spelled}

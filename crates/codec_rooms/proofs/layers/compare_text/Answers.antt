@@ -1,6 +1,6 @@
 use Rattle.std.proofs.Common.{codes}
 use Rattle.tl_schema.specs.Seen.{shape}
-use Rattle.command_base.specs.Jobs.{making}
+use Rattle.outside.specs.Jobs.{making}
 use Rattle.outside.proofs.Printed.{made_printed}
 use Rattle.codec_commands.specs.Layers.{OfLayers}
 use Rattle.codec_commands.proofs.EachLayers.{each_told}

@@ -1,5 +1,5 @@
 use Rattle.std.proofs.Common.{true, false}
-use Rattle.command_base.specs.Answer.{done}
+use Rattle.outside.specs.Answer.{done}
 use Rattle.outside.specs.Printing.{after_output}
 use Rattle.outside.proofs.Growing.{did_both}
 use Rattle.outside.proofs.Printed.{told_nothing}

@@ -1,5 +1,5 @@
 use Rattle.std.proofs.Common.{ap, ◌∙◌}
-use Rattle.command_base.specs.Jobs.{making, of_fault}
+use Rattle.outside.specs.Jobs.{making, of_fault}
 use Rattle.outside.proofs.Printed.{refused_at}
 use Rattle.outside.proofs.printing.print_made.Goals as goal
 

@@ -1,6 +1,6 @@
 use Rattle.std.proofs.Common.{◌∙◌}
 use Rattle.std.proofs.lemmas.Result.{err_from_is_err_and}
-use Rattle.command_base.specs.declared.status.Status.TheVariants.{Refused}
+use Rattle.outside.specs.declared.status.Status.TheVariants.{Refused}
 use Rattle.outside.specs.Pieces.{Tells}
 use Rattle.outside.proofs.Growing.{did_none}
 use Rattle.outside.proofs.Piecewise.{can_tell}

@@ -1,7 +1,7 @@
 use Rattle.std.proofs.Common.{◌≡◌, ap, subst}
 use Rattle.std.specs.Prelude.{Err}
-use Rattle.command_base.specs.Answer.{done, refused}
-use Rattle.command_base.proofs.Loaded.{refuses_as}
+use Rattle.outside.specs.Answer.{done, refused}
+use Rattle.outside.proofs.Loaded.{refuses_as}
 use Rattle.update_replay.specs.MadeRuns.{MakesRun}
 use Rattle.update_replay.specs.declared.made_fault.MadeFault.{MadeFault}
 use Rattle.update_commands.specs.Make.{OfMadeRun, full_line, summed, too_full}

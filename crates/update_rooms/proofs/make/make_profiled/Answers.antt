@@ -1,4 +1,4 @@
-use Rattle.command_base.specs.Jobs.{making}
+use Rattle.outside.specs.Jobs.{making}
 use Rattle.outside.proofs.Printed.{can_answer, made_printed}
 use Rattle.update_commands.specs.Make.{OfMadeRun}
 use Rattle.update_commands.proofs.OneMake.{each_run}

@@ -1,7 +1,7 @@
 -- What a call leaves of the outside as it was. This project's own.
 use Rattle.std.specs.Prelude.{◌≡◌, ◌⊎◌, ℕ, List, ◌++◌, drop, Option, Some, None}
 use Rattle.tl_base.specs.Outside.{View}
-use Rattle.command_base.specs.Answer.{Answer}
+use Rattle.outside.specs.Answer.{Answer}
 
 -- nothing changed but what is left of Schema and Input, and what was written to Output and Errors
 abbrev pub KeepsRest : View → View → Type 0

@@ -1,6 +1,6 @@
 //! How the program ends.
 ghost use Rattle.std.specs.Prelude.{◌≡◌};
-ghost use Rattle.command_base.specs.Answer.{status_number};
+ghost use Rattle.outside.specs.Answer.{status_number};
 
 /// The exit status.
 #[derive(Clone, Copy, PartialEq)]

@@ -1,8 +1,8 @@
 //! Why a job ends before its work is done.
 ghost use Rattle.std.specs.Prelude.{◌≡◌};
-ghost use Rattle.command_base.specs.Answer.{decl_line, placed_line, unplaced_line};
-ghost use Rattle.command_base.specs.Jobs.{RefusedBy};
-ghost use Rattle.command_base.specs.Loading.{PeerBy, RefusesAs};
+ghost use Rattle.outside.specs.Answer.{decl_line, placed_line, unplaced_line};
+ghost use Rattle.outside.specs.Jobs.{RefusedBy};
+ghost use Rattle.outside.specs.Loading.{PeerBy, RefusesAs};
 
 use crate::lines::{decl_line, placed_line, unplaced_line};
 use std::alloc::{AllocError, Global};
@@ -87,7 +87,7 @@ impl Unmade {
 
 impl From<TextFault> for Unmade {
     ghost use Rattle.std.specs.Prelude.{◌≡◌};
-    ghost use Rattle.command_base.specs.Loading.{of_text};
+    ghost use Rattle.outside.specs.Loading.{of_text};
 
     ghost from_gives = { λ e fault. fault ≡ of_text e };
 
@@ -101,7 +101,7 @@ impl From<TextFault> for Unmade {
 
 impl From<AllocError> for Unmade {
     ghost use Rattle.std.specs.Prelude.{◌≡◌};
-    ghost use Rattle.command_base.specs.declared.stop.Unmade.TheVariants.{Memory};
+    ghost use Rattle.outside.specs.declared.stop.Unmade.TheVariants.{Memory};
 
     ghost from_gives = { λ _ fault. fault ≡ Memory };
 
@@ -112,7 +112,7 @@ impl From<AllocError> for Unmade {
 
 impl From<Unmade> for Stop {
     ghost use Rattle.std.specs.Prelude.{◌≡◌};
-    ghost use Rattle.command_base.specs.Jobs.{of_unmade};
+    ghost use Rattle.outside.specs.Jobs.{of_unmade};
 
     ghost from_gives = { λ e stop. stop ≡ of_unmade e };
 
@@ -127,7 +127,7 @@ impl From<Unmade> for Stop {
 
 impl From<WriteFault> for Stop {
     ghost use Rattle.std.specs.Prelude.{◌≡◌};
-    ghost use Rattle.command_base.specs.declared.stop.Stop.TheVariants.{WriteFault};
+    ghost use Rattle.outside.specs.declared.stop.Stop.TheVariants.{WriteFault};
 
     ghost from_gives = { λ _ stop. stop ≡ WriteFault };
 

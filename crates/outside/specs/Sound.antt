@@ -4,10 +4,10 @@ use Rattle.std.specs.Prelude.{◌≡◌, ◌⊎◌, ◌≤◌, length, IfSome}
 use Rattle.std.specs.List.{All}
 use Rattle.tl_base.specs.Outside.{View, HasRoom}
 use Rattle.tl_base.specs.declared.host.Out.TheVariants.{Output}
-use Rattle.command_base.specs.Answer.{Answer}
-use Rattle.command_base.specs.declared.status.Status.{Status}
-use Rattle.command_base.specs.declared.status.Status.TheVariants.{ReadFault, WriteFault, LinkFault}
-use Rattle.command_base.specs.Jobs.{Job}
+use Rattle.outside.specs.Answer.{Answer}
+use Rattle.outside.specs.declared.status.Status.{Status}
+use Rattle.outside.specs.declared.status.Status.TheVariants.{ReadFault, WriteFault, LinkFault}
+use Rattle.outside.specs.Jobs.{Job}
 
 -- there is room for all that an answer writes and names, and the links that it asks for are to come
 pub record HasRoomFor (a : Answer) (v : View) : Type 0 where

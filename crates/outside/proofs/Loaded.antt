@@ -1,9 +1,9 @@
 -- What is made of a file, from what is made of the text that was read of it.
 use Rattle.std.proofs.Common.{◌≡◌, ℕ, ◌<◌, List, ◌++◌, length, Result, sym, subst}
 use Rattle.tl_base.specs.declared.host.Slot.{Slot}
-use Rattle.command_base.specs.declared.stop.Unmade.{Unmade}
-use Rattle.command_base.specs.declared.stop.Unmade.TheVariants as unmade
-use Rattle.command_base.specs.Loading.{Refuses, Gives}
+use Rattle.outside.specs.declared.stop.Unmade.{Unmade}
+use Rattle.outside.specs.declared.stop.Unmade.TheVariants as unmade
+use Rattle.outside.specs.Loading.{Refuses, Gives}
 
 -- ---- a refusal
 

@@ -1,7 +1,7 @@
 -- How a run that stopped is told on Errors. This project's own.
 use Rattle.std.specs.Prelude.{◌≡◌, ◌⊎◌, ℕ, List, ◌++◌}
 use Rattle.tl_base.specs.Outside.{View}
-use Rattle.command_base.specs.Kept.{AddsPrefix}
+use Rattle.outside.specs.Kept.{AddsPrefix}
 
 -- the line was told on Errors, or a prefix of it where a write failed
 abbrev pub Tells : Type 0 → List ℕ → View → View → Type 0

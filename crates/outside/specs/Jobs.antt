@@ -3,12 +3,12 @@ use Rattle.std.specs.Prelude.{◌≡◌, ◌⊎◌, ℕ, List, ◌++◌, Result,
 use Rattle.std.specs.declared.alloc.Global.{Global}
 use Rattle.std.specs.declared.alloc.AllocError.{AllocError}
 use Rattle.tl_base.specs.Outside.{View}
-use Rattle.command_base.specs.declared.stop.Stop.{Stop}
-use Rattle.command_base.specs.declared.stop.Stop.TheVariants as stop
-use Rattle.command_base.specs.declared.stop.Unmade.{Unmade}
-use Rattle.command_base.specs.declared.stop.Unmade.TheVariants as unmade
-use Rattle.command_base.specs.Answer.{Answer}
-use Rattle.command_base.specs.Kept.{AddsPrefix, Leaves}
+use Rattle.outside.specs.declared.stop.Stop.{Stop}
+use Rattle.outside.specs.declared.stop.Stop.TheVariants as stop
+use Rattle.outside.specs.declared.stop.Unmade.{Unmade}
+use Rattle.outside.specs.declared.stop.Unmade.TheVariants as unmade
+use Rattle.outside.specs.Answer.{Answer}
+use Rattle.outside.specs.Kept.{AddsPrefix, Leaves}
 
 -- A job: what is answered over an outside; what may be answered there where a link failed that others follow; what its first parts gave, where its
 -- work may stop between them, before there is an answer; whether its work writes its Output in pieces and may stop between them, reads on between these

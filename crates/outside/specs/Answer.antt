@@ -1,7 +1,7 @@
 -- What a command answers: its status, what it writes, and what it leaves. This project's own.
 use Rattle.std.specs.Prelude.{ℕ, List, [], ◌++◌, Option, None, codes, decimal}
-use Rattle.command_base.specs.declared.status.Status.{Status}
-use Rattle.command_base.specs.declared.status.Status.TheVariants.{Done, Refused, Usage, ReadFault, WriteFault, Memory, LinkFault, PeerFault}
+use Rattle.outside.specs.declared.status.Status.{Status}
+use Rattle.outside.specs.declared.status.Status.TheVariants.{Done, Refused, Usage, ReadFault, WriteFault, Memory, LinkFault, PeerFault}
 
 -- the number that a process ends with
 abbrev pub status_number : Status → ℕ

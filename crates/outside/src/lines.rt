@@ -1,6 +1,6 @@
 //! Lines of refusals.
 ghost use Rattle.std.specs.Prelude.{◌≡◌, IfOk};
-ghost use Rattle.command_base.specs.Answer.{decl_line, placed_line, unplaced_line};
+ghost use Rattle.outside.specs.Answer.{decl_line, placed_line, unplaced_line};
 
 use std::alloc::{AllocError, Global};
 

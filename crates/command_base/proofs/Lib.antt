@@ -1,2 +1,0 @@
-pub mod SameFiles
-pub mod Loaded

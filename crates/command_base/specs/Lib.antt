@@ -1,6 +1,0 @@
-pub mod Answer
-pub mod Kept
-pub mod Telling
-pub mod Jobs
-pub mod Sound
-pub mod Loading
