@@ -11,3 +11,7 @@ pub mod Offsets
 pub mod ToldFaults
 pub mod ToldEvents
 pub mod NextPackets
+pub mod Going
+pub mod Taking
+pub mod CallingLaws
+pub mod FilesTold

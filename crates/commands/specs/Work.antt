@@ -13,7 +13,7 @@ use Rattle.codec_rooms.specs.Check.{checks}
 use Rattle.codec_rooms.specs.Decode.{decodes}
 use Rattle.codec_rooms.specs.Encode.{encodes}
 use Rattle.codec_rooms.specs.Layers.{compares}
-use Rattle.call_rooms.specs.Calls.{tells_calls}
+use Rattle.call_commands.specs.CallsWork.{tells_calls}
 use Rattle.update_rooms.specs.Make.{makes}
 use Rattle.update_rooms.specs.Replay.{replays}
 use Rattle.session_rooms.specs.Client.{recovers}

@@ -5,7 +5,7 @@ ghost use Rattle.commands.specs.Requests.{IsInRange, request_text};
 ghost use Rattle.commands.specs.Work.{RanWords, RunsRequest};
 
 use crate::request::{Request, request_of};
-use call_rooms::run_calls;
+use call_commands::run_calls;
 use codec_rooms::{run_check, run_decode, run_encode, run_layers};
 use outside::Status;
 use outside::{Host, tell};

@@ -20,8 +20,8 @@ use Rattle.codec_rooms.proofs.Checking as checking
 use Rattle.codec_rooms.proofs.DecodingLaws as decoding
 use Rattle.codec_rooms.proofs.EncodingLaws as encoding
 use Rattle.codec_rooms.proofs.LayeringLaws as layering
-use Rattle.call_rooms.specs.Commands as calling
-use Rattle.call_rooms.proofs.CallingLaws as calling_laws
+use Rattle.call_commands.specs.Commands as calling
+use Rattle.call_commands.proofs.CallingLaws as calling_laws
 use Rattle.update_rooms.specs.Commands as updating
 use Rattle.update_rooms.proofs.MakingLaws as making
 use Rattle.update_rooms.proofs.ReplayingLaws as replaying

@@ -37,7 +37,7 @@ use Rattle.call_commands.specs.Calls.{CallsAnswer, HasSchema, OfInputFile, OfPac
 use Rattle.call_commands.specs.Calls as answers
 use Rattle.codec_rooms.specs.Typed.{OfText, after_schema, no_schema, schema_of}
 use Rattle.codec_rooms.proofs.TypedFiles.{text_stays}
-use Rattle.call_rooms.specs.Calls.{OfInput, after_opening, tells_calls}
+use Rattle.call_commands.specs.CallsWork.{OfInput, after_opening, tells_calls}
 use Rattle.run_laws.specs.Ended.{Ended, IsShown, LinkFailed, ReadFailed, RunsJob, WriteFailed}
 use Rattle.run_laws.specs.Ended as ended
 use Rattle.run_laws.proofs.files.Coming.{Spares, spares_as, spares_both, spares_more}

@@ -31,7 +31,7 @@ use Rattle.call_commands.specs.CallReports as reports
 use Rattle.call_commands.specs.Calls.{OfPackets}
 use Rattle.call_commands.specs.Calls as answers
 use Rattle.call_commands.proofs.EachFile.{answered_next, output_after}
-use Rattle.call_rooms.specs.Calls.{SoFar, so_far, Last, TellsRefusal, after_line, after_packet, end_of, OfPacket, no_packet, too_long, told, TellsNext, TellsPackets}
+use Rattle.call_commands.specs.CallsWork.{SoFar, so_far, Last, TellsRefusal, after_line, after_packet, end_of, OfPacket, no_packet, too_long, told, TellsNext, TellsPackets}
 use Rattle.run_laws.proofs.files.Coming.{Spares, none_missing}
 use Rattle.run_laws.proofs.files.Cutting.{Cut, past, within, begun_writes, cut, some_more, some_written}
 use Rattle.run_laws.proofs.files.Packets.{packet_left}

@@ -1,0 +1,5 @@
+use Rattle.call_commands.proofs.FilesTold as told
+use Rattle.call_commands.proofs.runs.calls_answers.Goals as goal
+
+pub returns : goal.returns
+returns c = told.calls_answers

@@ -1,4 +1,0 @@
-pub mod Going
-pub mod Taking
-pub mod CallingLaws
-pub mod FilesTold

@@ -1,5 +1,0 @@
-use Rattle.call_rooms.proofs.CallingLaws as calling
-use Rattle.call_rooms.proofs.laws.calls_reads.Goals as goal
-
-pub returns : goal.returns
-returns c = calling.calls_reads
