@@ -14,8 +14,8 @@ use Rattle.codec_rooms.specs.Decode.{decodes}
 use Rattle.codec_rooms.specs.Encode.{encodes}
 use Rattle.codec_rooms.specs.Layers.{compares}
 use Rattle.call_commands.specs.CallsWork.{tells_calls}
-use Rattle.update_rooms.specs.Make.{makes}
-use Rattle.update_rooms.specs.Replay.{replays}
+use Rattle.update_commands.specs.MakeWork.{makes}
+use Rattle.update_commands.specs.ReplayWork.{replays}
 use Rattle.session_rooms.specs.Client.{recovers}
 use Rattle.session_rooms.specs.Post.{posts}
 use Rattle.serve_rooms.specs.Acts.{Act, KeptGrew, KeptState}

@@ -12,7 +12,7 @@ use outside::{Host, tell};
 use serve_rooms::run_serve;
 use session_rooms::{run_client, run_post};
 use std::alloc::Global;
-use update_rooms::{run_make, run_replay};
+use update_commands::{run_make, run_replay};
 
 /// What is told where the words are no row.
 pub const USAGE: &[u8] =

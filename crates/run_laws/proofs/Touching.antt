@@ -22,9 +22,9 @@ use Rattle.codec_rooms.proofs.EncodingLaws as encoding
 use Rattle.codec_rooms.proofs.LayeringLaws as layering
 use Rattle.call_commands.specs.Commands as calling
 use Rattle.call_commands.proofs.CallingLaws as calling_laws
-use Rattle.update_rooms.specs.Commands as updating
-use Rattle.update_rooms.proofs.MakingLaws as making
-use Rattle.update_rooms.proofs.ReplayingLaws as replaying
+use Rattle.update_commands.specs.Commands as updating
+use Rattle.update_commands.proofs.MakingLaws as making
+use Rattle.update_commands.proofs.ReplayingLaws as replaying
 use Rattle.session_rooms.proofs.ClientLaws as recovering
 use Rattle.session_rooms.proofs.PostLaws as posting
 use Rattle.serve_rooms.proofs.ServeLaws as serving

@@ -14,7 +14,7 @@ use Rattle.outside.specs.Laws.{Happened, IsFailure, IsFromLink, Throughout}
 use Rattle.codec_rooms.specs.Commands as codec
 use Rattle.codec_rooms.specs.Laws.{IsOf}
 use Rattle.call_commands.specs.Commands as calling
-use Rattle.update_rooms.specs.Commands as updating
+use Rattle.update_commands.specs.Commands as updating
 use Rattle.session_rooms.specs.ClientLaws.{IsOfClient}
 use Rattle.session_rooms.specs.PostLaws.{IsOfPost}
 use Rattle.serve_rooms.specs.ServeLaws.{IsOfServe}

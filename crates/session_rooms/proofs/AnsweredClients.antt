@@ -36,7 +36,7 @@ use Rattle.codec_rooms.specs.Laws.{IsAnswer}
 use Rattle.codec_rooms.specs.Typed.{OfText, no_schema, schema_of, after_schema}
 use Rattle.codec_rooms.proofs.FileLaws.{run_done}
 use Rattle.codec_rooms.proofs.TypedFiles.{text_stays}
-use Rattle.update_rooms.specs.Profile.{OfProfile, no_profile, profiled}
+use Rattle.update_commands.specs.Profile.{OfProfile, no_profile, profiled}
 use Rattle.update_sessions.specs.declared.fault.SessionFault.{SessionFault}
 use Rattle.session_commands.specs.Client.{ClientAnswer, HasClient, begins, loads, TellsNoClient, client_line, many_channels_line}
 use Rattle.session_commands.specs.Client as old

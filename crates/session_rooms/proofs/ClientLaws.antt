@@ -27,8 +27,8 @@ use Rattle.outside.specs.Steps.{Turn, again, leave, Reaches, here, turn}
 use Rattle.outside.proofs.Causing.{cause_print, cause_run, cause_tell, cause_then, explains_last, happened_first, happened_last, keeps_begun, keeps_call, keeps_file, keeps_print, keeps_tell, keeps_then, keeps_write, throughout_both, unread_file, unwritten}
 use Rattle.outside.proofs.TakenPackets.{IsUnbroken, broken_packet, packet_came}
 use Rattle.codec_rooms.proofs.TypedLaws.{keeps_of_file, cause_of_file}
-use Rattle.update_rooms.specs.Profile.{OfProfile}
-use Rattle.update_rooms.proofs.ProfiledLaws.{keeps_profile, cause_profile}
+use Rattle.update_commands.specs.Profile.{OfProfile}
+use Rattle.update_commands.proofs.ProfiledLaws.{keeps_profile, cause_profile}
 use Rattle.update_sessions.specs.declared.fault.SessionFault.{SessionFault}
 use Rattle.update_sessions.specs.declared.fault.SessionFault.TheVariants as session
 use Rattle.update_sessions.specs.declared.fault.TheConstants.{MAX_FRAMES}

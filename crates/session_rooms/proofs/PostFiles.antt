@@ -45,7 +45,7 @@ use Rattle.codec_rooms.specs.Laws.{IsAnswer}
 use Rattle.codec_rooms.specs.Typed as typed
 use Rattle.codec_rooms.proofs.FileLaws.{run_done}
 use Rattle.codec_rooms.proofs.TypedFiles.{text_stays}
-use Rattle.update_rooms.specs.Profile.{OfProfile, no_profile, profiled}
+use Rattle.update_commands.specs.Profile.{OfProfile, no_profile, profiled}
 use Rattle.update_sessions.specs.Heard.{NoFrame}
 use Rattle.session_commands.specs.Lines.{long_call_line, packet_line}
 use Rattle.session_commands.specs.Linked.{next_link, over_link}

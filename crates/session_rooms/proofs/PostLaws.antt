@@ -20,8 +20,8 @@ use Rattle.outside.proofs.TakenPackets.{broken_packet, keeps_packet, packet_came
 use Rattle.codec_rooms.proofs.TypedLaws.{keeps_of_file, cause_of_file}
 use Rattle.schema_files.specs.Lines.{json_line}
 use Rattle.schema_files.specs.declared.json_input.TheConstants.{JSON_BYTES}
-use Rattle.update_rooms.specs.Profile.{OfProfile}
-use Rattle.update_rooms.proofs.ProfiledLaws.{keeps_profile, cause_profile}
+use Rattle.update_commands.specs.Profile.{OfProfile}
+use Rattle.update_commands.proofs.ProfiledLaws.{keeps_profile, cause_profile}
 use Rattle.session_commands.specs.Post.{Outcome, shows, peer}
 use Rattle.session_rooms.specs.Post.{CallsOver, OfCall, no_call, long_call, calls_it, OfInputFile, OfText, no_json, json_of, after_connect, after_packet, after_reading, after_sending, posts, told_as}
 use Rattle.session_rooms.specs.PostLaws.{IsOfPost, PostTouches, PostHasCause}

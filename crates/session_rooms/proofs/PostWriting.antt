@@ -40,7 +40,7 @@ use Rattle.fault_lines.specs.Profiled as profiling
 use Rattle.fault_lines.proofs.Profiled.{are_profiles}
 use Rattle.codec_rooms.specs.Typed as typed
 use Rattle.codec_rooms.proofs.TypedFiles.{text_stays}
-use Rattle.update_rooms.specs.Profile.{OfProfile, no_profile, profiled}
+use Rattle.update_commands.specs.Profile.{OfProfile, no_profile, profiled}
 use Rattle.session_commands.specs.Linked.{next_link}
 use Rattle.session_commands.specs.Post.{Outcome, OfLink, OfSent, PostAnswer, answer_of, packet_of, peer, shows}
 use Rattle.session_commands.specs.Post as answer

@@ -16,7 +16,7 @@ use Rattle.outside.specs.Pieces.{ReadsFile, Tells, Writes}
 use Rattle.outside.specs.Printing.{Prints, Unread}
 use Rattle.outside.specs.Steps.{Step, Calls, Then}
 use Rattle.codec_rooms.specs.Typed.{OfCommand}
-use Rattle.update_rooms.specs.Profile.{OfProfile}
+use Rattle.update_commands.specs.Profile.{OfProfile}
 use Rattle.session_commands.specs.declared.state.TheConstants.{MAX_STATE_BYTES}
 use Rattle.session_commands.specs.Client.{HasClient, TellsNoClient, watch_all, many_channels_line, client_line}
 use Rattle.session_commands.specs.SessionEnds.{session_line}

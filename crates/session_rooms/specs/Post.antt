@@ -28,7 +28,7 @@ use Rattle.schema_files.specs.JsonInput.{IsJsonOf, JsonRefused}
 use Rattle.schema_files.specs.Lines.{json_line}
 use Rattle.schema_files.specs.declared.json_input.TheConstants.{JSON_BYTES}
 use Rattle.codec_rooms.specs.Typed.{OfCommand}
-use Rattle.update_rooms.specs.Profile.{OfProfile}
+use Rattle.update_commands.specs.Profile.{OfProfile}
 use Rattle.update_sessions.specs.Packed.{MeansCall}
 use Rattle.session_commands.specs.Lines.{long_call_line}
 use Rattle.session_commands.specs.Post.{Outcome, OfBody, shows, peer}

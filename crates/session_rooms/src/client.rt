@@ -5,7 +5,7 @@ ghost use Rattle.outside.specs.Begun.{DidIn, to_link};
 ghost use Rattle.tl_schema.specs.CheckedPrograms.{IsSchema};
 ghost use Rattle.wire_profile.specs.Profiles.{IsProfile};
 ghost use Rattle.codec_rooms.specs.Typed.{OfText};
-ghost use Rattle.update_rooms.specs.Profile.{OfProfile};
+ghost use Rattle.update_commands.specs.Profile.{OfProfile};
 ghost use Rattle.session_rooms.specs.Client.{OfState, OfStateFile, Recovers, after_connect, recovers};
 ghost use Rattle.session_rooms.specs.inner.Ends.{MakesClient};
 

@@ -9,7 +9,7 @@ ghost use Rattle.schema_files.specs.Parts.{ReadsJson};
 ghost use Rattle.wire_profile.specs.Profiles.{IsProfile};
 ghost use Rattle.box_events.specs.declared.limits.TheConstants.{MAX_FRAME_BYTES};
 ghost use Rattle.codec_rooms.specs.Typed.{OfText as OfSchemaText};
-ghost use Rattle.update_rooms.specs.Profile.{OfProfile};
+ghost use Rattle.update_commands.specs.Profile.{OfProfile};
 ghost use Rattle.session_rooms.specs.Post.{CallsOver, OfInputFile, OfText, TellsBody, after_connect, after_sending, posts};
 ghost use Rattle.session_rooms.specs.inner.Sent.{MakesCall, TellsNoPacket};
 

@@ -2,3 +2,8 @@ pub mod Steps
 pub mod Replay
 pub mod Replaying
 pub mod Make
+pub mod Profile
+pub mod MakeWork
+pub mod ReplayWork
+pub mod Commands
+pub mod inner

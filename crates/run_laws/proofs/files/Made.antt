@@ -8,8 +8,8 @@ use Rattle.outside.specs.Answer.{Answer}
 use Rattle.fault_lines.specs.Profiled as answer
 use Rattle.update_commands.specs.Make.{MakeAnswer, OfMadeRun, make_job, summed, too_full}
 use Rattle.update_commands.proofs.OneMake.{one_make}
-use Rattle.update_rooms.specs.Make.{makes, makes_by}
-use Rattle.update_rooms.specs.Profile.{OfProfile}
+use Rattle.update_commands.specs.MakeWork.{makes, makes_by}
+use Rattle.update_commands.specs.Profile.{OfProfile}
 use Rattle.run_laws.specs.Ended.{RunsJob}
 use Rattle.run_laws.proofs.files.Coming.{Comes, comes_print}
 use Rattle.run_laws.proofs.files.Ending.{IsPrinted, done_printed, refused_printed, runs_silent}

@@ -11,7 +11,7 @@ use Rattle.fault_lines.specs.Profiled as answer
 use Rattle.fault_lines.proofs.Profiled.{one_schema}
 use Rattle.outside.specs.Events.{Outside}
 use Rattle.outside.specs.Steps.{Step}
-use Rattle.update_rooms.specs.Profile.{OfProfile, no_profile, profiled}
+use Rattle.update_commands.specs.Profile.{OfProfile, no_profile, profiled}
 use Rattle.run_laws.proofs.files.Coming.{Comes, comes_as, comes_print}
 use Rattle.run_laws.proofs.files.Ending.{IsPrinted, refused_printed}
 

@@ -20,8 +20,8 @@ use Rattle.update_commands.specs.Replaying.{IsSeen}
 use Rattle.update_commands.proofs.JournalFiles.{stays_long}
 use Rattle.update_commands.proofs.OneReplay.{some_is}
 use Rattle.update_commands.proofs.ProfiledFiles.{each_has_one}
-use Rattle.update_rooms.specs.Profile.{OfProfile}
-use Rattle.update_rooms.specs.Replay.{after_journal, replays, replays_by}
+use Rattle.update_commands.specs.Profile.{OfProfile}
+use Rattle.update_commands.specs.ReplayWork.{after_journal, replays, replays_by}
 use Rattle.run_laws.specs.Ended.{RunsJob}
 use Rattle.run_laws.proofs.files.Coming.{Comes, comes_file}
 use Rattle.run_laws.proofs.files.Ending.{IsPrinted, after_printed, done_printed, runs_output}

@@ -35,7 +35,7 @@ use Rattle.outside.proofs.Fitting.{files_are_read, files_can_be_read, fits_both,
 use Rattle.outside.proofs.Sparing.{IsReading}
 use Rattle.fault_lines.proofs.Profiled.{are_profiles, profile_tells}
 use Rattle.codec_rooms.specs.Typed as typed
-use Rattle.update_rooms.specs.Profile.{OfProfile, no_profile, profiled}
+use Rattle.update_commands.specs.Profile.{OfProfile, no_profile, profiled}
 use Rattle.update_sessions.specs.Honest.{HearsHonestly}
 use Rattle.update_sessions.specs.declared.fault.SessionFault.{SessionFault}
 use Rattle.update_sessions.specs.declared.fault.SessionFault.TheVariants as session

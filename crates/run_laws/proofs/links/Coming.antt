@@ -33,7 +33,7 @@ use Rattle.fault_lines.proofs.Profiled.{are_profiles}
 use Rattle.codec_rooms.specs.Typed.{OfCommand}
 use Rattle.codec_rooms.specs.Typed as typed
 use Rattle.codec_rooms.proofs.TypedFiles.{text_stays}
-use Rattle.update_rooms.specs.Profile.{OfProfile, no_profile, profiled}
+use Rattle.update_commands.specs.Profile.{OfProfile, no_profile, profiled}
 use Rattle.session_commands.specs.Linked.{next_link}
 use Rattle.session_rooms.proofs.LeftViews.{beside, leaves_later, plain_leaves}
 use Rattle.session_rooms.proofs.PostFiles.{output_of}

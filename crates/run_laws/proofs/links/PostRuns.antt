@@ -24,7 +24,7 @@ use Rattle.schema_files.specs.Loaded.{IsSchemaText}
 use Rattle.fault_lines.specs.Profiled.{HasProfile}
 use Rattle.fault_lines.proofs.Profiled.{profile_tells}
 use Rattle.codec_rooms.specs.Typed as typed
-use Rattle.update_rooms.specs.Profile.{OfProfile, no_profile, profiled}
+use Rattle.update_commands.specs.Profile.{OfProfile, no_profile, profiled}
 use Rattle.session_commands.specs.Linked.{LeavesLinks, next_link}
 use Rattle.session_commands.specs.Post.{OfInput, Outcome, PostAnswer, PostKeeps, ReachesLink, answer_of, peer, post_job, shows}
 use Rattle.session_commands.specs.Post as answer

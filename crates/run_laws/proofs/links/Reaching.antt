@@ -32,7 +32,7 @@ use Rattle.codec_rooms.specs.Laws.{IsPrinted}
 use Rattle.codec_rooms.specs.Typed.{OfCommand}
 use Rattle.codec_rooms.specs.Typed as typed
 use Rattle.codec_rooms.proofs.TypedFiles.{text_stays}
-use Rattle.update_rooms.specs.Profile.{OfProfile, no_profile, profiled}
+use Rattle.update_commands.specs.Profile.{OfProfile, no_profile, profiled}
 use Rattle.session_commands.specs.Post.{ReachesLink}
 use Rattle.session_rooms.proofs.LeftViews.{SparesRest, all_leave, beside, spares_rest}
 

@@ -1,4 +1,4 @@
-use Rattle.update_rooms.proofs.Profiling.{profile_made, profile_refused}
+use Rattle.update_commands.proofs.Profiling.{profile_made, profile_refused}
 use Rattle.session_rooms.specs.Client.{OfStateFile}
 use Rattle.session_rooms.proofs.States.{can_state_file}
 use Rattle.session_rooms.proofs.client.recover_schema.Goals as goal

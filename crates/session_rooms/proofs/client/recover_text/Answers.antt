@@ -1,7 +1,7 @@
 use Rattle.std.proofs.Common.{codes}
 use Rattle.codec_rooms.proofs.Typing.{text_read, text_refused}
-use Rattle.update_rooms.specs.Profile.{OfProfile}
-use Rattle.update_rooms.proofs.Profiling.{can_profile}
+use Rattle.update_commands.specs.Profile.{OfProfile}
+use Rattle.update_commands.proofs.Profiling.{can_profile}
 use Rattle.session_rooms.specs.Client.{OfStateFile}
 use Rattle.session_rooms.proofs.States.{can_state_file}
 use Rattle.session_rooms.proofs.client.recover_text.Goals as goal

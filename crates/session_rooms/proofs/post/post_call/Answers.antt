@@ -8,8 +8,8 @@ use Rattle.outside.proofs.Begun.{may_file}
 use Rattle.outside.proofs.Growing.{did_any, did_more, did_stop, did_then_at}
 use Rattle.codec_rooms.specs.Typed.{after_schema}
 use Rattle.codec_rooms.proofs.Typing.{can_schema}
-use Rattle.update_rooms.specs.Profile.{OfProfile}
-use Rattle.update_rooms.proofs.Profiling.{can_profile}
+use Rattle.update_commands.specs.Profile.{OfProfile}
+use Rattle.update_commands.proofs.Profiling.{can_profile}
 use Rattle.session_rooms.specs.Post.{OfInputFile}
 use Rattle.session_rooms.proofs.Posting.{can_input}
 use Rattle.session_rooms.proofs.post.post_call.Goals as goal

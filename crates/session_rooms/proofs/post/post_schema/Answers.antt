@@ -1,4 +1,4 @@
-use Rattle.update_rooms.proofs.Profiling.{profile_made, profile_refused}
+use Rattle.update_commands.proofs.Profiling.{profile_made, profile_refused}
 use Rattle.session_rooms.specs.Post.{OfInputFile}
 use Rattle.session_rooms.proofs.Posting.{can_input}
 use Rattle.session_rooms.proofs.post.post_schema.Goals as goal

@@ -1,7 +1,7 @@
 use Rattle.std.proofs.Common.{codes}
 use Rattle.codec_rooms.proofs.Typing.{text_read, text_refused}
-use Rattle.update_rooms.specs.Profile.{OfProfile}
-use Rattle.update_rooms.proofs.Profiling.{can_profile}
+use Rattle.update_commands.specs.Profile.{OfProfile}
+use Rattle.update_commands.proofs.Profiling.{can_profile}
 use Rattle.session_rooms.specs.Post.{OfInputFile}
 use Rattle.session_rooms.proofs.Posting.{can_input}
 use Rattle.session_rooms.proofs.post.post_text.Goals as goal

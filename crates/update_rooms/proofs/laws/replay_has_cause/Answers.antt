@@ -1,5 +1,0 @@
-use Rattle.update_rooms.proofs.ReplayingLaws as laws
-use Rattle.update_rooms.proofs.laws.replay_has_cause.Goals as goal
-
-pub returns : goal.returns
-returns c = laws.replay_has_cause

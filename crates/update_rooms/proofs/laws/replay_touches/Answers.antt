@@ -1,5 +1,0 @@
-use Rattle.update_rooms.proofs.ReplayingLaws as laws
-use Rattle.update_rooms.proofs.laws.replay_touches.Goals as goal
-
-pub returns : goal.returns
-returns c = laws.replay_touches
