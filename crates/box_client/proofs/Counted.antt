@@ -2,7 +2,7 @@
 use Rattle.std.proofs.Common.{◌≡◌, ℕ, ◌+◌, List, [], ◌∷◌, ◌++◌, map, Bool, true, false, cond, ltb, eqb, ◌&&◌, ◌||◌, is_some, sum_by, refl, sym, ap, ap₂, ◌∙◌, arith}
 use Rattle.std.specs.FinMap.{get, len, insert}
 use Rattle.std.proofs.lemmas.List.{map-append}
-use Rattle.gap_buffer.specs.Holding.{Items, from, most}
+use Rattle.pts_machine.specs.Holding.{Items, from, most}
 use Rattle.pts_machine.specs.declared.mode.Mode.TheVariants.{Live}
 use Rattle.pts_machine.specs.declared.seen.Seen.TheVariants.{Already, Held, Dropped}
 use Rattle.pts_machine.specs.States.{LaneState, is_live}

@@ -7,7 +7,7 @@ use Rattle.std.specs.Cmp.{nat_cmp_total}
 use Rattle.std.specs.FinMap.{get, len, empty, insert, entries, entries_sorted, entries-from_sorted, len-entries, get-entries, find, is_sorted, get-empty, get-insert, get-retain_keys, same_map, nat_cmp-IsAntisymmetric}
 use Rattle.std.specs.FinMap.Entries.{below_all}
 use Rattle.std.proofs.lemmas.List.{length-map}
-use Rattle.gap_buffer.specs.Holding.{Items, from}
+use Rattle.pts_machine.specs.Holding.{Items, from}
 use Rattle.pts_machine.specs.Chains.{chain, reach}
 use Rattle.box_client.specs.Numbers.{mapped}
 

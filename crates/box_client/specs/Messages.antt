@@ -1,7 +1,7 @@
 -- A lane of messages alone, as that of the secret box is. This project's own.
 use Rattle.std.specs.Prelude.{◌≡◌, ℕ, List, [], ◌∷◌, Bool, true, ◌&&◌, Some}
 use Rattle.std.specs.FinMap as map_of
-use Rattle.gap_buffer.specs.Holding.{Items}
+use Rattle.pts_machine.specs.Holding.{Items}
 use Rattle.box_events.specs.Events.{EventView, is_new}
 use Rattle.pts_machine.specs.States.{LaneState}
 

@@ -2,7 +2,7 @@
 use Rattle.std.specs.Prelude.{ℕ, ◌+◌, ◌-◌, ℤ, List, [], ◌∷◌, ◌++◌, map, Bool, true, false, ◌||◌, ltb, cond, is_some, Option, Some, None}
 use Rattle.std.specs.Ordering.{int_eq}
 use Rattle.std.specs.FinMap as map_of
-use Rattle.gap_buffer.specs.Holding.{Items, from}
+use Rattle.pts_machine.specs.Holding.{Items, from}
 use Rattle.box_events.specs.Events.{count_of}
 use Rattle.box_events.specs.declared.updates.Update.{Update}
 use Rattle.box_events.specs.declared.updates.Update.TheVariants.{Common, Secret, Channel, ChannelTooLong, Setting}

@@ -3,8 +3,8 @@ use Rattle.std.proofs.Common.{◌≡◌, ℕ, ◌+◌, ◌<◌, ◌≤◌, sym, 
 use Rattle.std.specs.Ordering.{nat_cmp}
 use Rattle.std.specs.FinMap.{empty, get-empty, insert}
 use Rattle.std.proofs.lemmas.Option.{none-some}
-use Rattle.gap_buffer.specs.Holding.{Items, from}
-use Rattle.gap_buffer.proofs.Maps.{from_some, insert_some}
+use Rattle.pts_machine.specs.Holding.{Items, from}
+use Rattle.pts_machine.proofs.Maps.{from_some, insert_some}
 use Rattle.pts_machine.specs.States.{AreSized, StartAfter}
 
 pub sized_from : {E : Type 0} (count : E → ℕ) (p : ℕ) (m : Items E) → AreSized count m → AreSized count (from p m)

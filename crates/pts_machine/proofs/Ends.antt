@@ -3,8 +3,8 @@ use Rattle.std.proofs.Common.{◌≡◌, ℕ, zero, suc, ◌+◌, ◌<◌, ◌�
 use Rattle.std.specs.List.{sum_by}
 use Rattle.std.specs.FinMap.{get, len, remove}
 use Rattle.std.proofs.lemmas.List.Sums.{sum_by-cons}
-use Rattle.gap_buffer.specs.Holding.{Items}
-use Rattle.gap_buffer.proofs.Maps.{above_remove, len_some, len_taken}
+use Rattle.pts_machine.specs.Holding.{Items}
+use Rattle.pts_machine.proofs.Maps.{above_remove, len_some, len_taken}
 use Rattle.pts_machine.specs.Chains.{chain, reach, EndsAfter, AreChained}
 use Rattle.pts_machine.specs.States.{AreSized}
 use Rattle.pts_machine.proofs.Links.{chain_step, reach_step, chain_ends, reach_ends, chain_above, reach_above, after_remove, chain_at, reach_at}

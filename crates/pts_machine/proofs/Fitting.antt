@@ -10,7 +10,7 @@ use Rattle.box_events.specs.Events.{EventView, count_of}
 use Rattle.box_events.specs.Boxes.{ending, IsBoundary, Between, AreCounted}
 use Rattle.box_events.proofs.Boundaries.{boundary_zero}
 use Rattle.box_events.proofs.Stretches.{between_grows, between_joins, between_none, stops_at, stretch_counts, stretch_inside, counted_right}
-use Rattle.gap_buffer.specs.Holding.{Items, from}
+use Rattle.pts_machine.specs.Holding.{Items, from}
 use Rattle.pts_machine.specs.declared.mode.Mode.TheVariants.{Live}
 use Rattle.pts_machine.specs.declared.seen.Seen.{Seen}
 use Rattle.pts_machine.specs.declared.seen.Seen.TheVariants.{Applied, Already, Held, Dropped}
@@ -18,7 +18,7 @@ use Rattle.pts_machine.specs.States.{LaneState, IsSound, StartAfter}
 use Rattle.pts_machine.specs.Chains.{chain, reach, EndsAfter}
 use Rattle.pts_machine.specs.Steps.{settle, hear, resumed, extend, restart_at, forget, asked, loaded, new_lane, Hears}
 use Rattle.pts_machine.specs.Fitting.{Fits}
-use Rattle.gap_buffer.proofs.Maps.{from_some, insert_some}
+use Rattle.pts_machine.proofs.Maps.{from_some, insert_some}
 use Rattle.pts_machine.proofs.Kept.{hears}
 use Rattle.pts_machine.proofs.Moves.{extend_up}
 

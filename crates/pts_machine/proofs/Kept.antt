@@ -7,12 +7,12 @@ use Rattle.std.proofs.lemmas.Bool.Decides.{nat_tests}
 use Rattle.std.proofs.lemmas.Bool.{cases_lt}
 use Rattle.std.proofs.lemmas.Option.{none-some}
 use Rattle.std.proofs.lemmas.List.Sums.{sum_by-append, sum_by_push}
-use Rattle.gap_buffer.specs.Holding.{Items, from, most}
+use Rattle.pts_machine.specs.Holding.{Items, from, most}
 use Rattle.pts_machine.specs.declared.mode.Mode.{Mode}
 use Rattle.pts_machine.specs.declared.mode.Mode.TheVariants.{Live, Asking, Again}
 use Rattle.pts_machine.specs.declared.seen.Seen.{Seen}
 use Rattle.pts_machine.specs.declared.seen.Seen.TheVariants.{Applied, Already, Held, Dropped}
-use Rattle.gap_buffer.proofs.Maps.{from_some}
+use Rattle.pts_machine.proofs.Maps.{from_some}
 use Rattle.pts_machine.specs.States.{LaneState, IsSound, AreSized, StartAfter, is_live}
 use Rattle.pts_machine.specs.Chains.{chain, reach, EndsAfter}
 use Rattle.pts_machine.specs.Steps.{Heard, settle, hear, applied, extend, resumed, restart_at, forget, asked, loaded, new_lane, IsPast, IsNext, Hears}

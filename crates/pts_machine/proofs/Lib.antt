@@ -7,3 +7,6 @@ pub mod Parts
 pub mod Fitting
 pub mod Takings
 pub mod Turns
+pub mod Maps
+mod Indexes
+mod Rises

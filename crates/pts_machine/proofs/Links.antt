@@ -2,8 +2,8 @@
 use Rattle.std.proofs.Common.{◌≡◌, ℕ, zero, suc, ◌<◌, ◌≤◌, List, [], ◌∷◌, ◌++◌, Option, Some, None, refl, ap, ◌∙◌, arith, append-nil}
 use Rattle.std.specs.Option.{option_map_or}
 use Rattle.std.specs.FinMap.{get, len, remove}
-use Rattle.gap_buffer.specs.Holding.{Items}
-use Rattle.gap_buffer.proofs.Maps.{remove_some, above_remove, len_some, len_taken}
+use Rattle.pts_machine.specs.Holding.{Items}
+use Rattle.pts_machine.proofs.Maps.{remove_some, above_remove, len_some, len_taken}
 use Rattle.pts_machine.specs.Chains.{chain, reach, EndsAfter}
 
 chain_over : {E : Type 0} (n p : ℕ) (m k : Items E) (a : Option (ℕ × E)) → get m p ≡ a → ((x : ℕ × E) → get m p ≡ Some x → chain n x.0 m ≡ chain n x.0 k) → option_map_or (λ x. x.1 ∷ chain n x.0 m) a [] ≡ option_map_or (λ x. x.1 ∷ chain n x.0 k) a []

@@ -2,8 +2,8 @@
 use Rattle.std.proofs.Common.{◌≡◌, ℕ, ◌+◌, ◌<◌, ◌≤◌, ◌++◌, List, [], ◌∷◌, Bool, true, false, ap, arith}
 use Rattle.std.specs.List.{sum_by}
 use Rattle.std.specs.FinMap.{len}
-use Rattle.gap_buffer.specs.Holding.{Items, from}
-use Rattle.gap_buffer.proofs.Maps.{from_some}
+use Rattle.pts_machine.specs.Holding.{Items, from}
+use Rattle.pts_machine.proofs.Maps.{from_some}
 use Rattle.pts_machine.specs.declared.mode.Mode.TheVariants.{Live}
 use Rattle.pts_machine.specs.declared.seen.Seen.{Seen}
 use Rattle.pts_machine.specs.declared.seen.Seen.TheVariants.{Applied, Already, Held, Dropped}

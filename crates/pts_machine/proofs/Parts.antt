@@ -3,9 +3,9 @@ use Rattle.std.proofs.Common.{◌≡◌, ℕ, ◌+◌, ◌<◌, ◌≤◌, ◌++
 use Rattle.std.specs.List.{sum_by}
 use Rattle.std.specs.FinMap.{get, len, empty, len-insert}
 use Rattle.std.specs.Cmp.{nat_cmp_total}
-use Rattle.gap_buffer.specs.Holding.{Items, GapView, from, most, Holds}
-use Rattle.gap_buffer.specs.declared.held.Held.{Held as HowHeld}
-use Rattle.gap_buffer.specs.declared.held.Held.TheVariants.{Kept, Already, Full}
+use Rattle.pts_machine.specs.Holding.{Items, GapView, from, most, Holds}
+use Rattle.pts_machine.specs.declared.held.Held.{Held as HowHeld}
+use Rattle.pts_machine.specs.declared.held.Held.TheVariants.{Kept, Already, Full}
 use Rattle.pts_machine.specs.declared.mode.Mode.{Mode}
 use Rattle.pts_machine.specs.declared.mode.Mode.TheVariants.{Live, Again}
 use Rattle.pts_machine.specs.declared.seen.Seen.{Seen}

@@ -6,3 +6,6 @@ pub mod Outcomes
 pub mod Fitting
 pub mod Takings
 pub mod Laws
+pub mod Holding
+pub mod BufferViews
+pub mod inner

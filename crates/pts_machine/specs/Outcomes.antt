@@ -1,7 +1,7 @@
 -- What came of an item, by how it was held. This project's own.
 use Rattle.std.specs.Prelude.{ℕ}
-use Rattle.gap_buffer.specs.declared.held.Held.{Held as HowHeld}
-use Rattle.gap_buffer.specs.declared.held.Held.TheVariants.{Kept, Already as Known, Full}
+use Rattle.pts_machine.specs.declared.held.Held.{Held as HowHeld}
+use Rattle.pts_machine.specs.declared.held.Held.TheVariants.{Kept, Already as Known, Full}
 use Rattle.pts_machine.specs.declared.seen.Seen.{Seen}
 use Rattle.pts_machine.specs.declared.seen.Seen.TheVariants.{Already, Held, Dropped}
 

@@ -1,7 +1,7 @@
 -- What takes held items: one item, and items in turn. This project's own.
 use Rattle.std.specs.Prelude.{◌≡◌, ℕ, ◌+◌, ◌≤◌, List, [], ◌∷◌, ◌++◌, Some, Vec, vec_len, vec_capacity}
 use Rattle.std.specs.FinMap as map
-use Rattle.gap_buffer.specs.Holding.{Items}
+use Rattle.pts_machine.specs.Holding.{Items}
 
 -- the item is one of some held items, for which there is room
 abbrev pub IsHeldIn : {E : Type 0} → (Items E → Type 0) → E → Type 0

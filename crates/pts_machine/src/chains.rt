@@ -1,13 +1,13 @@
 //! Held items that follow one another.
 ghost use Rattle.std.specs.Prelude.{◌≡◌, ◌≤◌, ◌+◌, ◌++◌, ℕ, vec_len, vec_capacity, None, length};
 ghost use Rattle.std.specs.FinMap as map;
-ghost use Rattle.gap_buffer.specs.Holding.{from};
+ghost use Rattle.pts_machine.specs.Holding.{from};
 ghost use Rattle.pts_machine.specs.Chains.{chain, reach, EndsAfter};
 ghost use Rattle.pts_machine.specs.Takings.{InTurn};
 
 use crate::counted::Counted;
 use crate::takes::Takes;
-use gap_buffer::Gap;
+use crate::Gap;
 
 /// Gives the held items that follow from a position to what takes them, and answers where they end.
 pub fn follow<E: Drop, T: Takes<E>>(into: &mut T, at: u32, gap: &mut Gap<E>) -> u32

@@ -11,7 +11,7 @@ use crate::counted::Counted;
 use crate::mode::{Mode, is_next};
 use crate::seen::{Seen, outcome_of};
 use crate::stretches::{append, end_of};
-use gap_buffer::Gap;
+use crate::Gap;
 use std::alloc::Global;
 use std::marker::Model;
 use tl_base::Memory;

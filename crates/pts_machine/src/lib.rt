@@ -3,6 +3,8 @@
 
 mod chains;
 mod counted;
+mod gap;
+mod held;
 mod lane;
 mod laws;
 mod mode;
@@ -12,6 +14,8 @@ mod takes;
 
 pub use chains::follow;
 pub use counted::Counted;
+pub use gap::Gap;
+pub use held::Held;
 pub use lane::Lane;
 pub use laws::{
     hearing_is_told, lanes_fit_boxes, lanes_go_in_turn, lanes_lie_within_boxes, lanes_move_on,

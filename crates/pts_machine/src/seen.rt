@@ -2,7 +2,7 @@
 ghost use Rattle.std.specs.Prelude.{◌≡◌};
 ghost use Rattle.pts_machine.specs.Outcomes.{seen_by, kept_by};
 
-use gap_buffer::Held;
+use crate::Held;
 
 /// What came of an item.
 #[derive(Clone, Copy)]

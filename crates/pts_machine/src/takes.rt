@@ -1,7 +1,7 @@
 //! What takes held items.
 ghost use Rattle.std.specs.Prelude.{◌≡◌, ℕ, Some};
 ghost use Rattle.std.specs.FinMap as map;
-ghost use Rattle.gap_buffer.specs.Holding.{Items};
+ghost use Rattle.pts_machine.specs.Holding.{Items};
 ghost use Rattle.pts_machine.specs.Takings.{IsHeldIn};
 
 /// What takes held items in turn, and has room for each of them.

@@ -5,8 +5,8 @@ use Rattle.std.specs.Ordering.{nat_cmp}
 use Rattle.std.specs.FinMap.{len, insert, empty, get-empty}
 use Rattle.std.proofs.lemmas.Option.{none-some}
 use Rattle.std.proofs.lemmas.List.{length-append}
-use Rattle.gap_buffer.specs.Holding.{Items, from}
-use Rattle.gap_buffer.proofs.Maps.{from_some, insert_some}
+use Rattle.pts_machine.specs.Holding.{Items, from}
+use Rattle.pts_machine.proofs.Maps.{from_some, insert_some}
 use Rattle.pts_machine.specs.declared.mode.Mode.TheVariants.{Live}
 use Rattle.pts_machine.specs.declared.seen.Seen.{Seen}
 use Rattle.pts_machine.specs.declared.seen.Seen.TheVariants.{Applied, Already, Held, Dropped}

@@ -3,8 +3,8 @@ use Rattle.std.proofs.Common.{◌≡◌, ℕ, ◌<◌, ◌≤◌, Option, Some, 
 use Rattle.std.specs.Cmp.{nat_cmp_total}
 use Rattle.std.specs.FinMap.{get, remove, same_map, nat_cmp-IsAntisymmetric}
 use Rattle.std.proofs.lemmas.Bool.Decides.{nat_tests}
-use Rattle.gap_buffer.specs.Holding.{Items, from}
-use Rattle.gap_buffer.proofs.Maps.{get_from, same_from, above_remove}
+use Rattle.pts_machine.specs.Holding.{Items, from}
+use Rattle.pts_machine.proofs.Maps.{get_from, same_from, above_remove}
 use Rattle.pts_machine.proofs.Ends.{none_at, some_at, look}
 
 -- taking an item below a place leaves what is held from there on

@@ -3,7 +3,7 @@ use Rattle.std.proofs.Common.{◌≡◌, ℕ, zero, suc, ◌+◌, ◌<◌, ◌�
 use Rattle.std.specs.List.{All}
 use Rattle.std.specs.FinMap.{len}
 use Rattle.std.proofs.lemmas.List.{length-take, length-drop, get_or-take, get_or-drop}
-use Rattle.gap_buffer.specs.Holding.{Items}
+use Rattle.pts_machine.specs.Holding.{Items}
 use Rattle.pts_machine.specs.declared.mode.Mode.TheVariants.{Live}
 use Rattle.pts_machine.specs.declared.seen.Seen.{Seen}
 use Rattle.pts_machine.specs.declared.seen.Seen.TheVariants.{Applied, Already, Held, Dropped}

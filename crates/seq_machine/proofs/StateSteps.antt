@@ -1,7 +1,7 @@
 -- The steps of the settings, from what the parts of the code give.
 use Rattle.std.proofs.Common.{◌≡◌, ℕ, ◌+◌, ◌<◌, ◌≤◌, List, [], ◌∷◌, false, refl, ap, ◌∙◌}
 use Rattle.std.specs.FinMap.{len, empty}
-use Rattle.gap_buffer.specs.Holding.{Items, from}
+use Rattle.pts_machine.specs.Holding.{Items, from}
 use Rattle.pts_machine.specs.declared.mode.Mode.{Mode}
 use Rattle.pts_machine.specs.declared.mode.Mode.TheVariants.{Live}
 use Rattle.pts_machine.specs.declared.seen.Seen.{Seen}

@@ -1,7 +1,7 @@
 -- Each step of the settings keeps the table the latest.
 use Rattle.std.proofs.Common.{◌≡◌, ℕ, zero, suc, ◌≤◌, List, [], ◌∷◌, ◌++◌, refl, sym, subst, inl, inr}
 use Rattle.std.specs.FinMap.{len, insert}
-use Rattle.gap_buffer.specs.Holding.{Items, from}
+use Rattle.pts_machine.specs.Holding.{Items, from}
 use Rattle.pts_machine.specs.declared.mode.Mode.TheVariants.{Live}
 use Rattle.pts_machine.specs.declared.seen.Seen.{Seen}
 use Rattle.pts_machine.specs.declared.seen.Seen.TheVariants.{Applied, Already, Held, Dropped}
@@ -9,7 +9,7 @@ use Rattle.pts_machine.specs.Chains.{chain, reach}
 use Rattle.pts_machine.specs.States.{LaneState}
 use Rattle.pts_machine.specs.Steps.{settle, Hears}
 use Rattle.pts_machine.proofs.Ends.{none_at, some_at, look}
-use Rattle.gap_buffer.proofs.Maps.{from_some, insert_some}
+use Rattle.pts_machine.proofs.Maps.{from_some, insert_some}
 use Rattle.pts_machine.proofs.Kept.{hears}
 use Rattle.box_events.specs.declared.settings.Setting.{Setting}
 use Rattle.box_events.specs.SettingLists.{Values, Dated, IsLatest, IsOverlay, AreSince}

@@ -10,10 +10,10 @@ use Rattle.std.specs.FinMap.Entries.{by_order}
 use Rattle.std.proofs.lemmas.Bool.Decides.{nat_tests}
 use Rattle.std.proofs.lemmas.Option.{none-some}
 use Rattle.std.proofs.lemmas.List.Sums.{sum_by-cons}
-use Rattle.gap_buffer.specs.Holding.{Items, GapView, Holds}
-use Rattle.gap_buffer.specs.declared.held.Held.{Held as HowHeld}
-use Rattle.gap_buffer.specs.declared.held.Held.TheVariants.{Kept, Already, Full}
-use Rattle.gap_buffer.proofs.Maps.{untaken}
+use Rattle.pts_machine.specs.Holding.{Items, GapView, Holds}
+use Rattle.pts_machine.specs.declared.held.Held.{Held as HowHeld}
+use Rattle.pts_machine.specs.declared.held.Held.TheVariants.{Kept, Already, Full}
+use Rattle.pts_machine.proofs.Maps.{untaken}
 use Rattle.pts_machine.specs.Outcomes.{kept_by}
 use Rattle.seq_machine.specs.Packs.{Pack, size}
 use Rattle.seq_machine.specs.Totals.{total}

@@ -1,7 +1,7 @@
 -- A client's settings that agree with a server's list of them. This project's own.
 use Rattle.std.specs.Prelude.{◌≡◌, ℕ, ◌<◌, ◌≤◌, List, Some, length}
 use Rattle.std.specs.FinMap as map
-use Rattle.gap_buffer.specs.Holding.{Items}
+use Rattle.pts_machine.specs.Holding.{Items}
 use Rattle.box_events.specs.SettingLists.{Dated}
 use Rattle.seq_machine.specs.Packs.{Pack}
 use Rattle.seq_machine.specs.States.{SettingsState}

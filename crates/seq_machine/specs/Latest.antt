@@ -2,7 +2,7 @@
 use Rattle.std.specs.Prelude.{◌≡◌, ℕ, ◌≤◌, List, Some, take, drop, map as each}
 use Rattle.std.specs.List.{All}
 use Rattle.std.specs.FinMap as map
-use Rattle.gap_buffer.specs.Holding.{Items}
+use Rattle.pts_machine.specs.Holding.{Items}
 use Rattle.box_events.specs.SettingLists.{Values, Dated, IsLatest, AreSince}
 use Rattle.seq_machine.specs.Packs.{Pack, puts}
 use Rattle.seq_machine.specs.States.{SettingsState}

@@ -4,7 +4,7 @@
 use Rattle.std.specs.Prelude.{◌≡◌, ◌<◌, ◌+◌, ◌^◌, ℕ, List, [], refl}
 use Rattle.std.specs.Coded.{Coded, code_by, coded×, coded_ℕ}
 use Rattle.std.specs.FinMap as map
-use Rattle.gap_buffer.specs.Holding.{Items}
+use Rattle.pts_machine.specs.Holding.{Items}
 use Rattle.pts_machine.specs.declared.mode.Mode.{Mode}
 use Rattle.pts_machine.specs.declared.mode.Mode.TheVariants.{Live, Asking, Again}
 use Rattle.pts_machine.specs.declared.seen.Seen.{Seen}

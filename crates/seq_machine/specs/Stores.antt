@@ -1,6 +1,6 @@
 -- What applying a held pack does to the settings that were applied. This project's own.
 use Rattle.std.specs.Prelude.{◌≡◌, ◌+◌, ◌≤◌}
-use Rattle.gap_buffer.specs.Holding.{Items}
+use Rattle.pts_machine.specs.Holding.{Items}
 use Rattle.seq_machine.specs.declared.store.Store.{Store}
 use Rattle.seq_machine.specs.Packs.{Pack, size, puts}
 use Rattle.seq_machine.specs.Totals.{total}

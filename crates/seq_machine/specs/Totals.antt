@@ -2,7 +2,7 @@
 use Rattle.std.specs.Prelude.{ℕ}
 use Rattle.std.specs.List.{sum_by}
 use Rattle.std.specs.FinMap as map
-use Rattle.gap_buffer.specs.Holding.{Items}
+use Rattle.pts_machine.specs.Holding.{Items}
 use Rattle.seq_machine.specs.Packs.{Pack, size}
 
 -- the sizes of all held packs

@@ -1,14 +1,14 @@
 //! Packs that are applied in turn.
 ghost use Rattle.std.specs.Prelude.{◌≡◌, ◌≤◌, ◌+◌};
 ghost use Rattle.std.specs.FinMap as map;
-ghost use Rattle.gap_buffer.specs.Holding.{from};
+ghost use Rattle.pts_machine.specs.Holding.{from};
 ghost use Rattle.pts_machine.specs.Chains.{chain, reach, EndsAfter};
 ghost use Rattle.seq_machine.specs.Packs.{puts_all, last_date};
 ghost use Rattle.seq_machine.specs.Totals.{total};
 
 use crate::held_pack::HeldPack;
 use crate::store::Store;
-use gap_buffer::Gap;
+use pts_machine::Gap;
 use pts_machine::follow;
 
 // Drops the held packs below a position, and answers how many settings are held then.

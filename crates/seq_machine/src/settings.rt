@@ -15,7 +15,7 @@ use crate::held_pack::HeldPack;
 use crate::store::Store;
 use crate::table::Table;
 use box_events::Setting;
-use gap_buffer::Gap;
+use pts_machine::Gap;
 use pts_machine::{Mode, Seen, is_next, outcome_of};
 use std::alloc::{AllocError, Global};
 use std::marker::Model;

@@ -6,8 +6,8 @@ use Rattle.std.specs.Ordering.{nat_cmp}
 use Rattle.std.specs.FinMap.{get, len, insert, empty, get-empty, entries}
 use Rattle.std.proofs.lemmas.Option.{none-some}
 use Rattle.std.proofs.lemmas.List.Elements.{All-nil, All-cons, All-head, All-tail, All-push, All-append, All-take, All-drop}
-use Rattle.gap_buffer.specs.Holding.{Items, from}
-use Rattle.gap_buffer.proofs.Maps.{from_some, insert_some}
+use Rattle.pts_machine.specs.Holding.{Items, from}
+use Rattle.pts_machine.proofs.Maps.{from_some, insert_some}
 use Rattle.box_events.specs.Events.{EventView, added, count_of}
 use Rattle.box_events.specs.SettingLists.{Values}
 use Rattle.box_events.specs.declared.settings.Setting.{Setting}

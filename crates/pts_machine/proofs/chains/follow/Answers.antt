@@ -1,6 +1,6 @@
 use Rattle.std.proofs.Common.{◌≡◌, length, None, arith, sym, ap, ◌∙◌, subst}
 use Rattle.std.specs.FinMap.{get, len}
-use Rattle.gap_buffer.proofs.Maps.{above_remove, len_some, len_taken, len_untaken, get_untaken, untaken}
+use Rattle.pts_machine.proofs.Maps.{above_remove, len_some, len_taken, len_untaken, get_untaken, untaken}
 use Rattle.pts_machine.specs.Takings.{InTurn}
 use Rattle.pts_machine.specs.Takings.InTurn.{one_more}
 use Rattle.pts_machine.proofs.Links.{chain_step, reach_step, chain_ends, reach_ends, after_remove}

@@ -1,5 +1,5 @@
 use Rattle.std.proofs.Common.{length, arith, ap, ◌∙◌}
-use Rattle.gap_buffer.proofs.Maps.{len_some, len_taken}
+use Rattle.pts_machine.proofs.Maps.{len_some, len_taken}
 use Rattle.seq_machine.specs.Totals.{total}
 use Rattle.seq_machine.proofs.Sums.{total_taken}
 use Rattle.seq_machine.proofs.Below.{from_removed, all_from}

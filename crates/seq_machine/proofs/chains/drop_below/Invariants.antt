@@ -1,6 +1,6 @@
 use Rattle.std.proofs.Common.{◌≡◌, ◌≤◌}
 use Rattle.std.specs.FinMap.{len}
-use Rattle.gap_buffer.specs.Holding.{from}
+use Rattle.pts_machine.specs.Holding.{from}
 use Rattle.seq_machine.specs.Totals.{total}
 use Rattle.seq_machine.proofs.chains.drop_below.Given as goal
 

@@ -1,5 +1,5 @@
 use Rattle.std.proofs.Common.{◌∙◌, arith}
-use Rattle.gap_buffer.proofs.Maps.{same_from}
+use Rattle.pts_machine.proofs.Maps.{same_from}
 use Rattle.seq_machine.proofs.Stores.{are_applied}
 use Rattle.seq_machine.proofs.chains.settle.Goals as goal
 

@@ -1,5 +1,5 @@
 use Rattle.std.proofs.Common.{arith}
-use Rattle.gap_buffer.proofs.Maps.{len_some, len_taken}
+use Rattle.pts_machine.proofs.Maps.{len_some, len_taken}
 use Rattle.pts_machine.proofs.takes.VecTakes.take_in.Goals as goal
 
 pub unreachable-requires : goal.unreachable-requires

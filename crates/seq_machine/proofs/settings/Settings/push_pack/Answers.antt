@@ -1,5 +1,5 @@
 use Rattle.std.proofs.Common.{◌≡◌, ◌-◌, ◌<◌, refl, sym, ap, ◌∙◌, subst, arith, inl}
-use Rattle.gap_buffer.specs.Holding.{Holds}
+use Rattle.pts_machine.specs.Holding.{Holds}
 use Rattle.pts_machine.specs.declared.seen.Seen.TheVariants.{Applied, Already}
 use Rattle.pts_machine.specs.Outcomes.{seen_by, kept_by}
 use Rattle.pts_machine.proofs.Parts.{next_of, not_next_of, held_hears, held_spare, kept_most}

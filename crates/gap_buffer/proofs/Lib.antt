@@ -1,3 +1,0 @@
-pub mod Maps
-mod Indexes
-mod Rises

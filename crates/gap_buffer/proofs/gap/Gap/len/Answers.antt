@@ -1,8 +1,0 @@
-use Rattle.std.proofs.Common.{arith, ap}
-use Rattle.gap_buffer.proofs.Rises.{count_of}
-use Rattle.gap_buffer.proofs.gap.Gap.len.Goals as goal
-
-pub returns-clause-number : goal.returns-clause-number
-returns-clause-number g c =
-    let count = count_of c.self.inside.items.items c.args.self.now.held c.self.invariant.rising (ap (λ p. p.held) c.self.view_is) in
-    omega (arith, count, c.len.ensures)

@@ -1,5 +1,0 @@
-use Rattle.gap_buffer.proofs.Rises.{map_none}
-use Rattle.gap_buffer.proofs.gap.Gap.new.Goals as goal
-
-pub returns : goal.returns
-returns g c = rw c.new.ensures.items map_none
