@@ -5,12 +5,12 @@ use Rattle.box_events.specs.Events.{EventView, count_of}
 use Rattle.pts_machine.specs.States.{LaneState}
 use Rattle.pts_machine.specs.Steps.{extend}
 use Rattle.seq_machine.specs.States.{SettingsState, asks_again, overlaid}
-use Rattle.difference.specs.declared.fault.WeaveFault.{WeaveFault}
-use Rattle.difference.specs.declared.fault.WeaveFault.TheVariants.{Overlap, Uneven, Memory as WeaveMemory}
-use Rattle.difference.specs.Weaving.{Woven}
-use Rattle.difference.specs.Refusal.{Refuses}
-use Rattle.difference.specs.Weaves.{WeaveCause, woven_of}
-use Rattle.difference.proofs.Made.{is_made, is_why}
+use Rattle.box_events.specs.declared.difference_fault.WeaveFault.{WeaveFault}
+use Rattle.box_events.specs.declared.difference_fault.WeaveFault.TheVariants.{Overlap, Uneven, Memory as WeaveMemory}
+use Rattle.box_events.specs.Weaving.{Woven}
+use Rattle.box_events.specs.Refusal.{Refuses}
+use Rattle.box_events.specs.Weaves.{WeaveCause, woven_of}
+use Rattle.box_events.proofs.Made.{is_made, is_why}
 use Rattle.box_client.specs.declared.brought.Brought.{Brought}
 use Rattle.box_client.specs.Faults.{fault_by}
 use Rattle.box_client.specs.States.{ClientState}

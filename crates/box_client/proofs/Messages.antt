@@ -15,8 +15,8 @@ use Rattle.pts_machine.specs.Chains.{chain}
 use Rattle.pts_machine.specs.Steps.{settle, hear, extend, resumed, forget, asked, loaded, Hears}
 use Rattle.pts_machine.proofs.Ends.{look, none_at, some_at}
 use Rattle.pts_machine.proofs.Kept.{hears}
-use Rattle.difference.specs.Weaves.{woven_of, woven_when}
-use Rattle.difference.specs.Refusal.{covered}
+use Rattle.box_events.specs.Weaves.{woven_of, woven_when}
+use Rattle.box_events.specs.Refusal.{covered}
 use Rattle.box_client.specs.Messages.{are_messages, AreHeldMessages, HasMessages}
 
 both : (a b : Bool) → a ≡ true → b ≡ true → (a && b) ≡ true

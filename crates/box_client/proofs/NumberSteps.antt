@@ -19,8 +19,8 @@ use Rattle.pts_machine.specs.States.{LaneState}
 use Rattle.pts_machine.specs.Steps.{Heard, hear, settle, extend, restart_at, new_lane}
 use Rattle.seq_machine.specs.Packs.{Pack, pack_of, last_date, puts}
 use Rattle.seq_machine.specs.States.{SettingsState, lane_of, applied, hear_pack, overlaid, forgotten as settings_forgotten}
-use Rattle.difference.specs.Weaves.{WeaveCause, woven_of}
-use Rattle.difference.proofs.Made.{reaches}
+use Rattle.box_events.specs.Weaves.{WeaveCause, woven_of}
+use Rattle.box_events.proofs.Made.{reaches}
 use Rattle.channel_box.specs.States.{ChannelState, first, has_id}
 use Rattle.channel_box.specs.Steps.{at_first, watched, watched_if, may_watch, channel_of, is_dropped, is_asking, is_due, heard_by, flagged, woken, forgotten, asks_number, Answered, taken_by, answered_by, grown, replied as channel_replied_by, Ticked, ticked, and_asks, and_waits, channel_is_due}
 use Rattle.channel_box.proofs.Brought.{ending_sums}

@@ -15,8 +15,8 @@ use Rattle.pts_machine.specs.Steps.{extend, settle, forget}
 use Rattle.pts_machine.proofs.Moves.{hear_mode}
 use Rattle.seq_machine.specs.Packs.{pack_of}
 use Rattle.seq_machine.proofs.StateSteps.{pack_mode, overlay_live}
-use Rattle.difference.specs.declared.fault.WeaveFault.TheVariants.{Overlap, Uneven, Memory as WeaveMemory}
-use Rattle.difference.specs.Weaves.{WeaveCause, woven_of}
+use Rattle.box_events.specs.declared.difference_fault.WeaveFault.TheVariants.{Overlap, Uneven, Memory as WeaveMemory}
+use Rattle.box_events.specs.Weaves.{WeaveCause, woven_of}
 use Rattle.channel_box.specs.States.{ChannelState, first}
 use Rattle.channel_box.specs.Steps.{is_asking, asks_number, Answered, stale, refused, taken, answered, Ticked, ticked, and_asks, and_waits, channel_is_due}
 use Rattle.box_client.specs.declared.brought.Brought.{Brought}

@@ -3,7 +3,7 @@ use Rattle.std.proofs.Common.{◌≡◌, ℕ, ◌≤◌, List, Bool, true, false
 use Rattle.std.specs.Prelude.{Result}
 use Rattle.std.proofs.lemmas.Bool.Decides.{nat_tests}
 use Rattle.box_events.specs.Events.{EventView}
-use Rattle.difference.specs.Weaves.{WeaveCause}
+use Rattle.box_events.specs.Weaves.{WeaveCause}
 use Rattle.box_client.specs.Replies.{group_taken, group_woven}
 use Rattle.box_client.specs.Laws.{TakesWhatFits}
 

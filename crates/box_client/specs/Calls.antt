@@ -1,8 +1,8 @@
 -- What the calls do, by what they answer. This project's own.
 use Rattle.std.specs.Prelude.{◌≡◌, ◌≢◌, ℤ, ◌<◌, ◌≤◌, [], ◌∷◌, ◌++◌, length, true, false, Result, Ok, Err}
 use Rattle.box_events.specs.declared.limits.TheConstants.{MAX_CHANNELS}
-use Rattle.difference.specs.declared.fault.WeaveFault.TheVariants.{Overlap, Uneven, Memory as WeaveMemory}
-use Rattle.difference.specs.Weaves.{overlaps, uneven}
+use Rattle.box_events.specs.declared.difference_fault.WeaveFault.TheVariants.{Overlap, Uneven, Memory as WeaveMemory}
+use Rattle.box_events.specs.Weaves.{overlaps, uneven}
 use Rattle.pts_machine.specs.Steps.{new_lane}
 use Rattle.channel_box.specs.declared.fault.WatchFault.{WatchFault}
 use Rattle.channel_box.specs.declared.fault.WatchFault.TheVariants.{Already, TooMany, Memory as WatchMemory}

@@ -1,6 +1,6 @@
 -- A client's fault by that of weaving. This project's own.
-use Rattle.difference.specs.declared.fault.WeaveFault.{WeaveFault}
-use Rattle.difference.specs.declared.fault.WeaveFault.TheVariants.{Overlap, Uneven, Memory}
+use Rattle.box_events.specs.declared.difference_fault.WeaveFault.{WeaveFault}
+use Rattle.box_events.specs.declared.difference_fault.WeaveFault.TheVariants.{Overlap, Uneven, Memory}
 use Rattle.box_client.specs.declared.fault.ClientFault.{ClientFault}
 use Rattle.box_client.specs.declared.fault.ClientFault.TheVariants.{Weave, Memory as NoMemory}
 

@@ -5,7 +5,7 @@ use Rattle.box_events.specs.declared.requests.Numbered.{Numbered}
 use Rattle.box_events.specs.declared.updates.Push.{Push}
 use Rattle.box_events.specs.declared.replies.Reply.{Reply}
 use Rattle.channel_box.specs.Steps.{watched, may_watch}
-use Rattle.difference.specs.Weaves.{woven_of}
+use Rattle.box_events.specs.Weaves.{woven_of}
 use Rattle.box_client.specs.declared.brought.Brought.{Brought}
 use Rattle.box_client.specs.declared.loading.TheConstants.{MAX_NEXT}
 use Rattle.box_client.specs.States.{ClientState, new_client}

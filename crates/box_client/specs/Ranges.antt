@@ -10,8 +10,8 @@ use Rattle.box_events.specs.declared.replies.Reply.{Reply}
 use Rattle.box_events.specs.declared.replies.Reply.TheVariants.{State, Empty, Difference, Channel as ChannelAnswer, Receipt, Error}
 use Rattle.box_events.specs.declared.saved.Saved.{Saved}
 use Rattle.box_events.specs.declared.saved.SavedChannel.{SavedChannel}
-use Rattle.difference.specs.Refusal.{AreOthers}
-use Rattle.difference.specs.Laws.{AreCountedOthers}
+use Rattle.box_events.specs.Refusal.{AreOthers}
+use Rattle.box_events.specs.DifferenceLaws.{AreCountedOthers}
 use Rattle.channel_box.specs.Calls.{IsInRange}
 use Rattle.box_client.specs.Pushes.{settings_in}
 

@@ -1,6 +1,6 @@
 //! What comes of an answer, and why nothing is loaded.
 use box_events::LaneName;
-use difference::WeaveFault;
+use box_events::WeaveFault;
 use std::alloc::AllocError;
 use thiserror::Error;
 

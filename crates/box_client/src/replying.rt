@@ -1,7 +1,7 @@
 //! Answers.
 ghost use Rattle.std.specs.Prelude.{◌≡◌, ◌≤◌, ◌<◌, ◌^◌, length, OnOk, OnErr};
-ghost use Rattle.difference.specs.Refusal.{AreOthers};
-ghost use Rattle.difference.specs.Laws.{AreCountedOthers};
+ghost use Rattle.box_events.specs.Refusal.{AreOthers};
+ghost use Rattle.box_events.specs.DifferenceLaws.{AreCountedOthers};
 ghost use Rattle.seq_machine.specs.States.{overlaid};
 ghost use Rattle.channel_box.specs.Steps.{is_asking, asks_number};
 ghost use Rattle.box_client.specs.Replies.{brings, group_replied, channel_replied, replied};

@@ -8,3 +8,10 @@ pub mod BoxFacts
 pub mod KeptStretches
 pub mod LastSettings
 pub mod SettingDates
+pub mod Moving
+pub mod Apart
+pub mod Merged
+pub mod Once
+pub mod Joined
+pub mod Added
+pub mod Made

@@ -8,3 +8,8 @@ pub mod Asking
 pub mod SettingLists
 pub mod inner
 pub mod Laws
+pub mod Weaving
+pub mod Refusal
+pub mod Weaves
+pub mod PartsView
+pub mod DifferenceLaws

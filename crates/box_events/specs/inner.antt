@@ -4,3 +4,6 @@ pub mod Pages
 pub mod Chains
 pub mod Runs
 pub mod Insides
+-- What inner clauses cite; a reader of the contracts needs none of it.
+pub mod Merging
+pub mod Parted

@@ -2,6 +2,8 @@
 #![tactic(auto)]
 
 mod asks;
+mod difference_fault;
+mod difference_laws;
 mod event;
 mod event_box;
 mod fault;
@@ -11,6 +13,7 @@ mod limits;
 mod list_of;
 mod page;
 mod paging;
+mod parts;
 mod positions;
 mod replies;
 mod requests;
@@ -18,8 +21,11 @@ mod saved;
 mod settings;
 mod steps;
 mod updates;
+mod weaving;
 
 pub use asks::Asks;
+pub use difference_fault::WeaveFault;
+pub use difference_laws::woven_lists;
 pub use event::{Event, EventKind};
 pub use event_box::EventBox;
 pub use fault::BoxFault;
@@ -31,6 +37,7 @@ pub use limits::{
     PAGE_EVENTS, RECENT_BYTES, RECENT_EVENTS, RUN_BYTES, RUN_EVENTS,
 };
 pub use list_of::ListOf;
+pub use parts::{Parts, split};
 pub use positions::{LaneName, Receipt, State};
 pub use replies::{ChannelReply, Frame, Reply};
 pub use requests::{Numbered, Post, Request};
@@ -38,3 +45,4 @@ pub use saved::{Saved, SavedChannel, SavedLane};
 pub use settings::Setting;
 pub use steps::Step;
 pub use updates::{Placed, Push, Update};
+pub use weaving::weave;

@@ -14,8 +14,8 @@ use Rattle.box_events.specs.Events.{EventView, count_of}
 use Rattle.box_events.specs.Boxes.{ending, AreCounted}
 use Rattle.box_events.specs.BoxViews.{BoxView, end_of}
 use Rattle.box_events.proofs.Stretches.{counted_right}
-use Rattle.difference.specs.PartsView.{PartsView}
-use Rattle.difference.specs.Weaving.{Woven, bodies, others_from}
+use Rattle.box_events.specs.PartsView.{PartsView}
+use Rattle.box_events.specs.Weaving.{Woven, bodies, others_from}
 use Rattle.box_server.specs.Servers.{ServerState, channel_in, state_of}
 use Rattle.box_server.specs.LastEntries.{changed_since}
 use Rattle.box_server.specs.Runs.{events_after, run_of, recent_of}

@@ -10,8 +10,8 @@ use Rattle.box_events.specs.BoxViews.{BoxView, end_of, IsBoundaryOf}
 use Rattle.box_events.specs.Finding.{EventAt}
 use Rattle.box_events.proofs.Boundaries.{ending-append}
 use Rattle.box_events.proofs.Stretches.{counted_left, counted_right, same_cut}
-use Rattle.difference.specs.PartsView.{PartsView}
-use Rattle.difference.specs.Weaving.{bodies}
+use Rattle.box_events.specs.PartsView.{PartsView}
+use Rattle.box_events.specs.Weaving.{bodies}
 use Rattle.box_server.specs.Entries.{bytes_of}
 use Rattle.box_server.specs.Runs.{events_after, limited, run_of, last_bodies}
 use Rattle.box_server.specs.Answers.{is_whole}

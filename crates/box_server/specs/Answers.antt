@@ -12,7 +12,7 @@ use Rattle.box_events.specs.declared.replies.Reply.TheVariants.{State as StateRe
 use Rattle.box_events.specs.declared.settings.Setting.{Setting}
 use Rattle.box_events.specs.Events.{EventView}
 use Rattle.box_events.specs.Boxes.{ending}
-use Rattle.difference.specs.Weaving.{bodies, others_from}
+use Rattle.box_events.specs.Weaving.{bodies, others_from}
 use Rattle.box_server.specs.Servers.{ChannelBox, ServerState, channel_in, channel_end, state_of}
 use Rattle.box_server.specs.LastEntries.{changed_since}
 use Rattle.box_server.specs.Runs.{events_after, run_of, recent_of}

@@ -4,7 +4,7 @@
 use Rattle.std.specs.Prelude.{ℕ, zero, suc, ◌-◌, List, [], ◌∷◌, length, reverse, leb, if◌then◌else◌, Option, Some, None}
 use Rattle.box_events.specs.declared.limits.TheConstants.{RUN_EVENTS, RUN_BYTES, RECENT_EVENTS, RECENT_BYTES}
 use Rattle.box_events.specs.Events.{EventView, count_of}
-use Rattle.difference.specs.Weaving.{bodies}
+use Rattle.box_events.specs.Weaving.{bodies}
 use Rattle.box_server.specs.Entries.{bytes_of}
 
 -- the events after a boundary; none where the number is no boundary

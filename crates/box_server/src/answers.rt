@@ -2,7 +2,7 @@
 ghost use Rattle.std.specs.Prelude.{◌≡◌, ◌≤◌, ◌&&◌, ℤ, IfOk, nat_eq, length};
 ghost use Rattle.box_events.specs.BoxViews.{end_of};
 ghost use Rattle.box_events.specs.declared.replies.Reply.TheVariants.{Difference};
-ghost use Rattle.difference.specs.Weaving.{bodies, others_from};
+ghost use Rattle.box_events.specs.Weaving.{bodies, others_from};
 ghost use Rattle.box_server.specs.Answers.{no_position, is_far, channel_difference};
 ghost use Rattle.box_server.specs.inner.Carrying.{IsNumber, boxed};
 

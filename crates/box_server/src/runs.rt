@@ -2,7 +2,7 @@
 ghost use Rattle.std.specs.Prelude.{◌≡◌, [], IfOk, map, length};
 ghost use Rattle.box_events.specs.Events.{is_new};
 ghost use Rattle.box_events.specs.BoxViews.{IsBoundaryOf};
-ghost use Rattle.difference.specs.Weaving.{bodies};
+ghost use Rattle.box_events.specs.Weaving.{bodies};
 ghost use Rattle.box_server.specs.Entries.{bytes_of};
 ghost use Rattle.box_server.specs.Runs.{recent_of, limited};
 ghost use Rattle.box_server.specs.inner.Carrying.{Carries, Fills};
@@ -11,7 +11,7 @@ use box_events::{
     Event, EventBox, EventKind, ID_BYTES, ListOf, RECENT_BYTES, RECENT_EVENTS, RUN_BYTES,
     RUN_EVENTS,
 };
-use difference::Parts;
+use box_events::Parts;
 use std::alloc::Global;
 use tl_base::{Bytes, Memory};
 

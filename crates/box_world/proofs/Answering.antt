@@ -4,10 +4,10 @@ use Rattle.std.proofs.lemmas.Bool.Decides.{nat_tests}
 use Rattle.box_events.specs.Events.{EventView, is_new, count_of}
 use Rattle.box_events.specs.Boxes.{ending, IsBoundary, Between, AreCounted}
 use Rattle.box_events.proofs.Boundaries.{ending-append}
-use Rattle.difference.specs.Weaving.{bodies, others_from}
-use Rattle.difference.specs.Weaves.{woven_of}
-use Rattle.difference.proofs.Made.{is_made}
-use Rattle.difference.proofs.Merged.{new_first}
+use Rattle.box_events.specs.Weaving.{bodies, others_from}
+use Rattle.box_events.specs.Weaves.{woven_of}
+use Rattle.box_events.proofs.Made.{is_made}
+use Rattle.box_events.proofs.Merged.{new_first}
 use Rattle.box_server.specs.Entries.{bytes_of}
 use Rattle.box_server.specs.Runs.{events_after, limited, run_of}
 use Rattle.box_server.specs.Answers.{is_whole}

@@ -21,8 +21,8 @@ use Rattle.pts_machine.proofs.Kept.{sound_extend, sound_restart}
 use Rattle.pts_machine.specs.Steps.{extend, settle, restart_at}
 use Rattle.pts_machine.proofs.Fitting.{fits_after, fits_extend, fits_reaches, fits_restart}
 use Rattle.pts_machine.proofs.Moves.{restart_up}
-use Rattle.difference.specs.Weaving.{bodies, others_from}
-use Rattle.difference.specs.Weaves.{WeaveCause, woven_of}
+use Rattle.box_events.specs.Weaving.{bodies, others_from}
+use Rattle.box_events.specs.Weaves.{WeaveCause, woven_of}
 use Rattle.channel_box.specs.States.{ChannelState, first}
 use Rattle.channel_box.specs.Steps.{at_first, asks_number, is_asking, grown, Answered, stale, refused, taken, taken_by, answered_by, answered}
 use Rattle.channel_box.specs.Steps as channels

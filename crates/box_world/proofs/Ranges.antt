@@ -17,9 +17,9 @@ use Rattle.box_events.specs.declared.steps.Step.TheVariants as step
 use Rattle.box_events.specs.Events.{EventView, added, count_of, is_new}
 use Rattle.box_events.specs.Boxes.{ending, AreCounted, IsBoundary}
 use Rattle.box_events.proofs.Boundaries.{ending-append}
-use Rattle.difference.specs.Weaving.{bodies, others_from}
-use Rattle.difference.specs.Refusal.{AreOthers}
-use Rattle.difference.specs.Laws.{AreCountedOthers}
+use Rattle.box_events.specs.Weaving.{bodies, others_from}
+use Rattle.box_events.specs.Refusal.{AreOthers}
+use Rattle.box_events.specs.DifferenceLaws.{AreCountedOthers}
 use Rattle.box_server.specs.declared.fault.PostFault.{PostFault}
 use Rattle.box_server.specs.declared.fault.PostFault.TheVariants.{BoxFull}
 use Rattle.box_server.specs.Servers.{ChannelBox, ServerState, channel_end, channel_in, lane_end}

@@ -40,7 +40,7 @@ use Rattle.box_server.specs.Runs.{limited, run_of}
 use Rattle.box_server.specs.Answers.{answer, is_whole, slice, last_by, carried, difference_by, channel_difference}
 use Rattle.box_server.specs.Answers as server
 use Rattle.box_server.specs.LastEntries.{changed_since}
-use Rattle.difference.specs.Weaving.{bodies, others_from}
+use Rattle.box_events.specs.Weaving.{bodies, others_from}
 use Rattle.box_world.proofs.Answering.{RunAt, run_after, run_lies, whole_run, both_true, empty_run, each_right}
 use Rattle.box_world.proofs.Continuing.{continues_same}
 use Rattle.box_world.proofs.Telling.{answer_is, channel_answer_is}

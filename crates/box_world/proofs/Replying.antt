@@ -23,8 +23,8 @@ use Rattle.seq_machine.proofs.StateSteps.{overlay_live}
 use Rattle.seq_machine.proofs.Agreements.{agree_over, agree_again}
 use Rattle.seq_machine.proofs.Growing.{overlay_grows}
 use Rattle.box_events.proofs.SettingDates.{since_append}
-use Rattle.difference.specs.Weaving.{bodies, others_from}
-use Rattle.difference.specs.Weaves.{woven_of}
+use Rattle.box_events.specs.Weaving.{bodies, others_from}
+use Rattle.box_events.specs.Weaves.{woven_of}
 use Rattle.box_server.specs.Servers.{ServerState, state_of}
 use Rattle.box_server.specs.LastEntries.{changed_since}
 use Rattle.box_server.specs.Runs.{run_of}

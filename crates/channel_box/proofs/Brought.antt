@@ -6,12 +6,12 @@ use Rattle.box_events.specs.Boxes.{ending, AreCounted}
 use Rattle.box_events.specs.declared.updates.Placed.{Placed}
 use Rattle.pts_machine.specs.States.{LaneState}
 use Rattle.pts_machine.specs.Steps.{extend}
-use Rattle.difference.specs.declared.fault.WeaveFault.{WeaveFault}
-use Rattle.difference.specs.declared.fault.WeaveFault.TheVariants.{Overlap, Uneven, Memory}
-use Rattle.difference.specs.Weaving.{Woven}
-use Rattle.difference.specs.Refusal.{Refuses}
-use Rattle.difference.specs.Weaves.{woven_of}
-use Rattle.difference.proofs.Made.{is_made, is_why}
+use Rattle.box_events.specs.declared.difference_fault.WeaveFault.{WeaveFault}
+use Rattle.box_events.specs.declared.difference_fault.WeaveFault.TheVariants.{Overlap, Uneven, Memory}
+use Rattle.box_events.specs.Weaving.{Woven}
+use Rattle.box_events.specs.Refusal.{Refuses}
+use Rattle.box_events.specs.Weaves.{woven_of}
+use Rattle.box_events.proofs.Made.{is_made, is_why}
 use Rattle.channel_box.specs.States.{ChannelState}
 use Rattle.channel_box.specs.Steps.{grown}
 use Rattle.channel_box.specs.Calls.{Comes}

@@ -4,10 +4,10 @@ use native.Mathlib.Numerals.{add-one}
 use Rattle.box_events.specs.Events.{EventView, count_of}
 use Rattle.box_events.specs.declared.replies.ChannelReply.{ChannelReply}
 use Rattle.box_events.specs.declared.replies.ChannelReply.TheVariants.{Empty, Part, TooLong}
-use Rattle.difference.specs.Weaves.{WeaveCause, woven_of}
+use Rattle.box_events.specs.Weaves.{WeaveCause, woven_of}
 use Rattle.pts_machine.specs.Steps.{extend, restart_at}
-use Rattle.difference.specs.declared.fault.WeaveFault.{WeaveFault}
-use Rattle.difference.specs.declared.fault.WeaveFault.TheVariants.{Overlap, Uneven, Memory}
+use Rattle.box_events.specs.declared.difference_fault.WeaveFault.{WeaveFault}
+use Rattle.box_events.specs.declared.difference_fault.WeaveFault.TheVariants.{Overlap, Uneven, Memory}
 use Rattle.pts_machine.specs.States.{LaneState}
 use Rattle.channel_box.specs.States.{ChannelState, ChannelView, states, has_id, first, spare_of}
 use Rattle.channel_box.specs.Steps.{at_first, is_watched, asks_number, grown, replied, answered, answered_by, taken_by, taken}

@@ -6,11 +6,11 @@ use Rattle.box_events.specs.declared.updates.Update.{Update}
 use Rattle.box_events.specs.declared.updates.Update.TheVariants.{Common, Secret, Channel, ChannelTooLong, Setting}
 use Rattle.box_events.specs.declared.replies.ChannelReply.{ChannelReply}
 use Rattle.box_events.specs.declared.replies.ChannelReply.TheVariants.{Empty, Part, TooLong}
-use Rattle.difference.specs.declared.fault.WeaveFault.{WeaveFault}
-use Rattle.difference.specs.declared.fault.WeaveFault.TheVariants.{Overlap, Uneven, Memory}
-use Rattle.difference.specs.Refusal.{AreOthers}
-use Rattle.difference.specs.Laws.{AreCountedOthers}
-use Rattle.difference.specs.Weaves.{WeaveCause, overlaps, uneven}
+use Rattle.box_events.specs.declared.difference_fault.WeaveFault.{WeaveFault}
+use Rattle.box_events.specs.declared.difference_fault.WeaveFault.TheVariants.{Overlap, Uneven, Memory}
+use Rattle.box_events.specs.Refusal.{AreOthers}
+use Rattle.box_events.specs.DifferenceLaws.{AreCountedOthers}
+use Rattle.box_events.specs.Weaves.{WeaveCause, overlaps, uneven}
 use Rattle.channel_box.specs.declared.fault.WatchFault.{WatchFault}
 use Rattle.channel_box.specs.declared.fault.WatchFault.TheVariants.{Already, TooMany, Memory as NoMemory}
 use Rattle.channel_box.specs.States.{ChannelState, ChannelView, states, first, spare_of}

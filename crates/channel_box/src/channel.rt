@@ -3,16 +3,16 @@ ghost use Rattle.std.specs.Prelude.{◌≡◌, ◌≢◌, ◌<◌, ◌≤◌, �
 ghost use Rattle.box_events.specs.Events.{count_of};
 ghost use Rattle.pts_machine.specs.Steps.{hear};
 ghost use Rattle.channel_box.specs.States.{has_id};
-ghost use Rattle.difference.specs.Refusal.{AreOthers};
-ghost use Rattle.difference.specs.Laws.{AreCountedOthers};
-ghost use Rattle.difference.specs.Weaves.{woven_of};
+ghost use Rattle.box_events.specs.Refusal.{AreOthers};
+ghost use Rattle.box_events.specs.DifferenceLaws.{AreCountedOthers};
+ghost use Rattle.box_events.specs.Weaves.{woven_of};
 ghost use Rattle.channel_box.specs.Steps.{channel_of, heard_by, flagged, forgot, asks_number, channel_is_due, channel_asks, ask_of, grown, replied};
 ghost use Rattle.channel_box.specs.Looks.{waits};
 ghost use Rattle.channel_box.specs.Calls.{updates_for, IsInRange, Comes};
 
 use crate::woven::{is_dropped, weave_onto};
 use box_events::{ChannelReply, Event, ListOf, MAX_END, Numbered, Placed, Request, Update};
-use difference::WeaveFault;
+use box_events::WeaveFault;
 use pts_machine::{Lane, Mode};
 use std::alloc::{AllocError, Global};
 use std::marker::Model;

@@ -15,7 +15,7 @@ use crate::each::{
 };
 use crate::fault::WatchFault;
 use box_events::{Asks, ChannelReply, Event, ListOf, MAX_CHANNELS, MAX_END, Update};
-use difference::WeaveFault;
+use box_events::WeaveFault;
 use pts_machine::Lane;
 use std::alloc::Global;
 use std::marker::Model;

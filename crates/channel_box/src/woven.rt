@@ -2,13 +2,13 @@
 ghost use Rattle.std.specs.Prelude.{◌≡◌, ◌≤◌, ◌<◌, ◌+◌, ◌^◌, IfOk, IfErr, OnOk, length, vec_len};
 ghost use Rattle.std.specs.List.{sum_by};
 ghost use Rattle.box_events.specs.Events.{count_of};
-ghost use Rattle.difference.specs.Weaving.{Woven};
-ghost use Rattle.difference.specs.Refusal.{AreOthers, Refuses};
-ghost use Rattle.difference.specs.Laws.{AreCountedOthers};
+ghost use Rattle.box_events.specs.Weaving.{Woven};
+ghost use Rattle.box_events.specs.Refusal.{AreOthers, Refuses};
+ghost use Rattle.box_events.specs.DifferenceLaws.{AreCountedOthers};
 ghost use Rattle.channel_box.specs.Steps.{is_dropped};
 
 use box_events::{Event, ListOf, MAX_END, Placed};
-use difference::{WeaveFault, weave};
+use box_events::{WeaveFault, weave};
 use pts_machine::{Lane, Seen};
 use std::alloc::Global;
 use tl_base::Bytes;

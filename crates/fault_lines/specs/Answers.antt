@@ -2,8 +2,8 @@
 use Rattle.std.specs.Prelude.{List, ◌++◌, ℕ, Option, Some, None, option_map, codes, decimal}
 use Rattle.std.specs.Fmt.{signed_decimal}
 use Rattle.outside.specs.Answer.{unplaced_line}
-use Rattle.difference.specs.declared.fault.WeaveFault.{WeaveFault}
-use Rattle.difference.specs.declared.fault.WeaveFault.TheVariants as weave
+use Rattle.box_events.specs.declared.difference_fault.WeaveFault.{WeaveFault}
+use Rattle.box_events.specs.declared.difference_fault.WeaveFault.TheVariants as weave
 use Rattle.box_client.specs.declared.fault.ClientFault.{ClientFault}
 use Rattle.box_client.specs.declared.fault.ClientFault.TheVariants as client
 

@@ -4,7 +4,7 @@ ghost use Rattle.fault_lines.specs.Answers.{answer_line, answer_words, seq_words
 
 use box_client::ClientFault;
 use outside::unplaced_line;
-use difference::WeaveFault;
+use box_events::WeaveFault;
 use std::alloc::{AllocError, Global};
 
 // The cause of counts that don't meet.

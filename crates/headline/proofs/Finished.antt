@@ -10,7 +10,7 @@ use Rattle.box_events.specs.declared.replies.Reply.TheVariants as reply_of
 use Rattle.box_events.specs.declared.requests.Numbered.{Numbered}
 use Rattle.box_events.specs.declared.steps.Step.{Step}
 use Rattle.box_events.specs.declared.steps.Step.TheVariants.{Hear, Serve}
-use Rattle.difference.specs.Weaves.{WeaveCause, woven_of}
+use Rattle.box_events.specs.Weaves.{WeaveCause, woven_of}
 use Rattle.channel_box.specs.States.{ChannelState, first}
 use Rattle.channel_box.specs.Steps.{asks_number, at_first, is_asking}
 use Rattle.box_server.specs.Answers.{answer}

@@ -16,7 +16,7 @@ use Rattle.box_events.specs.declared.updates.Push.{Push}
 use Rattle.box_events.specs.declared.updates.Push.TheVariants.{TooLong, Container}
 use Rattle.box_events.specs.declared.updates.Update.{Update}
 use Rattle.box_events.specs.declared.updates.Update.TheVariants.{Common, Secret, Channel, ChannelTooLong, Setting as SettingUpdate}
-use Rattle.difference.specs.Weaves.{WeaveCause, woven_of}
+use Rattle.box_events.specs.Weaves.{WeaveCause, woven_of}
 use Rattle.pts_machine.specs.States.{LaneState}
 use Rattle.pts_machine.specs.Steps.{extend, forget, settle}
 use Rattle.pts_machine.proofs.Moves.{hear_restart}

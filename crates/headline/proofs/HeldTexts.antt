@@ -22,7 +22,7 @@ use Rattle.box_events.specs.declared.settings.Setting.{Setting}
 use Rattle.box_events.specs.declared.updates.Placed.{Placed}
 use Rattle.box_events.specs.Events.{EventView, added, edited, deleted, read, count_of}
 use Rattle.box_events.specs.SettingLists.{Dated}
-use Rattle.difference.specs.Weaving.{bodies, others_from}
+use Rattle.box_events.specs.Weaving.{bodies, others_from}
 use Rattle.box_server.specs.Answers.{answer, is_whole, is_far, last_by, carried, difference_by, difference_of, channel_part, channel_by, channel_difference, no_position}
 use Rattle.box_server.specs.Entries.{Entry, to_common, to_secret, to_channel, to_settings, entry_of, entries_of}
 use Rattle.box_server.specs.LastEntries.{changed_since}

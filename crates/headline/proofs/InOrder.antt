@@ -8,7 +8,7 @@ use Rattle.box_events.specs.declared.replies.Reply.TheVariants as reply_of
 use Rattle.box_events.specs.declared.requests.Numbered.{Numbered}
 use Rattle.box_events.specs.declared.requests.Request.{Request}
 use Rattle.box_events.specs.declared.requests.Request.TheVariants.{Channel as Channel_of}
-use Rattle.difference.specs.Weaves.{WeaveCause, woven_of}
+use Rattle.box_events.specs.Weaves.{WeaveCause, woven_of}
 use Rattle.pts_machine.specs.declared.mode.Mode.{Mode}
 use Rattle.pts_machine.specs.declared.mode.Mode.TheVariants.{Live, Asking, Again}
 use Rattle.pts_machine.specs.Steps.{extend}

@@ -10,7 +10,7 @@ use Rattle.box_events.specs.declared.updates.Push.{Push}
 use Rattle.box_events.specs.declared.updates.Push.TheVariants.{TooLong, Container}
 use Rattle.box_events.specs.declared.updates.Update.{Update}
 use Rattle.box_events.specs.declared.updates.Update.TheVariants.{Common, Secret, Channel, ChannelTooLong, Setting}
-use Rattle.difference.specs.Weaves.{WeaveCause, woven_of}
+use Rattle.box_events.specs.Weaves.{WeaveCause, woven_of}
 use Rattle.pts_machine.specs.Steps.{extend, hear, restart_at}
 use Rattle.channel_box.specs.States.{ChannelState, first, has_id, ids_of}
 use Rattle.channel_box.specs.Steps.{answered_by, asks_number, at_first, channel_is_due, flagged, grown, heard_by, is_asking, taken_by, ticked}

@@ -15,7 +15,7 @@ use Rattle.box_events.specs.declared.replies.Reply.TheVariants as reply
 use Rattle.box_events.specs.declared.replies.Frame.TheVariants.{Reply}
 use Rattle.box_events.specs.Events.{EventView}
 use Rattle.box_events.specs.Boxes.{ending}
-use Rattle.difference.specs.Weaving.{bodies, others_from}
+use Rattle.box_events.specs.Weaving.{bodies, others_from}
 use Rattle.box_server.specs.Servers.{ChannelBox, ServerState, channel_in, channel_end, state_of}
 use Rattle.box_server.specs.Sound.{IsSound}
 use Rattle.box_server.specs.Entries.{bytes_of}

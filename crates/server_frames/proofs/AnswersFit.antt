@@ -6,7 +6,7 @@ use Rattle.box_events.specs.declared.settings.Setting.{Setting}
 use Rattle.box_events.specs.declared.replies.Frame.TheVariants.{Reply}
 use Rattle.box_events.specs.Events.{EventView}
 use Rattle.box_events.specs.Boxes.{ending}
-use Rattle.difference.specs.Weaving.{bodies, others_from}
+use Rattle.box_events.specs.Weaving.{bodies, others_from}
 use Rattle.box_server.specs.Servers.{ChannelBox, ServerState, channel_in, channel_end, state_of}
 use Rattle.box_server.specs.Sound.{IsSound}
 use Rattle.box_server.specs.LastEntries.{changed_since}

@@ -11,7 +11,7 @@ use Rattle.box_events.specs.Events.{EventView, count_of, is_new}
 use Rattle.box_events.specs.Views.{HasCount}
 use Rattle.box_events.specs.Boxes.{ending}
 use Rattle.box_events.proofs.Stretches.{stretch_inside}
-use Rattle.difference.specs.Weaving.{others_from, ends_at}
+use Rattle.box_events.specs.Weaving.{others_from, ends_at}
 use Rattle.box_server.specs.Servers.{ChannelBox, channel_in, channel_end}
 use Rattle.box_server.specs.Sound.{IsSoundChannel}
 use Rattle.box_server.specs.Runs.{events_after, run_of}

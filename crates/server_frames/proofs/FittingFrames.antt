@@ -15,7 +15,7 @@ use Rattle.box_events.specs.declared.updates.Update.TheVariants as update
 use Rattle.box_events.specs.declared.replies.Frame.TheVariants.{Reply}
 use Rattle.box_events.specs.Events.{EventView, added, edited, deleted, read, count_of}
 use Rattle.box_events.specs.Boxes.{ending}
-use Rattle.difference.specs.Weaving.{bodies, others_from}
+use Rattle.box_events.specs.Weaving.{bodies, others_from}
 use Rattle.box_server.specs.declared.fault.PostFault.{PostFault}
 use Rattle.box_server.specs.declared.fault.PostFault.TheVariants.{BoxFull}
 use Rattle.box_server.specs.declared.posted.Posted.{Posted}

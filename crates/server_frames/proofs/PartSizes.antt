@@ -11,7 +11,7 @@ use Rattle.tl_types.specs.Texts.{text_bytes, text_head, three_bytes, missing}
 use Rattle.box_events.specs.declared.limits.TheConstants.{MAX_KEY_BYTES, MAX_VALUE_BYTES}
 use Rattle.box_events.specs.declared.settings.Setting.{Setting}
 use Rattle.box_events.specs.Events.{EventView, added, edited, deleted, read}
-use Rattle.difference.specs.Weaving.{bodies, others_from}
+use Rattle.box_events.specs.Weaving.{bodies, others_from}
 use Rattle.box_server.specs.Entries.{bytes_of}
 use Rattle.box_server.specs.Runs.{limited}
 use Rattle.wire_forms.specs.declared.form.Cell.{Cell}

@@ -13,8 +13,8 @@ use Rattle.box_events.specs.declared.replies.Reply.{Reply}
 use Rattle.box_events.specs.declared.replies.Reply.TheVariants as reply
 use Rattle.box_events.specs.declared.replies.Frame.{Frame as Message}
 use Rattle.box_events.specs.declared.replies.Frame.TheVariants as frame
-use Rattle.difference.specs.Refusal.{AreOthers}
-use Rattle.difference.specs.Laws.{AreCountedOthers}
+use Rattle.box_events.specs.Refusal.{AreOthers}
+use Rattle.box_events.specs.DifferenceLaws.{AreCountedOthers}
 use Rattle.box_client.specs.Pushes.{settings_in}
 use Rattle.box_client.specs.Ranges.{IsSeqInRange, IsPushInRange, IsReplyInRange}
 use Rattle.wire_forms.specs.declared.form.Cell.{Cell}

@@ -9,8 +9,8 @@ use Rattle.tl_base.specs.Contents.{Files, HoldBytes}
 use Rattle.tl_base.specs.Packets.{packet}
 use Rattle.tl_base.specs.declared.packet.PacketFault.{PacketFault}
 use Rattle.tl_types.proofs.Numbers.{begins_word}
-use Rattle.difference.specs.Weaves.{overlaps, uneven}
-use Rattle.difference.specs.declared.fault.WeaveFault.TheVariants as weaving
+use Rattle.box_events.specs.Weaves.{overlaps, uneven}
+use Rattle.box_events.specs.declared.difference_fault.WeaveFault.TheVariants as weaving
 use Rattle.box_events.specs.declared.replies.Frame.{Frame}
 use Rattle.box_events.specs.declared.requests.Numbered.{Numbered}
 use Rattle.box_events.specs.declared.saved.Saved.{Saved}

@@ -34,10 +34,10 @@ use Rattle.seq_machine.specs.Packs.{Pack, pack_of, puts, puts_all, size}
 use Rattle.seq_machine.specs.States.{IsSoundState, SettingsState, applied, hear_pack, lane_of, overlaid}
 use Rattle.seq_machine.proofs.StateSteps as soundness
 use Rattle.seq_machine.proofs.Stores.{len_puts}
-use Rattle.difference.specs.Laws.{AreCountedOthers}
-use Rattle.difference.specs.Refusal.{AreOthers}
-use Rattle.difference.specs.Weaves.{WeaveCause, woven_of}
-use Rattle.difference.proofs.Made.{is_woven_of_others, keeps_counts, reaches}
+use Rattle.box_events.specs.DifferenceLaws.{AreCountedOthers}
+use Rattle.box_events.specs.Refusal.{AreOthers}
+use Rattle.box_events.specs.Weaves.{WeaveCause, woven_of}
+use Rattle.box_events.proofs.Made.{is_woven_of_others, keeps_counts, reaches}
 use Rattle.channel_box.specs.States.{ChannelState, first, has_id}
 use Rattle.channel_box.specs.Steps as boxes
 use Rattle.channel_box.proofs.Brought.{ending_sums, few_counted}

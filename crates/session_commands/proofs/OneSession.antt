@@ -7,7 +7,7 @@ use Rattle.box_events.specs.declared.replies.Frame.{Frame}
 use Rattle.box_events.specs.declared.requests.Numbered.{Numbered}
 use Rattle.box_client.specs.Asking.{is_one_asking, ticks, wakes}
 use Rattle.box_client.specs.Replies.{Cause, peer_error, wrong_kind, no_list, seq_back}
-use Rattle.difference.specs.Weaves.{overlaps, uneven}
+use Rattle.box_events.specs.Weaves.{overlaps, uneven}
 use Rattle.box_client.specs.States.{ClientState}
 use Rattle.box_client.specs.declared.fault.ClientFault.{ClientFault}
 use Rattle.box_world.specs.Streams.{begun}

@@ -5,7 +5,7 @@ use Rattle.tl_base.specs.declared.host.Slot.TheVariants as slots
 use Rattle.tl_base.specs.declared.host.Out.TheVariants as outs
 use Rattle.tl_base.specs.declared.packet.PacketFault.{PacketFault}
 use Rattle.tl_base.specs.declared.packet.PacketFault.TheVariants.{BadLength, Ended}
-use Rattle.difference.specs.Weaves.{overlaps, uneven}
+use Rattle.box_events.specs.Weaves.{overlaps, uneven}
 use Rattle.box_events.specs.declared.requests.Numbered.{Numbered}
 use Rattle.box_client.specs.Replies.{Cause, no_list, peer_error, seq_back, wrong_kind}
 use Rattle.box_client.specs.States.{ClientState}

@@ -4,7 +4,7 @@ use Rattle.std.specs.Prelude.{IfSome}
 use Rattle.std.specs.Io.KnownBytes.{Appends}
 use Rattle.tl_base.specs.Writing.{AppendsPrefix}
 use Rattle.tl_base.specs.declared.packet.PacketFault.TheVariants.{Ended}
-use Rattle.difference.specs.declared.fault.WeaveFault.TheVariants as weaving
+use Rattle.box_events.specs.declared.difference_fault.WeaveFault.TheVariants as weaving
 use Rattle.box_events.specs.declared.replies.Frame.{Frame}
 use Rattle.box_events.specs.declared.replies.Frame.TheVariants.{Push, Reply}
 use Rattle.box_events.specs.declared.replies.Reply.{Reply as SomeReply}
@@ -13,7 +13,7 @@ use Rattle.box_client.specs.Asking.{ticks, is_one_asking}
 use Rattle.box_client.specs.Calls.{Answers}
 use Rattle.box_client.specs.Laws.{next_after}
 use Rattle.box_client.specs.Replies.{Outcome, ignored, refuses, becomes, peer_error, wrong_kind, no_list, seq_back, replied}
-use Rattle.difference.specs.Weaves.{overlaps, uneven}
+use Rattle.box_events.specs.Weaves.{overlaps, uneven}
 use Rattle.box_client.specs.declared.fault.ClientFault.{ClientFault}
 use Rattle.box_client.specs.declared.fault.ClientFault.TheVariants as client
 use Rattle.box_client.specs.declared.fault.Told.{Told}

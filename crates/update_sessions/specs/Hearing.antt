@@ -1,8 +1,8 @@
 -- What a client does in a session: all is asked about, and then each frame is heard and what is due is asked, until it asks no more.
 -- This project's own.
 use Rattle.std.specs.Prelude.{◌≡◌, true, Option, Some, None}
-use Rattle.difference.specs.declared.fault.WeaveFault.TheVariants as weaving
-use Rattle.difference.specs.Weaves.{overlaps, uneven}
+use Rattle.box_events.specs.declared.difference_fault.WeaveFault.TheVariants as weaving
+use Rattle.box_events.specs.Weaves.{overlaps, uneven}
 use Rattle.box_events.specs.declared.requests.Numbered.{Numbered}
 use Rattle.box_events.specs.declared.replies.Frame.{Frame}
 use Rattle.box_events.specs.declared.replies.Frame.TheVariants.{Push, Reply}

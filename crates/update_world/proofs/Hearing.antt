@@ -16,11 +16,11 @@ use Rattle.box_events.specs.declared.updates.Push.{Push as SomePush}
 use Rattle.channel_box.specs.States.{ChannelState, first}
 use Rattle.channel_box.specs.Steps.{Answered, stale, refused, taken, answered, answered_by, asks_number, is_asking, taken_by}
 use Rattle.channel_box.specs.Steps as channels
-use Rattle.difference.specs.Weaves.{WeaveCause, woven_of}
+use Rattle.box_events.specs.Weaves.{WeaveCause, woven_of}
 use Rattle.box_client.specs.declared.brought.Brought.{Brought}
 use Rattle.box_client.specs.declared.fault.ClientFault.{ClientFault}
 use Rattle.box_client.specs.declared.fault.ClientFault.TheVariants.{PeerError, WrongKind, Weave, SeqBack, Memory as ClientMemory}
-use Rattle.difference.specs.declared.fault.WeaveFault.TheVariants.{Overlap, Uneven, Memory as WeaveMemory}
+use Rattle.box_events.specs.declared.difference_fault.WeaveFault.TheVariants.{Overlap, Uneven, Memory as WeaveMemory}
 use Rattle.box_client.specs.Calls.{Answers}
 use Rattle.box_client.specs.States.{ClientState}
 use Rattle.box_client.specs.Replies.{Cause, Outcome, ignored, refuses, becomes, brings, by_channels, channel_replied, group_replied, group_taken, group_woven, nothing_new, replied}

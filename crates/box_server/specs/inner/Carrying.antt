@@ -3,7 +3,7 @@ use Rattle.std.specs.Prelude.{◌≡◌, ℕ, ℤ, pos, negsuc, ◌+◌, ◌-◌
 use Rattle.box_events.specs.Events.{EventView}
 use Rattle.box_events.specs.Boxes.{ending, AreCounted}
 use Rattle.box_events.specs.BoxViews.{BoxView}
-use Rattle.difference.specs.PartsView.{PartsView}
+use Rattle.box_events.specs.PartsView.{PartsView}
 use Rattle.box_server.specs.declared.runs.Run.{Run}
 use Rattle.box_server.specs.Servers.{ChannelBox}
 use Rattle.box_server.specs.Runs.{events_after, run_of}

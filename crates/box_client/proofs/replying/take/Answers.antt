@@ -1,8 +1,8 @@
 use Rattle.std.proofs.Common.{ℕ, ap, ◌∙◌, sym, subst, List, arith}
 use Rattle.std.proofs.lemmas.Result.{err_from_is_err_and}
 use Rattle.box_events.specs.declared.updates.Placed.{Placed}
-use Rattle.difference.specs.Weaving.{Woven}
-use Rattle.difference.specs.Refusal.{Refuses}
+use Rattle.box_events.specs.Weaving.{Woven}
+use Rattle.box_events.specs.Refusal.{Refuses}
 use Rattle.box_client.specs.Replies.{refuses, seq_back}
 use Rattle.box_client.specs.Views.{client_of}
 use Rattle.box_client.proofs.Brings.{news_refused, messages_refused, goes_back, brings_last, brings_part, part_done, last_done}

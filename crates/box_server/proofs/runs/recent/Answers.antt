@@ -1,5 +1,5 @@
 use Rattle.std.proofs.Common.{◌∙◌}
-use Rattle.difference.specs.Weaving.{bodies}
+use Rattle.box_events.specs.Weaving.{bodies}
 use Rattle.box_server.proofs.RunSteps.{last_told}
 use Rattle.box_server.proofs.runs.recent.Goals as goal
 

@@ -1,8 +1,8 @@
 use Rattle.std.proofs.Common.{ℕ, arith, subst}
 use Rattle.std.proofs.lemmas.Result.{err_from_is_err_and}
-use Rattle.difference.specs.Refusal.{Fits}
-use Rattle.difference.proofs.Made.{keeps_counts}
-use Rattle.difference.proofs.Once.{each_fits}
+use Rattle.box_events.specs.Refusal.{Fits}
+use Rattle.box_events.proofs.Made.{keeps_counts}
+use Rattle.box_events.proofs.Once.{each_fits}
 use Rattle.channel_box.proofs.Brought.{ending_sums, few_counted}
 use Rattle.channel_box.proofs.woven.weave_onto.Goals as goal
 

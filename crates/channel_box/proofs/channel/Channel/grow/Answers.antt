@@ -2,7 +2,7 @@ use Rattle.std.proofs.Common.{Err, sym, ap, ◌∙◌, subst}
 use Rattle.std.proofs.lemmas.Result.{err_from_is_err_and}
 use Rattle.pts_machine.specs.Steps.{extend}
 use Rattle.box_events.specs.Events.{count_of}
-use Rattle.difference.specs.Weaves.{woven_of}
+use Rattle.box_events.specs.Weaves.{woven_of}
 use Rattle.channel_box.specs.States.{ChannelView}
 use Rattle.channel_box.specs.Steps.{grown}
 use Rattle.channel_box.specs.Calls.{Comes}

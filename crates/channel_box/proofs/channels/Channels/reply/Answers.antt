@@ -3,7 +3,7 @@ use Rattle.std.proofs.lemmas.Result.{err_from_is_err_and}
 use Rattle.std.proofs.Common.{Result, set}
 use Rattle.channel_box.specs.States.{ChannelView, states}
 use Rattle.channel_box.specs.Steps.{asks_number, replied, answered, taken}
-use Rattle.difference.specs.declared.fault.WeaveFault.{WeaveFault}
+use Rattle.box_events.specs.declared.difference_fault.WeaveFault.{WeaveFault}
 use Rattle.channel_box.specs.Calls.{Comes, Replies}
 use Rattle.channel_box.proofs.Ids.{ids_set}
 use Rattle.channel_box.proofs.Indexes.{within, stands_at, replies_err, replies_ok, replied_id}

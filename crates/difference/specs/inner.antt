@@ -1,3 +1,0 @@
--- What inner clauses cite; a reader of the contracts needs none of it.
-pub mod Merging
-pub mod Parted
