@@ -15,3 +15,6 @@ pub mod KeyPlaces
 pub mod KeyCounts
 pub mod Soundness
 pub mod LastParts
+pub mod Rebuilt
+pub mod Added
+pub mod Loads

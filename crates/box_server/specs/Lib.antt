@@ -11,3 +11,10 @@ pub mod Sound
 pub mod Growing
 pub mod inner
 pub mod Laws
+pub mod Keeping
+pub mod Rebuilding
+pub mod Storing
+pub mod Answering
+pub mod Memory
+pub mod MemoryLaws
+pub mod StoreLaws

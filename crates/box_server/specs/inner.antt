@@ -9,3 +9,5 @@ pub mod Checks
 pub mod Opening
 pub mod Rooms
 pub mod Taking
+-- What inner clauses cite; a reader of the contracts needs none of it.
+pub mod Loading

@@ -1,11 +1,11 @@
 //! A store: a server that is opened from what was kept of its posts.
 ghost use Rattle.std.specs.Prelude.{◌≡◌, IfSome, OnSome, Ok};
 ghost use Rattle.box_server.specs.Receiving.{post_answer};
-ghost use Rattle.box_store.specs.Keeping.{with_more};
-ghost use Rattle.box_store.specs.Rebuilding.{kept_of, rebuilt};
+ghost use Rattle.box_server.specs.Keeping.{with_more};
+ghost use Rattle.box_server.specs.Rebuilding.{kept_of, rebuilt};
 
 use box_server::Posted;
-use box_store::{Keeper, OpenFault, Posts, StoreRefusal, Stored};
+use box_server::{Keeper, OpenFault, Posts, StoreRefusal, Stored};
 use std::alloc::Global;
 
 /// Opens a store, takes posts, and gives the keeper back, with what was answered.

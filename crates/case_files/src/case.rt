@@ -4,7 +4,7 @@ use crate::fault::CaseFault;
 use crate::setting::Setting;
 use crate::traffic::Traffic;
 use crate::words::{bytes_of, cut_word, number_of, words_of};
-use box_store::MemKeeper;
+use box_server::MemKeeper;
 use outside::MemHost;
 use std::alloc::{AllocError, Global};
 use tl_base::Memory;

@@ -2,7 +2,7 @@
 use crate::fault::CaseFault;
 use crate::words::{bytes_of, cut_word, number_of, numbers_of};
 use box_events::{ListOf, Post};
-use box_store::{Entry, Keeper, MemKeeper, Posts};
+use box_server::{Entry, Keeper, MemKeeper, Posts};
 use std::alloc::{AllocError, Global};
 use tl_base::{Bytes, Memory};
 

@@ -3,7 +3,7 @@ use crate::ending::put_line;
 use crate::fault::CaseFault;
 use crate::kept::CaseKeeper;
 use crate::words::{Moment, bytes_of, cut_word, moments_of, number_of, numbered_call, numbers_of};
-use box_store::MemKeeper;
+use box_server::MemKeeper;
 use outside::MemHost;
 use std::alloc::{AllocError, Global};
 use tl_base::{Bytes, HostCall, Memory};

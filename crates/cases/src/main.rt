@@ -1,7 +1,7 @@
 //! cases: runs tlbox over files in memory as case files say, and tells which runs end otherwise.
 #![tactic(auto)]
 
-use box_store::MemKeeper;
+use box_server::MemKeeper;
 use case_files::{BadLine, Case, Ending, TracedHost, entries_text, read_cases, shown_run};
 use commands::{keep_in, run, run_stored};
 use outside::MemHost;

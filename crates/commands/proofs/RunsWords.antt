@@ -7,7 +7,7 @@ use Rattle.outside.specs.Begun.{Did}
 use Rattle.outside.specs.Events.{HostState}
 use Rattle.outside.specs.Pieces.{Tells}
 use Rattle.outside.specs.Steps.{Grows}
-use Rattle.box_store.specs.Keeping.{KeeperState}
+use Rattle.box_server.specs.Keeping.{KeeperState}
 use Rattle.serve_rooms.specs.Acts.{KeptState, beside}
 use Rattle.serve_rooms.specs.Doing.{RanKept}
 use Rattle.serve_rooms.specs.Serve.{keeps}

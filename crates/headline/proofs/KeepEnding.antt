@@ -3,9 +3,9 @@ use Rattle.std.proofs.Common.{◌≡◌, inl, inr, ℕ, zero, suc, ◌+◌, ◌<
 use Rattle.tl_numbers.specs.Bytes.{AreBytes}
 use Rattle.tl_base.specs.Outside.{View, HasFile}
 use Rattle.box_server.specs.Servers.{ServerState, dated_at}
-use Rattle.box_store.specs.declared.entry.Entry.{Entry}
-use Rattle.box_store.specs.Rebuilding.{Rebuilds, rebuilt}
-use Rattle.box_store.proofs.Rebuilt.{one_server}
+use Rattle.box_server.specs.declared.entry.Entry.{Entry}
+use Rattle.box_server.specs.Rebuilding.{Rebuilds, rebuilt}
+use Rattle.box_server.proofs.Rebuilt.{one_server}
 use Rattle.box_world.specs.Streams.{Doing}
 use Rattle.wire_profile.specs.Places.{ProfileView}
 use Rattle.outside.specs.declared.status.Status.TheVariants.{Done}

@@ -4,7 +4,7 @@ use Rattle.std.proofs.Math.Nat.{eq-or-lt_of_le}
 use Rattle.tl_base.specs.Outside.{View, HasFile}
 use Rattle.tl_schema.specs.Schemas.{Declared}
 use Rattle.box_server.specs.Servers.{ServerState, new_server}
-use Rattle.box_store.specs.declared.entry.Entry.{Entry}
+use Rattle.box_server.specs.declared.entry.Entry.{Entry}
 use Rattle.tl_numbers.specs.Bytes.{ListsOfBytes}
 use Rattle.box_world.specs.Streams.{Doing}
 use Rattle.wire_profile.specs.Places.{ProfileView}

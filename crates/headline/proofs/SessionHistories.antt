@@ -18,9 +18,9 @@ use Rattle.box_server.specs.Sound.{IsSound}
 use Rattle.box_server.specs.declared.fault.PostFault.{PostFault}
 use Rattle.box_server.proofs.NewServers.{sound_new}
 use Rattle.box_server.proofs.Soundness.{dated_sound, posted_sound}
-use Rattle.box_store.specs.declared.entry.Entry.{Entry}
-use Rattle.box_store.specs.Rebuilding.{Rebuilds, rebuilt}
-use Rattle.box_store.proofs.Rebuilt.{one_server}
+use Rattle.box_server.specs.declared.entry.Entry.{Entry}
+use Rattle.box_server.specs.Rebuilding.{Rebuilds, rebuilt}
+use Rattle.box_server.proofs.Rebuilt.{one_server}
 use Rattle.box_world.specs.Streams.{Doing, Past, dates, done, done_all, first_past, past_of, posted_by, posts}
 use Rattle.box_world.specs.Agreeing.{Each}
 use Rattle.wire_forms.specs.Parts.{row}

@@ -3,8 +3,8 @@ use Rattle.std.specs.Prelude.{◌≡◌, ℕ, ◌<◌, ◌≤◌, ◌^◌, List,
 use Rattle.tl_numbers.specs.Bytes.{ListsOfBytes}
 use Rattle.box_server.specs.Servers.{ServerState, dated_at, new_server}
 use Rattle.box_server.specs.Sound.{IsSound}
-use Rattle.box_store.specs.declared.entry.Entry.{Entry}
-use Rattle.box_store.specs.Rebuilding.{Rebuilds, rebuilt}
+use Rattle.box_server.specs.declared.entry.Entry.{Entry}
+use Rattle.box_server.specs.Rebuilding.{Rebuilds, rebuilt}
 use Rattle.box_world.specs.Streams.{Doing, dates, past_of, posts}
 use Rattle.wire_profile.specs.Places.{ProfileView}
 use Rattle.wire_profile.specs.Profiles.{IsProfile}

@@ -9,9 +9,9 @@ use Rattle.box_wire.specs.Kinds.{saved_clients}
 use Rattle.box_client.specs.Saving.{saved_of}
 use Rattle.box_client.specs.States.{ClientState}
 use Rattle.box_server.specs.Servers.{ServerState}
-use Rattle.box_store.specs.declared.entry.Entry.{Entry}
-use Rattle.box_store.specs.Keeping.{KeeperState}
-use Rattle.box_store.specs.Rebuilding.{Rebuilds, rebuilt}
+use Rattle.box_server.specs.declared.entry.Entry.{Entry}
+use Rattle.box_server.specs.Keeping.{KeeperState}
+use Rattle.box_server.specs.Rebuilding.{Rebuilds, rebuilt}
 use Rattle.box_world.specs.Streams.{Doing, dates}
 use Rattle.outside.specs.declared.status.Status.TheVariants.{Done}
 use Rattle.fault_lines.specs.Profiled.{IsProfileText}

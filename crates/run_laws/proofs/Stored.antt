@@ -3,7 +3,7 @@ use Rattle.std.proofs.Common.{◌≡◌, ℕ, List, ◌∷◌, refl, sym, ap, �
 use Rattle.outside.specs.Events.{Outside}
 use Rattle.outside.specs.Fits.{Fits}
 use Rattle.outside.specs.Reliable.{IsReliable}
-use Rattle.box_store.specs.Keeping.{KeeperState}
+use Rattle.box_server.specs.Keeping.{KeeperState}
 use Rattle.serve_rooms.specs.Acts.{Act, KeeperGrew, events_in}
 use Rattle.serve_rooms.specs.declared.status.KeptStatus.{KeptStatus}
 use Rattle.commands.specs.KeepWords.{AsksToKeep, KeepText}

@@ -2,8 +2,8 @@
 use Rattle.std.specs.Prelude.{◌≡◌, ◌++◌, ◌≤◌, ℕ, List, codes, Option, Some, IsSome}
 use Rattle.tl_base.specs.Outside.{View}
 use Rattle.box_server.specs.Servers.{ServerState}
-use Rattle.box_store.specs.declared.entry.Entry.{Entry}
-use Rattle.box_store.specs.Keeping.{KeeperState, Keeps}
+use Rattle.box_server.specs.declared.entry.Entry.{Entry}
+use Rattle.box_server.specs.Keeping.{KeeperState, Keeps}
 use Rattle.outside.specs.Answer.{memory_line}
 use Rattle.outside.specs.Jobs.{Job}
 use Rattle.outside.specs.Telling.{TellsLine}

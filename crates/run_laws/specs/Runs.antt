@@ -10,7 +10,7 @@ use Rattle.outside.specs.declared.status.Status.TheVariants.{ReadFault, WriteFau
 use Rattle.outside.specs.Events.{Event, Outside}
 use Rattle.outside.specs.Fits.{Fits}
 use Rattle.outside.specs.Reliable.{IsReliable}
-use Rattle.box_store.specs.Keeping.{KeeperState}
+use Rattle.box_server.specs.Keeping.{KeeperState}
 use Rattle.serve_rooms.specs.Acts.{Act, KeeperGrew, events_in}
 use Rattle.serve_rooms.specs.declared.status.KeptStatus.{KeptStatus}
 use Rattle.commands.specs.KeepWords.{AsksToKeep, KeepText}

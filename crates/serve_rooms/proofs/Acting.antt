@@ -1,8 +1,8 @@
 -- Laws of acts that happen to a host and a keeper, one after the other.
 use Rattle.std.proofs.Common.{◌≡◌, ◌⊎◌, inl, inr, ℕ, ◌≤◌, List, [], ◌∷◌, ◌++◌, length, map, true, false, Option, Some, None, IfSome, IsSome, refl, sym, ap, ◌∙◌, subst, arith}
 use Rattle.tl_base.specs.Causes.{Rose}
-use Rattle.box_store.specs.declared.entry.Entry.{Entry}
-use Rattle.box_store.specs.Keeping.{KeeperState}
+use Rattle.box_server.specs.declared.entry.Entry.{Entry}
+use Rattle.box_server.specs.Keeping.{KeeperState}
 use Rattle.outside.specs.Events.{Event, HostState}
 use Rattle.outside.specs.Grown.{Grew}
 use Rattle.outside.specs.Laws.{Happened}

@@ -3,7 +3,7 @@ use Rattle.std.proofs.Common.{◌≡◌, ℕ, ◌+◌, ◌<◌, ◌≤◌, ltb, 
 use Rattle.std.specs.Prelude.{option_map}
 use Rattle.std.proofs.lemmas.List.{append-nil}
 use Rattle.box_server.specs.Servers.{ServerState, dated_at}
-use Rattle.box_store.specs.Keeping.{KeeperState}
+use Rattle.box_server.specs.Keeping.{KeeperState}
 use Rattle.wire_profile.specs.Places.{ProfileView}
 use Rattle.outside.specs.Answer.{link_fault_line}
 use Rattle.outside.specs.declared.status.Status.{Status}

@@ -2,7 +2,7 @@
 use Rattle.std.proofs.Common.{◌≡◌, List, [], ◌∷◌, ◌++◌, map, Option, Some, None, refl, sym, ap, ◌∙◌, subst}
 use Rattle.std.proofs.lemmas.List.{append_assoc, map-append}
 use Rattle.tl_base.specs.declared.host.Out.{Out}
-use Rattle.box_store.specs.Keeping.{KeeperState}
+use Rattle.box_server.specs.Keeping.{KeeperState}
 use Rattle.outside.specs.declared.status.Status.{Status}
 use Rattle.outside.specs.Events.{Event, HostState}
 use Rattle.outside.specs.Laws.{Throughout}

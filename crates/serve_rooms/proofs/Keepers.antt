@@ -5,9 +5,9 @@ use Rattle.box_events.specs.declared.requests.Post.{Post}
 use Rattle.box_events.specs.declared.requests.Request.{Request}
 use Rattle.box_events.specs.declared.requests.Request.TheVariants as request
 use Rattle.box_server.specs.Servers.{ServerState}
-use Rattle.box_store.specs.declared.entry.Entry.{Entry}
-use Rattle.box_store.specs.Keeping.{KeeperState, Keeps, with_more}
-use Rattle.box_store.specs.Rebuilding.{is_new, kept_if}
+use Rattle.box_server.specs.declared.entry.Entry.{Entry}
+use Rattle.box_server.specs.Keeping.{KeeperState, Keeps, with_more}
+use Rattle.box_server.specs.Rebuilding.{is_new, kept_if}
 use Rattle.outside.specs.Events.{HostState}
 use Rattle.outside.proofs.Growing.{grew_none}
 use Rattle.update_sessions.specs.Kept.{kept_for}

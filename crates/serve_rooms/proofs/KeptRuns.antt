@@ -1,6 +1,6 @@
 -- Laws of runs over a keeper.
 use Rattle.std.proofs.Common.{◌≡◌, ◌++◌, Option, Some, None, refl, subst}
-use Rattle.box_store.specs.Keeping.{KeeperState}
+use Rattle.box_server.specs.Keeping.{KeeperState}
 use Rattle.outside.specs.Answer.{memory_line}
 use Rattle.outside.specs.declared.status.Status.{Status}
 use Rattle.outside.specs.declared.status.Status.TheVariants.{Memory}

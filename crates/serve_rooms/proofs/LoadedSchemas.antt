@@ -29,7 +29,7 @@ use Rattle.outside.proofs.Growing as growing
 use Rattle.outside.proofs.Piecewise.{can_read_file, can_tell}
 use Rattle.outside.proofs.Printed.{can_print}
 use Rattle.codec_rooms.proofs.Typing as typing
-use Rattle.box_store.specs.Keeping.{KeeperState}
+use Rattle.box_server.specs.Keeping.{KeeperState}
 use Rattle.serve_rooms.specs.Acts.{KeptState, beside}
 use Rattle.serve_rooms.specs.Doing.{Hosted, Last, BeginsKept, DidKept}
 use Rattle.serve_rooms.specs.Serve.{EndsBy, OfText, no_schema, schema_of, after_reading, LoadsSchema, OfProfile, OfSchema, no_profile, profiled, after_loading, OfProfiled}

@@ -2,12 +2,12 @@
 use Rattle.std.proofs.Common.{◌≡◌, ◌⊎◌, inl, inr, ℕ, List, [], ◌∷◌, true, false, Option, Some, None, Result, Ok, Err, IfSome, IsSome, IsTrue, refl, sym, subst}
 use Rattle.std.specs.Prelude.{⊤, option_map}
 use Rattle.box_server.specs.Servers.{new_server}
-use Rattle.box_store.specs.declared.entry.Entry.{Entry}
-use Rattle.box_store.specs.declared.fault.OpenFault.{OpenFault}
-use Rattle.box_store.specs.declared.fault.OpenFault.TheVariants as opening
-use Rattle.box_store.specs.Answering.{Opens, opened_keeper, IsOpenFailed}
-use Rattle.box_store.specs.Keeping.{KeeperState, Keeps}
-use Rattle.box_store.specs.Storing.{StoredView}
+use Rattle.box_server.specs.declared.entry.Entry.{Entry}
+use Rattle.box_server.specs.declared.store_fault.OpenFault.{OpenFault}
+use Rattle.box_server.specs.declared.store_fault.OpenFault.TheVariants as opening
+use Rattle.box_server.specs.Answering.{Opens, opened_keeper, IsOpenFailed}
+use Rattle.box_server.specs.Keeping.{KeeperState, Keeps}
+use Rattle.box_server.specs.Storing.{StoredView}
 use Rattle.outside.specs.Events.{HostState}
 use Rattle.outside.specs.Pieces.{Tells}
 use Rattle.outside.specs.Begun.{Did}

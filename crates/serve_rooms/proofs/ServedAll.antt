@@ -6,7 +6,7 @@ use Rattle.std.proofs.lemmas.List.{drop-drop}
 use Rattle.tl_base.specs.Outside.{View, written_of}
 use Rattle.tl_base.specs.declared.host.Out.TheVariants as outs
 use Rattle.box_server.specs.Servers.{ServerState}
-use Rattle.box_store.specs.declared.entry.Entry.{Entry}
+use Rattle.box_server.specs.declared.entry.Entry.{Entry}
 use Rattle.wire_profile.specs.Places.{ProfileView}
 use Rattle.outside.specs.Answer.{Answer, link_fault_line, write_fault_line}
 use Rattle.outside.specs.Kept.{Leaves}

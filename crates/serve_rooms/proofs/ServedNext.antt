@@ -7,7 +7,7 @@ use Rattle.tl_base.specs.declared.host.Out.TheVariants as outs
 use Rattle.tl_base.specs.declared.host.Slot.TheVariants.{Link}
 use Rattle.box_events.specs.declared.requests.Numbered.{Numbered}
 use Rattle.box_server.specs.Servers.{ServerState, dated_at}
-use Rattle.box_store.specs.declared.entry.Entry.{Entry}
+use Rattle.box_server.specs.declared.entry.Entry.{Entry}
 use Rattle.wire_profile.specs.Places.{ProfileView}
 use Rattle.box_wire.specs.Kinds.{calls}
 use Rattle.outside.specs.Answer.{link_fault_line}

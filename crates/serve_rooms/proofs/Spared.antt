@@ -8,7 +8,7 @@ use Rattle.tl_schema.specs.Schemas.{Declared}
 use Rattle.wire_profile.specs.Faults.{IsAnswer}
 use Rattle.wire_profile.specs.Places.{ProfileView}
 use Rattle.box_server.specs.Servers.{ServerState, new_server}
-use Rattle.box_store.specs.Keeping.{nothing_kept}
+use Rattle.box_server.specs.Keeping.{nothing_kept}
 use Rattle.outside.specs.Answer.{refused}
 use Rattle.outside.specs.Jobs.{of_fault}
 use Rattle.outside.specs.Loading.{Refuses}

@@ -5,7 +5,7 @@ use Rattle.tl_base.specs.declared.host.Out.TheVariants as outs
 use Rattle.tl_schema.specs.Schemas.{Declared}
 use Rattle.box_events.specs.declared.requests.Numbered.{Numbered}
 use Rattle.box_server.specs.Servers.{ServerState, new_server, dated_at}
-use Rattle.box_store.specs.declared.entry.Entry.{Entry}
+use Rattle.box_server.specs.declared.entry.Entry.{Entry}
 use Rattle.wire_profile.specs.Places.{ProfileView}
 use Rattle.outside.specs.Answer.{link_fault_line, read_fault_line, refused, write_fault_line}
 use Rattle.outside.specs.declared.status.Status.{Status}

@@ -2,8 +2,8 @@
 use Rattle.std.specs.Prelude.{◌≡◌, ℕ, ◌≤◌, List, [], ◌∷◌, length, Bool, true, false, IsTrue, Option, IfSome, IsSome}
 use Rattle.tl_base.specs.Causes.{Rose}
 use Rattle.box_server.specs.Servers.{ServerState}
-use Rattle.box_store.specs.declared.entry.Entry.{Entry}
-use Rattle.box_store.specs.Keeping.{KeeperState, with_more}
+use Rattle.box_server.specs.declared.entry.Entry.{Entry}
+use Rattle.box_server.specs.Keeping.{KeeperState, with_more}
 use Rattle.session_commands.specs.Keep.{Starts, IsBadEntry}
 use Rattle.outside.specs.Events.{Event, HostState}
 use Rattle.outside.specs.Grown.{Grew}

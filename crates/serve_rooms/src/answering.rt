@@ -12,7 +12,7 @@ ghost use Rattle.serve_rooms.specs.Answering.{AnswersAll, AnswersBytes, AnswersN
 ghost use Rattle.serve_rooms.specs.Doing.{DidKept};
 ghost use Rattle.serve_rooms.specs.inner.Ends.{answered_by, keeper_of, outcome_at, end_at, session_by};
 
-use box_store::{Keeper, Stored};
+use box_server::{Keeper, Stored};
 use outside::{Host, Packet, take_packet, write_out};
 use std::alloc::Global;
 use tl_base::{Bytes, Failed, Out, PacketFault, Slot};

@@ -10,7 +10,7 @@ ghost use Rattle.serve_rooms.specs.inner.Ends.{TellsStop, next_by, stopped_keepe
 use crate::answering::{Stopped, serve_link};
 use crate::status::{KeptRun, KeptStatus};
 use crate::telling::{Tally, tell_end};
-use box_store::{Keeper, Stored};
+use box_server::{Keeper, Stored};
 use outside::Status;
 use outside::{Host, tell};
 use std::alloc::{AllocError, Global};

@@ -14,7 +14,7 @@ ghost use Rattle.serve_rooms.specs.declared.status.KeptStatus.TheVariants.{Run};
 use crate::loading::{Loaded, load_schema};
 use crate::sessions::serve_all;
 use crate::status::{KeptRun, KeptStatus};
-use box_store::{Keeper, OpenFault, Stored};
+use box_server::{Keeper, OpenFault, Stored};
 use outside::{Status, placed_line};
 use fault_lines::profile_of;
 use outside::{Host, print_made, tell};

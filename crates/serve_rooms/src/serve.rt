@@ -13,7 +13,7 @@ use crate::loading::{Loaded, load_schema};
 use crate::sessions::serve_all;
 use crate::status::KeptStatus;
 use box_server::Server;
-use box_store::Stored;
+use box_server::Stored;
 use outside::Status;
 use fault_lines::profile_of;
 use outside::{Host, finish, print_made};

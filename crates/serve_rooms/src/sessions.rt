@@ -8,7 +8,7 @@ ghost use Rattle.serve_rooms.specs.Sessions.{ServesAll, after_listen};
 use crate::connection::serve_next;
 use crate::status::{KeptRun, KeptStatus};
 use crate::telling::Tally;
-use box_store::{Keeper, Stored};
+use box_server::{Keeper, Stored};
 use outside::Status;
 use outside::{Host, tell};
 use std::alloc::Global;

@@ -2,7 +2,7 @@
 ghost use Rattle.std.specs.Prelude.{◌≡◌};
 ghost use Rattle.serve_rooms.specs.Status.{kept_number};
 
-use box_store::Keeper;
+use box_server::Keeper;
 use outside::Status;
 use std::alloc::AllocError;
 

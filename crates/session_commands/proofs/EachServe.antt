@@ -21,7 +21,7 @@ use Rattle.box_server.specs.Sound.{IsSound}
 use Rattle.box_server.specs.declared.fault.PostFault.{PostFault}
 use Rattle.box_server.proofs.NewServers.{sound_new}
 use Rattle.box_server.proofs.Soundness.{dated_sound, post_sound, posted_sound}
-use Rattle.box_store.specs.declared.entry.Entry.{Entry}
+use Rattle.box_server.specs.declared.entry.Entry.{Entry}
 use Rattle.wire_checks.specs.declared.fault.WireFault.{WireFault}
 use Rattle.wire_profile.specs.Places.{ProfileView}
 use Rattle.wire_profile.specs.Profiles.{IsProfile}

@@ -2,9 +2,9 @@
 use Rattle.std.proofs.Common.{◌≡◌, ◌⊎◌, ℕ, zero, suc, ◌+◌, ◌<◌, ◌≤◌, List, [], ◌∷◌, ◌++◌, append-nil, append_assoc, length, length-append, get_or, max, refl, sym, ap, ◌∙◌, subst, arith, inl, inr}
 use Rattle.std.proofs.lemmas.List.{get_or_append_left, get_or-append-add}
 use Rattle.box_server.specs.Servers.{ServerState, dated_at, new_server}
-use Rattle.box_store.specs.declared.entry.Entry.{Entry}
-use Rattle.box_store.specs.Rebuilding.{Rebuilds, rebuilt}
-use Rattle.box_store.proofs.Rebuilt.{one_server}
+use Rattle.box_server.specs.declared.entry.Entry.{Entry}
+use Rattle.box_server.specs.Rebuilding.{Rebuilds, rebuilt}
+use Rattle.box_server.proofs.Rebuilt.{one_server}
 use Rattle.wire_profile.specs.Places.{ProfileView}
 use Rattle.update_sessions.specs.Kept.{kept_in}
 use Rattle.update_sessions.specs.Served.{Serves}

@@ -3,10 +3,10 @@
 use Rattle.std.specs.Prelude.{◌≡◌, ◌⊎◌, ℕ, ◌<◌, ◌≤◌, List, [], ◌++◌, get_or, codes, true, Option, Some, None, IsSome}
 use Rattle.tl_base.specs.Outside.{View}
 use Rattle.box_server.specs.Servers.{ServerState, dated_at}
-use Rattle.box_store.specs.declared.entry.Entry.{Entry}
-use Rattle.box_store.specs.Keeping.{with_more}
-use Rattle.box_store.specs.Rebuilding.{IsBad, are_right, rebuilt}
-use Rattle.box_store.specs.Storing.{Tells}
+use Rattle.box_server.specs.declared.entry.Entry.{Entry}
+use Rattle.box_server.specs.Keeping.{with_more}
+use Rattle.box_server.specs.Rebuilding.{IsBad, are_right, rebuilt}
+use Rattle.box_server.specs.Storing.{Tells}
 use Rattle.wire_profile.specs.Places.{ProfileView}
 use Rattle.update_sessions.specs.declared.fault.TheConstants.{MAX_FRAMES}
 use Rattle.update_sessions.specs.Kept.{RoomFor}

@@ -1,8 +1,8 @@
 -- Runs of `keep` one after the other on one keeper, and one run of `serve` over all their sessions. This project's own.
 use Rattle.std.specs.Prelude.{◌≡◌, ℕ, ◌<◌, ◌≤◌, List, [], ◌∷◌, ◌++◌, length, get_or}
 use Rattle.box_server.specs.Servers.{new_server}
-use Rattle.box_store.specs.declared.entry.Entry.{Entry}
-use Rattle.box_store.specs.Rebuilding.{Rebuilds, rebuilt}
+use Rattle.box_server.specs.declared.entry.Entry.{Entry}
+use Rattle.box_server.specs.Rebuilding.{Rebuilds, rebuilt}
 use Rattle.wire_profile.specs.Places.{ProfileView}
 use Rattle.session_commands.specs.Serve.{IsWhole, Sessions, Total}
 

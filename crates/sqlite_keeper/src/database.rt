@@ -4,7 +4,7 @@ use crate::tables::{
     ADD_ENTRY, ADD_POST, COUNT, GET_ENTRY, GET_POSTS, Head, POSTS_OF_ENTRY, command, count_entries,
     head_of, make_tables, posts_of, prepare, put_head, put_posts,
 };
-use box_store::{Entry, Posts};
+use box_server::{Entry, Posts};
 use sqlite::{Alter, Connection, Error, ErrorCode, Statement};
 use std::alloc::Global;
 

@@ -1,10 +1,10 @@
 //! A keeper over a database. It tells no entries: what a database holds is no part of a contract.
 ghost use Rattle.std.specs.Prelude.{None, false};
-ghost use Rattle.box_store.specs.Keeping.{KeeperState};
+ghost use Rattle.box_server.specs.Keeping.{KeeperState};
 
 use crate::count_file::CountFile;
 use crate::database::Database;
-use box_store::{Entry, GetFault, Keeper};
+use box_server::{Entry, GetFault, Keeper};
 use sqlite::{Alter, Connection, Error, ErrorCode};
 use std::alloc::Global;
 use tl_base::Failed;

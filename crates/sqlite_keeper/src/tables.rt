@@ -2,7 +2,7 @@
 
 use crate::rows::{PostRow, post_of, put_row};
 use box_events::ListOf;
-use box_store::{Entry, Posts};
+use box_server::{Entry, Posts};
 use sqlite::{Alter, Connection, Error, ErrorCode, Row, Statement, params};
 use std::alloc::Global;
 

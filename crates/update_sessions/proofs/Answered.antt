@@ -23,11 +23,11 @@ use Rattle.box_server.specs.Servers.{ServerState}
 use Rattle.box_server.specs.Sound.{IsSound}
 use Rattle.box_server.specs.declared.fault.PostFault.{PostFault}
 use Rattle.box_server.specs.declared.posted.Posted.{Posted}
-use Rattle.box_store.specs.declared.entry.Entry.{Entry}
-use Rattle.box_store.specs.Keeping.{with_more}
-use Rattle.box_store.specs.Rebuilding.{kept_of}
-use Rattle.box_store.specs.Storing.{Takes}
-use Rattle.box_store.proofs.Rebuilt.{refused_adds_nothing}
+use Rattle.box_server.specs.declared.entry.Entry.{Entry}
+use Rattle.box_server.specs.Keeping.{with_more}
+use Rattle.box_server.specs.Rebuilding.{kept_of}
+use Rattle.box_server.specs.Storing.{Takes}
+use Rattle.box_server.proofs.Rebuilt.{refused_adds_nothing}
 use Rattle.wire_profile.specs.Places.{ProfileView}
 use Rattle.server_frames.specs.Sizes.{frame_size}
 use Rattle.server_frames.proofs.AnswersBelow.{answers_below}

@@ -1,7 +1,7 @@
 -- Entries of a keeper, where they are told, with others after them.
 use Rattle.std.proofs.Common.{◌≡◌, List, [], ◌++◌, Option, Some, None, refl, sym, ap, append-nil, append_assoc}
-use Rattle.box_store.specs.declared.entry.Entry.{Entry}
-use Rattle.box_store.specs.Keeping.{with_more}
+use Rattle.box_server.specs.declared.entry.Entry.{Entry}
+use Rattle.box_server.specs.Keeping.{with_more}
 
 pub more_none : (o : Option (List Entry)) → o ≡ with_more [] o
 more_none None = refl

@@ -3,8 +3,8 @@ use Rattle.std.proofs.Common.{◌≡◌, ℕ, ◌<◌, ◌≤◌, List, [], ◌�
 use Rattle.std.specs.Prelude.{IfSome, IsSome, IsTrue, ⊤}
 use Rattle.box_events.specs.declared.requests.Numbered.{Numbered}
 use Rattle.box_server.specs.Servers.{ServerState}
-use Rattle.box_store.specs.declared.entry.Entry.{Entry}
-use Rattle.box_store.specs.Keeping.{KeeperState, Keeps, with_more}
+use Rattle.box_server.specs.declared.entry.Entry.{Entry}
+use Rattle.box_server.specs.Keeping.{KeeperState, Keeps, with_more}
 use Rattle.wire_profile.specs.Places.{ProfileView}
 use Rattle.box_wire.specs.Framing.{WireRefused}
 use Rattle.box_wire.specs.Kinds.{calls}

@@ -12,9 +12,9 @@ use Rattle.box_server.specs.Receiving.{state_by}
 use Rattle.box_server.specs.Refusing.{post_cause}
 use Rattle.box_server.specs.Servers.{ServerState, dated_at}
 use Rattle.box_server.specs.declared.fault.PostFault.{PostFault}
-use Rattle.box_store.specs.declared.entry.Entry.{Entry}
-use Rattle.box_store.specs.Rebuilding.{Rebuilds, is_new, kept_if}
-use Rattle.box_store.proofs.Rebuilt.{date_aside, one_more, one_server}
+use Rattle.box_server.specs.declared.entry.Entry.{Entry}
+use Rattle.box_server.specs.Rebuilding.{Rebuilds, is_new, kept_if}
+use Rattle.box_server.proofs.Rebuilt.{date_aside, one_more, one_server}
 use Rattle.wire_profile.specs.Places.{ProfileView}
 use Rattle.update_sessions.specs.declared.fault.SessionFault.{SessionFault}
 use Rattle.update_sessions.specs.declared.fault.SessionFault.TheVariants.{Packet, Wire, Client, TooManyFrames, LinkFault, Memory}

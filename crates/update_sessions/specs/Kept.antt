@@ -4,9 +4,9 @@ use Rattle.box_events.specs.declared.requests.Numbered.{Numbered}
 use Rattle.box_events.specs.declared.requests.Request.{Request}
 use Rattle.box_events.specs.declared.requests.Request.TheVariants as request
 use Rattle.box_server.specs.Servers.{ServerState}
-use Rattle.box_store.specs.declared.entry.Entry.{Entry}
-use Rattle.box_store.specs.Keeping.{with_more}
-use Rattle.box_store.specs.Rebuilding.{kept_of}
+use Rattle.box_server.specs.declared.entry.Entry.{Entry}
+use Rattle.box_server.specs.Keeping.{with_more}
+use Rattle.box_server.specs.Rebuilding.{kept_of}
 use Rattle.wire_profile.specs.Places.{ProfileView}
 use Rattle.update_sessions.specs.declared.fault.SessionFault.{SessionFault}
 use Rattle.update_sessions.specs.declared.fault.TheConstants.{MAX_FRAMES}

@@ -1,7 +1,7 @@
 -- What a session of a store answers, and the answering of one packet: how it ended, and the keeper that comes back. This project's own.
 use Rattle.std.specs.Prelude.{Result, Ok, Err, IsErrOf}
 use Rattle.box_server.specs.Servers.{ServerState}
-use Rattle.box_store.specs.Storing.{StoredView}
+use Rattle.box_server.specs.Storing.{StoredView}
 use Rattle.update_sessions.specs.declared.fault.SessionFault.{SessionFault}
 use Rattle.update_sessions.specs.declared.fault.SessionFault.TheVariants as fault
 use Rattle.update_sessions.specs.declared.storing.StoreSession.{StoreSession}

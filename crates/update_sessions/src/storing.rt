@@ -1,7 +1,7 @@
 //! Sessions of a server whose posts are kept.
 ghost use Rattle.std.specs.Prelude.{◌≡◌, ◌<◌, ◌^◌, Err};
 ghost use Rattle.box_server.specs.Servers.{dated_at};
-ghost use Rattle.box_store.specs.Keeping.{Keeps};
+ghost use Rattle.box_server.specs.Keeping.{Keeps};
 ghost use Rattle.update_sessions.specs.declared.fault.TheConstants.{MAX_FRAMES};
 ghost use Rattle.update_sessions.specs.Exchanges.{MaySend, MaySendFor};
 ghost use Rattle.update_sessions.specs.Kept.{RoomFor, Stores};
@@ -12,7 +12,7 @@ ghost use Rattle.update_sessions.specs.inner.StoreSteps.{StoresNext};
 
 use crate::answering::answer_packet;
 use crate::fault::{MAX_FRAMES, SessionFault};
-use box_store::{Keeper, Stored};
+use box_server::{Keeper, Stored};
 use std::alloc::Global;
 use tl_base::{Bytes, Link, PacketFault, read_packet, write_all};
 use wire_profile::Profile;

@@ -1,8 +1,8 @@
 -- How a run of `keep` ends: its parts, by what it came to.
 use Rattle.std.proofs.Common.{◌≡◌, ◌⊎◌, inl, inr, ℕ, List, [], ◌++◌, append-nil, Some, refl, sym, ap, ◌∙◌, subst}
 use Rattle.tl_base.specs.Outside.{IsThere}
-use Rattle.box_store.specs.declared.entry.Entry.{Entry}
-use Rattle.box_store.specs.Keeping.{KeeperState, with_more}
+use Rattle.box_server.specs.declared.entry.Entry.{Entry}
+use Rattle.box_server.specs.Keeping.{KeeperState, with_more}
 use Rattle.outside.specs.Answer.{memory_line, read_fault_line, refused}
 use Rattle.outside.specs.Kept.{AddsPrefix}
 use Rattle.outside.specs.Sound as sound

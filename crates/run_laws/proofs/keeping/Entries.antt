@@ -4,11 +4,11 @@ use Rattle.std.specs.Prelude.{IfSome}
 use Rattle.std.specs.List.{AllByRecursion}
 use Rattle.box_events.specs.declared.requests.Numbered.{Numbered}
 use Rattle.box_server.specs.Servers.{ServerState, dated_at, new_server}
-use Rattle.box_store.specs.declared.entry.Entry.{Entry}
-use Rattle.box_store.specs.Keeping.{KeeperState, Keeps, with_more}
-use Rattle.box_store.specs.Rebuilding.{Rebuilds, are_right, are_right_from, is_accepted, rebuilt, with_entry}
-use Rattle.box_store.specs.Storing.{Tells}
-use Rattle.box_store.proofs.Rebuilt.{rebuilt_sound}
+use Rattle.box_server.specs.declared.entry.Entry.{Entry}
+use Rattle.box_server.specs.Keeping.{KeeperState, Keeps, with_more}
+use Rattle.box_server.specs.Rebuilding.{Rebuilds, are_right, are_right_from, is_accepted, rebuilt, with_entry}
+use Rattle.box_server.specs.Storing.{Tells}
+use Rattle.box_server.proofs.Rebuilt.{rebuilt_sound}
 use Rattle.wire_profile.specs.Places.{ProfileView}
 use Rattle.outside.specs.Laws.{Happened}
 use Rattle.update_sessions.specs.declared.fault.SessionFault.{SessionFault}

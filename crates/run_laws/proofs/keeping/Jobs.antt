@@ -4,9 +4,9 @@ use Rattle.std.specs.Prelude.{IfSome}
 use Rattle.std.specs.List.{All, AllByRecursion}
 use Rattle.tl_base.specs.Outside.{View}
 use Rattle.box_server.specs.Servers.{ServerState}
-use Rattle.box_store.specs.declared.entry.Entry.{Entry}
-use Rattle.box_store.specs.Keeping.{with_more}
-use Rattle.box_store.specs.Storing.{Tells}
+use Rattle.box_server.specs.declared.entry.Entry.{Entry}
+use Rattle.box_server.specs.Keeping.{with_more}
+use Rattle.box_server.specs.Storing.{Tells}
 use Rattle.wire_profile.specs.Places.{ProfileView}
 use Rattle.outside.specs.Jobs.{MayAnswer, WritesSomeOf}
 use Rattle.outside.specs.Kept.{AddsPrefix}

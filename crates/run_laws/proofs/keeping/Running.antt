@@ -1,6 +1,6 @@
 -- Each run of `keep` ends as its job does, and keeps what that keeps.
 use Rattle.std.proofs.Common.{◌≡◌, inl, inr, ℕ, List, [], ◌++◌, append-nil, Some, refl, sym, ap, ◌∙◌, subst, arith}
-use Rattle.box_store.specs.Keeping.{KeeperState}
+use Rattle.box_server.specs.Keeping.{KeeperState}
 use Rattle.outside.specs.Answer.{memory_line}
 use Rattle.outside.specs.Telling as telling
 use Rattle.outside.specs.declared.status.Status.{Status}

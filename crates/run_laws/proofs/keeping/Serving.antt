@@ -5,9 +5,9 @@ use Rattle.tl_base.specs.Outside.{View, left_of}
 use Rattle.tl_base.specs.declared.counts.Kind.TheVariants as kinds
 use Rattle.tl_base.specs.declared.host.Slot.TheVariants.{Link}
 use Rattle.box_server.specs.Servers.{ServerState, dated_at}
-use Rattle.box_store.specs.declared.entry.Entry.{Entry}
-use Rattle.box_store.specs.Keeping.{KeeperState, with_more}
-use Rattle.box_store.specs.Rebuilding.{rebuilt}
+use Rattle.box_server.specs.declared.entry.Entry.{Entry}
+use Rattle.box_server.specs.Keeping.{KeeperState, with_more}
+use Rattle.box_server.specs.Rebuilding.{rebuilt}
 use Rattle.wire_profile.specs.Profiles.{IsProfile}
 use Rattle.outside.specs.Answer.{link_fault_line, memory_line, write_fault_line}
 use Rattle.outside.specs.Jobs.{WritesSomeOf}

@@ -5,8 +5,8 @@ use Rattle.std.proofs.Math.Nat.{eq-or-lt_of_le}
 use Rattle.std.proofs.lemmas.List.{get_or_append_left, get_or_at}
 use Rattle.tl_base.specs.Outside.{View}
 use Rattle.box_server.specs.Servers.{ServerState, new_server}
-use Rattle.box_store.specs.declared.entry.Entry.{Entry}
-use Rattle.box_store.specs.Rebuilding.{IsBad, are_right, are_right_from, is_accepted, with_entry}
+use Rattle.box_server.specs.declared.entry.Entry.{Entry}
+use Rattle.box_server.specs.Rebuilding.{IsBad, are_right, are_right_from, is_accepted, with_entry}
 use Rattle.wire_profile.specs.Places.{ProfileView}
 use Rattle.outside.specs.Jobs.{Job}
 use Rattle.outside.specs.Sound.{Fits}

@@ -2,7 +2,7 @@
 use Rattle.std.specs.Prelude.{◌≡◌, ℕ, Option, Some, None, option_map, Result, Ok, Err}
 use Rattle.tl_base.specs.declared.packet.PacketFault.TheVariants as packet
 use Rattle.box_server.specs.Servers.{ServerState}
-use Rattle.box_store.specs.Storing.{StoredView}
+use Rattle.box_server.specs.Storing.{StoredView}
 use Rattle.outside.specs.declared.status.Status.{Status}
 use Rattle.outside.specs.Packets.{PacketView, whole, none, bad_length, ended, broken}
 use Rattle.outside.specs.Runs.{answered}

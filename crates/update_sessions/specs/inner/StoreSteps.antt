@@ -6,9 +6,9 @@ use Rattle.box_events.specs.declared.replies.Frame.{Frame}
 use Rattle.box_events.specs.declared.requests.Numbered.{Numbered}
 use Rattle.box_events.specs.declared.requests.Request.{Request}
 use Rattle.box_server.specs.Servers.{ServerState}
-use Rattle.box_store.specs.declared.entry.Entry.{Entry}
-use Rattle.box_store.specs.Keeping.{with_more}
-use Rattle.box_store.specs.Storing.{StoredView}
+use Rattle.box_server.specs.declared.entry.Entry.{Entry}
+use Rattle.box_server.specs.Keeping.{with_more}
+use Rattle.box_server.specs.Storing.{StoredView}
 use Rattle.wire_profile.specs.Places.{ProfileView}
 use Rattle.box_wire.specs.Kinds.{calls}
 use Rattle.box_wire.specs.Framing.{WireRefused}

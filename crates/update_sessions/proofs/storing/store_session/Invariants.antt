@@ -1,7 +1,7 @@
 use Rattle.std.proofs.Common.{◌≡◌}
 use Rattle.std.specs.Prelude.{⊤}
 use Rattle.box_server.specs.Servers.{dated_at}
-use Rattle.box_store.specs.Keeping.{Keeps}
+use Rattle.box_server.specs.Keeping.{Keeps}
 use Rattle.update_sessions.specs.Links.{UsesLink}
 use Rattle.update_sessions.specs.inner.StoreSteps.{StoreSoFar}
 use Rattle.update_sessions.proofs.storing.store_session.Given as goal

@@ -1,0 +1,143 @@
+//! A server beside the keeper of its posts.
+ghost use Rattle.std.specs.Prelude.{◌≡◌, ◌<◌, ◌≤◌, ◌^◌, ◌++◌, Ok, Err, IfSome, length, ⊤};
+ghost use Rattle.box_server.specs.Servers.{dated_at};
+ghost use Rattle.box_server.specs.Keeping.{Keeps, with_more};
+ghost use Rattle.box_server.specs.Rebuilding.{kept_of};
+ghost use Rattle.box_server.specs.Storing.{Tells};
+ghost use Rattle.box_server.specs.Answering.{Opens, opened_keeper, IsOpenFailed, TakesPosts, IsPostFailed, kept_keeper, kept_after};
+
+use crate::entry::{Entry, Posts};
+use crate::store_fault::{OpenFault, StoreRefusal};
+use crate::keeper::Keeper;
+use crate::loading::{LoadFault, load};
+use crate::no_keeper::NoKeeper;
+use crate::{PostFault, Posted, Server};
+use std::alloc::Global;
+use std::marker::Model;
+
+/// A server, each of whose posts is kept before it is answered. The keeper's entries rebuild it, its date aside.
+pub struct Stored<K: Keeper> {
+    keeper: K,
+    server: Server,
+}
+
+// By hand, so that each exit of an owner has one call to prove.
+impl<K: Keeper + Drop> Drop for Stored<K> {
+    fn drop(self) {
+        let Stored {
+            keeper: _,
+            server: _,
+        } = self;
+    }
+}
+
+impl<K: Keeper> Model for Stored<K> {
+    ghost use Rattle.box_server.specs.Storing.{StoredView, stored_code, Tells};
+
+    ghost Value = { StoredView K };
+
+    ghost coded = { stored_code K.code };
+
+    ghost view = { λ s. record { keeper = s.keeper; server = s.server } };
+
+    ghost invariant = { λ s. Tells (K.state s.keeper).entries s.server };
+}
+
+impl<K: Keeper> Stored<K> {
+    /// Opens a store: the server that the keeper's entries rebuild. An entry that isn't accepted is told by its number.
+    pub fn open(alloc: Global, keeper: K) -> Result<Stored<K>, OpenFault<K>>
+        ensures opens { IfSome (K.state keeper).entries (λ es. Opens es result) }
+        ensures entries { (K.state (opened_keeper result)).entries ≡ (K.state keeper).entries }
+        ensures used { Keeps (K.state keeper) (K.state (opened_keeper result)) (IsOpenFailed result) (λ _. ⊤) }
+    {
+        let mut keeper = keeper;
+        let mut server = Server::new(alloc);
+        match load(&mut keeper, &mut server) {
+            Ok(()) => Ok(Stored { keeper, server }),
+            Err(LoadFault::BadEntry { n }) => Err(OpenFault::BadEntry { keeper, n }),
+            Err(LoadFault::Failed) => Err(OpenFault::Failed { keeper }),
+            Err(LoadFault::Memory) => Err(OpenFault::Memory { keeper }),
+        }
+    }
+
+    /// Takes posts as the server does, and keeps new ones before it answers. Where the keeper fails nothing is answered.
+    pub fn post(self, random_id: i64, posts: Posts) -> Result<(Stored<K>, Posted), StoreRefusal<K>>
+        ensures posts { TakesPosts self random_id posts result }
+        ensures entries { (K.state (kept_keeper result)).entries ≡ with_more (kept_after self random_id posts result) (K.state self.keeper).entries }
+        ensures used { Keeps (K.state self.keeper) (K.state (kept_keeper result)) (IsPostFailed result) (λ es. length (es ++ kept_of self.server random_id posts) ≤ (K.state self.keeper).room) }
+    {
+        let Stored {
+            mut keeper,
+            mut server,
+        } = self;
+        let date = server.state().date;
+        match server.post(random_id, posts.as_slice()) {
+            Ok(posted) => {
+                if posted.push.is_none() {
+                    return Ok((Stored { keeper, server }, posted));
+                }
+                match keeper.add(Entry {
+                    date,
+                    random_id,
+                    posts,
+                }) {
+                    Ok(()) => Ok((Stored { keeper, server }, posted)),
+                    Err(_) => Err(StoreRefusal::Failed { keeper }),
+                }
+            }
+            Err(PostFault::Memory) => Err(StoreRefusal::Memory {
+                store: Stored { keeper, server },
+            }),
+            Err(fault) => Err(StoreRefusal::Refused {
+                store: Stored { keeper, server },
+                fault,
+            }),
+        }
+    }
+
+    /// The clock shows a date, in seconds. It is not kept.
+    pub fn set_date(&mut self, date: u32)
+        requires { date < 2 ^ 31 }
+        ensures server { self.new.server ≡ dated_at self.old.server date }
+        ensures keeper { self.new.keeper ≡ self.old.keeper }
+    {
+        self.server.set_date(date);
+    }
+
+    /// The server.
+    pub fn server(&self) -> &Server
+        ensures server { result.now ≡ self.now.server }
+        ensures rebuilt { Tells (K.state self.now.keeper).entries self.now.server }
+    {
+        &self.server
+    }
+
+    /// The keeper alone.
+    pub fn into_keeper(self) -> K
+        ensures keeper { result ≡ self.keeper }
+        ensures rebuilt { Tells (K.state self.keeper).entries self.server }
+    {
+        let Stored { keeper, server: _ } = self;
+        keeper
+    }
+}
+
+impl Stored<NoKeeper> {
+    /// A server whose posts aren't kept.
+    pub fn over(server: Server) -> Stored<NoKeeper>
+        ensures { result.server ≡ server }
+    {
+        Stored {
+            keeper: NoKeeper,
+            server,
+        }
+    }
+
+    /// The server alone.
+    pub fn into_server(self) -> Server
+        ensures { result ≡ self.server }
+    {
+        let Stored { keeper: _, server } = self;
+        server
+    }
+}

@@ -1,3 +1,0 @@
-pub mod Rebuilt
-pub mod Added
-pub mod Loads

@@ -1,2 +1,0 @@
--- What inner clauses cite; a reader of the contracts needs none of it.
-pub mod Loading
