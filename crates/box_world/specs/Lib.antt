@@ -11,3 +11,11 @@ pub mod Laws
 pub mod Streams
 pub mod NumberWorlds
 pub mod Recovering
+pub mod Sizes
+pub mod SizeLaws
+pub mod Fitting
+pub mod Sums
+pub mod Dated
+pub mod Spelled
+pub mod SpelledWorlds
+pub mod FrameLaws

@@ -12,7 +12,7 @@ use Rattle.box_client.proofs.Loadings.{next_of}
 use Rattle.wire_forms.specs.IsOf.{IsLong}
 use Rattle.wire_profile.specs.Places.{ProfileView}
 use Rattle.wire_profile.specs.Profiles.{IsProfile}
-use Rattle.server_frames.specs.Spelled.{FitsChannel}
+use Rattle.box_world.specs.Spelled.{FitsChannel}
 use Rattle.session_commands.specs.Client.{HasClient, begins, loads, watch_all, watch_one}
 use Rattle.session_commands.proofs.BegunClients.{Watched, each_watched, going_loaded, going_new, no_place, watches}
 use Rattle.session_commands.proofs.GoingClients.{IsGoing}

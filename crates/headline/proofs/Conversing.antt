@@ -42,11 +42,11 @@ use Rattle.box_wire.proofs.Exactly.{KindLaws}
 use Rattle.box_wire.proofs.FrameLaws.{frame_formed, frame_laws}
 use Rattle.box_wire.proofs.FrameLevels.{frame_levels}
 use Rattle.box_wire.proofs.Levels.{depth_same}
-use Rattle.server_frames.specs.Sizes.{call_size}
-use Rattle.server_frames.proofs.MessageForms.{call_has, call_served, frame_has}
-use Rattle.server_frames.proofs.SpelledMessages.{are_whole, of_the_kind, read_of}
-use Rattle.server_frames.proofs.AnswersFit.{answers_fit}
-use Rattle.server_frames.proofs.PushesBelow.{asks_below}
+use Rattle.box_world.specs.Sizes.{call_size}
+use Rattle.box_world.proofs.MessageForms.{call_has, call_served, frame_has}
+use Rattle.box_world.proofs.SpelledMessages.{are_whole, of_the_kind, read_of}
+use Rattle.box_world.proofs.AnswersFit.{answers_fit}
+use Rattle.box_world.proofs.PushesBelow.{asks_below}
 use Rattle.update_sessions.specs.Exchanges.{Broken, Exchanged, after_all, sends_all}
 use Rattle.update_sessions.specs.Heard.{Hears, IsBrokenOff, asked, broke_off}
 use Rattle.update_sessions.specs.Hearing.{client_side}

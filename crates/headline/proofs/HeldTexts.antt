@@ -34,8 +34,8 @@ use Rattle.wire_forms.specs.Parts.{row}
 use Rattle.wire_values.specs.Frames.{frame_tree}
 use Rattle.wire_values.specs.Others.{joined}
 use Rattle.wire_values.specs.Updates.{placed_tree, setting_tree}
-use Rattle.server_frames.proofs.Carried.{all_left}
-use Rattle.server_frames.proofs.ChangedSettings.{all_changed}
+use Rattle.box_world.proofs.Carried.{all_left}
+use Rattle.box_world.proofs.ChangedSettings.{all_changed}
 use Rattle.session_commands.proofs.JsonBytes.{no_bytes, one_more_byte}
 use Rattle.session_commands.proofs.SpelledBytes.{ValueHolds, ValuesHold}
 use Rattle.headline.specs.ReadHistories.{HasBytes}

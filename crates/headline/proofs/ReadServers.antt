@@ -11,8 +11,8 @@ use Rattle.box_server.proofs.NewServers.{sound_new}
 use Rattle.box_server.proofs.Soundness.{dated_sound, posted_sound}
 use Rattle.box_world.specs.Streams.{Doing, Past, dates, done, done_all, first_past, past_of, posted_by, posts}
 use Rattle.wire_values.specs.Carried.{FitsPost}
-use Rattle.server_frames.specs.Spelled.{FitsServer}
-use Rattle.server_frames.proofs.FittingServers.{posted_fits, servers_keep}
+use Rattle.box_world.specs.Spelled.{FitsServer}
+use Rattle.box_world.proofs.FittingServers.{posted_fits, servers_keep}
 use Rattle.headline.specs.Histories.{AreDated}
 use Rattle.headline.specs.ReadHistories.{HasBytes, WereRead}
 use Rattle.headline.proofs.HeldTexts.{ServerHolds, dated_holds, new_holds, posted_holds}

@@ -19,8 +19,8 @@ use Rattle.box_wire.specs.Framing.{Framed, Means}
 use Rattle.box_wire.specs.Kinds.{saved_clients}
 use Rattle.box_wire.proofs.Levels.{depth_same}
 use Rattle.box_wire.proofs.SavedLaws.{saved_formed, saved_laws, saved_levels}
-use Rattle.server_frames.proofs.MessageForms.{saved_has}
-use Rattle.server_frames.proofs.SpelledMessages.{of_the_kind, read_of}
+use Rattle.box_world.proofs.MessageForms.{saved_has}
+use Rattle.box_world.proofs.SpelledMessages.{of_the_kind, read_of}
 
 module _ (p : ProfileView) (good : IsProfile p) (bytes : List ℕ) (are : AreBytes bytes) where
   own_tree : (x : Saved) → owned p (placed p (saved_tree x)) ≡ saved_tree x

@@ -32,9 +32,9 @@ use Rattle.box_world.proofs.Streams.{ordered}
 use Rattle.box_world.proofs.Ticking.{stands_at}
 use Rattle.wire_forms.specs.IsOf.{IsInt, IsLong}
 use Rattle.wire_values.specs.Carried.{FitsCall, FitsRequest}
-use Rattle.server_frames.specs.Fitting.{CallFits, IsNumber}
-use Rattle.server_frames.proofs.AsksFit.{asks_fit}
-use Rattle.server_frames.proofs.Carried.{kept_in}
+use Rattle.box_world.specs.Fitting.{CallFits, IsNumber}
+use Rattle.box_world.proofs.AsksFit.{asks_fit}
+use Rattle.box_world.proofs.Carried.{kept_in}
 use Rattle.update_sessions.proofs.ClientSteps.{hears_next}
 use Rattle.headline.specs.Answering.{all_asks, hears_one, session_asks}
 use Rattle.headline.specs.Ending.{told_replies}

@@ -31,8 +31,8 @@ use Rattle.wire_values.specs.Carried.{FitsCall, FitsPost, FitsRequest}
 use Rattle.wire_values.specs.Posts.{post_tree}
 use Rattle.box_wire.specs.Kinds.{calls}
 use Rattle.box_wire.proofs.CallLaws.{call_laws}
-use Rattle.server_frames.proofs.MessagesFit.{call_in_fits}
-use Rattle.server_frames.proofs.SpelledMessages.{meant_fit}
+use Rattle.box_world.proofs.MessagesFit.{call_in_fits}
+use Rattle.box_world.proofs.SpelledMessages.{meant_fit}
 use Rattle.update_sessions.specs.Exchanges.{Broken, after_all}
 use Rattle.update_sessions.specs.Packed.{Came, MeansCall}
 use Rattle.update_sessions.specs.Served.{Serves}

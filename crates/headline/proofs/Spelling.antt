@@ -40,13 +40,13 @@ use Rattle.box_wire.proofs.CallLaws.{call_laws, call_levels}
 use Rattle.box_wire.proofs.FrameLaws.{frame_laws}
 use Rattle.box_wire.proofs.FrameLevels.{frame_levels}
 use Rattle.box_wire.proofs.ReadBack.{are_spelled}
-use Rattle.server_frames.specs.Fitting.{CallFits, IsNumber}
-use Rattle.server_frames.specs.Spelled.{FitsServer}
-use Rattle.server_frames.proofs.AnswersFit.{answers_fit}
-use Rattle.server_frames.proofs.FittingFrames.{answers_have}
-use Rattle.server_frames.proofs.FittingServers.{servers_keep}
-use Rattle.server_frames.proofs.MessageForms.{call_has, call_served, frame_has}
-use Rattle.server_frames.proofs.SpelledMessages.{are_meant}
+use Rattle.box_world.specs.Fitting.{CallFits, IsNumber}
+use Rattle.box_world.specs.Spelled.{FitsServer}
+use Rattle.box_world.proofs.AnswersFit.{answers_fit}
+use Rattle.box_world.proofs.FittingFrames.{answers_have}
+use Rattle.box_world.proofs.FittingServers.{servers_keep}
+use Rattle.box_world.proofs.MessageForms.{call_has, call_served, frame_has}
+use Rattle.box_world.proofs.SpelledMessages.{are_meant}
 use Rattle.update_sessions.specs.Exchanges.{Exchanged, TakesAll, after_all}
 use Rattle.update_sessions.specs.Heard.{asked}
 use Rattle.update_sessions.specs.Hearing.{cause_in, client_side}

@@ -39,14 +39,14 @@ use Rattle.wire_values.specs.SavedClients.{saved_in, saved_tree}
 use Rattle.box_wire.specs.Kinds.{saved_clients}
 use Rattle.box_wire.specs.Framing.{Means}
 use Rattle.box_wire.proofs.SavedLaws.{saved_laws}
-use Rattle.server_frames.proofs.MessagesFit.{saved_in_fits}
-use Rattle.server_frames.proofs.SpelledMessages.{meant_fit}
-use Rattle.server_frames.specs.Spelled.{FitsChannel}
-use Rattle.server_frames.proofs.DatedClients.{clients_stay_dated}
-use Rattle.server_frames.proofs.FittingClients.{clients_keep, held_empty, new_all}
-use Rattle.server_frames.proofs.FittingSaved.{loaded_have}
-use Rattle.server_frames.proofs.ReadClients.{clients_taken}
-use Rattle.server_frames.proofs.ReadDates.{clients_dated}
+use Rattle.box_world.proofs.MessagesFit.{saved_in_fits}
+use Rattle.box_world.proofs.SpelledMessages.{meant_fit}
+use Rattle.box_world.specs.Spelled.{FitsChannel}
+use Rattle.box_world.proofs.DatedClients.{clients_stay_dated}
+use Rattle.box_world.proofs.FittingClients.{clients_keep, held_empty, new_all}
+use Rattle.box_world.proofs.FittingSaved.{loaded_have}
+use Rattle.box_world.proofs.ReadClients.{clients_taken}
+use Rattle.box_world.proofs.ReadDates.{clients_dated}
 use Rattle.session_commands.specs.Client.{watch_all, watch_one}
 use Rattle.session_commands.proofs.GoingClients.{IsGoing}
 use Rattle.session_commands.proofs.LowClients.{Counts, LowChannel, LowLane, add_low, lane_new}

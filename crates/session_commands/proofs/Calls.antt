@@ -19,9 +19,9 @@ use Rattle.wire_values.specs.Calls.{call_in, call_tree}
 use Rattle.box_wire.specs.Kinds.{calls}
 use Rattle.box_wire.specs.Framing.{WireRefused}
 use Rattle.box_wire.proofs.CallLaws.{call_laws}
-use Rattle.server_frames.proofs.Lengths.{has_size}
-use Rattle.server_frames.proofs.Multiples.{is_whole, whole}
-use Rattle.server_frames.proofs.SpelledMessages.{read_of}
+use Rattle.box_world.proofs.Lengths.{has_size}
+use Rattle.box_world.proofs.Multiples.{is_whole, whole}
+use Rattle.box_world.proofs.SpelledMessages.{read_of}
 use Rattle.update_sessions.specs.Packed.{MeansCall}
 use Rattle.outside.specs.Jobs.{RefusedBy}
 use Rattle.outside.specs.Loading.{Refuses, RefusesAs}

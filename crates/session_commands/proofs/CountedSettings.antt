@@ -26,9 +26,9 @@ use Rattle.box_wire.specs.Kinds.{frames, saved_clients}
 use Rattle.box_wire.specs.Framing.{Means}
 use Rattle.box_wire.proofs.FrameLaws.{frame_laws}
 use Rattle.box_wire.proofs.SavedLaws.{saved_laws}
-use Rattle.server_frames.specs.Sizes.{fields_size, size_in, sizes_of}
-use Rattle.server_frames.proofs.Lengths.{has_size}
-use Rattle.server_frames.proofs.SpelledMessages.{read_of}
+use Rattle.box_world.specs.Sizes.{fields_size, size_in, sizes_of}
+use Rattle.box_world.proofs.Lengths.{has_size}
+use Rattle.box_world.proofs.SpelledMessages.{read_of}
 use Rattle.update_sessions.specs.Packed.{MeansFrame}
 use Rattle.session_commands.proofs.GoingClients.{brought_by}
 use Rattle.session_commands.proofs.LowClients as low

@@ -35,11 +35,11 @@ use Rattle.box_wire.specs.Framing.{WireRefused}
 use Rattle.box_wire.proofs.CallLaws.{call_laws}
 use Rattle.box_wire.proofs.FrameLaws.{frame_laws}
 use Rattle.box_wire.proofs.ReadBack.{are_spelled}
-use Rattle.server_frames.proofs.MessagesFit.{call_in_fits}
-use Rattle.server_frames.proofs.SpelledMessages.{meant_fit}
-use Rattle.server_frames.specs.Spelled.{FitsServer}
-use Rattle.server_frames.proofs.FittingFrames.{answers_have, pushes_have, refusals_have}
-use Rattle.server_frames.proofs.FittingServers.{receipt_fits, servers_keep}
+use Rattle.box_world.proofs.MessagesFit.{call_in_fits}
+use Rattle.box_world.proofs.SpelledMessages.{meant_fit}
+use Rattle.box_world.specs.Spelled.{FitsServer}
+use Rattle.box_world.proofs.FittingFrames.{answers_have, pushes_have, refusals_have}
+use Rattle.box_world.proofs.FittingServers.{receipt_fits, servers_keep}
 use Rattle.update_sessions.specs.declared.fault.SessionFault.TheVariants as fault
 use Rattle.update_sessions.specs.declared.fault.TheConstants.{MAX_FRAMES}
 use Rattle.update_sessions.specs.Packed.{Came, MeansCall, NoPacket, Packed, SpellsFrame}

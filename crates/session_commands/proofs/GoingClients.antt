@@ -26,16 +26,16 @@ use Rattle.wire_values.specs.CarriedFrames.{FitsFrame, IsFrame}
 use Rattle.wire_values.specs.Frames.{frame_in, frame_tree}
 use Rattle.box_wire.specs.Kinds.{frames}
 use Rattle.box_wire.proofs.FrameLaws.{frame_laws}
-use Rattle.server_frames.proofs.MessagesFit.{frame_in_fits}
-use Rattle.server_frames.proofs.SpelledMessages.{meant_fit}
-use Rattle.server_frames.specs.Dated.{IsDatedClient, IsDatedFrame}
-use Rattle.server_frames.specs.Fitting.{IsHearable}
-use Rattle.server_frames.specs.Spelled.{FitsChannel, FitsClient, IsNarrow, IsNarrowLane}
-use Rattle.server_frames.proofs.DatedClients.{clients_stay_dated}
-use Rattle.server_frames.proofs.FittingClients.{clients_keep}
-use Rattle.server_frames.proofs.FittingSaved.{clients_are_saved}
-use Rattle.server_frames.proofs.ReadDates.{frames_dated}
-use Rattle.server_frames.proofs.ReadFrames.{frames_taken}
+use Rattle.box_world.proofs.MessagesFit.{frame_in_fits}
+use Rattle.box_world.proofs.SpelledMessages.{meant_fit}
+use Rattle.box_world.specs.Dated.{IsDatedClient, IsDatedFrame}
+use Rattle.box_world.specs.Fitting.{IsHearable}
+use Rattle.box_world.specs.Spelled.{FitsChannel, FitsClient, IsNarrow, IsNarrowLane}
+use Rattle.box_world.proofs.DatedClients.{clients_stay_dated}
+use Rattle.box_world.proofs.FittingClients.{clients_keep}
+use Rattle.box_world.proofs.FittingSaved.{clients_are_saved}
+use Rattle.box_world.proofs.ReadDates.{frames_dated}
+use Rattle.box_world.proofs.ReadFrames.{frames_taken}
 use Rattle.update_sessions.specs.Hearing.{hears}
 use Rattle.update_sessions.specs.Packed.{MeansFrame}
 use Rattle.update_sessions.proofs.ClientSteps.{hears_next}

@@ -48,8 +48,8 @@ use Rattle.box_client.specs.Pushes.{updated, all_updated, settings_in, pack_hear
 use Rattle.box_client.specs.Replies.{ignored, becomes, nothing_new, group_done, group_taken, group_woven, brings, group_replied, by_channels, channel_replied, replied}
 use Rattle.box_client.specs.Asking.{group_is_due, group_asks, difference_of, channels_ticked, ticks, wakes}
 use Rattle.wire_values.specs.CarriedFrames.{FitsReply, IsPush, IsUpdate, IsWord}
-use Rattle.server_frames.specs.Spelled.{HoldsAll}
-use Rattle.server_frames.proofs.FittingClients.{asked_all, extend_all, hear_all, new_all, restart_all}
+use Rattle.box_world.specs.Spelled.{HoldsAll}
+use Rattle.box_world.proofs.FittingClients.{asked_all, extend_all, hear_all, new_all, restart_all}
 
 -- ---- lanes
 

@@ -24,11 +24,11 @@ use Rattle.box_wire.proofs.CallLaws.{call_laws}
 use Rattle.box_wire.proofs.FrameLaws.{frame_laws}
 use Rattle.box_wire.proofs.ReadBack.{are_spelled}
 use Rattle.box_wire.proofs.StepLaws.{step_laws}
-use Rattle.server_frames.specs.SizeLaws.{MeantFit}
-use Rattle.server_frames.proofs.MessagesFit.{step_in_fits}
-use Rattle.server_frames.proofs.SpelledMessages.{meant_fit}
-use Rattle.server_frames.specs.SpelledWorlds.{FitsPacket, IsStep}
-use Rattle.server_frames.proofs.FittingWorlds.{runs_fit}
+use Rattle.box_world.specs.SizeLaws.{MeantFit}
+use Rattle.box_world.proofs.MessagesFit.{step_in_fits}
+use Rattle.box_world.proofs.SpelledMessages.{meant_fit}
+use Rattle.box_world.specs.SpelledWorlds.{FitsPacket, IsStep}
+use Rattle.box_world.proofs.FittingWorlds.{runs_fit}
 use Rattle.box_server.proofs.Carrying.{changed_overlays}
 use Rattle.box_world.specs.NumberWorlds.{NumberWorld, n_run}
 use Rattle.box_world.specs.Possible.{StepCause, bytes_in, refusal}

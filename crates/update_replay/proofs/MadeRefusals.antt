@@ -9,7 +9,7 @@ use Rattle.box_world.specs.Possible.{StepCause, no_client, no_packet, wrong_end,
 use Rattle.box_world.specs.Worlds.{World, happens, run, run_from, start}
 use Rattle.box_world.proofs.NumberWorlds.{numbers_follow}
 use Rattle.box_world.proofs.OneMore.{clients_stay, runs_go_on}
-use Rattle.server_frames.specs.Sizes.{step_size}
+use Rattle.box_world.specs.Sizes.{step_size}
 use Rattle.update_replay.specs.Laws.{IsPoolFull}
 use Rattle.update_replay.specs.Made.{made_from, made_step, made_steps}
 use Rattle.update_replay.specs.Summaries.{summary}

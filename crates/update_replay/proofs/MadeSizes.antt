@@ -15,8 +15,8 @@ use Rattle.box_events.specs.declared.steps.Step.TheVariants as step
 use Rattle.box_world.specs.NumberWorlds.{NumberWorld}
 use Rattle.box_world.specs.Possible.{is_for, is_served}
 use Rattle.box_world.specs.Worlds.{Packet}
-use Rattle.server_frames.specs.Sizes.{size_in, sizes_of, step_size}
-use Rattle.server_frames.proofs.PartSizes.{text_size}
+use Rattle.box_world.specs.Sizes.{size_in, sizes_of, step_size}
+use Rattle.box_world.proofs.PartSizes.{text_size}
 use Rattle.update_replay.specs.Draws.{drawn, draw_of}
 use Rattle.update_replay.specs.Made.{Chosen, drawn_body, drawn_ids, drawn_post, drawn_rest, hears_drawn, hears_if, hears_last, serves_last, last_where, or_date, or_dated, made_step}
 use Rattle.update_replay.proofs.DrawLaws.{either}

@@ -16,10 +16,10 @@ use Rattle.box_world.specs.Possible.{StepCause, no_client, no_packet, pool_full,
 use Rattle.box_world.specs.Worlds.{World, happens, new_clients, run, start}
 use Rattle.box_world.proofs.NumberWorlds.{numbers_follow}
 use Rattle.box_world.proofs.OneMore.{runs_go_on}
-use Rattle.server_frames.specs.SizeLaws.{SpelledHaveTheirSize}
-use Rattle.server_frames.specs.Sizes.{step_size}
-use Rattle.server_frames.proofs.MessageForms.{step_has}
-use Rattle.server_frames.proofs.SpelledMessages.{of_their_size}
+use Rattle.box_world.specs.SizeLaws.{SpelledHaveTheirSize}
+use Rattle.box_world.specs.Sizes.{step_size}
+use Rattle.box_world.proofs.MessageForms.{step_has}
+use Rattle.box_world.proofs.SpelledMessages.{of_their_size}
 use Rattle.update_replay.specs.Laws.{IsPoolFull}
 use Rattle.update_replay.specs.Made.{Chosen, made_step, made_steps}
 use Rattle.update_replay.proofs.Dates.{made_dates_stay_below}

@@ -4,7 +4,7 @@ use Rattle.box_events.specs.declared.steps.Step.{Step}
 use Rattle.box_world.specs.NumberWorlds.{n_run}
 use Rattle.box_world.specs.Possible.{StepCause, pool_full, refusal}
 use Rattle.box_world.specs.Worlds.{World, happens, start}
-use Rattle.server_frames.specs.Sizes.{step_size}
+use Rattle.box_world.specs.Sizes.{step_size}
 use Rattle.update_replay.specs.Made.{made_steps}
 use Rattle.update_replay.specs.Summaries.{summary}
 use Rattle.update_world.specs.Spelled.{packet_size}

@@ -5,7 +5,7 @@ use Rattle.box_events.specs.declared.steps.Step.{Step}
 use Rattle.box_server.specs.Servers.{state_of}
 use Rattle.box_world.specs.Possible.{pool_full, refusal}
 use Rattle.box_world.specs.Worlds.{World, happens, run}
-use Rattle.server_frames.specs.Sizes.{step_size}
+use Rattle.box_world.specs.Sizes.{step_size}
 use Rattle.report_lines.specs.Closing.{server_line}
 use Rattle.report_lines.specs.Texts.{made_line}
 use Rattle.update_replay.specs.Made.{Chosen, made_steps}

@@ -4,7 +4,7 @@ ghost use Rattle.wire_profile.specs.Profiles.{IsProfile};
 ghost use Rattle.box_world.specs.NumberWorlds.{numbers_of};
 ghost use Rattle.box_world.specs.Worlds as worlds;
 ghost use Rattle.box_world.specs.Worlds.{start};
-ghost use Rattle.server_frames.specs.Sizes.{step_size};
+ghost use Rattle.box_world.specs.Sizes.{step_size};
 ghost use Rattle.update_replay.specs.Made.{made_step};
 ghost use Rattle.update_world.specs.Shown.{StandsFor};
 ghost use Rattle.update_replay.specs.MadeRuns.{MakesRun};

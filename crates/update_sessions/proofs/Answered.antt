@@ -29,9 +29,9 @@ use Rattle.box_server.specs.Rebuilding.{kept_of}
 use Rattle.box_server.specs.Storing.{Takes}
 use Rattle.box_server.proofs.Rebuilt.{refused_adds_nothing}
 use Rattle.wire_profile.specs.Places.{ProfileView}
-use Rattle.server_frames.specs.Sizes.{frame_size}
-use Rattle.server_frames.proofs.AnswersBelow.{answers_below}
-use Rattle.server_frames.proofs.PushesBelow.{pushes_below, receipts_below, refusals_below}
+use Rattle.box_world.specs.Sizes.{frame_size}
+use Rattle.box_world.proofs.AnswersBelow.{answers_below}
+use Rattle.box_world.proofs.PushesBelow.{pushes_below, receipts_below, refusals_below}
 use Rattle.update_sessions.specs.Kept.{kept_for}
 use Rattle.update_sessions.specs.Packed.{Packed, SpellsFrame}
 use Rattle.update_sessions.specs.Serving.{after_request, push_frames, posted_frames, sent_for}

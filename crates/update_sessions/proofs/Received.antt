@@ -9,8 +9,8 @@ use Rattle.wire_checks.specs.declared.fault.WireFault.TheVariants as wire
 use Rattle.box_events.specs.declared.replies.Frame.{Frame}
 use Rattle.wire_profile.specs.Places.{ProfileView}
 use Rattle.wire_profile.specs.Profiles.{IsProfile}
-use Rattle.server_frames.specs.Fitting.{IsHearable}
-use Rattle.server_frames.proofs.ReadFrames.{frames_taken}
+use Rattle.box_world.specs.Fitting.{IsHearable}
+use Rattle.box_world.proofs.ReadFrames.{frames_taken}
 use Rattle.update_sessions.specs.declared.fault.SessionFault.{SessionFault}
 use Rattle.update_sessions.specs.declared.fault.SessionFault.TheVariants.{LinkFault, Wire}
 use Rattle.update_sessions.specs.Faults.{of_packet, of_wire}

@@ -21,10 +21,10 @@ use Rattle.box_wire.specs.Kinds.{calls, frames}
 use Rattle.box_wire.specs.declared.fault.SpellFault.TheVariants.{TooLong}
 use Rattle.box_wire.proofs.CallLaws.{call_laws}
 use Rattle.box_wire.proofs.FrameLaws.{frame_laws}
-use Rattle.server_frames.specs.Sizes.{call_size, frame_size}
-use Rattle.server_frames.proofs.MessageForms.{call_has, call_served, frame_has}
-use Rattle.server_frames.proofs.SpelledMessages.{of_their_size}
-use Rattle.server_frames.proofs.PushesBelow.{asks_below}
+use Rattle.box_world.specs.Sizes.{call_size, frame_size}
+use Rattle.box_world.proofs.MessageForms.{call_has, call_served, frame_has}
+use Rattle.box_world.proofs.SpelledMessages.{of_their_size}
+use Rattle.box_world.proofs.PushesBelow.{asks_below}
 use Rattle.update_sessions.specs.Packed.{Packed, SpellsCall, SpellsFrame}
 use Rattle.update_sessions.specs.inner.Steps.{Puts}
 use Rattle.update_sessions.proofs.Packets.{packed_then, packed_one}

@@ -1,6 +1,6 @@
 //! What is sent for a call, and the store after it.
 ghost use Rattle.std.specs.Prelude.{◌≤◌, ◌++◌, Ok, Err, IfOk, IfSome, OnOk, length};
-ghost use Rattle.server_frames.specs.Sizes.{frame_size};
+ghost use Rattle.box_world.specs.Sizes.{frame_size};
 ghost use Rattle.box_events.specs.declared.limits.TheConstants.{MAX_FRAME_BYTES};
 ghost use Rattle.box_events.specs.declared.replies.Frame.TheVariants.{Push as PushFrame};
 ghost use Rattle.box_events.specs.declared.requests.Numbered.{Numbered};

@@ -3,7 +3,7 @@ ghost use Rattle.std.specs.Prelude.{◌≡◌, ◌≤◌, ◌+◌, OnOk, true};
 ghost use Rattle.box_events.specs.declared.limits.TheConstants.{MAX_ASKS};
 ghost use Rattle.box_client.specs.Asking.{is_one_asking, ticks, wakes};
 ghost use Rattle.box_world.specs.Streams.{begun};
-ghost use Rattle.server_frames.specs.Fitting.{IsHearable};
+ghost use Rattle.box_world.specs.Fitting.{IsHearable};
 ghost use Rattle.update_sessions.specs.Packed.{Packed, SpellsCall};
 ghost use Rattle.update_sessions.specs.Turns.{HearsPacket};
 ghost use Rattle.update_sessions.specs.inner.Steps.{HearsFrame};

@@ -3,7 +3,7 @@ ghost use Rattle.std.specs.Prelude.{◌≡◌, ◌≤◌, ◌++◌, OnOk, length
 ghost use Rattle.std.specs.List.{All};
 ghost use Rattle.tl_base.specs.Packets.{packet};
 ghost use Rattle.box_events.specs.declared.limits.TheConstants.{MAX_ASKS};
-ghost use Rattle.server_frames.specs.Sizes.{call_size, frame_size};
+ghost use Rattle.box_world.specs.Sizes.{call_size, frame_size};
 ghost use Rattle.update_sessions.specs.Packed.{Packed, SpellsCall, SpellsFrame};
 ghost use Rattle.update_sessions.specs.inner.Steps.{Puts};
 

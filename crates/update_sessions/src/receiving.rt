@@ -3,7 +3,7 @@ ghost use Rattle.std.specs.Prelude.{IfOk, IfSome, IsErrOf};
 ghost use Rattle.tl_base.specs.Using.{Used};
 ghost use Rattle.box_wire.specs.Framing.{WireRefused};
 ghost use Rattle.box_wire.specs.Kinds.{frames};
-ghost use Rattle.server_frames.specs.Fitting.{IsHearable};
+ghost use Rattle.box_world.specs.Fitting.{IsHearable};
 ghost use Rattle.update_sessions.specs.Packed.{MeansFrame};
 ghost use Rattle.update_sessions.specs.Receiving.{Receives};
 

@@ -20,9 +20,9 @@ use Rattle.box_wire.specs.Framing.{Framed, Means, WireRefused}
 use Rattle.box_wire.specs.Kinds.{calls, frames}
 use Rattle.box_wire.specs.declared.fault.SpellFault.{SpellFault}
 use Rattle.box_wire.specs.declared.fault.SpellFault.TheVariants.{TooLong, Memory as SpellMemory}
-use Rattle.server_frames.specs.Sizes.{call_size, frame_size}
-use Rattle.server_frames.specs.Fitting.{CallFits, FrameFits, IsHearable}
-use Rattle.server_frames.proofs.ReadFrames.{frames_taken}
+use Rattle.box_world.specs.Sizes.{call_size, frame_size}
+use Rattle.box_world.specs.Fitting.{CallFits, FrameFits, IsHearable}
+use Rattle.box_world.proofs.ReadFrames.{frames_taken}
 use Rattle.update_world.specs.declared.sent.Sent.{Sent}
 use Rattle.update_world.specs.declared.sent.End.{End}
 use Rattle.update_world.specs.declared.sent.End.TheVariants.{Server}

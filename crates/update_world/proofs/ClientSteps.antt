@@ -21,10 +21,10 @@ use Rattle.wire_profile.specs.Places.{ProfileView}
 use Rattle.wire_profile.specs.Profiles.{IsProfile}
 use Rattle.box_world.specs.Worlds.{Packet, request, World, asks, client_steps, goes_on, happens, watches}
 use Rattle.box_world.specs.Possible.{client_of, no_client, past}
-use Rattle.server_frames.specs.Sizes.{call_size}
-use Rattle.server_frames.specs.Fitting.{CallFits}
-use Rattle.server_frames.proofs.AsksFit.{asks_fit}
-use Rattle.server_frames.proofs.PushesBelow.{asks_below}
+use Rattle.box_world.specs.Sizes.{call_size}
+use Rattle.box_world.specs.Fitting.{CallFits}
+use Rattle.box_world.proofs.AsksFit.{asks_fit}
+use Rattle.box_world.proofs.PushesBelow.{asks_below}
 use Rattle.update_world.specs.declared.fault.StepFault.{StepFault}
 use Rattle.update_world.specs.declared.fault.StepFault.TheVariants.{Memory}
 use Rattle.update_world.specs.declared.limits.TheConstants.{MAX_POOL_BYTES}

@@ -21,10 +21,10 @@ use Rattle.box_server.specs.Refusing.{post_cause}
 use Rattle.wire_profile.specs.Places.{ProfileView}
 use Rattle.wire_profile.specs.Profiles.{IsProfile}
 use Rattle.box_world.specs.Worlds.{Packet, push, World, sent, post_by, happens}
-use Rattle.server_frames.specs.Fitting.{FrameFits}
-use Rattle.server_frames.specs.Sizes.{frame_size}
-use Rattle.server_frames.proofs.PushesBelow.{pushes_below}
-use Rattle.server_frames.proofs.PushesFit.{pushes_fit}
+use Rattle.box_world.specs.Fitting.{FrameFits}
+use Rattle.box_world.specs.Sizes.{frame_size}
+use Rattle.box_world.proofs.PushesBelow.{pushes_below}
+use Rattle.box_world.proofs.PushesFit.{pushes_fit}
 use Rattle.update_world.specs.declared.fault.StepFault.{StepFault}
 use Rattle.update_world.specs.declared.limits.TheConstants.{MAX_POOL_BYTES}
 use Rattle.update_world.specs.declared.outcome.Outcome.{Outcome}

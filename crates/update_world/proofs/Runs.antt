@@ -32,8 +32,8 @@ use Rattle.box_world.proofs.OneMore.{next_stays_below, received_next}
 use Rattle.box_world.proofs.Reaching.{clients_agree, packets_fit, replies_are_taken}
 use Rattle.box_world.proofs.Stepping.{new_is}
 use Rattle.box_world.proofs.Worlds.{of_set}
-use Rattle.server_frames.specs.Fitting.{CallFits}
-use Rattle.server_frames.proofs.AsksFit.{asks_fit}
+use Rattle.box_world.specs.Fitting.{CallFits}
+use Rattle.box_world.proofs.AsksFit.{asks_fit}
 use Rattle.update_world.specs.declared.limits.TheConstants.{MAX_POOL_BYTES}
 use Rattle.update_world.specs.Shown.{Shown, IsOfRun, bytes_of}
 use Rattle.update_world.specs.inner.Making.{IsSteady}

@@ -29,12 +29,12 @@ use Rattle.tl_types.specs.Values.{ValueViews, values_of}
 use Rattle.wire_values.specs.Calls.{request_tree}
 use Rattle.box_world.specs.Worlds.{Packet, push, request, reply, World, served, happens, channel_too_long, run}
 use Rattle.box_world.specs.Possible.{is_served, wrong, no_packet, wrong_end, past}
-use Rattle.server_frames.specs.Sizes.{frame_size}
-use Rattle.server_frames.specs.Fitting.{CallFits, FrameFits, IsNumber}
-use Rattle.server_frames.proofs.AnswersFit.{answers_fit}
-use Rattle.server_frames.proofs.AnswersBelow.{answers_below}
-use Rattle.server_frames.proofs.PushesBelow.{warnings_below}
-use Rattle.server_frames.proofs.PushesFit.{warnings_fit}
+use Rattle.box_world.specs.Sizes.{frame_size}
+use Rattle.box_world.specs.Fitting.{CallFits, FrameFits, IsNumber}
+use Rattle.box_world.proofs.AnswersFit.{answers_fit}
+use Rattle.box_world.proofs.AnswersBelow.{answers_below}
+use Rattle.box_world.proofs.PushesBelow.{warnings_below}
+use Rattle.box_world.proofs.PushesFit.{warnings_fit}
 use Rattle.update_world.specs.declared.fault.StepFault.{StepFault}
 use Rattle.update_world.specs.declared.fault.StepFault.TheVariants.{NoClient, NoPacket, WrongEnd, PoolFull, Memory}
 use Rattle.update_world.specs.declared.outcome.Outcome.TheVariants as outcome

@@ -10,10 +10,10 @@ use Rattle.box_wire.specs.Kinds.{calls, frames}
 use Rattle.box_wire.proofs.CallLaws.{call_laws, call_levels}
 use Rattle.box_wire.proofs.FrameLaws.{frame_laws}
 use Rattle.box_wire.proofs.FrameLevels.{frame_levels}
-use Rattle.server_frames.specs.SizeLaws.{CallsAreLong, FramesAreLong, SpelledAreMeant, SpelledHaveTheirSize}
-use Rattle.server_frames.proofs.Least.{calls_are_long, frames_are_long}
-use Rattle.server_frames.proofs.MessageForms.{call_has, call_served, frame_has}
-use Rattle.server_frames.proofs.SpelledMessages.{are_meant, of_their_size}
+use Rattle.box_world.specs.SizeLaws.{CallsAreLong, FramesAreLong, SpelledAreMeant, SpelledHaveTheirSize}
+use Rattle.box_world.proofs.Least.{calls_are_long, frames_are_long}
+use Rattle.box_world.proofs.MessageForms.{call_has, call_served, frame_has}
+use Rattle.box_world.proofs.SpelledMessages.{are_meant, of_their_size}
 
 pub frames_size : SpelledHaveTheirSize frames frame_tree
 frames_size = of_their_size frames frame_tree frame_in IsFrame frame_laws frame_has (λ m. tt)

@@ -7,8 +7,8 @@ use Rattle.wire_values.specs.Frames.{frame_tree}
 use Rattle.box_wire.specs.Kinds.{calls, frames}
 use Rattle.box_wire.specs.Framing.{Framed}
 use Rattle.box_world.specs.Worlds.{Packet, push, request, reply}
-use Rattle.server_frames.specs.Sizes.{frame_size, call_size}
-use Rattle.server_frames.specs.Fitting.{FrameFits, CallFits}
+use Rattle.box_world.specs.Sizes.{frame_size, call_size}
+use Rattle.box_world.specs.Fitting.{FrameFits, CallFits}
 use Rattle.update_world.specs.declared.sent.Sent.{Sent}
 use Rattle.update_world.specs.declared.sent.End.TheVariants.{Clients, Server, Client}
 

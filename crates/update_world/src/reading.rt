@@ -3,7 +3,7 @@ ghost use Rattle.std.specs.Prelude.{◌≡◌, IfOk};
 ghost use Rattle.box_events.specs.declared.replies.Frame.{Frame};
 ghost use Rattle.box_events.specs.declared.requests.Numbered.{Numbered};
 ghost use Rattle.wire_profile.specs.Profiles.{IsProfile};
-ghost use Rattle.server_frames.specs.Fitting.{IsHearable};
+ghost use Rattle.box_world.specs.Fitting.{IsHearable};
 ghost use Rattle.update_world.specs.inner.Reading.{AsksFrom, CarriesCall, CarriesFrame, FrameFor, HasCall, HasFrame, StandFor, hears};
 
 use crate::fault::StepFault;

@@ -7,7 +7,7 @@ ghost use Rattle.wire_values.specs.Calls.{call_tree};
 ghost use Rattle.wire_values.specs.Frames.{frame_tree};
 ghost use Rattle.box_wire.specs.Framing.{Framed};
 ghost use Rattle.box_wire.specs.Kinds.{calls, frames};
-ghost use Rattle.server_frames.specs.Sizes.{call_size, frame_size};
+ghost use Rattle.box_world.specs.Sizes.{call_size, frame_size};
 ghost use Rattle.update_world.specs.inner.Sending.{SendsCalls, SendsFrame};
 
 use crate::fault::StepFault;

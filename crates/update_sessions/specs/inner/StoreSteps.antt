@@ -1,6 +1,6 @@
 -- What one step of a store's session does to its link, its server and its entries. This project's own.
 use Rattle.std.specs.Prelude.{◌≡◌, ◌≢◌, ℕ, ◌≤◌, List, [], ◌∷◌, length, Bool, true, false, Option, Some, None, IfSome, Result, Ok, Err}
-use Rattle.server_frames.specs.Sizes.{frame_size}
+use Rattle.box_world.specs.Sizes.{frame_size}
 use Rattle.box_events.specs.declared.limits.TheConstants.{MAX_FRAME_BYTES}
 use Rattle.box_events.specs.declared.replies.Frame.{Frame}
 use Rattle.box_events.specs.declared.requests.Numbered.{Numbered}

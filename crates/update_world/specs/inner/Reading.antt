@@ -8,7 +8,7 @@ use Rattle.wire_values.specs.Frames.{frame_tree}
 use Rattle.box_wire.specs.Framing.{Framed}
 use Rattle.box_wire.specs.Kinds.{calls, frames}
 use Rattle.box_world.specs.Worlds.{Packet}
-use Rattle.server_frames.specs.Fitting.{CallFits, FrameFits, IsHearable}
+use Rattle.box_world.specs.Fitting.{CallFits, FrameFits, IsHearable}
 use Rattle.update_world.specs.declared.fault.StepFault.{StepFault}
 use Rattle.update_world.specs.declared.fault.StepFault.TheVariants.{NoClient, NoPacket, WrongEnd, PoolFull, Memory}
 use Rattle.update_world.specs.declared.reading.Asked.{Asked}

@@ -1,4 +1,4 @@
-use Rattle.server_frames.proofs.ReadClients.{clients_taken}
+use Rattle.box_world.proofs.ReadClients.{clients_taken}
 use Rattle.session_commands.proofs.StateBytes.{no_saved_told}
 use Rattle.session_commands.proofs.state.saved_in.Goals as goal
 

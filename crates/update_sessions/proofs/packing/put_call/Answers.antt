@@ -1,4 +1,4 @@
-use Rattle.server_frames.specs.Sizes.{call_size}
+use Rattle.box_world.specs.Sizes.{call_size}
 use Rattle.update_sessions.specs.Packed.{SpellsCall}
 use Rattle.update_sessions.proofs.Sizes.{call_sized, never_too_long, puts_slice}
 use Rattle.update_sessions.proofs.packing.put_call.Goals as goal

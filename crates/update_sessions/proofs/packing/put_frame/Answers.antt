@@ -1,4 +1,4 @@
-use Rattle.server_frames.specs.Sizes.{frame_size}
+use Rattle.box_world.specs.Sizes.{frame_size}
 use Rattle.update_sessions.specs.Packed.{SpellsFrame}
 use Rattle.update_sessions.proofs.Sizes.{frame_sized, never_too_long}
 use Rattle.update_sessions.proofs.packing.put_frame.Goals as goal

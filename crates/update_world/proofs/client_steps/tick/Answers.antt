@@ -6,7 +6,7 @@ use Rattle.box_events.specs.declared.limits.TheConstants.{MAX_FRAME_BYTES}
 use Rattle.box_events.specs.declared.requests.Numbered.{Numbered}
 use Rattle.box_events.specs.declared.steps.Step.TheVariants as step
 use Rattle.box_client.specs.Asking.{ticks}
-use Rattle.server_frames.specs.Sizes.{call_size}
+use Rattle.box_world.specs.Sizes.{call_size}
 use Rattle.update_world.specs.declared.fault.StepFault.{StepFault}
 use Rattle.update_world.specs.inner.Making.{shown_by}
 use Rattle.update_world.specs.inner.Sending.{SendsCalls}

@@ -4,7 +4,7 @@ use Rattle.std.proofs.lemmas.List.Elements.{All-take}
 use Rattle.std.proofs.lemmas.Result.{err_from_is_err_and}
 use Rattle.box_events.specs.declared.limits.TheConstants.{MAX_FRAME_BYTES}
 use Rattle.box_events.specs.declared.requests.Numbered.{Numbered}
-use Rattle.server_frames.specs.Sizes.{call_size}
+use Rattle.box_world.specs.Sizes.{call_size}
 use Rattle.update_world.specs.declared.fault.StepFault.{StepFault}
 use Rattle.update_world.specs.declared.sent.Sent.{Sent}
 use Rattle.update_world.specs.inner.Sending.{AreAsked}
