@@ -7,7 +7,7 @@ use Rattle.tl_types.specs.declared.value.Value.{Value}
 use Rattle.tl_types.specs.declared.value.TheConstants.{MAX_LEVELS}
 use Rattle.tl_schema.specs.Types as type
 use Rattle.tl_schema.specs.Schemas.{Declared}
-use Rattle.wire_checks.specs.declared.fault.WireFault.{WireFault}
+use Rattle.wire_profile.specs.declared.wire_fault.WireFault.{WireFault}
 use Rattle.box_wire.specs.inner.Wholes.{ReadsValue}
 use Rattle.wire_forms.specs.declared.form.Cell.{Cell}
 use Rattle.wire_forms.specs.declared.form.Cell.TheVariants.{Whole, Query}
@@ -19,8 +19,8 @@ use Rattle.wire_profile.specs.SpelledForms.{IsServed, AreServed}
 use Rattle.wire_values.specs.Calls.{call_tree, call_in}
 use Rattle.wire_values.specs.Calls as values
 use Rattle.wire_values.proofs.CallsAndValues.{call_same, call_back}
-use Rattle.wire_checks.specs.Causes.{call_cause}
-use Rattle.wire_checks.proofs.RuleFacts.{served_is, both_true, either_true, same, clear_of_call}
+use Rattle.wire_profile.specs.Causes.{call_cause}
+use Rattle.wire_profile.proofs.RuleFacts.{served_is, both_true, either_true, same, clear_of_call}
 use Rattle.box_wire.specs.Kinds.{calls}
 use Rattle.box_wire.proofs.Exactly.{KindLaws}
 use Rattle.box_wire.proofs.Levels.{are_under, fields_levels, few_levels}

@@ -8,12 +8,12 @@ use Rattle.box_events.specs.declared.steps.Step.TheVariants as step
 use Rattle.wire_forms.specs.Parts.{at, word_of}
 use Rattle.wire_forms.specs.declared.numbers.TheConstants.{STEP_POST, STEP_DATE, STEP_SERVE, STEP_HEAR, STEP_TICK, STEP_WAKE, STEP_WATCH, STEP_RESTART, STEP_TOO_LONG}
 use Rattle.wire_values.specs.Steps.{step_at, step_in}
-use Rattle.wire_checks.specs.Rules.{date_fault}
-use Rattle.wire_checks.specs.Causes.{cause_of, first_among}
-use Rattle.wire_checks.specs.declared.rule.Rule.TheVariants.{Date}
-use Rattle.wire_checks.specs.declared.rule.Root.TheVariants as root
-use Rattle.wire_checks.proofs.ClearValues.{clear_of, first_none}
-use Rattle.wire_checks.proofs.RuleFacts.{date_is}
+use Rattle.wire_profile.specs.Rules.{date_fault}
+use Rattle.wire_profile.specs.Causes.{cause_of, first_among}
+use Rattle.wire_profile.specs.declared.rule.Rule.TheVariants.{Date}
+use Rattle.wire_profile.specs.declared.rule.Root.TheVariants as root
+use Rattle.wire_profile.proofs.ClearValues.{clear_of, first_none}
+use Rattle.wire_profile.proofs.RuleFacts.{date_is}
 use Rattle.box_wire.specs.StepReading.{IsDated}
 
 either : (b : Bool) (x y : Step) → (b ≡ true → IsDated x) → IsDated y → IsDated (if b then x else y)

@@ -10,8 +10,8 @@ use Rattle.wire_values.specs.Frames.{frame_tree, frame_in}
 use Rattle.wire_values.proofs.SameFrames.{frame_same}
 use Rattle.wire_values.proofs.BackFrames.{frame_back}
 use Rattle.wire_values.proofs.ReadFrames.{frame_is}
-use Rattle.wire_checks.specs.declared.rule.Root.TheVariants.{Frame}
-use Rattle.wire_checks.proofs.ClearValues.{clear_of}
+use Rattle.wire_profile.specs.declared.rule.Root.TheVariants.{Frame}
+use Rattle.wire_profile.proofs.ClearValues.{clear_of}
 use Rattle.box_wire.specs.Kinds.{frames}
 use Rattle.box_wire.proofs.Exactly.{KindLaws}
 use Rattle.box_wire.proofs.KeptValues.{all_kept}

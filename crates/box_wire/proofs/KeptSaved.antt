@@ -10,11 +10,11 @@ use Rattle.wire_forms.specs.Parts.{first, flag, is_final}
 use Rattle.wire_forms.specs.IsOf.{IsField, IsOf, EachOf, AreOf}
 use Rattle.wire_profile.proofs.FormTable.{member_form, cells_are, some_is, clash}
 use Rattle.wire_values.specs.Kept.{AllKept, EachKept}
-use Rattle.wire_checks.specs.Clear.{IsClear, AreClear}
-use Rattle.wire_checks.specs.declared.rule.Rule.TheVariants.{Count}
-use Rattle.wire_checks.specs.declared.rule.Root.TheVariants.{Saved}
-use Rattle.wire_checks.proofs.ClearValues.{clear_here, clear_fields, clear_first, clear_rest}
-use Rattle.wire_checks.proofs.RuleFacts.{left_true, right_true}
+use Rattle.wire_profile.specs.Clear.{IsClear, AreClear}
+use Rattle.wire_profile.specs.declared.rule.Rule.TheVariants.{Count}
+use Rattle.wire_profile.specs.declared.rule.Root.TheVariants.{Saved}
+use Rattle.wire_profile.proofs.ClearValues.{clear_here, clear_fields, clear_first, clear_rest}
+use Rattle.wire_profile.proofs.RuleFacts.{left_true, right_true}
 use Rattle.box_wire.proofs.KeptValues.{record_kept}
 
 -- ---- what is saved

@@ -6,14 +6,14 @@ use Rattle.wire_forms.specs.Parts.{at, parts_of, entry_of, word_of}
 use Rattle.wire_forms.specs.declared.numbers.TheConstants.{UPDATE_EDIT_MESSAGE, UPDATE_DELETE_MESSAGES, UPDATE_SETTING, UPDATE_READ_HISTORY, DIFFERENCE, DIFFERENCE_SLICE, CHANNEL_DIFFERENCE}
 use Rattle.wire_values.specs.Others as values
 use Rattle.wire_values.specs.Kept.{CountsIds, IsKept, AllKept, EachKept}
-use Rattle.wire_checks.specs.Ranges.{not_of_ids, are_few}
-use Rattle.wire_checks.specs.Updates.{wrong_update}
-use Rattle.wire_checks.specs.Rules.{count_fault, update_fault}
-use Rattle.wire_checks.specs.Clear.{IsClear, AreClear}
-use Rattle.wire_checks.specs.declared.rule.Rule.TheVariants.{Count, Update}
-use Rattle.wire_checks.specs.declared.rule.Root.TheVariants.{Frame}
-use Rattle.wire_checks.proofs.ClearValues.{holds, clear_here, clear_fields, call_here, call_fields, clear_first, clear_rest}
-use Rattle.wire_checks.proofs.RuleFacts.{AreOther, left_true, both_true, one_is, ids_are, others_are}
+use Rattle.wire_profile.specs.Ranges.{not_of_ids, are_few}
+use Rattle.wire_profile.specs.Updates.{wrong_update}
+use Rattle.wire_profile.specs.Rules.{count_fault, update_fault}
+use Rattle.wire_profile.specs.Clear.{IsClear, AreClear}
+use Rattle.wire_profile.specs.declared.rule.Rule.TheVariants.{Count, Update}
+use Rattle.wire_profile.specs.declared.rule.Root.TheVariants.{Frame}
+use Rattle.wire_profile.proofs.ClearValues.{holds, clear_here, clear_fields, call_here, call_fields, clear_first, clear_rest}
+use Rattle.wire_profile.proofs.RuleFacts.{AreOther, left_true, both_true, one_is, ids_are, others_are}
 
 counts_ids : (ids pts stated : ValueView) → not_of_ids ids pts stated ≡ None → CountsIds ids (word_of stated)
 counts_ids ids pts stated e = (left_true (are_few (count (parts_of ids))) (word_of stated == count (parts_of ids)) (holds _ _ e), (ids_are ids pts stated e).2)

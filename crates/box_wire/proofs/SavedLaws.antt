@@ -11,8 +11,8 @@ use Rattle.wire_profile.specs.Profiles.{IsProfile}
 use Rattle.wire_values.specs.Carried.{IsSaved}
 use Rattle.wire_values.specs.SavedClients.{saved_tree, saved_in}
 use Rattle.wire_values.proofs.SavedValues.{saved_same, saved_back, saved_is}
-use Rattle.wire_checks.specs.declared.rule.Root.TheVariants.{Saved}
-use Rattle.wire_checks.proofs.ClearValues.{clear_of}
+use Rattle.wire_profile.specs.declared.rule.Root.TheVariants.{Saved}
+use Rattle.wire_profile.proofs.ClearValues.{clear_of}
 use Rattle.box_wire.specs.Kinds.{saved_clients}
 use Rattle.box_wire.proofs.Exactly.{KindLaws}
 use Rattle.box_wire.proofs.KeptSaved.{saved_kept}

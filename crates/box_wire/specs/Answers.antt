@@ -1,8 +1,8 @@
 -- What the calls answer. Out of memory is free here. This project's own.
 use Rattle.std.specs.Prelude.{◌≡◌, ◌⊎◌, ℕ, ◌<◌, ◌≤◌, List, length, Result, Ok, Err, IfOk, IfErr}
 use Rattle.box_events.specs.declared.limits.TheConstants.{MAX_FRAME_BYTES}
-use Rattle.wire_checks.specs.declared.fault.WireFault.{WireFault}
-use Rattle.wire_checks.specs.declared.fault.WireFault.TheVariants as wire
+use Rattle.wire_profile.specs.declared.wire_fault.WireFault.{WireFault}
+use Rattle.wire_profile.specs.declared.wire_fault.WireFault.TheVariants as wire
 use Rattle.box_wire.specs.declared.fault.SpellFault.{SpellFault}
 use Rattle.box_wire.specs.declared.fault.SpellFault.TheVariants.{TooLong, Memory}
 

@@ -8,8 +8,8 @@ use Rattle.tl_types.specs.declared.cause.Cause.{Cause}
 use Rattle.tl_types.specs.declared.value.TheConstants.{MAX_LEVELS}
 use Rattle.wire_profile.specs.Places.{ProfileView, cell_shape}
 use Rattle.wire_profile.specs.SpelledForms.{owned, placed}
-use Rattle.wire_checks.specs.declared.fault.WireFault.{WireFault}
-use Rattle.wire_checks.specs.declared.fault.WireFault.TheVariants.{Refused, Trailing}
+use Rattle.wire_profile.specs.declared.wire_fault.WireFault.{WireFault}
+use Rattle.wire_profile.specs.declared.wire_fault.WireFault.TheVariants.{Refused, Trailing}
 use Rattle.box_wire.specs.Kinds.{Kind}
 
 -- the bytes are the spelling of a message's value t, with the schema's numbers in it

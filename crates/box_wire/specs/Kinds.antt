@@ -5,9 +5,9 @@ use Rattle.wire_forms.specs.declared.form.Cell.{Cell}
 use Rattle.wire_forms.specs.declared.form.Cell.TheVariants.{One, Query}
 use Rattle.wire_forms.specs.declared.numbers.TheConstants.{FRAME_TYPE, STEP_TYPE, CLIENT_TYPE}
 use Rattle.wire_values.specs.Normal.{normal_frame, normal_saved}
-use Rattle.wire_checks.specs.Causes.{call_cause, cause_of}
-use Rattle.wire_checks.specs.declared.fault.WireFault.{WireFault}
-use Rattle.wire_checks.specs.declared.rule.Root.TheVariants.{Frame, Step, Saved}
+use Rattle.wire_profile.specs.Causes.{call_cause, cause_of}
+use Rattle.wire_profile.specs.declared.wire_fault.WireFault.{WireFault}
+use Rattle.wire_profile.specs.declared.rule.Root.TheVariants.{Frame, Step, Saved}
 
 -- A kind of messages: what their values are one of, why such a value is no message, and what it becomes where it may say the same in two ways.
 pub record Kind : Type 0 where

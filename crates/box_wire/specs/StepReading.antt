@@ -10,8 +10,8 @@ use Rattle.box_events.specs.declared.steps.Step.TheVariants.{Date}
 use Rattle.wire_profile.specs.Places.{ProfileView, cell_shape}
 use Rattle.wire_profile.specs.SpelledForms.{owned}
 use Rattle.wire_values.specs.Steps.{step_tree}
-use Rattle.wire_checks.specs.declared.fault.WireFault.{WireFault}
-use Rattle.wire_checks.specs.declared.fault.WireFault.TheVariants as wire
+use Rattle.wire_profile.specs.declared.wire_fault.WireFault.{WireFault}
+use Rattle.wire_profile.specs.declared.wire_fault.WireFault.TheVariants as wire
 use Rattle.box_wire.specs.Kinds.{steps}
 use Rattle.box_wire.specs.Framing.{Means, SpellsWhole}
 use Rattle.box_wire.specs.declared.fault.StepReadFault.{StepReadFault}

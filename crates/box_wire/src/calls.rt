@@ -1,7 +1,7 @@
 //! Calls of clients as bytes, and back.
 ghost use Rattle.std.specs.Prelude.{⊤};
 ghost use Rattle.tl_types.specs.Seen.{view};
-ghost use Rattle.wire_checks.specs.Causes.{call_cause};
+ghost use Rattle.wire_profile.specs.Causes.{call_cause};
 ghost use Rattle.wire_values.specs.Calls.{call_in as call_by, call_tree};
 ghost use Rattle.box_wire.specs.Answers.{Reads, Spelled};
 ghost use Rattle.box_wire.specs.Framing.{Framed, Means, WireRefused};
@@ -14,7 +14,7 @@ use box_events::Numbered;
 use std::alloc::Global;
 use tl_base::Bytes;
 use tl_types::Value;
-use wire_checks::{WireFault, call_cause};
+use wire_profile::{WireFault, call_cause};
 use wire_profile::Profile;
 use wire_values::{call_of, call_value};
 

@@ -1,7 +1,7 @@
 //! Why a message is not spelled, and why no step is read.
 use std::alloc::{AllocError, AllocFailed};
 use thiserror::Error;
-use wire_checks::WireFault;
+use wire_profile::WireFault;
 
 /// Why a frame or a call is not spelled.
 #[derive(Clone, Copy, Debug, Error)]

@@ -1,7 +1,7 @@
 //! Frames of a server as bytes, and back.
 ghost use Rattle.tl_types.specs.Seen.{view};
-ghost use Rattle.wire_checks.specs.Causes.{cause_of};
-ghost use Rattle.wire_checks.specs.declared.rule.Root.TheVariants as root;
+ghost use Rattle.wire_profile.specs.Causes.{cause_of};
+ghost use Rattle.wire_profile.specs.declared.rule.Root.TheVariants as root;
 ghost use Rattle.wire_values.specs.CarriedFrames.{IsFrame};
 ghost use Rattle.wire_values.specs.Frames.{frame_in, frame_tree};
 ghost use Rattle.box_wire.specs.Answers.{Reads, Spelled};
@@ -15,7 +15,7 @@ use box_events::Frame;
 use std::alloc::Global;
 use tl_base::Bytes;
 use tl_types::Value;
-use wire_checks::{WireFault, frame_cause};
+use wire_profile::{WireFault, frame_cause};
 use wire_profile::Profile;
 use wire_values::{frame_of, frame_value};
 

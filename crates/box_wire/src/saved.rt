@@ -1,8 +1,8 @@
 //! Saved clients as bytes, and back.
 ghost use Rattle.std.specs.Prelude.{IfOk};
 ghost use Rattle.tl_types.specs.Seen.{view};
-ghost use Rattle.wire_checks.specs.Causes.{cause_of};
-ghost use Rattle.wire_checks.specs.declared.rule.Root.TheVariants as root;
+ghost use Rattle.wire_profile.specs.Causes.{cause_of};
+ghost use Rattle.wire_profile.specs.declared.rule.Root.TheVariants as root;
 ghost use Rattle.wire_values.specs.Carried.{IsSaved};
 ghost use Rattle.wire_values.specs.SavedClients.{saved_in as saved_by, saved_tree};
 ghost use Rattle.box_wire.specs.Answers.{IsOnly, Reads};
@@ -15,7 +15,7 @@ use box_events::Saved;
 use std::alloc::Global;
 use tl_base::{Bytes, Memory};
 use tl_types::Value;
-use wire_checks::{WireFault, saved_cause};
+use wire_profile::{WireFault, saved_cause};
 use wire_profile::Profile;
 use wire_values::{saved_of, saved_value};
 

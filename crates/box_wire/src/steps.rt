@@ -2,8 +2,8 @@
 ghost use Rattle.std.specs.Prelude.{◌≡◌, IfOk, IfSome, IsErrOf};
 ghost use Rattle.tl_base.specs.Using.{Used};
 ghost use Rattle.tl_types.specs.Seen.{view};
-ghost use Rattle.wire_checks.specs.Causes.{cause_of};
-ghost use Rattle.wire_checks.specs.declared.rule.Root.TheVariants as root;
+ghost use Rattle.wire_profile.specs.Causes.{cause_of};
+ghost use Rattle.wire_profile.specs.declared.rule.Root.TheVariants as root;
 ghost use Rattle.wire_profile.specs.SpelledForms.{owned};
 ghost use Rattle.wire_values.specs.Steps.{step_in as step_by, step_tree};
 ghost use Rattle.box_wire.specs.Answers.{IsOnly};
@@ -19,7 +19,7 @@ use std::alloc::Global;
 use tl_base::{Bytes, Memory, Source};
 use tl_decode::{DecodeFault, decode_or_end};
 use tl_types::Value;
-use wire_checks::{WireFault, step_cause};
+use wire_profile::{WireFault, step_cause};
 use wire_profile::Profile;
 use wire_values::{step_of, step_value};
 

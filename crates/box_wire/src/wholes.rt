@@ -17,7 +17,7 @@ use tl_encode::{spell, spelling_of};
 use tl_plan::Plan;
 use tl_schema::{Schema, TypeRef};
 use tl_types::{Value, fits};
-use wire_checks::WireFault;
+use wire_profile::WireFault;
 
 // A fault over bytes in memory, which are always read.
 fn wire_fault(fault: WholeFault) -> WireFault

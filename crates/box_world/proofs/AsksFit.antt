@@ -13,12 +13,12 @@ use Rattle.box_client.specs.Asking.{group_is_due, group_asks, difference_of, cha
 use Rattle.wire_forms.specs.Parts.{number}
 use Rattle.wire_forms.specs.declared.numbers.TheConstants.{GET_DIFFERENCE, GET_CHANNEL_DIFFERENCE, INVOKE}
 use Rattle.wire_values.specs.Calls.{call_tree}
-use Rattle.wire_checks.specs.Causes.{broken}
-use Rattle.wire_checks.specs.Clear.{IsClear}
-use Rattle.wire_checks.specs.declared.rule.Rule.{Rule}
-use Rattle.wire_checks.specs.declared.rule.Root.TheVariants.{Call}
-use Rattle.wire_checks.proofs.ClearValues.{clear_call, clear_value}
-use Rattle.wire_checks.proofs.RuleFacts.{no_call_cause}
+use Rattle.wire_profile.specs.Causes.{broken}
+use Rattle.wire_profile.specs.Clear.{IsClear}
+use Rattle.wire_profile.specs.declared.rule.Rule.{Rule}
+use Rattle.wire_profile.specs.declared.rule.Root.TheVariants.{Call}
+use Rattle.wire_profile.proofs.ClearValues.{clear_call, clear_value}
+use Rattle.wire_profile.proofs.RuleFacts.{no_call_cause}
 use Rattle.box_world.specs.Fitting.{CallFits, IsNumber}
 use Rattle.box_world.specs.FrameLaws.{AsksFit}
 use Rattle.box_world.proofs.ClearUpdates.{unbroken, number_ok, date_ok}

@@ -19,14 +19,14 @@ use Rattle.wire_values.specs.Updates.{common_tree, placed_tree, setting_tree}
 use Rattle.wire_values.specs.Others.{joined}
 use Rattle.wire_values.specs.Frames.{frame_tree, state_tree, bodies_tree, bits, channel_reply_tree}
 use Rattle.wire_values.specs.CarriedFrames.{IsFrame, IsOther}
-use Rattle.wire_checks.specs.Ranges.{unless}
-use Rattle.wire_checks.specs.Updates.{is_other, wrong_among}
-use Rattle.wire_checks.specs.Causes.{broken}
-use Rattle.wire_checks.specs.Clear.{IsClear, AreClear}
-use Rattle.wire_checks.specs.declared.fault.WireFault.TheVariants.{WrongUpdate}
-use Rattle.wire_checks.specs.declared.rule.Rule.{Rule}
-use Rattle.wire_checks.specs.declared.rule.Root.TheVariants.{Frame}
-use Rattle.wire_checks.proofs.ClearValues.{both_none, none_of, no_cause, clear_value, clear_row}
+use Rattle.wire_profile.specs.Ranges.{unless}
+use Rattle.wire_profile.specs.Updates.{is_other, wrong_among}
+use Rattle.wire_profile.specs.Causes.{broken}
+use Rattle.wire_profile.specs.Clear.{IsClear, AreClear}
+use Rattle.wire_profile.specs.declared.wire_fault.WireFault.TheVariants.{WrongUpdate}
+use Rattle.wire_profile.specs.declared.rule.Rule.{Rule}
+use Rattle.wire_profile.specs.declared.rule.Root.TheVariants.{Frame}
+use Rattle.wire_profile.proofs.ClearValues.{both_none, none_of, no_cause, clear_value, clear_row}
 use Rattle.box_world.specs.Fitting.{FrameFits, IsNumber}
 use Rattle.box_world.proofs.ClearUpdates.{unbroken, record_clear, number_ok, date_ok, seq_ok, end_ok, texts_clear, list_then, common_clear, setting_clear}
 use Rattle.box_world.proofs.Carried.{Lies}

@@ -12,16 +12,16 @@ use Rattle.wire_forms.proofs.Records.{count_row}
 use Rattle.wire_forms.proofs.Words.{again}
 use Rattle.wire_forms.specs.declared.numbers.TheConstants.{UPDATE_NEW_MESSAGE, UPDATE_EDIT_MESSAGE, UPDATE_DELETE_MESSAGES, UPDATE_NEW_ENCRYPTED_MESSAGE, UPDATE_NEW_CHANNEL_MESSAGE, UPDATE_EDIT_CHANNEL_MESSAGE, UPDATE_DELETE_CHANNEL_MESSAGES, UPDATE_SETTING, UPDATE_READ_HISTORY, UPDATE_READ_CHANNEL_HISTORY}
 use Rattle.wire_values.specs.Updates.{common_tree, channel_tree, setting_tree}
-use Rattle.wire_checks.specs.Ranges.{bad_number, bad_end, bad_date, bad_seq, not_one, not_of_ids}
-use Rattle.wire_checks.specs.Rules.{version_fault, number_fault, update_fault, count_fault, end_fault, date_fault, setting_fault, seq_fault}
-use Rattle.wire_checks.specs.Causes.{broken}
-use Rattle.wire_checks.specs.Clear.{IsClear, AreClear}
-use Rattle.wire_checks.specs.declared.rule.Rule.{Rule}
-use Rattle.wire_checks.specs.declared.rule.Rule.TheVariants.{Version, Number, Update, Count, End, Date, Setting, Seq}
-use Rattle.wire_checks.specs.declared.rule.Root.{Root}
-use Rattle.wire_checks.specs.declared.rule.Root.TheVariants.{Frame}
-use Rattle.wire_checks.proofs.ClearValues.{clear_node, clear_value}
-use Rattle.wire_checks.proofs.RuleFacts.{number_of, end_of, date_of, seq_of, one_of, ids_of}
+use Rattle.wire_profile.specs.Ranges.{bad_number, bad_end, bad_date, bad_seq, not_one, not_of_ids}
+use Rattle.wire_profile.specs.Rules.{version_fault, number_fault, update_fault, count_fault, end_fault, date_fault, setting_fault, seq_fault}
+use Rattle.wire_profile.specs.Causes.{broken}
+use Rattle.wire_profile.specs.Clear.{IsClear, AreClear}
+use Rattle.wire_profile.specs.declared.rule.Rule.{Rule}
+use Rattle.wire_profile.specs.declared.rule.Rule.TheVariants.{Version, Number, Update, Count, End, Date, Setting, Seq}
+use Rattle.wire_profile.specs.declared.rule.Root.{Root}
+use Rattle.wire_profile.specs.declared.rule.Root.TheVariants.{Frame}
+use Rattle.wire_profile.proofs.ClearValues.{clear_node, clear_value}
+use Rattle.wire_profile.proofs.RuleFacts.{number_of, end_of, date_of, seq_of, one_of, ids_of}
 
 -- ---- records
 

@@ -41,7 +41,7 @@ use Rattle.box_world.proofs.FittingServers.{FitsEntry, entries_fit, receipt_fits
 use Rattle.box_world.proofs.PartSizes.{limited_length}
 use Rattle.box_world.proofs.PushesFit.{numbers_are}
 use Rattle.box_world.proofs.PushesBelow.{short_name}
-use Rattle.wire_checks.proofs.RuleFacts.{Pack}
+use Rattle.wire_profile.proofs.RuleFacts.{Pack}
 
 low_word : (n : ℕ) → n ≤ MAX_END → IsWord n
 low_word n le = omega (arith, le)

@@ -43,10 +43,10 @@ use Rattle.wire_forms.proofs.Words.{again}
 use Rattle.wire_values.specs.Carried.{FitsCall, FitsPost}
 use Rattle.wire_values.specs.CarriedFrames.{FitsPush, FitsReply}
 use Rattle.wire_values.specs.Steps.{step_tree}
-use Rattle.wire_checks.specs.declared.rule.Rule.TheVariants.{Date}
-use Rattle.wire_checks.specs.declared.rule.Root.TheVariants.{Step as StepRoot}
-use Rattle.wire_checks.proofs.ClearValues.{clear_here, clear_of}
-use Rattle.wire_checks.proofs.RuleFacts.{date_is}
+use Rattle.wire_profile.specs.declared.rule.Rule.TheVariants.{Date}
+use Rattle.wire_profile.specs.declared.rule.Root.TheVariants.{Step as StepRoot}
+use Rattle.wire_profile.proofs.ClearValues.{clear_here, clear_of}
+use Rattle.wire_profile.proofs.RuleFacts.{date_is}
 use Rattle.box_world.specs.Worlds.{Packet, push, request, reply, World, after_reply, client_steps, post_by, served, received, heard, asks, watches, happens, run_from, run, start}
 use Rattle.box_world.specs.Growing.{IsKept}
 use Rattle.box_world.specs.Reached.{boxes_of, IsGood}

@@ -27,11 +27,11 @@ use Rattle.wire_forms.proofs.Words.{again}
 use Rattle.wire_values.specs.Updates.{common_tree, channel_tree, update_tree}
 use Rattle.wire_values.specs.Frames.{push_tree}
 use Rattle.wire_values.specs.CarriedFrames.{IsUpdate}
-use Rattle.wire_checks.specs.Updates as checks
-use Rattle.wire_checks.specs.Clear.{IsClear, AreClear}
-use Rattle.wire_checks.specs.declared.rule.Root.TheVariants.{Frame}
-use Rattle.wire_checks.proofs.ClearValues.{clear_value}
-use Rattle.wire_checks.proofs.RuleFacts.{Pack, container_of, unordered_of}
+use Rattle.wire_profile.specs.Updates as checks
+use Rattle.wire_profile.specs.Clear.{IsClear, AreClear}
+use Rattle.wire_profile.specs.declared.rule.Root.TheVariants.{Frame}
+use Rattle.wire_profile.proofs.ClearValues.{clear_value}
+use Rattle.wire_profile.proofs.RuleFacts.{Pack, container_of, unordered_of}
 use Rattle.box_world.specs.Fitting.{FrameFits}
 use Rattle.box_world.specs.FrameLaws.{PushesFit, WarningsFit}
 use Rattle.box_world.proofs.ClearUpdates.{unbroken, record_clear, date_ok, all_clear, list_then, common_clear, channel_clear, secret_clear, setting_clear}

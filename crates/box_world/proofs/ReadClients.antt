@@ -15,11 +15,11 @@ use Rattle.wire_forms.proofs.Records.{opened, opened_bare, by_member}
 use Rattle.wire_profile.specs.SpelledForms.{owned}
 use Rattle.wire_values.specs.SavedClients.{saved_channel_in, saved_at, saved_in, saved_tree}
 use Rattle.wire_values.specs.Carried.{IsSaved}
-use Rattle.wire_checks.specs.Clear.{IsClear, AreClear}
-use Rattle.wire_checks.specs.declared.rule.Rule.TheVariants.{End}
-use Rattle.wire_checks.specs.declared.rule.Root.TheVariants.{Saved}
-use Rattle.wire_checks.proofs.ClearValues.{clear_of, clear_here, clear_fields, clear_first, clear_rest, clear_parts, clear_at, second_none}
-use Rattle.wire_checks.proofs.RuleFacts.{end_is}
+use Rattle.wire_profile.specs.Clear.{IsClear, AreClear}
+use Rattle.wire_profile.specs.declared.rule.Rule.TheVariants.{End}
+use Rattle.wire_profile.specs.declared.rule.Root.TheVariants.{Saved}
+use Rattle.wire_profile.proofs.ClearValues.{clear_of, clear_here, clear_fields, clear_first, clear_rest, clear_parts, clear_at, second_none}
+use Rattle.wire_profile.proofs.RuleFacts.{end_is}
 use Rattle.box_wire.specs.Kinds.{saved_clients}
 use Rattle.box_wire.proofs.SavedLaws.{saved_laws}
 use Rattle.box_world.proofs.SpelledMessages.{read_of}

@@ -16,13 +16,13 @@ use Rattle.wire_values.specs.Frames.{push_at, difference_at, frame_at, frame_in,
 use Rattle.wire_values.specs.SavedClients.{saved_at, saved_in, saved_tree}
 use Rattle.wire_values.specs.Carried.{IsSaved}
 use Rattle.wire_values.specs.CarriedFrames.{IsFrame}
-use Rattle.wire_checks.specs.Causes.{is_for, broken}
-use Rattle.wire_checks.specs.Clear.{IsClear, AreClear}
-use Rattle.wire_checks.specs.declared.rule.Rule.{Rule}
-use Rattle.wire_checks.specs.declared.rule.Rule.TheVariants.{Date}
-use Rattle.wire_checks.specs.declared.rule.Root.TheVariants.{Frame, Saved as SavedRoot}
-use Rattle.wire_checks.proofs.ClearValues.{clear_of, clear_here, clear_fields, clear_at}
-use Rattle.wire_checks.proofs.RuleFacts.{date_is}
+use Rattle.wire_profile.specs.Causes.{is_for, broken}
+use Rattle.wire_profile.specs.Clear.{IsClear, AreClear}
+use Rattle.wire_profile.specs.declared.rule.Rule.{Rule}
+use Rattle.wire_profile.specs.declared.rule.Rule.TheVariants.{Date}
+use Rattle.wire_profile.specs.declared.rule.Root.TheVariants.{Frame, Saved as SavedRoot}
+use Rattle.wire_profile.proofs.ClearValues.{clear_of, clear_here, clear_fields, clear_at}
+use Rattle.wire_profile.proofs.RuleFacts.{date_is}
 use Rattle.box_wire.specs.Kinds.{frames, saved_clients}
 use Rattle.box_wire.proofs.FrameLaws.{frame_laws}
 use Rattle.box_wire.proofs.SavedLaws.{saved_laws}

@@ -30,12 +30,12 @@ use Rattle.wire_profile.specs.SpelledForms.{owned}
 use Rattle.wire_values.specs.Updates.{update_in}
 use Rattle.wire_values.specs.Frames.{push_at, start_of, difference_at, channel_reply_at, frame_at, frame_in, frame_tree}
 use Rattle.wire_values.specs.CarriedFrames.{FitsFrame, IsFrame, IsOther}
-use Rattle.wire_checks.specs.Updates as checks
-use Rattle.wire_checks.specs.Clear.{IsClear, AreClear}
-use Rattle.wire_checks.specs.declared.rule.Rule.TheVariants.{End, Seq}
-use Rattle.wire_checks.specs.declared.rule.Root.TheVariants.{Frame}
-use Rattle.wire_checks.proofs.ClearValues.{clear_of, clear_here, clear_fields, clear_parts, clear_at, first_none, second_none}
-use Rattle.wire_checks.proofs.RuleFacts.{Pack, end_is, container_is}
+use Rattle.wire_profile.specs.Updates as checks
+use Rattle.wire_profile.specs.Clear.{IsClear, AreClear}
+use Rattle.wire_profile.specs.declared.rule.Rule.TheVariants.{End, Seq}
+use Rattle.wire_profile.specs.declared.rule.Root.TheVariants.{Frame}
+use Rattle.wire_profile.proofs.ClearValues.{clear_of, clear_here, clear_fields, clear_parts, clear_at, first_none, second_none}
+use Rattle.wire_profile.proofs.RuleFacts.{Pack, end_is, container_is}
 use Rattle.box_wire.specs.Kinds.{frames}
 use Rattle.box_wire.proofs.FrameLaws.{frame_laws}
 use Rattle.box_world.proofs.MessagesFit.{frame_in_fits}

@@ -15,14 +15,14 @@ use Rattle.wire_forms.specs.Parts.{at, parts_of, entry_of, int_of, word_of, each
 use Rattle.wire_forms.specs.IsOf.{IsOf, EachOf}
 use Rattle.wire_forms.proofs.Records.{opened, by_member, length_each}
 use Rattle.wire_values.specs.Updates.{update_at, update_in, deletion, has_ids, ids_in}
-use Rattle.wire_checks.specs.Updates as checks
-use Rattle.wire_checks.specs.Causes.{is_for, broken}
-use Rattle.wire_checks.specs.Clear.{IsClear, AreClear}
-use Rattle.wire_checks.specs.declared.rule.Rule.{Rule}
-use Rattle.wire_checks.specs.declared.rule.Rule.TheVariants.{Count, End}
-use Rattle.wire_checks.specs.declared.rule.Root.TheVariants.{Frame}
-use Rattle.wire_checks.proofs.ClearValues.{clear_here, clear_first, clear_rest}
-use Rattle.wire_checks.proofs.RuleFacts.{end_is, one_is, ids_are}
+use Rattle.wire_profile.specs.Updates as checks
+use Rattle.wire_profile.specs.Causes.{is_for, broken}
+use Rattle.wire_profile.specs.Clear.{IsClear, AreClear}
+use Rattle.wire_profile.specs.declared.rule.Rule.{Rule}
+use Rattle.wire_profile.specs.declared.rule.Rule.TheVariants.{Count, End}
+use Rattle.wire_profile.specs.declared.rule.Root.TheVariants.{Frame}
+use Rattle.wire_profile.proofs.ClearValues.{clear_here, clear_first, clear_rest}
+use Rattle.wire_profile.proofs.RuleFacts.{end_is, one_is, ids_are}
 
 -- a frame's record of form k breaks no rule
 abbrev pub Holds : ℕ → ValueViews → Type 0

@@ -4,8 +4,8 @@ use Rattle.std.specs.Fmt.{signed_decimal}
 use Rattle.tl_types.specs.Offsets.{moved}
 use Rattle.outside.specs.Answer.{placed_line, unplaced_line}
 use Rattle.schema_files.specs.Lines.{cause_text}
-use Rattle.wire_checks.specs.declared.fault.WireFault.{WireFault}
-use Rattle.wire_checks.specs.declared.fault.WireFault.TheVariants as wire
+use Rattle.wire_profile.specs.declared.wire_fault.WireFault.{WireFault}
+use Rattle.wire_profile.specs.declared.wire_fault.WireFault.TheVariants as wire
 use Rattle.box_wire.specs.declared.fault.SpellFault.{SpellFault}
 use Rattle.box_wire.specs.declared.fault.SpellFault.TheVariants as spell
 

@@ -6,7 +6,7 @@ use box_wire::SpellFault;
 use outside::{placed_line, unplaced_line};
 use schema_files::cause_text;
 use std::alloc::{AllocError, Global};
-use wire_checks::WireFault;
+use wire_profile::WireFault;
 
 // The offset or the index of what is refused, where the cause has one.
 fn wire_place(fault: WireFault) -> Option<u64>

@@ -10,7 +10,7 @@ use Rattle.box_world.specs.NumberWorlds.{n_run}
 use Rattle.box_world.specs.Possible.{AllPossible}
 use Rattle.box_world.specs.Worlds.{start}
 use Rattle.box_world.proofs.OneMore.{clients_stay, possible_go_on}
-use Rattle.wire_checks.specs.declared.fault.WireFault.{WireFault}
+use Rattle.wire_profile.specs.declared.wire_fault.WireFault.{WireFault}
 use Rattle.update_replay.specs.Closings.{closing_lines}
 use Rattle.update_replay.specs.StepLines.{StepLines}
 use Rattle.update_replay.proofs.OwnLines.{closings_are_own}

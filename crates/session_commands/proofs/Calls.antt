@@ -10,8 +10,8 @@ use Rattle.tl_types.specs.Spelling.{Spells}
 use Rattle.box_events.specs.declared.limits.TheConstants.{MAX_FRAME_BYTES}
 use Rattle.box_events.specs.declared.requests.Numbered.{Numbered}
 use Rattle.wire_forms.specs.declared.form.Cell.TheVariants.{Query}
-use Rattle.wire_checks.specs.declared.fault.WireFault.{WireFault}
-use Rattle.wire_checks.specs.declared.fault.WireFault.TheVariants as wire
+use Rattle.wire_profile.specs.declared.wire_fault.WireFault.{WireFault}
+use Rattle.wire_profile.specs.declared.wire_fault.WireFault.TheVariants as wire
 use Rattle.wire_profile.specs.Places.{ProfileView}
 use Rattle.wire_profile.specs.Profiles.{IsProfile}
 use Rattle.wire_profile.specs.SpelledForms.{owned}

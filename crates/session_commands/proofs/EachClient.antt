@@ -22,7 +22,7 @@ use Rattle.box_client.specs.declared.fault.ClientFault.{ClientFault}
 use Rattle.box_client.specs.declared.fault.ClientFault.TheVariants as client
 use Rattle.box_client.specs.declared.fault.LoadFault.TheVariants as load
 use Rattle.box_world.specs.Streams.{begun}
-use Rattle.wire_checks.specs.declared.fault.WireFault.{WireFault}
+use Rattle.wire_profile.specs.declared.wire_fault.WireFault.{WireFault}
 use Rattle.wire_forms.specs.IsOf.{IsLong}
 use Rattle.wire_profile.specs.Places.{ProfileView}
 use Rattle.wire_profile.specs.Profiles.{IsProfile}

@@ -14,8 +14,8 @@ use Rattle.tl_decode.specs.Decoding.{GivesValue}
 use Rattle.box_events.specs.declared.replies.Frame.{Frame}
 use Rattle.wire_forms.specs.Forms.{constructs, forms}
 use Rattle.wire_forms.specs.declared.numbers.TheConstants.{FRAME_TYPE, PUSH}
-use Rattle.wire_checks.specs.declared.fault.WireFault.{WireFault}
-use Rattle.wire_checks.specs.declared.fault.WireFault.TheVariants as wire
+use Rattle.wire_profile.specs.declared.wire_fault.WireFault.{WireFault}
+use Rattle.wire_profile.specs.declared.wire_fault.WireFault.TheVariants as wire
 use Rattle.wire_profile.specs.Places.{ProfileView, cell_shape, number_at}
 use Rattle.wire_profile.specs.Profiles.{IsProfile}
 use Rattle.wire_profile.proofs.FormTable.{member_form}

@@ -6,14 +6,14 @@ use Rattle.wire_forms.specs.Forms.{is_request}
 use Rattle.wire_forms.specs.Parts.{at, parts_of, entry_of, int_of, word_of, held}
 use Rattle.wire_forms.specs.declared.numbers.TheConstants.{UPDATE_NEW_MESSAGE, UPDATE_EDIT_MESSAGE, UPDATE_DELETE_MESSAGES, UPDATE_NEW_ENCRYPTED_MESSAGE, UPDATE_NEW_CHANNEL_MESSAGE, UPDATE_EDIT_CHANNEL_MESSAGE, UPDATE_DELETE_CHANNEL_MESSAGES, UPDATE_READ_HISTORY, UPDATE_READ_CHANNEL_HISTORY, UPDATES, UPDATES_COMBINED, STATE, DIFFERENCE_EMPTY, DIFFERENCE, DIFFERENCE_SLICE, CHANNEL_DIFFERENCE_EMPTY, CHANNEL_DIFFERENCE, CHANNEL_DIFFERENCE_TOO_LONG, STATE_REPLY, DIFFERENCE_REPLY, CHANNEL_REPLY, RECEIPT_REPLY, ERROR_REPLY, RECEIPT, STEP_DATE, STEP_SERVE, STEP_HEAR, STEP_TICK, STEP_WAKE, STEP_WATCH, STEP_RESTART, EVENT_DELETE, LANE, CLIENT, GET_DIFFERENCE, INVOKE}
 use Rattle.box_events.specs.declared.limits.TheConstants.{MAX_END}
-use Rattle.wire_checks.specs.Causes.{broken, first_broken, first_among}
-use Rattle.wire_checks.specs.Ranges.{before, unless, bad_number, bad_end, bad_date, bad_seq, bad_count, not_one, not_of_ids, bad_ids, are_few, is_between, is_count, small}
-use Rattle.wire_checks.specs.Rules.{is_known, version_fault, number_fault, update_fault, count_fault, end_fault, date_fault, setting_fault, seq_fault, not_served}
-use Rattle.wire_checks.specs.Updates.{bad_pack, is_other, is_pack, settings, unordered, wrong_among, wrong_update}
-use Rattle.wire_checks.specs.declared.rule.Rule.{Rule}
-use Rattle.wire_checks.specs.declared.rule.Rule.TheVariants.{Version, Number, Update, Count, End, Date, Setting, Seq}
-use Rattle.wire_checks.specs.declared.fault.WireFault.{WireFault}
-use Rattle.wire_checks.specs.declared.fault.WireFault.TheVariants as wire
+use Rattle.wire_profile.specs.Causes.{broken, first_broken, first_among}
+use Rattle.wire_profile.specs.Ranges.{before, unless, bad_number, bad_end, bad_date, bad_seq, bad_count, not_one, not_of_ids, bad_ids, are_few, is_between, is_count, small}
+use Rattle.wire_profile.specs.Rules.{is_known, version_fault, number_fault, update_fault, count_fault, end_fault, date_fault, setting_fault, seq_fault, not_served}
+use Rattle.wire_profile.specs.Updates.{bad_pack, is_other, is_pack, settings, unordered, wrong_among, wrong_update}
+use Rattle.wire_profile.specs.declared.rule.Rule.{Rule}
+use Rattle.wire_profile.specs.declared.rule.Rule.TheVariants.{Version, Number, Update, Count, End, Date, Setting, Seq}
+use Rattle.wire_profile.specs.declared.wire_fault.WireFault.{WireFault}
+use Rattle.wire_profile.specs.declared.wire_fault.WireFault.TheVariants as wire
 use Rattle.wire_profile.specs.Places.{ProfileView}
 use Rattle.wire_profile.specs.SpelledForms.{owned}
 use Rattle.box_wire.specs.Kinds.{Kind, calls, frames, saved_clients}

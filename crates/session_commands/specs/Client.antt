@@ -14,7 +14,7 @@ use Rattle.box_client.specs.Loads.{IsCauseOf, IsLoadedAs}
 use Rattle.box_client.specs.Numbers.{client_numbers}
 use Rattle.box_client.specs.Saving.{saved_of}
 use Rattle.box_client.specs.States.{ClientState, new_client}
-use Rattle.wire_checks.specs.declared.fault.WireFault.{WireFault}
+use Rattle.wire_profile.specs.declared.wire_fault.WireFault.{WireFault}
 use Rattle.wire_forms.specs.IsOf.{IsLong}
 use Rattle.wire_profile.specs.Places.{ProfileView}
 use Rattle.wire_values.specs.Carried.{IsSaved}

@@ -29,7 +29,7 @@ use tl_decode::decode;
 use tl_plan::Plan;
 use tl_schema::TypeRef;
 use tl_types::Value;
-use wire_checks::WireFault;
+use wire_profile::WireFault;
 use wire_forms::numbers::PUSH;
 use wire_profile::Profile;
 

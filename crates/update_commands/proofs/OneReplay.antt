@@ -4,7 +4,7 @@ use Rattle.tl_numbers.specs.Bytes.{AreBytes}
 use Rattle.box_events.specs.declared.steps.Step.{Step}
 use Rattle.wire_profile.specs.Places.{ProfileView}
 use Rattle.wire_profile.specs.Profiles.{IsProfile}
-use Rattle.wire_checks.specs.declared.fault.WireFault.{WireFault}
+use Rattle.wire_profile.specs.declared.wire_fault.WireFault.{WireFault}
 use Rattle.outside.specs.Answer.{Answer, refused_after}
 use Rattle.fault_lines.specs.Messages.{step_line}
 use Rattle.update_replay.specs.Endings.{Ending, whole, no_step, not_made, too_long}

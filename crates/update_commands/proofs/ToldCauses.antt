@@ -4,14 +4,14 @@ use Rattle.std.specs.Prelude.{if◌then◌else◌, ◌==◌, ◌-◌, ◌^◌}
 use Rattle.tl_types.specs.Values.{ValueView, list, node, call, ValueViews, no_values, value}
 use Rattle.wire_forms.specs.Parts.{at, int_of}
 use Rattle.wire_forms.specs.declared.numbers.TheConstants.{CHANNEL_REPLY, CLIENT, DIFFERENCE_EMPTY, DIFFERENCE_REPLY, ERROR_REPLY, GET_DIFFERENCE, INVOKE, RECEIPT, RECEIPT_REPLY, STATE, STATE_REPLY, STEP_DATE, STEP_HEAR, STEP_RESTART, STEP_SERVE, STEP_TICK, STEP_WAKE, STEP_WATCH, UPDATES, UPDATES_COMBINED}
-use Rattle.wire_checks.specs.Causes.{cause_of, broken, first_broken, first_among}
-use Rattle.wire_checks.specs.Ranges.{before, unless, bad_number, bad_date, is_between}
-use Rattle.wire_checks.specs.Rules.{number_fault, date_fault}
-use Rattle.wire_checks.specs.declared.rule.Rule.{Rule}
-use Rattle.wire_checks.specs.declared.rule.Rule.TheVariants.{Number, Date}
-use Rattle.wire_checks.specs.declared.rule.Root.TheVariants.{Step}
-use Rattle.wire_checks.specs.declared.fault.WireFault.{WireFault}
-use Rattle.wire_checks.specs.declared.fault.WireFault.TheVariants as wire
+use Rattle.wire_profile.specs.Causes.{cause_of, broken, first_broken, first_among}
+use Rattle.wire_profile.specs.Ranges.{before, unless, bad_number, bad_date, is_between}
+use Rattle.wire_profile.specs.Rules.{number_fault, date_fault}
+use Rattle.wire_profile.specs.declared.rule.Rule.{Rule}
+use Rattle.wire_profile.specs.declared.rule.Rule.TheVariants.{Number, Date}
+use Rattle.wire_profile.specs.declared.rule.Root.TheVariants.{Step}
+use Rattle.wire_profile.specs.declared.wire_fault.WireFault.{WireFault}
+use Rattle.wire_profile.specs.declared.wire_fault.WireFault.TheVariants as wire
 use Rattle.wire_profile.specs.Places.{ProfileView}
 use Rattle.wire_profile.specs.SpelledForms.{owned}
 use Rattle.box_wire.specs.StepReading.{StepRefused, no_value, no_message}

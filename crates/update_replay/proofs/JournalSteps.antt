@@ -16,8 +16,8 @@ use Rattle.wire_profile.specs.SpelledForms.{owned}
 use Rattle.wire_profile.proofs.OwnValues.{own_of}
 use Rattle.wire_values.specs.Steps.{step_in, step_tree}
 use Rattle.wire_values.proofs.PostsAndSteps.{step_same, step_back}
-use Rattle.wire_checks.specs.declared.fault.WireFault.{WireFault}
-use Rattle.wire_checks.specs.declared.fault.WireFault.TheVariants as wire
+use Rattle.wire_profile.specs.declared.wire_fault.WireFault.{WireFault}
+use Rattle.wire_profile.specs.declared.wire_fault.WireFault.TheVariants as wire
 use Rattle.box_wire.specs.Kinds.{steps}
 use Rattle.box_wire.specs.Framing.{SpellsWhole}
 use Rattle.box_wire.specs.StepReading.{StepRefused, no_value, no_message}

@@ -8,8 +8,8 @@ use Rattle.tl_base.specs.Writing.{AppendsPrefix}
 use Rattle.tl_types.specs.declared.cause.Cause.TheVariants.{Truncated}
 use Rattle.tl_types.specs.Refusal.{short}
 use Rattle.box_events.specs.declared.steps.Step.{Step}
-use Rattle.wire_checks.specs.declared.fault.WireFault.{WireFault}
-use Rattle.wire_checks.specs.declared.fault.WireFault.TheVariants as wire
+use Rattle.wire_profile.specs.declared.wire_fault.WireFault.{WireFault}
+use Rattle.wire_profile.specs.declared.wire_fault.WireFault.TheVariants as wire
 use Rattle.wire_profile.specs.Places.{ProfileView}
 use Rattle.box_wire.specs.StepReading.{StepRefused, no_value}
 use Rattle.box_world.specs.NumberWorlds.{n_run}

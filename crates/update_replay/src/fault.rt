@@ -3,7 +3,7 @@ use std::alloc::AllocError;
 use thiserror::Error;
 use tl_base::{Failed, TextFault, WriteFault};
 use update_world::StepFault;
-use wire_checks::WireFault;
+use wire_profile::WireFault;
 
 /// Why lines are not written. A prefix of them may be.
 #[derive(Clone, Copy, Debug, Error)]

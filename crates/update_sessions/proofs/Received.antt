@@ -4,8 +4,8 @@ use Rattle.std.specs.Prelude.{IfSome}
 use Rattle.tl_base.specs.Packets.{IsPacketLength, ReadsPacket, PacketInto, packet}
 use Rattle.tl_base.specs.declared.packet.PacketFault.{PacketFault}
 use Rattle.tl_base.specs.declared.packet.PacketFault.TheVariants as packets
-use Rattle.wire_checks.specs.declared.fault.WireFault.{WireFault}
-use Rattle.wire_checks.specs.declared.fault.WireFault.TheVariants as wire
+use Rattle.wire_profile.specs.declared.wire_fault.WireFault.{WireFault}
+use Rattle.wire_profile.specs.declared.wire_fault.WireFault.TheVariants as wire
 use Rattle.box_events.specs.declared.replies.Frame.{Frame}
 use Rattle.wire_profile.specs.Places.{ProfileView}
 use Rattle.wire_profile.specs.Profiles.{IsProfile}

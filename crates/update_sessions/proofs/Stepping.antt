@@ -5,7 +5,7 @@ use Rattle.std.specs.Io.KnownBytes.{Appends}
 use Rattle.std.proofs.KnownBytes.{Appends-nil, Appends-trans}
 use Rattle.tl_base.specs.Using.{SourceState, SinkState, Used, Wrote}
 use Rattle.tl_base.specs.Writing.{AppendsPrefix}
-use Rattle.wire_checks.specs.declared.fault.WireFault.{WireFault}
+use Rattle.wire_profile.specs.declared.wire_fault.WireFault.{WireFault}
 use Rattle.update_sessions.specs.Links.{OverLink, UsesLink, LinkNeverFails}
 use Rattle.update_sessions.specs.Packed.{Packed}
 use Rattle.update_sessions.specs.Exchanges.{Side, Exchanged, MaySendFor}

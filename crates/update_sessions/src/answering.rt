@@ -25,7 +25,7 @@ use box_wire::read_call;
 use std::alloc::Global;
 use std::mem::drop;
 use tl_base::{Bytes, Memory};
-use wire_checks::WireFault;
+use wire_profile::WireFault;
 use wire_profile::Profile;
 
 /// What is sent for a call: a reply, and then the push of a new post.

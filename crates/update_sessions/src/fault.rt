@@ -3,7 +3,7 @@ use box_client::ClientFault;
 use std::alloc::AllocError;
 use thiserror::Error;
 use tl_base::{PacketFault, WriteFault};
-use wire_checks::WireFault;
+use wire_profile::WireFault;
 
 /// How many frames a session takes at most.
 pub const MAX_FRAMES: u64 = 1_048_576;

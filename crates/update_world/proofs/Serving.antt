@@ -21,10 +21,10 @@ use Rattle.wire_forms.proofs.Words.{again}
 use Rattle.wire_profile.specs.Places.{ProfileView}
 use Rattle.wire_profile.specs.Profiles.{IsProfile}
 use Rattle.wire_values.specs.Calls.{call_tree}
-use Rattle.wire_checks.specs.declared.rule.Root.TheVariants.{Call}
-use Rattle.wire_checks.specs.declared.rule.Rule.TheVariants.{Number}
-use Rattle.wire_checks.proofs.ClearValues.{call_here}
-use Rattle.wire_checks.proofs.RuleFacts.{clear_of_call, number_is}
+use Rattle.wire_profile.specs.declared.rule.Root.TheVariants.{Call}
+use Rattle.wire_profile.specs.declared.rule.Rule.TheVariants.{Number}
+use Rattle.wire_profile.proofs.ClearValues.{call_here}
+use Rattle.wire_profile.proofs.RuleFacts.{clear_of_call, number_is}
 use Rattle.tl_types.specs.Values.{ValueViews, values_of}
 use Rattle.wire_values.specs.Calls.{request_tree}
 use Rattle.box_world.specs.Worlds.{Packet, push, request, reply, World, served, happens, channel_too_long, run}

@@ -11,3 +11,5 @@ pub mod Passing
 pub mod FormLists
 pub mod Roots
 pub mod PlanLimits
+pub mod ClearValues
+pub mod RuleFacts

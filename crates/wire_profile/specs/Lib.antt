@@ -4,3 +4,8 @@ pub mod Profiles
 pub mod Faults
 pub mod inner
 pub mod SpelledForms
+pub mod Ranges
+pub mod Updates
+pub mod Rules
+pub mod Causes
+pub mod Clear

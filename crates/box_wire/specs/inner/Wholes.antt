@@ -8,8 +8,8 @@ use Rattle.tl_types.specs.declared.value.Value.{Value}
 use Rattle.tl_decode.specs.Wholes.{ReadsWhole}
 use Rattle.tl_decode.specs.declared.whole.WholeFault.{WholeFault}
 use Rattle.tl_decode.specs.declared.whole.WholeFault.TheVariants as whole
-use Rattle.wire_checks.specs.declared.fault.WireFault.{WireFault}
-use Rattle.wire_checks.specs.declared.fault.WireFault.TheVariants.{Refused, Trailing, Memory}
+use Rattle.wire_profile.specs.declared.wire_fault.WireFault.{WireFault}
+use Rattle.wire_profile.specs.declared.wire_fault.WireFault.TheVariants.{Refused, Trailing, Memory}
 use Rattle.box_wire.specs.Answers.{IsOnly}
 
 -- a fault over bytes in memory; a failed read isn't one

@@ -1,2 +1,0 @@
-pub mod ClearValues
-pub mod RuleFacts
