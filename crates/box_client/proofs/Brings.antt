@@ -4,7 +4,7 @@ use Rattle.std.proofs.lemmas.Bool.Decides.{nat_tests}
 use Rattle.box_events.specs.Events.{EventView, count_of}
 use Rattle.pts_machine.specs.States.{LaneState}
 use Rattle.pts_machine.specs.Steps.{extend}
-use Rattle.seq_machine.specs.States.{SettingsState, asks_again, overlaid}
+use Rattle.pts_machine.specs.SeqStates.{SettingsState, asks_again, overlaid}
 use Rattle.box_events.specs.declared.difference_fault.WeaveFault.{WeaveFault}
 use Rattle.box_events.specs.declared.difference_fault.WeaveFault.TheVariants.{Overlap, Uneven, Memory as WeaveMemory}
 use Rattle.box_events.specs.Weaving.{Woven}

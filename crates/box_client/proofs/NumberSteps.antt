@@ -17,8 +17,8 @@ use Rattle.box_events.specs.declared.replies.ChannelReply.TheVariants.{Empty as 
 use Rattle.pts_machine.specs.declared.mode.Mode.TheVariants.{Live, Again}
 use Rattle.pts_machine.specs.States.{LaneState}
 use Rattle.pts_machine.specs.Steps.{Heard, hear, settle, extend, restart_at, new_lane}
-use Rattle.seq_machine.specs.Packs.{Pack, pack_of, last_date, puts}
-use Rattle.seq_machine.specs.States.{SettingsState, lane_of, applied, hear_pack, overlaid, forgotten as settings_forgotten}
+use Rattle.pts_machine.specs.Packs.{Pack, pack_of, last_date, puts}
+use Rattle.pts_machine.specs.SeqStates.{SettingsState, lane_of, applied, hear_pack, overlaid, forgotten as settings_forgotten}
 use Rattle.box_events.specs.Weaves.{WeaveCause, woven_of}
 use Rattle.box_events.proofs.Made.{reaches}
 use Rattle.channel_box.specs.States.{ChannelState, first, has_id}

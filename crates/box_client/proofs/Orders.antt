@@ -10,7 +10,7 @@ use Rattle.std.specs.FinMap.Entries.{below_all}
 use Rattle.std.proofs.lemmas.List.{drop_more, length-drop}
 use Rattle.box_events.specs.declared.settings.Setting.{Setting}
 use Rattle.box_events.specs.SettingLists.{Values}
-use Rattle.seq_machine.specs.Rows.{pairs, values_of, AreSorted}
+use Rattle.pts_machine.specs.Rows.{pairs, values_of, AreSorted}
 use Rattle.box_client.specs.Saving.{unsorted_from, unsorted, setting_of, settings_saved}
 
 abbrev order : List ℕ → List ℕ → Ordering

@@ -14,7 +14,7 @@ use Rattle.box_events.specs.declared.saved.SavedChannel.{SavedChannel}
 use Rattle.pts_machine.specs.declared.mode.Mode.TheVariants.{Live}
 use Rattle.pts_machine.specs.States.{LaneState, IsSound}
 use Rattle.pts_machine.specs.Steps.{loaded, forget}
-use Rattle.seq_machine.specs.States.{loaded as settings_loaded}
+use Rattle.pts_machine.specs.SeqStates.{loaded as settings_loaded}
 use Rattle.channel_box.specs.States.{ChannelState, ids_of, is_in, AreDistinct}
 use Rattle.channel_box.specs.Steps.{woken, forgotten}
 use Rattle.channel_box.proofs.Ids.{not_eq, not_of}

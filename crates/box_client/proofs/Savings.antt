@@ -10,7 +10,7 @@ use Rattle.box_events.specs.declared.saved.SavedLane.{SavedLane}
 use Rattle.box_events.specs.declared.saved.SavedChannel.{SavedChannel}
 use Rattle.pts_machine.specs.States.{LaneState}
 use Rattle.box_events.specs.SettingLists.{Values}
-use Rattle.seq_machine.specs.Rows.{pairs}
+use Rattle.pts_machine.specs.Rows.{pairs}
 use Rattle.channel_box.specs.States.{ChannelState, ids_of, is_in, AreDistinct, has_id, first}
 use Rattle.channel_box.specs.Steps.{is_watched}
 use Rattle.channel_box.specs.Looks.{LaneIs, recent_of}

@@ -13,8 +13,8 @@ use Rattle.pts_machine.specs.declared.mode.Mode.TheVariants.{Live, Again}
 use Rattle.pts_machine.specs.States.{LaneState}
 use Rattle.pts_machine.specs.Steps.{extend, settle, forget}
 use Rattle.pts_machine.proofs.Moves.{hear_mode}
-use Rattle.seq_machine.specs.Packs.{pack_of}
-use Rattle.seq_machine.proofs.StateSteps.{pack_mode, overlay_live}
+use Rattle.pts_machine.specs.Packs.{pack_of}
+use Rattle.pts_machine.proofs.StateSteps.{pack_mode, overlay_live}
 use Rattle.box_events.specs.declared.difference_fault.WeaveFault.TheVariants.{Overlap, Uneven, Memory as WeaveMemory}
 use Rattle.box_events.specs.Weaves.{WeaveCause, woven_of}
 use Rattle.channel_box.specs.States.{ChannelState, first}

@@ -4,7 +4,7 @@ use Rattle.std.specs.FinMap as map_of
 use Rattle.box_events.specs.declared.requests.Numbered.{Numbered}
 use Rattle.box_events.specs.declared.requests.Request.TheVariants.{Difference}
 use Rattle.pts_machine.specs.Steps.{asked, forget}
-use Rattle.seq_machine.specs.States.{asked as settings_asked, forgotten as settings_forgotten}
+use Rattle.pts_machine.specs.SeqStates.{asked as settings_asked, forgotten as settings_forgotten}
 use Rattle.channel_box.specs.Steps.{is_due, ticked, woken, forgotten}
 use Rattle.channel_box.specs.Looks.{is_waiting, any_asks}
 use Rattle.box_client.specs.States.{ClientState}

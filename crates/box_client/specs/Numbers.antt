@@ -16,7 +16,7 @@ use Rattle.pts_machine.specs.declared.mode.Mode.{Mode}
 use Rattle.pts_machine.specs.declared.mode.Mode.TheVariants.{Live, Asking, Again}
 use Rattle.pts_machine.specs.States.{LaneState}
 use Rattle.pts_machine.specs.Steps.{Heard, hear, settle, resumed, asked, forget, new_lane}
-use Rattle.seq_machine.specs.States.{SettingsState}
+use Rattle.pts_machine.specs.SeqStates.{SettingsState}
 use Rattle.channel_box.specs.States.{ChannelState}
 use Rattle.channel_box.specs.Steps.{is_dropped, is_asking, is_due}
 use Rattle.box_client.specs.States.{ClientState}

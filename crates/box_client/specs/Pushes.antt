@@ -9,8 +9,8 @@ use Rattle.box_events.specs.declared.updates.Update.TheVariants.{Common, Secret,
 use Rattle.box_events.specs.declared.updates.Push.{Push}
 use Rattle.box_events.specs.declared.updates.Push.TheVariants.{TooLong, Container}
 use Rattle.pts_machine.specs.Steps.{Heard, hear}
-use Rattle.seq_machine.specs.Packs.{pack_of}
-use Rattle.seq_machine.specs.States.{HeardPack, hear_pack}
+use Rattle.pts_machine.specs.Packs.{pack_of}
+use Rattle.pts_machine.specs.SeqStates.{HeardPack, hear_pack}
 use Rattle.channel_box.specs.Steps.{is_dropped, heard, told_too_long}
 use Rattle.box_client.specs.States.{ClientState}
 

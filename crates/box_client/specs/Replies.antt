@@ -6,7 +6,7 @@ use Rattle.box_events.specs.Events.{EventView, count_of}
 use Rattle.box_events.specs.declared.replies.Reply.{Reply}
 use Rattle.box_events.specs.declared.replies.Reply.TheVariants.{State, Empty, Difference, Channel, Receipt, Error}
 use Rattle.pts_machine.specs.Steps.{extend}
-use Rattle.seq_machine.specs.States.{overlaid, asks_again}
+use Rattle.pts_machine.specs.SeqStates.{overlaid, asks_again}
 use Rattle.box_events.specs.Weaves.{WeaveCause, woven_of}
 use Rattle.channel_box.specs.States.{first}
 use Rattle.channel_box.specs.Steps.{is_asking, asks_number, Answered, stale, refused, taken, answered}

@@ -15,8 +15,8 @@ use Rattle.box_events.specs.declared.saved.SavedChannel.{SavedChannel}
 use Rattle.pts_machine.specs.States.{LaneState}
 use Rattle.pts_machine.specs.Steps.{loaded}
 use Rattle.box_events.specs.SettingLists.{Values}
-use Rattle.seq_machine.specs.Rows.{values_of}
-use Rattle.seq_machine.specs.States.{loaded as settings_loaded}
+use Rattle.pts_machine.specs.Rows.{values_of}
+use Rattle.pts_machine.specs.SeqStates.{loaded as settings_loaded}
 use Rattle.channel_box.specs.States.{ChannelState, is_in}
 use Rattle.box_client.specs.declared.loading.TheConstants.{MAX_NEXT}
 use Rattle.box_client.specs.States.{ClientState}

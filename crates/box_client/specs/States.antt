@@ -7,8 +7,8 @@ use Rattle.box_events.specs.Events.{EventView}
 use Rattle.box_events.specs.inner.EventCodes.{event_code}
 use Rattle.pts_machine.specs.States.{LaneState, state_code}
 use Rattle.pts_machine.specs.Steps.{new_lane}
-use Rattle.seq_machine.specs.States.{SettingsState, new_settings}
-use Rattle.seq_machine.specs.States as settings_states
+use Rattle.pts_machine.specs.SeqStates.{SettingsState, new_settings}
+use Rattle.pts_machine.specs.SeqStates as settings_states
 use Rattle.channel_box.specs.States.{ChannelState, channel_code}
 
 -- the number of the next request; the common group: two lanes, the settings, and whether to ask about them though nothing is held; and the

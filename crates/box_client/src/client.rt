@@ -18,7 +18,7 @@ use crate::{asking, loading, pushing, replying, saving};
 use box_events::{Asks, Event, Push, Reply, Saved};
 use channel_box::{Channels, WatchFault};
 use pts_machine::{Lane, Mode};
-use seq_machine::Settings;
+use pts_machine::Settings;
 use std::alloc::Global;
 use std::marker::Model;
 use tl_base::Memory;

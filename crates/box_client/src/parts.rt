@@ -6,7 +6,7 @@ ghost use Rattle.box_client.specs.Views.{client_of};
 use box_events::Event;
 use channel_box::Channels;
 use pts_machine::{Lane, Mode};
-use seq_machine::Settings;
+use pts_machine::Settings;
 
 /// What a client has.
 pub struct Parts {

@@ -2,7 +2,7 @@
 ghost use Rattle.std.specs.Prelude.{◌≡◌, ◌≤◌, ◌<◌, ◌^◌, length, OnOk, OnErr};
 ghost use Rattle.box_events.specs.Refusal.{AreOthers};
 ghost use Rattle.box_events.specs.DifferenceLaws.{AreCountedOthers};
-ghost use Rattle.seq_machine.specs.States.{overlaid};
+ghost use Rattle.pts_machine.specs.SeqStates.{overlaid};
 ghost use Rattle.channel_box.specs.Steps.{is_asking, asks_number};
 ghost use Rattle.box_client.specs.Replies.{brings, group_replied, channel_replied, replied};
 ghost use Rattle.box_client.specs.Ranges.{IsReplyInRange};
@@ -15,7 +15,7 @@ use crate::parts::Parts;
 use box_events::{ListOf, MAX_END, Reply, Setting, State};
 use channel_box::weave_onto;
 use pts_machine::Mode;
-use seq_machine::Settings;
+use pts_machine::Settings;
 use std::alloc::{AllocError, Global};
 use tl_base::Memory;
 

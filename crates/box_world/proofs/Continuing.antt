@@ -9,9 +9,9 @@ use Rattle.box_events.specs.declared.requests.Request.{Request}
 use Rattle.box_events.specs.declared.requests.Request.TheVariants.{State, Difference, Channel, Post}
 use Rattle.box_events.specs.declared.updates.Push.{Push}
 use Rattle.box_events.specs.declared.updates.Push.TheVariants.{TooLong, Container}
-use Rattle.seq_machine.specs.Packs.{Pack, pack_of}
-use Rattle.seq_machine.specs.Latest.{IsStretch}
-use Rattle.seq_machine.proofs.Growing.{stretch_grows}
+use Rattle.pts_machine.specs.Packs.{Pack, pack_of}
+use Rattle.pts_machine.specs.Latest.{IsStretch}
+use Rattle.pts_machine.proofs.Growing.{stretch_grows}
 use Rattle.box_server.specs.Servers.{ServerState}
 use Rattle.box_server.proofs.Growths.{lies_grow}
 use Rattle.box_client.specs.States.{ClientState}

@@ -14,8 +14,8 @@ use Rattle.box_events.specs.declared.replies.Reply.TheVariants as reply
 use Rattle.pts_machine.specs.declared.mode.Mode.TheVariants.{Live}
 use Rattle.pts_machine.specs.Steps.{settle, hear}
 use Rattle.box_events.specs.Weaves.{WeaveCause, woven_of}
-use Rattle.seq_machine.specs.Packs.{Pack, last_date, pack_of, puts}
-use Rattle.seq_machine.specs.States.{SettingsState, hear_pack, overlaid, lane_of}
+use Rattle.pts_machine.specs.Packs.{Pack, last_date, pack_of, puts}
+use Rattle.pts_machine.specs.SeqStates.{SettingsState, hear_pack, overlaid, lane_of}
 use Rattle.channel_box.specs.States.{first}
 use Rattle.channel_box.specs.Steps as boxes
 use Rattle.box_client.specs.declared.brought.Brought.{Brought}

@@ -30,8 +30,8 @@ use Rattle.pts_machine.proofs.Ends.{look, none_at, some_at}
 use Rattle.pts_machine.proofs.Kept.{hears}
 use Rattle.box_events.specs.Weaves.{WeaveCause, free, merged, woven_of, woven_when}
 use Rattle.box_events.specs.Refusal.{overlap, covered}
-use Rattle.seq_machine.specs.Packs.{Pack, pack_of, puts, puts_all}
-use Rattle.seq_machine.specs.States.{SettingsState, hear_pack, overlaid, lane_of}
+use Rattle.pts_machine.specs.Packs.{Pack, pack_of, puts, puts_all}
+use Rattle.pts_machine.specs.SeqStates.{SettingsState, hear_pack, overlaid, lane_of}
 use Rattle.channel_box.specs.States.{ChannelState, first, has_id}
 use Rattle.channel_box.specs.Steps as boxes
 use Rattle.box_client.specs.declared.brought.Brought.{Brought}

@@ -13,7 +13,7 @@ use Rattle.box_events.specs.declared.saved.SavedLane.{SavedLane}
 use Rattle.box_events.specs.declared.saved.SavedChannel.{SavedChannel}
 use Rattle.pts_machine.specs.States.{LaneState}
 use Rattle.pts_machine.specs.Steps.{loaded}
-use Rattle.seq_machine.specs.Rows.{pairs, values_of}
+use Rattle.pts_machine.specs.Rows.{pairs, values_of}
 use Rattle.channel_box.specs.States.{ChannelState}
 use Rattle.box_server.proofs.LastLists.{order}
 use Rattle.box_client.specs.Saving.{LoadCause, lane_saved, channel_saved, setting_of, settings_saved, load_cause, is_next, uneven_lane, unsorted, surplus_after, or_lane, or_settings, or_channels, channel_loaded, bad_next}

@@ -9,7 +9,7 @@ use Rattle.pts_machine.specs.declared.mode.Mode.TheVariants.{Live, Asking}
 use Rattle.pts_machine.specs.States.{LaneState}
 use Rattle.pts_machine.specs.Steps.{forget, new_lane}
 use Rattle.pts_machine.proofs.Fitting.{fits_asked, fits_forget, fits_new}
-use Rattle.seq_machine.proofs.Agreements.{agree_asked, agree_forgotten}
+use Rattle.pts_machine.proofs.Agreements.{agree_asked, agree_forgotten}
 use Rattle.channel_box.specs.States.{ChannelState}
 use Rattle.channel_box.specs.Steps.{channel_is_due, channel_asks, ticked, flagged, forgot, forgotten, channel_of, is_watched, may_watch, watched_if}
 use Rattle.box_server.specs.Servers.{ServerState}

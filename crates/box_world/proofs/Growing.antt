@@ -5,8 +5,8 @@ use Rattle.box_events.specs.SettingLists.{Dated}
 use Rattle.pts_machine.specs.States.{LaneState}
 use Rattle.pts_machine.specs.Fitting.{Fits}
 use Rattle.pts_machine.proofs.Fitting.{fits_grows, fits_new}
-use Rattle.seq_machine.specs.Agreeing.{SettingsAgree}
-use Rattle.seq_machine.proofs.Agreements.{agree_grows, agree_new}
+use Rattle.pts_machine.specs.Agreeing.{SettingsAgree}
+use Rattle.pts_machine.proofs.Agreements.{agree_grows, agree_new}
 use Rattle.channel_box.specs.States.{ChannelState}
 use Rattle.box_world.specs.Agreeing.{Each, IsRecent, ChannelAgrees}
 use Rattle.box_world.specs.Growing.{HasMore}

@@ -20,9 +20,9 @@ use Rattle.box_server.specs.Refusing.{first_cause, bad_entries, too_many, box_fu
 use Rattle.box_server.specs.Growing.{IsWhole, channel_events}
 use Rattle.box_server.proofs.Growths.{with_more, channel_posted, posted_grows, updates_lie, settings_posted}
 use Rattle.box_client.specs.Pushes.{settings_in}
-use Rattle.seq_machine.specs.Packs.{pack_of}
-use Rattle.seq_machine.specs.Latest.{IsStretch}
-use Rattle.seq_machine.proofs.Growing.{stretch_appended}
+use Rattle.pts_machine.specs.Packs.{pack_of}
+use Rattle.pts_machine.specs.Latest.{IsStretch}
+use Rattle.pts_machine.proofs.Growing.{stretch_appended}
 use Rattle.box_world.specs.Agreeing.{Boxes, Each}
 use Rattle.box_world.specs.Growing.{Continues, IsKept, IsLedger}
 use Rattle.box_world.specs.Pushing.{PackLies, PushLies}

@@ -14,10 +14,10 @@ use Rattle.pts_machine.specs.States.{is_live}
 use Rattle.pts_machine.specs.Steps.{hear}
 use Rattle.pts_machine.proofs.Fitting.{fits_hear}
 use Rattle.pts_machine.proofs.Moves.{hear_mode, hear_at, hear_restart}
-use Rattle.seq_machine.specs.Packs.{Pack, pack_of}
-use Rattle.seq_machine.specs.States.{SettingsState, hear_pack}
-use Rattle.seq_machine.proofs.StateSteps.{pack_mode, pack_stands}
-use Rattle.seq_machine.proofs.Agreements.{agree_hear}
+use Rattle.pts_machine.specs.Packs.{Pack, pack_of}
+use Rattle.pts_machine.specs.SeqStates.{SettingsState, hear_pack}
+use Rattle.pts_machine.proofs.StateSteps.{pack_mode, pack_stands}
+use Rattle.pts_machine.proofs.Agreements.{agree_hear}
 use Rattle.channel_box.specs.States.{ChannelState, has_id}
 use Rattle.channel_box.specs.Steps.{at_first, heard_by, flagged}
 use Rattle.channel_box.proofs.Ids.{eq_of}

@@ -23,10 +23,10 @@ use Rattle.pts_machine.specs.Steps.{extend}
 use Rattle.pts_machine.specs.Fitting.{Fits}
 use Rattle.pts_machine.proofs.Fitting.{fits_after, fits_inside, fits_reaches, fits_sound}
 use Rattle.pts_machine.proofs.Kept.{sound_extend}
-use Rattle.seq_machine.specs.Packs.{Pack, size}
-use Rattle.seq_machine.specs.States.{SettingsState, IsSoundState}
-use Rattle.seq_machine.specs.Agreeing.{SettingsAgree}
-use Rattle.seq_machine.proofs.StateSteps.{sound_overlaid, overlay_live}
+use Rattle.pts_machine.specs.Packs.{Pack, size}
+use Rattle.pts_machine.specs.SeqStates.{SettingsState, IsSoundState}
+use Rattle.pts_machine.specs.Agreeing.{SettingsAgree}
+use Rattle.pts_machine.proofs.StateSteps.{sound_overlaid, overlay_live}
 use Rattle.channel_box.specs.States.{ChannelState, first}
 use Rattle.channel_box.specs.Steps.{is_due, channel_is_due, ticked, at_first, asks_number, is_asking, woken}
 use Rattle.channel_box.specs.Looks.{is_waiting, any_asks}

@@ -17,11 +17,11 @@ use Rattle.pts_machine.specs.Steps.{extend, settle}
 use Rattle.pts_machine.proofs.Ends.{reach_up}
 use Rattle.pts_machine.proofs.Fitting.{fits_extend, fits_reaches}
 use Rattle.pts_machine.specs.Steps.{settle}
-use Rattle.seq_machine.specs.Agreeing.{SettingsAgree}
-use Rattle.seq_machine.specs.States.{SettingsState, overlaid}
-use Rattle.seq_machine.proofs.StateSteps.{overlay_live}
-use Rattle.seq_machine.proofs.Agreements.{agree_over, agree_again}
-use Rattle.seq_machine.proofs.Growing.{overlay_grows}
+use Rattle.pts_machine.specs.Agreeing.{SettingsAgree}
+use Rattle.pts_machine.specs.SeqStates.{SettingsState, overlaid}
+use Rattle.pts_machine.proofs.StateSteps.{overlay_live}
+use Rattle.pts_machine.proofs.Agreements.{agree_over, agree_again}
+use Rattle.pts_machine.proofs.Growing.{overlay_grows}
 use Rattle.box_events.proofs.SettingDates.{since_append}
 use Rattle.box_events.specs.Weaving.{bodies, others_from}
 use Rattle.box_events.specs.Weaves.{woven_of}

@@ -6,7 +6,7 @@ use Rattle.box_events.specs.Boxes.{ending}
 use Rattle.box_events.specs.declared.replies.Reply.{Reply}
 use Rattle.box_events.specs.declared.replies.Reply.TheVariants.{State, Empty, Difference, Channel, Receipt, Error}
 use Rattle.pts_machine.specs.Fitting.{Fits}
-use Rattle.seq_machine.specs.Agreeing.{SettingsAgree}
+use Rattle.pts_machine.specs.Agreeing.{SettingsAgree}
 use Rattle.box_events.specs.declared.replies.ChannelReply.{ChannelReply}
 use Rattle.box_events.specs.declared.replies.ChannelReply.TheVariants.{Empty as EmptyPart, Part, TooLong}
 use Rattle.channel_box.specs.States.{ChannelState}

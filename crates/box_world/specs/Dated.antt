@@ -7,7 +7,7 @@ use Rattle.box_events.specs.declared.replies.Reply.{Reply}
 use Rattle.box_events.specs.declared.replies.Reply.TheVariants.{State, Empty, Difference, Channel, Receipt, Error}
 use Rattle.box_events.specs.declared.replies.Frame.{Frame}
 use Rattle.box_events.specs.declared.replies.Frame.TheVariants as frame
-use Rattle.seq_machine.specs.Packs.{Pack}
+use Rattle.pts_machine.specs.Packs.{Pack}
 use Rattle.box_client.specs.States.{ClientState}
 
 -- the date of a container, and of the state that a difference brings, is below 2^31

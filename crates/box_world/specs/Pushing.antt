@@ -2,8 +2,8 @@
 use Rattle.std.specs.Prelude.{◌<◌, ◌≤◌, ◌-◌, ℕ, length}
 use Rattle.box_events.specs.declared.updates.Push.{Push}
 use Rattle.box_events.specs.declared.updates.Push.TheVariants.{TooLong, Container}
-use Rattle.seq_machine.specs.Packs.{Pack, pack_of}
-use Rattle.seq_machine.specs.Latest.{IsStretch}
+use Rattle.pts_machine.specs.Packs.{Pack, pack_of}
+use Rattle.pts_machine.specs.Latest.{IsStretch}
 use Rattle.box_server.specs.Servers.{ServerState}
 use Rattle.box_server.specs.Growing.{AllLie}
 use Rattle.box_client.specs.Pushes.{settings_in}

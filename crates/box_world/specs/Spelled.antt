@@ -6,8 +6,8 @@ use Rattle.box_events.specs.declared.positions.Receipt.{Receipt}
 use Rattle.box_events.specs.Events.{EventView}
 use Rattle.box_server.specs.Servers.{ChannelBox, ServerState}
 use Rattle.pts_machine.specs.States.{LaneState}
-use Rattle.seq_machine.specs.Packs.{Pack}
-use Rattle.seq_machine.specs.States.{SettingsState}
+use Rattle.pts_machine.specs.Packs.{Pack}
+use Rattle.pts_machine.specs.SeqStates.{SettingsState}
 use Rattle.channel_box.specs.States.{ChannelState}
 use Rattle.box_client.specs.States.{ClientState}
 use Rattle.wire_forms.specs.IsOf.{IsLong, IsText}

@@ -23,8 +23,8 @@ use Rattle.box_events.specs.declared.updates.Update.{Update}
 use Rattle.box_events.specs.declared.updates.Update.TheVariants.{Common, Secret, Channel, ChannelTooLong, Setting}
 use Rattle.box_events.proofs.Boundaries.{boundary_past}
 use Rattle.box_events.proofs.Stretches.{between_one, stops_at, stretch_counts}
-use Rattle.seq_machine.specs.Latest.{latest}
-use Rattle.seq_machine.proofs.Growing.{latest_is}
+use Rattle.pts_machine.specs.Latest.{latest}
+use Rattle.pts_machine.proofs.Growing.{latest_is}
 use Rattle.box_server.specs.Answers.{answer, last_by}
 use Rattle.box_server.specs.LastEntries.{settings_since}
 use Rattle.box_server.specs.Posting.{posted, push_of}

@@ -20,8 +20,8 @@ use Rattle.pts_machine.specs.Steps.{settle}
 use Rattle.pts_machine.proofs.Ends.{reach_up}
 use Rattle.pts_machine.proofs.Fitting.{fits_after}
 use Rattle.pts_machine.proofs.Moves.{extend_up, hear_mode, hear_up}
-use Rattle.seq_machine.specs.Packs.{Pack, pack_of}
-use Rattle.seq_machine.specs.States.{SettingsState, hear_pack, lane_of, overlaid}
+use Rattle.pts_machine.specs.Packs.{Pack, pack_of}
+use Rattle.pts_machine.specs.SeqStates.{SettingsState, hear_pack, lane_of, overlaid}
 use Rattle.channel_box.specs.States.{first}
 use Rattle.channel_box.specs.Looks.{is_waiting}
 use Rattle.channel_box.specs.Steps.{Answered, answered, asks_number, is_asking, is_due, refused, stale, taken}

@@ -7,7 +7,7 @@ use Rattle.box_events.specs.declared.replies.Reply.TheVariants.{Channel}
 use Rattle.box_events.specs.declared.requests.Numbered.{Numbered}
 use Rattle.box_events.specs.declared.steps.Step.{Step}
 use Rattle.box_events.specs.declared.steps.Step.TheVariants.{Hear, Serve}
-use Rattle.seq_machine.specs.Latest.{latest}
+use Rattle.pts_machine.specs.Latest.{latest}
 use Rattle.channel_box.specs.States.{ChannelState, first}
 use Rattle.channel_box.specs.Steps.{asks_number, is_asking}
 use Rattle.box_server.specs.Answers.{answer}

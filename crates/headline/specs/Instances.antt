@@ -8,8 +8,8 @@ use Rattle.box_events.specs.declared.requests.Post.TheVariants.{Message}
 use Rattle.box_events.specs.declared.updates.Push.TheVariants.{Container}
 use Rattle.box_events.specs.declared.updates.Update.TheVariants.{Common}
 use Rattle.pts_machine.specs.Steps.{new_lane}
-use Rattle.seq_machine.specs.Latest.{latest}
-use Rattle.seq_machine.specs.States.{new_settings}
+use Rattle.pts_machine.specs.Latest.{latest}
+use Rattle.pts_machine.specs.SeqStates.{new_settings}
 use Rattle.box_server.specs.Servers.{ServerState, new_server}
 use Rattle.box_client.specs.States.{ClientState, new_client}
 use Rattle.box_world.specs.Agreeing.{Boxes, IsPast}

@@ -9,3 +9,15 @@ pub mod Laws
 pub mod Holding
 pub mod BufferViews
 pub mod inner
+pub mod Packs
+pub mod Rows
+pub mod Spots
+pub mod Tables
+pub mod TableViews
+pub mod Totals
+pub mod SeqStates
+pub mod SeqViews
+pub mod Latest
+pub mod Agreeing
+pub mod Stores
+pub mod SeqLaws

@@ -5,11 +5,17 @@ mod chains;
 mod counted;
 mod gap;
 mod held;
+mod held_pack;
 mod lane;
 mod laws;
 mod mode;
 mod seen;
+mod seq_chains;
+mod seq_laws;
+mod settings;
+mod store;
 mod stretches;
+mod table;
 mod takes;
 
 pub use chains::follow;
@@ -23,4 +29,9 @@ pub use laws::{
 };
 pub use mode::{Mode, is_next};
 pub use seen::{Seen, outcome_of};
+pub use seq_laws::{
+    lists_of_settings_grow, settings_agree, settings_move_on, settings_stay_latest,
+    settings_stay_since, settings_stay_sound,
+};
+pub use settings::Settings;
 pub use takes::Takes;

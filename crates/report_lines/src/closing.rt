@@ -12,7 +12,7 @@ use box_client::Client;
 use box_events::{Event, Setting, State};
 use channel_box::Channels;
 use pts_machine::Lane;
-use seq_machine::Settings;
+use pts_machine::Settings;
 use tl_base::{Bytes, Memory};
 
 /// Puts the line of the server.

@@ -19,9 +19,9 @@ use Rattle.box_events.specs.declared.saved.SavedChannel.{SavedChannel}
 use Rattle.box_events.specs.declared.saved.SavedLane.{SavedLane}
 use Rattle.pts_machine.specs.Steps.{loaded, new_lane}
 use Rattle.pts_machine.proofs.Kept.{sound_loaded}
-use Rattle.seq_machine.specs.Rows.{values_of}
-use Rattle.seq_machine.proofs.RowSteps.{len_values}
-use Rattle.seq_machine.proofs.StateSteps as soundness
+use Rattle.pts_machine.specs.Rows.{values_of}
+use Rattle.pts_machine.proofs.RowSteps.{len_values}
+use Rattle.pts_machine.proofs.StateSteps as soundness
 use Rattle.channel_box.specs.States.{is_in}
 use Rattle.channel_box.specs.Steps.{channel_of, is_watched}
 use Rattle.box_client.specs.Ranges.{AreChannelsInRange}

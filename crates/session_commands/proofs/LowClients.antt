@@ -30,10 +30,10 @@ use Rattle.pts_machine.specs.declared.seen.Seen.{Seen}
 use Rattle.pts_machine.specs.declared.seen.Seen.TheVariants.{Applied, Already, Held, Dropped}
 use Rattle.pts_machine.proofs.Ends.{look, none_at, some_at, reach_limit, reach_sum}
 use Rattle.pts_machine.proofs.Kept.{hears, sound_asked, sound_extend, sound_hear, sound_new, sound_restart}
-use Rattle.seq_machine.specs.Packs.{Pack, pack_of, puts, puts_all, size}
-use Rattle.seq_machine.specs.States.{IsSoundState, SettingsState, applied, hear_pack, lane_of, overlaid}
-use Rattle.seq_machine.proofs.StateSteps as soundness
-use Rattle.seq_machine.proofs.Stores.{len_puts}
+use Rattle.pts_machine.specs.Packs.{Pack, pack_of, puts, puts_all, size}
+use Rattle.pts_machine.specs.SeqStates.{IsSoundState, SettingsState, applied, hear_pack, lane_of, overlaid}
+use Rattle.pts_machine.proofs.StateSteps as soundness
+use Rattle.pts_machine.proofs.Stores.{len_puts}
 use Rattle.box_events.specs.DifferenceLaws.{AreCountedOthers}
 use Rattle.box_events.specs.Refusal.{AreOthers}
 use Rattle.box_events.specs.Weaves.{WeaveCause, woven_of}

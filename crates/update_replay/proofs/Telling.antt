@@ -2,7 +2,7 @@
 use Rattle.std.proofs.Common.{◌≡◌, List, [], ◌∷◌, refl, ap, ◌∙◌}
 use Rattle.box_events.specs.Events.{EventView}
 use Rattle.box_events.specs.Boxes.{AreCounted}
-use Rattle.seq_machine.proofs.Growing.{latest_one}
+use Rattle.pts_machine.proofs.Growing.{latest_one}
 use Rattle.pts_machine.specs.Fitting.{Fits}
 use Rattle.pts_machine.specs.States.{LaneState}
 use Rattle.channel_box.specs.States.{ChannelState}

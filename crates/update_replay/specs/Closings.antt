@@ -4,7 +4,7 @@ use Rattle.std.specs.Prelude.{ℕ, ◌+◌, List, [], ◌∷◌, ◌++◌, codes
 use Rattle.box_events.specs.Events.{EventView}
 use Rattle.box_server.specs.Servers.{ServerState, state_of}
 use Rattle.box_server.specs.Runs.{recent_of}
-use Rattle.seq_machine.specs.Latest.{latest}
+use Rattle.pts_machine.specs.Latest.{latest}
 use Rattle.box_client.specs.Numbers.{LaneNumbers, ChannelNumbers, ClientNumbers}
 use Rattle.box_client.specs.Saving.{settings_saved}
 use Rattle.box_world.specs.Agreeing.{Boxes}

@@ -2,7 +2,7 @@
 use Rattle.std.specs.Prelude.{◌≡◌, ℕ, ◌+◌, List, [], ◌∷◌, ◌++◌}
 use Rattle.box_events.specs.Events.{EventView}
 use Rattle.pts_machine.specs.States.{LaneState}
-use Rattle.seq_machine.specs.Latest.{latest}
+use Rattle.pts_machine.specs.Latest.{latest}
 use Rattle.channel_box.specs.States.{ChannelState}
 use Rattle.box_server.specs.Servers.{ServerState}
 use Rattle.box_server.specs.Runs.{recent_of}

@@ -1,8 +1,8 @@
 use Rattle.std.proofs.Common.{sym, ap, ◌∙◌, subst, true, List}
 use Rattle.std.proofs.lemmas.Result.{err_from_is_err_and}
 use Rattle.box_events.specs.declared.settings.Setting.{Setting}
-use Rattle.seq_machine.specs.Rows.{AreSorted, values_of}
-use Rattle.seq_machine.specs.States.{loaded}
+use Rattle.pts_machine.specs.Rows.{AreSorted, values_of}
+use Rattle.pts_machine.specs.SeqStates.{loaded}
 use Rattle.box_client.proofs.Orders.{sorted_of}
 use Rattle.box_client.proofs.Loadings.{surplus_cause, loaded_as}
 use Rattle.box_client.proofs.loading.load.Goals as goal
