@@ -1,6 +1,5 @@
 //! What comes of an answer, and why nothing is loaded.
-use box_events::LaneName;
-use box_events::WeaveFault;
+use box_events::{LaneName, WeaveFault};
 use std::alloc::AllocError;
 use thiserror::Error;
 

@@ -16,8 +16,7 @@ use crate::fault::LoadFault;
 use crate::parts::Parts;
 use box_events::{Event, EventKind, LaneName, ListOf, Saved, SavedChannel, SavedLane, Setting};
 use channel_box::{Channels, WatchFault};
-use pts_machine::Lane;
-use pts_machine::Settings;
+use pts_machine::{Lane, Settings};
 use std::alloc::Global;
 
 /// The number of a saved client's next request is this at most, so that many more can be given.

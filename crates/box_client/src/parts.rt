@@ -5,8 +5,7 @@ ghost use Rattle.box_client.specs.Views.{client_of};
 
 use box_events::Event;
 use channel_box::Channels;
-use pts_machine::{Lane, Mode};
-use pts_machine::Settings;
+use pts_machine::{Lane, Mode, Settings};
 
 /// What a client has.
 pub struct Parts {

@@ -14,8 +14,7 @@ use crate::fault::{ClientFault, Told};
 use crate::parts::Parts;
 use box_events::{ListOf, MAX_END, Reply, Setting, State};
 use channel_box::weave_onto;
-use pts_machine::Mode;
-use pts_machine::Settings;
+use pts_machine::{Mode, Settings};
 use std::alloc::{AllocError, Global};
 use tl_base::Memory;
 

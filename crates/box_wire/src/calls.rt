@@ -14,8 +14,7 @@ use box_events::Numbered;
 use std::alloc::Global;
 use tl_base::Bytes;
 use tl_types::Value;
-use wire_profile::{WireFault, call_cause};
-use wire_profile::Profile;
+use wire_profile::{Profile, WireFault, call_cause};
 use wire_values::{call_of, call_value};
 
 /// Spells a call. Each of which `FitsCall` has a spelling; another is answered as out of memory.

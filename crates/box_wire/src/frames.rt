@@ -15,8 +15,7 @@ use box_events::Frame;
 use std::alloc::Global;
 use tl_base::Bytes;
 use tl_types::Value;
-use wire_profile::{WireFault, frame_cause};
-use wire_profile::Profile;
+use wire_profile::{Profile, WireFault, frame_cause};
 use wire_values::{frame_of, frame_value};
 
 // The plan's root for frames.

@@ -15,8 +15,7 @@ use box_events::Saved;
 use std::alloc::Global;
 use tl_base::{Bytes, Memory};
 use tl_types::Value;
-use wire_profile::{WireFault, saved_cause};
-use wire_profile::Profile;
+use wire_profile::{Profile, WireFault, saved_cause};
 use wire_values::{saved_of, saved_value};
 
 // The plan's root for saved clients.

@@ -19,8 +19,7 @@ use std::alloc::Global;
 use tl_base::{Bytes, Memory, Source};
 use tl_decode::{DecodeFault, decode_or_end};
 use tl_types::Value;
-use wire_profile::{WireFault, step_cause};
-use wire_profile::Profile;
+use wire_profile::{Profile, WireFault, step_cause};
 use wire_values::{step_of, step_value};
 
 // The plan's root for steps.

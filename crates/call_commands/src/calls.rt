@@ -7,8 +7,7 @@ ghost use Rattle.codec_rooms.specs.Typed.{OfText};
 ghost use Rattle.call_commands.specs.CallsWork.{OfInput, tells_calls};
 
 use crate::turns::tell_packets;
-use outside::Status;
-use outside::{Host, finish, print_made, read_file, unread};
+use outside::{Host, Status, finish, print_made, read_file, unread};
 use schema_files::{SCHEMA_BYTES, schema_of};
 use std::alloc::{AllocError, Global};
 use tl_base::Slot;

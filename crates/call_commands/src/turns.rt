@@ -14,8 +14,7 @@ ghost use Rattle.call_commands.specs.CallsWork.{OfPacket, TellsNext, TellsPacket
 ghost use Rattle.call_commands.specs.inner.Turning.{EndsMade, GoesOn, IsNext, Turns, turn_of};
 
 use crate::{MAX_PACKET_END, tell_packet, unpacked};
-use outside::{Status, Unmade};
-use outside::{Host, Packet, print_made, take_packet, tell, unread, write_out};
+use outside::{Host, Packet, Status, Unmade, print_made, take_packet, tell, unread, write_out};
 use std::alloc::{AllocError, Global};
 use tl_base::{Out, PacketFault, Slot};
 use tl_calls::Calls;

@@ -4,8 +4,7 @@ ghost use Rattle.box_server.specs.Receiving.{post_answer};
 ghost use Rattle.box_server.specs.Keeping.{with_more};
 ghost use Rattle.box_server.specs.Rebuilding.{kept_of, rebuilt};
 
-use box_server::Posted;
-use box_server::{Keeper, OpenFault, Posts, StoreRefusal, Stored};
+use box_server::{Keeper, OpenFault, Posted, Posts, StoreRefusal, Stored};
 use std::alloc::Global;
 
 /// Opens a store, takes posts, and gives the keeper back, with what was answered.

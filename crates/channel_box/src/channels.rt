@@ -14,8 +14,7 @@ use crate::each::{
     forget_all, index_asking, index_of, is_one_waiting, reserve_all, tick_all, wake_all,
 };
 use crate::fault::WatchFault;
-use box_events::{Asks, ChannelReply, Event, ListOf, MAX_CHANNELS, MAX_END, Update};
-use box_events::WeaveFault;
+use box_events::{Asks, ChannelReply, Event, ListOf, MAX_CHANNELS, MAX_END, Update, WeaveFault};
 use pts_machine::Lane;
 use std::alloc::Global;
 use std::marker::Model;

@@ -7,8 +7,7 @@ ghost use Rattle.box_events.specs.Refusal.{AreOthers, Refuses};
 ghost use Rattle.box_events.specs.DifferenceLaws.{AreCountedOthers};
 ghost use Rattle.channel_box.specs.Steps.{is_dropped};
 
-use box_events::{Event, ListOf, MAX_END, Placed};
-use box_events::{WeaveFault, weave};
+use box_events::{Event, ListOf, MAX_END, Placed, WeaveFault, weave};
 use pts_machine::{Lane, Seen};
 use std::alloc::Global;
 use tl_base::Bytes;

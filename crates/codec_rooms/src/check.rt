@@ -6,8 +6,7 @@ ghost use Rattle.codec_rooms.specs.Check.{checks, lists};
 ghost use Rattle.codec_rooms.specs.Typed.{OfText};
 
 use codec_commands::listing;
-use outside::Status;
-use outside::{Host, finish, print, print_made, read_file, unread};
+use outside::{Host, Status, finish, print, print_made, read_file, unread};
 use schema_files::{SCHEMA_BYTES, schema_of};
 use std::alloc::{AllocError, Global};
 use tl_base::Slot;

@@ -14,8 +14,7 @@ ghost use Rattle.codec_rooms.specs.inner.Purposes.{IsPlanOf};
 
 use crate::feeding::read_value;
 use crate::typed::{Purpose, follow_file};
-use outside::{Status, Unmade};
-use outside::{Host, finish, print_made, unread};
+use outside::{Host, Status, Unmade, finish, print_made, unread};
 use schema_files::{cause_text, plan_of, value_line};
 use std::alloc::{AllocError, Global};
 use tl_base::Slot;

@@ -13,8 +13,7 @@ ghost use Rattle.codec_rooms.specs.Typed.{OfInput, OfPlan};
 ghost use Rattle.codec_rooms.specs.inner.Purposes.{IsPlanOf, MakesForm};
 
 use crate::typed::{Purpose, follow_file};
-use outside::{Status, Unmade};
-use outside::{Host, finish, print_made, read_file, unread};
+use outside::{Host, Status, Unmade, finish, print_made, read_file, unread};
 use schema_files::{JSON_BYTES, fit_unmade, formed_value, plan_of};
 use std::alloc::{AllocError, Global};
 use tl_base::Slot;

@@ -6,8 +6,7 @@ ghost use Rattle.commands.specs.Work.{RanStored};
 use crate::keep_words::keep_in;
 use crate::program::USAGE;
 use box_server::Keeper;
-use outside::Status;
-use outside::{Host, tell};
+use outside::{Host, Status, tell};
 use serve_rooms::{KeptStatus, run_kept};
 use std::alloc::Global;
 

@@ -8,8 +8,7 @@ ghost use Rattle.pts_machine.specs.Totals.{total};
 
 use crate::held_pack::HeldPack;
 use crate::store::Store;
-use crate::Gap;
-use crate::follow;
+use crate::{Gap, follow};
 
 // Drops the held packs below a position, and answers how many settings are held then.
 fn drop_below(gap: &mut Gap<HeldPack>, at: u32, waiting: usize) -> usize

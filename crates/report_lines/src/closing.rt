@@ -11,8 +11,7 @@ use crate::positions::put_group;
 use box_client::Client;
 use box_events::{Event, Setting, State};
 use channel_box::Channels;
-use pts_machine::Lane;
-use pts_machine::Settings;
+use pts_machine::{Lane, Settings};
 use tl_base::{Bytes, Memory};
 
 /// Puts the line of the server.

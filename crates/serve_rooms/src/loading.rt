@@ -3,8 +3,7 @@ ghost use Rattle.outside.specs.Begun.{Did};
 ghost use Rattle.outside.specs.Runs.{answered};
 ghost use Rattle.serve_rooms.specs.Serve.{LoadsSchema, OfText};
 
-use outside::Status;
-use outside::{Host, print_made, read_file, unread};
+use outside::{Host, Status, print_made, read_file, unread};
 use schema_files::{SCHEMA_BYTES, schema_of};
 use std::alloc::{AllocError, Global};
 use tl_base::Slot;

@@ -12,11 +12,9 @@ ghost use Rattle.serve_rooms.specs.declared.status.KeptStatus.TheVariants.{KeepF
 use crate::loading::{Loaded, load_schema};
 use crate::sessions::serve_all;
 use crate::status::KeptStatus;
-use box_server::Server;
-use box_server::Stored;
-use outside::Status;
+use box_server::{Server, Stored};
+use outside::{Host, Status, finish, print_made};
 use fault_lines::profile_of;
-use outside::{Host, finish, print_made};
 use std::alloc::{AllocError, Global};
 use tl_schema::Schema;
 use wire_profile::Profile;

@@ -9,8 +9,7 @@ use crate::connection::serve_next;
 use crate::status::{KeptRun, KeptStatus};
 use crate::telling::Tally;
 use box_server::{Keeper, Stored};
-use outside::Status;
-use outside::{Host, tell};
+use outside::{Host, Status, tell};
 use std::alloc::Global;
 use wire_profile::Profile;
 

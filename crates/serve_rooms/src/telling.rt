@@ -7,8 +7,7 @@ ghost use Rattle.session_commands.specs.Serve.{first_fault};
 ghost use Rattle.serve_rooms.specs.Telling.{TellsEnd, TellsFault, TellsLine, goes_on};
 ghost use Rattle.serve_rooms.specs.inner.Ends.{told_by};
 
-use outside::{Status, Stop};
-use outside::{Host, tell, write_out};
+use outside::{Host, Status, Stop, tell, write_out};
 use session_commands::session_stop;
 use std::alloc::{AllocError, Global};
 use tl_base::Out;

@@ -29,9 +29,8 @@ use tl_decode::decode;
 use tl_plan::Plan;
 use tl_schema::TypeRef;
 use tl_types::Value;
-use wire_profile::WireFault;
+use wire_profile::{Profile, WireFault};
 use wire_forms::numbers::PUSH;
-use wire_profile::Profile;
 
 // The plan's root for frames.
 const FRAME_ROOT: u32 = 0;

@@ -8,8 +8,7 @@ ghost use Rattle.session_rooms.specs.Client.{Leaves, after_create};
 ghost use Rattle.session_rooms.specs.inner.Ends.{TellsEnd};
 
 use box_client::Client;
-use outside::{Status, Stop};
-use outside::{Host, print, tell, write_out};
+use outside::{Host, Status, Stop, print, tell, write_out};
 use session_commands::{Leaving, leaving_of, session_stop};
 use std::alloc::{AllocError, Global};
 use tl_base::Out;

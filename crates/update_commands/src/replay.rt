@@ -15,9 +15,8 @@ ghost use Rattle.update_commands.specs.Profile.{OfProfile};
 ghost use Rattle.update_commands.specs.ReplayWork.{replays, replays_by};
 ghost use Rattle.update_commands.specs.inner.Stops.{TellsStop};
 
-use outside::{Status, placed_line};
+use outside::{Host, Status, finish, placed_line, print, print_made, read_file, tell, write_out};
 use fault_lines::{profile_of, step_line};
-use outside::{Host, finish, print, print_made, read_file, tell, write_out};
 use schema_files::{SCHEMA_BYTES, schema_of};
 use std::alloc::{AllocError, Global};
 use tl_base::{Bytes, Out, Slot};

@@ -18,8 +18,7 @@ use box_wire::{StepReadFault, read_step};
 use std::alloc::{AllocError, Global};
 use tl_base::{Bytes, Limited, SliceSource};
 use update_world::World;
-use wire_profile::WireFault;
-use wire_profile::Profile;
+use wire_profile::{Profile, WireFault};
 
 /// A replay of a journal in memory that is made step by step: each call hands out the lines of the next step.
 pub struct Replay<'s> {

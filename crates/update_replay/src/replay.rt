@@ -21,8 +21,7 @@ use std::alloc::Global;
 use tl_base::{Limited, Sink, Source, take_end, take_text};
 use tl_types::Cause;
 use update_world::{StepFault, World};
-use wire_profile::WireFault;
-use wire_profile::Profile;
+use wire_profile::{Profile, WireFault};
 
 // What comes next in a journal.
 #[derive(Drop)]

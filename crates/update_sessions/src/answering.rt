@@ -19,14 +19,12 @@ use crate::fault::SessionFault;
 use crate::packing::put_frame;
 use crate::storing::StoreSession;
 use box_events::{Frame, Numbered, Reply, Request};
-use box_server::{PostFault, Posted, Server};
-use box_server::{Keeper, Posts, StoreRefusal, Stored};
+use box_server::{Keeper, PostFault, Posted, Posts, Server, StoreRefusal, Stored};
 use box_wire::read_call;
 use std::alloc::Global;
 use std::mem::drop;
 use tl_base::{Bytes, Memory};
-use wire_profile::WireFault;
-use wire_profile::Profile;
+use wire_profile::{Profile, WireFault};
 
 /// What is sent for a call: a reply, and then the push of a new post.
 #[derive(Drop)]

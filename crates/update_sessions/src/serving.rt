@@ -9,8 +9,7 @@ ghost use Rattle.update_sessions.specs.Serving.{server_side};
 
 use crate::fault::SessionFault;
 use crate::storing::{StoreSession, store_session};
-use box_server::Server;
-use box_server::Stored;
+use box_server::{Server, Stored};
 use std::alloc::Global;
 use std::mem::replace;
 use tl_base::Link;

@@ -13,8 +13,7 @@ use box_events::{Frame, Numbered};
 use box_wire::{read_call, read_frame};
 use std::alloc::{AllocError, Global};
 use tl_base::Memory;
-use wire_profile::WireFault;
-use wire_profile::Profile;
+use wire_profile::{Profile, WireFault};
 
 /// The request of a client.
 #[derive(Drop)]
