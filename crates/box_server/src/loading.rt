@@ -5,8 +5,8 @@ ghost use Rattle.box_server.specs.Keeping.{Keeps};
 ghost use Rattle.box_server.specs.inner.Loading.{Loads, Accepted};
 
 use crate::entry::Entry;
-use crate::store_fault::GetFault;
 use crate::keeper::Keeper;
+use crate::store_fault::GetFault;
 use crate::{PostFault, Server};
 use std::alloc::AllocError;
 use tl_base::{Failed, Memory};

@@ -5,8 +5,8 @@ ghost use Rattle.box_server.specs.Keeping.{Keeps, with_more};
 
 use crate::copying::copy_entry;
 use crate::entry::Entry;
-use crate::store_fault::GetFault;
 use crate::keeper::Keeper;
+use crate::store_fault::GetFault;
 use std::alloc::Global;
 use tl_base::{Failed, Memory};
 

@@ -1,8 +1,8 @@
 //! A keeper that keeps nothing.
 
 use crate::entry::Entry;
-use crate::store_fault::GetFault;
 use crate::keeper::Keeper;
+use crate::store_fault::GetFault;
 use tl_base::Failed;
 
 /// Keeps nothing and tells nothing, and never fails: the keeper of a server whose posts aren't kept.

@@ -7,7 +7,10 @@ ghost use Rattle.box_server.specs.Entries.{bytes_of};
 ghost use Rattle.box_server.specs.Runs.{recent_of, limited};
 ghost use Rattle.box_server.specs.inner.Carrying.{Carries, Fills};
 
-use box_events::{Event, EventBox, EventKind, ID_BYTES, ListOf, Parts, RECENT_BYTES, RECENT_EVENTS, RUN_BYTES, RUN_EVENTS};
+use box_events::{
+    Event, EventBox, EventKind, ID_BYTES, ListOf, Parts, RECENT_BYTES, RECENT_EVENTS, RUN_BYTES,
+    RUN_EVENTS,
+};
 use std::alloc::Global;
 use tl_base::{Bytes, Memory};
 

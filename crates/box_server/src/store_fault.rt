@@ -1,7 +1,7 @@
 //! Why a keeper gives no entry, why a store is not opened, and why it takes no posts.
+use crate::PostFault;
 use crate::keeper::Keeper;
 use crate::stored::Stored;
-use crate::PostFault;
 use std::alloc::AllocError;
 use thiserror::Error;
 

@@ -7,10 +7,10 @@ ghost use Rattle.box_server.specs.Storing.{Tells};
 ghost use Rattle.box_server.specs.Answering.{Opens, opened_keeper, IsOpenFailed, TakesPosts, IsPostFailed, kept_keeper, kept_after};
 
 use crate::entry::{Entry, Posts};
-use crate::store_fault::{OpenFault, StoreRefusal};
 use crate::keeper::Keeper;
 use crate::loading::{LoadFault, load};
 use crate::no_keeper::NoKeeper;
+use crate::store_fault::{OpenFault, StoreRefusal};
 use crate::{PostFault, Posted, Server};
 use std::alloc::Global;
 use std::marker::Model;

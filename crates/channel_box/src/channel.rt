@@ -11,7 +11,9 @@ ghost use Rattle.channel_box.specs.Looks.{waits};
 ghost use Rattle.channel_box.specs.Calls.{updates_for, IsInRange, Comes};
 
 use crate::woven::{is_dropped, weave_onto};
-use box_events::{ChannelReply, Event, ListOf, MAX_END, Numbered, Placed, Request, Update, WeaveFault};
+use box_events::{
+    ChannelReply, Event, ListOf, MAX_END, Numbered, Placed, Request, Update, WeaveFault,
+};
 use pts_machine::{Lane, Mode};
 use std::alloc::{AllocError, Global};
 use std::marker::Model;

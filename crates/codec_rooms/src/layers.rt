@@ -9,8 +9,8 @@ ghost use Rattle.codec_rooms.specs.Layers.{OfNew, compared, compares};
 ghost use Rattle.codec_rooms.specs.Typed.{OfText};
 
 use crate::typed::{Purpose, follow_file};
-use outside::{Host, Status, finish, print_made, read_file, unread};
 use codec_commands::verdict_line;
+use outside::{Host, Status, finish, print_made, read_file, unread};
 use schema_files::{SCHEMA_BYTES, schema_of};
 use std::alloc::{AllocError, Global};
 use tl_base::Slot;

@@ -8,9 +8,9 @@ mod request;
 mod stored;
 mod table;
 
-pub use outside::Status;
 pub use keep_words::{KeepRequest, keep_in};
 pub use number::{Range, number_in};
+pub use outside::Status;
 pub use program::run;
 pub use serve_rooms::KeptStatus;
 pub use stored::run_stored;

@@ -3,8 +3,8 @@ ghost use Rattle.std.specs.Prelude.{◌≡◌, IfOk, Some, string_bytes};
 ghost use Rattle.fault_lines.specs.Answers.{answer_line, answer_words, seq_words, uneven_words, weave_words};
 
 use box_client::ClientFault;
-use outside::unplaced_line;
 use box_events::WeaveFault;
+use outside::unplaced_line;
 use std::alloc::{AllocError, Global};
 
 // The cause of counts that don't meet.

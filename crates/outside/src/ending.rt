@@ -1,9 +1,9 @@
 //! How a run ends.
 ghost use Rattle.outside.specs.Runs.{Finishes};
 
+use crate::Status;
 use crate::host::Host;
 use crate::pieces::tell;
-use crate::Status;
 use std::alloc::AllocError;
 
 /// The status of a run. Where it ran out of memory, that is told.

@@ -5,9 +5,9 @@ ghost use Rattle.pts_machine.specs.Holding.{from};
 ghost use Rattle.pts_machine.specs.Chains.{chain, reach, EndsAfter};
 ghost use Rattle.pts_machine.specs.Takings.{InTurn};
 
+use crate::Gap;
 use crate::counted::Counted;
 use crate::takes::Takes;
-use crate::Gap;
 
 /// Gives the held items that follow from a position to what takes them, and answers where they end.
 pub fn follow<E: Drop, T: Takes<E>>(into: &mut T, at: u32, gap: &mut Gap<E>) -> u32

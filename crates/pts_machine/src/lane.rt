@@ -6,12 +6,12 @@ ghost use Rattle.pts_machine.specs.Chains.{AreChained};
 ghost use Rattle.pts_machine.specs.States.{IsSound};
 ghost use Rattle.pts_machine.specs.Steps.{hear, Hears, extend, restart_at, forget, asked, loaded, new_lane};
 
+use crate::Gap;
 use crate::chains::settle;
 use crate::counted::Counted;
 use crate::mode::{Mode, is_next};
 use crate::seen::{Seen, outcome_of};
 use crate::stretches::{append, end_of};
-use crate::Gap;
 use std::alloc::Global;
 use std::marker::Model;
 use tl_base::Memory;

@@ -10,12 +10,12 @@ ghost use Rattle.box_events.specs.SettingLists.{Dated, AreSince, IsOverlay, Neve
 ghost use Rattle.pts_machine.specs.Latest.{IsLatestState, IsStretch, IsSince};
 ghost use Rattle.pts_machine.specs.SeqLaws.{StaysSince};
 
-use crate::seq_chains::settle;
 use crate::held_pack::HeldPack;
+use crate::seq_chains::settle;
 use crate::store::Store;
 use crate::table::Table;
-use box_events::Setting;
 use crate::{Gap, Mode, Seen, is_next, outcome_of};
+use box_events::Setting;
 use std::alloc::{AllocError, Global};
 use std::marker::Model;
 use tl_base::Memory;

@@ -1,7 +1,7 @@
 //! Settings that were applied.
+use crate::Takes;
 use crate::held_pack::HeldPack;
 use crate::table::Table;
-use crate::Takes;
 
 /// Settings that were applied.
 pub struct Store {

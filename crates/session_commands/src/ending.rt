@@ -4,8 +4,8 @@ ghost use Rattle.session_commands.specs.SessionEnds.{IsShort, PeerWith, TellsSes
 ghost use Rattle.session_commands.specs.Lines.{packet_line};
 ghost use Rattle.outside.specs.Loading.{PeerAs};
 
-use outside::{Stop, unplaced_line};
 use fault_lines::{answer_line, packet_stop, wire_line};
+use outside::{Stop, unplaced_line};
 use std::alloc::Global;
 use tl_base::PacketFault;
 use update_sessions::SessionFault;

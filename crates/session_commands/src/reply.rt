@@ -20,8 +20,8 @@ ghost use Rattle.outside.specs.Loading.{PeerAs};
 
 use box_events::Frame;
 use box_wire::read_frame;
-use outside::{Stop, unplaced_line};
 use fault_lines::wire_line;
+use outside::{Stop, unplaced_line};
 use schema_files::value_line;
 use std::alloc::{AllocError, Global};
 use tl_base::{Bytes, MemSource};
@@ -29,8 +29,8 @@ use tl_decode::decode;
 use tl_plan::Plan;
 use tl_schema::TypeRef;
 use tl_types::Value;
-use wire_profile::{Profile, WireFault};
 use wire_forms::numbers::PUSH;
+use wire_profile::{Profile, WireFault};
 
 // The plan's root for frames.
 const FRAME_ROOT: u32 = 0;

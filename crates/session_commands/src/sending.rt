@@ -10,8 +10,8 @@ ghost use Rattle.session_commands.specs.inner.Posting.{NumbersCall, Sends};
 
 use box_events::MAX_FRAME_BYTES;
 use box_wire::{SpellFault, read_call};
-use outside::Unmade;
 use fault_lines::{spell_line, wire_line};
+use outside::Unmade;
 use std::alloc::Global;
 use tl_base::Bytes;
 use tl_encode::spell;

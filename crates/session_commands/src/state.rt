@@ -9,8 +9,8 @@ ghost use Rattle.session_commands.specs.inner.Recovering.{LoadsClient, ReadsSave
 use box_client::Client;
 use box_events::Saved;
 use box_wire::read_saved;
-use outside::Unmade;
 use fault_lines::{load_line, wire_line};
+use outside::Unmade;
 use std::alloc::Global;
 use wire_profile::Profile;
 

@@ -14,8 +14,10 @@ ghost use Rattle.session_rooms.specs.Post.{CallsOver, OfInputFile, OfText, Tells
 ghost use Rattle.session_rooms.specs.inner.Sent.{MakesCall, TellsNoPacket};
 
 use crate::sending::send_packet;
-use outside::{Host, Packet, Status, Stop, Unmade, finish, print, print_made, read_file, take_packet, tell};
 use fault_lines::{packet_stop, profile_of};
+use outside::{
+    Host, Packet, Status, Stop, Unmade, finish, print, print_made, read_file, take_packet, tell,
+};
 use schema_files::{JSON_BYTES, SCHEMA_BYTES, fit_unmade, formed_value, schema_of};
 use session_commands::{Sending, call_of, reply_line};
 use std::alloc::{AllocError, Global};

@@ -1,8 +1,8 @@
 //! What is told of two schemas.
 ghost use Rattle.tl_codec.specs.Comparing.{MakesAnswer, OfTexts, OfTypeText};
 
-use outside::Unmade;
 use codec_commands::verdict_line;
+use outside::Unmade;
 use schema_files::{schema_of, type_spelled};
 use std::alloc::Global;
 use tl_schema::Schema;

@@ -8,13 +8,13 @@ ghost use Rattle.update_replay.specs.declared.making.TheConstants.{MAX_MADE_STEP
 ghost use Rattle.update_commands.specs.MakeWork.{makes, makes_by};
 ghost use Rattle.update_commands.specs.Profile.{OfProfile};
 
-use outside::{Host, Status, finish, print_made, read_file, tell};
+use crate::run_text;
 use fault_lines::profile_of;
+use outside::{Host, Status, finish, print_made, read_file, tell};
 use schema_files::{SCHEMA_BYTES, schema_of};
 use std::alloc::{AllocError, Global};
 use tl_base::Slot;
 use tl_schema::Schema;
-use crate::run_text;
 
 // What follows of a schema.
 fn make_profiled<H: Host>(

@@ -15,13 +15,13 @@ ghost use Rattle.update_commands.specs.Profile.{OfProfile};
 ghost use Rattle.update_commands.specs.ReplayWork.{replays, replays_by};
 ghost use Rattle.update_commands.specs.inner.Stops.{TellsStop};
 
-use outside::{Host, Status, finish, placed_line, print, print_made, read_file, tell, write_out};
+use crate::unmade_line;
 use fault_lines::{profile_of, step_line};
+use outside::{Host, Status, finish, placed_line, print, print_made, read_file, tell, write_out};
 use schema_files::{SCHEMA_BYTES, schema_of};
 use std::alloc::{AllocError, Global};
 use tl_base::{Bytes, Out, Slot};
 use tl_schema::Schema;
-use crate::unmade_line;
 use update_replay::{MAX_JOURNAL_BYTES, Replay, ReplayFault};
 use wire_profile::Profile;
 

@@ -5,11 +5,11 @@ ghost use Rattle.wire_profile.specs.Causes as causes;
 ghost use Rattle.wire_profile.specs.Rules as rules;
 ghost use Rattle.wire_forms.specs.Forms as forms;
 
-use crate::wire_fault::WireFault;
 use crate::ranges::{bad_date, bad_end, bad_ids, bad_number, bad_seq, not_of_ids, not_one, unless};
 use crate::rule::Rule;
 use crate::standing::stands_among;
 use crate::updates::{bad_pack, unordered, wrong_update};
+use crate::wire_fault::WireFault;
 use tl_types::Value;
 use wire_forms::numbers::{
     CHANNEL_DIFFERENCE, CHANNEL_DIFFERENCE_EMPTY, CHANNEL_DIFFERENCE_TOO_LONG, CHANNEL_REPLY,

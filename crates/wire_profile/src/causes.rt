@@ -5,8 +5,8 @@ ghost use Rattle.wire_profile.specs.Causes as defined;
 ghost use Rattle.wire_profile.specs.declared.rule.Root.TheVariants.{Frame, Step, Saved};
 
 use crate::breaking::{broken, not_served};
-use crate::wire_fault::WireFault;
 use crate::rule::{ORDER, Root, Rule, is_for};
+use crate::wire_fault::WireFault;
 use tl_types::Value;
 
 // What the first record breaks that breaks the rule, a record before those in its fields.

@@ -5,8 +5,8 @@ ghost use Rattle.wire_profile.specs.Updates as defined;
 ghost use Rattle.wire_forms.specs.Parts as parts;
 ghost use Rattle.wire_forms.specs.Parts.{at};
 
-use crate::wire_fault::WireFault;
 use crate::ranges::unless;
+use crate::wire_fault::WireFault;
 use box_events::MAX_END;
 use tl_types::Value;
 use wire_forms::numbers::{
