@@ -26,7 +26,7 @@ build_calls() {
     for file in "$bench"/calls/*.rt.txt; do
         cp "$file" "$room/tlbox/crates/calls/src/$(basename "$file" .txt)"
     done
-    echo "calls: tl_base tl_lexer tl_combinators tl_schema tl_types tl_plan tl_decode tl_encode box_events box_server box_wire wire_profile gap_buffer" >>"$room/tlbox/crates.txt"
+    echo "calls: tl_base tl_lexer tl_combinators tl_schema tl_types tl_plan tl_decode tl_encode box_events box_server box_wire wire_profile pts_machine" >>"$room/tlbox/crates.txt"
     build "$room/tlbox/crates/calls" boundary 1000 100
 }
 

@@ -93,7 +93,7 @@ def ranges():
 
 
 def statuses():
-    found = dict(re.findall(r"^status_number (\w+) = (\d+)$", read("crates/command_base/specs/Answer.antt"), re.MULTILINE))
+    found = dict(re.findall(r"^status_number (\w+) = (\d+)$", read("crates/outside/specs/Answer.antt"), re.MULTILINE))
     found |= dict(re.findall(r"^kept_number (\w+) = (\d+)$", read("crates/serve_rooms/specs/Status.antt"), re.MULTILINE))
     if set(found) != set(STATUSES):
         raise Differs(f"statuses without a text, or texts without a status: {sorted(set(found) ^ set(STATUSES))}")
