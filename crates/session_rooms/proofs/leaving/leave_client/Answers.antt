@@ -15,10 +15,10 @@ returns-in_err-leaving g c =
 pub returns-in-Ok : goal.returns-in-Ok
 returns-in-Ok g c =
     let of = c.in_ok-leaving.ensures in
-    left_so c.args.profile.now c.args.name.now c.args.client.now c.leaving of _ _ _
-    (did_both _ (after_create c.args.client.now c.leaving.state) _ _ _ true _ (did_call (created outs.State c.args.name.now) _ _ true c.in-Ok.ensures) (c.write_state.ensures c.args.client.now of.line))
+    left_so c.args.profile.now c.args.name.now c.args.client.now _ of _ _ _
+    (did_both _ (after_create c.args.client.now _) _ _ _ true _ (did_call (created outs.State c.args.name.now) _ _ true c.in-Ok.ensures) (c.write_state.ensures c.args.client.now of.line))
 
 pub returns : goal.returns
 returns g c =
-    left_so c.args.profile.now c.args.name.now c.args.client.now c.leaving c.in_ok-leaving.ensures _ _ _
-    (did_both _ (after_create c.args.client.now c.leaving.state) _ _ _ false _ (did_call (created outs.State c.args.name.now) _ _ false c.in-Err.ensures) c.tell.ensures)
+    left_so c.args.profile.now c.args.name.now c.args.client.now _ c.in_ok-leaving.ensures _ _ _
+    (did_both _ (after_create c.args.client.now _) _ _ _ false _ (did_call (created outs.State c.args.name.now) _ _ false c.in-Err.ensures) c.tell.ensures)
