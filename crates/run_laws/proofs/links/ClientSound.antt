@@ -18,7 +18,7 @@ use Rattle.wire_profile.specs.Profiles.{IsProfile}
 use Rattle.wire_values.specs.SavedClients.{saved_tree}
 use Rattle.box_wire.specs.Framing.{Framed}
 use Rattle.box_wire.specs.Kinds.{saved_clients}
-use Rattle.outside.specs.Answer.{Answer, done}
+use Rattle.outside.specs.Answer.{Answer, done, memory_line}
 use Rattle.outside.specs.Sound.{HasRoomFor}
 use Rattle.outside.specs.declared.status.Status.{Status}
 use Rattle.outside.specs.declared.status.Status.TheVariants as status
