@@ -1,9 +1,8 @@
 -- A piece is written in several calls.
-use Rattle.std.proofs.Common.{◌≡◌, ℕ, ◌+◌, ◌-◌, ◌≤◌, ◌++◌, ◌∙◌, ap₂, List, length, take, drop, Option, Some, None, subst, sym, ap, arith, refl, take-add, length-drop}
+use Rattle.std.proofs.Common.{◌≡◌, ℕ, ◌+◌, ◌-◌, ◌≤◌, ◌++◌, ◌∙◌, ap₂, List, length, take, drop, Option, subst, sym, ap, arith, take-add, length-drop}
 use Rattle.std.specs.Io.KnownBytes.{Appends, Keeps}
 use Rattle.std.proofs.KnownBytes.{Appends-trans, Appends-kept}
 use Rattle.std.proofs.lemmas.List.{take-append-drop, take_all, take_at, length-take-le, drop-drop}
-use Rattle.std.specs.Prelude.{IsSome}
 use Rattle.tl_base.specs.Writing.{AppendsPrefix}
 
 -- `&piece[at..]` as a slice's value is written in a goal
@@ -20,12 +19,6 @@ appends_more a b c piece at n p q =
 
 pub appends_kept : (a b c : Option (List ℕ)) (piece : List ℕ) (at : ℕ) → Appends a b (take at piece) → Keeps b c → AppendsPrefix a c piece
 appends_kept a b c piece at p q = (take at piece, drop at piece, take-append-drop at piece, Appends-kept a b c _ p q)
-
--- what is told stays told
-pub told_on : (a b : Option (List ℕ)) (piece : List ℕ) → IsSome a → Appends a b piece → IsSome b
-told_on None b piece h p = absurd cc
-told_on (Some x) None piece h p = absurd p
-told_on (Some x) (Some y) piece h p = refl
 
 -- a piece is given from what comes next
 pub gives : (bytes new more : List ℕ) (at n : ℕ) → new ≡ take n (rest_of bytes at) → n ≤ length (rest_of bytes at) → drop at bytes ≡ take n (new ++ more) ++ drop (at + n) bytes

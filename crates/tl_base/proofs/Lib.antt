@@ -5,10 +5,7 @@ pub mod Texts
 pub mod Framing
 pub mod Limiting
 pub mod Parts
-pub mod Lends
 pub mod Opened
 pub mod Linked
 pub mod Sending
 pub mod Showing
-pub mod Hosting
-pub mod Linking

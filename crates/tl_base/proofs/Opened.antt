@@ -34,24 +34,7 @@ open_set slots.Input n m r rs is all = record { schema = all.schema; input = is;
 open_set slots.State n m r rs is all = record { schema = all.schema; input = all.input; state = is; link = all.link }
 open_set slots.Link n m r rs is all = record { schema = all.schema; input = all.input; state = all.state; link = is }
 
-pub open_at : (slot : Slot) (n m : ℕ) (rs : Readings) → AreOpenIn n m rs → IsOpenIn n m (reading_of slot rs)
-open_at slots.Schema n m rs all = all.schema
-open_at slots.Input n m rs all = all.input
-open_at slots.State n m rs all = all.state
-open_at slots.Link n m rs all = all.link
-
 -- ---- more files, more links
-
-is_more : (n m n' m' : ℕ) (o : Option Reading) → n ≤ n' → m ≤ m' → IsOpenIn n m o → IsOpenIn n' m' o
-is_more n m n' m' o p q h = (omega (arith, p, h.0), omega (arith, q, h.1))
-
-pub open_more : (n m n' m' : ℕ) (rs : Readings) → n ≤ n' → m ≤ m' → AreOpenIn n m rs → AreOpenIn n' m' rs
-open_more n m n' m' rs p q all = record {
-  schema = is_more n m n' m' rs.schema p q all.schema;
-  input = is_more n m n' m' rs.input p q all.input;
-  state = is_more n m n' m' rs.state p q all.state;
-  link = is_more n m n' m' rs.link p q all.link;
-}
 
 grown : {X : Type 0} (f : X → List ℕ) (xs : List X) (x : X) (i : ℕ) → i < length xs → get_or (map f (xs ++ x ∷ [])) i [] ≡ get_or (map f xs) i []
 grown f xs x i lt = ap (λ (l : List (List ℕ)). get_or l i []) (map_push f xs x) ∙ get_or_append_left (map f xs) (f x ∷ []) [] i (omega (arith, length-map xs f, lt))

@@ -4,10 +4,8 @@ pub mod Kinds
 pub mod Outside
 pub mod Calls
 pub mod Using
-pub mod Lending
 pub mod Taking
 pub mod Writing
-pub mod Hosted
 pub mod Limits
 pub mod Packets
 pub mod Cuts
@@ -19,7 +17,6 @@ pub mod MemoryBounds
 pub mod MemoryNames
 pub mod MemoryShown
 pub mod MemoryHost
-pub mod Laws
 pub mod LimitLaws
 pub mod MemoryLaws
 pub mod ShownLaws

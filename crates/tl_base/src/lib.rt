@@ -3,9 +3,7 @@
 
 mod counts;
 mod fault;
-mod files;
 mod host;
-mod lent;
 mod limited;
 mod link;
 mod mem_contents;
@@ -23,9 +21,7 @@ mod source;
 
 pub use counts::{Counts, Kind};
 pub use fault::{Failed, Memory};
-pub use files::{read_file, write_out};
 pub use host::{Host, Out, Slot};
-pub use lent::{LinkOf, SinkOf, SourceOf};
 pub use limited::Limited;
 pub use link::Link;
 pub use mem_host::MemHost;
