@@ -3,11 +3,11 @@ ghost use Rattle.std.specs.Prelude.{◌≡◌, ◌≤◌, ◌∷◌, []};
 ghost use Rattle.box_client.specs.Asking.{group_asks, difference_of, ticks, wakes, restarted};
 ghost use Rattle.box_client.specs.Views.{client_of};
 
-use crate::parts::{Parts, is_due};
+use crate::parts::{ClientParts, is_due};
 use box_events::{Asks, Numbered, Request};
 
 /// Puts the requests of all that is due in place of those that stand there.
-pub fn tick(parts: &mut Parts, asks: &mut Asks)
+pub fn tick(parts: &mut ClientParts, asks: &mut Asks)
     requires limit { parts.old.next ≤ 2147483582 }
     ensures step { client_of parts.new ≡ (ticks (client_of parts.old)).client }
     ensures asks { asks.new ≡ (ticks (client_of parts.old)).asks }
@@ -20,7 +20,7 @@ pub fn tick(parts: &mut Parts, asks: &mut Asks)
 }
 
 // The common group asks.
-fn ask(parts: &mut Parts) -> Numbered
+fn ask(parts: &mut ClientParts) -> Numbered
     requires limit { parts.old.next ≤ 2147483582 }
     ensures step { client_of parts.new ≡ group_asks (client_of parts.old) }
     ensures ask { result ≡ difference_of (client_of parts.old) }
@@ -41,14 +41,14 @@ fn ask(parts: &mut Parts) -> Numbered
     }
 }
 
-pub fn wake(parts: &mut Parts)
+pub fn wake(parts: &mut ClientParts)
     ensures step { client_of parts.new ≡ wakes (client_of parts.old) }
 {
     parts.flag = true;
     parts.channels.wake();
 }
 
-pub fn restart(parts: &mut Parts)
+pub fn restart(parts: &mut ClientParts)
     ensures step { client_of parts.new ≡ restarted (client_of parts.old) }
 {
     parts.common.forget();

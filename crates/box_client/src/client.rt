@@ -13,7 +13,7 @@ ghost use Rattle.box_client.specs.declared.loading.TheConstants.{MAX_NEXT};
 ghost use Rattle.box_client.specs.Calls.{Answers, WatchesOne};
 
 use crate::fault::{ClientFault, LoadFault, Told};
-use crate::parts::Parts;
+use crate::parts::ClientParts;
 use crate::{asking, loading, pushing, replying, saving};
 use box_events::{Asks, Event, Push, Reply, Saved};
 use channel_box::{Channels, WatchFault};
@@ -24,7 +24,7 @@ use tl_base::Memory;
 
 /// A client: what it has of the common box, of the secret box and of the settings, and the channels that it watches.
 pub struct Client {
-    parts: Parts,
+    parts: ClientParts,
 }
 
 // By hand, so that each exit of an owner has one call to prove.
@@ -53,7 +53,7 @@ impl Client {
         ensures { result ≡ new_client }
     {
         Client {
-            parts: Parts {
+            parts: ClientParts {
                 next: 1,
                 common: Lane::new(alloc),
                 secret: Lane::new(alloc),

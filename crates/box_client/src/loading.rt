@@ -13,7 +13,7 @@ ghost use Rattle.box_client.specs.Ranges.{AreChannelsInRange, IsSavedInRange};
 ghost use Rattle.box_client.specs.Views.{client_of};
 
 use crate::fault::LoadFault;
-use crate::parts::Parts;
+use crate::parts::ClientParts;
 use box_events::{Event, EventKind, LaneName, ListOf, Saved, SavedChannel, SavedLane, Setting};
 use channel_box::{Channels, WatchFault};
 use pts_machine::{Lane, Settings};
@@ -26,7 +26,7 @@ pub const MAX_NEXT: u32 = 2_000_000_000;
 const MOST_SETTINGS: usize = 2_147_483_648;
 
 /// A client of what was saved: nothing is held, no answer is waited for, and all is to be asked about.
-pub fn load(alloc: Global, saved: Saved) -> Result<Parts, LoadFault>
+pub fn load(alloc: Global, saved: Saved) -> Result<ClientParts, LoadFault>
     requires range { IsSavedInRange saved }
     ensures ok { IfOk result (λ parts. IsLoadedAs saved (client_of parts)) }
     ensures err { IfErr result (IsCauseOf saved) }
@@ -44,7 +44,7 @@ pub fn load(alloc: Global, saved: Saved) -> Result<Parts, LoadFault>
         settings,
         channels,
     } = saved;
-    Ok(Parts {
+    Ok(ClientParts {
         next,
         common: load_lane(alloc, common),
         secret: load_lane(alloc, secret),

@@ -8,7 +8,7 @@ use channel_box::Channels;
 use pts_machine::{Lane, Mode, Settings};
 
 /// What a client has.
-pub struct Parts {
+pub struct ClientParts {
     pub next: u32,
     pub common: Lane<Event>,
     pub secret: Lane<Event>,
@@ -18,9 +18,9 @@ pub struct Parts {
 }
 
 // By hand, so that each exit of an owner has one call to prove.
-impl Drop for Parts {
+impl Drop for ClientParts {
     fn drop(self) {
-        let Parts {
+        let ClientParts {
             next: _,
             common: _,
             secret: _,
@@ -32,7 +32,7 @@ impl Drop for Parts {
 }
 
 /// Whether the common group is to ask.
-pub fn is_due(parts: &Parts) -> bool
+pub fn is_due(parts: &ClientParts) -> bool
     ensures { result ≡ group_is_due (client_of parts.now) }
 {
     match parts.common.mode() {

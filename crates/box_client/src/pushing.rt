@@ -6,14 +6,14 @@ ghost use Rattle.box_client.specs.Ranges.{IsUpdateInRange, AreUpdatesInRange, Is
 ghost use Rattle.box_client.specs.Rooms.{HasRoom};
 ghost use Rattle.box_client.specs.Views.{client_of};
 
-use crate::parts::Parts;
+use crate::parts::ClientParts;
 use box_events::{Event, Push, Setting, Update};
 use channel_box::is_dropped;
 use std::alloc::{AllocError, Global};
 use tl_base::Memory;
 
 /// A push comes. All memory is taken first.
-pub fn hear_push(parts: &mut Parts, alloc: Global, push: Push) -> Result<(), Memory>
+pub fn hear_push(parts: &mut ClientParts, alloc: Global, push: Push) -> Result<(), Memory>
     requires range { IsPushInRange push }
     ensures ok { OnOk result (client_of parts.new ≡ pushed (client_of parts.old) push) }
     ensures err { OnErr result (client_of parts.new ≡ client_of parts.old) }
@@ -41,7 +41,7 @@ pub fn hear_push(parts: &mut Parts, alloc: Global, push: Push) -> Result<(), Mem
 }
 
 // Takes memory for updates: for each of them in both lanes and the settings, and in each channel for its own.
-fn reserve(parts: &mut Parts, updates: &[Update]) -> Result<(), Memory>
+fn reserve(parts: &mut ClientParts, updates: &[Update]) -> Result<(), Memory>
     ensures state { client_of parts.new ≡ client_of parts.old }
     ensures ok { OnOk result (HasRoom parts.new updates.now) }
 {
@@ -57,7 +57,7 @@ fn reserve(parts: &mut Parts, updates: &[Update]) -> Result<(), Memory>
 }
 
 // Updates come, and the settings among them are put together.
-fn hear_all(parts: &mut Parts, updates: Vec<Update>, pack: &mut Vec<Setting>)
+fn hear_all(parts: &mut ClientParts, updates: Vec<Update>, pack: &mut Vec<Setting>)
     requires range { AreUpdatesInRange updates.items }
     requires room { HasRoom parts.old updates.items }
     requires places { vec_len pack.old + length updates.items ≤ vec_capacity pack.old }
@@ -71,7 +71,7 @@ fn hear_all(parts: &mut Parts, updates: Vec<Update>, pack: &mut Vec<Setting>)
 }
 
 // The settings of a container come.
-fn hear_pack(parts: &mut Parts, date: u32, seq_start: u32, seq: u32, pack: Vec<Setting>)
+fn hear_pack(parts: &mut ClientParts, date: u32, seq_start: u32, seq: u32, pack: Vec<Setting>)
     requires range { IsSeqInRange seq_start seq (length pack.items) }
     requires room { length pack.items ≤ parts.old.settings.spare }
     ensures step { client_of parts.new ≡ pack_heard true (client_of parts.old) seq_start seq date pack.items }
@@ -81,7 +81,7 @@ fn hear_pack(parts: &mut Parts, date: u32, seq_start: u32, seq: u32, pack: Vec<S
 }
 
 // An update comes. A setting is put to the others.
-fn hear_update(parts: &mut Parts, update: Update, pack: &mut Vec<Setting>)
+fn hear_update(parts: &mut ClientParts, update: Update, pack: &mut Vec<Setting>)
     requires range { IsUpdateInRange update }
     requires room { HasRoom parts.old (update ∷ []) }
     requires places { vec_len pack.old < vec_capacity pack.old }

@@ -11,7 +11,7 @@ ghost use Rattle.box_client.specs.Views.{client_of};
 
 use crate::brought::Brought;
 use crate::fault::{ClientFault, Told};
-use crate::parts::Parts;
+use crate::parts::ClientParts;
 use box_events::{ListOf, MAX_END, Reply, Setting, State};
 use channel_box::weave_onto;
 use pts_machine::{Mode, Settings};
@@ -20,7 +20,7 @@ use tl_base::Memory;
 
 /// The answer to the request of a number comes.
 pub fn hear_reply(
-    parts: &mut Parts,
+    parts: &mut ClientParts,
     alloc: Global,
     number: u32,
     reply: Reply,
@@ -48,7 +48,7 @@ fn asks(mode: Mode, number: u32) -> bool
 }
 
 // An answer comes that the common group asked for.
-fn reply_to_group(parts: &mut Parts, alloc: Global, reply: Reply) -> Result<Told, ClientFault>
+fn reply_to_group(parts: &mut ClientParts, alloc: Global, reply: Reply) -> Result<Told, ClientFault>
     requires range { IsReplyInRange reply }
     ensures step { Answers (client_of parts.old) (group_replied (client_of parts.old) reply) result (client_of parts.new) }
 {
@@ -94,7 +94,7 @@ fn reply_to_group(parts: &mut Parts, alloc: Global, reply: Reply) -> Result<Told
 }
 
 // The events of an answer are woven and all memory is taken before anything changes.
-fn take(parts: &mut Parts, alloc: Global, brought: Brought) -> Result<Told, ClientFault>
+fn take(parts: &mut ClientParts, alloc: Global, brought: Brought) -> Result<Told, ClientFault>
     requires pts { brought.state.pts ≤ MAX_END }
     requires qts { brought.state.qts ≤ MAX_END }
     requires few { length brought.news < 2 ^ 31 }
@@ -147,7 +147,7 @@ fn lay(settings: &mut Settings, more: ListOf<Setting>, state: State) -> Result<(
 
 // An answer comes that a channel asked for.
 fn reply_to_channel(
-    parts: &mut Parts,
+    parts: &mut ClientParts,
     alloc: Global,
     number: u32,
     reply: Reply,

@@ -10,7 +10,7 @@ ghost use Rattle.box_events.specs.declared.limits.TheConstants.{MAX_END};
 ghost use Rattle.box_client.specs.declared.loading.TheConstants.{MAX_NEXT};
 ghost use Rattle.box_client.specs.Views.{client_of};
 
-use crate::parts::Parts;
+use crate::parts::ClientParts;
 use box_events::{Event, ListOf, Saved, SavedChannel, SavedLane, Setting};
 use channel_box::Channels;
 use pts_machine::Lane;
@@ -18,7 +18,7 @@ use std::alloc::Global;
 use tl_base::{Bytes, Memory};
 
 /// What a client saves; all is copied.
-pub fn save(parts: &Parts, alloc: Global) -> Result<Saved, Memory>
+pub fn save(parts: &ClientParts, alloc: Global) -> Result<Saved, Memory>
     requires next { 1 ≤ parts.now.next }
     requires messages { HasMessages parts.now.secret.state }
     ensures value { IfOk result (λ saved. saved ≡ saved_of (client_of parts.now)) }

@@ -19,7 +19,7 @@ use Rattle.tl_types.specs.declared.value.Value.{Value}
 use Rattle.tl_types.specs.declared.value.TheConstants.{MAX_LEVELS}
 use Rattle.tl_decode.specs.declared.fault.DecodeFault.{DecodeFault}
 use Rattle.tl_decode.specs.declared.fault.DecodeFault.TheVariants as fault
-use Rattle.tl_decode.specs.declared.stack.Frame.{Frame}
+use Rattle.tl_decode.specs.declared.stack.StackFrame.{StackFrame}
 use Rattle.tl_decode.specs.declared.stack.Progress.{Progress}
 use Rattle.tl_decode.specs.declared.stack.Progress.TheVariants as progress
 use Rattle.tl_decode.specs.declared.stack.Reading.{Reading}
@@ -120,7 +120,7 @@ module _ (d : DecoderView) (good : IsPlan d.plan) (T : Shape) (is : IsInstance d
 
 -- ---- at first
 
-module _ (p : PlanView) (root : ℕ) (fs none : List Frame) (work : ℕ) (empty : none ≡ []) where
+module _ (p : PlanView) (root : ℕ) (fs none : List StackFrame) (work : ℕ) (empty : none ≡ []) where
   opens : (s : Spot) → next_at p [] (next.Open root) s ≡ value_at p.schema.decls MAX_LEVELS (type_in p root) s
   unfolding resume
   opens s = refl
@@ -132,14 +132,14 @@ module _ (p : PlanView) (root : ℕ) (fs none : List Frame) (work : ℕ) (empty 
   HasBegun now = HasTaken (record { plan = p; root = root; progress = now; at = 0 }) []
 
   first : (r : Result Found DecodeFault) → Settled r → SettlesAt p (next_at p [] (next.Open root)) work 0 fs r
-  first r s = subst (λ (z : List Frame). SettlesAt p (next_at p (views p z) (next.Open root)) work 0 fs r) empty s
+  first r s = subst (λ (z : List StackFrame). SettlesAt p (next_at p (views p z) (next.Open root)) work 0 fs r) empty s
 
   pub begun_reading : (r : Reading) → r.frames.items ≡ fs → r.held.items ≡ [] → Settled (Ok (found.Wants r.wanted)) → HasBegun (progress.Reading r)
   unfolding HasTaken
   begun_reading r same held s =
       let t = first (Ok (found.Wants r.wanted)) s in (
         record { frames = subst (AreWell p) (sym same) t.0.frames; well = t.0.is_well; begins = rw held (begins_none p r.wanted t.0.is_well) },
-        λ more. sym (opens (spot 0 more)) ∙ t.0.same (spot 0 more) ∙ ap (λ (z : List Frame). found_at p (views p z) (found.Wants r.wanted) (spot 0 more)) (sym same) ∙ ap (λ (z : List ℕ). found_at p (views p r.frames.items) (found.Wants r.wanted) (spot 0 (z ++ more))) (sym held),
+        λ more. sym (opens (spot 0 more)) ∙ t.0.same (spot 0 more) ∙ ap (λ (z : List StackFrame). found_at p (views p z) (found.Wants r.wanted) (spot 0 more)) (sym same) ∙ ap (λ (z : List ℕ). found_at p (views p r.frames.items) (found.Wants r.wanted) (spot 0 (z ++ more))) (sym held),
       )
 
   pub begun_done : (v : Value) → Settled (Ok (found.Done v)) → HasBegun (progress.Done v)

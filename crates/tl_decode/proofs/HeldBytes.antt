@@ -9,12 +9,12 @@ use Rattle.tl_types.specs.inner.Reading.{Head, Spot, spot, Read, ◌>>=◌, exac
 use Rattle.tl_types.specs.declared.cause.Cause.{Cause}
 use Rattle.tl_types.specs.declared.cause.Cause.TheVariants.{Truncated, LongString, LooseString, BadPadding}
 use Rattle.tl_types.proofs.Numbers.{exact_again, exact_short, word_short, moved_moved}
-use Rattle.tl_decode.specs.declared.stack.Wanted.{Wanted}
-use Rattle.tl_decode.specs.declared.stack.Wanted.TheVariants as wanted
+use Rattle.tl_decode.specs.declared.stack.WantedItem.{WantedItem}
+use Rattle.tl_decode.specs.declared.stack.WantedItem.TheVariants as wanted
 use Rattle.tl_decode.specs.declared.stack.Item.{Item}
 use Rattle.tl_decode.specs.declared.stack.Item.TheVariants as item
-use Rattle.tl_decode.specs.declared.stack.Stop.{Stop}
-use Rattle.tl_decode.specs.declared.stack.Stop.TheVariants as stop
+use Rattle.tl_decode.specs.declared.stack.ItemFault.{ItemFault}
+use Rattle.tl_decode.specs.declared.stack.ItemFault.TheVariants as stop
 use Rattle.tl_decode.specs.inner.Frames.{item_at, item_view, ItemView, word, plain, is_truncated}
 use Rattle.tl_decode.specs.inner.Needs.{head_needs, needs, text_needs, IsWhole, Fills, FindsItem}
 
@@ -66,7 +66,7 @@ text_grows b m = elim (cases_lt (length b) 4) [
 ]
 
 -- more bytes tell of no fewer
-pub needs_grow : (W : Wanted) (b m : List ℕ) → needs W b ≤ needs W (b ++ m)
+pub needs_grow : (W : WantedItem) (b m : List ℕ) → needs W b ≤ needs W (b ++ m)
 needs_grow wanted.Int b m = omega arith
 needs_grow wanted.Nat b m = omega arith
 needs_grow wanted.Long b m = omega arith
@@ -87,7 +87,7 @@ text_again b le =
     text_more_than (take (text_needs b) b) long ∙ ap (λ (w : List ℕ). head_needs (text_head_of w)) same ∙ sym (text_more_than b some)
 
 -- an item that is cut off where it ends needs as many bytes
-pub needs_again : (W : Wanted) (b : List ℕ) → needs W b ≤ length b → needs W (take (needs W b) b) ≡ needs W b
+pub needs_again : (W : WantedItem) (b : List ℕ) → needs W b ≤ length b → needs W (take (needs W b) b) ≡ needs W b
 needs_again wanted.Int b le = refl
 needs_again wanted.Nat b le = refl
 needs_again wanted.Long b le = refl
@@ -118,7 +118,7 @@ text_cut p b few = elim (cases_lt (length b) 4) [
       rw read (rest_cut (text_head_of (take 4 b)) p (take 4 b) (drop 4 b) (omega (arith, few, text_more_than b some, length-drop 4 b, some)))
 ]
 
-pub item_cut : (W : Wanted) (p : ℕ) (b : List ℕ) → length b < needs W b → item_at W (spot p b) ≡ Err (p, Truncated)
+pub item_cut : (W : WantedItem) (p : ℕ) (b : List ℕ) → length b < needs W b → item_at W (spot p b) ≡ Err (p, Truncated)
 unfolding item_at plain_at double_at
 item_cut wanted.Int p b few = word_cut p b few
 item_cut wanted.Nat p b few = word_cut p b few
@@ -189,7 +189,7 @@ head_whole w cause is = head_cases (λ (r : Result Head Cause). r ≡ Err cause 
 pub padding_is : (r : Bool) (b slice : List ℕ) (head size : ℕ) → r ≡ all_zero slice → slice ≡ take (length b - (head + size)) (drop (head + size) b) → all_zero (drop size (drop head b)) ≡ r
 padding_is r b slice head size is part = ap all_zero (drop-drop size head b) ∙ sym (ap all_zero (part ∙ take_all (length b - (head + size)) (drop (head + size) b) (omega (arith, length-drop (head + size) b)))) ∙ sym is
 
-pub cut_fits : (W : Wanted) (next : List ℕ) (size : ℕ) → size ≡ needs W next → size ≤ length next → length (take size next) ≡ needs W (take size next)
+pub cut_fits : (W : WantedItem) (next : List ℕ) (size : ℕ) → size ≡ needs W next → size ≤ length next → length (take size next) ≡ needs W (take size next)
 cut_fits W next size is le =
     let fits : needs W next ≤ length next = omega (arith, is, le) in
     ap (λ (n : ℕ). length (take n next)) is ∙ length-take-le (needs W next) next fits ∙ sym (needs_again W next fits) ∙ ap (λ (n : ℕ). needs W (take n next)) (sym is)
@@ -200,7 +200,7 @@ pub split_next : (old next more : List ℕ) (n : ℕ) → old ++ (next ++ more) 
 split_next old next more n =
     ap (λ (z : List ℕ). old ++ z) (ap (λ (z : List ℕ). z ++ more) (sym (take-append-drop n next)) ∙ append_assoc (take n next) (drop n next) more) ∙ sym (append_assoc old (take n next) (drop n next ++ more))
 
-pub direct_item : (W : Wanted) (old next : List ℕ) (size : ℕ) (x : Item) → old ≡ [] → size ≤ length next → IsWhole W (take size next) (Ok x) → FindsItem W old old next (Ok (Some (x, size)))
+pub direct_item : (W : WantedItem) (old next : List ℕ) (size : ℕ) (x : Item) → old ≡ [] → size ≤ length next → IsWhole W (take size next) (Ok x) → FindsItem W old old next (Ok (Some (x, size)))
 direct_item W old next size x none le whole =
     let len : length (take size next) ≡ length old + size = omega (arith, length-take-le size next le, ap length none) in (
       none,
@@ -210,11 +210,11 @@ direct_item W old next size x none le whole =
           ∙ whole p (drop size next ++ more) ∙ ap (λ (n : ℕ). Ok (item_view x, spot (moved p n) (drop size next ++ more))) len,
     )
 
-pub word_next : (W : Wanted) (old next : List ℕ) (w : ℕ) → ((s : Spot) → item_at W s ≡ item_at wanted.Nat s) → old ≡ [] → 4 ≤ length next → w ≡ from_le_bytes w32 (take 4 next) → FindsItem W old old next (Ok (Some (item.Word w, 4)))
+pub word_next : (W : WantedItem) (old next : List ℕ) (w : ℕ) → ((s : Spot) → item_at W s ≡ item_at wanted.Nat s) → old ≡ [] → 4 ≤ length next → w ≡ from_le_bytes w32 (take 4 next) → FindsItem W old old next (Ok (Some (item.Word w, 4)))
 word_next W old next w same none some is =
     direct_item W old next 4 (item.Word w) none some (λ p more. same (spot p (take 4 next ++ more)) ∙ word_whole p w (take 4 next) more (length-take-le 4 next some) is)
 
-pub direct_stop : (W : Wanted) (old new next : List ℕ) (size : ℕ) (st : Stop) → old ≡ [] → IsWhole W (take size next) (Err st) → FindsItem W old new next (Err st)
+pub direct_stop : (W : WantedItem) (old new next : List ℕ) (size : ℕ) (st : ItemFault) → old ≡ [] → IsWhole W (take size next) (Err st) → FindsItem W old new next (Err st)
 direct_stop W old new next size (stop.Refused cause) none whole = (
   whole.0,
   λ p more.
@@ -222,10 +222,10 @@ direct_stop W old new next size (stop.Refused cause) none whole = (
 )
 direct_stop W old new next size stop.Memory none whole = tt
 
-pub held_more : (W : Wanted) (old new next : List ℕ) (count : ℕ) → Fills W old new next count → length new < needs W new → FindsItem W old new next (Ok None)
+pub held_more : (W : WantedItem) (old new next : List ℕ) (count : ℕ) → Fills W old new next count → length new < needs W new → FindsItem W old new next (Ok None)
 held_more W old new next count f few = let all = f.all few in (f.more ∙ ap (λ (z : List ℕ). old ++ z) (take_all count next (omega (arith, all))), few)
 
-pub held_item : (W : Wanted) (old mid new next : List ℕ) (count : ℕ) (x : Item) → Fills W old mid next count → IsWhole W mid (Ok x) → new ≡ [] → FindsItem W old new next (Ok (Some (x, count)))
+pub held_item : (W : WantedItem) (old mid new next : List ℕ) (count : ℕ) (x : Item) → Fills W old mid next count → IsWhole W mid (Ok x) → new ≡ [] → FindsItem W old new next (Ok (Some (x, count)))
 held_item W old mid new next count x f whole none =
     let len : length mid ≡ length old + count = omega (arith, ap length f.more, length-append old (take count next), length-take-le count next f.within) in (
       none,
@@ -235,7 +235,7 @@ held_item W old mid new next count x f whole none =
           ∙ whole p (drop count next ++ more) ∙ ap (λ (n : ℕ). Ok (item_view x, spot (moved p n) (drop count next ++ more))) len,
     )
 
-pub held_stop : (W : Wanted) (old mid new next : List ℕ) (count : ℕ) (st : Stop) → Fills W old mid next count → IsWhole W mid (Err st) → FindsItem W old new next (Err st)
+pub held_stop : (W : WantedItem) (old mid new next : List ℕ) (count : ℕ) (st : ItemFault) → Fills W old mid next count → IsWhole W mid (Err st) → FindsItem W old new next (Err st)
 held_stop W old mid new next count (stop.Refused cause) f whole = (
   whole.0,
   λ p more.
@@ -243,7 +243,7 @@ held_stop W old mid new next count (stop.Refused cause) f whole = (
 )
 held_stop W old mid new next count stop.Memory f whole = tt
 
-pub filled : (W : Wanted) (old held new next : List ℕ) (used count : ℕ) → held ≡ old ++ take used next → new ≡ held ++ take ((used + count) - used) (drop used next) → used + count ≤ length next → length held + count ≤ needs W held
+pub filled : (W : WantedItem) (old held new next : List ℕ) (used count : ℕ) → held ≡ old ++ take used next → new ≡ held ++ take ((used + count) - used) (drop used next) → used + count ≤ length next → length held + count ≤ needs W held
     → (new ≡ old ++ take (used + count) next) × (length new ≤ needs W new)
 filled W old held new next used count so is within few =
     let part : take ((used + count) - used) (drop used next) ≡ take count (drop used next) = ap (λ (n : ℕ). take n (drop used next)) (omega arith) in

@@ -6,28 +6,28 @@ use Rattle.tl_plan.specs.Plans.{PlanView}
 use Rattle.tl_types.specs.Seen.{view}
 use Rattle.tl_types.specs.inner.Reading.{fields_in}
 use Rattle.tl_types.specs.declared.value.Value.{Value}
-use Rattle.tl_decode.specs.declared.stack.Frame.{Frame}
-use Rattle.tl_decode.specs.declared.stack.Frame.TheVariants as frame
+use Rattle.tl_decode.specs.declared.stack.StackFrame.{StackFrame}
+use Rattle.tl_decode.specs.declared.stack.StackFrame.TheVariants as frame
 use Rattle.tl_decode.specs.declared.stack.Found.{Found}
 use Rattle.tl_decode.specs.declared.stack.Next.{Next}
 use Rattle.tl_decode.specs.declared.stack.Next.TheVariants as next
-use Rattle.tl_decode.specs.declared.stack.Step.{Step}
-use Rattle.tl_decode.specs.declared.stack.Step.TheVariants as step
-use Rattle.tl_decode.specs.declared.stack.Stop.{Stop}
-use Rattle.tl_decode.specs.declared.stack.Stop.TheVariants as stop
+use Rattle.tl_decode.specs.declared.stack.Advance.{Advance}
+use Rattle.tl_decode.specs.declared.stack.Advance.TheVariants as step
+use Rattle.tl_decode.specs.declared.stack.ItemFault.{ItemFault}
+use Rattle.tl_decode.specs.declared.stack.ItemFault.TheVariants as stop
 use Rattle.tl_decode.specs.inner.Frames.{in_list, in_record, type_in, entry_in, IsInPlan, AreWell, IsWellFrame, SettlesFrom, StepsFrom, Adds, IsWith, Opens}
 use Rattle.tl_decode.proofs.FrameLists.{well_pop}
 use Rattle.tl_decode.proofs.PartSteps.{closes_in, list_opens}
 
 -- ---- two steps as one
 
-pub steps_then : (p : PlanView) (old mid new : List Frame) (n m : Next) (r : Result Step Stop) → StepsFrom p old n mid (Ok (step.Goes m)) → StepsFrom p mid m new r → StepsFrom p old n new r
+pub steps_then : (p : PlanView) (old mid new : List StackFrame) (n m : Next) (r : Result Advance ItemFault) → StepsFrom p old n mid (Ok (step.Goes m)) → StepsFrom p mid m new r → StepsFrom p old n new r
 steps_then p old mid new n m (Ok (step.Goes k)) a b = (record { frames = b.0.frames; is_well = b.0.is_well; same = λ s. a.0.same s ∙ b.0.same s }, omega (arith, a.1, b.1))
 steps_then p old mid new n m (Ok (step.Stops f)) a b = (record { frames = b.0.frames; is_well = b.0.is_well; same = λ s. a.0.same s ∙ b.0.same s }, omega (arith, a.1, b.1))
 steps_then p old mid new n m (Err (stop.Refused cause)) a b = (b.0, λ s. a.0.same s ∙ b.1 s)
 steps_then p old mid new n m (Err stop.Memory) a b = tt
 
-closes_opens : (p : PlanView) (old new fs : List Frame) (f g : Frame) (v : Value) (j : ℕ) → old ≡ fs ++ f ∷ [] → new ≡ fs ++ g ∷ [] → AreWell p old → Adds p f v g (Some j) → StepsFrom p old (next.Close v) new (Ok (step.Goes (next.Open j)))
+closes_opens : (p : PlanView) (old new fs : List StackFrame) (f g : StackFrame) (v : Value) (j : ℕ) → old ≡ fs ++ f ∷ [] → new ≡ fs ++ g ∷ [] → AreWell p old → Adds p f v g (Some j) → StepsFrom p old (next.Close v) new (Ok (step.Goes (next.Open j)))
 closes_opens p old new fs f g v j e is all (h, one, opens) =
     let first = closes_in p old fs f h v e all one.0 (λ w. one.1) in
     rw is (steps_then p old fs (fs ++ g ∷ []) (next.Close v) (next.Part h) (Ok (step.Goes (next.Open j))) first (opens fs first.0.frames))
@@ -50,31 +50,31 @@ record_adds p j m h fields all v e well opens = (frame.Record j m all, record_wi
 
 -- ---- the last of some frames
 
-module _ (p : PlanView) (xs : List Frame) (n : ℕ) (f : Frame) (len : length xs ≡ n) (some : 0 < n) (is : f ≡ get_or xs (n - 1) f) (well : AreWell p xs) where
+module _ (p : PlanView) (xs : List StackFrame) (n : ℕ) (f : StackFrame) (len : length xs ≡ n) (some : 0 < n) (is : f ≡ get_or xs (n - 1) f) (well : AreWell p xs) where
   last_of : xs ≡ take (n - 1) xs ++ f ∷ []
   last_of =
-      let after : drop (n - 1) xs ≡ f ∷ [] = drop_more xs (n - 1) f (omega (arith, len, some)) ∙ ap (λ (x : Frame). x ∷ drop ((n - 1) + 1) xs) (sym is) ∙ ap (λ (ys : List Frame). f ∷ ys) (drop_all ((n - 1) + 1) xs (omega (arith, len, some))) in
-      sym (take-append-drop (n - 1) xs) ∙ ap (λ (ys : List Frame). take (n - 1) xs ++ ys) after
+      let after : drop (n - 1) xs ≡ f ∷ [] = drop_more xs (n - 1) f (omega (arith, len, some)) ∙ ap (λ (x : StackFrame). x ∷ drop ((n - 1) + 1) xs) (sym is) ∙ ap (λ (ys : List StackFrame). f ∷ ys) (drop_all ((n - 1) + 1) xs (omega (arith, len, some))) in
+      sym (take-append-drop (n - 1) xs) ∙ ap (λ (ys : List StackFrame). take (n - 1) xs ++ ys) after
 
-  last_set : (g : Frame) → slice_set xs (n - 1) g ≡ take (n - 1) xs ++ g ∷ []
-  last_set g = set_split xs (n - 1) g (omega (arith, len, some)) ∙ ap (λ (ys : List Frame). take (n - 1) xs ++ g ∷ ys) (drop_all (suc (n - 1)) xs (omega (arith, len, some)))
+  last_set : (g : StackFrame) → slice_set xs (n - 1) g ≡ take (n - 1) xs ++ g ∷ []
+  last_set g = set_split xs (n - 1) g (omega (arith, len, some)) ∙ ap (λ (ys : List StackFrame). take (n - 1) xs ++ g ∷ ys) (drop_all (suc (n - 1)) xs (omega (arith, len, some)))
 
   pub last_well : IsWellFrame p f
   last_well = (well_pop p (take (n - 1) xs) f (subst (AreWell p) last_of well)).1
 
   -- a value closes inside it, and its next part is opened
-  pub last_opens : (g : Frame) (v : Value) (j : ℕ) → Adds p f v g (Some j) → StepsFrom p xs (next.Close v) (slice_set xs (n - 1) g) (Ok (step.Goes (next.Open j)))
+  pub last_opens : (g : StackFrame) (v : Value) (j : ℕ) → Adds p f v g (Some j) → StepsFrom p xs (next.Close v) (slice_set xs (n - 1) g) (Ok (step.Goes (next.Open j)))
   last_opens g v j adds = closes_opens p xs (slice_set xs (n - 1) g) (take (n - 1) xs) f g v j last_of (last_set g) well adds
 
   -- a value closes inside it, and it is taken off
-  pub last_taken : (g h : Frame) (v : Value) (others : List Frame) → Adds p f v g None → slice_set xs (n - 1) g ≡ others ++ h ∷ [] → StepsFrom p xs (next.Close v) others (Ok (step.Goes (next.Part h)))
+  pub last_taken : (g h : StackFrame) (v : Value) (others : List StackFrame) → Adds p f v g None → slice_set xs (n - 1) g ≡ others ++ h ∷ [] → StepsFrom p xs (next.Close v) others (Ok (step.Goes (next.Part h)))
   last_taken g h v others adds split =
       let both = same_from_push (take (n - 1) xs) others g h (sym (last_set g) ∙ split) in
       rw (sym both.0, sym both.1) (closes_in p xs (take (n - 1) xs) f g v last_of well adds.0 (λ w. adds.1))
 
 -- ---- a step, and then all others
 
-pub settles_then : (p : PlanView) (old mid new : List Frame) (n m : Next) (r : Result Found Stop) → StepsFrom p old n mid (Ok (step.Goes m)) → SettlesFrom p mid m new r → SettlesFrom p old n new r
+pub settles_then : (p : PlanView) (old mid new : List StackFrame) (n m : Next) (r : Result Found ItemFault) → StepsFrom p old n mid (Ok (step.Goes m)) → SettlesFrom p mid m new r → SettlesFrom p old n new r
 settles_then p old mid new n m (Ok f) a b = (record { frames = b.0.frames; is_well = b.0.is_well; same = λ s. a.0.same s ∙ b.0.same s }, omega (arith, a.1, b.1))
 settles_then p old mid new n m (Err (stop.Refused cause)) a b = (b.0, λ s. a.0.same s ∙ b.1 s)
 settles_then p old mid new n m (Err stop.Memory) a b = tt

@@ -13,17 +13,17 @@ use Rattle.tl_types.specs.inner.Reading.{Spot, Reader, wide_at, list_at, element
 use Rattle.tl_types.specs.declared.cause.Cause.{Cause}
 use Rattle.tl_types.specs.declared.cause.Cause.TheVariants.{BadCount, Packed, UnknownNumber}
 use Rattle.tl_types.specs.declared.value.Value.{Value}
-use Rattle.tl_decode.specs.declared.stack.Frame.{Frame}
-use Rattle.tl_decode.specs.declared.stack.Frame.TheVariants as frame
-use Rattle.tl_decode.specs.declared.stack.Wanted.{Wanted}
-use Rattle.tl_decode.specs.declared.stack.Wanted.TheVariants as wanted
+use Rattle.tl_decode.specs.declared.stack.StackFrame.{StackFrame}
+use Rattle.tl_decode.specs.declared.stack.StackFrame.TheVariants as frame
+use Rattle.tl_decode.specs.declared.stack.WantedItem.{WantedItem}
+use Rattle.tl_decode.specs.declared.stack.WantedItem.TheVariants as wanted
 use Rattle.tl_decode.specs.declared.stack.Next.TheVariants as next
-use Rattle.tl_decode.specs.declared.stack.Stop.TheVariants as stop
+use Rattle.tl_decode.specs.declared.stack.ItemFault.TheVariants as stop
 use Rattle.tl_decode.specs.inner.Frames.{word, plain, frame_view, type_in, entry_in, goes_on, resumes, after, number_at, find_in, levels_below, wanted_work, cost, parts_left, IsInPlan, IsFresh, IsWellFrame, Takes, is_truncated}
 use Rattle.tl_decode.proofs.FrameLists.{parts_few}
 use Rattle.tl_decode.proofs.Opened.{count_wanted, fresh_left}
 
-some_work : (n : ℕ) (W : Wanted) → 2 ≤ wanted_work n W
+some_work : (n : ℕ) (W : WantedItem) → 2 ≤ wanted_work n W
 some_work n wanted.Int = omega arith
 some_work n wanted.Nat = omega arith
 some_work n wanted.Long = omega arith
@@ -33,7 +33,7 @@ some_work n (wanted.Number j) = omega arith
 some_work n (wanted.ListNumber j) = omega arith
 some_work n (wanted.Count j) = omega arith
 
-pub takes_plain : (p : PlanView) (W : Wanted) (v : Value) → Takes p W (plain (view v)) (Ok (next.Close v))
+pub takes_plain : (p : PlanView) (W : WantedItem) (v : Value) → Takes p W (plain (view v)) (Ok (next.Close v))
 unfolding after
 takes_plain p W v = (tt, λ fs place s. refl, λ fs. let some = some_work (levels_below fs) W in omega (arith, some))
 
@@ -109,7 +109,7 @@ takes_too_many p j k many = (refl, λ n place s. many_wrong (value_at p.schema.d
 
 -- ---- numbers of declarations
 
-number_goes : (p : PlanView) (n j place w m : ℕ) (f : Frame) (s : Spot) → find_in p.schema.decls (type_in p j) w ≡ Some (entry_in p j m) → IsFresh p j m f → number_at p n (type_in p j) place w s ≡ goes_on p.schema.decls n (frame_view p f) s
+number_goes : (p : PlanView) (n j place w m : ℕ) (f : StackFrame) (s : Spot) → find_in p.schema.decls (type_in p j) w ≡ Some (entry_in p j m) → IsFresh p j m f → number_at p n (type_in p j) place w s ≡ goes_on p.schema.decls n (frame_view p f) s
 unfolding number_at numbered_at record_at goes_on
 number_goes p n j place w m f s e (fields, is, none, few) = rw (e, is, none) refl
 
@@ -117,7 +117,7 @@ number_wrong : (p : PlanView) (n j place w : ℕ) (s : Spot) → find_in p.schem
 unfolding number_at numbered_at
 number_wrong p n j place w s e = rw e refl
 
-pub takes_number : (p : PlanView) (j w m : ℕ) (f : Frame) → find_in p.schema.decls (type_in p j) w ≡ Some (entry_in p j m) → IsFresh p j m f → IsWellFrame p f → Takes p (wanted.Number j) (word w) (Ok (next.Part f))
+pub takes_number : (p : PlanView) (j w m : ℕ) (f : StackFrame) → find_in p.schema.decls (type_in p j) w ≡ Some (entry_in p j m) → IsFresh p j m f → IsWellFrame p f → Takes p (wanted.Number j) (word w) (Ok (next.Part f))
 unfolding after
 takes_number p j w m f e fresh ok = (
   ok,

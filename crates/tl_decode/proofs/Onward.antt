@@ -8,21 +8,21 @@ use Rattle.tl_types.specs.declared.value.Value.{Value}
 use Rattle.tl_types.specs.declared.value.TheConstants.{MAX_LEVELS}
 use Rattle.tl_decode.specs.declared.fault.DecodeFault.{DecodeFault}
 use Rattle.tl_decode.specs.declared.fault.DecodeFault.TheVariants.{Refused, ReadFault, Memory}
-use Rattle.tl_decode.specs.declared.stack.Frame.{Frame}
-use Rattle.tl_decode.specs.declared.stack.Wanted.{Wanted}
+use Rattle.tl_decode.specs.declared.stack.StackFrame.{StackFrame}
+use Rattle.tl_decode.specs.declared.stack.WantedItem.{WantedItem}
 use Rattle.tl_decode.specs.declared.stack.Item.{Item}
 use Rattle.tl_decode.specs.declared.stack.Next.{Next}
 use Rattle.tl_decode.specs.declared.stack.Next.TheVariants as next
 use Rattle.tl_decode.specs.declared.stack.Found.{Found}
 use Rattle.tl_decode.specs.declared.stack.Found.TheVariants as found
-use Rattle.tl_decode.specs.declared.stack.Stop.{Stop}
-use Rattle.tl_decode.specs.declared.stack.Stop.TheVariants as stop
+use Rattle.tl_decode.specs.declared.stack.ItemFault.{ItemFault}
+use Rattle.tl_decode.specs.declared.stack.ItemFault.TheVariants as stop
 use Rattle.tl_decode.specs.inner.Steps.{ReadsAs, FailsAs}
-use Rattle.tl_decode.specs.inner.Frames.{FrameView, ItemView, views, type_in, resume, resumes, item_at, item_view, after, wanted_at, levels_below, next_at, found_at, next_work, found_work, IsFound, IsStop, ReadsOn, Settles, SettlesAt, Steps, Takes}
+use Rattle.tl_decode.specs.inner.Frames.{StackFrameView, ItemView, views, type_in, resume, resumes, item_at, item_view, after, wanted_at, levels_below, next_at, found_at, next_work, found_work, IsFound, IsStop, ReadsOn, Settles, SettlesAt, Steps, Takes}
 use Rattle.tl_decode.proofs.FrameLists.{resume_err}
 use Rattle.tl_decode.proofs.Steps.{Continues, as_read}
 
-module _ (p : PlanView) (fs : List FrameView) (W : Wanted) where
+module _ (p : PlanView) (fs : List StackFrameView) (W : WantedItem) where
   pub item_then : (s : Spot) (x : ItemView) (r : Spot) → item_at W s ≡ Ok (x, r) → wanted_at p (levels_below fs) W s ≡ after p (levels_below fs) W s.place x r
   unfolding wanted_at
   item_then s x r e = rw e refl
@@ -37,7 +37,7 @@ module _ (p : PlanView) (fs : List FrameView) (W : Wanted) where
   item_failed (Some bytes) b m q r ReadFault on h = tt
   item_failed (Some bytes) b m q r Memory on h = tt
 
-  pub item_refused : (a b : Option (List ℕ)) (m q r : ℕ) (x : Item) (st : Stop) (e : DecodeFault) (on : Found → Reader) → ReadsAs item_view a b m q (Ok x) (item_at W) → Takes p W (item_view x) (Err st) → IsStop st m e → ReadsOn (found_at p fs (found.Wants W)) a b m r (Err e) on
+  pub item_refused : (a b : Option (List ℕ)) (m q r : ℕ) (x : Item) (st : ItemFault) (e : DecodeFault) (on : Found → Reader) → ReadsAs item_view a b m q (Ok x) (item_at W) → Takes p W (item_view x) (Err st) → IsStop st m e → ReadsOn (found_at p fs (found.Wants W)) a b m r (Err e) on
   item_refused None b m q r x st e on h t is = tt
   item_refused (Some bytes) b m q r x (stop.Refused cause) e on h t is =
       subst (λ (f : DecodeFault). FailsAs f (found_at p fs (found.Wants W) (spot m bytes))) (sym is)
@@ -47,7 +47,7 @@ module _ (p : PlanView) (fs : List FrameView) (W : Wanted) where
   item_goes : (m q : ℕ) (bytes rest : List ℕ) (x : ItemView) (n : Next) → item_at W (spot m bytes) ≡ Ok (x, spot q rest) → Takes p W x (Ok n) → found_at p fs (found.Wants W) (spot m bytes) ≡ next_at p fs n (spot q rest)
   item_goes m q bytes rest x n h t = ap (resumes p fs) (item_then (spot m bytes) x (spot q rest) h) ∙ t.1 fs m (spot q rest)
 
-  pub item_settled : (new : List Frame) (a b : Option (List ℕ)) (m q work : ℕ) (x : Item) (n : Next) (r : Result Found DecodeFault) → ReadsAs item_view a b m q (Ok x) (item_at W) → Takes p W (item_view x) (Ok n) → SettlesAt p (next_at p fs n) work q new r
+  pub item_settled : (new : List StackFrame) (a b : Option (List ℕ)) (m q work : ℕ) (x : Item) (n : Next) (r : Result Found DecodeFault) → ReadsAs item_view a b m q (Ok x) (item_at W) → Takes p W (item_view x) (Ok n) → SettlesAt p (next_at p fs n) work q new r
       → ReadsOn (found_at p fs (found.Wants W)) a b m q r (found_at p (views p new))
   item_settled new None b m q work x n r h t s = tt
   item_settled new (Some bytes) b m q work x n (Ok f) h t s = (h.0, h.1, item_goes m q bytes h.0 (item_view x) n h.2 t ∙ s.0.same (spot q h.0))
@@ -55,19 +55,19 @@ module _ (p : PlanView) (fs : List FrameView) (W : Wanted) where
   item_settled new (Some bytes) b m q work x n (Err ReadFault) h t s = tt
   item_settled new (Some bytes) b m q work x n (Err Memory) h t s = tt
 
-  pub item_work : (new : List Frame) (old : Reader) (q : ℕ) (x : ItemView) (n : Next) (r : Result Found DecodeFault) → Takes p W x (Ok n) → SettlesAt p old (next_work p fs n) q new r → IfOk r (λ f. found_work p (views p new) f < found_work p fs (found.Wants W))
+  pub item_work : (new : List StackFrame) (old : Reader) (q : ℕ) (x : ItemView) (n : Next) (r : Result Found DecodeFault) → Takes p W x (Ok n) → SettlesAt p old (next_work p fs n) q new r → IfOk r (λ f. found_work p (views p new) f < found_work p fs (found.Wants W))
   item_work new old q x n (Ok f) t s = let less = t.2 fs in omega (arith, less, s.1)
   item_work new old q x n (Err e) t s = tt
 
-pub settled_well : (p : PlanView) (new : List Frame) (old : Reader) (work q : ℕ) (r : Result Found DecodeFault) → SettlesAt p old work q new r → IsFound p new r
+pub settled_well : (p : PlanView) (new : List StackFrame) (old : Reader) (work q : ℕ) (r : Result Found DecodeFault) → SettlesAt p old work q new r → IsFound p new r
 settled_well p new old work q (Ok f) s = (s.0.frames, s.0.is_well)
 settled_well p new old work q (Err e) s = tt
 
-pub settles_stop : (p : PlanView) (new : List Frame) (old : Reader) (work place : ℕ) (st : Stop) (e : DecodeFault) → Settles p old work new (Err st) → IsStop st place e → SettlesAt p old work place new (Err e)
+pub settles_stop : (p : PlanView) (new : List StackFrame) (old : Reader) (work place : ℕ) (st : ItemFault) (e : DecodeFault) → Settles p old work new (Err st) → IsStop st place e → SettlesAt p old work place new (Err e)
 settles_stop p new old work place (stop.Refused cause) e s is = subst (λ (f : DecodeFault). SettlesAt p old work place new (Err f)) (sym is) (s.0, λ b. s.1 (spot place b))
 settles_stop p new old work place stop.Memory e s is = subst (λ (f : DecodeFault). SettlesAt p old work place new (Err f)) (sym is) tt
 
-pub settles_err : (p : PlanView) (old mid : Reader) (work less : ℕ) (fs : List Frame) (e : Stop) → ((s : Spot) → old s ≡ mid s) → Steps p mid less fs (Err e) → Settles p old work fs (Err e)
+pub settles_err : (p : PlanView) (old mid : Reader) (work less : ℕ) (fs : List StackFrame) (e : ItemFault) → ((s : Spot) → old s ≡ mid s) → Steps p mid less fs (Err e) → Settles p old work fs (Err e)
 settles_err p old mid work less fs (stop.Refused cause) same s = (s.0, λ r. same r ∙ s.1 r)
 settles_err p old mid work less fs stop.Memory same s = tt
 
@@ -98,16 +98,16 @@ module _ (p : PlanView) (j : ℕ) where
   opens s = refl
 
   -- it goes on from what was found first
-  pub begins : (none new : List Frame) (a b : Option (List ℕ)) (m q work : ℕ) (f : Found) (r : Result Value DecodeFault) → none ≡ [] → SettlesAt p (next_at p (views p none) (next.Open j)) work m new (Ok f) → ReadsAs view a b m q r (found_at p (views p new) f) → ReadsAs view a b m q r start
+  pub begins : (none new : List StackFrame) (a b : Option (List ℕ)) (m q work : ℕ) (f : Found) (r : Result Value DecodeFault) → none ≡ [] → SettlesAt p (next_at p (views p none) (next.Open j)) work m new (Ok f) → ReadsAs view a b m q r (found_at p (views p new) f) → ReadsAs view a b m q r start
   begins none new a b m q work f r e s h =
-      let first = subst (λ (fs : List Frame). SettlesAt p (next_at p (views p fs) (next.Open j)) work m new (Ok f)) e s in
+      let first = subst (λ (fs : List StackFrame). SettlesAt p (next_at p (views p fs) (next.Open j)) work m new (Ok f)) e s in
       as_read view a b m q r (found_at p (views p new) f) start h (λ z. sym (opens z) ∙ first.0.same z)
 
-  begins_empty : (new : List Frame) (a : Option (List ℕ)) (m r work : ℕ) (e : DecodeFault) → SettlesAt p (next_at p [] (next.Open j)) work m new (Err e) → ReadsAs {X = Value} view a a m r (Err e) start
+  begins_empty : (new : List StackFrame) (a : Option (List ℕ)) (m r work : ℕ) (e : DecodeFault) → SettlesAt p (next_at p [] (next.Open j)) work m new (Err e) → ReadsAs {X = Value} view a a m r (Err e) start
   begins_empty new None m r work e s = tt
   begins_empty new (Some bytes) m r work (Refused place cause) s = sym (opens (spot m bytes)) ∙ s.1 bytes
   begins_empty new (Some bytes) m r work ReadFault s = tt
   begins_empty new (Some bytes) m r work Memory s = tt
 
-  pub begins_not : (none new : List Frame) (a : Option (List ℕ)) (m r work : ℕ) (e : DecodeFault) → none ≡ [] → SettlesAt p (next_at p (views p none) (next.Open j)) work m new (Err e) → ReadsAs {X = Value} view a a m r (Err e) start
-  begins_not none new a m r work e is s = begins_empty new a m r work e (subst (λ (fs : List Frame). SettlesAt p (next_at p (views p fs) (next.Open j)) work m new (Err e)) is s)
+  pub begins_not : (none new : List StackFrame) (a : Option (List ℕ)) (m r work : ℕ) (e : DecodeFault) → none ≡ [] → SettlesAt p (next_at p (views p none) (next.Open j)) work m new (Err e) → ReadsAs {X = Value} view a a m r (Err e) start
+  begins_not none new a m r work e is s = begins_empty new a m r work e (subst (λ (fs : List StackFrame). SettlesAt p (next_at p (views p fs) (next.Open j)) work m new (Err e)) is s)

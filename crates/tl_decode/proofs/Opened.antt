@@ -12,14 +12,14 @@ use Rattle.tl_types.specs.inner.Reading.{Spot, Read, Reader, ◌>>=◌, word_at,
 use Rattle.tl_types.specs.declared.cause.Cause.TheVariants.{TooDeep}
 use Rattle.tl_types.specs.declared.value.Value.{Value}
 use Rattle.tl_types.specs.declared.value.TheConstants.{MAX_LEVELS}
-use Rattle.tl_decode.specs.declared.stack.Frame.{Frame}
-use Rattle.tl_decode.specs.declared.stack.Wanted.{Wanted}
-use Rattle.tl_decode.specs.declared.stack.Wanted.TheVariants as wanted
+use Rattle.tl_decode.specs.declared.stack.StackFrame.{StackFrame}
+use Rattle.tl_decode.specs.declared.stack.WantedItem.{WantedItem}
+use Rattle.tl_decode.specs.declared.stack.WantedItem.TheVariants as wanted
 use Rattle.tl_decode.specs.declared.stack.Next.TheVariants as next
 use Rattle.tl_decode.specs.declared.stack.Found.TheVariants as found
-use Rattle.tl_decode.specs.declared.stack.Step.TheVariants as step
-use Rattle.tl_decode.specs.declared.stack.Stop.TheVariants as stop
-use Rattle.tl_decode.specs.inner.Frames.{FrameView, ItemView, word, plain, frame_view, views, type_in, entry_in, goes_on, resumes, item_at, after, number_at, wanted_at, levels_in, levels_below, next_at, found_at, next_work, found_work, wanted_work, cost, IsWellWanted, AreWell, IsWellFrame, IsFresh, IsList, IsNumbered, IsBare, StepsFrom, parts_left}
+use Rattle.tl_decode.specs.declared.stack.Advance.TheVariants as step
+use Rattle.tl_decode.specs.declared.stack.ItemFault.TheVariants as stop
+use Rattle.tl_decode.specs.inner.Frames.{StackFrameView, ItemView, word, plain, frame_view, views, type_in, entry_in, goes_on, resumes, item_at, after, number_at, wanted_at, levels_in, levels_below, next_at, found_at, next_work, found_work, wanted_work, cost, IsWellWanted, AreWell, IsWellFrame, IsFresh, IsList, IsNumbered, IsBare, StepsFrom, parts_left}
 use Rattle.tl_decode.proofs.FrameLists.{resume_err, cost_least, cost_more, parts_few}
 
 -- ---- items, read by parts
@@ -108,11 +108,11 @@ unfolding plain_at
 var_is i s = refl
 
 -- a record that begins has fewer than 2^64 fields to come
-pub fresh_left : (p : PlanView) (j m : ℕ) (f : Frame) → IsFresh p j m f → parts_left (frame_view p f) < 2 ^ 64
+pub fresh_left : (p : PlanView) (j m : ℕ) (f : StackFrame) → IsFresh p j m f → parts_left (frame_view p f) < 2 ^ 64
 fresh_left p j m f (fields, made_so, none, few) = rw made_so (omega (arith, few))
 
-module _ (p : PlanView) (fs : List Frame) (well : AreWell p fs) (j : ℕ) where
-  abbrev vs : List FrameView
+module _ (p : PlanView) (fs : List StackFrame) (well : AreWell p fs) (j : ℕ) where
+  abbrev vs : List StackFrameView
   vs = views p fs
 
   abbrev ds : List Declaration
@@ -120,13 +120,13 @@ module _ (p : PlanView) (fs : List Frame) (well : AreWell p fs) (j : ℕ) where
 
   -- ---- values without parts
 
-  looks : (T : Shape) (W : Wanted) → type_in p j ≡ T → is_deep T ≡ false → ((s : Spot) → plain_at T s ≡ wanted_at p (levels_below vs) W s) → (s : Spot) → next_at p vs (next.Open j) s ≡ found_at p vs (found.Wants W) s
+  looks : (T : Shape) (W : WantedItem) → type_in p j ≡ T → is_deep T ≡ false → ((s : Spot) → plain_at T s ≡ wanted_at p (levels_below vs) W s) → (s : Spot) → next_at p vs (next.Open j) s ≡ found_at p vs (found.Wants W) s
   looks T W is no_parts e s = ap (resumes p vs) (ap (λ (U : Shape). value_at ds (levels_in vs) U s) is ∙ plain_is ds (levels_in vs) T s no_parts ∙ e s)
 
-  light : (W : Wanted) → wanted_work (levels_below vs) W ≡ 2 → found_work p vs (found.Wants W) ≤ next_work p vs (next.Open j)
+  light : (W : WantedItem) → wanted_work (levels_below vs) W ≡ 2 → found_work p vs (found.Wants W) ≤ next_work p vs (next.Open j)
   light W e = let least = cost_least (levels_in vs) in omega (arith, e, least)
 
-  stops : (T : Shape) (W : Wanted) → type_in p j ≡ T → is_deep T ≡ false → ((s : Spot) → plain_at T s ≡ wanted_at p (levels_below vs) W s) → IsWellWanted p W → wanted_work (levels_below vs) W ≡ 2 → StepsFrom p fs (next.Open j) fs (Ok (step.Stops (found.Wants W)))
+  stops : (T : Shape) (W : WantedItem) → type_in p j ≡ T → is_deep T ≡ false → ((s : Spot) → plain_at T s ≡ wanted_at p (levels_below vs) W s) → IsWellWanted p W → wanted_work (levels_below vs) W ≡ 2 → StepsFrom p fs (next.Open j) fs (Ok (step.Stops (found.Wants W)))
   stops T W is no_parts e ok two = (record { frames = well; is_well = ok; same = looks T W is no_parts e }, light W two)
 
   pub opens_int : type_in p j ≡ type.int → StepsFrom p fs (next.Open j) fs (Ok (step.Stops (found.Wants wanted.Int)))
@@ -169,10 +169,10 @@ module _ (p : PlanView) (fs : List Frame) (well : AreWell p fs) (j : ℕ) where
   deeper : length fs < MAX_LEVELS → levels_in vs ≡ suc (levels_below vs)
   deeper few = let len = length-map fs (frame_view p) in omega (arith, few, len)
 
-  looks_deep : (T : Shape) (W : Wanted) → length fs < MAX_LEVELS → type_in p j ≡ T → is_deep T ≡ true → ((s : Spot) → deep_at ds (value_at ds (levels_below vs)) T s ≡ wanted_at p (levels_below vs) W s) → (s : Spot) → next_at p vs (next.Open j) s ≡ found_at p vs (found.Wants W) s
+  looks_deep : (T : Shape) (W : WantedItem) → length fs < MAX_LEVELS → type_in p j ≡ T → is_deep T ≡ true → ((s : Spot) → deep_at ds (value_at ds (levels_below vs)) T s ≡ wanted_at p (levels_below vs) W s) → (s : Spot) → next_at p vs (next.Open j) s ≡ found_at p vs (found.Wants W) s
   looks_deep T W few is parts e s = ap (resumes p vs) (ap (λ (U : Shape). value_at ds (levels_in vs) U s) is ∙ deep_is ds (levels_in vs) (levels_below vs) T s parts (deeper few) ∙ e s)
 
-  stops_deep : (T : Shape) (W : Wanted) → length fs < MAX_LEVELS → type_in p j ≡ T → is_deep T ≡ true → ((s : Spot) → deep_at ds (value_at ds (levels_below vs)) T s ≡ wanted_at p (levels_below vs) W s) → IsWellWanted p W
+  stops_deep : (T : Shape) (W : WantedItem) → length fs < MAX_LEVELS → type_in p j ≡ T → is_deep T ≡ true → ((s : Spot) → deep_at ds (value_at ds (levels_below vs)) T s ≡ wanted_at p (levels_below vs) W s) → IsWellWanted p W
       → wanted_work (levels_below vs) W ≤ 2 ^ 64 * (cost (levels_below vs) + 1) + 6 → StepsFrom p fs (next.Open j) fs (Ok (step.Stops (found.Wants W)))
   stops_deep T W few is parts e ok less =
       let more = cost_more (levels_in vs) (levels_below vs) (deeper few) in
@@ -213,11 +213,11 @@ module _ (p : PlanView) (fs : List Frame) (well : AreWell p fs) (j : ℕ) where
   deep_bare i full (args, is) = too_deep (type.bare i args) full is refl
 
   -- a record begins: none of its fields is there
-  begun : (i : ℕ) (args : Shapes) (n : ℕ) (f : Frame) (s : Spot) → type_in p j ≡ type.bare i args → entry_in p j 0 ≡ i → IsFresh p j 0 f → deep_at ds (value_at ds n) (type.bare i args) s ≡ goes_on ds n (frame_view p f) s
+  begun : (i : ℕ) (args : Shapes) (n : ℕ) (f : StackFrame) (s : Spot) → type_in p j ≡ type.bare i args → entry_in p j 0 ≡ i → IsFresh p j 0 f → deep_at ds (value_at ds n) (type.bare i args) s ≡ goes_on ds n (frame_view p f) s
   unfolding deep_at bare_at record_at goes_on
   begun i args n f s is entry (fields, made_so, none, few) = rw (made_so, is, entry, none) refl
 
-  pub opens_bare : (i : ℕ) (f : Frame) → length fs < MAX_LEVELS → IsBare (type_in p j) i → entry_in p j 0 ≡ i → IsFresh p j 0 f → IsWellFrame p f → StepsFrom p fs (next.Open j) fs (Ok (step.Goes (next.Part f)))
+  pub opens_bare : (i : ℕ) (f : StackFrame) → length fs < MAX_LEVELS → IsBare (type_in p j) i → entry_in p j 0 ≡ i → IsFresh p j 0 f → IsWellFrame p f → StepsFrom p fs (next.Open j) fs (Ok (step.Goes (next.Part f)))
   opens_bare i f few (args, is) entry fresh ok =
       let more = cost_more (levels_in vs) (levels_below vs) (deeper few) in
       let c = cost (levels_below vs) + 1 in

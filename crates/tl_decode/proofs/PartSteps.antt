@@ -16,12 +16,12 @@ use Rattle.tl_types.specs.Conditions.{stands_by}
 use Rattle.tl_types.specs.Seen.{view}
 use Rattle.tl_types.specs.inner.Reading.{Spot, Read, ◌>>=◌, value_at, each_at, fields_at, at_field, fields_in}
 use Rattle.tl_types.specs.declared.value.Value.{Value}
-use Rattle.tl_decode.specs.declared.stack.Frame.{Frame}
-use Rattle.tl_decode.specs.declared.stack.Frame.TheVariants as frame
+use Rattle.tl_decode.specs.declared.stack.StackFrame.{StackFrame}
+use Rattle.tl_decode.specs.declared.stack.StackFrame.TheVariants as frame
 use Rattle.tl_decode.specs.declared.stack.Next.TheVariants as next
 use Rattle.tl_decode.specs.declared.stack.Found.TheVariants as found
-use Rattle.tl_decode.specs.declared.stack.Step.TheVariants as step
-use Rattle.tl_decode.specs.inner.Frames.{FrameView, in_list, in_record, frame_view, views, with_value, type_in, entry_in, goes_on, resume, resumes, made, levels_in, levels_below, cost, IsInPlan, AreWell, IsWellFrame, StepsFrom, parts_left, parts_after}
+use Rattle.tl_decode.specs.declared.stack.Advance.TheVariants as step
+use Rattle.tl_decode.specs.inner.Frames.{StackFrameView, in_list, in_record, frame_view, views, with_value, type_in, entry_in, goes_on, resume, resumes, made, levels_in, levels_below, cost, IsInPlan, AreWell, IsWellFrame, StepsFrom, parts_left, parts_after}
 use Rattle.tl_decode.proofs.FrameLists.{bind_again, closing, resumes_push, levels_push, works_push, well_push, well_pop, one_part}
 use Rattle.tl_decode.proofs.PlanTypes.{IsHere, instance_type, instance_within}
 
@@ -53,11 +53,11 @@ record_ends : (ds : List Declaration) (n i : ℕ) (T : Shape) (slots : List Slot
 unfolding goes_on fields_at
 record_ends ds n i T slots before s le = rw (drop_all (length before) slots le) refl
 
-closing_ok : (ds : List Declaration) (n : ℕ) (f : FrameView) (v : ValueView) (s : Spot) → closing ds n f (Ok (v, s)) ≡ goes_on ds n (with_value f v) s
+closing_ok : (ds : List Declaration) (n : ℕ) (f : StackFrameView) (v : ValueView) (s : Spot) → closing ds n f (Ok (v, s)) ≡ goes_on ds n (with_value f v) s
 unfolding closing
 closing_ok ds n f v s = refl
 
-left_with : (f : FrameView) (v : ValueView) → parts_left (with_value f v) ≡ parts_after f
+left_with : (f : StackFrameView) (v : ValueView) → parts_left (with_value f v) ≡ parts_after f
 left_with (in_list T left before) v = refl
 left_with (in_record T i slots before) v = ap (λ (k : ℕ). length slots - k) (length_push before v)
 
@@ -67,10 +67,10 @@ none_left p v s = refl
 
 -- ---- a value closes
 
-pub closes_all : (p : PlanView) (old new : List Frame) (v : Value) → old ≡ [] → new ≡ [] → StepsFrom p old (next.Close v) new (Ok (step.Stops (found.Done v)))
+pub closes_all : (p : PlanView) (old new : List StackFrame) (v : Value) → old ≡ [] → new ≡ [] → StepsFrom p old (next.Close v) new (Ok (step.Stops (found.Done v)))
 closes_all p old new v e f = rw (e, f) (record { frames = tt; is_well = tt; same = none_left p v }, omega arith)
 
-pub closes_in : (p : PlanView) (old fs : List Frame) (f g : Frame) (v : Value) → old ≡ fs ++ f ∷ [] → AreWell p old → frame_view p g ≡ with_value (frame_view p f) (view v) → (IsWellFrame p f → IsWellFrame p g)
+pub closes_in : (p : PlanView) (old fs : List StackFrame) (f g : StackFrame) (v : Value) → old ≡ fs ++ f ∷ [] → AreWell p old → frame_view p g ≡ with_value (frame_view p f) (view v) → (IsWellFrame p f → IsWellFrame p g)
     → StepsFrom p old (next.Close v) fs (Ok (step.Goes (next.Part g)))
 closes_in p old fs f g v e all seen ok =
     let both = well_pop p fs f (subst (AreWell p) e all) in
@@ -83,13 +83,13 @@ closes_in p old fs f g v e all seen ok =
         is_well = ok both.1;
         same = λ s.
             resumes_push p fs f (Ok (view v, s))
-            ∙ ap (resumes p (views p fs)) (closing_ok p.schema.decls (levels_below (views p fs)) (frame_view p f) (view v) s ∙ ap (λ (h : FrameView). goes_on p.schema.decls (levels_below (views p fs)) h s) (sym seen));
+            ∙ ap (resumes p (views p fs)) (closing_ok p.schema.decls (levels_below (views p fs)) (frame_view p f) (view v) s ∙ ap (λ (h : StackFrameView). goes_on p.schema.decls (levels_below (views p fs)) h s) (sym seen));
       },
       omega (arith, more, same_left),
     )
 
-module _ (p : PlanView) (fs : List Frame) (well : AreWell p fs) where
-  abbrev vs : List FrameView
+module _ (p : PlanView) (fs : List StackFrame) (well : AreWell p fs) where
+  abbrev vs : List StackFrameView
   vs = views p fs
 
   abbrev ds : List Declaration
@@ -107,7 +107,7 @@ module _ (p : PlanView) (fs : List Frame) (well : AreWell p fs) where
     omega arith,
   )
 
-  pub list_opens : (j left k : ℕ) (items : Vec Value Global) (new : List Frame) → left ≡ suc k → new ≡ fs ++ frame.List j k items ∷ [] → IsInPlan p j → StepsFrom p fs (next.Part (frame.List j left items)) new (Ok (step.Goes (next.Open j)))
+  pub list_opens : (j left k : ℕ) (items : Vec Value Global) (new : List StackFrame) → left ≡ suc k → new ≡ fs ++ frame.List j k items ∷ [] → IsInPlan p j → StepsFrom p fs (next.Part (frame.List j left items)) new (Ok (step.Goes (next.Open j)))
   list_opens j left k items new e is within =
       let f = frame.List j k items in
       let c = cost (levels_below vs) in
@@ -185,7 +185,7 @@ module _ (p : PlanView) (fs : List Frame) (well : AreWell p fs) where
             omega (arith, parts, now),
           )
 
-      pub field_opens : (h : ℕ) (new : List Frame) → stands_by f.cond before ≡ true → IsInstance p h (closed (arguments_of T) f.of) → new ≡ fs ++ frame.Record j m fields ∷ [] → IsWellFrame p (frame.Record j m fields)
+      pub field_opens : (h : ℕ) (new : List StackFrame) → stands_by f.cond before ≡ true → IsInstance p h (closed (arguments_of T) f.of) → new ≡ fs ++ frame.Record j m fields ∷ [] → IsWellFrame p (frame.Record j m fields)
           → StepsFrom p fs (next.Part (frame.Record j m fields)) new (Ok (step.Goes (next.Open h)))
       field_opens h new on own is ok =
           let r = frame.Record j m fields in

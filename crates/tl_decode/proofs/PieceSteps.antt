@@ -12,9 +12,9 @@ use Rattle.tl_types.specs.declared.value.Value.{Value}
 use Rattle.tl_types.specs.declared.value.TheConstants.{MAX_LEVELS}
 use Rattle.tl_decode.specs.declared.fault.DecodeFault.{DecodeFault}
 use Rattle.tl_decode.specs.declared.fault.DecodeFault.TheVariants as fault
-use Rattle.tl_decode.specs.declared.stack.Frame.{Frame}
-use Rattle.tl_decode.specs.declared.stack.Wanted.{Wanted}
-use Rattle.tl_decode.specs.declared.stack.Wanted.TheVariants as wanted
+use Rattle.tl_decode.specs.declared.stack.StackFrame.{StackFrame}
+use Rattle.tl_decode.specs.declared.stack.WantedItem.{WantedItem}
+use Rattle.tl_decode.specs.declared.stack.WantedItem.TheVariants as wanted
 use Rattle.tl_decode.specs.declared.stack.Item.{Item}
 use Rattle.tl_decode.specs.declared.stack.Item.TheVariants as item
 use Rattle.tl_decode.specs.declared.stack.Next.TheVariants as next_step
@@ -22,9 +22,9 @@ use Rattle.tl_decode.specs.declared.stack.Next.{Next}
 use Rattle.tl_decode.specs.declared.stack.Found.{Found}
 use Rattle.tl_decode.specs.declared.stack.Found.TheVariants as found
 use Rattle.tl_decode.specs.declared.stack.Reading.{Reading}
-use Rattle.tl_decode.specs.declared.stack.Stop.{Stop}
-use Rattle.tl_decode.specs.declared.stack.Stop.TheVariants as stop
-use Rattle.tl_decode.specs.inner.Frames.{FrameView, ItemView, views, word, item_view, goes_after, levels_below, next_at, found_at, next_work, found_work, resumes, IsStop, IsWellWanted, SettlesAt, SettlesFrom, Takes}
+use Rattle.tl_decode.specs.declared.stack.ItemFault.{ItemFault}
+use Rattle.tl_decode.specs.declared.stack.ItemFault.TheVariants as stop
+use Rattle.tl_decode.specs.inner.Frames.{StackFrameView, ItemView, views, word, item_view, goes_after, levels_below, next_at, found_at, next_work, found_work, resumes, IsStop, IsWellWanted, SettlesAt, SettlesFrom, Takes}
 use Rattle.tl_decode.specs.inner.Needs.{EndsWords, FindsItem, IsInOrder, TakesItem, TakesPiece, TakesWords, needs, piece_work, reads_on}
 use Rattle.tl_decode.proofs.FrameLists.{resume_err}
 use Rattle.tl_decode.proofs.HeldBytes.{text_least}
@@ -33,7 +33,7 @@ use Rattle.tl_decode.proofs.PieceWork.{some_less}
 
 -- ---- after an item
 
-pub after_goes : (p : PlanView) (fs : List FrameView) (W : Wanted) (place then work : ℕ) (x : ItemView) (n : Next) (new : List Frame) (r : Result Found DecodeFault) → Takes p W x (Ok n) → SettlesAt p (next_at p fs n) (next_work p fs n) then new r → SettlesAt p (goes_after p fs W place x) (found_work p fs (found.Wants W)) then new r
+pub after_goes : (p : PlanView) (fs : List StackFrameView) (W : WantedItem) (place then work : ℕ) (x : ItemView) (n : Next) (new : List StackFrame) (r : Result Found DecodeFault) → Takes p W x (Ok n) → SettlesAt p (next_at p fs n) (next_work p fs n) then new r → SettlesAt p (goes_after p fs W place x) (found_work p fs (found.Wants W)) then new r
 after_goes p fs W place then work x n new (Ok f) t s =
     let less = t.2 fs in
     (record { frames = s.0.frames; is_well = s.0.is_well; same = λ r. t.1 fs place r ∙ s.0.same r }, omega (arith, less, s.1))
@@ -41,13 +41,13 @@ after_goes p fs W place then work x n new (Err (fault.Refused q cause)) t s = (s
 after_goes p fs W place then work x n new (Err fault.ReadFault) t s = s
 after_goes p fs W place then work x n new (Err fault.Memory) t s = tt
 
-pub after_stops : (p : PlanView) (fs : List FrameView) (W : Wanted) (place then work : ℕ) (x : ItemView) (st : Stop) (e : DecodeFault) (new : List Frame) → Takes p W x (Err st) → IsStop st place e → SettlesAt p (goes_after p fs W place x) work then new (Err e)
+pub after_stops : (p : PlanView) (fs : List StackFrameView) (W : WantedItem) (place then work : ℕ) (x : ItemView) (st : ItemFault) (e : DecodeFault) (new : List StackFrame) → Takes p W x (Err st) → IsStop st place e → SettlesAt p (goes_after p fs W place x) work then new (Err e)
 after_stops p fs W place then work x (stop.Refused cause) e new t is =
     subst (λ (f : DecodeFault). SettlesAt p (goes_after p fs W place x) work then new (Err f)) (sym is) (t.0, λ b. ap (resumes p fs) (t.1 (levels_below fs) place (spot then b)) ∙ resume_err p.schema.decls MAX_LEVELS fs _)
 after_stops p fs W place then work x stop.Memory e new t is = subst (λ (f : DecodeFault). SettlesAt p (goes_after p fs W place x) work then new (Err f)) (sym is) tt
 
 -- an item needs a byte at least
-pub begins_none : (p : PlanView) (W : Wanted) → IsWellWanted p W → 0 < needs W []
+pub begins_none : (p : PlanView) (W : WantedItem) → IsWellWanted p W → 0 < needs W []
 begins_none p wanted.Int w = omega arith
 begins_none p wanted.Nat w = omega arith
 begins_none p wanted.Long w = omega arith
@@ -60,7 +60,7 @@ begins_none p (wanted.Count j) w = omega arith
 -- ---- one item
 
 module _ (p : PlanView) (old new : Reading) (at then : ℕ) (next : List ℕ) (x : Item) (n : ℕ) (f : FindsItem old.wanted old.held.items new.held.items next (Ok (Some (x, n)))) (is : then ≡ moved at (length old.held.items + n)) where
-  abbrev fs : List FrameView
+  abbrev fs : List StackFrameView
   fs = views p old.frames.items
 
   goes : (more : List ℕ) → reads_on p old at (next ++ more) ≡ goes_after p fs old.wanted at (item_view x) (spot then (drop n next ++ more))
@@ -77,7 +77,7 @@ module _ (p : PlanView) (old new : Reading) (at then : ℕ) (next : List ℕ) (x
   item_error work least fault.ReadFault s = s
   item_error work least fault.Memory s = tt
 
-pub item_stop : (p : PlanView) (old new : Reading) (at then work : ℕ) (next : List ℕ) (st : Stop) (e : DecodeFault) → FindsItem old.wanted old.held.items new.held.items next (Err st) → IsStop st at e → TakesItem p (reads_on p old at) work next new then (Err e)
+pub item_stop : (p : PlanView) (old new : Reading) (at then work : ℕ) (next : List ℕ) (st : ItemFault) (e : DecodeFault) → FindsItem old.wanted old.held.items new.held.items next (Err st) → IsStop st at e → TakesItem p (reads_on p old at) work next new then (Err e)
 item_stop p old new at then work next (stop.Refused cause) e f is =
     let fs = views p old.frames.items in
     subst (λ (g : DecodeFault). TakesItem p (reads_on p old at) work next new then (Err g)) (sym is)
@@ -86,11 +86,11 @@ item_stop p old new at then work next stop.Memory e f is = subst (λ (g : Decode
 
 -- ---- a word that is a value
 
-pub settled_at : (p : PlanView) (old : List Frame) (n : Next) (place : ℕ) (new : List Frame) (f : Found) → SettlesFrom p old n new (Ok f) → SettlesAt p (next_at p (views p old) n) (next_work p (views p old) n) place new (Ok f)
+pub settled_at : (p : PlanView) (old : List StackFrame) (n : Next) (place : ℕ) (new : List StackFrame) (f : Found) → SettlesFrom p old n new (Ok f) → SettlesAt p (next_at p (views p old) n) (next_work p (views p old) n) place new (Ok f)
 settled_at p old n place new f s = s
 
 -- what comes of an item, however it was found
-module _ (p : PlanView) (old : Reading) (at then : ℕ) (next : List ℕ) (frames : Vec Frame Global) (w : ℕ) (v : Value) (f : FindsItem old.wanted old.held.items old.held.items next (Ok (Some (item.Word w, 4)))) (t : Takes p old.wanted (word w) (Ok (next_step.Close v))) (is : then ≡ moved at (length old.held.items + 4)) where
+module _ (p : PlanView) (old : Reading) (at then : ℕ) (next : List ℕ) (frames : Vec StackFrame Global) (w : ℕ) (v : Value) (f : FindsItem old.wanted old.held.items old.held.items next (Ok (Some (item.Word w, 4)))) (t : Takes p old.wanted (word w) (Ok (next_step.Close v))) (is : then ≡ moved at (length old.held.items + 4)) where
   pub word_taken : (g : Found) → SettlesAt p (next_at p (views p old.frames.items) (next_step.Close v)) (next_work p (views p old.frames.items) (next_step.Close v)) then frames.items (Ok g)
       → TakesItem p (reads_on p old at) (found_work p (views p old.frames.items) (found.Wants old.wanted)) next (record old { frames = frames }) then (Ok (Some (g, 4)))
   word_taken g s =
@@ -125,7 +125,7 @@ module _ (p : PlanView) (old : List ℕ → Read ValueView) (piece : List ℕ) (
       let u = takes (found.Done v) is in
       (omega (arith, u.3, length-drop used piece, s.within), λ more. s.reads more ∙ u.5 more ∙ ap (λ (z : List ℕ). Ok (view v, spot then (z ++ more))) (drop-drop n used piece))
 
-  pub piece_goes : (W : Wanted) → g ≡ found.Wants W → length now.held.items < 2 ^ 64 → SoFar p old piece (used + n) (record new { wanted = W }) then × (piece_work p (record new { wanted = W }) < piece_work p now)
+  pub piece_goes : (W : WantedItem) → g ≡ found.Wants W → length now.held.items < 2 ^ 64 → SoFar p old piece (used + n) (record new { wanted = W }) then × (piece_work p (record new { wanted = W }) < piece_work p now)
   piece_goes W is lt =
       let u = takes (found.Wants W) is in
       let on = λ (z more : List ℕ). found_at p (views p new.frames.items) (found.Wants W) (spot then (z ++ more)) in (

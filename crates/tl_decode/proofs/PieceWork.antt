@@ -4,7 +4,7 @@ use Rattle.std.specs.Prelude.{Vec}
 use Rattle.std.proofs.Common.{◌≡◌, ℕ, ◌+◌, ◌-◌, ◌*◌, ◌^◌, ◌<◌, ◌≤◌, List, [], ◌++◌, length, None, Ok, ap, sym, ◌∙◌, subst, arith}
 use Rattle.std.proofs.lemmas.List.{length-append}
 use Rattle.tl_plan.specs.Plans.{PlanView}
-use Rattle.tl_decode.specs.declared.stack.Wanted.{Wanted}
+use Rattle.tl_decode.specs.declared.stack.WantedItem.{WantedItem}
 use Rattle.tl_decode.specs.declared.stack.Found.TheVariants as found
 use Rattle.tl_decode.specs.declared.stack.Reading.{Reading}
 use Rattle.tl_decode.specs.inner.Frames.{found_work, views}
@@ -21,7 +21,7 @@ item_less less work old le lt = omega (arith, le, lt)
 pub none_less : (p : PlanView) (old : Reading) (held : Vec ℕ Global) (next : List ℕ) → held.items ≡ old.held.items ++ next → length held.items < 2 ^ 64 → ItemLess p (piece_work p old) next (record old { held = held }) (Ok None)
 none_less p old held next is lt = held_less (found_work p (views p old.frames.items) (found.Wants old.wanted)) (length old.held.items) (length held.items) (length next) (ap length is ∙ length-append old.held.items next) lt
 
-pub some_less : (p : PlanView) (old new : Reading) (W : Wanted) → new.held.items ≡ [] → length old.held.items < 2 ^ 64 → found_work p (views p new.frames.items) (found.Wants W) < found_work p (views p old.frames.items) (found.Wants old.wanted)
+pub some_less : (p : PlanView) (old new : Reading) (W : WantedItem) → new.held.items ≡ [] → length old.held.items < 2 ^ 64 → found_work p (views p new.frames.items) (found.Wants W) < found_work p (views p old.frames.items) (found.Wants old.wanted)
     → piece_work p (record new { wanted = W }) < piece_work p old
 some_less p old new W none lt less =
     let work = found_work p (views p new.frames.items) (found.Wants W) in

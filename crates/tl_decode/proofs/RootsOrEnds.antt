@@ -21,15 +21,15 @@ use Rattle.tl_types.proofs.Exactly.{exactly_one}
 use Rattle.tl_types.proofs.FormedParts.{IsRead}
 use Rattle.tl_decode.specs.declared.fault.DecodeFault.{DecodeFault}
 use Rattle.tl_decode.specs.declared.fault.DecodeFault.TheVariants as fault
-use Rattle.tl_decode.specs.declared.stack.Frame.{Frame}
-use Rattle.tl_decode.specs.declared.stack.Wanted.{Wanted}
+use Rattle.tl_decode.specs.declared.stack.StackFrame.{StackFrame}
+use Rattle.tl_decode.specs.declared.stack.WantedItem.{WantedItem}
 use Rattle.tl_decode.specs.declared.stack.Item.{Item}
 use Rattle.tl_decode.specs.declared.stack.Next.TheVariants as next
 use Rattle.tl_decode.specs.declared.stack.Found.{Found}
 use Rattle.tl_decode.specs.declared.stack.Found.TheVariants as found
 use Rattle.tl_decode.specs.Endings.{GivesFewOrNone, GivesNone, GivesSome, RefusesFirst, TakesFour}
 use Rattle.tl_decode.specs.inner.Steps.{OrEnds, ReadsAs}
-use Rattle.tl_decode.specs.inner.Frames.{FrameView, views, type_in, resume, resumes, item_at, item_view, found_at, goes_after, next_at, IsInPlan, RefusesAt, SettlesAt}
+use Rattle.tl_decode.specs.inner.Frames.{StackFrameView, views, type_in, resume, resumes, item_at, item_view, found_at, goes_after, next_at, IsInPlan, RefusesAt, SettlesAt}
 use Rattle.tl_decode.proofs.FrameLists.{resume_err}
 use Rattle.tl_decode.proofs.Onward.{item_fails, item_then}
 use Rattle.tl_decode.proofs.Outcomes.{fails, gives_root, gives_root_fault, never_err, root_read}
@@ -47,7 +47,7 @@ or_as see (Some bytes) b p q (Err fault.Memory) f g h e = tt
 
 -- ---- after the first item
 
-module _ (p : PlanView) (fs : List FrameView) (W : Wanted) where
+module _ (p : PlanView) (fs : List StackFrameView) (W : WantedItem) where
   pub first_none : (a b : Option (List ℕ)) (m q : ℕ) → OrEnds {X = Item} item_view a b m q (Ok None) (item_at W) → OrEnds {X = Value} view a b m q (Ok None) (found_at p fs (found.Wants W))
   first_none None b m q h = tt
   first_none (Some bytes) b m q h = h
@@ -61,13 +61,13 @@ module _ (p : PlanView) (fs : List FrameView) (W : Wanted) where
   goes : (bytes rest : List ℕ) (m q : ℕ) (x : Item) → item_at W (spot m bytes) ≡ Ok (item_view x, spot q rest) → found_at p fs (found.Wants W) (spot m bytes) ≡ goes_after p fs W m (item_view x) (spot q rest)
   goes bytes rest m q x h = ap (resumes p fs) (item_then p fs W (spot m bytes) (item_view x) (spot q rest) h)
 
-  pub first_stops : (new : List Frame) (a b : Option (List ℕ)) (m q r work : ℕ) (x : Item) (e : DecodeFault) → OrEnds item_view a b m q (Ok (Some x)) (item_at W) → SettlesAt p (goes_after p fs W m (item_view x)) work q new (Err e) → OrEnds {X = Value} view a b m r (Err e) (found_at p fs (found.Wants W))
+  pub first_stops : (new : List StackFrame) (a b : Option (List ℕ)) (m q r work : ℕ) (x : Item) (e : DecodeFault) → OrEnds item_view a b m q (Ok (Some x)) (item_at W) → SettlesAt p (goes_after p fs W m (item_view x)) work q new (Err e) → OrEnds {X = Value} view a b m r (Err e) (found_at p fs (found.Wants W))
   first_stops new None b m q r work x e h s = tt
   first_stops new (Some bytes) b m q r work x (fault.Refused place cause) h s = (h.0, goes bytes h.1.0 m q x h.1.2 ∙ s.1 h.1.0)
   first_stops new (Some bytes) b m q r work x fault.ReadFault h s = tt
   first_stops new (Some bytes) b m q r work x fault.Memory h s = tt
 
-  module _ (new : List Frame) (a b c : Option (List ℕ)) (m q r work : ℕ) (x : Item) (f : Found) (h : OrEnds item_view a b m q (Ok (Some x)) (item_at W)) (s : SettlesAt p (goes_after p fs W m (item_view x)) work q new (Ok f)) where
+  module _ (new : List StackFrame) (a b c : Option (List ℕ)) (m q r work : ℕ) (x : Item) (f : Found) (h : OrEnds item_view a b m q (Ok (Some x)) (item_at W)) (s : SettlesAt p (goes_after p fs W m (item_view x)) work q new (Ok f)) where
     left : (bytes : List ℕ) → a ≡ Some bytes → (0 < length bytes) × ((rest : List ℕ) × (b ≡ Some rest) × (found_at p fs (found.Wants W) (spot m bytes) ≡ found_at p (views p new) f (spot q rest)))
     left bytes is =
         let own = subst (λ (o : Option (List ℕ)). OrEnds item_view o b m q (Ok (Some x)) (item_at W)) is h in
@@ -106,16 +106,16 @@ module _ (p : PlanView) (j : ℕ) where
   opens s = refl
 
   -- its first item is looked for
-  pub root_wants : (none new : List Frame) (a b : Option (List ℕ)) (m q work : ℕ) (W : Wanted) (r : Result (Option Value) DecodeFault) → none ≡ [] → SettlesAt p (next_at p (views p none) (next.Open j)) work m new (Ok (found.Wants W))
+  pub root_wants : (none new : List StackFrame) (a b : Option (List ℕ)) (m q work : ℕ) (W : WantedItem) (r : Result (Option Value) DecodeFault) → none ≡ [] → SettlesAt p (next_at p (views p none) (next.Open j)) work m new (Ok (found.Wants W))
       → OrEnds view a b m q r (found_at p (views p new) (found.Wants W)) → OrEnds view a b m q r start
   root_wants none new a b m q work W r e s h =
-      let first = subst (λ (fs : List Frame). SettlesAt p (next_at p (views p fs) (next.Open j)) work m new (Ok (found.Wants W))) e s in
+      let first = subst (λ (fs : List StackFrame). SettlesAt p (next_at p (views p fs) (next.Open j)) work m new (Ok (found.Wants W))) e s in
       or_as view a b m q r (found_at p (views p new) (found.Wants W)) start h (λ z. sym (opens z) ∙ first.0.same z)
 
   -- it is refused before its first item
-  pub root_refused : (none new : List Frame) (a b : Option (List ℕ)) (m work : ℕ) (e : DecodeFault) (r : Result (Option Value) DecodeFault) → none ≡ [] → SettlesAt p (next_at p (views p none) (next.Open j)) work m new (Err e)
+  pub root_refused : (none new : List StackFrame) (a b : Option (List ℕ)) (m work : ℕ) (e : DecodeFault) (r : Result (Option Value) DecodeFault) → none ≡ [] → SettlesAt p (next_at p (views p none) (next.Open j)) work m new (Err e)
       → IfSome a (λ bytes. RefusesAt e bytes b r) → OrEnds view a b m m r start
-  root_refused none new a b m work e r is s h = by a r h (subst (λ (fs : List Frame). SettlesAt p (next_at p (views p fs) (next.Open j)) work m new (Err e)) is s)
+  root_refused none new a b m work e r is s h = by a r h (subst (λ (fs : List StackFrame). SettlesAt p (next_at p (views p fs) (next.Open j)) work m new (Err e)) is s)
     where
       at_once : (place : ℕ) (cause : Cause) (bytes : List ℕ) → fault.Refused place cause ≡ e → SettlesAt p (next_at p [] (next.Open j)) work m new (Err e) → start (spot m bytes) ≡ Err (place, cause)
       at_once place cause bytes is s = sym (opens (spot m bytes)) ∙ (subst (λ (f : DecodeFault). SettlesAt p (next_at p [] (next.Open j)) work m new (Err f)) (sym is) s).1 bytes
@@ -129,7 +129,7 @@ module _ (p : PlanView) (j : ℕ) where
       by (Some bytes) (Err fault.Memory) h s = tt
 
   -- no read fault comes before the first item
-  pub root_unread : (old : Reader) (new : List Frame) (m work : ℕ) (e : DecodeFault) → SettlesAt p old work m new (Err e) → e ≡ fault.ReadFault → ⊥
+  pub root_unread : (old : Reader) (new : List StackFrame) (m work : ℕ) (e : DecodeFault) → SettlesAt p old work m new (Err e) → e ≡ fault.ReadFault → ⊥
   root_unread old new m work e s is = subst (λ (f : DecodeFault). SettlesAt p old work m new (Err f)) is s
 
   -- ---- a root takes bytes
@@ -159,9 +159,9 @@ module _ (p : PlanView) (j : ℕ) where
     pub never_done : ⊥
     never_done = not_read (root_read p good j (type_in p j) is)
 
-  pub root_not_done : IsPlan p → ((T : Shape) → IsInstance p j T → TakesFour p.schema T) → IsInPlan p j → (none new : List Frame) (m work : ℕ) (f : Found) (v : Value) → none ≡ [] → f ≡ found.Done v → SettlesAt p (next_at p (views p none) (next.Open j)) work m new (Ok f) → ⊥
+  pub root_not_done : IsPlan p → ((T : Shape) → IsInstance p j T → TakesFour p.schema T) → IsInPlan p j → (none new : List StackFrame) (m work : ℕ) (f : Found) (v : Value) → none ≡ [] → f ≡ found.Done v → SettlesAt p (next_at p (views p none) (next.Open j)) work m new (Ok f) → ⊥
   root_not_done good four within none new m work f v empty is s =
-      let first = subst (λ (fs : List Frame). SettlesAt p (next_at p (views p fs) (next.Open j)) work m new (Ok f)) empty s in
+      let first = subst (λ (fs : List StackFrame). SettlesAt p (next_at p (views p fs) (next.Open j)) work m new (Ok f)) empty s in
       let done = subst (λ (g : Found). SettlesAt p (next_at p [] (next.Open j)) work m new (Ok g)) is first in
       never_done good four (root_there within) v (λ z. sym (opens z) ∙ done.0.same z)
 

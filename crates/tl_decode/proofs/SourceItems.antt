@@ -18,11 +18,11 @@ use Rattle.tl_types.specs.Values as value
 use Rattle.tl_types.proofs.Numbers.{exact_again, exact_short, moved_moved}
 use Rattle.tl_decode.specs.declared.fault.DecodeFault.{DecodeFault}
 use Rattle.tl_decode.specs.declared.fault.DecodeFault.TheVariants.{Refused, ReadFault, Memory}
-use Rattle.tl_decode.specs.declared.stack.Wanted.{Wanted}
-use Rattle.tl_decode.specs.declared.stack.Wanted.TheVariants as wanted
+use Rattle.tl_decode.specs.declared.stack.WantedItem.{WantedItem}
+use Rattle.tl_decode.specs.declared.stack.WantedItem.TheVariants as wanted
 use Rattle.tl_decode.specs.declared.stack.Item.{Item}
-use Rattle.tl_decode.specs.declared.stack.Stop.{Stop}
-use Rattle.tl_decode.specs.declared.stack.Stop.TheVariants as stop
+use Rattle.tl_decode.specs.declared.stack.ItemFault.{ItemFault}
+use Rattle.tl_decode.specs.declared.stack.ItemFault.TheVariants as stop
 use Rattle.tl_decode.specs.inner.Steps.{FailsAs, OrEnds, ReadsAs}
 use Rattle.tl_decode.specs.inner.Frames.{ItemView, item_at, item_view, IsStop, IsWellWanted, item_value, item_value_at, plain, word}
 use Rattle.tl_decode.specs.inner.Needs.{head_needs, needs, text_needs, IsWhole, IsWholeAt}
@@ -32,7 +32,7 @@ use Rattle.tl_decode.proofs.HeldBytes.{item_cut, text_least, text_more_than}
 -- ---- how many bytes an item needs
 
 -- each needs four at least
-pub wide_item : (p : PlanView) (W : Wanted) → IsWellWanted p W → (b : List ℕ) → 4 ≤ needs W b
+pub wide_item : (p : PlanView) (W : WantedItem) → IsWellWanted p W → (b : List ℕ) → 4 ≤ needs W b
 wide_item p wanted.Int w b = omega arith
 wide_item p wanted.Nat w b = omega arith
 wide_item p wanted.Long w b = omega arith
@@ -48,7 +48,7 @@ text_first w x four =
     text_more_than (w ++ x) (omega (arith, length-append w x, four)) ∙ ap (λ (z : List ℕ). head_needs (text_head_of z)) (take-append-le 4 w x some) ∙ sym (text_more_than w some)
 
 -- the first four bytes tell
-pub needs_first : (W : Wanted) (w x : List ℕ) → length w ≡ 4 → needs W (w ++ x) ≡ needs W w
+pub needs_first : (W : WantedItem) (w x : List ℕ) → length w ≡ 4 → needs W (w ++ x) ≡ needs W w
 needs_first wanted.Int w x four = refl
 needs_first wanted.Nat w x four = refl
 needs_first wanted.Long w x four = refl
@@ -78,7 +78,7 @@ never e = absurd cc
 as_item : {x y : Fault} → ◌≡◌ {A = Read (List ℕ)} (Err x) (Err y) → ◌≡◌ {A = Read ItemView} (Err x) (Err y)
 as_item e = ap (λ (r : Read (List ℕ)). elim r as (λ _. Read ItemView) [ Ok y ↦ Err (0, Truncated) | Err f ↦ Err f ]) e
 
-module _ (W : Wanted) (w : List ℕ) (four : length w ≡ 4) (place n : ℕ) (all : 4 + n ≡ needs W w) where
+module _ (W : WantedItem) (w : List ℕ) (four : length w ≡ 4) (place n : ℕ) (all : 4 + n ≡ needs W w) where
   abbrev whole : Spot → Read ItemView
   whole s = item_at W (spot place (w ++ s.bytes))
 
@@ -119,7 +119,7 @@ module _ (W : Wanted) (w : List ℕ) (four : length w ≡ 4) (place n : ℕ) (al
       let j = joins p q bytes out h.0 start h.2 in
       (h.0, h.1, ap (λ (z : List ℕ). item_at W (spot place z)) j.split ∙ is place h.0 ∙ ap (λ (k : ℕ). Ok (item_view x, spot k h.0)) (sym j.at))
 
-  pub after_stop : (out : List ℕ) (a b : Option (List ℕ)) (p q r : ℕ) (st : Stop) (e : DecodeFault) → p ≡ moved place 4 → ReadsAs {X = Unit {0}} (λ _. out) a b p q (Ok tt) (added_at w place n) → IsWhole W out (Err st) → IsStop st place e → ReadsAs {X = Item} item_view a b p r (Err e) whole
+  pub after_stop : (out : List ℕ) (a b : Option (List ℕ)) (p q r : ℕ) (st : ItemFault) (e : DecodeFault) → p ≡ moved place 4 → ReadsAs {X = Unit {0}} (λ _. out) a b p q (Ok tt) (added_at w place n) → IsWhole W out (Err st) → IsStop st place e → ReadsAs {X = Item} item_view a b p r (Err e) whole
   after_stop out None b p q r st e start h is same = tt
   after_stop out (Some bytes) b p q r (stop.Refused cause) e start h is same =
       let j = joins p q bytes out h.0 start h.2 in
@@ -131,23 +131,23 @@ module _ (W : Wanted) (w : List ℕ) (four : length w ≡ 4) (place n : ℕ) (al
   after_whole out a b p q (Err e) start h is = after_stop out a b p q q is.0 e start h is.2 is.1
 
 -- the first four bytes are all of it
-module _ (W : Wanted) (w : List ℕ) (four : length w ≡ 4) (place : ℕ) where
+module _ (W : WantedItem) (w : List ℕ) (four : length w ≡ 4) (place : ℕ) where
   pub first_whole : (a : Option (List ℕ)) (p : ℕ) (r : Result Item DecodeFault) → p ≡ moved place 4 → IsWholeAt W w place r → ReadsAs item_view a a p p r (λ s. item_at W (spot place (w ++ s.bytes)))
   first_whole None p r start is = tt
   first_whole (Some bytes) p (Ok x) start is = (bytes, refl, is place bytes ∙ ap (λ (k : ℕ). Ok (item_view x, spot k bytes)) (ap (moved place) four ∙ sym start))
   first_whole (Some bytes) p (Err e) start is = by is.0 is.1 is.2
     where
-      by : (st : Stop) → IsStop st place e → IsWhole W w (Err st) → FailsAs e (item_at W (spot place (w ++ bytes)))
+      by : (st : ItemFault) → IsStop st place e → IsWhole W w (Err st) → FailsAs e (item_at W (spot place (w ++ bytes)))
       by (stop.Refused cause) same k = subst (λ (f : DecodeFault). FailsAs f (item_at W (spot place (w ++ bytes)))) (sym same) (k.1 place bytes)
       by stop.Memory same k = subst (λ (f : DecodeFault). FailsAs f (item_at W (spot place (w ++ bytes)))) (sym same) tt
 
 -- the length of what was added to the first four bytes
-pub whole_length : (W : Wanted) (w x out : List ℕ) (n : ℕ) → length w ≡ 4 → 4 + n ≡ needs W w → out ≡ w ++ x → length x ≡ n → length out ≡ needs W out
+pub whole_length : (W : WantedItem) (w x out : List ℕ) (n : ℕ) → length w ≡ 4 → 4 + n ≡ needs W w → out ≡ w ++ x → length x ≡ n → length out ≡ needs W out
 whole_length W w x out n four all is len = omega (arith, ap length is, length-append w x, four, len, all, needs_first W w x four, ap (needs W) is)
 
 -- ---- the item, or the end
 
-module _ (W : Wanted) (a : Option (List ℕ)) where
+module _ (W : WantedItem) (a : Option (List ℕ)) where
   pub or_item : (mid b : Option (List ℕ)) (p q r : ℕ) (w : List ℕ) (x : Item) → length w ≡ 4 → IfSome a (λ bytes. TakesBytes 4 bytes mid (Ok w)) → ReadsAs item_view mid b q r (Ok x) (λ s. item_at W (spot p (w ++ s.bytes))) → OrEnds item_view a b p r (Ok (Some x)) (item_at W)
   or_item = by a
     where
@@ -167,27 +167,27 @@ module _ (W : Wanted) (a : Option (List ℕ)) where
       by (Some bytes) (Some rest) b p q r w ReadFault four h k = tt
       by (Some bytes) (Some rest) b p q r w Memory four h k = tt
 
-pub or_none : (W : Wanted) (a b : Option (List ℕ)) (p had : ℕ) → had ≡ 0 → IfSome a (λ bytes. TakesBytes 4 bytes b (Err (took.Ended had))) → OrEnds {X = Item} item_view a b p p (Ok None) (item_at W)
+pub or_none : (W : WantedItem) (a b : Option (List ℕ)) (p had : ℕ) → had ≡ 0 → IfSome a (λ bytes. TakesBytes 4 bytes b (Err (took.Ended had))) → OrEnds {X = Item} item_view a b p p (Ok None) (item_at W)
 or_none W None b p had zero h = tt
 or_none W (Some bytes) b p had zero h = (nil_from_length bytes (h.0 ∙ zero), h.2, refl)
 
-pub or_short : (W : Wanted) (a b : Option (List ℕ)) (p q had : ℕ) → ((x : List ℕ) → 4 ≤ needs W x) → had ≢ 0 → IfSome a (λ bytes. TakesBytes 4 bytes b (Err (took.Ended had))) → OrEnds {X = Item} item_view a b p q (Err (Refused p Truncated)) (item_at W)
+pub or_short : (W : WantedItem) (a b : Option (List ℕ)) (p q had : ℕ) → ((x : List ℕ) → 4 ≤ needs W x) → had ≢ 0 → IfSome a (λ bytes. TakesBytes 4 bytes b (Err (took.Ended had))) → OrEnds {X = Item} item_view a b p q (Err (Refused p Truncated)) (item_at W)
 or_short W None b p q had wide some h = tt
 or_short W (Some bytes) b p q had wide some h = (omega (arith, h.0, some), item_cut W p bytes (omega (arith, h.0, h.1, wide bytes)))
 
 -- ---- the item, where the end cuts it off
 
-pub is_item : (W : Wanted) (a b : Option (List ℕ)) (p q : ℕ) (x : Item) → OrEnds item_view a b p q (Ok (Some x)) (item_at W) → ReadsAs item_view a b p q (Ok x) (item_at W)
+pub is_item : (W : WantedItem) (a b : Option (List ℕ)) (p q : ℕ) (x : Item) → OrEnds item_view a b p q (Ok (Some x)) (item_at W) → ReadsAs item_view a b p q (Ok x) (item_at W)
 is_item W None b p q x h = tt
 is_item W (Some bytes) b p q x h = h.1
 
-pub is_fault : (W : Wanted) (a b : Option (List ℕ)) (p q r : ℕ) (e : DecodeFault) → OrEnds {X = Item} item_view a b p q (Err e) (item_at W) → ReadsAs {X = Item} item_view a b p r (Err e) (item_at W)
+pub is_fault : (W : WantedItem) (a b : Option (List ℕ)) (p q r : ℕ) (e : DecodeFault) → OrEnds {X = Item} item_view a b p q (Err e) (item_at W) → ReadsAs {X = Item} item_view a b p r (Err e) (item_at W)
 is_fault W None b p q r e h = tt
 is_fault W (Some bytes) b p q r (Refused at cause) h = h.1
 is_fault W (Some bytes) b p q r ReadFault h = tt
 is_fault W (Some bytes) b p q r Memory h = tt
 
-pub is_cut : (W : Wanted) (a b : Option (List ℕ)) (p q r : ℕ) → ((x : List ℕ) → 4 ≤ needs W x) → OrEnds {X = Item} item_view a b p q (Ok None) (item_at W) → ReadsAs {X = Item} item_view a b p r (Err (Refused p Truncated)) (item_at W)
+pub is_cut : (W : WantedItem) (a b : Option (List ℕ)) (p q r : ℕ) → ((x : List ℕ) → 4 ≤ needs W x) → OrEnds {X = Item} item_view a b p q (Ok None) (item_at W) → ReadsAs {X = Item} item_view a b p r (Err (Refused p Truncated)) (item_at W)
 is_cut W None b p q r wide h = tt
 is_cut W (Some bytes) b p q r wide h = item_cut W p bytes (omega (arith, ap length h.0, wide bytes))
 
@@ -233,5 +233,5 @@ pub raw_item : (s : Spot) → plain_at type.raw s ≡ item_value_at wanted.Text 
 unfolding plain_at
 raw_item s = text_item s
 
-pub plain_item : (a b : Option (List ℕ)) (p q : ℕ) (res : Result Value DecodeFault) (T U : Shape) (W : Wanted) → T ≡ U → ((s : Spot) → plain_at U s ≡ item_value_at W s) → ReadsAs view a b p q res (item_value_at W) → ReadsAs view a b p q res (plain_at T)
+pub plain_item : (a b : Option (List ℕ)) (p q : ℕ) (res : Result Value DecodeFault) (T U : Shape) (W : WantedItem) → T ≡ U → ((s : Spot) → plain_at U s ≡ item_value_at W s) → ReadsAs view a b p q res (item_value_at W) → ReadsAs view a b p q res (plain_at T)
 plain_item a b p q res T U W is e h = as_read view a b p q res (item_value_at W) (plain_at T) h (λ s. ap (λ (t : Shape). plain_at t s) is ∙ e s)

@@ -19,7 +19,7 @@ use crate::fault::DecodeFault;
 use crate::feeding::{Span, after_item};
 use crate::items::item_or_end;
 use crate::planned::{finish, settle_at};
-use crate::stack::{Found, Frame, Next, Wanted};
+use crate::stack::{Found, Next, StackFrame, WantedItem};
 use std::alloc::Global;
 use tl_base::{Source, take_end};
 use tl_plan::{Form, Plan};
@@ -88,8 +88,8 @@ fn root_or_end<S: Source>(
 fn first_of<S: Source>(
     alloc: Global,
     plan: &Plan,
-    frames: &mut Vec<Frame>,
-    wanted: Wanted,
+    frames: &mut Vec<StackFrame>,
+    wanted: WantedItem,
     at: &mut u64,
     from: &mut S,
 ) -> Result<Option<Value>, DecodeFault>

@@ -7,7 +7,7 @@ use crate::fault::DecodeFault;
 use crate::held_items::{next_item, next_word};
 use crate::machine::{close_part, go_on};
 use crate::planned::{settle_at, stopped};
-use crate::stack::{Found, Frame, Item, Next, Onward, Reading, Wanted};
+use crate::stack::{Found, Item, Next, Onward, Reading, StackFrame, WantedItem};
 use crate::taking::take;
 use std::alloc::Global;
 use tl_plan::Plan;
@@ -79,7 +79,7 @@ fn take_words(
 fn after_value(
     alloc: Global,
     plan: &Plan,
-    frames: &mut Vec<Frame>,
+    frames: &mut Vec<StackFrame>,
     value: Value,
     place: u64,
 ) -> Result<Found, DecodeFault>
@@ -98,13 +98,13 @@ fn after_value(
 fn found_after(
     alloc: Global,
     plan: &Plan,
-    frames: &mut Vec<Frame>,
+    frames: &mut Vec<StackFrame>,
     onward: Onward,
     place: u64,
 ) -> Result<Found, DecodeFault>
-    requires goes { (old : List Frame) × (v : Value) × GoesOn plan.now old v frames.old.items onward }
+    requires goes { (old : List StackFrame) × (v : Value) × GoesOn plan.now old v frames.old.items onward }
     requires some { 0 < length frames.old.items }
-    ensures { (old : List Frame) (v : Value) → GoesOn plan.now old v frames.old.items onward → SettlesAt plan.now (next_at plan.now (views plan.now old) (Next.Close v)) (next_work plan.now (views plan.now old) (Next.Close v)) place frames.new.items result }
+    ensures { (old : List StackFrame) (v : Value) → GoesOn plan.now old v frames.old.items onward → SettlesAt plan.now (next_at plan.now (views plan.now old) (Next.Close v)) (next_work plan.now (views plan.now old) (Next.Close v)) place frames.new.items result }
 {
     match onward {
         Onward::Item { wanted } => Ok(Found::Wants { wanted }),
@@ -117,13 +117,13 @@ fn found_after(
 
 // The value that the next four bytes are, where a number is looked for that is one, and no byte of it is held.
 #[inline(always)]
-fn next_value(wanted: Wanted, held: &[u8], next: &[u8]) -> Option<Value>
+fn next_value(wanted: WantedItem, held: &[u8], next: &[u8]) -> Option<Value>
     ensures { IfSome result (IsNextValue wanted held.now next.now) }
 {
     let word = next_word(wanted, held, next)?;
     match wanted {
-        Wanted::Int => Some(Value::Int(word.cast_signed())),
-        Wanted::Nat => Some(Value::Nat(word)),
+        WantedItem::Int => Some(Value::Int(word.cast_signed())),
+        WantedItem::Nat => Some(Value::Nat(word)),
         _ => None,
     }
 }
@@ -166,8 +166,8 @@ pub struct Span {
 pub fn after_item(
     alloc: Global,
     plan: &Plan,
-    frames: &mut Vec<Frame>,
-    wanted: Wanted,
+    frames: &mut Vec<StackFrame>,
+    wanted: WantedItem,
     item: Item,
     at: Span,
 ) -> Result<Found, DecodeFault>

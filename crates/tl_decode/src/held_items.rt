@@ -6,7 +6,7 @@ ghost use Rattle.tl_types.specs.Values.{long};
 ghost use Rattle.tl_types.specs.inner.Reading.{text_head_of};
 ghost use Rattle.tl_decode.specs.inner.Needs.{Fills, FindsItem, IsWhole, head_needs, needs, text_needs};
 
-use crate::stack::{Item, Stop, Wanted};
+use crate::stack::{Item, ItemFault, WantedItem};
 use crate::texts::{head_of, is_zero, missing_of};
 use std::alloc::{AllocError, Global};
 use tl_base::Bytes;
@@ -16,10 +16,10 @@ use tl_types::{Cause, Value};
 /// An item that is whole in the next bytes is not copied.
 pub fn next_item(
     alloc: Global,
-    wanted: Wanted,
+    wanted: WantedItem,
     held: &mut Vec<u8>,
     next: &[u8],
-) -> Result<Option<(Item, usize)>, Stop>
+) -> Result<Option<(Item, usize)>, ItemFault>
     requires { length held.old.items < needs wanted held.old.items }
     ensures { FindsItem wanted held.old.items held.new.items next.now result }
 {
@@ -44,7 +44,7 @@ pub fn next_item(
 }
 
 /// The four bytes that are looked for, where no byte of them is held and all of them are in the next ones.
-pub fn next_word(wanted: Wanted, held: &[u8], next: &[u8]) -> Option<u32>
+pub fn next_word(wanted: WantedItem, held: &[u8], next: &[u8]) -> Option<u32>
     ensures { IfSome result (λ word. FindsItem wanted held.now held.now next.now (Ok (Some (Item.Word word, 4)))) }
 {
     if !held.is_empty() {
@@ -54,19 +54,19 @@ pub fn next_word(wanted: Wanted, held: &[u8], next: &[u8]) -> Option<u32>
         return None;
     }
     match wanted {
-        Wanted::Long => None,
-        Wanted::Opaque { .. } => None,
-        Wanted::Text => None,
-        Wanted::Int => Some(word_in(next)),
-        Wanted::Nat => Some(word_in(next)),
-        Wanted::Number { .. } => Some(word_in(next)),
-        Wanted::ListNumber { .. } => Some(word_in(next)),
-        Wanted::Count { .. } => Some(word_in(next)),
+        WantedItem::Long => None,
+        WantedItem::Opaque { .. } => None,
+        WantedItem::Text => None,
+        WantedItem::Int => Some(word_in(next)),
+        WantedItem::Nat => Some(word_in(next)),
+        WantedItem::Number { .. } => Some(word_in(next)),
+        WantedItem::ListNumber { .. } => Some(word_in(next)),
+        WantedItem::Count { .. } => Some(word_in(next)),
     }
 }
 
 // Holds the next bytes of an item, until it is whole.
-fn fill(wanted: Wanted, held: &mut Vec<u8>, next: &[u8]) -> Result<usize, AllocError>
+fn fill(wanted: WantedItem, held: &mut Vec<u8>, next: &[u8]) -> Result<usize, AllocError>
     requires { length held.old.items < needs wanted held.old.items }
     ensures { IfOk result (Fills wanted held.old.items held.new.items next.now) }
 {
@@ -84,18 +84,18 @@ fn fill(wanted: Wanted, held: &mut Vec<u8>, next: &[u8]) -> Result<usize, AllocE
 }
 
 /// How many bytes the item has that is looked for, as far as its first bytes tell.
-pub fn need_of(wanted: Wanted, bytes: &[u8]) -> usize
+pub fn need_of(wanted: WantedItem, bytes: &[u8]) -> usize
     ensures { result ≡ needs wanted bytes.now }
 {
     match wanted {
-        Wanted::Long => 8,
-        Wanted::Opaque { width } => width as usize,
-        Wanted::Text => text_need_of(bytes),
-        Wanted::Int => 4,
-        Wanted::Nat => 4,
-        Wanted::Number { .. } => 4,
-        Wanted::ListNumber { .. } => 4,
-        Wanted::Count { .. } => 4,
+        WantedItem::Long => 8,
+        WantedItem::Opaque { width } => width as usize,
+        WantedItem::Text => text_need_of(bytes),
+        WantedItem::Int => 4,
+        WantedItem::Nat => 4,
+        WantedItem::Number { .. } => 4,
+        WantedItem::ListNumber { .. } => 4,
+        WantedItem::Count { .. } => 4,
     }
 }
 
@@ -130,23 +130,23 @@ fn eight_bytes(bytes: &[u8]) -> [u8; 8]
 }
 
 /// The item that these bytes are.
-pub fn whole_item(alloc: Global, wanted: Wanted, bytes: &[u8]) -> Result<Item, Stop>
+pub fn whole_item(alloc: Global, wanted: WantedItem, bytes: &[u8]) -> Result<Item, ItemFault>
     requires { length bytes.now ≡ needs wanted bytes.now }
     ensures { IsWhole wanted bytes.now result }
 {
     match wanted {
-        Wanted::Long => Ok(Item::Plain {
+        WantedItem::Long => Ok(Item::Plain {
             value: long_value(bytes),
         }),
-        Wanted::Opaque { .. } => Ok(Item::Plain {
+        WantedItem::Opaque { .. } => Ok(Item::Plain {
             value: Value::Opaque(Bytes::from_slice(alloc, bytes)?),
         }),
-        Wanted::Text => whole_text(alloc, bytes),
-        Wanted::Int => Ok(whole_word(bytes)),
-        Wanted::Nat => Ok(whole_word(bytes)),
-        Wanted::Number { .. } => Ok(whole_word(bytes)),
-        Wanted::ListNumber { .. } => Ok(whole_word(bytes)),
-        Wanted::Count { .. } => Ok(whole_word(bytes)),
+        WantedItem::Text => whole_text(alloc, bytes),
+        WantedItem::Int => Ok(whole_word(bytes)),
+        WantedItem::Nat => Ok(whole_word(bytes)),
+        WantedItem::Number { .. } => Ok(whole_word(bytes)),
+        WantedItem::ListNumber { .. } => Ok(whole_word(bytes)),
+        WantedItem::Count { .. } => Ok(whole_word(bytes)),
     }
 }
 
@@ -159,7 +159,7 @@ fn long_value(bytes: &[u8]) -> Value
 
 fn whole_word(bytes: &[u8]) -> Item
     requires { length bytes.now ≡ 4 }
-    ensures { IsWhole Wanted.Nat bytes.now (Ok result) }
+    ensures { IsWhole WantedItem.Nat bytes.now (Ok result) }
 {
     Item::Word {
         word: word_in(bytes),
@@ -173,26 +173,26 @@ fn word_in(bytes: &[u8]) -> u32
     u32::from_le_bytes(four_bytes(bytes))
 }
 
-fn whole_text(alloc: Global, bytes: &[u8]) -> Result<Item, Stop>
+fn whole_text(alloc: Global, bytes: &[u8]) -> Result<Item, ItemFault>
     requires { length bytes.now ≡ text_needs bytes.now }
-    ensures { IsWhole Wanted.Text bytes.now result }
+    ensures { IsWhole WantedItem.Text bytes.now result }
 {
     match head_of(four_bytes(bytes)) {
         Ok((head, length)) => text_item(alloc, bytes, head as usize, length as usize),
-        Err(cause) => Err(Stop::Refused { cause }),
+        Err(cause) => Err(ItemFault::Refused { cause }),
     }
 }
 
 // A string with such a head and text.
-fn text_item(alloc: Global, bytes: &[u8], head: usize, size: usize) -> Result<Item, Stop>
+fn text_item(alloc: Global, bytes: &[u8], head: usize, size: usize) -> Result<Item, ItemFault>
     requires head { text_head_of (take 4 bytes.now) ≡ Ok (head, size) }
     requires few { head ≤ 4 }
     requires all { length bytes.now ≡ head_needs (Ok (head, size)) }
     requires some { 4 ≤ length bytes.now }
-    ensures { IsWhole Wanted.Text bytes.now result }
+    ensures { IsWhole WantedItem.Text bytes.now result }
 {
     if !is_zero(&bytes[head + size..]) {
-        return Err(Stop::Refused {
+        return Err(ItemFault::Refused {
             cause: Cause::BadPadding,
         });
     }

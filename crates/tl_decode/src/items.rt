@@ -10,7 +10,7 @@ ghost use Rattle.tl_decode.specs.inner.Steps.{OrEnds, ReadsAs};
 use crate::fault::DecodeFault;
 use crate::held_items::{need_of, whole_item};
 use crate::planned::stopped;
-use crate::stack::{Item, Wanted};
+use crate::stack::{Item, WantedItem};
 use std::alloc::Global;
 use tl_base::{Source, TakeFault, take_bytes, take_word};
 use tl_types::Cause;
@@ -39,7 +39,7 @@ pub fn word_of<S: Source>(at: &mut u64, from: &mut S) -> Result<u32, DecodeFault
 /// The item that is looked for.
 pub fn item_of<S: Source>(
     alloc: Global,
-    wanted: Wanted,
+    wanted: WantedItem,
     at: &mut u64,
     from: &mut S,
 ) -> Result<Item, DecodeFault>
@@ -60,7 +60,7 @@ pub fn item_of<S: Source>(
 /// The item that is looked for, or None where the input has ended.
 pub fn item_or_end<S: Source>(
     alloc: Global,
-    wanted: Wanted,
+    wanted: WantedItem,
     at: &mut u64,
     from: &mut S,
 ) -> Result<Option<Item>, DecodeFault>
@@ -91,7 +91,7 @@ pub fn item_or_end<S: Source>(
 // The item at the place that begins with these four bytes.
 fn item_after<S: Source>(
     alloc: Global,
-    wanted: Wanted,
+    wanted: WantedItem,
     word: [u8; 4],
     place: u64,
     at: &mut u64,
@@ -112,7 +112,7 @@ fn item_after<S: Source>(
 }
 
 // The item that these bytes at a place are.
-fn item_in(alloc: Global, wanted: Wanted, bytes: &[u8], place: u64) -> Result<Item, DecodeFault>
+fn item_in(alloc: Global, wanted: WantedItem, bytes: &[u8], place: u64) -> Result<Item, DecodeFault>
     requires { length bytes.now ≡ needs wanted bytes.now }
     ensures { IsWholeAt wanted bytes.now place result }
 {

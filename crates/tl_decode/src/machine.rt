@@ -4,7 +4,7 @@ ghost use Rattle.tl_decode.specs.inner.Frames.{AreWell, GoesOn, IsWellNext, Sett
 
 use crate::opening::{onward, open};
 use crate::parts::{add, part};
-use crate::stack::{Found, Frame, Next, Onward, Step, Stop, Wanted};
+use crate::stack::{Advance, Found, ItemFault, Next, Onward, StackFrame, WantedItem};
 use std::alloc::{AllocError, Global};
 use tl_plan::Plan;
 use tl_types::Value;
@@ -13,9 +13,9 @@ use tl_types::Value;
 pub fn settle(
     alloc: Global,
     plan: &Plan,
-    frames: &mut Vec<Frame>,
+    frames: &mut Vec<StackFrame>,
     first: Next,
-) -> Result<Found, Stop>
+) -> Result<Found, ItemFault>
     requires frames { AreWell plan.now frames.old.items }
     requires first { IsWellNext plan.now first }
     ensures { SettlesFrom plan.now frames.old.items first frames.new.items result }
@@ -23,13 +23,18 @@ pub fn settle(
     let mut next = first;
     'steps: loop {
         match step(alloc, plan, frames, next)? {
-            Step::Goes { next: later } => next = later,
-            Step::Stops { found } => return Ok(found),
+            Advance::Goes { next: later } => next = later,
+            Advance::Stops { found } => return Ok(found),
         }
     }
 }
 
-fn step(alloc: Global, plan: &Plan, frames: &mut Vec<Frame>, next: Next) -> Result<Step, Stop>
+fn step(
+    alloc: Global,
+    plan: &Plan,
+    frames: &mut Vec<StackFrame>,
+    next: Next,
+) -> Result<Advance, ItemFault>
     requires frames { AreWell plan.now frames.old.items }
     requires next { IsWellNext plan.now next }
     ensures { StepsFrom plan.now frames.old.items next frames.new.items result }
@@ -38,26 +43,31 @@ fn step(alloc: Global, plan: &Plan, frames: &mut Vec<Frame>, next: Next) -> Resu
         Next::Open { of } => open(alloc, plan, frames, of),
         Next::Part { top } => part(alloc, plan, frames, top),
         Next::Close { value } => close(alloc, plan, frames, value),
-        Next::Begin { item } => Ok(Step::Stops {
+        Next::Begin { item } => Ok(Advance::Stops {
             found: Found::Wants {
-                wanted: Wanted::Count { item },
+                wanted: WantedItem::Count { item },
             },
         }),
     }
 }
 
 // A value becomes a part of the innermost list or record, whose next part is opened at once; without one it is the whole.
-fn close(alloc: Global, plan: &Plan, frames: &mut Vec<Frame>, value: Value) -> Result<Step, Stop>
+fn close(
+    alloc: Global,
+    plan: &Plan,
+    frames: &mut Vec<StackFrame>,
+    value: Value,
+) -> Result<Advance, ItemFault>
     requires frames { AreWell plan.now frames.old.items }
     ensures { StepsFrom plan.now frames.old.items (Next.Close value) frames.new.items result }
 {
     match frames.last_mut() {
-        None => Ok(Step::Stops {
+        None => Ok(Advance::Stops {
             found: Found::Done { value },
         }),
         Some(top) => match add(plan, top, value)? {
             Some(of) => open(alloc, plan, frames, of),
-            None => Ok(Step::Goes {
+            None => Ok(Advance::Goes {
                 next: Next::Part {
                     top: innermost(frames),
                 },
@@ -68,7 +78,11 @@ fn close(alloc: Global, plan: &Plan, frames: &mut Vec<Frame>, value: Value) -> R
 
 /// A value becomes a part of the innermost list or record, of which there is one. This is the first step of `settle`, told without a value.
 #[inline(always)]
-pub fn close_part(plan: &Plan, frames: &mut Vec<Frame>, value: Value) -> Result<Onward, AllocError>
+pub fn close_part(
+    plan: &Plan,
+    frames: &mut Vec<StackFrame>,
+    value: Value,
+) -> Result<Onward, AllocError>
     requires frames { AreWell plan.now frames.old.items }
     requires some { 0 < length frames.old.items }
     ensures goes { IfOk result (GoesOn plan.now frames.old.items value frames.new.items) }
@@ -88,12 +102,12 @@ pub fn close_part(plan: &Plan, frames: &mut Vec<Frame>, value: Value) -> Result<
 pub fn go_on(
     alloc: Global,
     plan: &Plan,
-    frames: &mut Vec<Frame>,
+    frames: &mut Vec<StackFrame>,
     onward: Onward,
-) -> Result<Found, Stop>
-    requires goes { (old : List Frame) × (v : Value) × GoesOn plan.now old v frames.old.items onward }
+) -> Result<Found, ItemFault>
+    requires goes { (old : List StackFrame) × (v : Value) × GoesOn plan.now old v frames.old.items onward }
     requires some { 0 < length frames.old.items }
-    ensures { (old : List Frame) (v : Value) → GoesOn plan.now old v frames.old.items onward → SettlesFrom plan.now old (Next.Close v) frames.new.items result }
+    ensures { (old : List StackFrame) (v : Value) → GoesOn plan.now old v frames.old.items onward → SettlesFrom plan.now old (Next.Close v) frames.new.items result }
 {
     match onward {
         Onward::Item { wanted } => Ok(Found::Wants { wanted }),
@@ -106,7 +120,7 @@ pub fn go_on(
 }
 
 // The innermost list or record, taken off.
-fn innermost(frames: &mut Vec<Frame>) -> Frame
+fn innermost(frames: &mut Vec<StackFrame>) -> StackFrame
     requires { 0 < length frames.old.items }
     ensures { frames.old.items ≡ frames.new.items ++ result ∷ [] }
 {

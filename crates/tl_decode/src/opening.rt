@@ -3,7 +3,7 @@ ghost use Rattle.std.specs.Prelude.{◌≡◌, ◌<◌, IfOk, IfSome, List, Ok, 
 ghost use Rattle.tl_plan.specs.Plans.{IsPlan};
 ghost use Rattle.tl_decode.specs.inner.Frames.{AreWell, GoesOn, IsBare, IsFresh, IsInPlan, IsList, IsNumbered, StepsFrom, members_in, type_in};
 
-use crate::stack::{Found, Frame, Next, Onward, Step, Stop, Wanted};
+use crate::stack::{Advance, Found, ItemFault, Next, Onward, StackFrame, WantedItem};
 use std::alloc::{AllocError, Global};
 use tl_plan::{Form, Plan};
 use tl_types::{Cause, MAX_LEVELS, Value};
@@ -11,20 +11,25 @@ use tl_types::{Cause, MAX_LEVELS, Value};
 /// A value of this instance is to be read: its first item is looked for, or it has none.
 // Each of its four calls stands on the path of every value: as a call of its own it costs a tenth of `decode`.
 #[inline(always)]
-pub fn open(alloc: Global, plan: &Plan, frames: &Vec<Frame>, of: u32) -> Result<Step, Stop>
+pub fn open(
+    alloc: Global,
+    plan: &Plan,
+    frames: &Vec<StackFrame>,
+    of: u32,
+) -> Result<Advance, ItemFault>
     requires frames { AreWell plan.now frames.now.items }
     requires within { IsInPlan plan.now of }
     ensures { StepsFrom plan.now frames.now.items (Next.Open of) frames.now.items result }
 {
     match plan.instance(of).form {
-        Form::Int => Ok(wants(Wanted::Int)),
-        Form::Long => Ok(wants(Wanted::Long)),
-        Form::Nat => Ok(wants(Wanted::Nat)),
-        Form::Double => Ok(wants(Wanted::Opaque { width: 8 })),
-        Form::Int128 => Ok(wants(Wanted::Opaque { width: 16 })),
-        Form::Int256 => Ok(wants(Wanted::Opaque { width: 32 })),
-        Form::Str => Ok(wants(Wanted::Text)),
-        Form::Raw => Ok(wants(Wanted::Text)),
+        Form::Int => Ok(wants(WantedItem::Int)),
+        Form::Long => Ok(wants(WantedItem::Long)),
+        Form::Nat => Ok(wants(WantedItem::Nat)),
+        Form::Double => Ok(wants(WantedItem::Opaque { width: 8 })),
+        Form::Int128 => Ok(wants(WantedItem::Opaque { width: 16 })),
+        Form::Int256 => Ok(wants(WantedItem::Opaque { width: 32 })),
+        Form::Str => Ok(wants(WantedItem::Text)),
+        Form::Raw => Ok(wants(WantedItem::Text)),
         Form::Flag => Ok(closes(Value::Truth)),
         Form::Var { .. } => Ok(closes(Value::Absent)),
         Form::Vector { boxed } => open_list(plan, frames, of, boxed),
@@ -38,7 +43,7 @@ pub fn open(alloc: Global, plan: &Plan, frames: &Vec<Frame>, of: u32) -> Result<
 #[inline(always)]
 pub fn onward(plan: &Plan, of: u32) -> Onward
     requires { IsInPlan plan.now of }
-    ensures { (old new : List Frame) (v : Value) → StepsFrom plan.now old (Next.Close v) new (Ok (Step.Goes (Next.Open of))) → GoesOn plan.now old v new result }
+    ensures { (old new : List StackFrame) (v : Value) → StepsFrom plan.now old (Next.Close v) new (Ok (Advance.Goes (Next.Open of))) → GoesOn plan.now old v new result }
 {
     match item_of(plan, of) {
         Some(wanted) => Onward::Item { wanted },
@@ -48,57 +53,62 @@ pub fn onward(plan: &Plan, of: u32) -> Onward
 
 // The item that a value of this instance is, if it is one.
 #[inline(always)]
-fn item_of(plan: &Plan, of: u32) -> Option<Wanted>
+fn item_of(plan: &Plan, of: u32) -> Option<WantedItem>
     requires { IsInPlan plan.now of }
-    ensures { IfSome result (λ W. (fs : List Frame) → AreWell plan.now fs → StepsFrom plan.now fs (Next.Open of) fs (Ok (Step.Stops (Found.Wants W)))) }
+    ensures { IfSome result (λ W. (fs : List StackFrame) → AreWell plan.now fs → StepsFrom plan.now fs (Next.Open of) fs (Ok (Advance.Stops (Found.Wants W)))) }
 {
     match plan.instance(of).form {
-        Form::Int => Some(Wanted::Int),
-        Form::Long => Some(Wanted::Long),
-        Form::Nat => Some(Wanted::Nat),
-        Form::Double => Some(Wanted::Opaque { width: 8 }),
-        Form::Int128 => Some(Wanted::Opaque { width: 16 }),
-        Form::Int256 => Some(Wanted::Opaque { width: 32 }),
-        Form::Str => Some(Wanted::Text),
-        Form::Raw => Some(Wanted::Text),
+        Form::Int => Some(WantedItem::Int),
+        Form::Long => Some(WantedItem::Long),
+        Form::Nat => Some(WantedItem::Nat),
+        Form::Double => Some(WantedItem::Opaque { width: 8 }),
+        Form::Int128 => Some(WantedItem::Opaque { width: 16 }),
+        Form::Int256 => Some(WantedItem::Opaque { width: 32 }),
+        Form::Str => Some(WantedItem::Text),
+        Form::Raw => Some(WantedItem::Text),
         _ => None,
     }
 }
 
-fn wants(wanted: Wanted) -> Step
-    ensures { result ≡ Step.Stops (Found.Wants wanted) }
+fn wants(wanted: WantedItem) -> Advance
+    ensures { result ≡ Advance.Stops (Found.Wants wanted) }
 {
-    Step::Stops {
+    Advance::Stops {
         found: Found::Wants { wanted },
     }
 }
 
-fn closes(value: Value) -> Step
-    ensures { result ≡ Step.Goes (Next.Close value) }
+fn closes(value: Value) -> Advance
+    ensures { result ≡ Advance.Goes (Next.Close value) }
 {
-    Step::Goes {
+    Advance::Goes {
         next: Next::Close { value },
     }
 }
 
 // A vector: its number is looked for where it is boxed, else its count.
-fn open_list(plan: &Plan, frames: &Vec<Frame>, of: u32, boxed: bool) -> Result<Step, Stop>
+fn open_list(
+    plan: &Plan,
+    frames: &Vec<StackFrame>,
+    of: u32,
+    boxed: bool,
+) -> Result<Advance, ItemFault>
     requires frames { AreWell plan.now frames.now.items }
     requires within { IsInPlan plan.now of }
     requires list { IsList (type_in plan.now of) boxed }
     ensures { StepsFrom plan.now frames.now.items (Next.Open of) frames.now.items result }
 {
     if frames.len() >= MAX_LEVELS as usize {
-        return Err(Stop::Refused {
+        return Err(ItemFault::Refused {
             cause: Cause::TooDeep,
         });
     }
     match plan.instance(of).item {
         Some(item) => {
             if boxed {
-                Ok(wants(Wanted::ListNumber { item }))
+                Ok(wants(WantedItem::ListNumber { item }))
             } else {
-                Ok(wants(Wanted::Count { item }))
+                Ok(wants(WantedItem::Count { item }))
             }
         }
         None => unreachable!(),
@@ -106,28 +116,28 @@ fn open_list(plan: &Plan, frames: &Vec<Frame>, of: u32, boxed: bool) -> Result<S
 }
 
 // A boxed value or a call: its number is looked for.
-fn open_numbered(plan: &Plan, frames: &Vec<Frame>, of: u32) -> Result<Step, Stop>
+fn open_numbered(plan: &Plan, frames: &Vec<StackFrame>, of: u32) -> Result<Advance, ItemFault>
     requires frames { AreWell plan.now frames.now.items }
     requires within { IsInPlan plan.now of }
     requires numbered { IsNumbered (type_in plan.now of) }
     ensures { StepsFrom plan.now frames.now.items (Next.Open of) frames.now.items result }
 {
     if frames.len() >= MAX_LEVELS as usize {
-        return Err(Stop::Refused {
+        return Err(ItemFault::Refused {
             cause: Cause::TooDeep,
         });
     }
-    Ok(wants(Wanted::Number { of }))
+    Ok(wants(WantedItem::Number { of }))
 }
 
 // A bare record: its fields come next.
 fn open_bare(
     alloc: Global,
     plan: &Plan,
-    frames: &Vec<Frame>,
+    frames: &Vec<StackFrame>,
     of: u32,
     entry: u32,
-) -> Result<Step, Stop>
+) -> Result<Advance, ItemFault>
     requires frames { AreWell plan.now frames.now.items }
     requires within { IsInPlan plan.now of }
     requires bare { IsBare (type_in plan.now of) entry }
@@ -135,23 +145,23 @@ fn open_bare(
     ensures { StepsFrom plan.now frames.now.items (Next.Open of) frames.now.items result }
 {
     if frames.len() >= MAX_LEVELS as usize {
-        return Err(Stop::Refused {
+        return Err(ItemFault::Refused {
             cause: Cause::TooDeep,
         });
     }
     let top = begin(alloc, plan, of, 0)?;
-    Ok(Step::Goes {
+    Ok(Advance::Goes {
         next: Next::Part { top },
     })
 }
 
 /// A record of a member of an instance, before its first field.
-pub fn begin(alloc: Global, plan: &Plan, of: u32, member: usize) -> Result<Frame, AllocError>
+pub fn begin(alloc: Global, plan: &Plan, of: u32, member: usize) -> Result<StackFrame, AllocError>
     requires within { IsInPlan plan.now of }
     requires member { member < length (members_in plan.now of) }
     ensures { IfOk result (IsFresh plan.now of member) }
 {
     let count = plan.instance(of).members[member].fields.len();
     let fields = Vec::with_capacity(alloc, count)?;
-    Ok(Frame::Record { of, member, fields })
+    Ok(StackFrame::Record { of, member, fields })
 }

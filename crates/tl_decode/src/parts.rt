@@ -4,43 +4,48 @@ ghost use Rattle.tl_types.specs.Seen.{view, views as values};
 ghost use Rattle.tl_decode.specs.inner.Frames.{Adds, AreWell, Comes, IsWellFrame, StepsFrom, made, type_in};
 
 use crate::opening::open;
-use crate::stack::{Coming, Frame, Next, Step, Stop};
+use crate::stack::{Advance, Coming, ItemFault, Next, StackFrame};
 use std::alloc::{AllocError, Global};
 use tl_plan::{Form, Plan};
 use tl_types::{Value, stands};
 
 /// The next part is opened, or the list or record is whole.
-pub fn part(alloc: Global, plan: &Plan, frames: &mut Vec<Frame>, top: Frame) -> Result<Step, Stop>
+pub fn part(
+    alloc: Global,
+    plan: &Plan,
+    frames: &mut Vec<StackFrame>,
+    top: StackFrame,
+) -> Result<Advance, ItemFault>
     requires frames { AreWell plan.now frames.old.items }
     requires top { IsWellFrame plan.now top }
     ensures { StepsFrom plan.now frames.old.items (Next.Part top) frames.new.items result }
 {
     match top {
-        Frame::List { item, left, items } => element(alloc, plan, frames, item, left, items),
-        Frame::Record { of, member, fields } => field(alloc, plan, frames, of, member, fields),
+        StackFrame::List { item, left, items } => element(alloc, plan, frames, item, left, items),
+        StackFrame::Record { of, member, fields } => field(alloc, plan, frames, of, member, fields),
     }
 }
 
 fn element(
     alloc: Global,
     plan: &Plan,
-    frames: &mut Vec<Frame>,
+    frames: &mut Vec<StackFrame>,
     item: u32,
     left: u32,
     items: Vec<Value>,
-) -> Result<Step, Stop>
+) -> Result<Advance, ItemFault>
     requires frames { AreWell plan.now frames.old.items }
-    requires top { IsWellFrame plan.now (Frame.List item left items) }
-    ensures { StepsFrom plan.now frames.old.items (Next.Part (Frame.List item left items)) frames.new.items result }
+    requires top { IsWellFrame plan.now (StackFrame.List item left items) }
+    ensures { StepsFrom plan.now frames.old.items (Next.Part (StackFrame.List item left items)) frames.new.items result }
 {
     if left == 0 {
-        return Ok(Step::Goes {
+        return Ok(Advance::Goes {
             next: Next::Close {
                 value: Value::List(items),
             },
         });
     }
-    frames.push(Frame::List {
+    frames.push(StackFrame::List {
         item,
         left: left - 1,
         items,
@@ -52,31 +57,31 @@ fn element(
 fn field(
     alloc: Global,
     plan: &Plan,
-    frames: &mut Vec<Frame>,
+    frames: &mut Vec<StackFrame>,
     of: u32,
     member: usize,
     mut fields: Vec<Value>,
-) -> Result<Step, Stop>
+) -> Result<Advance, ItemFault>
     requires frames { AreWell plan.now frames.old.items }
-    requires top { IsWellFrame plan.now (Frame.Record of member fields) }
-    ensures { StepsFrom plan.now frames.old.items (Next.Part (Frame.Record of member fields)) frames.new.items result }
+    requires top { IsWellFrame plan.now (StackFrame.Record of member fields) }
+    ensures { StepsFrom plan.now frames.old.items (Next.Part (StackFrame.Record of member fields)) frames.new.items result }
 {
     match coming(plan, of, member, &fields) {
-        Coming::End { entry } => Ok(Step::Goes {
+        Coming::End { entry } => Ok(Advance::Goes {
             next: Next::Close {
                 value: record_of(plan, of, entry, fields),
             },
         }),
         Coming::Absent => {
             fields.push(Value::Absent)?;
-            Ok(Step::Goes {
+            Ok(Advance::Goes {
                 next: Next::Part {
-                    top: Frame::Record { of, member, fields },
+                    top: StackFrame::Record { of, member, fields },
                 },
             })
         }
         Coming::Field { of: next } => {
-            frames.push(Frame::Record { of, member, fields })?;
+            frames.push(StackFrame::Record { of, member, fields })?;
             open(alloc, plan, frames, next)
         }
     }
@@ -85,12 +90,12 @@ fn field(
 /// A value becomes the next part of a list or a record. The instance of the part after it is answered; None where no part is left, or a field isn't
 /// there.
 #[inline(always)]
-pub fn add(plan: &Plan, top: &mut Frame, value: Value) -> Result<Option<u32>, AllocError>
+pub fn add(plan: &Plan, top: &mut StackFrame, value: Value) -> Result<Option<u32>, AllocError>
     requires { IsWellFrame plan.now top.old }
     ensures { IfOk result (Adds plan.now top.old value top.new) }
 {
     match top {
-        Frame::List { item, left, items } => {
+        StackFrame::List { item, left, items } => {
             items.push(value)?;
             if *left == 0 {
                 return Ok(None);
@@ -98,7 +103,7 @@ pub fn add(plan: &Plan, top: &mut Frame, value: Value) -> Result<Option<u32>, Al
             *left -= 1;
             Ok(Some(*item))
         }
-        Frame::Record { of, member, fields } => {
+        StackFrame::Record { of, member, fields } => {
             fields.push(value)?;
             match coming(plan, *of, *member, fields) {
                 Coming::Field { of: next } => Ok(Some(next)),
@@ -111,7 +116,7 @@ pub fn add(plan: &Plan, top: &mut Frame, value: Value) -> Result<Option<u32>, Al
 // What comes after the fields that are there.
 #[inline(always)]
 fn coming(plan: &Plan, of: u32, member: usize, fields: &Vec<Value>) -> Coming
-    requires { IsWellFrame plan.now (Frame.Record of member fields.now) }
+    requires { IsWellFrame plan.now (StackFrame.Record of member fields.now) }
     ensures { Comes plan.now of member fields.now result }
 {
     let instance = plan.instance(of);

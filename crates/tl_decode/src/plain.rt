@@ -10,7 +10,7 @@ ghost use Rattle.tl_decode.specs.inner.Steps.{ReadsAs};
 
 use crate::fault::DecodeFault;
 use crate::items::{item_of, word_of};
-use crate::stack::{Item, Wanted};
+use crate::stack::{Item, WantedItem};
 use std::alloc::Global;
 use tl_base::Source;
 use tl_schema::TypeRef;
@@ -43,13 +43,13 @@ pub fn plain_of<S: Source>(
             let word = word_of(at, from)?;
             Ok(Value::Int(word.cast_signed()))
         }
-        TypeRef::Long => value_item(alloc, Wanted::Long, at, from),
-        TypeRef::Nat => value_item(alloc, Wanted::Nat, at, from),
-        TypeRef::Double => value_item(alloc, Wanted::Opaque { width: 8 }, at, from),
-        TypeRef::Int128 => value_item(alloc, Wanted::Opaque { width: 16 }, at, from),
-        TypeRef::Int256 => value_item(alloc, Wanted::Opaque { width: 32 }, at, from),
-        TypeRef::Str => value_item(alloc, Wanted::Text, at, from),
-        TypeRef::Raw => value_item(alloc, Wanted::Text, at, from),
+        TypeRef::Long => value_item(alloc, WantedItem::Long, at, from),
+        TypeRef::Nat => value_item(alloc, WantedItem::Nat, at, from),
+        TypeRef::Double => value_item(alloc, WantedItem::Opaque { width: 8 }, at, from),
+        TypeRef::Int128 => value_item(alloc, WantedItem::Opaque { width: 16 }, at, from),
+        TypeRef::Int256 => value_item(alloc, WantedItem::Opaque { width: 32 }, at, from),
+        TypeRef::Str => value_item(alloc, WantedItem::Text, at, from),
+        TypeRef::Raw => value_item(alloc, WantedItem::Text, at, from),
         TypeRef::Flag => Ok(Value::Truth),
         TypeRef::Var { .. } => Ok(Value::Absent),
         TypeRef::Vector { .. } => Ok(Value::Absent),
@@ -62,7 +62,7 @@ pub fn plain_of<S: Source>(
 // The value of an item, where that of four bytes is their number.
 fn value_item<S: Source>(
     alloc: Global,
-    wanted: Wanted,
+    wanted: WantedItem,
     at: &mut u64,
     from: &mut S,
 ) -> Result<Value, DecodeFault>

@@ -17,7 +17,7 @@ ghost use Rattle.tl_decode.specs.inner.Steps.{ReadsAs};
 use crate::fault::DecodeFault;
 use crate::items::item_of;
 use crate::machine::settle;
-use crate::stack::{Found, Frame, Next, Stop, Wanted};
+use crate::stack::{Found, ItemFault, Next, StackFrame, WantedItem};
 use crate::taking::take;
 use std::alloc::Global;
 use tl_base::Source;
@@ -66,7 +66,7 @@ fn root_of<S: Source>(
 pub fn finish<S: Source>(
     alloc: Global,
     plan: &Plan,
-    frames: &mut Vec<Frame>,
+    frames: &mut Vec<StackFrame>,
     first: Found,
     at: &mut u64,
     from: &mut S,
@@ -91,8 +91,8 @@ pub fn finish<S: Source>(
 fn one_item<S: Source>(
     alloc: Global,
     plan: &Plan,
-    frames: &mut Vec<Frame>,
-    wanted: Wanted,
+    frames: &mut Vec<StackFrame>,
+    wanted: WantedItem,
     at: &mut u64,
     from: &mut S,
 ) -> Result<Found, DecodeFault>
@@ -115,7 +115,7 @@ fn one_item<S: Source>(
 pub fn settle_at(
     alloc: Global,
     plan: &Plan,
-    frames: &mut Vec<Frame>,
+    frames: &mut Vec<StackFrame>,
     next: Next,
     place: u64,
 ) -> Result<Found, DecodeFault>
@@ -130,11 +130,11 @@ pub fn settle_at(
 }
 
 /// The fault of a stop at a place.
-pub fn stopped(stop: Stop, place: u64) -> DecodeFault
+pub fn stopped(stop: ItemFault, place: u64) -> DecodeFault
     ensures { IsStop stop place result }
 {
     match stop {
-        Stop::Refused { cause } => DecodeFault::Refused { place, cause },
-        Stop::Memory => DecodeFault::Memory,
+        ItemFault::Refused { cause } => DecodeFault::Refused { place, cause },
+        ItemFault::Memory => DecodeFault::Memory,
     }
 }

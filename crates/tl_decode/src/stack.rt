@@ -5,7 +5,7 @@ use tl_types::{Cause, Value};
 
 /// A list or a record that was begun.
 #[derive(Drop)]
-pub enum Frame {
+pub enum StackFrame {
     /// The instance of its elements, how many come after the one that is read, and those that are there.
     List {
         item: u32,
@@ -22,7 +22,7 @@ pub enum Frame {
 
 /// The item that is looked for.
 #[derive(Clone, Copy)]
-pub enum Wanted {
+pub enum WantedItem {
     Int,
     Nat,
     Long,
@@ -51,7 +51,7 @@ pub enum Next {
     /// A value of this instance is to be read.
     Open { of: u32 },
     /// The parts of the innermost list or record that are still to come are to be read.
-    Part { top: Frame },
+    Part { top: StackFrame },
     /// A value is there.
     Close { value: Value },
     /// The count of a vector of elements of this instance is to be read.
@@ -73,7 +73,7 @@ pub enum Coming {
 #[derive(Clone, Copy)]
 pub enum Onward {
     /// An item is looked for.
-    Item { wanted: Wanted },
+    Item { wanted: WantedItem },
     /// A value of this instance is to be read.
     Value { of: u32 },
     /// A field isn't there, or the list or record is whole.
@@ -83,14 +83,14 @@ pub enum Onward {
 /// Where nothing goes on without bytes.
 #[derive(Drop)]
 pub enum Found {
-    Wants { wanted: Wanted },
+    Wants { wanted: WantedItem },
     Done { value: Value },
 }
 
 /// What reading goes on from where the bytes come in pieces: the lists and records that were begun, the item that is looked for, and its bytes so far.
 pub struct Reading {
-    pub frames: Vec<Frame>,
-    pub wanted: Wanted,
+    pub frames: Vec<StackFrame>,
+    pub wanted: WantedItem,
     pub held: Vec<u8>,
 }
 
@@ -114,7 +114,7 @@ pub enum Progress {
 }
 
 #[derive(Drop)]
-pub enum Step {
+pub enum Advance {
     Goes { next: Next },
     Stops { found: Found },
 }
@@ -129,30 +129,30 @@ pub enum Fed {
 }
 
 /// Why reading doesn't go on.
-pub enum Stop {
+pub enum ItemFault {
     /// The bytes are refused at the item that is looked for.
     Refused { cause: Cause },
     Memory,
 }
 
-impl From<AllocError> for Stop {
+impl From<AllocError> for ItemFault {
     ghost use Rattle.std.specs.Prelude.{◌≡◌};
-    ghost use Rattle.tl_decode.specs.declared.stack.Stop.TheVariants.{Memory};
+    ghost use Rattle.tl_decode.specs.declared.stack.ItemFault.TheVariants.{Memory};
 
     ghost from_gives = { λ _ e. e ≡ Memory };
 
-    fn from(_e: AllocError) -> Stop {
-        Stop::Memory
+    fn from(_e: AllocError) -> ItemFault {
+        ItemFault::Memory
     }
 }
 
-impl<T: Drop> From<AllocFailed<T>> for Stop {
+impl<T: Drop> From<AllocFailed<T>> for ItemFault {
     ghost use Rattle.std.specs.Prelude.{◌≡◌};
-    ghost use Rattle.tl_decode.specs.declared.stack.Stop.TheVariants.{Memory};
+    ghost use Rattle.tl_decode.specs.declared.stack.ItemFault.TheVariants.{Memory};
 
     ghost from_gives = { λ _ e. e ≡ Memory };
 
-    fn from(_e: AllocFailed<T>) -> Stop {
-        Stop::Memory
+    fn from(_e: AllocFailed<T>) -> ItemFault {
+        ItemFault::Memory
     }
 }

@@ -6,7 +6,7 @@ ghost use Rattle.tl_decode.specs.inner.Frames.{IsInPlan, IsWellWanted, Takes, en
 use crate::decoder::wrong;
 use crate::members::{function, member};
 use crate::opening::begin;
-use crate::stack::{Frame, Item, Next, Stop, Wanted};
+use crate::stack::{Item, ItemFault, Next, StackFrame, WantedItem};
 use std::alloc::Global;
 use tl_base::BOXED_VECTOR;
 use tl_plan::{Form, Member, Plan};
@@ -14,7 +14,7 @@ use tl_types::{Cause, Value};
 
 /// The item that was looked for is there.
 #[inline(always)]
-pub fn take(alloc: Global, plan: &Plan, wanted: Wanted, item: Item) -> Result<Next, Stop>
+pub fn take(alloc: Global, plan: &Plan, wanted: WantedItem, item: Item) -> Result<Next, ItemFault>
     requires { IsWellWanted plan.now wanted }
     ensures { Takes plan.now wanted (item_view item) result }
 {
@@ -24,53 +24,53 @@ pub fn take(alloc: Global, plan: &Plan, wanted: Wanted, item: Item) -> Result<Ne
     }
 }
 
-fn take_word(alloc: Global, plan: &Plan, wanted: Wanted, word: u32) -> Result<Next, Stop>
+fn take_word(alloc: Global, plan: &Plan, wanted: WantedItem, word: u32) -> Result<Next, ItemFault>
     requires { IsWellWanted plan.now wanted }
     ensures { Takes plan.now wanted (item_view (Item.Word word)) result }
 {
     match wanted {
-        Wanted::Int => Ok(Next::Close {
+        WantedItem::Int => Ok(Next::Close {
             value: Value::Int(word.cast_signed()),
         }),
-        Wanted::Number { of } => take_number(alloc, plan, of, word),
-        Wanted::ListNumber { item } => take_list_number(plan, item, word),
-        Wanted::Count { item } => take_count(alloc, plan, item, word),
-        Wanted::Nat => Ok(Next::Close {
+        WantedItem::Number { of } => take_number(alloc, plan, of, word),
+        WantedItem::ListNumber { item } => take_list_number(plan, item, word),
+        WantedItem::Count { item } => take_count(alloc, plan, item, word),
+        WantedItem::Nat => Ok(Next::Close {
             value: Value::Nat(word),
         }),
-        Wanted::Long => Ok(Next::Close {
+        WantedItem::Long => Ok(Next::Close {
             value: Value::Nat(word),
         }),
-        Wanted::Opaque { .. } => Ok(Next::Close {
+        WantedItem::Opaque { .. } => Ok(Next::Close {
             value: Value::Nat(word),
         }),
-        Wanted::Text => Ok(Next::Close {
+        WantedItem::Text => Ok(Next::Close {
             value: Value::Nat(word),
         }),
     }
 }
 
-fn take_list_number(plan: &Plan, item: u32, word: u32) -> Result<Next, Stop>
+fn take_list_number(plan: &Plan, item: u32, word: u32) -> Result<Next, ItemFault>
     requires { IsInPlan plan.now item }
-    ensures { Takes plan.now (Wanted.ListNumber item) (item_view (Item.Word word)) result }
+    ensures { Takes plan.now (WantedItem.ListNumber item) (item_view (Item.Word word)) result }
 {
     if word != BOXED_VECTOR {
-        return Err(Stop::Refused { cause: wrong(word) });
+        return Err(ItemFault::Refused { cause: wrong(word) });
     }
     Ok(Next::Begin { item })
 }
 
-fn take_count(alloc: Global, plan: &Plan, item: u32, word: u32) -> Result<Next, Stop>
+fn take_count(alloc: Global, plan: &Plan, item: u32, word: u32) -> Result<Next, ItemFault>
     requires { IsInPlan plan.now item }
-    ensures { Takes plan.now (Wanted.Count item) (item_view (Item.Word word)) result }
+    ensures { Takes plan.now (WantedItem.Count item) (item_view (Item.Word word)) result }
 {
     if word >= 0x8000_0000 {
-        return Err(Stop::Refused {
+        return Err(ItemFault::Refused {
             cause: Cause::BadCount { word },
         });
     }
     Ok(Next::Part {
-        top: Frame::List {
+        top: StackFrame::List {
             item,
             left: word,
             items: Vec::new(alloc),
@@ -78,12 +78,12 @@ fn take_count(alloc: Global, plan: &Plan, item: u32, word: u32) -> Result<Next, 
     })
 }
 
-fn take_number(alloc: Global, plan: &Plan, of: u32, word: u32) -> Result<Next, Stop>
+fn take_number(alloc: Global, plan: &Plan, of: u32, word: u32) -> Result<Next, ItemFault>
     requires { IsInPlan plan.now of }
-    ensures { Takes plan.now (Wanted.Number of) (item_view (Item.Word word)) result }
+    ensures { Takes plan.now (WantedItem.Number of) (item_view (Item.Word word)) result }
 {
     match found(plan, of, word) {
-        None => Err(Stop::Refused { cause: wrong(word) }),
+        None => Err(ItemFault::Refused { cause: wrong(word) }),
         Some(member) => Ok(Next::Part {
             top: begin(alloc, plan, of, member)?,
         }),

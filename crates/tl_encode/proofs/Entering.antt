@@ -9,7 +9,7 @@ use Rattle.tl_types.specs.Seen.{view}
 use Rattle.tl_types.specs.declared.value.TheConstants.{MAX_LEVELS}
 use Rattle.tl_types.specs.declared.misfit.MisfitCause.{MisfitCause}
 use Rattle.tl_types.proofs.NodePasses.{passes}
-use Rattle.tl_encode.specs.declared.frames.Frame.{Frame}
+use Rattle.tl_encode.specs.declared.frames.WalkFrame.{WalkFrame}
 use Rattle.tl_encode.specs.declared.frames.Part.{Part}
 use Rattle.tl_encode.specs.inner.Bytes.{parts_bytes, spelling, start}
 use Rattle.tl_encode.specs.inner.Frames.{path_of}
@@ -62,7 +62,7 @@ has_place : (n : ℕ) (v : ValueView) → is_deep_value v ≡ true → has_level
 has_place zero v deep level = absurd (true≢false (sym level ∙ ap not deep))
 has_place (suc n) v deep level = omega arith
 
-module _ (p : PlanView) (x : Part) (fs : List Frame) (none : node_misfit p.schema.decls (levels_in fs) x.bit (part_type p x) (view x.value.now) ≡ None) where
+module _ (p : PlanView) (x : Part) (fs : List WalkFrame) (none : node_misfit p.schema.decls (levels_in fs) x.bit (part_type p x) (view x.value.now) ≡ None) where
   abbrev ds : List Declaration
   ds = p.schema.decls
 
@@ -75,7 +75,7 @@ module _ (p : PlanView) (x : Part) (fs : List Frame) (none : node_misfit p.schem
   own_misfit : misfit ds (levels_in fs) x.bit T v ≡ parts_misfit ds (levels_in fs - 1) T v
   own_misfit = passed ds (levels_in fs) x.bit T v none
 
-  pub place_left : (f : Frame) → IsFrameOf p T v f → length fs < MAX_LEVELS
+  pub place_left : (f : WalkFrame) → IsFrameOf p T v f → length fs < MAX_LEVELS
   place_left f is = let some = has_place (levels_in fs) v is.deep (passes ds (levels_in fs) x.bit T v none).level in omega (arith, some)
 
   pub enter_none : FramesParts p T v None → AreOfPlan p fs → Enters p x fs fs
@@ -88,7 +88,7 @@ module _ (p : PlanView) (x : Part) (fs : List Frame) (none : node_misfit p.schem
         less = let some = some_weight v in omega (arith, some);
       }
 
-  pub enter_some : (f : Frame) → IsFrameOf p T v f → AreOfPlan p fs → Enters p x fs (f ∷ fs)
+  pub enter_some : (f : WalkFrame) → IsFrameOf p T v f → AreOfPlan p fs → Enters p x fs (f ∷ fs)
   enter_some f is all =
       let n : levels_in fs - 1 ≡ levels_in (f ∷ fs) = omega arith in
       record {
@@ -99,7 +99,7 @@ module _ (p : PlanView) (x : Part) (fs : List Frame) (none : node_misfit p.schem
         less = omega (arith, is.weight);
       }
 
-pub steps_over : (p : PlanView) (x : Part) (old mid new : List Frame) (next : Option Part) → Enters p x old mid → GoesOn p mid new next → StepsOver p x old new next
+pub steps_over : (p : PlanView) (x : Part) (old mid new : List WalkFrame) (next : Option Part) → Enters p x old mid → GoesOn p mid new next → StepsOver p x old new next
 steps_over p x old mid new next enters goes =
     record {
       frames = goes.frames;

@@ -6,10 +6,10 @@ use Rattle.tl_plan.specs.Plans.{PlanView}
 use Rattle.tl_types.specs.Fitting.{bit_of, inside, misfit, or_else}
 use Rattle.tl_types.specs.Seen.{view, views}
 use Rattle.tl_types.specs.declared.value.Value.{Value}
-use Rattle.tl_encode.specs.declared.frames.Frame.{Frame}
+use Rattle.tl_encode.specs.declared.frames.WalkFrame.{WalkFrame}
 use Rattle.tl_encode.specs.declared.frames.Part.{Part}
-use Rattle.tl_encode.specs.declared.frames.Parts.{Parts}
-use Rattle.tl_encode.specs.declared.frames.Parts.TheVariants.{Elements, Fields}
+use Rattle.tl_encode.specs.declared.frames.PartInstances.{PartInstances}
+use Rattle.tl_encode.specs.declared.frames.PartInstances.TheVariants.{Elements, Fields}
 use Rattle.tl_encode.specs.inner.Bytes.{spelling}
 use Rattle.tl_encode.specs.inner.Walks.{AreInstances, HasInstances, IsNextPart, bytes_from, misfit_from, type_at, weight, weights}
 
@@ -56,7 +56,7 @@ module _ (p : PlanView) where
 
   -- ---- the part that is told
 
-  pub element_next : (f : Frame) (of : ℕ) (x : Part) → f.parts ≡ Elements of → f.at < length f.values.now → x.value.now ≡ get_or f.values.now f.at x.value.now → x.of ≡ of → x.bit ≡ None
+  pub element_next : (f : WalkFrame) (of : ℕ) (x : Part) → f.parts ≡ Elements of → f.at < length f.values.now → x.value.now ≡ get_or f.values.now f.at x.value.now → x.of ≡ of → x.bit ≡ None
       → HasInstances p f.parts → IsNextPart p f x
   element_next f of x parts within is of_is bit_is are =
       let here = subst (HasInstances p) parts are in
@@ -67,7 +67,7 @@ module _ (p : PlanView) where
         weight = weight_step f.values.now f.at x.value.now within is;
       }
 
-  pub field_next : (f : Frame) (of : Bor (List ℕ)) (slots : Bor (List SchemaField)) (x : Part) (s : SchemaField) → f.parts ≡ Fields of slots → f.at < length f.values.now
+  pub field_next : (f : WalkFrame) (of : Bor (List ℕ)) (slots : Bor (List SchemaField)) (x : Part) (s : SchemaField) → f.parts ≡ Fields of slots → f.at < length f.values.now
       → x.value.now ≡ get_or f.values.now f.at x.value.now → f.at < length of.now → x.of ≡ get_or of.now f.at x.of → f.at < length slots.now → s ≡ get_or slots.now f.at s
       → x.bit ≡ bit_of s.cond (map view (take f.at f.values.now)) → HasInstances p f.parts → IsNextPart p f x
   field_next f of slots x s parts within is own own_is declared declared_is stands are =
@@ -81,10 +81,10 @@ module _ (p : PlanView) where
 
   -- ---- where no part is left
 
-  pub none_left : (n : ℕ) (parts : Parts) (vs : List Value) (i : ℕ) → length vs ≤ i → misfit_from p n parts vs i ≡ None
+  pub none_left : (n : ℕ) (parts : PartInstances) (vs : List Value) (i : ℕ) → length vs ≤ i → misfit_from p n parts vs i ≡ None
   none_left n (Elements of) vs i past = rw (drop_all i vs past) refl
   none_left n (Fields of slots) vs i past = rw (drop_all i vs past) refl
 
-  pub no_bytes_left : (parts : Parts) (vs : List Value) (i : ℕ) → length vs ≤ i → bytes_from p parts vs i ≡ []
+  pub no_bytes_left : (parts : PartInstances) (vs : List Value) (i : ℕ) → length vs ≤ i → bytes_from p parts vs i ≡ []
   no_bytes_left (Elements of) vs i past = rw (drop_all i vs past) refl
   no_bytes_left (Fields of slots) vs i past = rw (drop_all i vs past) refl

@@ -25,9 +25,9 @@ use Rattle.tl_types.specs.declared.value.Value.{Value}
 use Rattle.tl_types.proofs.NodePasses.{Passes, passes}
 use Rattle.tl_types.proofs.Members.{some_is}
 use Rattle.tl_types.proofs.ValueCounts.{counted}
-use Rattle.tl_encode.specs.declared.frames.Frame.{Frame}
-use Rattle.tl_encode.specs.declared.frames.Parts.{Parts}
-use Rattle.tl_encode.specs.declared.frames.Parts.TheVariants.{Elements, Fields}
+use Rattle.tl_encode.specs.declared.frames.WalkFrame.{WalkFrame}
+use Rattle.tl_encode.specs.declared.frames.PartInstances.{PartInstances}
+use Rattle.tl_encode.specs.declared.frames.PartInstances.TheVariants.{Elements, Fields}
 use Rattle.tl_encode.specs.inner.Bytes.{spelling_fields}
 use Rattle.tl_encode.specs.inner.Frames.{IsCounted}
 use Rattle.tl_encode.specs.inner.Openings.{Ascend, AscendEntries, HasFieldParts, IsFieldsFrame, IsNamed, Names, entries_of}
@@ -119,7 +119,7 @@ module _ (p : PlanView) (good : IsPlan p) (k : ℕ) (x : InstanceView) (at : sli
 
   -- ---- the frame of a list
 
-  pub elements_frame : (b : Bool) (U : Shape) (vs : List Value) (f : Frame) (j : ℕ) → x.of ≡ type.vector b U → x.item ≡ Some j → f.parts ≡ Elements j → f.values.now ≡ vs → f.at ≡ 0 → length vs < 2 ^ 32
+  pub elements_frame : (b : Bool) (U : Shape) (vs : List Value) (f : WalkFrame) (j : ℕ) → x.of ≡ type.vector b U → x.item ≡ Some j → f.parts ≡ Elements j → f.values.now ≡ vs → f.at ≡ 0 → length vs < 2 ^ 32
       → IsFrameOf p x.of (list (views vs)) f
   elements_frame b U vs f j is item parts values start few =
       let own = element_instance b U is in
@@ -178,7 +178,7 @@ module _ (p : PlanView) (good : IsPlan p) (k : ℕ) (x : InstanceView) (at : sli
   same_bytes args (j ∷ js) (f ∷ fs) (value v vs) are = rw (are.1, same_bytes args js fs vs are.2) refl
 
   -- what is left in the frame of the fields of declaration i
-  pub record IsRecordFrame (i : ℕ) (vs : List Value) (f : Frame) : Type 0 where
+  pub record IsRecordFrame (i : ℕ) (vs : List Value) (f : WalkFrame) : Type 0 where
     pub counted : IsCounted f
     pub instances : HasInstances p f.parts
     pub start : f.at ≡ 0
@@ -201,7 +201,7 @@ module _ (p : PlanView) (good : IsPlan p) (k : ℕ) (x : InstanceView) (at : sli
           found.1.count ∙ ap length fields ∙ sym count,
         )
 
-    from_parts : (parts : Parts) (f : Frame) → f.parts ≡ parts → f.values.now ≡ vs → f.at ≡ 0 → HasFieldParts inst.members.items S.decls i parts → IsRecordFrame i vs f
+    from_parts : (parts : PartInstances) (f : WalkFrame) → f.parts ≡ parts → f.values.now ≡ vs → f.at ≡ 0 → HasFieldParts inst.members.items S.decls i parts → IsRecordFrame i vs f
     from_parts (Elements of) f parts values start has = absurd has
     from_parts (Fields of slots) f parts values start (m, named, own, kinds, few) =
         let d = declared m named in
@@ -216,13 +216,13 @@ module _ (p : PlanView) (good : IsPlan p) (k : ℕ) (x : InstanceView) (at : sli
           weight = rw (values, start) refl;
         }
 
-    pub record_frame : (f : Frame) → IsFieldsFrame inst.members.items S.decls i vs f → IsRecordFrame i vs f
+    pub record_frame : (f : WalkFrame) → IsFieldsFrame inst.members.items S.decls i vs f → IsRecordFrame i vs f
     record_frame f is = from_parts f.parts f refl is.values is.at is.parts
 
-  pub node_frame : (i : ℕ) (vs : List Value) (f : Frame) → IsRecordFrame i vs f → IsFrameOf p x.of (node i (views vs)) f
+  pub node_frame : (i : ℕ) (vs : List Value) (f : WalkFrame) → IsRecordFrame i vs f → IsFrameOf p x.of (node i (views vs)) f
   node_frame i vs f is = record { deep = refl; counted = is.counted; instances = is.instances; at = is.start; misfit = is.misfit; bytes = is.bytes; weight = omega (arith, is.weight) }
 
-  pub call_frame : (i : ℕ) (vs : List Value) (f : Frame) → x.of ≡ type.call → IsRecordFrame i vs f → IsFrameOf p x.of (call i (views vs)) f
+  pub call_frame : (i : ℕ) (vs : List Value) (f : WalkFrame) → x.of ≡ type.call → IsRecordFrame i vs f → IsFrameOf p x.of (call i (views vs)) f
   call_frame i vs f called is =
       let none : arguments_of x.of ≡ [] = ap arguments_of called in
       record {
@@ -251,7 +251,7 @@ module _ (p : PlanView) (good : IsPlan p) (k : ℕ) (x : InstanceView) (at : sli
     named_of : (i : ℕ) → HasEntry i → Names inst.members.items i × Ascend inst.members.items
     named_of i has = subst (λ (is : List ℕ). StandsIn is i × AscendEntries is) entries has
 
-    of_type : (w : ValueView) (f : Frame) → v ≡ w → IsFrameOf p x.of w f → IsFrameOf p (type_at p k) v f
+    of_type : (w : ValueView) (f : WalkFrame) → v ≡ w → IsFrameOf p x.of w f → IsFrameOf p (type_at p k) v f
     of_type w f is frame = subst (λ (u : ValueView). IsFrameOf p (type_at p k) u f) (sym is) (subst (λ (T : Shape). IsFrameOf p T w f) (sym type_is) frame)
 
     -- ---- a list
@@ -262,7 +262,7 @@ module _ (p : PlanView) (good : IsPlan p) (k : ℕ) (x : InstanceView) (at : sli
     pub list_item : {P : Type 0} (vs : List Value) → v ≡ list (views vs) → inst.item ≡ None → P
     list_item vs is none = let t = vector_is vs is in let there = element_instance t.0 t.1 t.2 in let clash = sym there.1 ∙ sym shows.item ∙ none in absurd cc
 
-    pub list_frame : (vs : List Value) (f : Frame) (j : ℕ) → v ≡ list (views vs) → inst.item ≡ Some j → f.parts ≡ Elements j → f.values.now ≡ vs → f.at ≡ 0 → IsFrameOf p (type_at p k) v f
+    pub list_frame : (vs : List Value) (f : WalkFrame) (j : ℕ) → v ≡ list (views vs) → inst.item ≡ Some j → f.parts ≡ Elements j → f.values.now ≡ vs → f.at ≡ 0 → IsFrameOf p (type_at p k) v f
     list_frame vs f j is item parts values start =
         let t = vector_is vs is in
         let few = ltb-true (count (views vs)) (2 ^ 31) (subst (λ (w : ValueView). is_in_range w ≡ true) is own.range) in
@@ -275,7 +275,7 @@ module _ (p : PlanView) (good : IsPlan p) (k : ℕ) (x : InstanceView) (at : sli
         named_of i (record_entry x.of i (views vs) refl (there_kind bit x.of (node i (views vs)) refl (subst (λ (w : ValueView). has_kind bit x.of w ≡ true) is own.kind))
         (subst (λ (w : ValueView). has_constructor S.decls x.of w ≡ true) is own.constructor))
 
-    pub node_opened : (i : ℕ) (vs : List Value) (f : Frame) → v ≡ node i (views vs) → IsFieldsFrame inst.members.items S.decls i vs f → IsFrameOf p (type_at p k) v f
+    pub node_opened : (i : ℕ) (vs : List Value) (f : WalkFrame) → v ≡ node i (views vs) → IsFieldsFrame inst.members.items S.decls i vs f → IsFrameOf p (type_at p k) v f
     node_opened i vs f is fields =
         let same = eqb-true (count (views vs)) (length (fields_in (slice_get S.decls i))) (subst (λ (w : ValueView). has_count S.decls x.of w ≡ true) is own.count) in
         of_type (node i (views vs)) f is (node_frame i vs f (record_frame inst shows i vs (sym (counted vs) ∙ same) f fields))
@@ -288,7 +288,7 @@ module _ (p : PlanView) (good : IsPlan p) (k : ℕ) (x : InstanceView) (at : sli
     pub call_named : (i : ℕ) (vs : List Value) → v ≡ call i (views vs) → Names inst.members.items i × Ascend inst.members.items
     call_named i vs is = named_of i (call_entry i (called i vs is) (subst (λ (w : ValueView). has_constructor S.decls x.of w ≡ true) is own.constructor))
 
-    pub call_opened : (i : ℕ) (vs : List Value) (f : Frame) → v ≡ call i (views vs) → IsFieldsFrame inst.members.items S.decls i vs f → IsFrameOf p (type_at p k) v f
+    pub call_opened : (i : ℕ) (vs : List Value) (f : WalkFrame) → v ≡ call i (views vs) → IsFieldsFrame inst.members.items S.decls i vs f → IsFrameOf p (type_at p k) v f
     call_opened i vs f is fields =
         let same = eqb-true (count (views vs)) (length (fields_in (slice_get S.decls i))) (subst (λ (w : ValueView). has_count S.decls x.of w ≡ true) is own.count) in
         of_type (call i (views vs)) f is (call_frame i vs f (called i vs is) (record_frame inst shows i vs (sym (counted vs) ∙ same) f fields))

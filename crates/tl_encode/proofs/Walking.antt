@@ -15,7 +15,7 @@ use Rattle.tl_types.specs.Seen.{view}
 use Rattle.tl_types.specs.declared.value.TheConstants.{MAX_LEVELS}
 use Rattle.tl_types.specs.declared.misfit.MisfitCause.{MisfitCause}
 use Rattle.tl_types.proofs.NodePasses.{fits_of, no_cause, or_else_none, passes}
-use Rattle.tl_encode.specs.declared.frames.Frame.{Frame}
+use Rattle.tl_encode.specs.declared.frames.WalkFrame.{WalkFrame}
 use Rattle.tl_encode.specs.declared.frames.Part.{Part}
 use Rattle.tl_encode.specs.Lengths.{FitsInstance}
 use Rattle.tl_encode.specs.inner.Bytes.{spelling, start}
@@ -81,7 +81,7 @@ no_misfit_under path (Some m) e = absurd cc
 
 module _ (p : PlanView) (k : ℕ) (v : ValueView) where
   -- it begins with the whole value
-  pub starts : (put : List ℕ) (x : Part) (fs : List Frame) → k < length p.instances → put ≡ [] → x.of ≡ k → x.bit ≡ None → view x.value.now ≡ v → fs ≡ [] → Walks p k v put (Some x) fs
+  pub starts : (put : List ℕ) (x : Part) (fs : List WalkFrame) → k < length p.instances → put ≡ [] → x.of ≡ k → x.bit ≡ None → view x.value.now ≡ v → fs ≡ [] → Walks p k v put (Some x) fs
   starts put x fs within empty of bit is none =
       record {
         frames = rw none tt;
@@ -91,7 +91,7 @@ module _ (p : PlanView) (k : ℕ) (v : ValueView) where
       }
 
   -- a part that passes is put, and the walk goes on
-  pub goes_on : (put more now : List ℕ) (x : Part) (next : Option Part) (fs new : List Frame) → Walks p k v put (Some x) fs → StepsOver p x fs new next
+  pub goes_on : (put more now : List ℕ) (x : Part) (next : Option Part) (fs new : List WalkFrame) → Walks p k v put (Some x) fs → StepsOver p x fs new next
       → more ≡ start p.schema.decls (part_type p x) (view x.value.now) → now ≡ put ++ more → Walks p k v now next new
   goes_on put more now x next fs new walks steps is now_is =
       record {
@@ -102,18 +102,18 @@ module _ (p : PlanView) (k : ℕ) (v : ValueView) where
       }
 
   -- a part that doesn't pass is the first misfit
-  pub fails : (put : List ℕ) (x : Part) (fs : List Frame) (cause : MisfitCause) → Walks p k v put (Some x) fs → node_misfit p.schema.decls (levels_in fs) x.bit (part_type p x) (view x.value.now) ≡ Some cause
+  pub fails : (put : List ℕ) (x : Part) (fs : List WalkFrame) (cause : MisfitCause) → Walks p k v put (Some x) fs → node_misfit p.schema.decls (levels_in fs) x.bit (part_type p x) (view x.value.now) ≡ Some cause
       → misfit p.schema.decls MAX_LEVELS None (type_at p k) v ≡ Some (path_of fs, cause)
   fails put x fs cause walks own =
       walks.misfit ∙ ap (λ (m : Option MisfitView). or_else (under (path_of fs) m) (misfit_left p fs)) (failed p.schema.decls (levels_in fs) x.bit (part_type p x) (view x.value.now) cause own)
       ∙ ap (λ (path : List ℕ). Some (path, cause)) (append-nil (path_of fs))
 
   -- at its end all was put, and nothing was a misfit
-  pub ends : (put : List ℕ) (fs : List Frame) → Walks p k v put None fs → (misfit p.schema.decls MAX_LEVELS None (type_at p k) v ≡ None) × (put ≡ spelling p.schema.decls (type_at p k) v)
+  pub ends : (put : List ℕ) (fs : List WalkFrame) → Walks p k v put None fs → (misfit p.schema.decls MAX_LEVELS None (type_at p k) v ≡ None) × (put ≡ spelling p.schema.decls (type_at p k) v)
   ends put fs walks = (walks.misfit, sym (walks.bytes ∙ append-nil put))
 
   -- where the whole fits, each part passes
-  pub part_passes : (put : List ℕ) (x : Part) (fs : List Frame) → Walks p k v put (Some x) fs → misfit p.schema.decls MAX_LEVELS None (type_at p k) v ≡ None
+  pub part_passes : (put : List ℕ) (x : Part) (fs : List WalkFrame) → Walks p k v put (Some x) fs → misfit p.schema.decls MAX_LEVELS None (type_at p k) v ≡ None
       → node_misfit p.schema.decls (levels_in fs) x.bit (part_type p x) (view x.value.now) ≡ None
   part_passes put x fs walks fits =
       let both = or_else_none (part_misfit p x fs) (misfit_left p fs) (sym walks.misfit ∙ fits) in
@@ -121,7 +121,7 @@ module _ (p : PlanView) (k : ℕ) (v : ValueView) where
       no_cause p.schema.decls (levels_in fs) x.bit (part_type p x) (view x.value.now) (fits_of p.schema.decls (levels_in fs) x.bit (part_type p x) (view x.value.now) own).own
 
 -- where the value fits the root's type, each part that the walk comes to passes
-module _ (p : PlanView) (k root : ℕ) (v : ValueView) (put : List ℕ) (next : Option Part) (x : Part) (fs : List Frame) where
+module _ (p : PlanView) (k root : ℕ) (v : ValueView) (put : List ℕ) (next : Option Part) (x : Part) (fs : List WalkFrame) where
   pub part_fits : k < length p.instances → k ≡ root → FitsInstance p root v → next ≡ Some x → Walks p k v put next fs → node_misfit p.schema.decls (levels_in fs) x.bit (part_type p x) (view x.value.now) ≡ None
   part_fits within same fits is walks =
       part_passes p k v put x fs (subst (λ (o : Option Part). Walks p k v put o fs) is walks) (fits (type_at p k) (subst (λ (i : ℕ). IsInstance p i (type_at p k)) same (instance_is p k within)))

@@ -23,7 +23,7 @@ pub struct Part<'a> {
 
 /// The instances of a value's parts.
 #[derive(Clone, Copy)]
-pub enum Parts<'a> {
+pub enum PartInstances<'a> {
     /// Of a list: all of one instance.
     Elements {
         of: u32,
@@ -37,14 +37,14 @@ pub enum Parts<'a> {
 
 /// The parts of a list, record or call; those before the index `at` were walked.
 #[derive(Clone, Copy)]
-pub struct Frame<'a> {
+pub struct WalkFrame<'a> {
     pub values: &'a [Value],
-    pub parts: Parts<'a>,
+    pub parts: PartInstances<'a>,
     pub at: u32,
 }
 
 // The part of a frame at an index.
-fn part_of<'a>(frame: &Frame<'a>, at: u32) -> Part<'a>
+fn part_of<'a>(frame: &WalkFrame<'a>, at: u32) -> Part<'a>
     requires left { at < length frame.now.values.now }
     requires counted { AreCounted frame.now.parts frame.now.values.now }
     ensures { (p : PlanView) → HasInstances p frame.now.parts → IsNextPart p (standing_at frame.now at) result }
@@ -52,12 +52,12 @@ fn part_of<'a>(frame: &Frame<'a>, at: u32) -> Part<'a>
     let at = at as usize;
     let value = &frame.values[at];
     match frame.parts {
-        Parts::Elements { of } => Part {
+        PartInstances::Elements { of } => Part {
             value,
             of,
             bit: None,
         },
-        Parts::Fields { of, slots } => Part {
+        PartInstances::Fields { of, slots } => Part {
             value,
             of: of[at],
             bit: bit_of(slots[at].cond, &frame.values[..at]),
@@ -71,7 +71,7 @@ const PLACES: usize = MAX_LEVELS as usize;
 /// The frames that a walk stands in, each inside the one before it.
 #[derive(Drop)]
 pub struct Stack<'a> {
-    frames: [Frame<'a>; PLACES],
+    frames: [WalkFrame<'a>; PLACES],
     height: usize,
 }
 
@@ -81,9 +81,9 @@ impl<'a> Stack<'a> {
         ensures frames { frames_of result ≡ [] }
         ensures places { HasPlaces result }
     {
-        let frame = Frame {
+        let frame = WalkFrame {
             values: &[],
-            parts: Parts::Elements { of: 0 },
+            parts: PartInstances::Elements { of: 0 },
             at: 0,
         };
         Stack {
@@ -113,7 +113,7 @@ impl<'a> Stack<'a> {
     }
 
     /// One frame more.
-    pub fn push(&mut self, frame: Frame<'a>)
+    pub fn push(&mut self, frame: WalkFrame<'a>)
         requires places { HasPlaces self.old }
         requires few { length (frames_of self.old) < MAX_LEVELS }
         ensures frames { frames_of self.new ≡ frame.entry ∷ frames_of self.old }
@@ -148,7 +148,7 @@ impl<'a> Stack<'a> {
     }
 
     // The innermost frame.
-    fn innermost(&self) -> &Frame<'a>
+    fn innermost(&self) -> &WalkFrame<'a>
         requires places { HasPlaces self.now }
         requires some { 0 < self.now.height }
         ensures { first_of (frames_of self.now) ≡ Some result.now }

@@ -5,13 +5,13 @@ ghost use Rattle.tl_types.specs.Seen.{view};
 ghost use Rattle.tl_encode.specs.inner.Openings.{Ascend, IsFieldsFrame, IsNamed, Names};
 ghost use Rattle.tl_encode.specs.inner.Walks.{FramesParts, part_type};
 
-use crate::frames::{Frame, Part, Parts};
+use crate::frames::{Part, PartInstances, WalkFrame};
 use tl_plan::{Instance, Member, Plan};
 use tl_schema::Schema;
 use tl_types::{Value, slots_of};
 
 /// The frame of a list, record or call that fits, its parts aside; other values have none.
-pub fn frame_of<'a>(plan: &'a Plan, part: Part<'a>) -> Option<Frame<'a>>
+pub fn frame_of<'a>(plan: &'a Plan, part: Part<'a>) -> Option<WalkFrame<'a>>
     requires instance { part.of < length plan.now.instances }
     requires fits { (n : ℕ) × (node_misfit plan.now.schema.decls n part.bit (part_type plan.now part) (view part.value.now) ≡ None) }
     ensures { FramesParts plan.now (part_type plan.now part.entry) (view part.entry.value.now) result }
@@ -20,9 +20,9 @@ pub fn frame_of<'a>(plan: &'a Plan, part: Part<'a>) -> Option<Frame<'a>>
     match part.value {
         Value::List(items) => {
             let of = instance.item?;
-            Some(Frame {
+            Some(WalkFrame {
                 values: items,
-                parts: Parts::Elements { of },
+                parts: PartInstances::Elements { of },
                 at: 0,
             })
         }
@@ -38,15 +38,15 @@ fn fields_of<'a>(
     schema: &'a Schema,
     entry: u32,
     values: &'a [Value],
-) -> Frame<'a>
+) -> WalkFrame<'a>
     requires ascending { Ascend instance.now.members.items }
     requires named { Names instance.now.members.items entry }
     ensures { IsFieldsFrame instance.now.members.items schema.now.decls entry values.now result }
 {
     let member = member_of(&instance.members, entry);
-    Frame {
+    WalkFrame {
         values,
-        parts: Parts::Fields {
+        parts: PartInstances::Fields {
             of: &member.fields,
             slots: slots_of(schema, entry),
         },

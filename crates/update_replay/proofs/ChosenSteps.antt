@@ -8,11 +8,11 @@ use Rattle.box_world.specs.Possible.{is_for}
 use Rattle.box_world.specs.Worlds.{Packet, World}
 use Rattle.update_replay.specs.Draws.{drawn, draw_of}
 use Rattle.update_replay.specs.Made.{Chosen, drawn_hear, drawn_last, hears_drawn, hears_if, hears_last, last_where, or_date, served_last, serves_last}
-use Rattle.update_world.specs.declared.sent.Sent.{Sent}
+use Rattle.update_world.specs.declared.sent.SentPacket.{SentPacket}
 use Rattle.update_world.specs.Shown.{Shown, StandsFor}
 use Rattle.update_replay.specs.Making.{Chooses}
 use Rattle.update_replay.specs.Wanting.{goes_to, is_wanted}
-use Rattle.update_replay.specs.declared.wanted.Wanted.TheVariants as wanted
+use Rattle.update_replay.specs.declared.wanted.Receiver.TheVariants as wanted
 use Rattle.update_replay.proofs.LastPackets.{as_many, message_of}
 
 -- the clock is the server's
@@ -35,7 +35,7 @@ module _ (shown : Shown) (w : World) (k x : ℕ) (st : StandsFor shown w) where
       let is = none_drawn w.pool k x (sym (as_many shown w st) ∙ e) in
       (sym (ap (λ (c : Chosen (Option Step)). c.it) is), sym (ap (λ (c : Chosen (Option Step)). c.x) is))
 
-  pub packet_drawn : (packets m y : ℕ) (s : Sent) (b : Bool) → packets ≡ length shown.pool → 0 < packets → m ≡ draw_of x % packets → y ≡ drawn x → slice_get shown.pool m ≡ Some s → goes_to (wanted.Client k) s.to ≡ b
+  pub packet_drawn : (packets m y : ℕ) (s : SentPacket) (b : Bool) → packets ≡ length shown.pool → 0 < packets → m ≡ draw_of x % packets → y ≡ drawn x → slice_get shown.pool m ≡ Some s → goes_to (wanted.Client k) s.to ≡ b
       → Chooses (hears_drawn w.pool k x) (hears_if b k m) y
   packet_drawn packets m y s b many some at next there goes =
       let same : length w.pool ≡ packets = sym (as_many shown w st) ∙ sym many in

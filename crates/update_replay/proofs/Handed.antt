@@ -25,7 +25,7 @@ use Rattle.update_world.specs.Stepping.{Happens}
 use Rattle.update_world.specs.declared.fault.StepFault.{StepFault}
 use Rattle.update_world.specs.declared.fault.StepFault.TheVariants as fault
 use Rattle.update_world.specs.declared.outcome.Outcome.{Outcome}
-use Rattle.update_world.specs.declared.sent.Sent.{Sent}
+use Rattle.update_world.specs.declared.sent.SentPacket.{SentPacket}
 use Rattle.update_replay.specs.Endings.{Ending, no_step, not_made, too_long, answer_of, is_cut_short, of_refusal}
 use Rattle.update_replay.specs.Handing.{HasMade, HandsOut, FindsStep, IsUnmade, no_memory, past_steps, impossible, MakesLines}
 use Rattle.update_replay.specs.ReplayParts.{HasRun, of_step}
@@ -151,7 +151,7 @@ begun p n journal r is at count all = record {
     stands = record {
       server = sym (ap (λ (z : Shown). z.server) is);
       clients = sym (ap (λ (z : Shown). z.clients) is);
-      pool = subst (λ (z : List Sent). AreSent r.world.profile z []) (sym (ap (λ (z : Shown). z.pool) is)) tt;
+      pool = subst (λ (z : List SentPacket). AreSent r.world.profile z []) (sym (ap (λ (z : Shown). z.pool) is)) tt;
     };
   };
   all = all;

@@ -5,12 +5,12 @@ use Rattle.std.proofs.lemmas.Option.{none-some}
 use Rattle.wire_profile.specs.Places.{ProfileView}
 use Rattle.box_world.specs.Worlds.{Packet, push, request, reply, World}
 use Rattle.update_replay.specs.Made.{last_where, or_last}
-use Rattle.update_world.specs.declared.sent.Sent.{Sent}
+use Rattle.update_world.specs.declared.sent.SentPacket.{SentPacket}
 use Rattle.update_world.specs.Shown.{Shown, StandsFor}
 use Rattle.update_world.specs.Spelled.{IsSent}
 use Rattle.update_world.proofs.SentLists.{sent_get, sent_length}
-use Rattle.update_replay.specs.declared.wanted.Wanted.{Wanted}
-use Rattle.update_replay.specs.declared.wanted.Wanted.TheVariants as wanted
+use Rattle.update_replay.specs.declared.wanted.Receiver.{Receiver}
+use Rattle.update_replay.specs.declared.wanted.Receiver.TheVariants as wanted
 use Rattle.update_replay.specs.Wanting.{goes_to, is_wanted}
 use Rattle.update_replay.proofs.LineLists.{from, past}
 
@@ -45,7 +45,7 @@ module _ (P : Packet → Bool) (ps : List Packet) (n m : ℕ) (p : Packet) (next
 -- ---- in a world
 
 -- whom a message goes to stands in its packet
-goes_as : (p : ProfileView) (k : Wanted) (s : Sent) (m : Packet) → IsSent p s m → goes_to k s.to ≡ is_wanted k m
+goes_as : (p : ProfileView) (k : Receiver) (s : SentPacket) (m : Packet) → IsSent p s m → goes_to k s.to ≡ is_wanted k m
 goes_as p (wanted.Client k) s (push q) is = ap (goes_to (wanted.Client k)) is.to
 goes_as p (wanted.Client k) s (request j n) is = ap (goes_to (wanted.Client k)) is.to
 goes_as p (wanted.Client k) s (reply j n r v) is = ap (goes_to (wanted.Client k)) is.to
@@ -54,12 +54,12 @@ goes_as p wanted.Server s (request j n) is = ap (goes_to wanted.Server) is.to
 goes_as p wanted.Server s (reply j n r v) is = ap (goes_to wanted.Server) is.to
 
 -- a packet of what is shown of a world is one of the world's messages
-pub record Message (w : World) (k : Wanted) (m : ℕ) (s : Sent) : Type 0 where
+pub record Message (w : World) (k : Receiver) (m : ℕ) (s : SentPacket) : Type 0 where
   pub packet : Packet
   pub there : slice_get w.pool m ≡ Some packet
   pub goes : goes_to k s.to ≡ is_wanted k packet
 
-pub message_of : (shown : Shown) (w : World) (k : Wanted) (m : ℕ) (s : Sent) → StandsFor shown w → slice_get shown.pool m ≡ Some s → Message w k m s
+pub message_of : (shown : Shown) (w : World) (k : Receiver) (m : ℕ) (s : SentPacket) → StandsFor shown w → slice_get shown.pool m ≡ Some s → Message w k m s
 message_of shown w k m s st at =
     let found = sent_get shown.profile shown.pool w.pool st.pool m s at in
     record { packet = found.0; there = found.1; goes = goes_as shown.profile k s found.0 found.2 }
@@ -70,8 +70,8 @@ as_many shown w st = sent_length shown.profile shown.pool w.pool st.pool
 
 -- ---- from the pool's end
 
-module _ (shown : Shown) (w : World) (k : Wanted) (st : StandsFor shown w) (later : ℕ) (none : last_where (is_wanted k) (length shown.pool - later) (drop (length shown.pool - later) w.pool) ≡ None) where
-  module _ (m : ℕ) (s : Sent) (there : slice_get shown.pool m ≡ Some s) (is : m ≡ length shown.pool - 1 - later) (less : later < length shown.pool) where
+module _ (shown : Shown) (w : World) (k : Receiver) (st : StandsFor shown w) (later : ℕ) (none : last_where (is_wanted k) (length shown.pool - later) (drop (length shown.pool - later) w.pool) ≡ None) where
+  module _ (m : ℕ) (s : SentPacket) (there : slice_get shown.pool m ≡ Some s) (is : m ≡ length shown.pool - 1 - later) (less : later < length shown.pool) where
     found : Message w k m s
     found = message_of shown w k m s st there
 

@@ -7,7 +7,7 @@ use Rattle.report_lines.specs.Closing.{own_lines}
 use Rattle.report_lines.specs.Texts.{packet_line}
 use Rattle.update_replay.specs.StepLines.{packet_lines}
 use Rattle.update_replay.specs.Told.{all_own_lines}
-use Rattle.update_world.specs.declared.sent.Sent.{Sent}
+use Rattle.update_world.specs.declared.sent.SentPacket.{SentPacket}
 use Rattle.update_replay.specs.WorldLines.{bytes_from}
 
 -- what is left of a list from an element on
@@ -31,15 +31,15 @@ one_more old line rest new whole all is cut before =
 pub no_more : (old rest all : List ℕ) → rest ≡ [] → old ++ rest ≡ all → old ≡ all
 no_more old rest all none before = sym (append-nil old) ∙ ap (λ (l : List ℕ). old ++ l) (sym none) ∙ before
 
-pub packet_more : (pool : List Sent) (m : ℕ) (s : Sent) (bytes old new all : List ℕ) → slice_get pool m ≡ Some s → bytes ≡ s.bytes → new ≡ old ++ packet_line m bytes → old ++ packet_lines m (bytes_from m pool) ≡ all
+pub packet_more : (pool : List SentPacket) (m : ℕ) (s : SentPacket) (bytes old new all : List ℕ) → slice_get pool m ≡ Some s → bytes ≡ s.bytes → new ≡ old ++ packet_line m bytes → old ++ packet_lines m (bytes_from m pool) ≡ all
     → new ++ packet_lines (m + 1) (bytes_from (m + 1) pool) ≡ all
 packet_more pool m s bytes old new all at same is before =
     one_more old (packet_line m s.bytes) (packet_lines (m + 1) (bytes_from (m + 1) pool)) new (packet_lines m (bytes_from m pool)) all
     (is ∙ ap (λ (b : List ℕ). old ++ packet_line m b) same)
-    (ap (λ (ss : List Sent). packet_lines m (map (λ t. t.bytes) ss)) (from pool m s at)) before
+    (ap (λ (ss : List SentPacket). packet_lines m (map (λ t. t.bytes) ss)) (from pool m s at)) before
 
-pub packets_end : (pool : List Sent) (m : ℕ) (old all : List ℕ) → length pool ≤ m → old ++ packet_lines m (bytes_from m pool) ≡ all → old ≡ all
-packets_end pool m old all le before = no_more old (packet_lines m (bytes_from m pool)) all (ap (λ (ss : List Sent). packet_lines m (map (λ t. t.bytes) ss)) (past pool m le)) before
+pub packets_end : (pool : List SentPacket) (m : ℕ) (old all : List ℕ) → length pool ≤ m → old ++ packet_lines m (bytes_from m pool) ≡ all → old ≡ all
+packets_end pool m old all le before = no_more old (packet_lines m (bytes_from m pool)) all (ap (λ (ss : List SentPacket). packet_lines m (map (λ t. t.bytes) ss)) (past pool m le)) before
 
 pub client_more : (cs : List ClientState) (k : ℕ) (c : ClientState) (old new all : List ℕ) → slice_get cs k ≡ Some c → new ≡ old ++ own_lines k c → old ++ all_own_lines k (drop k cs) ≡ all
     → new ++ all_own_lines (k + 1) (drop (k + 1) cs) ≡ all

@@ -14,14 +14,14 @@ use Rattle.box_client.specs.Asking.{restarted, wakes}
 use Rattle.wire_profile.specs.Places.{ProfileView}
 use Rattle.box_world.specs.Worlds.{Packet, World, client_steps, happens, heard, post_by, watches}
 use Rattle.update_replay.specs.StepLines.{AreSpelled}
-use Rattle.update_world.specs.declared.sent.Sent.{Sent}
+use Rattle.update_world.specs.declared.sent.SentPacket.{SentPacket}
 use Rattle.update_world.specs.Outcomes.{outcome_of, post_outcome}
 use Rattle.update_world.specs.Shown.{Shown}
 use Rattle.update_world.specs.Spelled.{AreSent, IsSpelled}
 use Rattle.update_replay.specs.WorldLines.{bytes_from, first_new}
 
 -- the packets from a number on are spelled as they were sent
-pub spelled_from : (p : ProfileView) (ss : List Sent) (ms : List Packet) (n : ℕ) → AreSent p ss ms → AreSpelled (IsSpelled p) (drop n ms) (bytes_from n ss)
+pub spelled_from : (p : ProfileView) (ss : List SentPacket) (ms : List Packet) (n : ℕ) → AreSent p ss ms → AreSpelled (IsSpelled p) (drop n ms) (bytes_from n ss)
 spelled_from p [] [] zero a = tt
 spelled_from p [] [] (suc n) a = tt
 spelled_from p [] (m ∷ ms) n a = absurd a

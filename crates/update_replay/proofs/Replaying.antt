@@ -17,7 +17,7 @@ use Rattle.box_world.specs.Possible.{StepCause, no_client, no_packet, wrong_end,
 use Rattle.update_replay.specs.Closings.{closing_lines}
 use Rattle.update_world.specs.Shown.{Shown}
 use Rattle.update_world.specs.Spelled.{AreSent}
-use Rattle.update_world.specs.declared.sent.Sent.{Sent}
+use Rattle.update_world.specs.declared.sent.SentPacket.{SentPacket}
 use Rattle.update_world.specs.declared.fault.StepFault.{StepFault}
 use Rattle.update_replay.specs.Endings.{whole, no_step, not_made, too_long, is_cut_short, of_refusal}
 use Rattle.update_replay.specs.ReplayParts.{of_line, NextRead, IsPrefixOfLines, StandsUnless, Makes, IsCutOff, ComesOn}
@@ -71,7 +71,7 @@ new_stands s is = record {
   stands = record {
     server = sym (ap (λ (z : Shown). z.server) is);
     clients = sym (ap (λ (z : Shown). z.clients) is);
-    pool = subst (λ (z : List Sent). AreSent s.profile z []) (sym (ap (λ (z : Shown). z.pool) is)) tt;
+    pool = subst (λ (z : List SentPacket). AreSent s.profile z []) (sym (ap (λ (z : Shown). z.pool) is)) tt;
   };
 }
 

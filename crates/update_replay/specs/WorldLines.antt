@@ -10,7 +10,7 @@ use Rattle.update_replay.specs.StepLines.{packet_lines}
 use Rattle.update_replay.specs.Told.{all_own_lines}
 use Rattle.update_world.specs.declared.outcome.Outcome.{Outcome}
 use Rattle.update_world.specs.declared.outcome.Outcome.TheVariants.{Posted, Again, PostRefused, Date, Served, Heard, Ticked, Woken, Watched, Restarted, Pushed}
-use Rattle.update_world.specs.declared.sent.Sent.{Sent}
+use Rattle.update_world.specs.declared.sent.SentPacket.{SentPacket}
 use Rattle.update_world.specs.Shown.{Shown}
 
 -- ---- a step
@@ -55,7 +55,7 @@ first_new s (Watched k id refused) = length s.pool
 first_new s (Restarted k) = length s.pool
 first_new s (Pushed m channel) = m
 
-abbrev pub bytes_from : ℕ → List Sent → List (List ℕ)
+abbrev pub bytes_from : ℕ → List SentPacket → List (List ℕ)
 bytes_from first pool = map (λ s. s.bytes) (drop first pool)
 
 -- the lines of step number k, after which the world is as it is shown: its own, and one for each packet that it sent

@@ -9,7 +9,7 @@ ghost use Rattle.update_replay.specs.Making.{Chooses, Draws};
 
 use crate::drawing::draw_post;
 use crate::generator::Generator;
-use crate::wanted::{Wanted, goes_to, last_packet};
+use crate::wanted::{Receiver, goes_to, last_packet};
 use box_events::{ListOf, Step};
 use std::alloc::Global;
 use tl_base::Memory;
@@ -77,7 +77,7 @@ fn hear_any(world: &World, client: u32, from: &mut Generator) -> Option<Step>
         return None;
     }
     let packet = from.below(packets);
-    if !goes_to(Wanted::Client { client }, world.packet(packet).to) {
+    if !goes_to(Receiver::Client { client }, world.packet(packet).to) {
         return None;
     }
     Some(Step::Hear { client, packet })
@@ -90,7 +90,7 @@ fn hear_last(world: &World, from: &mut Generator) -> Step
     ensures dated { IsDated result }
 {
     let client = from.below(2);
-    let packet = last_packet(world, Wanted::Client { client });
+    let packet = last_packet(world, Receiver::Client { client });
     or_date(world, heard(client, packet))
 }
 
@@ -111,7 +111,7 @@ fn serve_last(world: &World) -> Step
     ensures step { (w : worlds.World) → StandsFor world.now w → result ≡ served_last (numbers_of w) }
     ensures dated { IsDated result }
 {
-    let packet = last_packet(world, Wanted::Server);
+    let packet = last_packet(world, Receiver::Server);
     or_date(world, served(packet))
 }
 

@@ -9,22 +9,22 @@ use update_world::{End, World};
 
 /// The receiver of a packet that is looked for.
 #[derive(Clone, Copy)]
-pub enum Wanted {
+pub enum Receiver {
     Client { client: u32 },
     Server,
 }
 
 /// Whether a packet goes to the receiver.
-pub fn goes_to(wanted: Wanted, to: End) -> bool
+pub fn goes_to(wanted: Receiver, to: End) -> bool
     ensures { result ≡ goes_to wanted to }
 {
     match wanted {
-        Wanted::Client { client } => match to {
+        Receiver::Client { client } => match to {
             End::Clients => true,
             End::Server { .. } => false,
             End::Client { client: other } => other == client,
         },
-        Wanted::Server => match to {
+        Receiver::Server => match to {
             End::Clients => false,
             End::Server { .. } => true,
             End::Client { .. } => false,
@@ -33,7 +33,7 @@ pub fn goes_to(wanted: Wanted, to: End) -> bool
 }
 
 /// The number of the last packet that goes to the receiver.
-pub fn last_packet(world: &World, wanted: Wanted) -> Option<u32>
+pub fn last_packet(world: &World, wanted: Receiver) -> Option<u32>
     ensures { (w : worlds.World) → StandsFor world.now w → result ≡ last_where (is_wanted wanted) 0 w.pool }
 {
     let packets = world.packets();

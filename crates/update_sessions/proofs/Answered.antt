@@ -35,7 +35,7 @@ use Rattle.box_world.proofs.PushesBelow.{pushes_below, receipts_below, refusals_
 use Rattle.update_sessions.specs.Kept.{kept_for}
 use Rattle.update_sessions.specs.Packed.{Packed, SpellsFrame}
 use Rattle.update_sessions.specs.Serving.{after_request, push_frames, posted_frames, sent_for}
-use Rattle.update_sessions.specs.declared.answering.Sent.{Sent}
+use Rattle.update_sessions.specs.declared.answering.CallAnswer.{CallAnswer}
 use Rattle.update_sessions.specs.inner.Steps.{Puts}
 use Rattle.update_sessions.specs.inner.StoreSteps.{AreShort, Sends, Took, frames_in, if_any}
 use Rattle.update_sessions.proofs.Entries.{more_none}
@@ -74,14 +74,14 @@ both_by p f g old mid new (Ok u) none first h = packed_second p (f ∷ []) g mid
 both_by p f g old mid new (Err e) none first h = tt
 
 -- what is sent, with a push and without one
-pub sent_both : (p : ProfileView) (x : Sent) (g : Frame) (old mid new : List ℕ) (r : Result (Unit {0}) AllocError) → x.push ≡ Some g → old ≡ [] → Puts (SpellsFrame p x.reply) old mid → OnOk r (Puts (SpellsFrame p g) mid new) → OnOk r (Packed (SpellsFrame p) (frames_in x) new)
+pub sent_both : (p : ProfileView) (x : CallAnswer) (g : Frame) (old mid new : List ℕ) (r : Result (Unit {0}) AllocError) → x.push ≡ Some g → old ≡ [] → Puts (SpellsFrame p x.reply) old mid → OnOk r (Puts (SpellsFrame p g) mid new) → OnOk r (Packed (SpellsFrame p) (frames_in x) new)
 sent_both p x g old mid new r is none first h =
     subst (λ (o : Option Frame). OnOk r (Packed (SpellsFrame p) (x.reply ∷ if_any o) new)) (sym is) (both_by p x.reply g old mid new r none first h)
 
-pub sent_alone : (p : ProfileView) (x : Sent) (old new : List ℕ) → x.push ≡ None → old ≡ [] → Puts (SpellsFrame p x.reply) old new → Packed (SpellsFrame p) (frames_in x) new
+pub sent_alone : (p : ProfileView) (x : CallAnswer) (old new : List ℕ) → x.push ≡ None → old ≡ [] → Puts (SpellsFrame p x.reply) old new → Packed (SpellsFrame p) (frames_in x) new
 sent_alone p x old new is none first = subst (λ (o : Option Frame). Packed (SpellsFrame p) (x.reply ∷ if_any o) new) (sym is) (packed_first p x.reply old new none first)
 
-pub push_fits : (x : Sent) (g : Frame) → x.push ≡ Some g → AreShort x → frame_size g ≤ MAX_FRAME_BYTES
+pub push_fits : (x : CallAnswer) (g : Frame) → x.push ≡ Some g → AreShort x → frame_size g ≤ MAX_FRAME_BYTES
 push_fits x g is short = subst (λ (o : Option Frame). IfSome o (λ f. frame_size f ≤ MAX_FRAME_BYTES)) is short.push
 
 -- an answer is short, and so is what is sent
@@ -149,14 +149,14 @@ kept_answer s (request.Difference pts qts date) h = refl
 kept_answer s (request.Channel id pts) h = refl
 kept_answer s (request.Post random_id posts) h = absurd h
 
-pub took_answer : (s : ServerState) (n : ℕ) (r : Request) (x : Sent) (e0 e1 : Option (List Entry)) → IsAnswered r → Sends x (sent_for s n r) → e1 ≡ e0 → Took s n r e0 e1 s x
+pub took_answer : (s : ServerState) (n : ℕ) (r : Request) (x : CallAnswer) (e0 e1 : Option (List Entry)) → IsAnswered r → Sends x (sent_for s n r) → e1 ≡ e0 → Took s n r e0 e1 s x
 took_answer s n r x e0 e1 h sends same =
     record { sends = sends; server = sym (after_answer s r h); appended = same ∙ more_none e0 ∙ ap (λ (l : List Entry). with_more l e0) (sym (kept_answer s r h)) }
 
-pub took_posted : (s t : ServerState) (n : ℕ) (id : ℤ) (posts : List Post) (q : Posted) (x : Sent) (e0 e1 : Option (List Entry)) → Takes s id posts q t → e1 ≡ with_more (kept_of s id posts) e0 → Sends x (posted_frames n (Ok q)) → Took s n (request.Post id posts) e0 e1 t x
+pub took_posted : (s t : ServerState) (n : ℕ) (id : ℤ) (posts : List Post) (q : Posted) (x : CallAnswer) (e0 e1 : Option (List Entry)) → Takes s id posts q t → e1 ≡ with_more (kept_of s id posts) e0 → Sends x (posted_frames n (Ok q)) → Took s n (request.Post id posts) e0 e1 t x
 took_posted s t n id posts q x e0 e1 takes more sends = record { sends = subst (λ (a : Result Posted PostFault). Sends x (posted_frames n a)) takes.answer sends; server = takes.server; appended = more }
 
-pub took_refused : (s t : ServerState) (n : ℕ) (id : ℤ) (posts : List Post) (f : PostFault) (x : Sent) (e0 e1 : Option (List Entry)) → Err f ≡ post_answer s id posts → t ≡ s → e1 ≡ with_more [] e0 → Sends x (posted_frames n (Err f))
+pub took_refused : (s t : ServerState) (n : ℕ) (id : ℤ) (posts : List Post) (f : PostFault) (x : CallAnswer) (e0 e1 : Option (List Entry)) → Err f ≡ post_answer s id posts → t ≡ s → e1 ≡ with_more [] e0 → Sends x (posted_frames n (Err f))
     → Took s n (request.Post id posts) e0 e1 t x
 took_refused s t n id posts f x e0 e1 is same more sends =
     let none = refused_adds_nothing s id posts f is in

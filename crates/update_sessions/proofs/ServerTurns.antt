@@ -11,7 +11,7 @@ use Rattle.wire_profile.specs.declared.wire_fault.WireFault.TheVariants as wire
 use Rattle.wire_profile.specs.Places.{ProfileView}
 use Rattle.box_wire.specs.Framing.{WireRefused}
 use Rattle.box_wire.specs.Kinds.{calls}
-use Rattle.update_sessions.specs.declared.answering.Sent.{Sent}
+use Rattle.update_sessions.specs.declared.answering.CallAnswer.{CallAnswer}
 use Rattle.update_sessions.specs.declared.fault.SessionFault.TheVariants.{Wire}
 use Rattle.update_sessions.specs.Kept.{kept_for}
 use Rattle.update_sessions.specs.Packed.{MeansCall, Packed, SpellsFrame}
@@ -26,7 +26,7 @@ module _ (p : ProfileView) (s : ServerState) (bytes out : List ℕ) (e0 e1 : Opt
   turn_unread fault other (inr r) same = (r, refl, same)
 
   -- a call is taken, and then
-  module _ (call : Numbered) (means : MeansCall p call bytes) (t : ServerState) (x : Sent) (took : Took s call.number call.request e0 e1 t x) where
+  module _ (call : Numbered) (means : MeansCall p call bytes) (t : ServerState) (x : CallAnswer) (took : Took s call.number call.request e0 e1 t x) where
     -- all that is sent for it is there
     pub turn_answered : Packed (SpellsFrame p) (frames_in x) out → AnswersPacket p s bytes out e0 e1 (answered t)
     turn_answered packed = (

@@ -28,7 +28,7 @@ use wire_profile::{Profile, WireFault};
 
 /// What is sent for a call: a reply, and then the push of a new post.
 #[derive(Drop)]
-pub struct Sent {
+pub struct CallAnswer {
     reply: Frame,
     push: Option<Frame>,
 }
@@ -86,7 +86,7 @@ fn take_call<K: Keeper>(
     alloc: Global,
     store: Stored<K>,
     call: Numbered,
-) -> Result<(Stored<K>, Sent), Untaken<K>>
+) -> Result<(Stored<K>, CallAnswer), Untaken<K>>
     ensures takes { TakesCall store.server call.number call.request (K.state store.keeper).entries (K.state (taken_keeper result)).entries (taken_end result) }
     ensures kept { Keeps (K.state store.keeper) (K.state (taken_keeper result)) (IsKeeperFailed (taken_end result)) (λ es. length (es ++ kept_for store.server call.request) ≤ (K.state store.keeper).room) }
 {
@@ -107,7 +107,7 @@ fn take_post<K: Keeper>(
     number: u32,
     random_id: i64,
     posts: Posts,
-) -> Result<(Stored<K>, Sent), Untaken<K>>
+) -> Result<(Stored<K>, CallAnswer), Untaken<K>>
     ensures takes { TakesCall store.server number (PostRequest random_id posts) (K.state store.keeper).entries (K.state (taken_keeper result)).entries (taken_end result) }
     ensures kept { Keeps (K.state store.keeper) (K.state (taken_keeper result)) (IsKeeperFailed (taken_end result)) (λ es. length (es ++ kept_of store.server random_id posts) ≤ (K.state store.keeper).room) }
 {
@@ -125,13 +125,18 @@ fn take_post<K: Keeper>(
 }
 
 // The answer to a request but for posts.
-fn answer(alloc: Global, server: &Server, number: u32, request: &Request) -> Result<Sent, Memory>
+fn answer(
+    alloc: Global,
+    server: &Server,
+    number: u32,
+    request: &Request,
+) -> Result<CallAnswer, Memory>
     requires { IsAnswered request.now }
     ensures { IfOk result (λ x. Sends x (sent_for server.now number request.now)) }
 {
     // Read for the proof alone: that the server is sound.
     let _state = server.state();
-    Ok(Sent {
+    Ok(CallAnswer {
         reply: Frame::Reply {
             number,
             reply: server.answer(alloc, request)?,
@@ -141,7 +146,7 @@ fn answer(alloc: Global, server: &Server, number: u32, request: &Request) -> Res
 }
 
 // The receipt of posts, and their push.
-fn receipt(number: u32, posted: Posted) -> Sent
+fn receipt(number: u32, posted: Posted) -> CallAnswer
     requires { IfSome posted.push (λ push. frame_size (PushFrame push) ≤ MAX_FRAME_BYTES) }
     ensures { Sends result (posted_frames number (Ok posted)) }
 {
@@ -151,19 +156,19 @@ fn receipt(number: u32, posted: Posted) -> Sent
         reply: Reply::Receipt(receipt),
     };
     match push {
-        Some(push) => Sent {
+        Some(push) => CallAnswer {
             reply,
             push: Some(Frame::Push(push)),
         },
-        None => Sent { reply, push: None },
+        None => CallAnswer { reply, push: None },
     }
 }
 
 // The refusal of posts by its name.
-fn refusal(alloc: Global, number: u32, fault: PostFault) -> Result<Sent, Memory>
+fn refusal(alloc: Global, number: u32, fault: PostFault) -> Result<CallAnswer, Memory>
     ensures { IfOk result (λ x. Sends x (posted_frames number (Err fault))) }
 {
-    Ok(Sent {
+    Ok(CallAnswer {
         reply: Frame::Reply {
             number,
             reply: Reply::Error {
@@ -176,7 +181,12 @@ fn refusal(alloc: Global, number: u32, fault: PostFault) -> Result<Sent, Memory>
 }
 
 // Puts the packets of what is sent in place of what stands in `out`.
-fn put_sent(alloc: Global, profile: &Profile, sent: &Sent, out: &mut Bytes) -> Result<(), Memory>
+fn put_sent(
+    alloc: Global,
+    profile: &Profile,
+    sent: &CallAnswer,
+    out: &mut Bytes,
+) -> Result<(), Memory>
     requires { AreShort sent.now }
     ensures { OnOk result (Packed (SpellsFrame profile.now) (frames_in sent.now) out.new) }
 {

@@ -23,7 +23,7 @@ use Rattle.box_wire.specs.declared.fault.SpellFault.TheVariants.{TooLong, Memory
 use Rattle.box_world.specs.Sizes.{call_size, frame_size}
 use Rattle.box_world.specs.Fitting.{CallFits, FrameFits, IsHearable}
 use Rattle.box_world.proofs.ReadFrames.{frames_taken}
-use Rattle.update_world.specs.declared.sent.Sent.{Sent}
+use Rattle.update_world.specs.declared.sent.SentPacket.{SentPacket}
 use Rattle.update_world.specs.declared.sent.End.{End}
 use Rattle.update_world.specs.declared.sent.End.TheVariants.{Server}
 use Rattle.update_world.specs.inner.Pools.{IsPacket}
@@ -62,7 +62,7 @@ frame_packet p is f to b short framed =
 pub one_packet : (p : ProfileView) → IsProfile p → (f : Frame) (to : End) (b : List ℕ) → frame_size f ≤ MAX_FRAME_BYTES → Framed p frames (frame_tree f) b → All IsPacket (record { bytes = b; to = to } ∷ [])
 one_packet p is f to b short framed = All-cons IsPacket (record { bytes = b; to = to }) [] (frame_packet p is f to b short framed) (All-nil IsPacket)
 
-pub all_packets : (p : ProfileView) → IsProfile p → (k : ℕ) (ns : List Numbered) (ss : List Sent) → AreAsked p k ns ss → All (λ n. call_size n ≤ MAX_FRAME_BYTES) ns → All IsPacket ss
+pub all_packets : (p : ProfileView) → IsProfile p → (k : ℕ) (ns : List Numbered) (ss : List SentPacket) → AreAsked p k ns ss → All (λ n. call_size n ≤ MAX_FRAME_BYTES) ns → All IsPacket ss
 all_packets p is k [] [] asked short = All-nil IsPacket
 all_packets p is k [] (s ∷ ss) asked short = absurd asked
 all_packets p is k (n ∷ ns) [] asked short = absurd asked
@@ -72,13 +72,13 @@ all_packets p is k (n ∷ ns) (s ∷ ss) asked short =
     let high = All-head (λ m. call_size m ≤ MAX_FRAME_BYTES) n ns short in
     All-cons IsPacket s ss (omega (arith, size, low), omega (arith, size, high)) (all_packets p is k ns ss asked.2 (All-tail (λ m. call_size m ≤ MAX_FRAME_BYTES) n ns short))
 
-pub asked_push : (p : ProfileView) (k : ℕ) (ns : List Numbered) (ss : List Sent) (n : Numbered) (s : Sent) → AreAsked p k ns ss → AreAsked p k (n ∷ []) (s ∷ []) → AreAsked p k (ns ++ n ∷ []) (ss ++ s ∷ [])
+pub asked_push : (p : ProfileView) (k : ℕ) (ns : List Numbered) (ss : List SentPacket) (n : Numbered) (s : SentPacket) → AreAsked p k ns ss → AreAsked p k (n ∷ []) (s ∷ []) → AreAsked p k (ns ++ n ∷ []) (ss ++ s ∷ [])
 asked_push p k [] [] n s a b = b
 asked_push p k [] (x ∷ ss) n s a b = absurd a
 asked_push p k (m ∷ ns) [] n s a b = absurd a
 asked_push p k (m ∷ ns) (x ∷ ss) n s a b = (a.0, a.1, asked_push p k ns ss n s a.2 b)
 
-pub asked_length : (p : ProfileView) (k : ℕ) (ns : List Numbered) (ss : List Sent) → AreAsked p k ns ss → length ns ≡ length ss
+pub asked_length : (p : ProfileView) (k : ℕ) (ns : List Numbered) (ss : List SentPacket) → AreAsked p k ns ss → length ns ≡ length ss
 asked_length p k [] [] a = refl
 asked_length p k [] (x ∷ ss) a = absurd a
 asked_length p k (m ∷ ns) [] a = absurd a
@@ -137,7 +137,7 @@ is_at xs i x at = same_Some x (get_or xs i x) (sym at ∙ slice_get-get_or xs i 
 pub all_at : {A : Type 0} (P : A → Type 0) (xs : List A) (i : ℕ) (x : A) → All P xs → slice_get xs i ≡ Some x → P x
 all_at P xs i x all at = subst P (sym (is_at xs i x at)) (All-get_or P xs i x (slice_get_within xs i x at) all)
 
-pub asked_more : (p : ProfileView) (k : ℕ) (ns : List Numbered) (i : ℕ) (n : Numbered) (ss new : List Sent) (b : List ℕ) → AreAsked p k (take i ns) ss → slice_get ns i ≡ Some n → Framed p calls (call_tree n) b
+pub asked_more : (p : ProfileView) (k : ℕ) (ns : List Numbered) (i : ℕ) (n : Numbered) (ss new : List SentPacket) (b : List ℕ) → AreAsked p k (take i ns) ss → slice_get ns i ≡ Some n → Framed p calls (call_tree n) b
     → new ≡ ss ++ record { bytes = b; to = Server k } ∷ [] → AreAsked p k (take (i + 1) ns) new
 asked_more p k ns i n ss new b asked at framed is =
     let cut : take (i + 1) ns ≡ take i ns ++ n ∷ [] = take_more ns i n (slice_get_within ns i n at) ∙ ap (λ (m : Numbered). take i ns ++ m ∷ []) (sym (is_at ns i n at)) in

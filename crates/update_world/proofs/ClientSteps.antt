@@ -30,8 +30,8 @@ use Rattle.update_world.specs.declared.fault.StepFault.TheVariants.{Memory}
 use Rattle.update_world.specs.declared.limits.TheConstants.{MAX_POOL_BYTES}
 use Rattle.update_world.specs.declared.outcome.Outcome.{Outcome}
 use Rattle.update_world.specs.declared.outcome.Outcome.TheVariants as outcome
-use Rattle.update_world.specs.declared.parts.Parts.{Parts}
-use Rattle.update_world.specs.declared.sent.Sent.{Sent}
+use Rattle.update_world.specs.declared.parts.WorldParts.{WorldParts}
+use Rattle.update_world.specs.declared.sent.SentPacket.{SentPacket}
 use Rattle.update_world.specs.Outcomes.{asks_of, outcome_of, watch_cause}
 use Rattle.update_world.specs.Shown.{StandsFor, bytes_of}
 use Rattle.update_world.specs.Spelled.{AreSent}
@@ -50,7 +50,7 @@ client_at cs k c lt is = slice_get-get_or cs k c lt ∙ ap (λ (d : ClientState)
 
 -- ---- steps of one client alone
 
-pub client_done : (p : ProfileView) (a b : Parts) (s : Step) (w : World) (k : ℕ) (f : ClientState → ClientState) (c d : ClientState) (o : Outcome) → IsSteady (shown_by p a) → StandsFor (shown_by p a) w → Reaches w s
+pub client_done : (p : ProfileView) (a b : WorldParts) (s : Step) (w : World) (k : ℕ) (f : ClientState → ClientState) (c d : ClientState) (o : Outcome) → IsSteady (shown_by p a) → StandsFor (shown_by p a) w → Reaches w s
     → happens w s ≡ client_steps w k f (slice_get w.clients k) → slice_get a.clients.items k ≡ Some c → d ≡ f c → b.server ≡ a.server → b.clients.items ≡ set a.clients.items k d → b.pool ≡ a.pool → o ≡ outcome_of w s
     → Happens (shown_by p a) s w (Ok o) (shown_after p b (Ok o))
 client_done p a b s w k f c d o steady st r is at made server clients pool told =
@@ -60,16 +60,16 @@ client_done p a b s w k f c d o steady st r is at made server clients pool told 
     (ap (λ (v : World). v.server) now ∙ st.server ∙ sym server)
     (ap (λ (v : World). v.clients) now ∙ (λ i. set (st.clients i) k (sym made i)) ∙ sym clients) told
 
-is_there : (p : ProfileView) (a : Parts) (w : World) (k : ℕ) → StandsFor (shown_by p a) w → k < length a.clients.items → past no_client (length w.clients) (Some k) ≡ None
+is_there : (p : ProfileView) (a : WorldParts) (w : World) (k : ℕ) → StandsFor (shown_by p a) w → k < length a.clients.items → past no_client (length w.clients) (Some k) ≡ None
 is_there p a w k st lt = there no_client (length w.clients) k (subst (λ (n : ℕ). k < n) (sym (ap length st.clients)) lt)
 
-pub wake_done : (p : ProfileView) (a b : Parts) (w : World) (k : ℕ) (c d : ClientState) → IsSteady (shown_by p a) → StandsFor (shown_by p a) w → k < length a.clients.items → slice_get a.clients.items k ≡ Some c → d ≡ wakes c
+pub wake_done : (p : ProfileView) (a b : WorldParts) (w : World) (k : ℕ) (c d : ClientState) → IsSteady (shown_by p a) → StandsFor (shown_by p a) w → k < length a.clients.items → slice_get a.clients.items k ≡ Some c → d ≡ wakes c
     → b.server ≡ a.server → b.clients.items ≡ set a.clients.items k d → b.pool ≡ a.pool → Happens (shown_by p a) (step.Wake k) w (Ok (outcome.Woken k)) (shown_after p b (Ok (outcome.Woken k)))
 unfolding outcome_of
 wake_done p a b w k c d steady st lt at made server clients pool =
     client_done p a b (step.Wake k) w k wakes c d (outcome.Woken k) steady st (record { client = is_there p a w k st lt; packet = refl; right = refl }) refl at made server clients pool refl
 
-pub restart_done : (p : ProfileView) (a b : Parts) (w : World) (k : ℕ) (c d : ClientState) → IsSteady (shown_by p a) → StandsFor (shown_by p a) w → k < length a.clients.items → slice_get a.clients.items k ≡ Some c → d ≡ restarted c
+pub restart_done : (p : ProfileView) (a b : WorldParts) (w : World) (k : ℕ) (c d : ClientState) → IsSteady (shown_by p a) → StandsFor (shown_by p a) w → k < length a.clients.items → slice_get a.clients.items k ≡ Some c → d ≡ restarted c
     → b.server ≡ a.server → b.clients.items ≡ set a.clients.items k d → b.pool ≡ a.pool → Happens (shown_by p a) (step.Restart k) w (Ok (outcome.Restarted k)) (shown_after p b (Ok (outcome.Restarted k)))
 unfolding outcome_of
 restart_done p a b w k c d steady st lt at made server clients pool =
@@ -121,7 +121,7 @@ watched_refused c d id Already not h = watched_already c d id h
 watched_refused c d id TooMany not h = watched_too_many c d id h
 watched_refused c d id WatchMemory not h = absurd (not refl)
 
-pub watch_done : (p : ProfileView) (a b : Parts) (w : World) (k : ℕ) (id : ℤ) (c d : ClientState) (refused : Option WatchFault) → IsSteady (shown_by p a) → StandsFor (shown_by p a) w → k < length a.clients.items
+pub watch_done : (p : ProfileView) (a b : WorldParts) (w : World) (k : ℕ) (id : ℤ) (c d : ClientState) (refused : Option WatchFault) → IsSteady (shown_by p a) → StandsFor (shown_by p a) w → k < length a.clients.items
     → slice_get a.clients.items k ≡ Some c → Watched c d id refused → b.server ≡ a.server → b.clients.items ≡ set a.clients.items k d → b.pool ≡ a.pool
     → Happens (shown_by p a) (step.Watch k id) w (Ok (outcome.Watched k id refused)) (shown_after p b (Ok (outcome.Watched k id refused)))
 unfolding outcome_of
@@ -133,7 +133,7 @@ watch_done p a b w k id c d refused steady st lt at made server clients pool =
 -- ---- asking
 
 -- the requests are spelled, and may be read again
-asked_sent : (p : ProfileView) (k : ℕ) (ns : List Numbered) (ss : List Sent) → AreAsked p k ns ss → All CallFits ns → AreSent p ss (map (request k) ns)
+asked_sent : (p : ProfileView) (k : ℕ) (ns : List Numbered) (ss : List SentPacket) → AreAsked p k ns ss → All CallFits ns → AreSent p ss (map (request k) ns)
 asked_sent p k [] [] h fits = tt
 asked_sent p k [] (s ∷ ss) h fits = absurd h
 asked_sent p k (n ∷ ns) [] h fits = absurd h
@@ -142,23 +142,23 @@ asked_sent p k (n ∷ ns) (s ∷ ss) h fits = (record { to = h.0; bytes = h.1; r
 all_fit : (c : ClientState) → MayAsk c → All CallFits (ticks c).asks
 all_fit c m = let limit = m.limit in asks_fit c m.low (omega (arith, limit)) m.date m.few
 
-tick_reaches : (p : ProfileView) (a : Parts) (w : World) (k : ℕ) → StandsFor (shown_by p a) w → k < length a.clients.items → Reaches w (step.Tick k)
+tick_reaches : (p : ProfileView) (a : WorldParts) (w : World) (k : ℕ) → StandsFor (shown_by p a) w → k < length a.clients.items → Reaches w (step.Tick k)
 tick_reaches p a w k st lt = record { client = is_there p a w k st lt; packet = refl; right = refl }
 
-tick_pool : (p : ProfileView) (a : Parts) (w : World) (k : ℕ) (c : ClientState) (more : List Sent) → IsSteady (shown_by p a) → StandsFor (shown_by p a) w → slice_get a.clients.items k ≡ Some c → AreAsked p k (ticks c).asks more
+tick_pool : (p : ProfileView) (a : WorldParts) (w : World) (k : ℕ) (c : ClientState) (more : List SentPacket) → IsSteady (shown_by p a) → StandsFor (shown_by p a) w → slice_get a.clients.items k ≡ Some c → AreAsked p k (ticks c).asks more
     → AreSent p (a.pool ++ more) (happens w (step.Tick k)).pool
 tick_pool p a w k c more steady st at asked =
     let cl : slice_get w.clients k ≡ Some c = ap (λ (cs : List ClientState). slice_get cs k) st.clients ∙ at in
     subst (λ (v : World). AreSent p (a.pool ++ more) v.pool) (sym (ap (asks w k) cl))
     (sent_append p a.pool more w.pool (map (request k) (ticks c).asks) st.pool (asked_sent p k (ticks c).asks more asked (all_fit c (may_ask (shown_by p a) steady k c at))))
 
-pub tick_unsent : (p : ProfileView) (a b : Parts) (w : World) (k : ℕ) (c : ClientState) (new : List Sent) (e : StepFault) → IsSteady (shown_by p a) → StandsFor (shown_by p a) w → k < length a.clients.items → slice_get a.clients.items k ≡ Some c
+pub tick_unsent : (p : ProfileView) (a b : WorldParts) (w : World) (k : ℕ) (c : ClientState) (new : List SentPacket) (e : StepFault) → IsSteady (shown_by p a) → StandsFor (shown_by p a) w → k < length a.clients.items → slice_get a.clients.items k ≡ Some c
     → SendsCalls p k (ticks c).asks a.pool (Err e) new → Happens (shown_by p a) (step.Tick k) w (Err e) (shown_after p b (Err e))
 tick_unsent p a b w k c new e steady st lt at (inl q) = let is : e ≡ Memory = cc in subst (λ (x : StepFault). Happens (shown_by p a) (step.Tick k) w (Err x) (shown_after p b (Err x))) (sym is) refl
 tick_unsent p a b w k c new e steady st lt at (inr h) =
     unsent p steady.profile a b (step.Tick k) w a.pool h.0 new e (tick_reaches p a w k st lt) (tick_pool p a w k c h.0 steady st at h.1) h.2
 
-pub tick_done : (p : ProfileView) (a b : Parts) (w : World) (k n many : ℕ) (c d : ClientState) → IsSteady (shown_by p a) → StandsFor (shown_by p a) w → k < length a.clients.items → slice_get a.clients.items k ≡ Some c
+pub tick_done : (p : ProfileView) (a b : WorldParts) (w : World) (k n many : ℕ) (c d : ClientState) → IsSteady (shown_by p a) → StandsFor (shown_by p a) w → k < length a.clients.items → slice_get a.clients.items k ≡ Some c
     → SendsCalls p k (ticks c).asks a.pool (Ok n) b.pool → d ≡ (ticks c).client → many ≡ length (ticks c).asks → b.server ≡ a.server → b.clients.items ≡ set a.clients.items k d
     → Happens (shown_by p a) (step.Tick k) w (Ok (outcome.Ticked k many n)) (shown_after p b (Ok (outcome.Ticked k many n)))
 unfolding outcome_of
@@ -171,7 +171,7 @@ tick_done p a b w k n many c d steady st lt at (inr h) made count server clients
     (record {
       server = ap (λ (v : World). v.server) now ∙ st.server ∙ sym server;
       clients = ap (λ (v : World). v.clients) now ∙ (λ i. set (st.clients i) k (sym made i)) ∙ sym clients;
-      pool = subst (λ (ss : List Sent). AreSent p ss (happens w (step.Tick k)).pool) (sym h.2.1) (tick_pool p a w k c h.0 steady st at h.1);
+      pool = subst (λ (ss : List SentPacket). AreSent p ss (happens w (step.Tick k)).pool) (sym h.2.1) (tick_pool p a w k c h.0 steady st at h.1);
     }) h.2.2
 
 -- what is asked is short

@@ -9,8 +9,8 @@ use Rattle.update_world.specs.declared.fault.StepFault.{StepFault}
 use Rattle.update_world.specs.declared.fault.StepFault.TheVariants.{NoClient, NoPacket, WrongEnd, PoolFull, Memory}
 use Rattle.update_world.specs.declared.limits.TheConstants.{MAX_POOL_BYTES}
 use Rattle.update_world.specs.declared.outcome.Outcome.{Outcome}
-use Rattle.update_world.specs.declared.parts.Parts.{Parts}
-use Rattle.update_world.specs.declared.sent.Sent.{Sent}
+use Rattle.update_world.specs.declared.parts.WorldParts.{WorldParts}
+use Rattle.update_world.specs.declared.sent.SentPacket.{SentPacket}
 use Rattle.update_world.specs.Outcomes.{outcome_of}
 use Rattle.update_world.specs.Shown.{StandsFor, bytes_of}
 use Rattle.update_world.specs.Spelled.{AreSent, packet_size}
@@ -21,26 +21,26 @@ use Rattle.update_world.proofs.Refusals.{Reaches, far_client, far_packet, wrong_
 use Rattle.update_world.proofs.SentLists.{sent_bytes}
 
 -- it happens
-pub done : (p : ProfileView) → IsProfile p → (a b : Parts) (s : Step) (w : World) (o : Outcome) → Reaches w s → o ≡ outcome_of w s → StandsFor (shown_by p b) (happens w s) → bytes_of b.pool ≤ MAX_POOL_BYTES
+pub done : (p : ProfileView) → IsProfile p → (a b : WorldParts) (s : Step) (w : World) (o : Outcome) → Reaches w s → o ≡ outcome_of w s → StandsFor (shown_by p b) (happens w s) → bytes_of b.pool ≤ MAX_POOL_BYTES
     → Happens (shown_by p a) s w (Ok o) (shown_after p b (Ok o))
 done p is a b s w o r same st most =
     let few : bytes_in packet_size (happens w s).pool ≤ MAX_POOL_BYTES = subst (λ (n : ℕ). n ≤ MAX_POOL_BYTES) (sent_bytes p is b.pool (happens w s).pool st.pool) most in
     (possible packet_size w s r few, same, record { server = st.server; clients = st.clients; pool = st.pool }, refl)
 
 -- the client isn't there
-pub no_such_client : (p : ProfileView) (a : Parts) (s : Step) (w : World) (k : ℕ) → StandsFor (shown_by p a) w → client_of s ≡ Some k → length a.clients.items ≤ k
+pub no_such_client : (p : ProfileView) (a : WorldParts) (s : Step) (w : World) (k : ℕ) → StandsFor (shown_by p a) w → client_of s ≡ Some k → length a.clients.items ≤ k
     → Happens (shown_by p a) s w (Err (NoClient k)) (shown_after p a (Err (NoClient k)))
 no_such_client p a s w k st is le = (far_client packet_size w s k is (subst (λ (n : ℕ). n ≤ k) (sym (ap length st.clients)) le), refl)
 
 -- the pool would be too full
-pub overfilled : (p : ProfileView) → IsProfile p → (a b : Parts) (s : Step) (w : World) (n : ℕ) (ss : List Sent) → Reaches w s → AreSent p ss (happens w s).pool → n ≡ bytes_of ss → MAX_POOL_BYTES < n
+pub overfilled : (p : ProfileView) → IsProfile p → (a b : WorldParts) (s : Step) (w : World) (n : ℕ) (ss : List SentPacket) → Reaches w s → AreSent p ss (happens w s).pool → n ≡ bytes_of ss → MAX_POOL_BYTES < n
     → Happens (shown_by p a) s w (Err (PoolFull n)) (shown_after p b (Err (PoolFull n)))
 overfilled p is a b s w n ss r sent sum lt =
     let same : n ≡ bytes_in packet_size (happens w s).pool = sum ∙ sent_bytes p is ss (happens w s).pool sent in
     (too_full packet_size w s r (subst (λ (m : ℕ). MAX_POOL_BYTES < m) same lt) ∙ ap (λ (m : ℕ). Some (pool_full m)) (sym same), refl)
 
 -- packets of a step that reaches them are not sent
-pub unsent : (p : ProfileView) → IsProfile p → (a b : Parts) (s : Step) (w : World) (old more new : List Sent) (e : StepFault) → Reaches w s → AreSent p (old ++ more) (happens w s).pool → Sends old more (Err e) new
+pub unsent : (p : ProfileView) → IsProfile p → (a b : WorldParts) (s : Step) (w : World) (old more new : List SentPacket) (e : StepFault) → Reaches w s → AreSent p (old ++ more) (happens w s).pool → Sends old more (Err e) new
     → Happens (shown_by p a) s w (Err e) (shown_after p b (Err e))
 unsent p is a b s w old more new (NoClient n) r sent sends = absurd sends
 unsent p is a b s w old more new (NoPacket n) r sent sends = absurd sends

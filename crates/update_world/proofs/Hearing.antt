@@ -33,8 +33,8 @@ use Rattle.update_world.specs.declared.fault.StepFault.{StepFault}
 use Rattle.update_world.specs.declared.fault.StepFault.TheVariants.{NoClient, NoPacket, WrongEnd, PoolFull, Memory}
 use Rattle.update_world.specs.declared.limits.TheConstants.{MAX_POOL_BYTES}
 use Rattle.update_world.specs.declared.outcome.Outcome.TheVariants as outcome
-use Rattle.update_world.specs.declared.parts.Parts.{Parts}
-use Rattle.update_world.specs.declared.sent.Sent.{Sent}
+use Rattle.update_world.specs.declared.parts.WorldParts.{WorldParts}
+use Rattle.update_world.specs.declared.sent.SentPacket.{SentPacket}
 use Rattle.update_world.specs.declared.sent.End.{End}
 use Rattle.update_world.specs.Outcomes.{asks_it, heard_as, heard_by, outcome_of}
 use Rattle.update_world.specs.Shown.{StandsFor, bytes_of}
@@ -162,19 +162,19 @@ heard_reply w k m j n f r s at to is = record {
   told = λ c. ap (frame_as c) (sym is);
 }
 
-by_message : (p : ProfileView) (a : Parts) (w : World) (k m : ℕ) (f : Frame) (x : Packet) (h : HasFrameFor p a.pool k m f) → slice_get w.pool m ≡ Some x → IsSent p h.sent x → IsHeard w k m f
+by_message : (p : ProfileView) (a : WorldParts) (w : World) (k m : ℕ) (f : Frame) (x : Packet) (h : HasFrameFor p a.pool k m f) → slice_get w.pool m ≡ Some x → IsSent p h.sent x → IsHeard w k m f
 by_message p a w k m f (push q) h at is = heard_push w k m f q at (h.only (Push q) (record { fits = is.read; spelled = is.bytes }))
 by_message p a w k m f (request j n) h at is = let to = sym (ap (hears k) is.to) ∙ h.to in cc
 by_message p a w k m f (reply j n r s) h at is = heard_reply w k m j n f r s at (sym (ap (hears k) is.to) ∙ h.to) (h.only (Reply n r) (record { fits = is.read; spelled = is.bytes }))
 
-pub is_heard : (p : ProfileView) (a : Parts) (w : World) (k m : ℕ) (f : Frame) → AreSent p a.pool w.pool → HasFrameFor p a.pool k m f → IsHeard w k m f
+pub is_heard : (p : ProfileView) (a : WorldParts) (w : World) (k m : ℕ) (f : Frame) → AreSent p a.pool w.pool → HasFrameFor p a.pool k m f → IsHeard w k m f
 is_heard p a w k m f sent h = let g = sent_get p a.pool w.pool sent m h.sent h.there in by_message p a w k m f g.0 h g.1 g.2
 
 -- the client of a steady world refuses nothing of it
 same_number : (j k : ℕ) → eqb j k ≡ true → j ≡ k
 same_number j k e = grind (arith, nat_tests)
 
-taken_by_message : (p : ProfileView) (a : Parts) (n : ℕ) (steps : List Step) (k m : ℕ) (f : Frame) (x : Packet) (c : ClientState) (h : HasFrameFor p a.pool k m f) → slice_get (run n steps).pool m ≡ Some x → IsSent p h.sent x
+taken_by_message : (p : ProfileView) (a : WorldParts) (n : ℕ) (steps : List Step) (k m : ℕ) (f : Frame) (x : Packet) (c : ClientState) (h : HasFrameFor p a.pool k m f) → slice_get (run n steps).pool m ≡ Some x → IsSent p h.sent x
     → slice_get (run n steps).clients k ≡ Some c → IsTaken c f
 taken_by_message p a n steps k m f (push q) c h at is cl = subst (IsTaken c) (sym (h.only (Push q) (record { fits = is.read; spelled = is.bytes }))) tt
 taken_by_message p a n steps k m f (request j r) c h at is cl = let to = sym (ap (hears k) is.to) ∙ h.to in cc
@@ -183,7 +183,7 @@ taken_by_message p a n steps k m f (reply j i r s) c h at is cl =
     let at_k : slice_get (run n steps).pool m ≡ Some (reply k i r s) = at ∙ ap (λ (l : ℕ). Some (reply l i r s)) same in
     subst (IsTaken c) (sym (h.only (Reply i r) (record { fits = is.read; spelled = is.bytes }))) (is_taken n steps m k i r s c at_k cl)
 
-pub frame_taken : (p : ProfileView) (a : Parts) (k m : ℕ) (f : Frame) (c : ClientState) → IsSteady (shown_by p a) → HasFrameFor p a.pool k m f → slice_get a.clients.items k ≡ Some c → IsTaken c f
+pub frame_taken : (p : ProfileView) (a : WorldParts) (k m : ℕ) (f : Frame) (c : ClientState) → IsSteady (shown_by p a) → HasFrameFor p a.pool k m f → slice_get a.clients.items k ≡ Some c → IsTaken c f
 frame_taken p a k m f c steady h at =
     let n : ℕ = length a.clients.items in
     let steps : List Step = steady.run.steps in
@@ -192,7 +192,7 @@ frame_taken p a k m f c steady h at =
 
 -- ---- the step
 
-pub hear_done : (p : ProfileView) (a b : Parts) (w : World) (k m : ℕ) (f : Frame) (c d : ClientState) (heard_so : HeardAs) → IsSteady (shown_by p a) → StandsFor (shown_by p a) w → HasFrameFor p a.pool k m f → slice_get a.clients.items k ≡ Some c
+pub hear_done : (p : ProfileView) (a b : WorldParts) (w : World) (k m : ℕ) (f : Frame) (c d : ClientState) (heard_so : HeardAs) → IsSteady (shown_by p a) → StandsFor (shown_by p a) w → HasFrameFor p a.pool k m f → slice_get a.clients.items k ≡ Some c
     → d ≡ after_frame c f → heard_so ≡ frame_as c f → b.server ≡ a.server → b.clients.items ≡ set a.clients.items k d → b.pool ≡ a.pool
     → Happens (shown_by p a) (step.Hear k m) w (Ok (outcome.Heard k heard_so)) (shown_after p b (Ok (outcome.Heard k heard_so)))
 unfolding outcome_of
@@ -213,12 +213,12 @@ hear_done p a b w k m f c d heard_so steady st h at is as_told server clients po
 -- ---- refusals
 
 -- a packet that goes to another end isn't for the client
-not_for : (p : ProfileView) (k : ℕ) (s : Sent) (x : Packet) → hears k s.to ≡ false → IsSent p s x → is_for k (Some x) ≡ false
+not_for : (p : ProfileView) (k : ℕ) (s : SentPacket) (x : Packet) → hears k s.to ≡ false → IsSent p s x → is_for k (Some x) ≡ false
 not_for p k s (push q) to is = sym (ap (hears k) is.to) ∙ to
 not_for p k s (request j n) to is = refl
 not_for p k s (reply j n r t) to is = sym (ap (hears k) is.to) ∙ to
 
-pub hear_refused : (p : ProfileView) (a b : Parts) (w : World) (k m : ℕ) (e : StepFault) → StandsFor (shown_by p a) w → k < length a.clients.items → FrameFor p a.pool k m (Err e) → b ≡ a
+pub hear_refused : (p : ProfileView) (a b : WorldParts) (w : World) (k m : ℕ) (e : StepFault) → StandsFor (shown_by p a) w → k < length a.clients.items → FrameFor p a.pool k m (Err e) → b ≡ a
     → Happens (shown_by p a) (step.Hear k m) w (Err e) (shown_after p b (Err e))
 hear_refused p a b w k m (NoClient n) st lt h same = absurd h
 hear_refused p a b w k m (NoPacket n) st lt h same =

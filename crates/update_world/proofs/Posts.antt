@@ -29,8 +29,8 @@ use Rattle.update_world.specs.declared.fault.StepFault.{StepFault}
 use Rattle.update_world.specs.declared.limits.TheConstants.{MAX_POOL_BYTES}
 use Rattle.update_world.specs.declared.outcome.Outcome.{Outcome}
 use Rattle.update_world.specs.declared.outcome.Outcome.TheVariants as outcome
-use Rattle.update_world.specs.declared.parts.Parts.{Parts}
-use Rattle.update_world.specs.declared.sent.Sent.{Sent}
+use Rattle.update_world.specs.declared.parts.WorldParts.{WorldParts}
+use Rattle.update_world.specs.declared.sent.SentPacket.{SentPacket}
 use Rattle.update_world.specs.declared.sent.End.TheVariants.{Clients}
 use Rattle.update_world.specs.Outcomes.{outcome_of, post_outcome}
 use Rattle.update_world.specs.Shown.{StandsFor, bytes_of}
@@ -140,15 +140,15 @@ new_outcome w random_id ps q t n new same =
     (λ i. outcome.Posted (state_of (new.server i)) (same i)) ∙ sym told
 
 -- The server takes a new post: its push is sent, or not.
-to_world : (p : ProfileView) (a : Parts) (w : World) (random_id : ℤ) (ps : List Post) (q : SomePush) (t : ServerState) → StandsFor (shown_by p a) w → IsNew a.server random_id ps q t → IsNew w.server random_id ps q t
+to_world : (p : ProfileView) (a : WorldParts) (w : World) (random_id : ℤ) (ps : List Post) (q : SomePush) (t : ServerState) → StandsFor (shown_by p a) w → IsNew a.server random_id ps q t → IsNew w.server random_id ps q t
 to_world p a w random_id ps q t st n = subst (λ (s : ServerState). IsNew s random_id ps q t) (sym st.server) n
 
-pub post_unsent : (p : ProfileView) → IsProfile p → (a b : Parts) (w : World) (random_id : ℤ) (ps : List Post) (q : SomePush) (t : ServerState) (new : List Sent) (e : StepFault) → IsSound a.server → StandsFor (shown_by p a) w
+pub post_unsent : (p : ProfileView) → IsProfile p → (a b : WorldParts) (w : World) (random_id : ℤ) (ps : List Post) (q : SomePush) (t : ServerState) (new : List SentPacket) (e : StepFault) → IsSound a.server → StandsFor (shown_by p a) w
     → IsNew a.server random_id ps q t → SendsFrame p (Push q) Clients a.pool (Err e) new → Happens (shown_by p a) (step.Post random_id ps) w (Err e) (shown_after p b (Err e))
 post_unsent p is a b w random_id ps q t new e sound st n sends =
     frame_unsent p is a b (step.Post random_id ps) w (Push q) Clients (push q) new e st (new_brings w random_id ps q t (subst IsSound (sym st.server) sound) (to_world p a w random_id ps q t st n)) sends
 
-pub post_done : (p : ProfileView) → IsProfile p → (a b : Parts) (w : World) (random_id : ℤ) (ps : List Post) (q : SomePush) (state : State) (n : ℕ) → IsSound a.server → StandsFor (shown_by p a) w
+pub post_done : (p : ProfileView) → IsProfile p → (a b : WorldParts) (w : World) (random_id : ℤ) (ps : List Post) (q : SomePush) (state : State) (n : ℕ) → IsSound a.server → StandsFor (shown_by p a) w
     → IsNew a.server random_id ps q b.server → b.clients.items ≡ a.clients.items → SendsFrame p (Push q) Clients a.pool (Ok n) b.pool → state ≡ state_of b.server
     → Happens (shown_by p a) (step.Post random_id ps) w (Ok (outcome.Posted state n)) (shown_after p b (Ok (outcome.Posted state n)))
 post_done p is a b w random_id ps q state n sound st new clients sends at =
@@ -159,14 +159,14 @@ post_done p is a b w random_id ps q state n sound st new clients sends at =
     (λ same. ap (λ (s : State). outcome.Posted s n) at ∙ new_outcome w random_id ps q b.server n here same)
 
 -- A step that leaves the pool as it is.
-pub stays : (p : ProfileView) → IsProfile p → (a b : Parts) (s : Step) (w : World) (o : Outcome) → Reaches w s → StandsFor (shown_by p a) w → bytes_of a.pool ≤ MAX_POOL_BYTES → (happens w s).pool ≡ w.pool → b.pool ≡ a.pool
+pub stays : (p : ProfileView) → IsProfile p → (a b : WorldParts) (s : Step) (w : World) (o : Outcome) → Reaches w s → StandsFor (shown_by p a) w → bytes_of a.pool ≤ MAX_POOL_BYTES → (happens w s).pool ≡ w.pool → b.pool ≡ a.pool
     → (happens w s).server ≡ b.server → (happens w s).clients ≡ b.clients.items → o ≡ outcome_of w s → Happens (shown_by p a) s w (Ok o) (shown_after p b (Ok o))
 stays p is a b s w o r st most pool same server clients told =
     done p is a b s w o r told
-    (record { server = server; clients = clients; pool = subst (λ (ss : List Sent). AreSent p ss (happens w s).pool) (sym same) (subst (λ (ms : List Packet). AreSent p a.pool ms) (sym pool) st.pool) })
-    (subst (λ (ss : List Sent). bytes_of ss ≤ MAX_POOL_BYTES) (sym same) most)
+    (record { server = server; clients = clients; pool = subst (λ (ss : List SentPacket). AreSent p ss (happens w s).pool) (sym same) (subst (λ (ms : List Packet). AreSent p a.pool ms) (sym pool) st.pool) })
+    (subst (λ (ss : List SentPacket). bytes_of ss ≤ MAX_POOL_BYTES) (sym same) most)
 
-pub post_known : (p : ProfileView) → IsProfile p → (a b : Parts) (w : World) (random_id : ℤ) (ps : List Post) → StandsFor (shown_by p a) w → bytes_of a.pool ≤ MAX_POOL_BYTES → IsKnown a.server random_id b.server
+pub post_known : (p : ProfileView) → IsProfile p → (a b : WorldParts) (w : World) (random_id : ℤ) (ps : List Post) → StandsFor (shown_by p a) w → bytes_of a.pool ≤ MAX_POOL_BYTES → IsKnown a.server random_id b.server
     → b.clients.items ≡ a.clients.items → b.pool ≡ a.pool → Happens (shown_by p a) (step.Post random_id ps) w (Ok outcome.Again) (shown_after p b (Ok outcome.Again))
 unfolding outcome_of
 post_known p is a b w random_id ps st most known clients pool =
@@ -176,7 +176,7 @@ post_known p is a b w random_id ps st most known clients pool =
     (ap (λ (v : World). v.server) same ∙ sym here.server) (ap (λ (v : World). v.clients) same ∙ st.clients ∙ sym clients)
     (sym (ap (λ (o : Option Receipt). post_outcome w random_id ps o (post_cause w.server ps)) here.known))
 
-pub post_refused : (p : ProfileView) → IsProfile p → (a b : Parts) (w : World) (random_id : ℤ) (ps : List Post) (f : PostFault) → StandsFor (shown_by p a) w → bytes_of a.pool ≤ MAX_POOL_BYTES
+pub post_refused : (p : ProfileView) → IsProfile p → (a b : WorldParts) (w : World) (random_id : ℤ) (ps : List Post) (f : PostFault) → StandsFor (shown_by p a) w → bytes_of a.pool ≤ MAX_POOL_BYTES
     → IsRefused a.server random_id ps f b.server → b.clients.items ≡ a.clients.items → b.pool ≡ a.pool
     → Happens (shown_by p a) (step.Post random_id ps) w (Ok (outcome.PostRefused f)) (shown_after p b (Ok (outcome.PostRefused f)))
 unfolding outcome_of
@@ -189,7 +189,7 @@ post_refused p is a b w random_id ps f st most refused clients pool =
 
 -- ---- dates
 
-pub date_done : (p : ProfileView) → IsProfile p → (a b : Parts) (w : World) (date told : ℕ) → StandsFor (shown_by p a) w → bytes_of a.pool ≤ MAX_POOL_BYTES → b.server ≡ dated_at a.server date → b.clients.items ≡ a.clients.items
+pub date_done : (p : ProfileView) → IsProfile p → (a b : WorldParts) (w : World) (date told : ℕ) → StandsFor (shown_by p a) w → bytes_of a.pool ≤ MAX_POOL_BYTES → b.server ≡ dated_at a.server date → b.clients.items ≡ a.clients.items
     → b.pool ≡ a.pool → told ≡ b.server.date → Happens (shown_by p a) (step.Date date) w (Ok (outcome.Date told)) (shown_after p b (Ok (outcome.Date told)))
 unfolding outcome_of
 date_done p is a b w date told st most server clients pool same =

@@ -13,8 +13,8 @@ use Rattle.update_world.specs.declared.fault.StepFault.{StepFault}
 use Rattle.update_world.specs.declared.fault.StepFault.TheVariants.{Memory}
 use Rattle.update_world.specs.declared.limits.TheConstants.{MAX_POOL_BYTES}
 use Rattle.update_world.specs.declared.outcome.Outcome.{Outcome}
-use Rattle.update_world.specs.declared.parts.Parts.{Parts}
-use Rattle.update_world.specs.declared.sent.Sent.{Sent}
+use Rattle.update_world.specs.declared.parts.WorldParts.{WorldParts}
+use Rattle.update_world.specs.declared.sent.SentPacket.{SentPacket}
 use Rattle.update_world.specs.declared.sent.End.{End}
 use Rattle.update_world.specs.Outcomes.{outcome_of}
 use Rattle.update_world.specs.Shown.{StandsFor, bytes_of}
@@ -43,14 +43,14 @@ memory_is : (e : StepFault) → ◌≡◌ {A = Result ℕ StepFault} (Err e) (Er
 memory_is e q = cc
 
 -- what is sent is the message
-one_more : (p : ProfileView) (w : World) (s : Step) (f : Frame) (to : End) (m : Packet) (old : List Sent) (b : List ℕ) → AreSent p old w.pool → Brings w s f to m → Framed p frames (frame_tree f) b
+one_more : (p : ProfileView) (w : World) (s : Step) (f : Frame) (to : End) (m : Packet) (old : List SentPacket) (b : List ℕ) → AreSent p old w.pool → Brings w s f to m → Framed p frames (frame_tree f) b
     → AreSent p (old ++ record { bytes = b; to = to } ∷ []) (happens w s).pool
 one_more p w s f to m old b sent br framed =
     subst (λ (ms : List Packet). AreSent p (old ++ record { bytes = b; to = to } ∷ []) ms) (sym br.pool)
     (sent_push p old (record { bytes = b; to = to }) w.pool m sent (record { to = br.frame.ends b; bytes = br.frame.spelled p b framed; read = br.frame.read }))
 
 -- the frame isn't sent
-pub frame_unsent : (p : ProfileView) → IsProfile p → (a b : Parts) (s : Step) (w : World) (f : Frame) (to : End) (m : Packet) (new : List Sent) (e : StepFault) → StandsFor (shown_by p a) w → Brings w s f to m
+pub frame_unsent : (p : ProfileView) → IsProfile p → (a b : WorldParts) (s : Step) (w : World) (f : Frame) (to : End) (m : Packet) (new : List SentPacket) (e : StepFault) → StandsFor (shown_by p a) w → Brings w s f to m
     → SendsFrame p f to a.pool (Err e) new → Happens (shown_by p a) s w (Err e) (shown_after p b (Err e))
 frame_unsent p is a b s w f to m new e st br (inl q) = subst (λ (x : StepFault). Happens (shown_by p a) s w (Err x) (shown_after p b (Err x))) (sym (memory_is e q)) refl
 frame_unsent p is a b s w f to m new e st br (inr h) =
@@ -60,22 +60,22 @@ frame_unsent p is a b s w f to m new e st br (inr h) =
 no_memory : (n : ℕ) → ◌≡◌ {A = Result ℕ StepFault} (Ok n) (Err Memory) → ⊥
 no_memory n q = cc
 
-pub record IsFrameSent (p : ProfileView) (a : Parts) (w : World) (s : Step) (n : ℕ) (new : List Sent) : Type 0 where
+pub record IsFrameSent (p : ProfileView) (a : WorldParts) (w : World) (s : Step) (n : ℕ) (new : List SentPacket) : Type 0 where
   pub number : n ≡ length w.pool
   pub pool : AreSent p new (happens w s).pool
   pub most : bytes_of new ≤ MAX_POOL_BYTES
 
-pub frame_sent : (p : ProfileView) (a : Parts) (s : Step) (w : World) (f : Frame) (to : End) (m : Packet) (new : List Sent) (n : ℕ) → StandsFor (shown_by p a) w → Brings w s f to m
+pub frame_sent : (p : ProfileView) (a : WorldParts) (s : Step) (w : World) (f : Frame) (to : End) (m : Packet) (new : List SentPacket) (n : ℕ) → StandsFor (shown_by p a) w → Brings w s f to m
     → SendsFrame p f to a.pool (Ok n) new → IsFrameSent p a w s n new
 frame_sent p a s w f to m new n st br (inl q) = absurd (no_memory n q)
 frame_sent p a s w f to m new n st br (inr h) = record {
   number = h.2.0 ∙ sent_length p a.pool w.pool st.pool;
-  pool = subst (λ (ss : List Sent). AreSent p ss (happens w s).pool) (sym h.2.1) (one_more p w s f to m a.pool h.0 st.pool br h.1);
+  pool = subst (λ (ss : List SentPacket). AreSent p ss (happens w s).pool) (sym h.2.1) (one_more p w s f to m a.pool h.0 st.pool br h.1);
   most = h.2.2;
 }
 
 -- where the server and the clients are those of the step's world, it happens
-pub frame_done : (p : ProfileView) → IsProfile p → (a b : Parts) (s : Step) (w : World) (f : Frame) (to : End) (m : Packet) (n : ℕ) (o : Outcome) → StandsFor (shown_by p a) w → Brings w s f to m
+pub frame_done : (p : ProfileView) → IsProfile p → (a b : WorldParts) (s : Step) (w : World) (f : Frame) (to : End) (m : Packet) (n : ℕ) (o : Outcome) → StandsFor (shown_by p a) w → Brings w s f to m
     → SendsFrame p f to a.pool (Ok n) b.pool → (happens w s).server ≡ b.server → (happens w s).clients ≡ b.clients.items → (n ≡ length w.pool → o ≡ outcome_of w s)
     → Happens (shown_by p a) s w (Ok o) (shown_after p b (Ok o))
 frame_done p is a b s w f to m n o st br sends server clients same =

@@ -38,9 +38,9 @@ use Rattle.box_world.proofs.PushesFit.{warnings_fit}
 use Rattle.update_world.specs.declared.fault.StepFault.{StepFault}
 use Rattle.update_world.specs.declared.fault.StepFault.TheVariants.{NoClient, NoPacket, WrongEnd, PoolFull, Memory}
 use Rattle.update_world.specs.declared.outcome.Outcome.TheVariants as outcome
-use Rattle.update_world.specs.declared.parts.Parts.{Parts}
+use Rattle.update_world.specs.declared.parts.WorldParts.{WorldParts}
 use Rattle.update_world.specs.declared.reading.Asked.{Asked}
-use Rattle.update_world.specs.declared.sent.Sent.{Sent}
+use Rattle.update_world.specs.declared.sent.SentPacket.{SentPacket}
 use Rattle.update_world.specs.declared.sent.End.{End}
 use Rattle.update_world.specs.declared.sent.End.TheVariants.{Clients, Server, Client}
 use Rattle.update_world.specs.Outcomes.{outcome_of}
@@ -58,12 +58,12 @@ use Rattle.update_world.proofs.SentLists.{sent_get, sent_length}
 -- ---- which request it is
 
 -- a packet that goes to the server is a request of that client
-of_server : (p : ProfileView) (s : Sent) (x : Packet) (k : ℕ) → s.to ≡ Server k → IsSent p s x → (n : Numbered) × (x ≡ request k n)
+of_server : (p : ProfileView) (s : SentPacket) (x : Packet) (k : ℕ) → s.to ≡ Server k → IsSent p s x → (n : Numbered) × (x ≡ request k n)
 of_server p s (push q) k to is = let other = is.to in cc
 of_server p s (request j n) k to is = let other = is.to in (n, cc)
 of_server p s (reply j n r t) k to is = let other = is.to in cc
 
-pub call_is : (p : ProfileView) (a : Parts) (w : World) (m : ℕ) (x : Asked) → AreSent p a.pool w.pool → HasCallFrom p a.pool m x → (slice_get w.pool m ≡ Some (request x.from x.call)) × CallFits x.call
+pub call_is : (p : ProfileView) (a : WorldParts) (w : World) (m : ℕ) (x : Asked) → AreSent p a.pool w.pool → HasCallFrom p a.pool m x → (slice_get w.pool m ≡ Some (request x.from x.call)) × CallFits x.call
 call_is p a w m x sent h =
     let g = sent_get p a.pool w.pool sent m h.sent h.there in
     let r = of_server p h.sent g.0 x.from h.to g.2 in
@@ -72,7 +72,7 @@ call_is p a w m x sent h =
     (g.1 ∙ ap (λ (y : Packet). Some y) r.1 ∙ ap (λ (n : Numbered). Some (request x.from n)) (sym same), subst CallFits (sym same) is.read)
 
 -- it is one that the server answers, under a number from 1
-pub call_answered : (p : ProfileView) (a : Parts) (m : ℕ) (x : Asked) → IsSteady (shown_by p a) → HasCallFrom p a.pool m x → IsAnswered x.call.request
+pub call_answered : (p : ProfileView) (a : WorldParts) (m : ℕ) (x : Asked) → IsSteady (shown_by p a) → HasCallFrom p a.pool m x → IsAnswered x.call.request
 call_answered p a m x steady h =
     let n : ℕ = length a.clients.items in
     is_answered n steady.run.steps m x.from x.call (call_is p a (run n steady.run.steps) m x steady.run.stands.pool h).0
@@ -104,17 +104,17 @@ reply_brings w m k n r sound answered fits at is = record {
 pub reply_short : (s : ServerState) (n : ℕ) (x : Asked) (r : SomeReply) → IsSound s → r ≡ answer s x.call.request → frame_size (Reply n r) ≤ MAX_FRAME_BYTES
 reply_short s n x r sound is = subst (λ (y : SomeReply). frame_size (Reply n y) ≤ MAX_FRAME_BYTES) (sym is) (answers_below s n x.call.request sound).limit
 
-to_world : (a : Parts) (w : World) (x : Asked) (r : SomeReply) → w.server ≡ a.server → r ≡ answer a.server x.call.request → r ≡ answer w.server x.call.request
+to_world : (a : WorldParts) (w : World) (x : Asked) (r : SomeReply) → w.server ≡ a.server → r ≡ answer a.server x.call.request → r ≡ answer w.server x.call.request
 to_world a w x r same is = is ∙ ap (λ (s : ServerState). answer s x.call.request) (sym same)
 
-pub serve_unsent : (p : ProfileView) (a b : Parts) (w : World) (m : ℕ) (x : Asked) (r : SomeReply) (new : List Sent) (e : StepFault) → IsSteady (shown_by p a) → StandsFor (shown_by p a) w → HasCallFrom p a.pool m x
+pub serve_unsent : (p : ProfileView) (a b : WorldParts) (w : World) (m : ℕ) (x : Asked) (r : SomeReply) (new : List SentPacket) (e : StepFault) → IsSteady (shown_by p a) → StandsFor (shown_by p a) w → HasCallFrom p a.pool m x
     → r ≡ answer a.server x.call.request → SendsFrame p (Reply x.call.number r) (Client x.from) a.pool (Err e) new → Happens (shown_by p a) (step.Serve m) w (Err e) (shown_after p b (Err e))
 serve_unsent p a b w m x r new e steady st h is sends =
     let here = call_is p a w m x st.pool h in
     frame_unsent p steady.profile a b (step.Serve m) w (Reply x.call.number r) (Client x.from) (reply x.from x.call.number r w.server) new e st
     (reply_brings w m x.from x.call r (subst IsSound (sym st.server) steady.sound) (call_answered p a m x steady h) here.1 here.0 (to_world a w x r st.server is)) sends
 
-pub serve_done : (p : ProfileView) (a b : Parts) (w : World) (m n : ℕ) (x : Asked) (r : SomeReply) → IsSteady (shown_by p a) → StandsFor (shown_by p a) w → HasCallFrom p a.pool m x
+pub serve_done : (p : ProfileView) (a b : WorldParts) (w : World) (m n : ℕ) (x : Asked) (r : SomeReply) → IsSteady (shown_by p a) → StandsFor (shown_by p a) w → HasCallFrom p a.pool m x
     → r ≡ answer a.server x.call.request → SendsFrame p (Reply x.call.number r) (Client x.from) a.pool (Ok n) b.pool → b.server ≡ a.server → b.clients.items ≡ a.clients.items
     → Happens (shown_by p a) (step.Serve m) w (Ok (outcome.Served n)) (shown_after p b (Ok (outcome.Served n)))
 unfolding outcome_of
@@ -129,12 +129,12 @@ serve_done p a b w m n x r steady st h is sends server clients =
 -- ---- refusals
 
 -- a packet that goes to a client isn't served
-not_served : (p : ProfileView) (s : Sent) (x : Packet) → is_request s.to ≡ false → IsSent p s x → is_served (Some x) ≡ false
+not_served : (p : ProfileView) (s : SentPacket) (x : Packet) → is_request s.to ≡ false → IsSent p s x → is_served (Some x) ≡ false
 not_served p s (push q) to is = refl
 not_served p s (request j n) to is = sym (ap is_request is.to) ∙ to
 not_served p s (reply j n r t) to is = refl
 
-pub serve_refused : (p : ProfileView) (a b : Parts) (w : World) (m : ℕ) (e : StepFault) → StandsFor (shown_by p a) w → AsksFrom p a.pool m (Err e) → b ≡ a
+pub serve_refused : (p : ProfileView) (a b : WorldParts) (w : World) (m : ℕ) (e : StepFault) → StandsFor (shown_by p a) w → AsksFrom p a.pool m (Err e) → b ≡ a
     → Happens (shown_by p a) (step.Serve m) w (Err e) (shown_after p b (Err e))
 serve_refused p a b w m (NoClient n) st h same = absurd h
 serve_refused p a b w m (NoPacket n) st h same =
@@ -158,11 +158,11 @@ warning_brings w = record {
   pool = refl;
 }
 
-pub warning_unsent : (p : ProfileView) (a b : Parts) (w : World) (new : List Sent) (e : StepFault) → IsSteady (shown_by p a) → StandsFor (shown_by p a) w → SendsFrame p (Push TooLong) Clients a.pool (Err e) new
+pub warning_unsent : (p : ProfileView) (a b : WorldParts) (w : World) (new : List SentPacket) (e : StepFault) → IsSteady (shown_by p a) → StandsFor (shown_by p a) w → SendsFrame p (Push TooLong) Clients a.pool (Err e) new
     → Happens (shown_by p a) step.TooLong w (Err e) (shown_after p b (Err e))
 warning_unsent p a b w new e steady st sends = frame_unsent p steady.profile a b step.TooLong w (Push TooLong) Clients (push TooLong) new e st (warning_brings w) sends
 
-pub warning_done : (p : ProfileView) (a b : Parts) (w : World) (n : ℕ) → IsSteady (shown_by p a) → StandsFor (shown_by p a) w → SendsFrame p (Push TooLong) Clients a.pool (Ok n) b.pool → b.server ≡ a.server
+pub warning_done : (p : ProfileView) (a b : WorldParts) (w : World) (n : ℕ) → IsSteady (shown_by p a) → StandsFor (shown_by p a) w → SendsFrame p (Push TooLong) Clients a.pool (Ok n) b.pool → b.server ≡ a.server
     → b.clients.items ≡ a.clients.items → Happens (shown_by p a) step.TooLong w (Ok (outcome.Pushed n false)) (shown_after p b (Ok (outcome.Pushed n false)))
 unfolding outcome_of
 warning_done p a b w n steady st sends server clients =
@@ -175,15 +175,15 @@ channel_brings w id q sound is = record {
   pool = ap (λ (x : SomePush). w.pool ++ push x ∷ []) (sym is);
 }
 
-at_world : (a : Parts) (w : World) (id : ℤ) (q : SomePush) → w.server ≡ a.server → q ≡ channel_too_long a.server id → q ≡ channel_too_long w.server id
+at_world : (a : WorldParts) (w : World) (id : ℤ) (q : SomePush) → w.server ≡ a.server → q ≡ channel_too_long a.server id → q ≡ channel_too_long w.server id
 at_world a w id q same is = is ∙ ap (λ (s : ServerState). channel_too_long s id) (sym same)
 
-pub channel_unsent : (p : ProfileView) (a b : Parts) (w : World) (id : ℤ) (q : SomePush) (new : List Sent) (e : StepFault) → IsSteady (shown_by p a) → StandsFor (shown_by p a) w → q ≡ channel_too_long a.server id
+pub channel_unsent : (p : ProfileView) (a b : WorldParts) (w : World) (id : ℤ) (q : SomePush) (new : List SentPacket) (e : StepFault) → IsSteady (shown_by p a) → StandsFor (shown_by p a) w → q ≡ channel_too_long a.server id
     → SendsFrame p (Push q) Clients a.pool (Err e) new → Happens (shown_by p a) (step.ChannelTooLong id) w (Err e) (shown_after p b (Err e))
 channel_unsent p a b w id q new e steady st is sends =
     frame_unsent p steady.profile a b (step.ChannelTooLong id) w (Push q) Clients (push q) new e st (channel_brings w id q (subst IsSound (sym st.server) steady.sound) (at_world a w id q st.server is)) sends
 
-pub channel_done : (p : ProfileView) (a b : Parts) (w : World) (id : ℤ) (q : SomePush) (n : ℕ) → IsSteady (shown_by p a) → StandsFor (shown_by p a) w → q ≡ channel_too_long a.server id
+pub channel_done : (p : ProfileView) (a b : WorldParts) (w : World) (id : ℤ) (q : SomePush) (n : ℕ) → IsSteady (shown_by p a) → StandsFor (shown_by p a) w → q ≡ channel_too_long a.server id
     → SendsFrame p (Push q) Clients a.pool (Ok n) b.pool → b.server ≡ a.server → b.clients.items ≡ a.clients.items
     → Happens (shown_by p a) (step.ChannelTooLong id) w (Ok (outcome.Pushed n true)) (shown_after p b (Ok (outcome.Pushed n true)))
 unfolding outcome_of

@@ -26,8 +26,8 @@ use Rattle.update_world.specs.declared.fault.StepFault.{StepFault}
 use Rattle.update_world.specs.declared.fault.StepFault.TheVariants.{NoClient, NoPacket, WrongEnd, PoolFull, Memory}
 use Rattle.update_world.specs.declared.limits.TheConstants.{MAX_POOL_BYTES}
 use Rattle.update_world.specs.declared.outcome.Outcome.{Outcome}
-use Rattle.update_world.specs.declared.parts.Parts.{Parts}
-use Rattle.update_world.specs.declared.sent.Sent.{Sent}
+use Rattle.update_world.specs.declared.parts.WorldParts.{WorldParts}
+use Rattle.update_world.specs.declared.sent.SentPacket.{SentPacket}
 use Rattle.update_world.specs.Shown.{IsOfRun, Shown, StandsFor, bytes_of}
 use Rattle.update_world.specs.Spelled.{AreSent, packet_size}
 use Rattle.update_world.specs.Stepping.{Happens}
@@ -75,7 +75,7 @@ stays_sound w (step.ChannelTooLong id) dated sound = sound
 
 -- ---- a step that happens leads on
 
-pub goes_on : (p : ProfileView) (a b : Parts) (s : Step) (o : Outcome) → IsSteady (shown_by p a) → IsDated s → length b.clients.items ≡ length a.clients.items → Makes p s a (Ok o) b → IsSteady (shown_by p b)
+pub goes_on : (p : ProfileView) (a b : WorldParts) (s : Step) (o : Outcome) → IsSteady (shown_by p a) → IsDated s → length b.clients.items ≡ length a.clients.items → Makes p s a (Ok o) b → IsSteady (shown_by p b)
 goes_on p a b s o steady dated same made =
     let n : ℕ = length a.clients.items in
     let steps : List Step = steady.run.steps in
@@ -96,10 +96,10 @@ goes_on p a b s o steady dated same made =
     }
 
 -- a refused one leaves all as it was
-kept_by : (p : ProfileView) (a b : Parts) → shown_by p b ≡ shown_by p a → IsSteady (shown_by p a) → IsSteady (shown_by p b)
+kept_by : (p : ProfileView) (a b : WorldParts) → shown_by p b ≡ shown_by p a → IsSteady (shown_by p a) → IsSteady (shown_by p b)
 kept_by p a b same steady = subst IsSteady (sym same) steady
 
-pub stays_steady : (p : ProfileView) (a b : Parts) (s : Step) (result : Result Outcome StepFault) → IsSteady (shown_by p a) → IsDated s → length b.clients.items ≡ length a.clients.items → Makes p s a result b → spoil_of result ≡ None
+pub stays_steady : (p : ProfileView) (a b : WorldParts) (s : Step) (result : Result Outcome StepFault) → IsSteady (shown_by p a) → IsDated s → length b.clients.items ≡ length a.clients.items → Makes p s a result b → spoil_of result ≡ None
     → IsSteady (shown_by p b)
 stays_steady p a b s (Ok o) steady dated same made fine = goes_on p a b s o steady dated same made
 stays_steady p a b s (Err (NoClient n)) steady dated same made fine = kept_by p a b (made (run (length a.clients.items) steady.run.steps) steady.run.stands).1 steady
@@ -117,7 +117,7 @@ pub one_more_new : (n : ℕ) → new_clients n ++ new_client ∷ [] ≡ new_clie
 one_more_new zero = refl
 one_more_new (suc n) = ap (λ (cs : List ClientState). new_client ∷ cs) (one_more_new n) ∙ ap new_clients (let e : suc (n + 1) ≡ suc n + 1 = omega arith in e)
 
-pub starts_steady : (p : ProfileView) (a : Parts) (n : ℕ) → IsProfile p → IsSound new_server → a.server ≡ new_server → a.clients.items ≡ new_clients n → a.pool ≡ [] → IsSteady (shown_by p a)
+pub starts_steady : (p : ProfileView) (a : WorldParts) (n : ℕ) → IsProfile p → IsSound new_server → a.server ≡ new_server → a.clients.items ≡ new_clients n → a.pool ≡ [] → IsSteady (shown_by p a)
 starts_steady p a n is sound server clients pool =
     let many : length a.clients.items ≡ n = ap length clients ∙ many_new n in
     record {
@@ -127,10 +127,10 @@ starts_steady p a n is sound server clients pool =
         stands = record {
           server = sym server;
           clients = ap new_clients many ∙ sym clients;
-          pool = subst (λ (ss : List Sent). AreSent p ss []) (sym pool) tt;
+          pool = subst (λ (ss : List SentPacket). AreSent p ss []) (sym pool) tt;
         };
       };
       profile = is;
       sound = subst IsSound (sym server) sound;
-      most = subst (λ (ss : List Sent). bytes_of ss ≤ MAX_POOL_BYTES) (sym pool) (omega arith);
+      most = subst (λ (ss : List SentPacket). bytes_of ss ≤ MAX_POOL_BYTES) (sym pool) (omega arith);
     }

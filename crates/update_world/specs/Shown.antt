@@ -7,7 +7,7 @@ use Rattle.wire_profile.specs.Places.{ProfileView}
 use Rattle.box_world.specs.Worlds.{World, start, run}
 use Rattle.box_world.specs.Possible.{AllPossible}
 use Rattle.update_world.specs.declared.fault.StepFault.{StepFault}
-use Rattle.update_world.specs.declared.sent.Sent.{Sent}
+use Rattle.update_world.specs.declared.sent.SentPacket.{SentPacket}
 use Rattle.update_world.specs.Spelled.{AreSent, packet_size}
 
 -- the profile, the server, the clients, the pool, and the refusal that spoiled it
@@ -15,10 +15,10 @@ pub record Shown : Type 0 where
   pub profile : ProfileView
   pub server : ServerState
   pub clients : List ClientState
-  pub pool : List Sent
+  pub pool : List SentPacket
   pub spoiled : Option StepFault
 
-abbrev pub bytes_of : List Sent → ℕ
+abbrev pub bytes_of : List SentPacket → ℕ
 bytes_of [] = 0
 bytes_of (s ∷ ss) = length s.bytes + bytes_of ss
 

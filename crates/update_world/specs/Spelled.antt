@@ -9,7 +9,7 @@ use Rattle.box_wire.specs.Framing.{Framed}
 use Rattle.box_world.specs.Worlds.{Packet, push, request, reply}
 use Rattle.box_world.specs.Sizes.{frame_size, call_size}
 use Rattle.box_world.specs.Fitting.{FrameFits, CallFits}
-use Rattle.update_world.specs.declared.sent.Sent.{Sent}
+use Rattle.update_world.specs.declared.sent.SentPacket.{SentPacket}
 use Rattle.update_world.specs.declared.sent.End.TheVariants.{Clients, Server, Client}
 
 -- these bytes are the message's
@@ -31,19 +31,19 @@ IsRead (request k n) = CallFits n
 IsRead (reply k n r s) = FrameFits (Reply n r)
 
 -- a push goes to all clients, the request of a client to the server, a reply to the client that asked
-abbrev pub IsFor : Packet → Sent → Type 0
+abbrev pub IsFor : Packet → SentPacket → Type 0
 IsFor (push q) s = s.to ≡ Clients
 IsFor (request k n) s = s.to ≡ Server k
 IsFor (reply k n r m) s = s.to ≡ Client k
 
 -- a packet is the message: it goes to the same end, its bytes spell the message, and are read as it
-pub record IsSent (p : ProfileView) (s : Sent) (m : Packet) : Type 0 where
+pub record IsSent (p : ProfileView) (s : SentPacket) (m : Packet) : Type 0 where
   pub to : IsFor m s
   pub bytes : IsSpelled p m s.bytes
   pub read : IsRead m
 
 -- packets are messages, one by one
-abbrev pub AreSent : ProfileView → List Sent → List Packet → Type 0
+abbrev pub AreSent : ProfileView → List SentPacket → List Packet → Type 0
 AreSent p [] [] = Unit {0}
 AreSent p (s ∷ ss) (m ∷ ms) = IsSent p s m × AreSent p ss ms
 AreSent p [] (m ∷ ms) = ⊥

@@ -8,7 +8,7 @@ ghost use Rattle.update_world.specs.inner.Making.{IsSteady, Makes, shown_by};
 
 use crate::fault::StepFault;
 use crate::outcome::Outcome;
-use crate::parts::Parts;
+use crate::parts::WorldParts;
 use crate::reading::frame_for;
 use crate::spelling::send_calls;
 use box_client::{Client, ClientFault, Told};
@@ -23,7 +23,7 @@ use wire_profile::Profile;
 pub fn hear(
     alloc: Global,
     profile: &Profile,
-    parts: &mut Parts,
+    parts: &mut WorldParts,
     client: u32,
     packet: u32,
 ) -> Result<Outcome, StepFault>
@@ -64,7 +64,7 @@ fn deliver(alloc: Global, client: &mut Client, frame: Frame) -> Result<HeardAs, 
 pub fn tick(
     alloc: Global,
     profile: &Profile,
-    parts: &mut Parts,
+    parts: &mut WorldParts,
     client: u32,
 ) -> Result<Outcome, StepFault>
     requires { IsSteady (shown_by profile.now parts.old) }
@@ -86,7 +86,7 @@ pub fn tick(
 }
 
 /// A client is to ask about all.
-pub fn wake(parts: &mut Parts, client: u32) -> Result<Outcome, StepFault>
+pub fn wake(parts: &mut WorldParts, client: u32) -> Result<Outcome, StepFault>
     ensures step { (p : ProfileView) → IsSteady (shown_by p parts.old) → Makes p (step.Wake client) parts.old result parts.new }
     ensures clients { length parts.new.clients.items ≡ length parts.old.clients.items }
 {
@@ -98,7 +98,12 @@ pub fn wake(parts: &mut Parts, client: u32) -> Result<Outcome, StepFault>
 }
 
 /// A client watches a channel from now on, unless it watches it already or as many as it may.
-pub fn watch(alloc: Global, parts: &mut Parts, client: u32, id: i64) -> Result<Outcome, StepFault>
+pub fn watch(
+    alloc: Global,
+    parts: &mut WorldParts,
+    client: u32,
+    id: i64,
+) -> Result<Outcome, StepFault>
     ensures step { (p : ProfileView) → IsSteady (shown_by p parts.old) → Makes p (step.Watch client id) parts.old result parts.new }
     ensures clients { length parts.new.clients.items ≡ length parts.old.clients.items }
 {
@@ -119,7 +124,7 @@ pub fn watch(alloc: Global, parts: &mut Parts, client: u32, id: i64) -> Result<O
 }
 
 /// A client begins anew.
-pub fn restart(parts: &mut Parts, client: u32) -> Result<Outcome, StepFault>
+pub fn restart(parts: &mut WorldParts, client: u32) -> Result<Outcome, StepFault>
     ensures step { (p : ProfileView) → IsSteady (shown_by p parts.old) → Makes p (step.Restart client) parts.old result parts.new }
     ensures clients { length parts.new.clients.items ≡ length parts.old.clients.items }
 {

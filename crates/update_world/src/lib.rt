@@ -17,5 +17,5 @@ pub use fault::StepFault;
 pub use limits::{MAX_CLIENTS, MAX_POOL_BYTES};
 pub use outcome::Outcome;
 pub use report_lines::HeardAs;
-pub use sent::{End, Sent};
+pub use sent::{End, SentPacket};
 pub use world::World;

@@ -4,16 +4,16 @@ use box_client::Client;
 use box_server::Server;
 
 /// A server, its clients, and all packets.
-pub struct Parts {
+pub struct WorldParts {
     pub server: Server,
     pub clients: Vec<Client>,
     pub pool: Pool,
 }
 
 // By hand, so that each exit of an owner has one call to prove.
-impl Drop for Parts {
+impl Drop for WorldParts {
     fn drop(self) {
-        let Parts {
+        let WorldParts {
             server: _,
             clients: _,
             pool: _,

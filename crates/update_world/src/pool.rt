@@ -8,13 +8,13 @@ ghost use Rattle.update_world.specs.inner.Pools.{IsPacket, Sends};
 
 use crate::fault::StepFault;
 use crate::limits::MAX_POOL_BYTES;
-use crate::sent::Sent;
+use crate::sent::SentPacket;
 use std::alloc::Global;
 use std::marker::Model;
 
 /// All packets that were sent, in the order in which they were sent, and how many bytes they have.
 pub struct Pool {
-    sent: Vec<Sent>,
+    sent: Vec<SentPacket>,
     bytes: u32,
 }
 
@@ -28,11 +28,11 @@ impl Drop for Pool {
 impl Model for Pool {
     ghost use Rattle.std.specs.Prelude.{List};
     ghost use Rattle.std.specs.Coded.{coded_list};
-    ghost use Rattle.update_world.specs.declared.sent.Sent.{Sent};
+    ghost use Rattle.update_world.specs.declared.sent.SentPacket.{SentPacket};
     ghost use Rattle.update_world.specs.inner.Codes.{sent_code};
     ghost use Rattle.update_world.specs.inner.Pools.{IsPool};
 
-    ghost Value = { List Sent };
+    ghost Value = { List SentPacket };
 
     ghost coded = { coded_list sent_code };
 
@@ -69,14 +69,14 @@ impl Pool {
     }
 
     /// The packet of a number, if there is one.
-    pub fn get(&self, number: u32) -> Option<&Sent>
+    pub fn get(&self, number: u32) -> Option<&SentPacket>
         ensures { MatchOption result (length self.now ≤ number) (λ s. slice_get self.now number ≡ Some s.now) }
     {
         self.sent.get(number as usize)
     }
 
     /// Puts packets after the others, all or none of them, and answers the number of the first. Here alone the limit is looked at.
-    pub fn send(&mut self, more: Vec<Sent>) -> Result<u32, StepFault>
+    pub fn send(&mut self, more: Vec<SentPacket>) -> Result<u32, StepFault>
         requires few { length more.items ≤ MAX_ASKS }
         requires sizes { All IsPacket more.items }
         ensures { Sends self.old more.items result self.new }
@@ -94,7 +94,7 @@ impl Pool {
 }
 
 // How many bytes some packets have.
-fn bytes_of(packets: &[Sent]) -> u32
+fn bytes_of(packets: &[SentPacket]) -> u32
     requires few { length packets.now ≤ MAX_ASKS }
     requires sizes { All IsPacket packets.now }
     ensures value { result ≡ bytes_of packets.now }

@@ -14,7 +14,7 @@ pub enum End {
 
 /// A packet: its bytes, and to whom it goes. Nothing else of its message is kept.
 #[derive(Drop)]
-pub struct Sent {
+pub struct SentPacket {
     pub bytes: Bytes,
     pub to: End,
 }

@@ -6,7 +6,7 @@ ghost use Rattle.update_world.specs.inner.Making.{IsSteady, Makes, shown_by};
 
 use crate::fault::StepFault;
 use crate::outcome::Outcome;
-use crate::parts::Parts;
+use crate::parts::WorldParts;
 use crate::reading::asked_by;
 use crate::sent::End;
 use crate::spelling::send_frame;
@@ -19,7 +19,7 @@ use wire_profile::Profile;
 pub fn post(
     alloc: Global,
     profile: &Profile,
-    parts: &mut Parts,
+    parts: &mut WorldParts,
     random_id: i64,
     posts: ListOf<Post>,
 ) -> Result<Outcome, StepFault>
@@ -48,7 +48,7 @@ pub fn post(
 }
 
 /// The server's clock shows a date.
-pub fn date(parts: &mut Parts, date: u32) -> Result<Outcome, StepFault>
+pub fn date(parts: &mut WorldParts, date: u32) -> Result<Outcome, StepFault>
     requires { date < 2 ^ 31 }
     ensures step { (p : ProfileView) → IsSteady (shown_by p parts.old) → Makes p (step.Date date) parts.old result parts.new }
     ensures clients { parts.new.clients.items ≡ parts.old.clients.items }
@@ -62,7 +62,7 @@ pub fn date(parts: &mut Parts, date: u32) -> Result<Outcome, StepFault>
 pub fn serve(
     alloc: Global,
     profile: &Profile,
-    parts: &mut Parts,
+    parts: &mut WorldParts,
     packet: u32,
 ) -> Result<Outcome, StepFault>
     requires { IsSteady (shown_by profile.now parts.old) }
@@ -79,7 +79,11 @@ pub fn serve(
 }
 
 /// The server sends that more is new than a push would carry.
-pub fn too_long(alloc: Global, profile: &Profile, parts: &mut Parts) -> Result<Outcome, StepFault>
+pub fn too_long(
+    alloc: Global,
+    profile: &Profile,
+    parts: &mut WorldParts,
+) -> Result<Outcome, StepFault>
     requires { IsSteady (shown_by profile.now parts.old) }
     ensures step { Makes profile.now step.TooLong parts.old result parts.new }
     ensures clients { parts.new.clients.items ≡ parts.old.clients.items }
@@ -94,7 +98,7 @@ pub fn too_long(alloc: Global, profile: &Profile, parts: &mut Parts) -> Result<O
 pub fn channel_too_long(
     alloc: Global,
     profile: &Profile,
-    parts: &mut Parts,
+    parts: &mut WorldParts,
     channel_id: i64,
 ) -> Result<Outcome, StepFault>
     requires { IsSteady (shown_by profile.now parts.old) }

@@ -12,7 +12,7 @@ ghost use Rattle.update_world.specs.inner.Sending.{SendsCalls, SendsFrame};
 
 use crate::fault::StepFault;
 use crate::pool::Pool;
-use crate::sent::{End, Sent};
+use crate::sent::{End, SentPacket};
 use box_events::{Asks, Frame, Numbered};
 use box_wire::{SpellFault, spell_call, spell_frame};
 use std::alloc::{AllocError, Global};
@@ -33,7 +33,7 @@ pub fn send_frame(
 {
     let bytes = short_frame(alloc, profile, frame)?;
     let mut one = Vec::with_capacity(alloc, 1)?;
-    one.push_reserved(Sent { bytes, to });
+    one.push_reserved(SentPacket { bytes, to });
     pool.send(one)
 }
 
@@ -53,7 +53,7 @@ pub fn send_calls(
     for i in 0..asks.len() {
         let bytes = short_call(alloc, profile, &asks.get(i))?;
         let to = End::Server { from: client };
-        more.push_reserved(Sent { bytes, to });
+        more.push_reserved(SentPacket { bytes, to });
     }
     pool.send(more)
 }

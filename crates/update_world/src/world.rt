@@ -14,9 +14,9 @@ use crate::client_steps::{hear, restart, tick, wake, watch};
 use crate::fault::StepFault;
 use crate::limits::MAX_CLIENTS;
 use crate::outcome::Outcome;
-use crate::parts::Parts;
+use crate::parts::WorldParts;
 use crate::pool::Pool;
-use crate::sent::Sent;
+use crate::sent::SentPacket;
 use crate::server_steps::{channel_too_long, date, post, serve, too_long};
 use box_client::Client;
 use box_events::{State, Step};
@@ -30,7 +30,7 @@ use wire_profile::Profile;
 /// until `PoolFull` or `Memory` spoils it.
 pub struct World<'s> {
     profile: Profile<'s>,
-    parts: Parts,
+    parts: WorldParts,
     spoiled: Option<StepFault>,
 }
 
@@ -68,7 +68,7 @@ impl<'s> World<'s> {
     {
         // Read for the proof alone: that the schema has the protocol's forms.
         let _schema = profile.schema();
-        let parts = Parts {
+        let parts = WorldParts {
             server: Server::new(alloc),
             clients: new_clients(alloc, clients)?,
             pool: Pool::new(alloc),
@@ -114,7 +114,7 @@ impl<'s> World<'s> {
     }
 
     /// A packet, by its number.
-    pub fn packet(&self, m: u32) -> &Sent
+    pub fn packet(&self, m: u32) -> &SentPacket
         requires { m < length self.now.pool }
         ensures { slice_get self.now.pool m ≡ Option.Some result.now }
     {
@@ -172,7 +172,7 @@ fn new_clients(alloc: Global, number: u32) -> Result<Vec<Client>, Memory>
 fn make(
     alloc: Global,
     profile: &Profile,
-    parts: &mut Parts,
+    parts: &mut WorldParts,
     step: Step,
 ) -> Result<Outcome, StepFault>
     requires steady { IsSteady (shown_by profile.now parts.old) }

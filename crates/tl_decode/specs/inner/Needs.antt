@@ -10,16 +10,16 @@ use Rattle.tl_types.specs.declared.cause.Cause.{Cause}
 use Rattle.tl_types.specs.declared.value.Value.{Value}
 use Rattle.tl_decode.specs.declared.fault.DecodeFault.{DecodeFault}
 use Rattle.tl_decode.specs.declared.fault.DecodeFault.TheVariants as fault
-use Rattle.tl_decode.specs.declared.stack.Wanted.{Wanted}
-use Rattle.tl_decode.specs.declared.stack.Wanted.TheVariants as wanted
+use Rattle.tl_decode.specs.declared.stack.WantedItem.{WantedItem}
+use Rattle.tl_decode.specs.declared.stack.WantedItem.TheVariants as wanted
 use Rattle.tl_decode.specs.declared.stack.Item.{Item}
 use Rattle.tl_decode.specs.declared.stack.Item.TheVariants as item
 use Rattle.tl_decode.specs.declared.stack.Next.TheVariants as next_step
 use Rattle.tl_decode.specs.declared.stack.Found.{Found}
 use Rattle.tl_decode.specs.declared.stack.Found.TheVariants as found
 use Rattle.tl_decode.specs.declared.stack.Reading.{Reading}
-use Rattle.tl_decode.specs.declared.stack.Stop.{Stop}
-use Rattle.tl_decode.specs.declared.stack.Stop.TheVariants as stop
+use Rattle.tl_decode.specs.declared.stack.ItemFault.{ItemFault}
+use Rattle.tl_decode.specs.declared.stack.ItemFault.TheVariants as stop
 use Rattle.tl_decode.specs.inner.Frames.{views, item_at, item_view, found_at, found_work, is_truncated, AreWell, IsStop, IsWellFound, IsWellWanted, Takes, word}
 
 -- ---- items
@@ -33,32 +33,32 @@ unfoldable pub text_needs : List ℕ → ℕ
 text_needs b = if nat_lt (length b) 4 then 4 else head_needs (text_head_of (take 4 b))
 
 -- so many bytes the item has that is looked for
-abbrev pub needs : Wanted → List ℕ → ℕ
+abbrev pub needs : WantedItem → List ℕ → ℕ
 needs wanted.Long b = 8
 needs (wanted.Opaque k) b = k
 needs wanted.Text b = text_needs b
 needs W b = 4
 
 -- these bytes are the item, however the input goes on, or they are refused
-abbrev pub IsWhole : Wanted → List ℕ → Result Item Stop → Type 0
+abbrev pub IsWhole : WantedItem → List ℕ → Result Item ItemFault → Type 0
 IsWhole W b (Ok x) = (p : ℕ) (more : List ℕ) → item_at W (spot p (b ++ more)) ≡ Ok (item_view x, spot (moved p (length b)) more)
 IsWhole W b (Err (stop.Refused cause)) = (is_truncated cause ≡ false) × ((p : ℕ) (more : List ℕ) → item_at W (spot p (b ++ more)) ≡ Err (p, cause))
 IsWhole W b (Err stop.Memory) = Unit {0}
 
 -- the same, at a place
-abbrev pub IsWholeAt : Wanted → List ℕ → ℕ → Result Item DecodeFault → Type 0
+abbrev pub IsWholeAt : WantedItem → List ℕ → ℕ → Result Item DecodeFault → Type 0
 IsWholeAt W b p (Ok x) = IsWhole W b (Ok x)
-IsWholeAt W b p (Err e) = (st : Stop) × IsStop st p e × IsWhole W b (Err st)
+IsWholeAt W b p (Err e) = (st : ItemFault) × IsStop st p e × IsWhole W b (Err st)
 
 -- So many of the next bytes came to those that are held: all of them, unless the item is whole.
-pub record Fills (W : Wanted) (old new next : List ℕ) (count : ℕ) : Type 0 where
+pub record Fills (W : WantedItem) (old new next : List ℕ) (count : ℕ) : Type 0 where
   pub within : count ≤ length next
   pub more : new ≡ old ++ take count next
   pub most : length new ≤ needs W new
   pub all : length new < needs W new → count ≡ length next
 
 -- The item begins in the held bytes and goes on in the next ones; where it isn't whole there, these are held too.
-abbrev pub FindsItem : Wanted → List ℕ → List ℕ → List ℕ → Result (Option (Item × ℕ)) Stop → Type 0
+abbrev pub FindsItem : WantedItem → List ℕ → List ℕ → List ℕ → Result (Option (Item × ℕ)) ItemFault → Type 0
 FindsItem W old new next (Ok None) = (new ≡ old ++ next) × (length new < needs W new)
 FindsItem W old new next (Ok (Some x)) =
     (new ≡ []) × (x.1 ≤ length next)
@@ -99,7 +99,7 @@ TakesItem p old work next new at (Err fault.Memory) = Unit {0}
 -- ---- words that are values
 
 -- the next four bytes are this value, and nothing is held
-abbrev pub IsNextValue : Wanted → List ℕ → List ℕ → Value → Type 0
+abbrev pub IsNextValue : WantedItem → List ℕ → List ℕ → Value → Type 0
 IsNextValue W held next v = (w : ℕ) × FindsItem W held held next (Ok (Some (item.Word w, 4))) × ((p : PlanView) → Takes p W (word w) (Ok (next_step.Close v)))
 
 -- after so many of the next bytes: what was read on is read on from the new state, or the value is there, however the input goes on

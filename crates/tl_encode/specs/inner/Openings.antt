@@ -6,9 +6,9 @@ use Rattle.tl_plan.specs.PlanLaws.{StandsIn}
 use Rattle.tl_plan.specs.declared.instances.Member.{Member}
 use Rattle.tl_types.specs.Parts.{fields_in}
 use Rattle.tl_types.specs.declared.value.Value.{Value}
-use Rattle.tl_encode.specs.declared.frames.Frame.{Frame}
-use Rattle.tl_encode.specs.declared.frames.Parts.{Parts}
-use Rattle.tl_encode.specs.declared.frames.Parts.TheVariants.{Elements, Fields}
+use Rattle.tl_encode.specs.declared.frames.WalkFrame.{WalkFrame}
+use Rattle.tl_encode.specs.declared.frames.PartInstances.{PartInstances}
+use Rattle.tl_encode.specs.declared.frames.PartInstances.TheVariants.{Elements, Fields}
 
 abbrev pub entries_of : List Member → List ℕ
 entries_of ms = map (λ m. m.entry) ms
@@ -29,11 +29,11 @@ abbrev pub IsNamed : List Member → ℕ → Member → Type 0
 IsNamed ms i m = (k : ℕ) × (slice_get ms k ≡ Some m) × (m.entry ≡ i)
 
 -- the frame of the values of declaration i's fields
-abbrev pub HasFieldParts : List Member → List Declaration → ℕ → Parts → Type 0
+abbrev pub HasFieldParts : List Member → List Declaration → ℕ → PartInstances → Type 0
 HasFieldParts ms ds i (Elements of) = ⊥
 HasFieldParts ms ds i (Fields of slots) = (m : Member) × IsNamed ms i m × (of.now ≡ m.fields.items) × (map slot slots.now ≡ fields_in (slice_get ds i)) × (length slots.now < 2 ^ 32)
 
-pub record IsFieldsFrame (ms : List Member) (ds : List Declaration) (i : ℕ) (vs : List Value) (f : Frame) : Type 0 where
+pub record IsFieldsFrame (ms : List Member) (ds : List Declaration) (i : ℕ) (vs : List Value) (f : WalkFrame) : Type 0 where
   pub values : f.values.now ≡ vs
   pub at : f.at ≡ 0
   pub parts : HasFieldParts ms ds i f.parts

@@ -14,10 +14,10 @@ use Rattle.tl_types.specs.declared.value.Value.{Value}
 use Rattle.tl_types.specs.declared.value.TheConstants.{MAX_LEVELS}
 use Rattle.tl_types.specs.declared.misfit.FitFault.{FitFault}
 use Rattle.tl_types.specs.declared.misfit.FitFault.TheVariants as fit
-use Rattle.tl_encode.specs.declared.frames.Frame.{Frame}
+use Rattle.tl_encode.specs.declared.frames.WalkFrame.{WalkFrame}
 use Rattle.tl_encode.specs.declared.frames.Part.{Part}
-use Rattle.tl_encode.specs.declared.frames.Parts.{Parts}
-use Rattle.tl_encode.specs.declared.frames.Parts.TheVariants.{Elements, Fields}
+use Rattle.tl_encode.specs.declared.frames.PartInstances.{PartInstances}
+use Rattle.tl_encode.specs.declared.frames.PartInstances.TheVariants.{Elements, Fields}
 use Rattle.tl_encode.specs.inner.Bytes.{parts_bytes, spelling, spelling_each, start}
 use Rattle.tl_encode.specs.inner.Frames.{IsCounted, after, path_of}
 
@@ -51,22 +51,22 @@ fields_bytes p [] (value v vs) = []
 fields_bytes p (k ∷ ks) (value v vs) = spelling p.schema.decls (type_at p k) v ++ fields_bytes p ks vs
 
 -- the first misfit of the parts from index i on, with n levels left for them
-abbrev pub misfit_from : PlanView → ℕ → Parts → List Value → ℕ → Option MisfitView
+abbrev pub misfit_from : PlanView → ℕ → PartInstances → List Value → ℕ → Option MisfitView
 misfit_from p n (Elements of) vs i = each_misfit p.schema.decls n (type_at p of) i (views (drop i vs))
 misfit_from p n (Fields of slots) vs i = fields_misfit p n (map view (take i vs)) i (drop i of.now) (map slot (drop i slots.now)) (views (drop i vs))
 
-abbrev pub bytes_from : PlanView → Parts → List Value → ℕ → List ℕ
+abbrev pub bytes_from : PlanView → PartInstances → List Value → ℕ → List ℕ
 bytes_from p (Elements of) vs i = spelling_each p.schema.decls (type_at p of) (views (drop i vs))
 bytes_from p (Fields of slots) vs i = fields_bytes p (drop i of.now) (views (drop i vs))
 
-abbrev pub HasInstances : PlanView → Parts → Type 0
+abbrev pub HasInstances : PlanView → PartInstances → Type 0
 HasInstances p (Elements of) = of < length p.instances
 HasInstances p (Fields of slots) = AreInstances p of.now
 
-abbrev pub frame_misfit : PlanView → ℕ → Frame → Option MisfitView
+abbrev pub frame_misfit : PlanView → ℕ → WalkFrame → Option MisfitView
 frame_misfit p n f = misfit_from p n f.parts f.values.now f.at
 
-abbrev pub frame_bytes : PlanView → Frame → List ℕ
+abbrev pub frame_bytes : PlanView → WalkFrame → List ℕ
 frame_bytes p f = bytes_from p f.parts f.values.now f.at
 
 -- ---- how much is left
@@ -82,7 +82,7 @@ abbrev mutual
   weights no_values = 0
   weights (value v vs) = weight v + weights vs
 
-abbrev pub frame_weight : Frame → ℕ
+abbrev pub frame_weight : WalkFrame → ℕ
 frame_weight f = 1 + weights (views (drop f.at f.values.now))
 
 -- ---- what is left of a walk: of all frames, and of the part that it comes to
@@ -91,40 +91,40 @@ abbrev pub under : List ℕ → Option MisfitView → Option MisfitView
 under path None = None
 under path (Some m) = Some (path ++ m.0, m.1)
 
-abbrev pub levels_in : List Frame → ℕ
+abbrev pub levels_in : List WalkFrame → ℕ
 levels_in fs = MAX_LEVELS - length fs
 
-abbrev pub misfit_left : PlanView → List Frame → Option MisfitView
+abbrev pub misfit_left : PlanView → List WalkFrame → Option MisfitView
 misfit_left p [] = None
 misfit_left p (f ∷ fs) = or_else (under (path_of fs) (frame_misfit p (levels_in (f ∷ fs)) f)) (misfit_left p fs)
 
-abbrev pub bytes_left : PlanView → List Frame → List ℕ
+abbrev pub bytes_left : PlanView → List WalkFrame → List ℕ
 bytes_left p [] = []
 bytes_left p (f ∷ fs) = frame_bytes p f ++ bytes_left p fs
 
-abbrev pub weight_left : List Frame → ℕ
+abbrev pub weight_left : List WalkFrame → ℕ
 weight_left [] = 0
 weight_left (f ∷ fs) = frame_weight f + weight_left fs
 
-abbrev pub AreOfPlan : PlanView → List Frame → Type 0
+abbrev pub AreOfPlan : PlanView → List WalkFrame → Type 0
 AreOfPlan p [] = Unit {0}
 AreOfPlan p (f ∷ fs) = HasInstances p f.parts × AreOfPlan p fs
 
 abbrev pub part_type : PlanView → Part → Shape
 part_type p x = type_at p x.of
 
-abbrev pub part_misfit : PlanView → Part → List Frame → Option MisfitView
+abbrev pub part_misfit : PlanView → Part → List WalkFrame → Option MisfitView
 part_misfit p x fs = under (path_of fs) (misfit p.schema.decls (levels_in fs) x.bit (part_type p x) (view x.value.now))
 
-abbrev pub whole_misfit : PlanView → Option Part → List Frame → Option MisfitView
+abbrev pub whole_misfit : PlanView → Option Part → List WalkFrame → Option MisfitView
 whole_misfit p None fs = None
 whole_misfit p (Some x) fs = or_else (part_misfit p x fs) (misfit_left p fs)
 
-abbrev pub whole_bytes : PlanView → Option Part → List Frame → List ℕ
+abbrev pub whole_bytes : PlanView → Option Part → List WalkFrame → List ℕ
 whole_bytes p None fs = []
 whole_bytes p (Some x) fs = spelling p.schema.decls (part_type p x) (view x.value.now) ++ bytes_left p fs
 
-abbrev pub whole_weight : Option Part → List Frame → ℕ
+abbrev pub whole_weight : Option Part → List WalkFrame → ℕ
 whole_weight None fs = 0
 whole_weight (Some x) fs = weight (view x.value.now) + weight_left fs
 
@@ -142,7 +142,7 @@ parts_misfit ds n T (call i vs) = field_misfit ds n [] [] 0 (fields_in (slice_ge
 parts_misfit ds n T v = None
 
 -- the frame of a value's parts
-pub record IsFrameOf (p : PlanView) (T : Shape) (v : ValueView) (f : Frame) : Type 0 where
+pub record IsFrameOf (p : PlanView) (T : Shape) (v : ValueView) (f : WalkFrame) : Type 0 where
   pub deep : is_deep_value v ≡ true
   pub counted : IsCounted f
   pub instances : HasInstances p f.parts
@@ -152,19 +152,19 @@ pub record IsFrameOf (p : PlanView) (T : Shape) (v : ValueView) (f : Frame) : Ty
   pub weight : weight v ≡ 1 + frame_weight f
 
 -- a value that has no parts has no frame
-abbrev pub FramesParts : PlanView → Shape → ValueView → Option Frame → Type 0
+abbrev pub FramesParts : PlanView → Shape → ValueView → Option WalkFrame → Type 0
 FramesParts p T v None = is_deep_value v ≡ false
 FramesParts p T v (Some f) = IsFrameOf p T v f
 
 -- the part is the frame's next
-pub record IsNextPart (p : PlanView) (f : Frame) (x : Part) : Type 0 where
+pub record IsNextPart (p : PlanView) (f : WalkFrame) (x : Part) : Type 0 where
   pub instance : x.of < length p.instances
   pub misfit : (n : ℕ) → frame_misfit p n f ≡ or_else (inside f.at (misfit p.schema.decls n x.bit (part_type p x) (view x.value.now))) (frame_misfit p n (after f))
   pub bytes : frame_bytes p f ≡ spelling p.schema.decls (part_type p x) (view x.value.now) ++ frame_bytes p (after f)
   pub weight : frame_weight f ≡ weight (view x.value.now) + frame_weight (after f)
 
 -- the walk goes on from what is left in the frames
-pub record GoesOn (p : PlanView) (old new : List Frame) (next : Option Part) : Type 0 where
+pub record GoesOn (p : PlanView) (old new : List WalkFrame) (next : Option Part) : Type 0 where
   pub frames : AreOfPlan p new
   pub part : IsOfPlan p next
   pub misfit : misfit_left p old ≡ whole_misfit p next new
@@ -172,14 +172,14 @@ pub record GoesOn (p : PlanView) (old new : List Frame) (next : Option Part) : T
   pub less : whole_weight next new < weight_left old + 1
 
 -- it stands in a part that has no misfit, its own parts aside
-pub record Enters (p : PlanView) (x : Part) (old new : List Frame) : Type 0 where
+pub record Enters (p : PlanView) (x : Part) (old new : List WalkFrame) : Type 0 where
   pub frames : AreOfPlan p new
   pub misfit : whole_misfit p (Some x) old ≡ misfit_left p new
   pub bytes : whole_bytes p (Some x) old ≡ start p.schema.decls (part_type p x) (view x.value.now) ++ bytes_left p new
   pub less : weight_left new < whole_weight (Some x) old
 
 -- the walk steps over a part that has no misfit, its own parts aside
-pub record StepsOver (p : PlanView) (x : Part) (old new : List Frame) (next : Option Part) : Type 0 where
+pub record StepsOver (p : PlanView) (x : Part) (old new : List WalkFrame) (next : Option Part) : Type 0 where
   pub frames : AreOfPlan p new
   pub part : IsOfPlan p next
   pub misfit : whole_misfit p (Some x) old ≡ whole_misfit p next new
@@ -187,7 +187,7 @@ pub record StepsOver (p : PlanView) (x : Part) (old new : List Frame) (next : Op
   pub less : whole_weight next new < whole_weight (Some x) old
 
 -- What is left of the walk over a value of an instance is the whole, less the bytes that were put.
-pub record Walks (p : PlanView) (k : ℕ) (v : ValueView) (put : List ℕ) (next : Option Part) (fs : List Frame) : Type 0 where
+pub record Walks (p : PlanView) (k : ℕ) (v : ValueView) (put : List ℕ) (next : Option Part) (fs : List WalkFrame) : Type 0 where
   pub frames : AreOfPlan p fs
   pub part : IsOfPlan p next
   pub misfit : misfit p.schema.decls MAX_LEVELS None (type_at p k) v ≡ whole_misfit p next fs

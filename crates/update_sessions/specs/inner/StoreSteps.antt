@@ -12,7 +12,7 @@ use Rattle.box_server.specs.Storing.{StoredView}
 use Rattle.wire_profile.specs.Places.{ProfileView}
 use Rattle.box_wire.specs.Kinds.{calls}
 use Rattle.box_wire.specs.Framing.{WireRefused}
-use Rattle.update_sessions.specs.declared.answering.Sent.{Sent}
+use Rattle.update_sessions.specs.declared.answering.CallAnswer.{CallAnswer}
 use Rattle.update_sessions.specs.declared.answering.Untaken.{Untaken}
 use Rattle.update_sessions.specs.declared.answering.Untaken.TheVariants as untaken
 use Rattle.update_sessions.specs.declared.fault.SessionFault.{SessionFault}
@@ -33,38 +33,38 @@ if_any None = []
 if_any (Some f) = f ∷ []
 
 -- what is sent for a call, in order
-abbrev pub frames_in : Sent → List Frame
+abbrev pub frames_in : CallAnswer → List Frame
 frames_in x = x.reply ∷ if_any x.push
 
 -- each of these is short enough for a packet
-pub record AreShort (x : Sent) : Type 0 where
+pub record AreShort (x : CallAnswer) : Type 0 where
   pub reply : frame_size x.reply ≤ MAX_FRAME_BYTES
   pub push : IfSome x.push (λ f. frame_size f ≤ MAX_FRAME_BYTES)
 
 -- these are sent
-pub record Sends (x : Sent) (fs : List Frame) : Type 0 where
+pub record Sends (x : CallAnswer) (fs : List Frame) : Type 0 where
   pub frames : frames_in x ≡ fs
   pub short : AreShort x
 
 -- a store takes a call: what is sent for it, the server and the entries after it
-pub record Took (s : ServerState) (n : ℕ) (r : Request) (entries now_entries : Option (List Entry)) (t : ServerState) (x : Sent) : Type 0 where
+pub record Took (s : ServerState) (n : ℕ) (r : Request) (entries now_entries : Option (List Entry)) (t : ServerState) (x : CallAnswer) : Type 0 where
   pub sends : Sends x (sent_for s n r)
   pub server : t ≡ after_request s r
   pub appended : now_entries ≡ with_more (kept_for s r) entries
 
 -- how a call was taken or not, and the keeper that comes back
-abbrev pub taken_end : {K : Type 0} → Result (StoredView K × Sent) (Untaken K) → StoreEnd Sent
+abbrev pub taken_end : {K : Type 0} → Result (StoredView K × CallAnswer) (Untaken K) → StoreEnd CallAnswer
 taken_end (Ok p) = ended p.0.server (Ok p.1)
 taken_end (Err (untaken.Memory store)) = ended store.server (Err Memory)
 taken_end (Err (untaken.Failed keeper)) = keeper_failed
 
-abbrev pub taken_keeper : {K : Type 0} → Result (StoredView K × Sent) (Untaken K) → K
+abbrev pub taken_keeper : {K : Type 0} → Result (StoredView K × CallAnswer) (Untaken K) → K
 taken_keeper (Ok p) = p.0.keeper
 taken_keeper (Err (untaken.Memory store)) = store.keeper
 taken_keeper (Err (untaken.Failed keeper)) = keeper
 
 -- where memory runs out, or the keeper fails at a post that would be kept, nothing is taken
-abbrev pub TakesCall : ServerState → ℕ → Request → Option (List Entry) → Option (List Entry) → StoreEnd Sent → Type 0
+abbrev pub TakesCall : ServerState → ℕ → Request → Option (List Entry) → Option (List Entry) → StoreEnd CallAnswer → Type 0
 TakesCall s n r entries now_entries (ended t (Ok x)) = Took s n r entries now_entries t x
 TakesCall s n r entries now_entries (ended t (Err Memory)) = (t ≡ s) × (now_entries ≡ entries)
 TakesCall s n r entries now_entries (ended t (Err fault)) = ⊥

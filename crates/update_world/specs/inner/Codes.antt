@@ -8,7 +8,7 @@ use Rattle.wire_profile.specs.Places.{ProfileView}
 use Rattle.wire_profile.specs.inner.ProfileCodes.{profile_code}
 use Rattle.update_world.specs.declared.fault.StepFault.{StepFault}
 use Rattle.update_world.specs.declared.fault.StepFault.TheVariants.{NoClient, NoPacket, WrongEnd, PoolFull, Memory}
-use Rattle.update_world.specs.declared.sent.Sent.{Sent}
+use Rattle.update_world.specs.declared.sent.SentPacket.{SentPacket}
 use Rattle.update_world.specs.declared.sent.End.{End}
 use Rattle.update_world.specs.declared.sent.End.TheVariants.{Clients, Server, Client}
 use Rattle.update_world.specs.Shown.{Shown}
@@ -56,11 +56,11 @@ end_code = code_by (ℕ × ℕ) (coded× coded_ℕ coded_ℕ) end_pair end_of en
 abbrev pub fault_code : Coded StepFault
 fault_code = code_by (ℕ × ℕ) (coded× coded_ℕ coded_ℕ) fault_pair fault_in fault_back
 
-abbrev pub sent_code : Coded Sent
+abbrev pub sent_code : Coded SentPacket
 sent_code = code_by (List ℕ × End) (coded× (coded_list coded_ℕ) end_code) (λ s. (s.bytes, s.to)) (λ p. record { bytes = p.0; to = p.1 }) (λ _. refl)
 
 abbrev pub shown_code : Coded Shown
-shown_code = code_by (ProfileView × (ServerState × (List ClientState × (List Sent × Option StepFault))))
+shown_code = code_by (ProfileView × (ServerState × (List ClientState × (List SentPacket × Option StepFault))))
     (coded× profile_code (coded× server_code (coded× (coded_list client_code) (coded× (coded_list sent_code) (coded_option fault_code)))))
     (λ s. (s.profile, (s.server, (s.clients, (s.pool, s.spoiled)))))
     (λ p. record { profile = p.0; server = p.1.0; clients = p.1.1.0; pool = p.1.1.1.0; spoiled = p.1.1.1.1 }) (λ _. refl)

@@ -9,12 +9,12 @@ use Rattle.update_world.specs.declared.fault.StepFault.{StepFault}
 use Rattle.update_world.specs.declared.fault.StepFault.TheVariants.{NoClient, NoPacket, WrongEnd, PoolFull, Memory}
 use Rattle.update_world.specs.declared.limits.TheConstants.{MAX_POOL_BYTES}
 use Rattle.update_world.specs.declared.outcome.Outcome.{Outcome}
-use Rattle.update_world.specs.declared.parts.Parts.{Parts}
+use Rattle.update_world.specs.declared.parts.WorldParts.{WorldParts}
 use Rattle.update_world.specs.Shown.{Shown, StandsFor, IsOfRun, bytes_of}
 use Rattle.update_world.specs.Stepping.{Happens}
 
 -- what clauses see of a world of these parts that isn't spoiled
-abbrev pub shown_by : ProfileView → Parts → Shown
+abbrev pub shown_by : ProfileView → WorldParts → Shown
 shown_by p a = record { profile = p; server = a.server; clients = a.clients.items; pool = a.pool; spoiled = None }
 
 -- what holds of a world that isn't spoiled: every law over runs holds of it
@@ -33,9 +33,9 @@ spoil_of (Err (WrongEnd n)) = None
 spoil_of (Err (PoolFull bytes)) = Some (PoolFull bytes)
 spoil_of (Err Memory) = Some Memory
 
-abbrev pub shown_after : ProfileView → Parts → Result Outcome StepFault → Shown
+abbrev pub shown_after : ProfileView → WorldParts → Result Outcome StepFault → Shown
 shown_after p a result = record (shown_by p a) { spoiled = spoil_of result }
 
 -- parts become others by a step, in each world that they stand for
-abbrev pub Makes : ProfileView → Step → Parts → Result Outcome StepFault → Parts → Type 0
+abbrev pub Makes : ProfileView → Step → WorldParts → Result Outcome StepFault → WorldParts → Type 0
 Makes p s a result b = (w : World) → StandsFor (shown_by p a) w → Happens (shown_by p a) s w result (shown_after p b result)

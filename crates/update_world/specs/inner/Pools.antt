@@ -4,22 +4,22 @@ use Rattle.box_events.specs.declared.limits.TheConstants.{MAX_FRAME_BYTES}
 use Rattle.update_world.specs.declared.fault.StepFault.{StepFault}
 use Rattle.update_world.specs.declared.fault.StepFault.TheVariants.{NoClient, NoPacket, WrongEnd, PoolFull, Memory}
 use Rattle.update_world.specs.declared.limits.TheConstants.{MAX_POOL_BYTES}
-use Rattle.update_world.specs.declared.sent.Sent.{Sent}
+use Rattle.update_world.specs.declared.sent.SentPacket.{SentPacket}
 use Rattle.update_world.specs.Shown.{bytes_of}
 
 -- a packet has 8 bytes at least, and no more than a frame may have
-abbrev pub IsPacket : Sent → Type 0
+abbrev pub IsPacket : SentPacket → Type 0
 IsPacket s = (8 ≤ length s.bytes) × (length s.bytes ≤ MAX_FRAME_BYTES)
 
 -- the bytes are counted, and are not too many
-pub record IsPool (ss : List Sent) (bytes : ℕ) : Type 0 where
+pub record IsPool (ss : List SentPacket) (bytes : ℕ) : Type 0 where
   pub sum : bytes ≡ bytes_of ss
   pub most : bytes ≤ MAX_POOL_BYTES
   pub each : 8 * length ss ≤ bytes
 
 -- What comes of putting packets into a pool, all or none of them: they stand after the others, from the number that is answered; there would
 -- be too many bytes; or there is no memory.
-abbrev pub Sends : List Sent → List Sent → Result ℕ StepFault → List Sent → Type 0
+abbrev pub Sends : List SentPacket → List SentPacket → Result ℕ StepFault → List SentPacket → Type 0
 Sends old more (Ok first) new = (first ≡ length old) × (new ≡ old ++ more) × (bytes_of new ≤ MAX_POOL_BYTES)
 Sends old more (Err (NoClient n)) new = ⊥
 Sends old more (Err (NoPacket n)) new = ⊥

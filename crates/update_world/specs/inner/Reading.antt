@@ -12,7 +12,7 @@ use Rattle.box_world.specs.Fitting.{CallFits, FrameFits, IsHearable}
 use Rattle.update_world.specs.declared.fault.StepFault.{StepFault}
 use Rattle.update_world.specs.declared.fault.StepFault.TheVariants.{NoClient, NoPacket, WrongEnd, PoolFull, Memory}
 use Rattle.update_world.specs.declared.reading.Asked.{Asked}
-use Rattle.update_world.specs.declared.sent.Sent.{Sent}
+use Rattle.update_world.specs.declared.sent.SentPacket.{SentPacket}
 use Rattle.update_world.specs.declared.sent.End.{End}
 use Rattle.update_world.specs.declared.sent.End.TheVariants.{Clients, Server, Client}
 use Rattle.update_world.specs.Spelled.{AreSent}
@@ -35,7 +35,7 @@ abbrev pub HasCall : ProfileView → List ℕ → Type 0
 HasCall p bytes = (n : Numbered) × CarriesCall p bytes n
 
 -- there are messages that the packets are
-abbrev pub StandFor : ProfileView → List Sent → Type 0
+abbrev pub StandFor : ProfileView → List SentPacket → Type 0
 StandFor p pool = (ms : List Packet) × AreSent p pool ms
 
 -- client k hears pushes, and what goes to it
@@ -45,20 +45,20 @@ hears k (Server j) = false
 hears k (Client j) = eqb j k
 
 -- the packet of this number, which client k hears, is a frame that a client can take
-pub record HasFrameFor (p : ProfileView) (pool : List Sent) (k m : ℕ) (f : Frame) : Type 0 where
-  pub sent : Sent
+pub record HasFrameFor (p : ProfileView) (pool : List SentPacket) (k m : ℕ) (f : Frame) : Type 0 where
+  pub sent : SentPacket
   pub there : slice_get pool m ≡ Some sent
   pub to : hears k sent.to ≡ true
   pub hearable : IsHearable f
   pub only : (g : Frame) → CarriesFrame p sent.bytes g → f ≡ g
 
 -- the packet of this number goes to another end
-pub record IsNotFor (pool : List Sent) (k m : ℕ) : Type 0 where
-  pub sent : Sent
+pub record IsNotFor (pool : List SentPacket) (k m : ℕ) : Type 0 where
+  pub sent : SentPacket
   pub there : slice_get pool m ≡ Some sent
   pub to : hears k sent.to ≡ false
 
-abbrev pub FrameFor : ProfileView → List Sent → ℕ → ℕ → Result Frame StepFault → Type 0
+abbrev pub FrameFor : ProfileView → List SentPacket → ℕ → ℕ → Result Frame StepFault → Type 0
 FrameFor p pool k m (Ok f) = HasFrameFor p pool k m f
 FrameFor p pool k m (Err (NoClient n)) = ⊥
 FrameFor p pool k m (Err (NoPacket n)) = (n ≡ m) × (length pool ≤ m)
@@ -67,8 +67,8 @@ FrameFor p pool k m (Err (PoolFull bytes)) = ⊥
 FrameFor p pool k m (Err Memory) = Unit {0}
 
 -- the packet of this number is a client's request
-pub record HasCallFrom (p : ProfileView) (pool : List Sent) (m : ℕ) (a : Asked) : Type 0 where
-  pub sent : Sent
+pub record HasCallFrom (p : ProfileView) (pool : List SentPacket) (m : ℕ) (a : Asked) : Type 0 where
+  pub sent : SentPacket
   pub there : slice_get pool m ≡ Some sent
   pub to : sent.to ≡ Server a.from
   pub only : (n : Numbered) → CarriesCall p sent.bytes n → a.call ≡ n
@@ -79,12 +79,12 @@ is_request (Server j) = true
 is_request (Client j) = false
 
 -- the packet of this number goes to a client
-pub record IsNoCall (pool : List Sent) (m : ℕ) : Type 0 where
-  pub sent : Sent
+pub record IsNoCall (pool : List SentPacket) (m : ℕ) : Type 0 where
+  pub sent : SentPacket
   pub there : slice_get pool m ≡ Some sent
   pub to : is_request sent.to ≡ false
 
-abbrev pub AsksFrom : ProfileView → List Sent → ℕ → Result Asked StepFault → Type 0
+abbrev pub AsksFrom : ProfileView → List SentPacket → ℕ → Result Asked StepFault → Type 0
 AsksFrom p pool m (Ok a) = HasCallFrom p pool m a
 AsksFrom p pool m (Err (NoClient n)) = ⊥
 AsksFrom p pool m (Err (NoPacket n)) = (n ≡ m) × (length pool ≤ m)

@@ -1,6 +1,6 @@
 use Rattle.std.proofs.Common.{Ok}
 use Rattle.tl_decode.specs.declared.stack.Next.TheVariants as next
-use Rattle.tl_decode.specs.declared.stack.Step.TheVariants as step
+use Rattle.tl_decode.specs.declared.stack.Advance.TheVariants as step
 use Rattle.tl_decode.specs.declared.stack.Found.TheVariants as found
 use Rattle.tl_decode.proofs.InPlace.{steps_then}
 use Rattle.tl_decode.proofs.opening.onward.Goals as goal

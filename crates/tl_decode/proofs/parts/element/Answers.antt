@@ -1,6 +1,6 @@
 use Rattle.std.proofs.Common.{◌-◌, arith}
 use Rattle.tl_types.proofs.Views.{view-List}
-use Rattle.tl_decode.specs.declared.stack.Frame.TheVariants as frame
+use Rattle.tl_decode.specs.declared.stack.StackFrame.TheVariants as frame
 use Rattle.tl_decode.specs.declared.stack.Next.TheVariants as next
 use Rattle.tl_decode.proofs.InPlace.{steps_then}
 use Rattle.tl_decode.proofs.PartSteps.{list_closes, list_opens}

@@ -1,8 +1,8 @@
 use Rattle.std.proofs.Common.{Ok}
 use Rattle.tl_types.proofs.Views.{view-Absent}
-use Rattle.tl_decode.specs.declared.stack.Frame.TheVariants as frame
+use Rattle.tl_decode.specs.declared.stack.StackFrame.TheVariants as frame
 use Rattle.tl_decode.specs.declared.stack.Next.TheVariants as next
-use Rattle.tl_decode.specs.declared.stack.Step.TheVariants as step
+use Rattle.tl_decode.specs.declared.stack.Advance.TheVariants as step
 use Rattle.tl_decode.specs.inner.Frames.{StepsFrom}
 use Rattle.tl_decode.proofs.InPlace.{steps_then}
 use Rattle.tl_decode.proofs.parts.field.Goals as goal

@@ -10,7 +10,7 @@ use Rattle.box_world.specs.Sizes.{call_size}
 use Rattle.update_world.specs.declared.fault.StepFault.{StepFault}
 use Rattle.update_world.specs.inner.Making.{shown_by}
 use Rattle.update_world.specs.inner.Sending.{SendsCalls}
-use Rattle.update_world.specs.declared.parts.Parts.{Parts}
+use Rattle.update_world.specs.declared.parts.WorldParts.{WorldParts}
 use Rattle.update_world.proofs.ClientSteps.{asks_short, client_at, tick_done, tick_unsent}
 use Rattle.update_world.proofs.Exits.{no_such_client}
 use Rattle.update_world.proofs.Runs.{may_ask}
@@ -21,7 +21,7 @@ returns-then-client-len-clause-step c = λ w st. no_such_client c.args.profile.n
 
 pub tick-requires : goal.tick-requires
 tick-requires c =
-    let a : Parts = c.args.parts.now in
+    let a : WorldParts = c.args.parts.now in
     let lt : c.args.client < length a.clients.items = omega (arith, c.if-client-len.false, c.len.ensures, a.clients.ok.0) in
     record { limit = (may_ask (shown_by c.args.profile.now a) c.requires c.args.client c.index_mut.result.now (client_at a.clients.items c.args.client c.index_mut.result.now lt c.index_mut.ensures.value)).limit }
 
@@ -30,8 +30,8 @@ send_calls-requires-clause-short c = subst (All (λ (n : Numbered). call_size n 
 
 pub returns-in_err-first-clause-step : goal.returns-in_err-first-clause-step
 returns-in_err-first-clause-step c = λ w st.
-    let a : Parts = c.args.parts.now in
-    let b : Parts = record { server = a.server; clients = with_item a.clients c.args.client c.tick.new.self; pool = c.send_calls.new.pool } in
+    let a : WorldParts = c.args.parts.now in
+    let b : WorldParts = record { server = a.server; clients = with_item a.clients c.args.client c.tick.new.self; pool = c.send_calls.new.pool } in
     let lt : c.args.client < length a.clients.items = omega (arith, c.if-client-len.false, c.len.ensures, a.clients.ok.0) in
     let e : StepFault = c.in_err-first.field-0.0 in
     let sends : SendsCalls c.args.profile.now c.args.client (ticks c.index_mut.result.now).asks a.pool (Err e) c.send_calls.new.pool =
@@ -41,8 +41,8 @@ returns-in_err-first-clause-step c = λ w st.
 
 pub returns-clause-step : goal.returns-clause-step
 returns-clause-step c = λ w st.
-    let a : Parts = c.args.parts.now in
-    let b : Parts = record { server = a.server; clients = with_item a.clients c.args.client c.tick.new.self; pool = c.send_calls.new.pool } in
+    let a : WorldParts = c.args.parts.now in
+    let b : WorldParts = record { server = a.server; clients = with_item a.clients c.args.client c.tick.new.self; pool = c.send_calls.new.pool } in
     let lt : c.args.client < length a.clients.items = omega (arith, c.if-client-len.false, c.len.ensures, a.clients.ok.0) in
     let sends : SendsCalls c.args.profile.now c.args.client (ticks c.index_mut.result.now).asks a.pool (Ok c.in_ok-first.first) c.send_calls.new.pool =
     subst (λ (ns : List Numbered). SendsCalls c.args.profile.now c.args.client ns a.pool (Ok c.in_ok-first.first) c.send_calls.new.pool) c.tick.ensures.asks c.in_ok-first.ensures in

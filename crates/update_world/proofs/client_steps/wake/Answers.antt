@@ -1,7 +1,7 @@
 use Rattle.std.proofs.Common.{arith, refl, ◌<◌, length}
 use Rattle.std.specs.Vec.{with_item}
 use Rattle.box_events.specs.declared.steps.Step.TheVariants as step
-use Rattle.update_world.specs.declared.parts.Parts.{Parts}
+use Rattle.update_world.specs.declared.parts.WorldParts.{WorldParts}
 use Rattle.update_world.proofs.ClientSteps.{client_at, wake_done}
 use Rattle.update_world.proofs.Exits.{no_such_client}
 use Rattle.update_world.proofs.client_steps.wake.Goals as goal
@@ -11,7 +11,7 @@ returns-then-client-len-clause-step c = λ p steady w st. no_such_client p c.arg
 
 pub returns-clause-step : goal.returns-clause-step
 returns-clause-step c = λ p steady w st.
-    let a : Parts = c.args.parts.now in
-    let b : Parts = record { server = a.server; clients = with_item a.clients c.args.client c.wake.new.self; pool = a.pool } in
+    let a : WorldParts = c.args.parts.now in
+    let b : WorldParts = record { server = a.server; clients = with_item a.clients c.args.client c.wake.new.self; pool = a.pool } in
     let lt : c.args.client < length a.clients.items = omega (arith, c.if-client-len.false, c.len.ensures, a.clients.ok.0) in
     wake_done p a b w c.args.client c.index_mut.result.now c.wake.new.self steady st lt (client_at a.clients.items c.args.client c.index_mut.result.now lt c.index_mut.ensures.value) c.wake.ensures.step refl refl refl

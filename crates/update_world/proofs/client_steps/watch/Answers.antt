@@ -6,7 +6,7 @@ use Rattle.box_client.specs.Calls.{WatchesOne}
 use Rattle.channel_box.specs.declared.fault.WatchFault.{WatchFault}
 use Rattle.channel_box.specs.declared.fault.WatchFault.TheVariants.{Already, TooMany}
 use Rattle.update_world.specs.declared.outcome.Outcome.TheVariants as outcome
-use Rattle.update_world.specs.declared.parts.Parts.{Parts}
+use Rattle.update_world.specs.declared.parts.WorldParts.{WorldParts}
 use Rattle.update_world.specs.Stepping.{Happens}
 use Rattle.update_world.specs.inner.Making.{shown_after, shown_by}
 use Rattle.update_world.proofs.ClientSteps.{client_at, watch_done, watched_already, watched_now, watched_too_many}
@@ -18,9 +18,9 @@ returns-then-client-len-clause-step c = λ p steady w st. no_such_client p c.arg
 
 pub returns-in-Ok-clause-step : goal.returns-in-Ok-clause-step
 returns-in-Ok-clause-step c = λ p steady w st.
-    let a : Parts = c.args.parts.now in
+    let a : WorldParts = c.args.parts.now in
     let k = c.args.client in
-    let b : Parts = record { server = a.server; clients = with_item a.clients k c.watch.new.self; pool = a.pool } in
+    let b : WorldParts = record { server = a.server; clients = with_item a.clients k c.watch.new.self; pool = a.pool } in
     let lt : k < length a.clients.items = omega (arith, c.if-client-len.false, c.len.ensures, a.clients.ok.0) in
     let id : to_z w64 (of_z w64 c.args.id) ≡ c.args.id = to_z-of_z w64 c.args.id (search rules) in
     subst (λ (z : ℤ). Happens (shown_by p a) (step.Watch k c.args.id) w (Ok (outcome.Watched k z None)) (shown_after p b (Ok (outcome.Watched k z None)))) (sym id)
@@ -29,9 +29,9 @@ returns-in-Ok-clause-step c = λ p steady w st.
 
 pub returns-in-Err-Already-clause-step : goal.returns-in-Err-Already-clause-step
 returns-in-Err-Already-clause-step c = λ p steady w st.
-    let a : Parts = c.args.parts.now in
+    let a : WorldParts = c.args.parts.now in
     let k = c.args.client in
-    let b : Parts = record { server = a.server; clients = with_item a.clients k c.watch.new.self; pool = a.pool } in
+    let b : WorldParts = record { server = a.server; clients = with_item a.clients k c.watch.new.self; pool = a.pool } in
     let lt : k < length a.clients.items = omega (arith, c.if-client-len.false, c.len.ensures, a.clients.ok.0) in
     let id : to_z w64 (of_z w64 c.args.id) ≡ c.args.id = to_z-of_z w64 c.args.id (search rules) in
     let refused : WatchesOne c.index_mut.result.now (to_z w64 (of_z w64 c.args.id)) (Err Already) c.watch.new.self = rw c.in-Err-Already.field-0-is at c.in-Err-Already.ensures.step in
@@ -41,9 +41,9 @@ returns-in-Err-Already-clause-step c = λ p steady w st.
 
 pub returns-in-Err-TooMany-clause-step : goal.returns-in-Err-TooMany-clause-step
 returns-in-Err-TooMany-clause-step c = λ p steady w st.
-    let a : Parts = c.args.parts.now in
+    let a : WorldParts = c.args.parts.now in
     let k = c.args.client in
-    let b : Parts = record { server = a.server; clients = with_item a.clients k c.watch.new.self; pool = a.pool } in
+    let b : WorldParts = record { server = a.server; clients = with_item a.clients k c.watch.new.self; pool = a.pool } in
     let lt : k < length a.clients.items = omega (arith, c.if-client-len.false, c.len.ensures, a.clients.ok.0) in
     let id : to_z w64 (of_z w64 c.args.id) ≡ c.args.id = to_z-of_z w64 c.args.id (search rules) in
     let refused : WatchesOne c.index_mut.result.now (to_z w64 (of_z w64 c.args.id)) (Err TooMany) c.watch.new.self = rw c.in-Err-TooMany.field-0-is at c.in-Err-TooMany.ensures.step in

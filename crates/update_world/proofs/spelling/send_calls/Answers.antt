@@ -6,13 +6,13 @@ use Rattle.box_events.specs.declared.limits.TheConstants.{MAX_FRAME_BYTES}
 use Rattle.box_events.specs.declared.requests.Numbered.{Numbered}
 use Rattle.box_world.specs.Sizes.{call_size}
 use Rattle.update_world.specs.declared.fault.StepFault.{StepFault}
-use Rattle.update_world.specs.declared.sent.Sent.{Sent}
+use Rattle.update_world.specs.declared.sent.SentPacket.{SentPacket}
 use Rattle.update_world.specs.inner.Sending.{AreAsked}
 use Rattle.update_world.proofs.Carried.{all_at, all_packets, asked_more, take_whole}
 use Rattle.update_world.proofs.spelling.send_calls.Goals as goal
 
 pub loop-i-init : goal.loop-i-init
-loop-i-init c = (subst (λ (ss : List Sent). AreAsked c.args.profile.now c.args.client [] ss) (sym c.in_ok-more.ensures.items) tt, c.in_ok-more.ensures.len, omega (arith, c.in_ok-more.ensures.exact, c.len.ensures.value))
+loop-i-init c = (subst (λ (ss : List SentPacket). AreAsked c.args.profile.now c.args.client [] ss) (sym c.in_ok-more.ensures.items) tt, c.in_ok-more.ensures.len, omega (arith, c.in_ok-more.ensures.exact, c.len.ensures.value))
 
 pub loop-i-preserved : goal.loop-i-preserved
 loop-i-preserved c = (
