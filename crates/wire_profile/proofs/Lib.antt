@@ -13,3 +13,4 @@ pub mod Roots
 pub mod PlanLimits
 pub mod ClearValues
 pub mod RuleFacts
+pub mod Walking

@@ -2,3 +2,4 @@
 pub mod ProfileCodes
 pub mod Heads
 pub mod Insides
+pub mod Walks

@@ -1,71 +1,84 @@
-//! The first cause in a message.
+//! The first cause in a message, which is found in one walk over its value.
 ghost use Rattle.std.specs.Prelude.{◌≡◌};
 ghost use Rattle.tl_types.specs.Seen.{view, views};
+ghost use Rattle.tl_types.specs.Values.{node};
 ghost use Rattle.wire_profile.specs.Causes as defined;
+ghost use Rattle.wire_profile.specs.Causes.{broken};
+ghost use Rattle.wire_profile.specs.inner.Walks as walks;
 ghost use Rattle.wire_profile.specs.declared.rule.Root.TheVariants.{Frame, Step, Saved};
 
 use crate::breaking::{broken, not_served};
-use crate::rule::{ORDER, Root, Rule, is_for};
+use crate::rule::{Root, Rule, rules_of};
 use crate::wire_fault::WireFault;
 use tl_types::Value;
 
-// What the first record breaks that breaks the rule, a record before those in its fields.
+// The rules before the first that a record breaks. What it breaks becomes the cause.
+fn before<'r>(
+    rules: &'r [Rule],
+    form: u32,
+    fields: &[Value],
+    cause: &mut Option<WireFault>,
+) -> &'r [Rule]
+    ensures rules { result.now ≡ walks.unbroken (λ rule. broken rule form (views fields.now)) rules.now }
+    ensures cause { cause.new ≡ walks.found_here (λ rule. broken rule form (views fields.now)) rules.now cause.old }
+{
+    for (index, rule) in rules.iter().enumerate() {
+        if let Some(fault) = broken(*rule, form, fields) {
+            *cause = Some(fault);
+            return &rules[..index];
+        }
+    }
+    rules
+}
+
+// The rules before the first that is broken in a value. What is broken of it becomes the cause.
 #[cycle(walk)]
-fn first_broken(rule: Rule, value: &Value) -> Option<WireFault>
-    ensures { result ≡ defined.first_broken rule (view value.now) }
+#[inline(always)]
+fn walk<'r>(rules: &'r [Rule], value: &Value, cause: &mut Option<WireFault>) -> &'r [Rule]
+    ensures rules { result.now ≡ walks.left rules.now (view value.now) }
+    ensures cause { cause.new ≡ walks.found rules.now (view value.now) cause.old }
 {
     match value {
-        Value::List(items) => first_among(rule, items),
-        Value::Node { entry, fields } => match broken(rule, *entry, fields) {
-            Some(fault) => Some(fault),
-            None => first_among(rule, fields),
-        },
-        Value::Call { entry, fields } => match broken(rule, *entry, fields) {
-            Some(fault) => Some(fault),
-            None => first_among(rule, fields),
-        },
-        _ => None,
+        Value::List(items) => walk_each(rules, items, cause),
+        Value::Node { entry, fields } => walk_record(rules, *entry, fields, cause),
+        Value::Call { entry, fields } => walk_record(rules, *entry, fields, cause),
+        _ => rules,
     }
 }
 
+// Likewise in a record or call, and then in its fields.
 #[cycle(walk)]
-fn first_among(rule: Rule, values: &[Value]) -> Option<WireFault>
-    ensures { result ≡ defined.first_among rule (views values.now) }
+fn walk_record<'r>(
+    rules: &'r [Rule],
+    form: u32,
+    fields: &[Value],
+    cause: &mut Option<WireFault>,
+) -> &'r [Rule]
+    ensures rules { result.now ≡ walks.left rules.now (node form (views fields.now)) }
+    ensures cause { cause.new ≡ walks.found rules.now (node form (views fields.now)) cause.old }
 {
+    walk_each(before(rules, form, fields, cause), fields, cause)
+}
+
+// Likewise in values, of which each is looked at once.
+#[cycle(walk)]
+fn walk_each<'r>(rules: &'r [Rule], values: &[Value], cause: &mut Option<WireFault>) -> &'r [Rule]
+    ensures rules { result.now ≡ walks.left_among rules.now (views values.now) }
+    ensures cause { cause.new ≡ walks.found_among rules.now (views values.now) cause.old }
+{
+    let mut left = rules;
     for value in values {
-        if let Some(fault) = first_broken(rule, value) {
-            return Some(fault);
-        }
+        left = walk(left, value, cause);
     }
-    None
-}
-
-// What is broken of a rule, where the root has it.
-fn looked_for(root: Root, rule: Rule, value: &Value) -> Option<WireFault>
-    ensures { result ≡ defined.looked_for root rule (view value.now) }
-{
-    if is_for(root, rule) {
-        first_broken(rule, value)
-    } else {
-        None
-    }
-}
-
-fn first_of(root: Root, rules: &[Rule], value: &Value) -> Option<WireFault>
-    ensures { result ≡ defined.first_of root rules.now (view value.now) }
-{
-    for rule in rules {
-        if let Some(fault) = looked_for(root, *rule, value) {
-            return Some(fault);
-        }
-    }
-    None
+    left
 }
 
 fn cause_of(root: Root, value: &Value) -> Option<WireFault>
     ensures { result ≡ defined.cause_of root (view value.now) }
 {
-    first_of(root, &ORDER, value)
+    let mut cause = None;
+    walk(rules_of(root), value, &mut cause);
+    cause
 }
 
 /// Why a frame of a server is no message, if it isn't. The value's records have the numbers of forms.

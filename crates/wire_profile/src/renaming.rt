@@ -7,6 +7,7 @@ use tl_types::Value;
 
 /// Replaces the number of each record and call by what the table has at it, or by another where it ends before.
 #[cycle(rename)]
+#[inline(always)]
 pub fn rename(value: &mut Value, table: &[u32], other: u32)
     ensures { view value.new ≡ renamed (λ n. get_or table.now n other) (view value.old) }
 {

@@ -1,6 +1,6 @@
 //! The rules, and the values that they are for.
 ghost use Rattle.std.specs.Prelude.{◌≡◌};
-ghost use Rattle.wire_profile.specs.Causes as causes;
+ghost use Rattle.wire_profile.specs.inner.Walks as walks;
 
 /// A rule of a message, one for each cause.
 #[derive(Clone, Copy)]
@@ -24,9 +24,8 @@ pub enum Root {
     Saved,
 }
 
-/// The rules in the order in which their causes are answered.
-pub const ORDER: [Rule; 8] = [
-    Rule::Version,
+/// A frame's rules, in the order in which their causes are answered.
+const FRAME_RULES: [Rule; 7] = [
     Rule::Number,
     Rule::Update,
     Rule::Count,
@@ -36,13 +35,26 @@ pub const ORDER: [Rule; 8] = [
     Rule::Seq,
 ];
 
-/// Whether a rule's cause is answered for this root.
-pub fn is_for(root: Root, rule: Rule) -> bool
-    ensures { result ≡ causes.is_for root rule }
+/// Likewise those of a call or a step.
+const STEP_RULES: [Rule; 2] = [Rule::Number, Rule::Date];
+
+/// Likewise those of a saved client.
+const SAVED_RULES: [Rule; 6] = [
+    Rule::Version,
+    Rule::Number,
+    Rule::Count,
+    Rule::End,
+    Rule::Date,
+    Rule::Seq,
+];
+
+/// The rules for this root, in the order in which their causes are answered.
+pub fn rules_of(root: Root) -> &'static [Rule]
+    ensures { result.now ≡ walks.rules_of root }
 {
     match root {
-        Root::Frame => !matches!(rule, Rule::Version),
-        Root::Call | Root::Step => matches!(rule, Rule::Number | Rule::Date),
-        Root::Saved => !matches!(rule, Rule::Update | Rule::Setting),
+        Root::Frame => &FRAME_RULES,
+        Root::Call | Root::Step => &STEP_RULES,
+        Root::Saved => &SAVED_RULES,
     }
 }

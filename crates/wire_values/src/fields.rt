@@ -31,8 +31,8 @@ pub fn opened(alloc: Global, mut value: Value) -> (u32, Fields)
     }
 }
 
-// The next field's value; past the last one nothing is there.
-fn next_value(fields: &mut Fields) -> Value
+/// The next field's value; past the last one nothing is there.
+pub fn next_value(fields: &mut Fields) -> Value
     ensures value { view result ≡ first (coming fields.old) }
     ensures left { coming fields.new ≡ rest (coming fields.old) }
 {

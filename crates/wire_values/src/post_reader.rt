@@ -4,8 +4,8 @@ ghost use Rattle.wire_forms.specs.Parts.{each};
 ghost use Rattle.wire_values.specs.Coming.{coming};
 ghost use Rattle.wire_values.specs.Posts.{post_at, post_in};
 
-use crate::fields::{Fields, next_int, next_long, next_parts, next_text, opened};
-use crate::lists::ids_of;
+use crate::fields::{Fields, next_int, next_long, next_text, opened};
+use crate::lists::next_ids;
 use box_events::{ListOf, Post};
 use std::alloc::Global;
 use tl_base::Memory;
@@ -26,7 +26,7 @@ fn post_of(alloc: Global, form: u32, mut fields: Fields) -> Result<Post, Memory>
             body: next_text(alloc, &mut fields),
         }),
         POST_DELETE => Ok(Post::Delete {
-            ids: ids_of(alloc, next_parts(alloc, &mut fields))?,
+            ids: next_ids(alloc, &mut fields)?,
         }),
         POST_SECRET => Ok(Post::Secret {
             body: next_text(alloc, &mut fields),
@@ -41,7 +41,7 @@ fn post_of(alloc: Global, form: u32, mut fields: Fields) -> Result<Post, Memory>
         }),
         POST_CHANNEL_DELETE => Ok(Post::ChannelDelete {
             id: next_long(&mut fields),
-            ids: ids_of(alloc, next_parts(alloc, &mut fields))?,
+            ids: next_ids(alloc, &mut fields)?,
         }),
         POST_SETTING => Ok(Post::Setting {
             key: next_text(alloc, &mut fields),

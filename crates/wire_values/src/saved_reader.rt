@@ -6,7 +6,7 @@ ghost use Rattle.wire_values.specs.Coming.{coming};
 ghost use Rattle.wire_values.specs.SavedClients.{event_at, event_in, lane_at, saved_at, saved_channel_at, saved_channel_in, saved_in};
 
 use crate::fields::{Fields, next_int, next_long, next_parts, next_text, next_word, opened, skip};
-use crate::lists::{bodies_of, ids_of};
+use crate::lists::{bodies_of, next_ids};
 use crate::update_reader::{deletion, settings_from};
 use box_events::{Event, ListOf, Saved, SavedChannel, SavedLane};
 use std::alloc::Global;
@@ -21,7 +21,7 @@ fn event_of(alloc: Global, form: u32, mut fields: Fields) -> Result<Event, Memor
     match form {
         EVENT_NEW => Ok(Event::new_message(next_text(alloc, &mut fields))),
         EVENT_EDIT => Ok(Event::edit(next_text(alloc, &mut fields))),
-        EVENT_DELETE => Ok(deletion(ids_of(alloc, next_parts(alloc, &mut fields))?)),
+        EVENT_DELETE => Ok(deletion(next_ids(alloc, &mut fields)?)),
         _ => Ok(Event::read(next_int(&mut fields))),
     }
 }

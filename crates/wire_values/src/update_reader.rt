@@ -7,8 +7,8 @@ ghost use Rattle.wire_values.specs.Others.{others_of, settings_of};
 ghost use Rattle.wire_values.specs.Updates as defined;
 ghost use Rattle.wire_values.specs.Updates.{update_at, update_in, placed_in, setting_in};
 
-use crate::fields::{Fields, next_int, next_long, next_parts, next_text, next_word, opened};
-use crate::lists::ids_of;
+use crate::fields::{Fields, next_int, next_long, next_text, next_word, opened};
+use crate::lists::next_ids;
 use box_events::{Event, Ids, ListOf, MAX_IDS, Placed, Setting, Update};
 use std::alloc::Global;
 use tl_base::Memory;
@@ -57,7 +57,7 @@ fn update_of(alloc: Global, form: u32, mut fields: Fields) -> Result<Update, Mem
             pts: next_word(&mut fields),
         }),
         UPDATE_DELETE_MESSAGES => Ok(Update::Common {
-            event: deletion(ids_of(alloc, next_parts(alloc, &mut fields))?),
+            event: deletion(next_ids(alloc, &mut fields)?),
             pts: next_word(&mut fields),
         }),
         UPDATE_NEW_ENCRYPTED_MESSAGE => Ok(Update::Secret {
@@ -76,7 +76,7 @@ fn update_of(alloc: Global, form: u32, mut fields: Fields) -> Result<Update, Mem
         }),
         UPDATE_DELETE_CHANNEL_MESSAGES => Ok(Update::Channel {
             id: next_long(&mut fields),
-            event: deletion(ids_of(alloc, next_parts(alloc, &mut fields))?),
+            event: deletion(next_ids(alloc, &mut fields)?),
             pts: next_word(&mut fields),
         }),
         UPDATE_CHANNEL_TOO_LONG => Ok(Update::ChannelTooLong {
@@ -116,7 +116,7 @@ fn placed_of(alloc: Global, value: Value) -> Result<Placed, Memory>
     let (form, mut fields) = opened(alloc, value);
     let event = match form {
         UPDATE_EDIT_MESSAGE => Event::edit(next_text(alloc, &mut fields)),
-        UPDATE_DELETE_MESSAGES => deletion(ids_of(alloc, next_parts(alloc, &mut fields))?),
+        UPDATE_DELETE_MESSAGES => deletion(next_ids(alloc, &mut fields)?),
         _ => Event::read(next_int(&mut fields)),
     };
     Ok(Placed {
