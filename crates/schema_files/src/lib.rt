@@ -12,6 +12,6 @@ mod type_word;
 pub use json_input::{JSON_BYTES, fit_unmade, form_by, formed_value};
 pub use lines::cause_text;
 pub use schema_text::{SCHEMA_BYTES, schema_of};
-pub use shown::{line_by, printed_line, value_line};
+pub use shown::{line_by, printed_line, put_line, value_line};
 pub use type_plan::plan_of;
 pub use type_word::{type_named, type_spelled};

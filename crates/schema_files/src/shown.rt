@@ -1,5 +1,5 @@
 //! Lines of values.
-ghost use Rattle.std.specs.Prelude.{◌≡◌, IfOk};
+ghost use Rattle.std.specs.Prelude.{◌≡◌, IfOk, OnErr, OnOk};
 ghost use Rattle.tl_schema.specs.Seen.{shape};
 ghost use Rattle.tl_types.specs.Seen.{view};
 ghost use Rattle.tl_show.specs.inner.Kept.{AreFormsOf};
@@ -7,7 +7,7 @@ ghost use Rattle.schema_files.specs.Lines.{line_text};
 
 use std::alloc::{AllocError, Global};
 use tl_schema::{Schema, TypeRef};
-use tl_show::{JsonForms, JsonPrinter};
+use tl_show::{JsonForms, JsonPrinter, TextSink};
 use tl_types::Value;
 
 /// The line of a value of a type by the printer of its schema: its JSON, and a line feed.
@@ -51,4 +51,21 @@ pub fn value_line(
 {
     let printer = JsonPrinter::new(alloc, schema)?;
     printed_line(alloc, &printer, of, value)
+}
+
+/// Puts the line of one value of a type, piece by piece as it is made. Where memory runs out nothing was put.
+pub fn put_line<S: TextSink>(
+    alloc: Global,
+    schema: &Schema,
+    of: &TypeRef,
+    value: &Value,
+    out: &mut S,
+) -> Result<(), AllocError>
+    ensures line { OnOk result (S.puts out.old out.new (line_text schema.now.decls (shape of.now) (view value.now))) }
+    ensures none { OnErr result (out.new ≡ out.old) }
+{
+    let printer = JsonPrinter::new(alloc, schema)?;
+    printer.write(alloc, of, value, out)?;
+    out.put(b"\n");
+    Ok(())
 }

@@ -1,4 +1,7 @@
-pub mod Appending
+pub mod Lines
+pub mod Putting
+pub mod Escapes
+pub mod Scopes
 pub mod Declarations
 pub mod Elements
 pub mod FieldCounts

@@ -7,3 +7,5 @@ pub mod Direct
 pub mod Lines
 pub mod Kept
 pub mod ReadFaults
+pub mod Scopes
+pub mod Held

@@ -1,15 +1,15 @@
 //! How the records of a schema are written, made once.
-ghost use Rattle.std.specs.Prelude.{◌≡◌, IfOk, map};
+ghost use Rattle.std.specs.Prelude.{◌≡◌, IfOk, OnErr, OnOk};
 ghost use Rattle.serde_json.specs.Written.{compact_text};
 ghost use Rattle.tl_schema.specs.Seen.{shape};
 ghost use Rattle.tl_types.specs.Seen.{view};
 ghost use Rattle.tl_show.specs.Shown.{shown};
-ghost use Rattle.tl_show.specs.inner.FormViews.{form_view};
-ghost use Rattle.tl_show.specs.inner.Forms.{written};
 ghost use Rattle.tl_show.specs.inner.Kept.{AreFormsOf};
 
 use crate::form::Form;
 use crate::forms::forms_of;
+use crate::held::HeldText;
+use crate::sink::TextSink;
 use crate::tree::show;
 use crate::writing::write_value;
 use std::alloc::{AllocError, Global};
@@ -49,35 +49,46 @@ impl JsonForms {
         requires made { AreFormsOf schema.now self.now }
         ensures text { IfOk result (λ bytes. bytes.items ≡ compact_text (shown schema.now.decls (shape of.now) (view value.now))) }
     {
+        let mut text = HeldText::new(alloc);
+        self.write(alloc, schema, of, value, &mut text)?;
+        text.into_bytes()
+    }
+
+    /// Puts that text, piece by piece as it is made. No memory is taken once a piece was put: where it runs out, none was.
+    pub fn write<S: TextSink>(
+        &self,
+        alloc: Global,
+        schema: &Schema,
+        of: &TypeRef,
+        value: &Value,
+        out: &mut S,
+    ) -> Result<(), AllocError>
+        requires made { AreFormsOf schema.now self.now }
+        ensures text { OnOk result (S.puts out.old out.new (compact_text (shown schema.now.decls (shape of.now) (view value.now)))) }
+        ensures none { OnErr result (out.new ≡ out.old) }
+    {
         match &self.forms {
-            Some(forms) => text_by_forms(alloc, of, value, forms),
-            None => text_of_tree(alloc, schema, of, value),
+            Some(forms) => {
+                write_value(value, of, None, forms, out);
+                Ok(())
+            }
+            None => write_tree(alloc, schema, of, value, out),
         }
     }
 }
 
-// The text, by the forms of the schema's declarations.
-fn text_by_forms(
-    alloc: Global,
-    of: &TypeRef,
-    value: &Value,
-    forms: &[Form],
-) -> Result<Vec<u8>, AllocError>
-    ensures { IfOk result (λ bytes. bytes.items ≡ compact_text (written (map form_view forms.now) (shape of.now) (view value.now))) }
-{
-    let mut out = Vec::new(alloc);
-    write_value(alloc, value, of, forms, &mut out)?;
-    Ok(out)
-}
-
-// The text, by the value's tree. Only a schema with two keys alike in one declaration comes here.
-fn text_of_tree(
+// Puts the text, by the value's tree, which is made whole. Only a schema with two keys alike in one declaration comes here.
+fn write_tree<S: TextSink>(
     alloc: Global,
     schema: &Schema,
     of: &TypeRef,
     value: &Value,
-) -> Result<Vec<u8>, AllocError>
-    ensures { IfOk result (λ bytes. bytes.items ≡ compact_text (shown schema.now.decls (shape of.now) (view value.now))) }
+    out: &mut S,
+) -> Result<(), AllocError>
+    ensures text { OnOk result (S.puts out.old out.new (compact_text (shown schema.now.decls (shape of.now) (view value.now)))) }
+    ensures none { OnErr result (out.new ≡ out.old) }
 {
-    show(alloc, schema, of, value)?.to_vec(alloc)
+    let text = show(alloc, schema, of, value)?.to_vec(alloc)?;
+    out.put(&text);
+    Ok(())
 }

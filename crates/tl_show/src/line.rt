@@ -1,6 +1,6 @@
 //! Values as JSON text, written straight.
 ghost use Rattle.std.proofs.Props.{props};
-ghost use Rattle.std.specs.Prelude.{◌≡◌, IfOk, IfSome, map};
+ghost use Rattle.std.specs.Prelude.{◌≡◌, IfOk, IfSome, OnErr, OnOk, map};
 ghost use Rattle.serde_json.specs.Written.{compact_text};
 ghost use Rattle.tl_schema.specs.Seen.{shape};
 ghost use Rattle.tl_types.specs.Seen.{view};
@@ -9,6 +9,7 @@ ghost use Rattle.tl_show.specs.inner.FormViews.{form_view};
 ghost use Rattle.tl_show.specs.inner.Lines.{PrintAsShown};
 
 use crate::json_forms::JsonForms;
+use crate::sink::TextSink;
 use std::alloc::{AllocError, Global};
 use tl_schema::{Schema, TypeRef};
 use tl_types::Value;
@@ -51,6 +52,20 @@ impl<'s> JsonPrinter<'s> {
         ensures text { IfOk result (λ bytes. bytes.items ≡ compact_text (shown self.now.schema.now.decls (shape of.now) (view value.now))) }
     {
         self.forms.text(alloc, self.schema, of, value)
+    }
+
+    /// Puts that text, piece by piece as it is made, as `JsonForms::write` does.
+    pub fn write<S: TextSink>(
+        &self,
+        alloc: Global,
+        of: &TypeRef,
+        value: &Value,
+        out: &mut S,
+    ) -> Result<(), AllocError>
+        ensures text { OnOk result (S.puts out.old out.new (compact_text (shown self.now.schema.now.decls (shape of.now) (view value.now)))) }
+        ensures none { OnErr result (out.new ≡ out.old) }
+    {
+        self.forms.write(alloc, self.schema, of, value, out)
     }
 }
 

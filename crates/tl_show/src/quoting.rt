@@ -1,32 +1,119 @@
 //! A text as a JSON string.
-ghost use Rattle.std.specs.Prelude.{◌≡◌, ◌+◌, ◌≤◌, IfOk, length};
+ghost use Rattle.std.specs.Prelude.{◌≡◌, ◌+◌, ◌<◌, ◌≤◌, IfOk, length};
 ghost use Rattle.std.specs.Bool.{OnTrue};
-ghost use Rattle.json.specs.Print.{escape, quoted};
+ghost use Rattle.std.specs.Char.{digit_char};
+ghost use Rattle.json.specs.Print.{escape, escape_byte, escape_letter, quoted};
 ghost use Rattle.json.specs.Written.{PlainBetween};
-ghost use Rattle.tl_show.specs.inner.Lines.{WritesText};
 
+use crate::sink::TextSink;
 use json::Writer;
 use std::alloc::{AllocError, Global};
 use std::simd::prelude::*;
 
-/// Appends bytes.
-pub fn append(bytes: &[u8], out: &mut Vec<u8>) -> Result<(), AllocError>
-    ensures { WritesText result out.old.items out.new.items bytes.now }
+/// Writes a text as a JSON string.
+pub fn write_quoted<S: TextSink>(text: &[u8], out: &mut S)
+    ensures { S.puts out.old out.new (quoted text.now) }
 {
-    out.extend_from_slice(bytes)
+    out.put(b"\"");
+    write_escaped(text, out);
+    out.put(b"\"");
 }
 
-/// Writes a text as a JSON string.
-pub fn write_quoted(alloc: Global, text: &str, out: &mut Vec<u8>) -> Result<(), AllocError>
-    ensures { WritesText result out.old.items out.new.items (quoted text.now) }
+/// Writes what stands for a text in a JSON string.
+pub fn write_escaped<S: TextSink>(text: &[u8], out: &mut S)
+    ensures { S.puts out.old out.new (escape text.now) }
 {
-    if !is_plain(text.as_bytes()) {
-        let made = quoted_of(alloc, text)?;
-        return append(&made, out);
+    if is_plain(text) {
+        out.put(text);
+    } else {
+        write_runs(text, out);
     }
-    append(b"\"", out)?;
-    append(text.as_bytes(), out)?;
-    append(b"\"", out)
+}
+
+// Writes runs of bytes that need no escape, and what stands for the bytes between them.
+fn write_runs<S: TextSink>(text: &[u8], out: &mut S)
+    ensures { S.puts out.old out.new (escape text.now) }
+{
+    let mut rest = text;
+    loop {
+        let (run, after) = rest.split_at(run_len(rest));
+        out.put(run);
+        let [byte, more @ ..] = after else {
+            return;
+        };
+        write_byte(*byte, out);
+        rest = more;
+    }
+}
+
+// How many bytes before the first that needs an escape.
+fn run_len(text: &[u8]) -> usize
+    ensures within { result ≤ length text.now }
+    ensures plain { PlainBetween text.now 0 result }
+{
+    let mut at = 0;
+    while text.len() - at >= 32 {
+        if !plain_32(text, at) {
+            break;
+        }
+        at += 32;
+    }
+    while at < text.len() {
+        let byte = text[at];
+        if byte == b'"' || byte == b'\\' || byte < 0x20 {
+            break;
+        }
+        at += 1;
+    }
+    at
+}
+
+// Writes what stands for a byte.
+#[tactic(auto, unfolding(json::specs::Print::escape_byte))]
+fn write_byte<S: TextSink>(byte: u8, out: &mut S)
+    ensures { S.puts out.old out.new (escape_byte byte) }
+{
+    let letter = escape_letter(byte);
+    if letter > 0 {
+        out.put(&[b'\\', letter]);
+    } else if byte < 32 {
+        out.put(&[b'\\', b'u', b'0', b'0', digit(byte / 16), digit(byte % 16)]);
+    } else {
+        out.put(&[byte]);
+    }
+}
+
+// The letter of a byte's short escape, or 0 where it has none.
+fn escape_letter(byte: u8) -> u8
+    ensures { result ≡ escape_letter byte }
+{
+    if byte == b'"' || byte == b'\\' {
+        byte
+    } else if byte == 8 {
+        b'b'
+    } else if byte == 12 {
+        b'f'
+    } else if byte == b'\n' {
+        b'n'
+    } else if byte == b'\r' {
+        b'r'
+    } else if byte == b'\t' {
+        b't'
+    } else {
+        0
+    }
+}
+
+// A hexadecimal digit.
+fn digit(value: u8) -> u8
+    requires { value < 16 }
+    ensures { result ≡ digit_char value }
+{
+    if value < 10 {
+        b'0' + value
+    } else {
+        b'a' - 10 + value
+    }
 }
 
 /// A text as a JSON string.

@@ -1,5 +1,5 @@
 -- The text that a line gets. This project's own.
-use Rattle.std.specs.Prelude.{◌≡◌, ℕ, List, [], ◌∷◌, ◌++◌, Bool, true, Option, Some, None, Result, IfOk, OnOk}
+use Rattle.std.specs.Prelude.{◌≡◌, ℕ, List, [], ◌∷◌, ◌++◌, Bool, true, Option, Some, None}
 use Rattle.json.specs.Print.{quoted}
 use Rattle.serde_json.specs.Data.{Data}
 use Rattle.serde_json.specs.Written.{comma_if, compact_text}
@@ -8,14 +8,6 @@ use Rattle.tl_schema.specs.Schemas.{Declared}
 use Rattle.tl_types.specs.Values.{ValueView}
 use Rattle.tl_show.specs.Shown.{shown}
 use Rattle.tl_show.specs.inner.Forms.{FormView, written}
-
--- this text was appended
-abbrev pub WritesText : {E : Type 0} → Result (Unit {0}) E → List ℕ → List ℕ → List ℕ → Type 0
-WritesText r old new text = OnOk r (new ≡ old ++ text)
-
--- the text of this JSON
-abbrev pub WritesData : {E : Type 0} → Result (Unit {0}) E → List ℕ → List ℕ → Data → Type 0
-WritesData r old new d = WritesText r old new (compact_text d)
 
 -- a key with its colon, and a comma before it where a member stands before
 abbrev pub key_text : Bool → List ℕ → List ℕ
@@ -31,9 +23,9 @@ abbrev pub later_after : Bool → Option Data → Bool
 later_after later None = later
 later_after later (Some d) = true
 
--- the member was appended, and that is told
-abbrev pub WritesMember : {E : Type 0} → Result Bool E → Bool → List ℕ → List ℕ → List ℕ → Option Data → Type 0
-WritesMember r later old new k d = IfOk r (λ now. (now ≡ later_after later d) × (new ≡ old ++ member_text later k d))
+-- the member was put, and that is told
+abbrev pub PutsMember : {S : Type 0} → (S → S → List ℕ → Type 0) → Bool → Bool → S → S → List ℕ → Option Data → Type 0
+PutsMember puts now later old new k d = (now ≡ later_after later d) × puts old new (member_text later k d)
 
 -- what is written by these forms is the text of what is shown
 abbrev pub PrintAsShown : Declared → List FormView → Type 0

@@ -1,4 +1,4 @@
-use Rattle.std.proofs.Common.{refl, ap, ◌∙◌}
+use Rattle.std.proofs.Common.{ap, ◌∙◌}
 use Rattle.tl_show.specs.Shown.{name_text}
 use Rattle.tl_show.proofs.FieldsPut.{puts_more, puts_name}
 use Rattle.tl_show.proofs.forms.parts_of.Goals as goal
