@@ -1,15 +1,14 @@
 -- What an entry adds to a draft.
-use Rattle.std.proofs.Common.{◌≡◌, ℕ, ℤ, zero, suc, ◌+◌, ◌<◌, ◌≤◌, List, [], ◌∷◌, ◌++◌, Bool, true, false, ltb, Option, Some, None, Result, Ok, Err, if◌then◌else◌, length, refl, sym, ap, ap₂, ◌∙◌, subst, arith, append_assoc, append-nil, inl, inr, ◌||◌, ◌⊎◌, eqb, drop, get_or}
+use Rattle.std.proofs.Common.{◌≡◌, ℕ, ℤ, ◌+◌, ◌<◌, ◌≤◌, List, [], ◌∷◌, ◌++◌, Bool, true, false, ltb, Some, Ok, Err, if◌then◌else◌, length, refl, sym, ap, ◌∙◌, subst, arith, append_assoc, append-nil, inl, inr, ◌||◌, ◌⊎◌, eqb, drop, get_or}
 use Rattle.std.specs.List.{list_any}
 use Rattle.std.specs.Ordering.{int_eq}
 use Rattle.std.proofs.lemmas.Bool.Decides.{nat_tests}
 use Rattle.std.proofs.lemmas.List.{length_push, length-append}
 use Rattle.box_events.specs.declared.limits.TheConstants.{MAX_END, MAX_IDS}
 use Rattle.box_events.specs.declared.positions.LaneName.{LaneName}
-use Rattle.box_events.specs.declared.positions.LaneName.TheVariants.{Common, Secret, Channel, Seq}
+use Rattle.box_events.specs.declared.positions.LaneName.TheVariants.{Common, Secret, Channel}
 use Rattle.box_events.specs.declared.requests.Post.{Post}
 use Rattle.box_events.specs.declared.settings.Setting.{Setting}
-use Rattle.box_events.specs.declared.updates.Update.{Update}
 use Rattle.box_events.specs.declared.updates.Update.TheVariants.{Common as CommonUpdate, Secret as SecretUpdate, Channel as ChannelUpdate, Setting as SettingUpdate}
 use Rattle.box_events.specs.Events.{EventView, added, count_of}
 use Rattle.box_events.specs.Boxes.{ending}
@@ -138,15 +137,8 @@ adds_channel s old new id e end same a us f =
 pub seq_end : (s : ServerState) (d : Draft) → Fits s d → d.seq ≡ length (s.settings ++ d.settings.items)
 seq_end s d f = let sum = length-append s.settings d.settings.items in omega (arith, f.seq, sum)
 
-past : (a b : ℕ) → a ≤ b → ltb a (b + 1) ≡ true
-past a b le = grind (arith, nat_tests)
-
 not_past : (a b : ℕ) → b < a → ltb a (b + 1) ≡ false
 not_past a b lt = grind (arith, nat_tests)
-
-pub refuses_setting : (s : ServerState) (old new : Draft) (x : Setting) → MAX_END ≤ old.seq → Fits s old → Adds s old new (to_settings x) (Err (BoxFull Seq old.seq))
-refuses_setting s old new x full f =
-    inr (ap (BoxFull Seq) (seq_end s old f), ap (λ (n : ℕ). ltb MAX_END (n + 1)) (sym (seq_end s old f)) ∙ past MAX_END old.seq full)
 
 pub adds_setting : (s : ServerState) (old new : Draft) (x : Setting) (date : ℕ) → new ≡ record old { seq = new.seq; settings = new.settings; updates = new.updates } → old.seq < MAX_END → date ≡ old.date → new.seq ≡ old.seq + 1 → new.settings.items ≡ old.settings.items ++ dated_with date x ∷ []
     → new.updates ≡ old.updates ++ SettingUpdate x ∷ [] → Fits s old → AddsEntry s old new (to_settings x)

@@ -1,20 +1,15 @@
 -- The places of keys, as calls change them.
-use Rattle.std.proofs.Common.{◌≡◌, ℕ, zero, suc, ◌+◌, ◌≤◌, ◌<◌, List, [], ◌∷◌, ◌++◌, Bool, true, false, cond, ◌||◌, Option, Some, None, Vec, is_some, length, take, drop, slice_get, IsSome, get_or, map as each, refl, sym, ap, ap₂, ◌∙◌, subst, arith, append_assoc, append-nil, inl, inr}
+use Rattle.std.proofs.Common.{◌≡◌, ℕ, zero, suc, ◌+◌, ◌≤◌, ◌<◌, List, [], ◌∷◌, ◌++◌, Bool, true, false, cond, Option, Some, None, Vec, is_some, length, take, IsSome, get_or, refl, sym, ap, ◌∙◌, subst, arith, append_assoc, append-nil}
 use Rattle.std.specs.BTreeMap.{BTreeMap, UpdatesBy}
-use Rattle.std.specs.List.{All}
 use Rattle.std.specs.Map.{KeepsOthers}
-use Rattle.std.specs.Cmp.{eq_by_cmp_equiv}
-use Rattle.std.specs.Ordering.{nat_cmp, is_eq}
-use Rattle.std.specs.Cmp.Lexicographic.{slice_cmp, nat_list_cmp_total}
-use Rattle.std.specs.FinMap.{get, insert, len, len-insert, slice_cmp-IsAntisymmetric, nat_cmp-IsAntisymmetric}
-use Rattle.std.proofs.lemmas.Bool.{cases_lt}
+use Rattle.std.specs.FinMap.{slice_cmp-IsAntisymmetric, nat_cmp-IsAntisymmetric}
 use Rattle.std.proofs.lemmas.Option.{slice_get-get_or}
-use Rattle.std.proofs.lemmas.List.{get_or_append_left, get_or_push, length_push, take_more, length-append, nil_from_length}
-use Rattle.std.proofs.lemmas.List.Elements.{All-nil, All-push, All-weaker, All-head, All-tail}
-use Rattle.box_events.specs.declared.limits.TheConstants.{MAX_END, MAX_KEYS}
+use Rattle.std.proofs.lemmas.List.{get_or_append_left, get_or_push, length_push, take_more}
+use Rattle.std.proofs.lemmas.List.Elements.{All-push, All-weaker, All-head, All-tail}
+use Rattle.box_events.specs.declared.limits.TheConstants.{MAX_END}
 use Rattle.box_events.specs.SettingLists.{Dated, same_key, or_else, last_of}
 use Rattle.box_events.proofs.LastSettings.{last_append}
-use Rattle.box_server.specs.inner.LastIndexes.{Indexes, entry_at, found, place_in, index_in, ShowsLast, AreWithin, IsIndexed, SameIndexes, HavePlaces}
+use Rattle.box_server.specs.inner.LastIndexes.{Indexes, entry_at, found, place_in, index_in, ShowsLast, AreWithin, SameIndexes, HavePlaces}
 use Rattle.box_server.proofs.LastLists.{order, eq_of}
 
 pub same_is : (q k : List ℕ) → same_key q k ≡ true → q ≡ k
@@ -49,15 +44,9 @@ pub places_kept : {A : Type 0} (key : List ℕ) (old new : Indexes A) (x : Optio
 places_kept key old new x ds is h =
     All-weaker (λ (e : Dated). IsSome (place_in old e.setting.key)) (λ (e : Dated). IsSome (place_in new e.setting.key)) (λ e some. ap is_some (is e.setting.key) ∙ some_by (same_key e.setting.key key) x (place_in old e.setting.key) some) ds h
 
-pub same_itself : (k : List ℕ) → same_key k k ≡ true
-same_itself k = let e = eq_by_cmp_equiv nat_list_cmp_total in e.refl k
-
 pub places_more : {A : Type 0} (es : Indexes A) (ds : List Dated) (i : ℕ) (d : Dated) → i < length ds → d ≡ get_or ds i d → IsSome (place_in es d.setting.key) → HavePlaces es (take i ds) → HavePlaces es (take (i + 1) ds)
 places_more es ds i d less is some h =
     subst (HavePlaces es) (sym (take_more ds i d less ∙ ap (λ (x : Dated). take i ds ++ x ∷ []) (sym is))) (All-push (λ (e : Dated). IsSome (place_in es e.setting.key)) (take i ds) d h some)
-
-pub placed_there : {A : Type 0} (key : List ℕ) (old new : Indexes A) (x : Option ℕ) → ((q : List ℕ) → place_in new q ≡ cond (same_key q key) (Some x) (place_in old q)) → IsSome (place_in new key)
-placed_there key old new x is = ap is_some (is key ∙ ap (λ (t : Bool). cond t (Some x) (place_in old key)) (same_itself key))
 
 -- ---- settings that are noted one by one
 

@@ -1,5 +1,5 @@
 -- The channels that posts open.
-use Rattle.std.proofs.Common.{◌≡◌, ℕ, ℤ, ◌+◌, ◌<◌, ◌≤◌, List, [], ◌∷◌, ◌++◌, Bool, true, false, ltb, ◌||◌, Option, Some, None, if◌then◌else◌, length, map as each, refl, sym, ap, ◌∙◌, subst, arith}
+use Rattle.std.proofs.Common.{◌≡◌, ℕ, ℤ, ◌<◌, ◌≤◌, List, [], ◌∷◌, ◌++◌, Bool, true, false, ltb, ◌||◌, Some, if◌then◌else◌, length, refl, sym, ap, ◌∙◌, arith}
 use Rattle.std.specs.List.{list_any}
 use Rattle.std.specs.Ordering.{int_eq}
 use Rattle.std.proofs.lemmas.Bool.Decides.{nat_tests}
@@ -32,12 +32,6 @@ ids_by c cs id e false is rest =
 pub ids_with : (cs : List ChannelBox) (id : ℤ) (e : EventView) → ids_in (with_event cs id e) ≡ (if list_any (λ i. int_eq i id) (ids_in cs) then ids_in cs else ids_in cs ++ id ∷ [])
 ids_with [] id e = refl
 ids_with (c ∷ cs) id e = ids_by c cs id e (int_eq c.id id) refl (ids_with cs id e)
-
-pub none_noted : (ids : List ℤ) (x : Entry) → None ≡ channel_of x → NotesId ids ids x
-none_noted ids (to_common e) is s has = has
-none_noted ids (to_secret body) is s has = has
-none_noted ids (to_channel id e) is s has = absurd cc
-none_noted ids (to_settings x) is s has = has
 
 pub known_noted : (ids : List ℤ) (id : ℤ) (x : Entry) → Some id ≡ channel_of x → true ≡ list_any (λ i. int_eq i id) ids → NotesId ids ids x
 known_noted ids id (to_common e) is there s has = absurd cc

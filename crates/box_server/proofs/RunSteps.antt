@@ -24,9 +24,6 @@ pub record Stands (b : BoxView) (at : ℕ) (rest : List EventView) : Type 0 wher
   pub whole : b.events ≡ prefix ++ rest
   pub place : at ≡ b.first + ending prefix
 
-first_of : (x y : EventView) (xs ys : List EventView) → x ∷ xs ≡ y ∷ ys → x ≡ y
-first_of x y xs ys e = cc
-
 -- the event that is found there is the next
 pub next_is : (b : BoxView) (at : ℕ) (rest : List EventView) (e : EventView) → AreCounted b.events → Stands b at rest → EventAt b at (Some e) → (more : List EventView) × (rest ≡ e ∷ more)
 next_is b at rest e c s found =

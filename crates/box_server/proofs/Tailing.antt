@@ -1,11 +1,9 @@
 -- The tails of channels.
-use Rattle.std.proofs.Common.{◌≡◌, ℕ, ℤ, zero, suc, ◌+◌, ◌<◌, ◌≤◌, List, [], ◌∷◌, ◌++◌, Bool, true, false, ltb, Option, Some, None, Result, Ok, Err, if◌then◌else◌, length, get_or, set, refl, sym, ap, ap₂, ◌∙◌, subst, arith, append_assoc, append-nil}
+use Rattle.std.proofs.Common.{◌≡◌, ℕ, ℤ, suc, ◌+◌, ◌<◌, List, [], ◌∷◌, ◌++◌, Bool, true, false, ltb, Some, None, Result, Ok, Err, if◌then◌else◌, length, get_or, set, refl, sym, ap, ◌∙◌, subst, arith}
 use Rattle.std.specs.Ordering.{int_eq}
 use Rattle.box_events.specs.declared.limits.TheConstants.{MAX_END}
-use Rattle.box_events.specs.declared.positions.LaneName.{LaneName}
 use Rattle.box_events.specs.declared.positions.LaneName.TheVariants.{Channel}
 use Rattle.box_events.specs.Events.{EventView, count_of}
-use Rattle.box_events.specs.Boxes.{ending}
 use Rattle.box_server.specs.declared.fault.PostFault.{PostFault}
 use Rattle.box_server.specs.Servers.{ChannelBox, channel_end, channel_in, empty_channel}
 use Rattle.box_server.specs.Posting.{with_event}
@@ -88,8 +86,3 @@ added_new old new id e c d end is empty put a =
       a.1 ∙ ap (λ (x : ChannelBox). channel_end x + count_of e) (sym there),
       ap (λ (x : ChannelBox). ltb MAX_END (channel_end x + count_of e)) there ∙ a.2,
     )
-
-pub refused_new : (old new : List ChannelBox) (id : ℤ) (e : EventView) (c d : ChannelBox) (f : PostFault) → place_from 0 id old ≡ None → c ≡ empty_channel id → AddsTo (Channel id) c d e (Err f) → AddsToChannel old new id e (Err f)
-refused_new old new id e c d f is empty a =
-    let k = not_at 0 id old e is in
-    subst (λ (x : ChannelBox). AddsTo (Channel id) x d e (Err f)) (empty ∙ sym k.0) a

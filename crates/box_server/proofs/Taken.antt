@@ -1,8 +1,8 @@
 -- A server that takes a draft.
-use Rattle.std.proofs.Common.{◌≡◌, ℕ, ℤ, ◌+◌, ◌<◌, ◌≤◌, List, [], ◌∷◌, ◌++◌, Bool, true, false, cond, eqb, ltb, Option, Some, None, Result, Ok, Err, if◌then◌else◌, length, map as each, refl, sym, ap, ap₂, ◌∙◌, subst, arith, append_assoc, append-nil, inl, inr, T, ◌&&◌}
+use Rattle.std.proofs.Common.{◌≡◌, ℕ, ℤ, ◌+◌, ◌<◌, ◌≤◌, List, [], ◌∷◌, ◌++◌, Bool, true, false, cond, eqb, ltb, Option, Some, None, Result, Ok, Err, if◌then◌else◌, length, map as each, refl, sym, ap, ◌∙◌, subst, arith, append-nil, inl, inr, T, ◌&&◌}
 use Rattle.std.specs.BTreeMap.{insert_entry}
 use Rattle.std.specs.Map.{lookup, remove_entry, keys_of}
-use Rattle.std.specs.List.{AllByRecursion, list_any}
+use Rattle.std.specs.List.{AllByRecursion}
 use Rattle.std.specs.List.Sorted.{IsStrictlySortedBy}
 use Rattle.std.specs.Ordering.{int_cmp, is_eq, is_lt, match_ordering}
 use Rattle.std.specs.declared.cmp.Ordering.{Ordering}
@@ -12,35 +12,33 @@ use Rattle.std.specs.FinMap as map
 use Rattle.std.specs.FinMap.Entries.{by_order, below_all, find, put, is_sorted}
 use Rattle.std.proofs.lemmas.Bool.Decides.{nat_tests}
 use Rattle.std.proofs.lemmas.List.{length-append, length-map}
-use Rattle.box_events.specs.declared.limits.TheConstants.{MAX_END, MAX_CHANNELS, MAX_KEYS, MAX_IDS}
+use Rattle.box_events.specs.declared.limits.TheConstants.{MAX_END, MAX_CHANNELS, MAX_KEYS}
 use Rattle.box_events.specs.declared.positions.Receipt.{Receipt}
 use Rattle.box_events.specs.declared.requests.Post.{Post}
 use Rattle.box_events.specs.declared.settings.Setting.{Setting}
-use Rattle.box_events.specs.declared.updates.Update.{Update}
-use Rattle.box_events.specs.declared.updates.Push.{Push}
 use Rattle.box_events.specs.declared.updates.Push.TheVariants.{Container}
 use Rattle.box_events.specs.SettingLists.{Dated, or_else}
 use Rattle.box_server.specs.declared.draft.Draft.{Draft}
 use Rattle.box_server.specs.declared.fault.PostFault.{PostFault}
 use Rattle.box_server.specs.declared.fault.PostFault.TheVariants.{TooManyChannels, TooManySettings, Memory}
 use Rattle.box_server.specs.declared.posted.Posted.{Posted}
-use Rattle.box_server.specs.Servers.{ChannelBox, ServerState, channel_end, Receipts}
-use Rattle.box_server.specs.Entries.{Entry, entries_of, is_event}
+use Rattle.box_server.specs.Servers.{ChannelBox, ServerState, channel_end}
+use Rattle.box_server.specs.Entries.{Entry, entries_of}
 use Rattle.box_server.specs.LastEntries.{keys_in}
 use Rattle.box_server.specs.Posting.{applied_all, cut, received, receipt_of, posted, push_of, settings_of, dated_with, first_number, last_number, updates_of}
 use Rattle.box_server.specs.Refusing.{first_cause, bad_entries, too_many, box_full, post_cause}
-use Rattle.box_server.specs.Receiving.{answer_by, state_by, post_answer, after_post, Receives}
+use Rattle.box_server.specs.Receiving.{answer_by, state_by, Receives}
 use Rattle.box_server.specs.inner.Drafted.{Fits, joined, joined_channels, AreAligned, IsBlank, Drafts}
 use Rattle.box_server.specs.inner.Rooms.{numbers_of, blank_tail}
 use Rattle.box_server.specs.inner.Taking.{CountsKeys, Takes, with_draft}
-use Rattle.box_server.proofs.Soundness.{no_cause, posted_sound}
+use Rattle.box_server.proofs.Soundness.{posted_sound}
 use Rattle.box_events.specs.Boxes.{ending}
 use Rattle.box_events.specs.BoxViews.{BoxView, end_of}
-use Rattle.box_events.specs.Events.{EventView, count_of}
+use Rattle.box_events.specs.Events.{EventView}
 use Rattle.box_server.proofs.LastLists.{eq_of}
 use Rattle.box_server.specs.Sound.{IsSound}
 use Rattle.box_server.specs.declared.server.Server.TheInside.{Inside}
-use Rattle.box_server.specs.inner.Insides.{channel_view, server_view, IsServer}
+use Rattle.box_server.specs.inner.Insides.{channel_view, server_view}
 use Rattle.box_server.proofs.Drafting.{common_end, secret_end, seq_end}
 use Rattle.box_server.proofs.Growths.{settings_after}
 
@@ -180,9 +178,6 @@ numbers_are s xs t is =
     (ap (λ (u : ServerState). length u.settings) is ∙ ap length (settings_after s xs) ∙ length-append s.settings (each (dated_with s.date) (settings_of xs)) ∙ ap (λ (n : ℕ). length s.settings + n) (length-map (settings_of xs) (dated_with s.date)))
     ∙ numbers_by (length s.settings) (settings_of xs)
 
-receipt_same : (t : ServerState) (random_id : ℤ) → receipt_of (received (record t { channels = each cut t.channels }) random_id) ≡ receipt_of t
-receipt_same t random_id = refl
-
 pub receives_new : (s t : ServerState) (random_id : ℤ) (posts : List Post) (d : Draft) (p : Posted) → map.get s.receipts random_id ≡ None → post_cause s posts ≡ None → joined s d ≡ applied_all s (entries_of posts) → d.updates ≡ updates_of s (entries_of posts)
     → t ≡ with_draft s random_id d
     → p ≡ record { receipt = receipt_of (joined s d); push = Some (Container d.updates s.date (numbers_of (length s.settings) (length (joined s d).settings)).0 (numbers_of (length s.settings) (length (joined s d).settings)).1) }
@@ -213,17 +208,7 @@ more_keys s t keys few is channels number lt =
     ap (λ (b : Bool). if b then Some TooManyChannels else first_cause ((ltb MAX_KEYS (keys_in t.settings), TooManySettings) ∷ [])) (sym channels ∙ is)
     ∙ ap (λ (b : Bool). if b then Some TooManySettings else None) (too_many_of (keys_in t.settings) (omega (arith, lt, number)))
 
-pub more_channels : (t : ServerState) (many : Bool) → many ≡ true → many ≡ ltb MAX_CHANNELS (length t.channels) → first_cause (too_many t) ≡ Some TooManyChannels
-more_channels t many is channels = ap (λ (b : Bool). if b then Some TooManyChannels else first_cause ((ltb MAX_KEYS (keys_in t.settings), TooManySettings) ∷ [])) (sym channels ∙ is)
-
 -- ---- the fields of a server
-
-pub same_view : (i new : Inside) → new.date ≡ i.date → new.common.events ≡ i.common.events → new.secret.events ≡ i.secret.events → each channel_view new.channels.items ≡ each channel_view i.channels.items → new.settings ≡ i.settings → map.from_sorted {R = int_cmp} new.receipts.entries ≡ map.from_sorted i.receipts.entries
-    → server_view new ≡ server_view i
-same_view i new date common secret channels settings receipts = λ j. record { date = date j; common = common j; secret = secret j; channels = channels j; settings = settings j; receipts = receipts j }
-
-pub same_server : (i new : Inside) → IsServer i → server_view new ≡ server_view i → new.common.first ≡ i.common.first → new.secret.first ≡ i.secret.first → IsStrictlySortedBy int_cmp (keys_of new.receipts.entries) → IsServer new
-same_server i new h view common secret order = record { sound = subst IsSound (sym view) h.sound; common = common ∙ h.common; secret = secret ∙ h.secret; order = order }
 
 pub taken_view : (i new : Inside) (d : Draft) (random_id : ℤ) (receipt : Receipt) → Fits (server_view i) d → new.date ≡ i.date → new.common.events ≡ i.common.events ++ d.common.events → new.secret.events ≡ i.secret.events ++ d.secret.events
     → each channel_view new.channels.items ≡ each cut (joined_channels (each channel_view i.channels.items) d.channels.items) → new.settings ≡ i.settings ++ d.settings.items
@@ -248,9 +233,6 @@ receipts_more es new k a v first s t put = receipt_put es new k v s t (put ∙ a
 pub known_at : (i : Inside) (s : ServerState) (k a : ℤ) (o : Option Receipt) → server_view i ≡ s → a ≡ k → IsStrictlySortedBy int_cmp (keys_of i.receipts.entries) → o ≡ lookup (λ q. is_eq (int_cmp a q)) i.receipts.entries → map.get s.receipts k ≡ o
 known_at i s k a o view same order is =
     ap (λ (t : ServerState). map.get t.receipts k) (sym view) ∙ receipt_at i.receipts.entries k order ∙ ap (λ (z : ℤ). lookup (λ q. is_eq (int_cmp z q)) i.receipts.entries) (sym same) ∙ sym is
-
-pub have_ids : (posts : List Post) → first_cause (bad_entries (entries_of posts)) ≡ None → (list_any (is_event (λ e. eqb (count_of e) 0)) (entries_of posts) ≡ false) × (list_any (is_event (λ e. ltb MAX_IDS (count_of e))) (entries_of posts) ≡ false)
-have_ids posts none = let bad = no_cause (bad_entries (entries_of posts)) none in (bad.1.1.0, bad.1.1.1.0)
 
 pub keys_refused : (s : ServerState) (random_id : ℤ) (posts : List Post) (f : PostFault) → map.get s.receipts random_id ≡ None → first_cause (bad_entries (entries_of posts)) ≡ None → CountsKeys s posts (Err f) → Receives s random_id posts (Err f) s
 keys_refused s random_id posts f fresh bad (inl memory) = receives_nothing s s random_id posts f memory refl

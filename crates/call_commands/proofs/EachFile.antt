@@ -9,7 +9,7 @@ use Rattle.tl_schema.specs.CheckedPrograms.{IsSchema}
 use Rattle.tl_calls.specs.Events.{Logged, Log}
 use Rattle.outside.specs.Answer.{Answer, done, refused_after}
 use Rattle.schema_files.specs.Lines.{input_line}
-use Rattle.call_commands.specs.CallReports.{Began, one_more, HasPacket, Tells, ContentRefused, PacketRefused, bad_length, ended, too_long, content, Next, nothing, a_line}
+use Rattle.call_commands.specs.CallReports.{Began, one_more, HasPacket, Tells, PacketRefused, bad_length, ended, too_long, content, Next, nothing, a_line}
 use Rattle.call_commands.specs.CallReports as reports
 use Rattle.call_commands.specs.Calls.{OfPackets, told, no_packet}
 use Rattle.call_commands.specs.declared.limits.TheConstants.{MAX_PACKET_END}

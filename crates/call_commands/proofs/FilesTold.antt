@@ -40,18 +40,18 @@ use Rattle.schema_files.specs.Lines.{input_line, schema_line}
 use Rattle.schema_files.specs.Loaded.{IsSchemaText}
 use Rattle.schema_files.specs.declared.schema_text.TheConstants.{SCHEMA_BYTES}
 use Rattle.schema_files.proofs.Answering.{of_schema}
-use Rattle.call_commands.specs.CallReports.{Began, HasPacket, Tells, ContentRefused, PacketRefused, Next}
+use Rattle.call_commands.specs.CallReports.{Began, HasPacket, Tells, PacketRefused, Next}
 use Rattle.call_commands.specs.CallReports as reports
 use Rattle.call_commands.specs.Calls.{OfInputFile, OfPackets, CallsAnswer}
 use Rattle.call_commands.specs.Calls as answers
 use Rattle.call_commands.proofs.EachFile.{output_after}
 use Rattle.call_commands.proofs.OneCalls.{one_calls}
-use Rattle.codec_rooms.specs.Laws.{IsAnswer, EndsAs}
+use Rattle.codec_rooms.specs.Laws.{EndsAs}
 use Rattle.codec_rooms.specs.Typed.{OfText, no_schema, schema_of, after_schema}
 use Rattle.codec_rooms.proofs.FileLaws.{run_done}
 use Rattle.codec_rooms.proofs.TypedFiles.{text_stays}
 use Rattle.call_commands.specs.CallsWork.{SoFar, so_far, Last, TellsRefusal, after_line, end_of, OfPacket, too_long, no_packet, told, after_packet, TellsNext, TellsPackets, after_opening, OfInput, tells_calls}
-use Rattle.call_commands.specs.CallsLaws.{EndsByAnswer, EndsFilesOfBytes}
+use Rattle.call_commands.specs.CallsLaws.{EndsFilesOfBytes}
 use Rattle.call_commands.specs.Commands.{calls}
 use Rattle.call_commands.proofs.CallingLaws.{calls_reads}
 
@@ -416,14 +416,6 @@ module _ (schema input : List ℕ) where
       read_end h.between h.first h.rest r a parts.0 b h.does h.goes parts.1 parts.2
 
   -- ---- the laws
-
-  answer_of : (r : Status) (a b : Outside) → EndsCalls r a b → IsAnswer r → (x : Answer) × CallsAnswer a.view.files schema input x × (r ≡ x.status) × (output_of b ≡ output_of a ++ x.output)
-  answer_of r a b (unread e) is = absurd (is.0 e)
-  answer_of r a b (unwritten e written no_room begins) is = absurd (is.1 e)
-  answer_of r a b (ends x of e) is = (x, of, e.0, e.1)
-
-  pub calls_answers : EndsByAnswer (calls schema input)
-  calls_answers t r a b run f is = answer_of r a b (calls_end t r a b (run_done (tells_calls schema input) t r run is.2) f) is
 
   ends_as : (r : Status) (a b : Outside) (x : Answer) → EndsCalls r a b → (r ≡ status.ReadFault → ⊥) → IsReliable a → HoldBytes a.view.files → CallsAnswer a.view.files schema input x → HasRoom outs.Output (length x.output) a.view → EndsAs x r a b
   ends_as r a b x (unread e) readable reliable hold is room = absurd (readable e)

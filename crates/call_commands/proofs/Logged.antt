@@ -2,7 +2,7 @@
 use Rattle.std.proofs.Common.{ℕ, List, refl, sym, subst}
 use Rattle.tl_schema.specs.Schemas.{Declared}
 use Rattle.tl_calls.specs.Events.{Logged, Log, Gives}
-use Rattle.call_commands.specs.CallReports.{Began, none, one_more, Tells, HasPacket}
+use Rattle.call_commands.specs.CallReports.{none, one_more, Tells}
 use Rattle.call_commands.specs.CallReports as report
 use Rattle.call_commands.specs.Calls.{EachLogIsGiven}
 

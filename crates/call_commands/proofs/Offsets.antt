@@ -8,7 +8,7 @@ use Rattle.tl_schema.specs.Types as type
 use Rattle.tl_schema.specs.Closing.{closed, list_of_shapes}
 use Rattle.tl_schema.specs.Schemas.{Slot, Declared}
 use Rattle.tl_types.specs.Values.{ValueView}
-use Rattle.tl_types.specs.Refusal.{Short, TextRefused, NumberRefused, PartRefused, EachRefused, FieldsRefused, ListRefused, Refused}
+use Rattle.tl_types.specs.Refusal.{TextRefused, NumberRefused, PartRefused, EachRefused, FieldsRefused, ListRefused, Refused}
 use Rattle.tl_types.specs.Refusal as kind
 use Rattle.tl_types.specs.declared.cause.Cause.{Cause}
 

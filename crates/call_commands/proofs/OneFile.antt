@@ -1,5 +1,5 @@
 -- What is told of a file is one: its packets are told in one way, to its end or to one that is refused.
-use Rattle.std.proofs.Common.{◌≡◌, inl, inr, ℕ, ◌+◌, ◌<◌, ◌≤◌, List, [], ◌∷◌, ◌++◌, append_assoc, length, length-append, Some, refl, sym, ap, ap₂, ◌∙◌, subst, arith, codes, decimal}
+use Rattle.std.proofs.Common.{◌≡◌, inl, inr, ℕ, ◌+◌, ◌<◌, ◌≤◌, List, [], ◌∷◌, ◌++◌, append_assoc, length, length-append, refl, sym, ap, ap₂, ◌∙◌, subst, arith, codes, decimal}
 use Rattle.std.proofs.lemmas.Bool.{cases_lt}
 use Rattle.tl_numbers.specs.Bytes.{AreBytes}
 use Rattle.tl_numbers.specs.Numbers.{word}

@@ -20,7 +20,7 @@ use Rattle.outside.specs.Packets as taken
 use Rattle.outside.specs.Pieces.{Writes}
 use Rattle.outside.specs.Printing.{Prints}
 use Rattle.outside.specs.Begun.{Did, DidIn, to_output}
-use Rattle.outside.specs.Steps.{Step, again, leave, Begins, Grows, Loops, Reaches, Then}
+use Rattle.outside.specs.Steps.{Step, again, leave, Begins, Grows, Reaches, Then}
 use Rattle.outside.specs.Steps as steps
 use Rattle.outside.specs.declared.packets.Packet.{Packet}
 use Rattle.outside.proofs.TakenPackets.{may_packet}

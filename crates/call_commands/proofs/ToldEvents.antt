@@ -1,5 +1,5 @@
 -- Packets that are told: a call that is sent, the value that an answer gives, and an answer to no open call.
-use Rattle.std.proofs.Common.{◌≡◌, ◌≢◌, ℕ, ◌+◌, ◌<◌, ◌^◌, List, ◌++◌, length, codes, Option, Some, None, Result, Ok, Vec, Global, refl, sym, ap, ◌∙◌, subst, arith}
+use Rattle.std.proofs.Common.{◌≡◌, ◌≢◌, ℕ, ◌<◌, ◌^◌, List, ◌++◌, length, codes, Option, Some, None, Result, Ok, Vec, Global, refl, sym, ap, ◌∙◌, subst, arith}
 use Rattle.tl_numbers.specs.Numbers.{word}
 use Rattle.tl_schema.specs.Types as type
 use Rattle.tl_schema.specs.Schemas.{Declared}

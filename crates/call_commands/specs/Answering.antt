@@ -1,5 +1,5 @@
 -- What the parts of `calls` answer. This project's own.
-use Rattle.std.specs.Prelude.{◌≡◌, ℕ, ◌+◌, ◌<◌, ◌^◌, List, ◌∷◌, ◌++◌, Option, Some, None, Result, Ok, Err, Vec, codes, decimal}
+use Rattle.std.specs.Prelude.{◌≡◌, ℕ, ◌<◌, ◌^◌, List, ◌∷◌, ◌++◌, Option, Some, None, Result, Ok, Err, Vec, codes, decimal}
 use Rattle.std.specs.declared.alloc.Global.{Global}
 use Rattle.tl_base.specs.declared.packet.PacketFault.{PacketFault}
 use Rattle.tl_base.specs.declared.packet.PacketFault.TheVariants as packet_fault

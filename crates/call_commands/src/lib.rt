@@ -16,4 +16,4 @@ pub use laws::{each_file_has_one_answer, each_log_is_given, files_have_one_answe
 pub use limits::MAX_PACKET_END;
 pub use packets::tell_packet;
 pub use refusals::unpacked;
-pub use runs::{calls_answers, calls_ends, calls_has_cause, calls_reads, calls_touches};
+pub use runs::{calls_ends, calls_reads};

@@ -9,8 +9,8 @@ use Rattle.codec_commands.specs.Check.{listing}
 use Rattle.codec_commands.proofs.OneCheck.{one_check}
 use Rattle.codec_rooms.specs.Check.{checks, lists}
 use Rattle.codec_rooms.specs.Commands.{check}
-use Rattle.codec_rooms.specs.Laws.{Named, IsOf, Touches, AnswersFiles, ReadsFiles, EndsFiles}
-use Rattle.codec_rooms.proofs.FileLaws.{Comes, comes_print, touches, answers_files, reads_files, ends_files}
+use Rattle.codec_rooms.specs.Laws.{Named, IsOf, ReadsFiles, EndsFiles}
+use Rattle.codec_rooms.proofs.FileLaws.{Touches, Comes, comes_print, touches, reads_files, ends_files}
 use Rattle.codec_rooms.proofs.TypedFiles.{comes_of_file}
 use Rattle.codec_rooms.proofs.TypedLaws.{keeps_named, cause_of_file}
 
@@ -32,9 +32,6 @@ module _ (schema : List ℕ) where
   comes =
       comes_of_file (codes "schema") lists (λ S files a. a ≡ done (listing S.decls))
       (λ S t status s n h f. comes_print (λ a. a ≡ done (listing S.decls)) (done (listing S.decls)) t status refl h) Schema schema
-
-  pub check_answers : AnswersFiles (check schema)
-  check_answers = answers_files (check schema) comes (λ files. one_check files schema)
 
   pub check_reads : ReadsFiles (check schema)
   check_reads = reads_files (check schema) check_touches check_has_cause

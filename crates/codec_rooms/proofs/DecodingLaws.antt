@@ -12,11 +12,11 @@ use Rattle.tl_decode.specs.declared.whole.WholeFault.TheVariants as whole
 use Rattle.outside.specs.Answer.{Answer, done, refused}
 use Rattle.outside.specs.declared.status.Status.{Status}
 use Rattle.outside.specs.declared.status.Status.TheVariants as status
-use Rattle.outside.specs.Events.{Event, Outside, opened, took, ended, read_failed}
-use Rattle.outside.specs.Laws.{Happened, Throughout, Keeps, IsFailure, Explains, HasCause}
+use Rattle.outside.specs.Events.{Event, Outside, opened}
+use Rattle.outside.specs.Laws.{Happened, Keeps, IsFailure, Explains, HasCause}
 use Rattle.outside.specs.Runs.{Runs}
 use Rattle.outside.specs.Steps.{Turn, again, leave, Calls, Then}
-use Rattle.outside.proofs.Causing.{happened_last, keeps_then, keeps_call, keeps_loop, keeps_tell, keeps_print, cause_then, cause_print, cause_tell, cause_run, explains_last, told_status}
+use Rattle.outside.proofs.Causing.{happened_last, keeps_then, keeps_call, keeps_tell, keeps_print, cause_then, cause_print, cause_tell, cause_run, explains_last, told_status}
 use Rattle.outside.specs.Fits.{Fits}
 use Rattle.outside.proofs.Sparing.{IsReading}
 use Rattle.schema_files.specs.Lines.{cause_text, input_line, line_text}
@@ -25,8 +25,8 @@ use Rattle.codec_commands.specs.Typed.{OfType}
 use Rattle.codec_commands.proofs.OneDecode.{one_decode}
 use Rattle.codec_rooms.specs.Commands.{decode}
 use Rattle.codec_rooms.specs.Decode.{Verdict, Decides, faulty, longer, HasVerdict, cut_off, is_value, ReadsOn, more, decided, at_end, failed, ReadsValue, at_once, reads, answer_of, printed, after_reading, after_opening, OfBytes, decodes, decodes_by}
-use Rattle.codec_rooms.specs.Laws.{Named, IsRead, IsOf, Touches, AnswersFiles, ReadsFiles, EndsFiles}
-use Rattle.codec_rooms.proofs.FileLaws.{ComesTo, unread, Comes, comes_as, comes_print, comes_then, touches, answers_files, reads_files, ends_files}
+use Rattle.codec_rooms.specs.Laws.{Named, IsRead, IsOf, ReadsFiles, EndsFiles}
+use Rattle.codec_rooms.proofs.FileLaws.{Touches, ComesTo, unread, Comes, comes_as, comes_print, comes_then, touches, reads_files, ends_files}
 use Rattle.codec_rooms.proofs.InputRead.{keeps_value}
 use Rattle.codec_rooms.proofs.InputLeft.{left_is, value_meant}
 use Rattle.codec_rooms.proofs.TypedFiles.{comes_of_file, comes_word}
@@ -145,9 +145,6 @@ module _ (schema type input : List ℕ) where
   comes =
       comes_of_file (codes "schema") (decodes_by type input) (λ S files. OfType OfInput S type input files)
       (comes_word (OfBytes input) OfInput input (comes_bytes input) type) Schema schema
-
-  pub decode_answers : AnswersFiles (decode schema type input)
-  decode_answers = answers_files (decode schema type input) comes (λ files. one_decode files schema type input)
 
   pub decode_reads : ReadsFiles (decode schema type input)
   decode_reads = reads_files (decode schema type input) decode_touches decode_has_cause

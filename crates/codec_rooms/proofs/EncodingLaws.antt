@@ -15,9 +15,9 @@ use Rattle.codec_commands.specs.Typed.{OfType}
 use Rattle.codec_commands.proofs.OneEncode.{one_encode}
 use Rattle.codec_rooms.specs.Commands.{encode}
 use Rattle.codec_rooms.specs.Encode.{encodes, encodes_by}
-use Rattle.codec_rooms.specs.Laws.{Named, IsRead, IsOf, Touches, AnswersFiles, ReadsFiles, EndsFiles}
+use Rattle.codec_rooms.specs.Laws.{Named, IsRead, IsOf, ReadsFiles, EndsFiles}
 use Rattle.codec_rooms.specs.Typed.{OfInput}
-use Rattle.codec_rooms.proofs.FileLaws.{Comes, touches, answers_files, reads_files, ends_files}
+use Rattle.codec_rooms.proofs.FileLaws.{Touches, Comes, touches, reads_files, ends_files}
 use Rattle.codec_rooms.proofs.TypedFiles.{comes_of_file, comes_word, comes_input}
 use Rattle.codec_rooms.proofs.TypedLaws.{keeps_word, keeps_input, keeps_named, cause_of_file, cause_word, cause_input}
 
@@ -67,9 +67,6 @@ module _ (schema type input : List ℕ) where
   comes =
       comes_of_file (codes "schema") (encodes_by type input) (λ S files. OfType OfJson S type input files)
       (comes_word (OfInput OfJson input JSON_BYTES) OfJson input (λ D T. comes_input OfJson input JSON_BYTES D T (json_stays D T)) type) Schema schema
-
-  pub encode_answers : AnswersFiles (encode schema type input)
-  encode_answers = answers_files (encode schema type input) comes (λ files. one_encode files schema type input)
 
   pub encode_reads : ReadsFiles (encode schema type input)
   encode_reads = reads_files (encode schema type input) encode_touches encode_has_cause

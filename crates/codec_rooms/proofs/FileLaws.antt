@@ -5,9 +5,9 @@ use Rattle.tl_base.specs.Outside.{Written, IsThere, HasRoom, out_part, written_o
 use Rattle.tl_base.specs.declared.host.Slot.{Slot}
 use Rattle.tl_base.specs.declared.host.Out.{Out}
 use Rattle.tl_base.specs.declared.host.Out.TheVariants.{Output, Errors}
-use Rattle.outside.specs.Answer.{Answer, memory_line, write_fault_line}
+use Rattle.outside.specs.Answer.{Answer, memory_line}
 use Rattle.outside.specs.declared.status.Status.{Status}
-use Rattle.outside.specs.declared.status.Status.TheVariants.{ReadFault, WriteFault, Memory}
+use Rattle.outside.specs.declared.status.Status.TheVariants.{ReadFault, Memory}
 use Rattle.outside.specs.Events.{Event, Outside, opened, took, ended, read_failed, created, put, write_failed, listened, connected, accepted, told}
 use Rattle.outside.specs.Laws.{Happened, Throughout, Keeps, HasCause}
 use Rattle.outside.specs.Pieces.{Writes, Tells}
@@ -19,7 +19,7 @@ use Rattle.outside.specs.Fits.{Fits}
 use Rattle.outside.specs.Reliable.{IsReliable, IsMissing}
 use Rattle.outside.proofs.Fitting.{fits_both, fits_keeps, reads_fail_alone, reliable_on, writes_append, writes_fail_full}
 use Rattle.outside.proofs.Sparing.{IsReading, reading_leaves, writes_leave}
-use Rattle.codec_rooms.specs.Laws.{Named, Command, IsRead, IsOf, Touches, IsAnswer, AnswersFiles, AreThere, ReadsFiles, EndsAs, EndsFiles}
+use Rattle.codec_rooms.specs.Laws.{Named, Command, IsRead, IsOf, AreThere, ReadsFiles, EndsAs, EndsFiles}
 
 -- ---- what a command comes to
 
@@ -121,20 +121,16 @@ printed_after a first rest status s n reading h f r room =
       errors = λ fits. e.errors (omega (arith, fits, ap (λ (w : Written). length w.errors) left, kept.room)) ∙ ap (λ (w : Written). out_part Errors w ++ a.errors) left;
     }
 
-output_status : (a : Answer) (ok : Bool) (u : List Event) (status : Status) → after_output a ok u status → IsAnswer status → status ≡ a.status
-output_status a true u status h is = told_status a.errors a.status u status h
-output_status a false u status h is = absurd (is.1 (told_status write_fault_line WriteFault u status h))
-
-answer_status : (Is : Answer → Type 0) (t : List Event) (status : Status) → ComesTo Is t status → IsAnswer status → (a : Answer) × Is a × (status ≡ a.status)
-answer_status Is t status (unread e) is = absurd (is.0 e)
-answer_status Is t status (answered a first rest splits reading has h) is = (a, has, output_status a h.between h.rest status h.goes is)
-
 -- ---- the laws
 
 -- a run that memory didn't stop is the work
 pub run_done : {outs : List Out} (work : Step Status) (t : List Event) (status : Status) → RunsIn outs work t status → (status ≡ Memory → ⊥) → work t status
 run_done work t status (done h) other = h
 run_done work t status (out_of_memory h) other = absurd (other (told_status memory_line h.between h.rest status h.goes ∙ h.does.1))
+
+-- no run does anything but what is of the command, also one that runs out of memory
+abbrev pub Touches : Command → Type 0
+Touches c = (t : List Event) (status : Status) → RunsIn c.writes c.work t status → Throughout (IsOf c.reads) t
 
 module _ (c : Command) where
   pub touches : Keeps (IsOf c.reads) c.work → Touches c
@@ -147,11 +143,6 @@ module _ (c : Command) where
   reads_files touched cause t s n h f r there = none_missing s c.reads there t (touched t ReadFault h) (reads_fail_alone t s n f r (cause t ReadFault h))
 
   module _ (comes : Comes (λ s. c.answers s.view.files) c.work) (one : (files : Files) (a b : Answer) → c.answers files a → c.answers files b → a ≡ b) where
-    pub answers_files : AnswersFiles c
-    answers_files t status s n h f is =
-        let a = answer_status (c.answers s.view.files) t status (comes t status s n (run_done c.work t status h is.2) f) is in
-        (a.0, (a.1, λ b also. one s.view.files b a.0 also a.1), a.2)
-
     module _ (readable : ReadsFiles c) where
       ends_so : (t : List Event) (status : Status) (s n : Outside) (a : Answer) → ComesTo (c.answers s.view.files) t status → RunsIn c.writes c.work t status → Fits t s n → IsReliable s
           → AreThere c.reads s.view → c.answers s.view.files a → HasRoom Output (length a.output) s.view

@@ -1,5 +1,5 @@
 -- What reading an input does.
-use Rattle.std.proofs.Common.{ℕ, List, [], ◌∷◌, sym, subst}
+use Rattle.std.proofs.Common.{ℕ, List, [], sym, subst}
 use Rattle.tl_base.specs.declared.host.Slot.TheVariants.{Input}
 use Rattle.tl_schema.specs.Schemas.{Declared}
 use Rattle.tl_schema.specs.Types.{Shape}

@@ -14,9 +14,9 @@ use Rattle.codec_commands.specs.Layers as answer
 use Rattle.codec_commands.proofs.OneLayers.{one_layers}
 use Rattle.codec_rooms.specs.Commands.{layers}
 use Rattle.codec_rooms.specs.Layers.{OfNew, compared, compares}
-use Rattle.codec_rooms.specs.Laws.{Named, IsOf, Touches, AnswersFiles, ReadsFiles, EndsFiles}
+use Rattle.codec_rooms.specs.Laws.{Named, IsOf, ReadsFiles, EndsFiles}
 use Rattle.codec_rooms.specs.Typed.{OfAsked, no_type, typed}
-use Rattle.codec_rooms.proofs.FileLaws.{Comes, comes_as, comes_print, touches, answers_files, reads_files, ends_files}
+use Rattle.codec_rooms.proofs.FileLaws.{Touches, Comes, comes_as, comes_print, touches, reads_files, ends_files}
 use Rattle.codec_rooms.proofs.TypedFiles.{comes_answer, comes_of_file}
 use Rattle.codec_rooms.proofs.TypedLaws.{keeps_asked, keeps_named, cause_asked, cause_of_file}
 
@@ -51,9 +51,6 @@ module _ (old new type : List ℕ) where
 
   comes : Comes (λ s. (layers old new type).answers s.view.files) (compares old new type)
   comes = comes_of_file (codes "schema") (OfAsked (OfNew new) type) (λ S files. OfType S type new files) comes_old Schema old
-
-  pub layers_answers : AnswersFiles (layers old new type)
-  layers_answers = answers_files (layers old new type) comes (λ files. one_layers files old new type)
 
   pub layers_reads : ReadsFiles (layers old new type)
   layers_reads = reads_files (layers old new type) layers_touches layers_has_cause

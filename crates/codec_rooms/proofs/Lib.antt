@@ -14,3 +14,4 @@ pub mod DecodingLaws
 mod Layering
 mod Following
 pub mod LayeringLaws
+mod OutputLines

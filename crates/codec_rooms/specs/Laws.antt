@@ -10,7 +10,6 @@ use Rattle.outside.specs.Answer.{Answer}
 use Rattle.outside.specs.declared.status.Status.{Status}
 use Rattle.outside.specs.declared.status.Status.TheVariants.{ReadFault, WriteFault, Memory}
 use Rattle.outside.specs.Events.{Event, Outside, opened, took, ended, read_failed, created, put, write_failed, listened, connected, accepted, told}
-use Rattle.outside.specs.Laws.{Throughout}
 use Rattle.outside.specs.Runs.{RunsIn}
 use Rattle.outside.specs.Steps.{Step}
 use Rattle.outside.specs.Fits.{Fits}
@@ -59,23 +58,11 @@ IsOf reads (connected address ok) = ⊥
 IsOf reads (accepted ok) = ⊥
 IsOf reads (told moment) = ⊥
 
--- no run does anything else, also one that runs out of memory
-abbrev pub Touches : Command → Type 0
-Touches c = (t : List Event) (status : Status) → RunsIn c.writes c.work t status → Throughout (IsOf c.reads) t
-
 -- ---- over files
 
 -- the status of a run that neither the outside nor memory stopped
 abbrev pub IsAnswer : Status → Type 0
 IsAnswer status = (status ≢ ReadFault) × (status ≢ WriteFault) × (status ≢ Memory)
-
--- the one answer to the first files with the names
-abbrev pub IsOneAnswer : Command → Files → Answer → Type 0
-IsOneAnswer c files a = c.answers files a × ((b : Answer) → c.answers files b → b ≡ a)
-
--- that is the status of this answer
-abbrev pub AnswersFiles : Command → Type 0
-AnswersFiles c = (t : List Event) (status : Status) (s n : Outside) → RunsIn c.writes c.work t status → Fits t s n → IsAnswer status → (a : Answer) × IsOneAnswer c s.view.files a × (status ≡ a.status)
 
 -- the files are there
 abbrev pub AreThere : Named → View → Type 0

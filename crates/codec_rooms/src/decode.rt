@@ -1,21 +1,27 @@
-//! `decode`: a schema's file is read, its type is looked for, the input is read piece by piece, and the line of its value is written.
-ghost use Rattle.std.specs.Prelude.{codes, true};
+//! `decode`: a schema's file is read, its type is looked for, the input is read piece by piece, and the line of its value is written while it is made.
+ghost use Rattle.std.specs.Prelude.{true};
 ghost use Rattle.outside.specs.Runs.{Ran, answered};
 ghost use Rattle.outside.specs.Begun.{Did};
 ghost use Rattle.tl_schema.specs.Formed.{IsFormed};
 ghost use Rattle.tl_schema.specs.Seen.{shape};
-ghost use Rattle.outside.specs.Jobs.{making};
+ghost use Rattle.tl_types.specs.Seen.{view};
+ghost use Rattle.tl_base.specs.declared.host.Out.TheVariants.{Output};
+ghost use Rattle.outside.specs.Answer.{done};
+ghost use Rattle.outside.specs.Jobs.{of_fault};
 ghost use Rattle.outside.specs.Loading.{RefusesAs};
-ghost use Rattle.schema_files.specs.Lines.{cause_text, input_line};
+ghost use Rattle.outside.specs.Pieces.{Writes};
+ghost use Rattle.outside.specs.Printing.{Prints};
+ghost use Rattle.schema_files.specs.Lines.{cause_text, input_line, line_text};
 ghost use Rattle.codec_rooms.specs.Decode.{OfBytes, after_opening, decodes, verdict};
 ghost use Rattle.codec_rooms.specs.Typed.{OfPlan};
-ghost use Rattle.codec_rooms.specs.inner.Feeding.{MakesVerdict};
+ghost use Rattle.codec_rooms.specs.inner.Feeding.{MakesFault, PrintsVerdict};
 ghost use Rattle.codec_rooms.specs.inner.Purposes.{IsPlanOf};
 
 use crate::feeding::read_value;
+use crate::output::{OutputLine, Piece};
 use crate::typed::{Purpose, follow_file};
-use outside::{Host, Status, Unmade, finish, print_made, unread};
-use schema_files::{cause_text, plan_of, value_line};
+use outside::{Host, Status, Unmade, finish, print_made, tell, unread};
+use schema_files::{cause_text, plan_of, put_line};
 use std::alloc::{AllocError, Global};
 use tl_base::Slot;
 use tl_decode::WholeFault;
@@ -33,26 +39,64 @@ fn cause_unmade(alloc: Global, place: u64, cause: Cause) -> Unmade
     }
 }
 
-// The line of a value, or what is told of an input that is none.
-fn made_line(
+// What is told of an input that is no value.
+fn fault_unmade(alloc: Global, fault: WholeFault) -> Unmade
+    ensures { MakesFault fault (of_fault result) }
+{
+    match fault {
+        WholeFault::Refused { place, cause } => cause_unmade(alloc, place, cause),
+        WholeFault::Trailing { place } => Unmade::placed(alloc, "input", place, "Trailing"),
+        WholeFault::ReadFault => Unmade::ReadFault,
+        WholeFault::Memory => Unmade::Memory,
+    }
+}
+
+// Writes the line of a value while it is made. Tells whether that was done. No memory is taken once a piece was written.
+fn write_line<H: Host>(
     alloc: Global,
+    host: &mut H,
+    schema: &Schema,
+    of: &TypeRef,
+    value: &Value,
+) -> Result<bool, AllocError>
+    ensures { Did (Writes Output (line_text schema.now.decls (shape of.now) (view value.now))) (H.state host.old) (H.state host.new) (answered result) }
+{
+    let mut piece = Piece::new(alloc)?;
+    let mut line = OutputLine::new(host, &mut piece);
+    put_line(alloc, schema, of, value, &mut line)?;
+    Ok(line.end())
+}
+
+// Prints the line of a value.
+fn print_value<H: Host>(
+    alloc: Global,
+    host: &mut H,
+    schema: &Schema,
+    of: &TypeRef,
+    value: &Value,
+) -> Result<Status, AllocError>
+    ensures { Did (Prints (done (line_text schema.now.decls (shape of.now) (view value.now)))) (H.state host.old) (H.state host.new) (answered result) }
+{
+    if write_line(alloc, host, schema, of, value)? {
+        Ok(Status::Done)
+    } else {
+        Ok(tell(host, b"tlbox: write fault\n", Status::WriteFault))
+    }
+}
+
+// Prints the line of a value, or what is told of an input that is none.
+fn print_verdict<H: Host>(
+    alloc: Global,
+    host: &mut H,
     schema: &Schema,
     of: &TypeRef,
     got: Result<Value, WholeFault>,
-) -> Result<Vec<u8>, Unmade>
-    ensures { MakesVerdict schema.now (shape of.now) (verdict got) (making result) }
+) -> Result<Status, AllocError>
+    ensures { PrintsVerdict schema.now (shape of.now) (verdict got) (H.state host.old) (H.state host.new) (answered result) }
 {
     match got {
-        Ok(value) => match value_line(alloc, schema, of, &value) {
-            Ok(line) => Ok(line),
-            Err(_) => Err(Unmade::Memory),
-        },
-        Err(WholeFault::Refused { place, cause }) => Err(cause_unmade(alloc, place, cause)),
-        Err(WholeFault::Trailing { place }) => {
-            Err(Unmade::placed(alloc, "input", place, "Trailing"))
-        }
-        Err(WholeFault::ReadFault) => Err(Unmade::ReadFault),
-        Err(WholeFault::Memory) => Err(Unmade::Memory),
+        Ok(value) => print_value(alloc, host, schema, of, &value),
+        Err(fault) => print_made(host, Err(fault_unmade(alloc, fault))),
     }
 }
 
@@ -67,7 +111,7 @@ fn decode_open<H: Host>(
     ensures { Did (after_opening plan.now.schema (shape of.now) true) (H.state host.old) (H.state host.new) (answered result) }
 {
     let got = read_value(alloc, host, plan);
-    print_made(host, made_line(alloc, plan.schema(), of, got))
+    print_verdict(alloc, host, plan.schema(), of, got)
 }
 
 // What follows of a type with its plan.

@@ -82,9 +82,6 @@ no_channels [] i d lt is = absurd (omega arith)
 no_channels (w ∷ ws) zero d lt is = rw is refl
 no_channels (w ∷ ws) (suc i) d lt is = rw (no_channels ws i d (omega arith) is) (and_false (is_number channel_range w))
 
-pub channels_found : (ws : List Text) (ids : List ℤ) → are_channels ws ≡ true → ids ≡ map channel_of ws → Some ids ≡ channels_of ws
-channels_found ws ids e is = rw e (ap Some is)
-
 channels_none : (ws : List Text) → are_channels ws ≡ false → channels_of ws ≡ None
 channels_none ws e = rw e refl
 

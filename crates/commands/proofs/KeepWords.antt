@@ -1,8 +1,8 @@
 -- The words of `keep`, by each of five.
-use Rattle.std.proofs.Common.{◌≡◌, ℕ, ◌<◌, ◌≤◌, List, [], ◌∷◌, length, map, slice_index_or, Option, Some, None, codes, refl, sym, ap, ◌∙◌, subst, arith}
+use Rattle.std.proofs.Common.{◌≡◌, ℕ, ◌<◌, ◌≤◌, List, [], ◌∷◌, length, map, slice_index_or, Option, Some, None, codes, sym, ap, ◌∙◌, subst, arith}
 use Rattle.commands.specs.Numbers.{IsNumberWord, number_from}
 use Rattle.commands.specs.Requests.{IsOperand, sessions_range}
-use Rattle.commands.specs.KeepWords.{AsksToKeep, FindsKeep, FindsOperands, KeepText, keep_text}
+use Rattle.commands.specs.KeepWords.{AsksToKeep, FindsKeep, FindsOperands, KeepText}
 use Rattle.commands.specs.declared.keep_words.KeepRequest.{KeepRequest}
 
 -- five words, each as it was looked up

@@ -61,14 +61,6 @@ four_begin : (words : Words) → begins_client words ≡ true → begins_client 
 four_begin [] begins = begins
 four_begin (w ∷ ws) begins = begins
 
-none_more : (words : Words) (b : Bool) → begins_client words ≡ b → more_words (fixed_words words) ≡ []
-none_more words false is = ap more_words (fixed_same words is) ∙ more_none words is
-none_more words true is = ap more_words (fixed_four words is) ∙ more_four (take 4 words) (four_begin words is) ∙ drop-take 4 0 words
-
--- clap reads all fixed words
-pub reads_fixed : (words fixed : Words) → fixed ≡ fixed_words words → more_words fixed ≡ []
-reads_fixed words fixed is = ap more_words is ∙ none_more words (begins_client words) refl
-
 -- ---- a client's channels
 
 module _ (words : Words) (schema address state : List ℕ) (channels : List ℤ) (asks : AsksFor (take 4 words) (client schema address state channels)) where

@@ -93,13 +93,6 @@ group_no_post c false e = rw e tt
 tick_no_post : (c : ClientState) → Each NoPost (ticks c).asks
 tick_no_post c = let g = group_ticked c in each_both NoPost g.asks (ticked g.client.next g.client.channels).asks (group_no_post c (group_is_due c) refl) (channels_no_post g.client.channels g.client.next)
 
-all_no_post : (c : ClientState) (fs : List streams.Frame) → Each NoPost (all_asks c fs)
-all_no_post c [] = tt
-all_no_post c (f ∷ fs) = each_both NoPost (ticks (hears_one c f)).asks (all_asks (heard_frame c f) fs) (tick_no_post (hears_one c f)) (all_no_post (heard_frame c f) fs)
-
-session_no_post : (c : ClientState) (fs : List streams.Frame) → Each NoPost (session_asks c fs)
-session_no_post c fs = each_both NoPost (ticks (wakes c)).asks (all_asks (begun c) fs) (tick_no_post (wakes c)) (all_no_post (begun c) fs)
-
 -- a client asks for what its definition says
 pub sent_so : (p : ProfileView) (c : ClientState) (fs : List Frame) → sends_all (client_side p) c fs ≡ all_asks c (told_all fs)
 sent_so p c [] = refl

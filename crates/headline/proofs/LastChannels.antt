@@ -13,7 +13,7 @@ use Rattle.box_server.specs.Answers.{answer, channel_difference}
 use Rattle.box_server.specs.Servers.{ServerState, channel_end, channel_in}
 use Rattle.box_server.proofs.Carrying.{changed_overlays}
 use Rattle.box_client.specs.Asking as asking
-use Rattle.box_client.specs.Asking.{difference_of, group_is_due, group_ticked, is_one_asking, ticks, wakes}
+use Rattle.box_client.specs.Asking.{difference_of, group_is_due, group_ticked, ticks, wakes}
 use Rattle.box_client.specs.Pushes.{pushed}
 use Rattle.box_client.specs.Replies.{replied}
 use Rattle.box_client.specs.States.{ClientState}

@@ -53,14 +53,14 @@ pub fn states_go_on()
     ensures { StatesGoOn }
 {}
 
-/// A run of `replay` refuses at a place and for a cause, or reports exactly the journal's steps: each client's boxes are the server's from its restarts to its
+/// A run of `replay` in which no call failed and memory sufficed refuses at a place and for a cause, or reports exactly the journal's steps: each client's boxes are the server's from its restarts to its
 /// positions, each event once, its settings are the server's at its seq, and each finished difference reached where the server was that answered.
 pub fn what_replay_promises()
     ensures { ReplayHeadline }
 {}
 
-/// A run of `client` that ends with status 0 over an honest link saved a client whose boxes are the server's, and which stands at or past where the server was
-/// at its last answer, each channel at its own.
+/// A run of `client` that ends with status 0, from a state that agreed with a server and over that server's honest link, saved a client whose boxes are the
+/// server's, and which stands at or past where the server was at its last answer, each channel at its own.
 pub fn what_client_promises()
     ensures { ClientHeadline }
 {}

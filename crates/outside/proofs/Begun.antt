@@ -1,14 +1,13 @@
 -- What may have been written where memory runs out.
-use Rattle.std.proofs.Common.{ℕ, ◌+◌, List, [], Bool}
+use Rattle.std.proofs.Common.{ℕ, List, []}
 use Rattle.tl_base.specs.declared.host.Out.{Out}
 use Rattle.tl_base.specs.declared.host.Slot.{Slot}
 use Rattle.outside.specs.Begun.{WritesOnly}
 use Rattle.outside.specs.Events.{Event, opened, took, ended, read_failed, created, put, write_failed, listened, connected, accepted, told}
 use Rattle.outside.specs.Laws.{Keeps}
-use Rattle.outside.specs.Packets.{TakesPacket}
-use Rattle.outside.specs.Pieces.{ReadsFile, ReadsSlot, Takes, text_of}
-use Rattle.outside.specs.Steps.{Calls, Ends}
-use Rattle.outside.proofs.Causing.{keeps_call, keeps_end, keeps_file, keeps_take, keeps_then}
+use Rattle.outside.specs.Pieces.{ReadsFile, Takes}
+use Rattle.outside.specs.Steps.{Calls}
+use Rattle.outside.proofs.Causing.{keeps_call, keeps_file, keeps_take}
 
 -- what writes nothing writes nothing but to these
 pub more_may : (outs : List Out) (e : Event) → WritesOnly [] e → WritesOnly outs e
@@ -28,9 +27,6 @@ module _ (outs : List Out) where
   -- nothing is written where a file is read
   pub may_take : (slot : Slot) (count : ℕ) → Keeps (WritesOnly outs) (Takes slot count)
   may_take slot count = keeps_take (WritesOnly outs) slot count (λ b. tt) tt tt
-
-  pub may_slot : (slot : Slot) (limit : ℕ) → Keeps (WritesOnly outs) (ReadsSlot slot limit)
-  may_slot slot limit = keeps_then (WritesOnly outs) (Takes slot (limit + 1)) (λ taken. Ends (text_of taken)) (may_take slot (limit + 1)) (λ taken. keeps_end (WritesOnly outs) (text_of taken))
 
   pub may_file : (slot : Slot) (name : List ℕ) (limit : ℕ) → Keeps (WritesOnly outs) (ReadsFile slot name limit)
   may_file slot name limit = keeps_file (WritesOnly outs) slot name limit (λ ok. tt) (λ b. tt) tt tt

@@ -6,7 +6,7 @@ use Rattle.tl_base.specs.declared.counts.Counts.{Counts}
 use Rattle.outside.specs.Events.{Event, Past, HostState, counted, counted_all}
 use Rattle.outside.proofs.Causing.{throughout_both}
 use Rattle.outside.specs.Grown.{PastGrew, Grew}
-use Rattle.outside.specs.Begun.{BeginsIn, Did, DidIn, WritesOnly}
+use Rattle.outside.specs.Begun.{Did, DidIn, WritesOnly}
 use Rattle.outside.proofs.Begun.{more_may}
 use Rattle.outside.specs.Laws.{Throughout, Keeps}
 use Rattle.outside.specs.Steps.{Step, Ends, Calls, Then, Turn, again, leave, Reaches, here, turn, Loops, Begins, Grows}
@@ -66,9 +66,6 @@ did_more {outs = outs} S p q None h = record { trace = h.trace; grew = h.grew; h
 -- what has an answer is so, whatever may be written where memory runs out
 pub did_any : {A : Type 0} {few outs : List Out} (S : Step A) (p q : HostState) (x : A) → DidIn few S p q (Some x) → DidIn outs S p q (Some x)
 did_any S p q x h = record { trace = h.trace; grew = h.grew; holds = h.holds }
-
-pub begun : {A : Type 0} {outs : List Out} (S : Step A) (t : List Event) → BeginsIn outs S t → Begins S t
-begun S t m = record { rest = m.rest; answer = m.answer; whole = m.whole }
 
 -- ---- steps one after the other
 

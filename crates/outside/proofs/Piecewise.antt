@@ -108,9 +108,6 @@ put_more out a b c bytes at n g h =
     let is : take at bytes ++ piece ≡ take (at + n) bytes = ap (λ (l : List ℕ). take at bytes ++ take n l) (rest_of-is bytes at) ∙ sym (take-add at n bytes) in
     grows_call a b c _ _ (put out piece) (λ t q. subst (λ (l : List ℕ). InPieces (put out) l [] (t ++ put out piece ∷ [])) is (more_pieces (put out) (take at bytes) piece t q)) g h
 
-pub put_all : (out : Out) (a b : HostState) (bytes : List ℕ) (at : ℕ) → length bytes ≤ at → Grows a b (InPieces (put out) (take at bytes) []) → Did (Writes out bytes) a b (Some true)
-put_all out a b bytes at le g = record { trace = g.trace; grew = g.grew; holds = subst (λ (l : List ℕ). InPieces (put out) l [] g.trace) (take_all at bytes le) g.holds }
-
 pub put_failed : (out : Out) (a b c : HostState) (bytes : List ℕ) (at : ℕ) → at < length bytes → Grows a b (InPieces (put out) (take at bytes) []) → Grew b (write_failed out ∷ []) c → Did (Writes out bytes) a c (Some false)
 put_failed out a b c bytes at lt g h = did_grow (Writes out bytes) a c (false) (grows_call a b c _ _ (write_failed out) (λ t q. (take at bytes, drop at bytes, last_piece (put out) (take at bytes) (write_failed out) t q, take-append-drop at bytes, omega (arith, lt, length-drop at bytes))) g h)
 

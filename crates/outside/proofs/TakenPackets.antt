@@ -11,7 +11,7 @@ use Rattle.tl_base.specs.declared.host.Slot.{Slot}
 use Rattle.tl_base.specs.declared.host.Slot.TheVariants.{Link}
 use Rattle.tl_base.specs.declared.packet.TheConstants.{PACKET_BYTES}
 use Rattle.outside.specs.Events.{Event, HostState, took, ended, read_failed}
-use Rattle.outside.specs.Laws.{Happened, IsFailure, IsFromLink, Keeps, Throughout}
+use Rattle.outside.specs.Laws.{Happened, IsFailure, IsFromLink, Keeps}
 use Rattle.outside.specs.Packets.{PacketView, whole, none, bad_length, AfterLength, bad, good, TakesPacket, after_head, content_of, cut_off, packet_view}
 use Rattle.outside.specs.Packets as packets
 use Rattle.outside.specs.Pieces.{TakenView, full, short, broken, Takes, joined, taken_view}
@@ -33,12 +33,6 @@ full_is t bytes is = ap taken_view is
 
 short_is : (t : Taken) (bytes : Vec ℕ Global) → t ≡ taken.Short bytes → taken_view t ≡ short bytes.items
 short_is t bytes is = ap taken_view is
-
-pub full_long : (slot : Slot) (n : ℕ) (p q : HostState) (t : Taken) (bytes : Vec ℕ Global) → t ≡ taken.Full bytes → Did (Takes slot n) p q (Some (taken_view t)) → length bytes.items ≡ n
-full_long slot n p q t bytes is d = (subst (λ (v : TakenView). Takes slot n d.trace v) (full_is t bytes is) d.holds).1
-
-pub short_few : (slot : Slot) (n : ℕ) (p q : HostState) (t : Taken) (bytes : Vec ℕ Global) → t ≡ taken.Short bytes → Did (Takes slot n) p q (Some (taken_view t)) → length bytes.items < n
-short_few slot n p q t bytes is d = (subst (λ (v : TakenView). Takes slot n d.trace v) (short_is t bytes is) d.holds).1
 
 -- ---- each of its parts can go on to its end
 
@@ -71,9 +65,6 @@ module _ (slot : Slot) where
   can_head (full head) = can_length (word_number head)
   can_head (short head) = can_end (cut_off (length head))
   can_head broken = can_end packets.broken
-
-  pub can_take_packet : Begins (TakesPacket slot) []
-  can_take_packet = can_then _ _ (can_take slot 4) can_head
 
   -- the input may end at once
   pub none_taken : TakesPacket slot (ended slot ∷ []) none

@@ -1,5 +1,5 @@
 -- What can be said of whatever is made of steps. This project's own.
-use Rattle.std.specs.Prelude.{◌≡◌, ◌⊎◌, List, [], ◌∷◌, true, false, Option, Some, None}
+use Rattle.std.specs.Prelude.{◌≡◌, List, [], true, false, Option, Some, None}
 use Rattle.tl_base.specs.Kinds.{slot_kind, out_kind}
 use Rattle.tl_base.specs.declared.host.Slot.TheVariants.{Link}
 use Rattle.tl_base.specs.declared.counts.Kind.{Kind}

@@ -1,6 +1,5 @@
 pub mod Events
 pub mod Grown
-pub mod Unseen
 pub mod Steps
 pub mod Traces
 pub mod Begun

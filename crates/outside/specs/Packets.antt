@@ -1,5 +1,5 @@
 -- Packets as they are taken from a slot: a length in four bytes, and so many bytes. This project's own.
-use Rattle.std.specs.Prelude.{◌≡◌, ℕ, zero, suc, ◌+◌, List, [], length, Option, Some, None, Result, Ok, Err}
+use Rattle.std.specs.Prelude.{ℕ, zero, suc, ◌+◌, List, [], length, Option, Some, None, Result, Ok, Err}
 use Rattle.tl_base.specs.Packets.{IsPacketLength}
 use Rattle.tl_base.specs.declared.host.Slot.{Slot}
 use Rattle.tl_numbers.specs.Numbers.{word_number}

@@ -17,11 +17,7 @@ pub record HasRoomFor (a : Answer) (v : View) : Type 0 where
   pub coming : a.taken ≤ length v.links
   pub address : IfSome a.address (λ name. length name ≤ v.room)
 
--- the job has an answer over the outside
-abbrev pub Answered : Job → View → Type 0
-Answered job v = (a : Answer) × job.answers v a
-
--- likewise, and there is room for it
+-- the job has an answer over the outside, and there is room for it
 abbrev pub Fits : Job → View → Type 0
 Fits job v = (a : Answer) × job.answers v a × HasRoomFor a v
 

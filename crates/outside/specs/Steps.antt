@@ -1,5 +1,5 @@
 -- What runs are made of: relations between what happened and what came of it. This project's own.
-use Rattle.std.specs.Prelude.{◌≡◌, List, [], ◌∷◌, ◌++◌, Option, Some, None}
+use Rattle.std.specs.Prelude.{◌≡◌, List, [], ◌∷◌, ◌++◌}
 use Rattle.outside.specs.Events.{Event, HostState}
 use Rattle.outside.specs.Grown.{Grew}
 

@@ -1,12 +1,12 @@
 -- A failure raises the count of its kind, and no count falls.
-use Rattle.std.proofs.Common.{◌≡◌, ◌<◌, ◌≤◌, ◌^◌, ℕ, List, [], ◌∷◌, Bool, true, false, Some, None, refl, sym, ap, ◌∙◌, subst, arith, inl, inr}
-use Rattle.tl_base.specs.Causes.{Rose, one_more}
-use Rattle.tl_base.specs.Kinds.{count_of, with_count, slot_kind, out_kind}
+use Rattle.std.proofs.Common.{◌≡◌, ◌≤◌, List, [], ◌∷◌, Bool, true, false, Some, None, sym, subst, arith, inl, inr}
+use Rattle.tl_base.specs.Causes.{Rose}
+use Rattle.tl_base.specs.Kinds.{count_of, slot_kind, out_kind}
 use Rattle.tl_base.specs.declared.counts.Counts.{Counts}
 use Rattle.tl_base.specs.declared.counts.Kind.{Kind}
 use Rattle.tl_base.specs.declared.counts.Kind.TheVariants as kinds
 use Rattle.outside.specs.Events.{Event, counted, counted_all, counted_as, counted_unless, opened, took, ended, read_failed, created, put, write_failed, listened, connected, accepted, told}
-use Rattle.outside.specs.Laws.{Happened, IsFailure, failure}
+use Rattle.outside.specs.Laws.{IsFailure}
 use Rattle.run_laws.specs.Touched.{AreCounts, FailuresAreCounted}
 
 -- this count rose, or at least didn't fall; and all are in range

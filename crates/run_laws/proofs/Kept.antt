@@ -1,8 +1,7 @@
 -- A line on Errors leaves what each job keeps.
-use Rattle.std.proofs.Common.{◌≡◌, ℕ, List, refl, ap, ◌∙◌, subst, sym, inl}
+use Rattle.std.proofs.Common.{ℕ, List, refl, ap, subst, sym, inl}
 use Rattle.tl_base.specs.Outside.{View}
 use Rattle.outside.specs.Kept.{KeepsRest, KeepsUnread, OnlyErrors}
-use Rattle.session_commands.specs.Client.{ClientKeeps}
 use Rattle.session_commands.specs.Linked.{KeepsFiles, LeavesLinks}
 use Rattle.session_commands.specs.Post.{PostKeeps}
 use Rattle.session_commands.specs.Serve.{ServeKeeps}

@@ -1,5 +1,5 @@
 -- How runs of `keep` end.
-use Rattle.std.proofs.Common.{◌≡◌, ℕ, List, ◌∷◌, refl, sym, ap, ◌∙◌, subst}
+use Rattle.std.proofs.Common.{ℕ, List, subst}
 use Rattle.outside.specs.Events.{Outside}
 use Rattle.outside.specs.Fits.{Fits}
 use Rattle.outside.specs.Reliable.{IsReliable}

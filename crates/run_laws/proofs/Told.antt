@@ -1,11 +1,11 @@
 -- A line that is told, over an outside that shows what it holds.
-use Rattle.std.proofs.Common.{◌≡◌, ℕ, List, [], ◌∷◌, ◌++◌, map, append-nil, append_assoc, Bool, true, false, refl, sym, ap, ◌∙◌, subst, inl, inr}
+use Rattle.std.proofs.Common.{◌≡◌, ℕ, List, [], ◌∷◌, ◌++◌, map, append-nil, append_assoc, Bool, true, false, sym, ap, ◌∙◌, subst, inl, inr}
 use Rattle.tl_base.specs.Outside.{View}
 use Rattle.tl_base.specs.declared.host.Out.{Out}
 use Rattle.tl_base.specs.declared.host.Out.TheVariants.{Errors}
 use Rattle.outside.specs.Answer.{printed}
 use Rattle.outside.specs.declared.status.Status.{Status}
-use Rattle.outside.specs.Kept.{AddsPrefix, Leaves, OnlyErrors}
+use Rattle.outside.specs.Kept.{Leaves, OnlyErrors}
 use Rattle.outside.specs.Telling.{Tells}
 use Rattle.outside.specs.Events.{Event, Outside, opened, took, ended, read_failed, created, put, write_failed, listened, connected, accepted, told}
 use Rattle.outside.specs.Laws.{Throughout}

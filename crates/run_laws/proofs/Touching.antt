@@ -15,7 +15,7 @@ use Rattle.outside.specs.Laws.{Explains, Happened, IsFailure, IsFromLink, Throug
 use Rattle.outside.specs.Pieces.{Tells}
 use Rattle.outside.proofs.Causing.{keeps_tell, told_status}
 use Rattle.codec_rooms.specs.Commands as codec
-use Rattle.codec_rooms.specs.Laws.{IsOf, IsPrinted, IsRead, IsUsed, Named}
+use Rattle.codec_rooms.specs.Laws.{IsOf, IsPrinted, IsRead, Named}
 use Rattle.codec_rooms.proofs.Checking as checking
 use Rattle.codec_rooms.proofs.DecodingLaws as decoding
 use Rattle.codec_rooms.proofs.EncodingLaws as encoding
@@ -28,12 +28,11 @@ use Rattle.update_commands.proofs.ReplayingLaws as replaying
 use Rattle.session_rooms.proofs.ClientLaws as recovering
 use Rattle.session_rooms.proofs.PostLaws as posting
 use Rattle.serve_rooms.proofs.ServeLaws as serving
-use Rattle.commands.specs.Requests.{RequestText, AsksFor, AsksNothing, AskForOne, check, decode, encode, replay, make, serve, post, client, layers, calls}
+use Rattle.commands.specs.Requests.{RequestText, AsksFor, AsksNothing, check, decode, encode, replay, make, serve, post, client, layers, calls}
 use Rattle.commands.specs.Work.{RunsRequest, RunsWords, no_request, requested, no_memory}
 use Rattle.commands.proofs.Rows.{one_request}
-use Rattle.run_laws.specs.Ended.{LinkFailed, ReadFailed, WriteFailed}
 use Rattle.run_laws.specs.Requests.{job_of}
-use Rattle.run_laws.specs.Touched.{Explained, IsOfRequest, IsTelling, IsUnlinked, TouchesOnly, WordsHaveCause, WordsLeaveLinks, WordsTouch}
+use Rattle.run_laws.specs.Touched.{Explained, IsOfRequest, IsTelling, IsUnlinked, WordsHaveCause, WordsLeaveLinks, WordsTouch}
 
 -- ---- what is touched
 

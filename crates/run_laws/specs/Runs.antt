@@ -82,7 +82,7 @@ pub record StoresOver (words : List (List ℕ)) (t : List Act) (status : KeptSta
   pub kept : KeeperGrew old t new
   pub shown : IsShown s.view
 
--- a run of `keep` ends as its job over the entries that were there, and adds those of its posts
+-- a run of `keep` ends as its job over the entries that were there, or is stopped, and adds entries by how it ended
 abbrev pub StoredEnds : Type 0
 StoredEnds =
     (words : List (List ℕ)) (k : KeepText) (t : List Act) (status : KeptStatus) (s n : Outside) (old new : KeeperState) → AsksToKeep words k → StoresOver words t status s n old new

@@ -4,7 +4,6 @@ use Rattle.tl_base.specs.Causes.{Rose}
 use Rattle.tl_base.specs.Kinds.{count_of}
 use Rattle.tl_base.specs.declared.counts.Counts.{Counts}
 use Rattle.tl_base.specs.declared.counts.Kind.{Kind}
-use Rattle.tl_base.specs.declared.host.Out.{Out}
 use Rattle.tl_base.specs.declared.host.Out.TheVariants as outs
 use Rattle.tl_base.specs.declared.host.Slot.TheVariants as slots
 use Rattle.outside.specs.declared.status.Status.{Status}

@@ -31,7 +31,7 @@ pub fn words_keep()
     ensures { WordsKeep }
 {}
 
-/// A run of `keep` ends as its job over the entries that were there, and adds the entries of its posts.
+/// A run of `keep` ends as its job over the entries that were there, or is stopped; by how it ended it adds the entries of its posts, or of its first sessions' (`KeptEnds`).
 pub fn stored_runs_end()
     ensures { StoredEnds }
 {}

@@ -40,7 +40,7 @@ use Rattle.serve_rooms.specs.Answering.{Answered, goes_on, has_ended, fails, unk
 use Rattle.serve_rooms.specs.Doing.{Hosted, IsKept, BeginsKept, DidKept}
 use Rattle.serve_rooms.specs.declared.answering.Outcome.{Outcome}
 use Rattle.serve_rooms.specs.inner.Ends.{answered_as, outcome_at}
-use Rattle.serve_rooms.proofs.Doing.{Leaves, begun_as, can_end, can_host, can_loop, can_then, did_as, did_host, did_none, did_nothing, did_then}
+use Rattle.serve_rooms.proofs.Doing.{Leaves, begun_as, can_end, can_host, can_then, did_as, did_host, did_none, did_nothing, did_then}
 use Rattle.serve_rooms.proofs.Keepers.{all_added, can_add, few_of, keeper_same, not_added, one_for}
 
 module _ (p : ProfileView) where
@@ -67,9 +67,6 @@ module _ (p : ProfileView) where
 
   pub leaves_at : (x : Served) → Leaves (AnswersOn p) x
   leaves_at (s, n) = let l = leaves_by (ltb n MAX_FRAMES) (s, n) in record { trace = l.0; answer = l.1; kept = l.2; does = l.3 }
-
-  pub can_answer_all : (s : ServerState) → BeginsKept (AnswersAll p s) []
-  can_answer_all s = can_loop (AnswersOn p) (s, 0) (leaves_at (s, 0))
 
   -- ---- the keeper is lost only where it failed
 

@@ -51,15 +51,6 @@ can_after_session : (number : ℕ) (tally : Tally) (x : Session) → BeginsKept 
 can_after_session number tally (over s end) = can_then (Hosted (TellsEnd number tally end)) (after_telling s) (can_host _ (can_tell_end number tally end)) (can_after_telling s)
 can_after_session number tally lost = can_then TellsKeepFault (λ (status : KeptStatus). Ends (no_more status)) can_keep_fault (λ status. can_end (no_more status))
 
--- nobody can be taken
-module _ (p : ProfileView) where
-  can_nobody : (number : ℕ) (s : ServerState) (tally : Tally) → BeginsKept (after_accept p number s tally false) []
-  can_nobody number s tally = can_then (Hosted (Tells link_fault_line LinkFault)) (λ (status : Status). Ends (no_more (Run status))) (can_host _ (can_tell link_fault_line LinkFault)) (λ status. can_end (no_more (Run status)))
-
-  pub can_serve_next : (number : ℕ) (s : ServerState) (tally : Tally) → BeginsKept (ServesNext p number s tally) []
-  unfolding can_fail
-  can_serve_next number s tally = can_then_by (Hosted (Calls accepted)) (after_accept p number s tally) (can_fail accepted) (can_nobody number s tally)
-
 -- nobody can be listened to
 pub can_serve_all : (address : List ℕ) (sessions : ℕ) (s : ServerState) (p : ProfileView) → BeginsKept (ServesAll address sessions s p) []
 unfolding can_fail

@@ -140,9 +140,6 @@ turned_more body s m n x p q r is g h = record { trace = g.trace ++ h.trace; gre
 pub loop_left : {S A : Type 0} (body : S → StepOf Act (Turn S A)) (s m : S) (x : Turn S A) (a : A) (p q r : KeptState) → x ≡ leave a → Turned body s p q m → DidKept (body m) q r (Some x) → DidKept (Loops body s) p r (Some a)
 loop_left body s m x a p q r is g h = record { trace = g.trace ++ h.trace; grew = kept_more p q r g.trace h.trace g.grew h.grew; holds = record { first = g.trace; rest = h.trace; between = m; splits = refl; does = g.reached; goes = subst (body m h.trace) is h.holds } }
 
-pub can_loop : {S A : Type 0} (body : S → StepOf Act (Turn S A)) (s : S) → Leaves body s → BeginsKept (Loops body s) []
-can_loop body s l = record { rest = l.trace; answer = l.answer; kept = l.kept; whole = record { first = []; rest = l.trace; between = s; splits = refl; does = here [] s refl refl; goes = l.does } }
-
 loop_begins : {S A : Type 0} (body : S → StepOf Act (Turn S A)) (s m : S) (t u : List Act) → ((n : S) → Leaves body n) → Reaches body s t m → (x : Turn S A) (rest : List Act) → Throughout IsKept rest → body m (u ++ rest) x → BeginsKept (Loops body s) (t ++ u)
 loop_begins body s m t u can r (leave a) rest kept b = record { rest = rest; answer = a; kept = kept; whole = record { first = t; rest = u ++ rest; between = m; splits = append_assoc t u rest; does = r; goes = b } }
 loop_begins body s m t u can r (again n) rest kept b =

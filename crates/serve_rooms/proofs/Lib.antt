@@ -15,4 +15,3 @@ pub mod AnsweredBytes
 pub mod SessionEvents
 pub mod ServedNext
 pub mod ServedAll
-pub mod ServedRuns

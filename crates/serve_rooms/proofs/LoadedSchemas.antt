@@ -1,7 +1,6 @@
 -- What is read as a schema, which is a profile or not, and that each of these can go on to its end.
 use Rattle.std.proofs.Common.{◌≡◌, ℕ, List, [], codes, Option, Some, None, Result, Ok, Err, refl, sym, subst, inl, inr}
 use Rattle.std.specs.Prelude.{option_map}
-use Rattle.tl_base.specs.declared.host.Slot.TheVariants as slots
 use Rattle.tl_schema.specs.CheckedPrograms.{IsSchema}
 use Rattle.tl_schema.specs.Schemas.{Declared}
 use Rattle.wire_profile.specs.Faults.{FaultView, IsAnswer}
@@ -18,15 +17,13 @@ use Rattle.fault_lines.proofs.Profiled.{each_schema}
 use Rattle.schema_files.specs.Lines.{schema_line}
 use Rattle.schema_files.specs.Loaded.{IsSchemaText}
 use Rattle.schema_files.specs.Parts.{ReadsSchema}
-use Rattle.schema_files.specs.declared.schema_text.TheConstants.{SCHEMA_BYTES}
 use Rattle.schema_files.proofs.OneSchemaText.{schema_or_refused}
 use Rattle.outside.specs.Events.{Event, HostState}
-use Rattle.outside.specs.Pieces.{ReadsFile}
 use Rattle.outside.specs.Printing.{Prints, PrintsMade, Unread}
 use Rattle.outside.specs.Begun.{Did}
 use Rattle.outside.specs.Steps.{Step, Ends, Begins}
 use Rattle.outside.proofs.Growing as growing
-use Rattle.outside.proofs.Piecewise.{can_read_file, can_tell}
+use Rattle.outside.proofs.Piecewise.{can_tell}
 use Rattle.outside.proofs.Printed.{can_print}
 use Rattle.codec_rooms.proofs.Typing as typing
 use Rattle.box_server.specs.Keeping.{KeeperState}
@@ -84,9 +81,6 @@ can_text text = elim (schema_or_refused text) [
 pub can_reading : (text : Option (List ℕ)) → Begins (after_reading text) []
 can_reading (Some text) = can_text text
 can_reading None = can_end_by Unread (can_tell read_fault_line ReadFault)
-
-pub can_load : (name : List ℕ) → Begins (LoadsSchema name) []
-can_load name = growing.can_then (ReadsFile slots.Schema name SCHEMA_BYTES) after_reading (can_read_file slots.Schema name SCHEMA_BYTES) can_reading
 
 pub text_loaded : (text : List ℕ) (S : Declared) (p : HostState) → IsSchemaText text S → Did (OfText text) p p (Some (schema.Schema S))
 text_loaded text S p is = record { trace = []; grew = growing.grew_none p; holds = schema_of S is refl refl }

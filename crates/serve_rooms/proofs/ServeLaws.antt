@@ -22,6 +22,7 @@ use Rattle.outside.specs.Packets.{PacketView, whole, TakesPacket}
 use Rattle.outside.specs.Packets as packets
 use Rattle.outside.specs.Pieces.{ReadsFile, Tells, Writes}
 use Rattle.outside.specs.Printing.{Prints, Unread}
+use Rattle.outside.specs.Runs.{RunsIn}
 use Rattle.outside.specs.Runs as runs
 use Rattle.outside.specs.Steps.{Step, Turn, again, leave, Calls, Reaches, here, turn}
 use Rattle.outside.proofs.Causing.{cause_print, cause_run, cause_tell, explains_first, explains_last, happened_first, happened_last, keeps_begun, keeps_tell, throughout_both, throughout_first, told_status, unread_file, unwritten}
@@ -39,14 +40,14 @@ use Rattle.session_commands.proofs.ToldCauses.{call_told, told_line}
 use Rattle.session_rooms.specs.Sending.{Sends}
 use Rattle.session_rooms.proofs.SentMessages.{unsent}
 use Rattle.serve_rooms.specs.Acts.{Act, Loading, hosted, loaded, added, rebuilds, unaccepted, unread, events_in, IsKeeperFault}
-use Rattle.serve_rooms.specs.Answering.{Answered, goes_on, has_ended, fails, unkept, if_added, Adds, after_sending, after_adding, AnswersBytes, no_call, answers, after_packet, AnswersNext, Session, over, lost, Served, answers_by, AnswersOn, AnswersAll}
+use Rattle.serve_rooms.specs.Answering.{Answered, goes_on, has_ended, fails, unkept, after_sending, after_adding, AnswersBytes, no_call, answers, after_packet, AnswersNext, Session, over, lost, Served, answers_by, AnswersOn, AnswersAll}
 use Rattle.serve_rooms.specs.Answering as answering
-use Rattle.serve_rooms.specs.Doing.{Hosted, Last, BeginsKept}
+use Rattle.serve_rooms.specs.Doing.{Hosted, Last, to_serve}
 use Rattle.serve_rooms.specs.Doing as doing
 use Rattle.serve_rooms.specs.Serve.{EndsBy, OfText, no_schema, schema_of, after_reading, LoadsSchema, OfProfile, OfSchema, no_profile, profiled, after_loading, OfProfiled, after_opening, OpensAndServes, keeps, serves}
-use Rattle.serve_rooms.specs.ServeLaws.{IsOfServe, ServeTouches, KeepTouches, IsListening, IsUnread, ReadsFirst, KeepReadsFirst, ServeHasCause, ExplainsKept, KeepHasCause}
+use Rattle.serve_rooms.specs.ServeLaws.{IsOfServe, KeepTouches, IsListening, IsUnread, ReadsFirst, KeepReadsFirst, ExplainsKept, KeepHasCause}
 use Rattle.serve_rooms.specs.Sessions.{Next, more, no_more, keep_fault_line, after_telling, after_session, after_moment, after_accept, ServesNext, Serving, turn_of, serves_by, ServesOn, after_listen, ServesAll}
-use Rattle.serve_rooms.specs.Telling.{Told, is_over, new_tally, TellsLine, TellsFault, after_line, fault_told, TellsEnd}
+use Rattle.serve_rooms.specs.Telling.{Told, is_over, new_tally, TellsFault, after_line, fault_told, TellsEnd}
 use Rattle.serve_rooms.specs.Telling as telling
 use Rattle.serve_rooms.specs.declared.loading.Loaded.{Loaded}
 use Rattle.serve_rooms.specs.declared.loading.Loaded.TheVariants as schema
@@ -57,7 +58,8 @@ use Rattle.serve_rooms.proofs.Acting.{events_more, events_hosted}
 use Rattle.serve_rooms.proofs.Connections.{faulty}
 use Rattle.serve_rooms.proofs.Touching.{keeps_load, tells, prints_refusal, keeps_last, keeps_opening, keeps_begun_kept, IsTouched, touched, keeps_serve, keeps_keep}
 
-pub serve_touches : ServeTouches
+-- no run of `serve` does anything else, also one that runs out of memory
+pub serve_touches : (schema address : List ℕ) (sessions : ℕ) (t : List Event) (status : Status) → RunsIn to_serve (serves schema address sessions) t status → Throughout (IsOfServe schema address) t
 serve_touches schema_name address sessions t s (runs.done h) = keeps_serve schema_name address sessions t s h
 serve_touches schema_name address sessions t s (runs.out_of_memory h) =
     let P = IsOfServe schema_name address in
@@ -488,7 +490,7 @@ serve_cause : (schema_name address : List ℕ) (sessions : ℕ) → HasCause (se
 serve_cause schema_name address sessions t status h =
     subst (Explains status) (sym h.events) (profiled_cause (ServesAll address sessions new_server) (λ p. all_cause p sessions new_server address) schema_name h.acts (Run status) h.works)
 
-pub serve_has_cause : ServeHasCause
+pub serve_has_cause : (schema address : List ℕ) (sessions : ℕ) → HasCause (RunsIn to_serve (serves schema address sessions))
 serve_has_cause schema_name address sessions = cause_run (serves schema_name address sessions) (serve_cause schema_name address sessions)
 
 -- a line that is told of what is refused

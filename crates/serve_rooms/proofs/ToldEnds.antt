@@ -1,10 +1,9 @@
 -- How the end of a session is told.
-use Rattle.std.proofs.Common.{◌≡◌, ℕ, List, [], Bool, true, false, Option, Some, None, Result, Ok, Err, Vec, Global, sym, ap, ◌∙◌, subst}
+use Rattle.std.proofs.Common.{◌≡◌, ℕ, List, [], Bool, true, false, Option, Some, None, Result, Ok, Err, subst}
 use Rattle.tl_base.specs.declared.host.Out.TheVariants.{Output, Errors}
 use Rattle.outside.specs.Answer.{link_fault_line, write_fault_line}
 use Rattle.outside.specs.declared.status.Status.{Status}
 use Rattle.outside.specs.declared.status.Status.TheVariants.{LinkFault, PeerFault, WriteFault}
-use Rattle.outside.specs.declared.stop.Stop.TheVariants as stop
 use Rattle.outside.specs.Events.{HostState}
 use Rattle.outside.specs.Pieces.{Tells, Writes}
 use Rattle.outside.specs.Begun.{Did}
@@ -12,12 +11,10 @@ use Rattle.outside.specs.Steps.{Begins, Ends}
 use Rattle.outside.proofs.Growing.{can_end, can_then, did_both, did_nothing}
 use Rattle.outside.proofs.Piecewise.{can_tell, can_write}
 use Rattle.session_commands.specs.Lines.{served_line}
-use Rattle.session_commands.specs.Serve.{first_fault}
-use Rattle.session_commands.specs.SessionEnds.{TellsSession, session_line}
+use Rattle.session_commands.specs.SessionEnds.{session_line}
 use Rattle.update_sessions.specs.declared.fault.SessionFault.{SessionFault}
-use Rattle.update_sessions.specs.declared.fault.SessionFault.TheVariants as session
 use Rattle.serve_rooms.specs.declared.telling.Tally.{Tally}
-use Rattle.serve_rooms.specs.Telling.{Told, goes_on, is_over, TellsLine, TellsFault, after_line, fault_told, TellsEnd}
+use Rattle.serve_rooms.specs.Telling.{goes_on, is_over, TellsLine, TellsFault, after_line, fault_told, TellsEnd}
 
 -- ---- what can follow
 
@@ -49,31 +46,3 @@ module _ (number frames : ℕ) (tally : Tally) (line : List ℕ) (is : line ≡ 
   pub frames_untold : (p q r : HostState) (status : Status) → Did (Writes Output line) p q (Some false) → Did (Tells write_fault_line WriteFault) q r (Some status) → Did (TellsEnd number tally (Ok frames)) p r (Some (is_over status))
   frames_untold p q r status h tells =
       did_both _ (after_line tally) p q r false _ (subst (λ (l : List ℕ). Did (Writes Output l) p q (Some false)) is h) (did_both _ (λ (s : Status). Ends (is_over s)) q r r status _ tells (did_nothing r (is_over status)))
-
--- ---- a fault
-
-pub fault_line_told : (tally : Tally) (line : List ℕ) (status : Status) (p q : HostState) (whole : Bool) → Did (TellsLine tally.whole line) p q (Some whole)
-    → Did (TellsFault tally line status) p q (Some (goes_on (record { status = first_fault tally.status status; whole = whole })))
-fault_line_told tally line status p q whole h = did_both _ (λ (w : Bool). Ends (goes_on (record { status = first_fault tally.status status; whole = w }))) p q q whole _ h (did_nothing q _)
-
--- it is the other end's, with this line
-by_peer : (tally : Tally) (o : Option (List ℕ)) (line : List ℕ) (p q : HostState) (x : Option Told) → o ≡ Some line → Did (TellsFault tally line PeerFault) p q x → Did (fault_told tally o) p q x
-by_peer tally o line p q x is h = subst (λ (l : Option (List ℕ)). Did (fault_told tally l) p q x) (sym is) h
-
-module _ (number : ℕ) (tally : Tally) (p q : HostState) (x : Option Told) where
-  pub peer_told : (fault : SessionFault) (line : Vec ℕ Global) (told : List ℕ) → TellsSession fault (stop.Peer line) → told ≡ line.items → Did (TellsFault tally told PeerFault) p q x → Did (TellsEnd number tally (Err fault)) p q x
-  peer_told (session.Packet f) line told is same h = by_peer tally (session_line (session.Packet f)) told p q x (is ∙ ap Some (sym same)) h
-  peer_told (session.Wire f) line told is same h = by_peer tally (session_line (session.Wire f)) told p q x (is ∙ ap Some (sym same)) h
-  peer_told (session.Client f) line told is same h = by_peer tally (session_line (session.Client f)) told p q x (is ∙ ap Some (sym same)) h
-  peer_told session.TooManyFrames line told is same h = by_peer tally (session_line session.TooManyFrames) told p q x (is ∙ ap Some (sym same)) h
-  peer_told session.LinkFault line told is same h = absurd (let no : stop.Peer line ≡ stop.LinkFault = is in cc)
-  peer_told session.Memory line told is same h = absurd (let no : stop.Peer line ≡ stop.Memory = is in cc)
-
-  -- the link failed
-  pub link_told : (fault : SessionFault) → TellsSession fault stop.LinkFault → Did (TellsFault tally link_fault_line LinkFault) p q x → Did (TellsEnd number tally (Err fault)) p q x
-  link_told (session.Packet f) is h = absurd is
-  link_told (session.Wire f) is h = absurd is
-  link_told (session.Client f) is h = absurd is
-  link_told session.TooManyFrames is h = absurd is
-  link_told session.LinkFault is h = h
-  link_told session.Memory is h = absurd (let no : stop.LinkFault ≡ stop.Memory = is in cc)

@@ -34,13 +34,13 @@ use Rattle.session_commands.specs.Lines.{served_line}
 use Rattle.session_commands.specs.SessionEnds.{session_line}
 use Rattle.session_rooms.proofs.SentMessages.{keeps_send}
 use Rattle.serve_rooms.specs.Acts.{Act, Loading, hosted, loaded, added, rebuilds, unaccepted, unread, events_in}
-use Rattle.serve_rooms.specs.Answering.{Answered, goes_on, has_ended, fails, unkept, if_added, Adds, after_sending, after_adding, AnswersBytes, no_call, answers, after_packet, AnswersNext, Session, over, lost, Served, answers_by, AnswersOn, AnswersAll}
+use Rattle.serve_rooms.specs.Answering.{goes_on, fails, unkept, if_added, Adds, after_sending, after_adding, AnswersBytes, no_call, answers, after_packet, AnswersNext, Session, over, lost, Served, answers_by, AnswersOn, AnswersAll}
 use Rattle.serve_rooms.specs.Answering as answering
 use Rattle.serve_rooms.specs.Doing.{Hosted, Last, BeginsKept, to_serve}
 use Rattle.serve_rooms.specs.Serve.{EndsBy, OfText, no_schema, schema_of, after_reading, LoadsSchema, OfProfile, OfSchema, no_profile, profiled, after_loading, OfProfiled, after_opening, OpensAndServes, keeps, serves}
 use Rattle.serve_rooms.specs.ServeLaws.{IsOfServe}
 use Rattle.serve_rooms.specs.Sessions.{more, no_more, keep_fault_line, TellsKeepFault, after_telling, after_session, after_moment, after_accept, ServesNext, Serving, turn_of, serves_by, ServesOn, after_listen, ServesAll}
-use Rattle.serve_rooms.specs.Telling.{Told, is_over, new_tally, TellsLine, TellsFault, after_line, fault_told, TellsEnd}
+use Rattle.serve_rooms.specs.Telling.{Told, is_over, TellsLine, TellsFault, after_line, fault_told, TellsEnd}
 use Rattle.serve_rooms.specs.Telling as telling
 use Rattle.serve_rooms.specs.declared.loading.Loaded.{Loaded}
 use Rattle.serve_rooms.specs.declared.loading.Loaded.TheVariants as schema
@@ -267,16 +267,6 @@ module _ (address : List ℕ) (sessions : ℕ) where
 
   pub may_serve_all : (s : ServerState) (p : ProfileView) → MayServe (ServesAll address sessions s p)
   may_serve_all s p t a h = written [] address (events_in t) (touched [] address t (keeps_all [] address (Q []) (λ e of. of) (λ e ok. tt) sessions s p t a h))
-
-  pub may_serve_loaded : (s : ServerState) (r : Loaded) → MayServe (after_loading (ServesAll address sessions s) r)
-  may_serve_loaded s r t a h =
-      written [] address (events_in t)
-      (touched [] address t (keeps_loaded [] address (Q []) (λ e of. of) (λ e ok. tt) (ServesAll address sessions s) (keeps_all [] address (Q []) (λ e of. of) (λ e ok. tt) sessions s) r t a h))
-
-  pub may_serve_schema : (s : ServerState) (S : Declared) → MayServe (OfSchema (ServesAll address sessions s) S)
-  may_serve_schema s S t a h =
-      written [] address (events_in t)
-      (touched [] address t (keeps_schema [] address (Q []) (λ e of. of) (λ e ok. tt) (ServesAll address sessions s) (keeps_all [] address (Q []) (λ e of. of) (λ e ok. tt) sessions s) S t a h))
 
 -- nor does the reading of a schema, whose refusal is told
 pub may_load : (name : List ℕ) → Keeps (WritesOnly to_serve) (LoadsSchema name)

@@ -1,16 +1,14 @@
--- What can be said of `serve` and `keep` whatever happens. This project's own.
+-- What a run of `serve` may do, and what can be said of `keep`, whatever happens. This project's own.
 use Rattle.std.specs.Prelude.{◌≡◌, ℕ, List, [], ◌∷◌}
 use Rattle.tl_base.specs.declared.host.Slot.{Slot}
 use Rattle.tl_base.specs.declared.host.Slot.TheVariants as slots
 use Rattle.tl_base.specs.declared.host.Out.{Out}
 use Rattle.tl_base.specs.declared.host.Out.TheVariants as outs
-use Rattle.outside.specs.declared.status.Status.{Status}
 use Rattle.outside.specs.Events.{Event, opened, took, ended, read_failed, created, put, write_failed, listened, connected, accepted, told}
-use Rattle.outside.specs.Laws.{Happened, Throughout, Explains, HasCause}
-use Rattle.outside.specs.Runs.{RunsIn}
+use Rattle.outside.specs.Laws.{Happened, Throughout, Explains}
 use Rattle.serve_rooms.specs.Acts.{Act, hosted, loaded, added, events_in, IsKeeperFault}
-use Rattle.serve_rooms.specs.Doing.{RunsKept, to_serve}
-use Rattle.serve_rooms.specs.Serve.{keeps, serves}
+use Rattle.serve_rooms.specs.Doing.{RunsKept}
+use Rattle.serve_rooms.specs.Serve.{keeps}
 use Rattle.serve_rooms.specs.declared.status.KeptStatus.{KeptStatus}
 use Rattle.serve_rooms.specs.declared.status.KeptStatus.TheVariants.{Run, KeepFault}
 
@@ -51,11 +49,7 @@ IsOfServe schema address (connected to ok) = ⊥
 IsOfServe schema address (accepted ok) = Unit {0}
 IsOfServe schema address (told moment) = Unit {0}
 
--- no run of `serve` does anything else, also one that runs out of memory
-abbrev pub ServeTouches : Type 0
-ServeTouches = (schema address : List ℕ) (sessions : ℕ) (t : List Event) (status : Status) → RunsIn to_serve (serves schema address sessions) t status → Throughout (IsOfServe schema address) t
-
--- nor does one of `keep`, its keeper aside
+-- no run of `keep` does anything else with its host, also one that runs out of memory
 abbrev pub KeepTouches : Type 0
 KeepTouches = (schema address : List ℕ) (sessions : ℕ) (t : List Act) (status : KeptStatus) → RunsKept (keeps schema address sessions) t status → Throughout (IsOfServe schema address) (events_in t)
 
@@ -94,15 +88,11 @@ KeepReadsFirst = (schema address : List ℕ) (sessions : ℕ) (t : List Act) (st
 
 -- ---- causes
 
--- a run ends by the status of a fault only where a call of that kind failed
-abbrev pub ServeHasCause : Type 0
-ServeHasCause = (schema address : List ℕ) (sessions : ℕ) → HasCause (RunsIn to_serve (serves schema address sessions))
-
 -- a keeper's fault comes only of a call to the keeper that failed
 abbrev pub ExplainsKept : KeptStatus → List Act → Type 0
 ExplainsKept (Run status) t = Explains status (events_in t)
 ExplainsKept KeepFault t = Happened IsKeeperFault t
 
--- likewise over a keeper
+-- a run of `keep` ends by the status of a fault only where a call of that kind failed
 abbrev pub KeepHasCause : Type 0
 KeepHasCause = (schema address : List ℕ) (sessions : ℕ) (t : List Act) (status : KeptStatus) → RunsKept (keeps schema address sessions) t status → ExplainsKept status t

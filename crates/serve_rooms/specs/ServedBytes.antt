@@ -4,26 +4,21 @@ use Rattle.tl_base.specs.Outside.{left_of, written_of}
 use Rattle.tl_base.specs.declared.host.Out.TheVariants as outs
 use Rattle.tl_base.specs.declared.host.Slot.TheVariants as slots
 use Rattle.box_events.specs.declared.requests.Numbered.{Numbered}
-use Rattle.box_server.specs.Servers.{ServerState, new_server}
+use Rattle.box_server.specs.Servers.{ServerState}
 use Rattle.box_server.specs.declared.entry.Entry.{Entry}
 use Rattle.wire_profile.specs.Places.{ProfileView}
 use Rattle.outside.specs.Answer.{Answer}
 use Rattle.outside.specs.Kept.{Leaves}
 use Rattle.outside.specs.declared.status.Status.{Status}
 use Rattle.outside.specs.declared.status.Status.TheVariants.{LinkFault, WriteFault}
-use Rattle.fault_lines.specs.Profiled.{OfProfileFile}
-use Rattle.outside.specs.Events.{Event, Outside}
-use Rattle.outside.specs.Runs.{RunsIn}
+use Rattle.outside.specs.Events.{Outside}
 use Rattle.outside.specs.Fits.{Fits}
 use Rattle.update_sessions.specs.Kept.{EndsSession, StoreEnd, ended, keeper_failed, kept_in}
-use Rattle.codec_rooms.specs.Laws.{IsAnswer}
 use Rattle.session_commands.specs.Linked.{next_link}
-use Rattle.session_commands.specs.Serve.{SessionEnd, IsAny, OfSessions, Sessions, Total, end_errors, end_output, end_status, first_fault, total_answer}
+use Rattle.session_commands.specs.Serve.{SessionEnd, IsAny, Sessions, Total, end_errors, end_output, end_status, first_fault, total_answer}
 use Rattle.session_commands.specs.Serve as commands
 use Rattle.serve_rooms.specs.Acts.{Act, hosted, loaded, added, events_in}
 use Rattle.serve_rooms.specs.Answering.{AnswersAll, Session, over, lost}
-use Rattle.serve_rooms.specs.Doing.{to_serve}
-use Rattle.serve_rooms.specs.Serve.{serves}
 use Rattle.serve_rooms.specs.Sessions.{ServesAll, ServesNext, more}
 use Rattle.serve_rooms.specs.declared.status.KeptStatus.TheVariants.{Run}
 use Rattle.serve_rooms.specs.declared.telling.Tally.{Tally}
@@ -93,13 +88,3 @@ pub record ServedAll (p : ProfileView) (address : List ℕ) (n : ℕ) (s : Serve
 abbrev pub AllAnswer : Type 0
 AllAnswer = (p : ProfileView) (address : List ℕ) (n : ℕ) (s : ServerState) (acts : List Act) (status : Status) (x y : Outside) → ServesAll address n s p acts (Run status) → Fits (events_in acts) x y
     → status ≢ WriteFault → status ≢ LinkFault → ServedAll p address n s acts status x y
-
--- ---- the command
-
--- A run of `serve` that neither files, nor Output, nor memory stopped, nor a link before all were served, ends by an answer to the first file with the schema's name,
--- over what the next links give at the next moments: that is its status, Output has grown by it, and what is left of the outside is the answer's. Links may fail in the
--- sessions.
-abbrev pub ServeAnswers : Type 0
-ServeAnswers = (schema address : List ℕ) (sessions : ℕ) (t : List Event) (status : Status) (x y : Outside) → RunsIn to_serve (serves schema address sessions) t status → Fits t x y → IsAnswer status → status ≢ LinkFault
-    → (a : Answer) × OfProfileFile (OfSessions new_server address IsAny sessions x.view.links x.view.moments) x.view.files schema a × (status ≡ a.status) × (written_of outs.Output y.view ≡ written_of outs.Output x.view ++ a.output)
-    × Leaves a x.view y.view

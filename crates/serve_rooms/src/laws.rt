@@ -1,17 +1,6 @@
 //! Laws of what `serve` and `keep` do.
-ghost use Rattle.serve_rooms.specs.ServeLaws.{KeepHasCause, KeepReadsFirst, KeepTouches, ServeHasCause, ServeTouches};
-ghost use Rattle.serve_rooms.specs.ServedBytes.{AllAnswer, NextAnswers, ServeAnswers, SessionsAnswer};
-
-/// A run of `serve` opens and reads the schema's file, takes links at the address, reads and writes them, reads the clock, and writes to Output and Errors. It does
-/// nothing else, also where memory runs out.
-pub fn serve_touches()
-    ensures { ServeTouches }
-{}
-
-/// It ends by the status of a fault only where a call of that kind failed.
-pub fn serve_has_cause()
-    ensures { ServeHasCause }
-{}
+ghost use Rattle.serve_rooms.specs.ServeLaws.{KeepHasCause, KeepReadsFirst, KeepTouches};
+ghost use Rattle.serve_rooms.specs.ServedBytes.{AllAnswer, NextAnswers, SessionsAnswer};
 
 /// A run of `keep` does with its host no more than one of `serve`.
 pub fn keep_touches()
@@ -43,11 +32,4 @@ pub fn next_answers()
 /// And so are all sessions of a run, one after the other, that ended by no fault of Output, nor by one of a link before all were served.
 pub fn all_answer()
     ensures { AllAnswer }
-{}
-
-/// Over an outside whose files and links give bytes, a run of `serve` that neither files, nor Output, nor memory stopped, nor a link before all were served, ends by
-/// an answer to the first file with the schema's name, over what the next links give at the next moments: that is its status, Output has grown by it, and what is
-/// left of the outside is the answer's. Links may fail in the sessions.
-pub fn serve_answers()
-    ensures { ServeAnswers }
 {}

@@ -13,8 +13,7 @@ mod telling;
 
 pub use keep::{run_kept, serve_kept};
 pub use laws::{
-    all_answer, keep_has_cause, keep_reads_first, keep_touches, next_answers, serve_answers,
-    serve_has_cause, serve_touches, sessions_answer,
+    all_answer, keep_has_cause, keep_reads_first, keep_touches, next_answers, sessions_answer,
 };
 pub use serve::{run_serve, serve_sessions};
 pub use status::{KeptRun, KeptStatus};

@@ -1,6 +1,5 @@
 //! How a session ended is told: a line on Output or on Errors.
 ghost use Rattle.std.specs.Prelude.{◌≡◌, IfOk, Some};
-ghost use Rattle.outside.specs.Runs.{answered};
 ghost use Rattle.outside.specs.Begun.{Did};
 ghost use Rattle.session_commands.specs.Lines.{served_line};
 ghost use Rattle.session_commands.specs.Serve.{first_fault};

@@ -22,6 +22,8 @@ use Rattle.outside.specs.Laws.{Throughout, Keeps, Happened, IsFailure, IsFromLin
 use Rattle.outside.specs.Packets.{PacketView, whole, TakesPacket}
 use Rattle.outside.specs.Packets as packets
 use Rattle.outside.specs.Pieces.{ReadsFile, Writes}
+use Rattle.outside.specs.Begun.{to_link}
+use Rattle.outside.specs.Runs.{RunsIn}
 use Rattle.outside.specs.Runs as runs
 use Rattle.outside.specs.Steps.{Turn, again, leave, Reaches, here, turn}
 use Rattle.outside.proofs.Causing.{cause_print, cause_run, cause_tell, cause_then, explains_last, happened_first, happened_last, keeps_begun, keeps_call, keeps_file, keeps_print, keeps_tell, keeps_then, keeps_write, throughout_both, unread_file, unwritten}
@@ -39,7 +41,7 @@ use Rattle.session_commands.specs.SessionEnds.{session_line}
 use Rattle.session_commands.proofs.ToldCauses.{frame_told, told_line}
 use Rattle.session_commands.specs.declared.state.TheConstants.{MAX_STATE_BYTES}
 use Rattle.session_rooms.specs.Client.{OfState, no_client, too_many, watches, OfStateFile, Recovers, after_reading, after_connect, after_session, Leaves, after_create, no_memory, saves, after_state, ends_by, recovers}
-use Rattle.session_rooms.specs.ClientLaws.{IsOfClient, ClientTouches, ClientHasCause}
+use Rattle.session_rooms.specs.ClientLaws.{IsOfClient}
 use Rattle.session_rooms.specs.Conversing.{Outcome, Asks, after_asking, HearsBytes, no_frame, refused as refused_frame, heard, after_packet, HearsNext, Heard, turn_of, hears_by, HearsOn, after_begin, Converses}
 use Rattle.session_rooms.specs.Sending.{Sends}
 use Rattle.session_rooms.proofs.Conversed.{keeps_converse}
@@ -99,7 +101,8 @@ module _ (schema address state : List ℕ) where
       let Rest = OfStateFile address state channels in
       keeps_of_file P (λ _. tt) tt (λ _. tt) tt slots.Schema (codes "schema") (OfProfile Rest) schema (λ ok. refl) (λ _. tt) tt tt (keeps_profile Rest P (λ _. tt) tt (λ _. tt) tt (λ p. keeps_state_file p channels))
 
-pub client_touches : ClientTouches
+-- no run does anything else, also one that runs out of memory
+pub client_touches : (schema address state : List ℕ) (channels : List ℤ) (t : List Event) (status : Status) → RunsIn to_link (recovers schema address state channels) t status → Throughout (IsOfClient schema address state) t
 client_touches schema address state channels t s (runs.done h) = keeps_client schema address state channels t s h
 client_touches schema address state channels t s (runs.out_of_memory h) =
     let P = IsOfClient schema address state in
@@ -272,7 +275,7 @@ module _ (p : ProfileView) (state : List ℕ) where
       read_cause (Some bytes) t u status read h = explains_last status t u (state_bytes_cause bytes u status h)
       read_cause None t u status read h = cause_tell _ ReadFault t u status (unread_file slots.State state MAX_STATE_BYTES t read) h
 
-pub client_has_cause : ClientHasCause
+pub client_has_cause : (schema address state : List ℕ) (channels : List ℤ) → HasCause (RunsIn to_link (recovers schema address state channels))
 client_has_cause schema address state channels =
     let Rest = OfStateFile address state channels in
     cause_run (recovers schema address state channels)

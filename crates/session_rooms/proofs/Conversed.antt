@@ -62,9 +62,6 @@ module _ (p : ProfileView) where
   pub may_ask : (c : ClientState) → Keeps (WritesOnly to_link) (Asks p c)
   may_ask c = keeps_ask (WritesOnly to_link) (λ _. inl refl) (inl refl) (λ _. tt) tt tt p c
 
-  pub may_next : (c : ClientState) → Keeps (WritesOnly to_link) (HearsNext p c)
-  may_next c = keeps_next (WritesOnly to_link) (λ _. inl refl) (inl refl) (λ _. tt) tt tt p c
-
   pub may_hear : (h : Heard) → Keeps (WritesOnly to_link) (HearsOn p h)
   may_hear h = keeps_hears (WritesOnly to_link) (λ _. inl refl) (inl refl) (λ _. tt) tt tt p h
 

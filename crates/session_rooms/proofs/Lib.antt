@@ -8,7 +8,6 @@ pub mod Posting
 pub mod PostLaws
 pub mod LeftPackets
 pub mod ConversedBytes
-pub mod AnsweredClients
 pub mod LeftViews
 pub mod PacketsLeft
 pub mod PostFiles

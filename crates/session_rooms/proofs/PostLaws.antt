@@ -14,6 +14,8 @@ use Rattle.outside.specs.Packets.{PacketView, whole, TakesPacket}
 use Rattle.outside.specs.Packets as packets
 use Rattle.outside.specs.Pieces.{ReadsFile, Tells, Writes}
 use Rattle.outside.specs.Printing.{Prints}
+use Rattle.outside.specs.Begun.{to_link}
+use Rattle.outside.specs.Runs.{RunsIn}
 use Rattle.outside.specs.Runs as runs
 use Rattle.outside.proofs.Causing.{cause_print, cause_run, cause_tell, cause_then, explains_last, keeps_begun, keeps_call, keeps_file, keeps_print, keeps_tell, keeps_then, keeps_write, throughout_both, unread_file, unwritten}
 use Rattle.outside.proofs.TakenPackets.{broken_packet, keeps_packet, packet_came}
@@ -24,7 +26,7 @@ use Rattle.update_commands.specs.Profile.{OfProfile}
 use Rattle.update_commands.proofs.ProfiledLaws.{keeps_profile, cause_profile}
 use Rattle.session_commands.specs.Post.{Outcome, shows, peer}
 use Rattle.session_rooms.specs.Post.{CallsOver, OfCall, no_call, long_call, calls_it, OfInputFile, OfText, no_json, json_of, after_connect, after_packet, after_reading, after_sending, posts, told_as}
-use Rattle.session_rooms.specs.PostLaws.{IsOfPost, PostTouches, PostHasCause}
+use Rattle.session_rooms.specs.PostLaws.{IsOfPost}
 
 -- ---- events
 
@@ -83,7 +85,8 @@ module _ (schema address input : List ℕ) where
       let Rest = OfInputFile address input in
       keeps_of_file P (λ _. tt) tt (λ _. tt) tt slots.Schema (codes "schema") (OfProfile Rest) schema (λ ok. refl) (λ _. tt) tt tt (keeps_profile Rest P (λ _. tt) tt (λ _. tt) tt keeps_input)
 
-pub post_touches : PostTouches
+-- no run does anything else, also one that runs out of memory
+pub post_touches : (schema address input : List ℕ) (t : List Event) (status : Status) → RunsIn to_link (posts schema address input) t status → Throughout (IsOfPost schema address input) t
 post_touches schema address input t s (runs.done h) = keeps_post schema address input t s h
 post_touches schema address input t s (runs.out_of_memory h) =
     let P = IsOfPost schema address input in
@@ -133,7 +136,7 @@ module _ (p : ProfileView) (address : List ℕ) where
   read_cause input (Some text) t u s read h = explains_last s t u (text_cause text u s h)
   read_cause input None t u s read h = cause_tell _ ReadFault t u s (unread_file slots.Input input JSON_BYTES t read) h
 
-pub post_has_cause : PostHasCause
+pub post_has_cause : (schema address input : List ℕ) → HasCause (RunsIn to_link (posts schema address input))
 post_has_cause schema address input =
     let Rest = OfInputFile address input in
     cause_run (posts schema address input)

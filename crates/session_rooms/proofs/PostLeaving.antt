@@ -4,11 +4,15 @@ use Rattle.tl_base.specs.Contents.{Files}
 use Rattle.tl_base.specs.Outside.{View, with_written}
 use Rattle.tl_base.specs.declared.host.Out.{Out}
 use Rattle.tl_base.specs.declared.host.Out.TheVariants as outs
+use Rattle.outside.specs.declared.status.Status.{Status}
+use Rattle.outside.specs.Begun.{to_link}
 use Rattle.outside.specs.Events.{Event, Outside, opened, took, ended, read_failed, created, put, write_failed, listened, connected, accepted, told}
 use Rattle.outside.specs.Laws.{Throughout}
 use Rattle.outside.specs.Fits.{Fits, Happens}
+use Rattle.outside.specs.Runs.{RunsIn}
+use Rattle.session_commands.specs.Linked.{KeepsFiles}
+use Rattle.session_rooms.specs.Post.{posts}
 use Rattle.session_rooms.specs.PostLaws.{IsOfPost, IsWrittenByPost}
-use Rattle.session_rooms.specs.PostWrites.{PostLeaves}
 use Rattle.session_rooms.proofs.PostLaws.{post_touches}
 
 -- files, moments, the room and State
@@ -41,7 +45,9 @@ module _ (schema address input : List ℕ) where
   events_keep [] s n f are = ap (λ (o : Outside). kept_of o.view) f
   events_keep (e ∷ t) s n f are = events_keep t f.0 n f.2 are.1 ∙ event_keeps e s f.0 f.1 are.0
 
-pub post_leaves : PostLeaves
+-- whatever happens, files, moments, the room and State are as before
+pub post_leaves : (schema address input : List ℕ) (t : List Event) (status : Status) (s n : Outside) → RunsIn to_link (posts schema address input) t status → Fits t s n
+    → KeepsFiles s.view n.view × (n.view.written.state ≡ s.view.written.state) × (n.view.state_name ≡ s.view.state_name)
 post_leaves schema address input t r s n run f =
     let same = events_keep schema address input t s n f (post_touches schema address input t r run) in
     (record { files = ap (λ k. k.0) same; moments = ap (λ k. k.1) same; room = ap (λ k. k.2) same }, ap (λ k. k.3) same, ap (λ k. k.4) same)

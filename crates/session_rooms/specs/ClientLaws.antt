@@ -1,15 +1,10 @@
--- What can be said of `client` whatever happens. This project's own.
-use Rattle.std.specs.Prelude.{◌≡◌, ℕ, ℤ, List}
+-- What a run of `client` may do, whatever happens. This project's own.
+use Rattle.std.specs.Prelude.{◌≡◌, ℕ, List}
 use Rattle.tl_base.specs.declared.host.Slot.{Slot}
 use Rattle.tl_base.specs.declared.host.Slot.TheVariants as slots
 use Rattle.tl_base.specs.declared.host.Out.{Out}
 use Rattle.tl_base.specs.declared.host.Out.TheVariants as outs
-use Rattle.outside.specs.declared.status.Status.{Status}
 use Rattle.outside.specs.Events.{Event, opened, took, ended, read_failed, created, put, write_failed, listened, connected, accepted, told}
-use Rattle.outside.specs.Laws.{Throughout, HasCause}
-use Rattle.outside.specs.Begun.{to_link}
-use Rattle.outside.specs.Runs.{RunsIn}
-use Rattle.session_rooms.specs.Client.{recovers}
 
 -- Schema, State and the link are read
 abbrev pub IsReadByClient : Slot → Type 0
@@ -45,11 +40,3 @@ IsOfClient schema address state (listened to ok) = ⊥
 IsOfClient schema address state (connected to ok) = to ≡ address
 IsOfClient schema address state (accepted ok) = ⊥
 IsOfClient schema address state (told moment) = ⊥
-
--- no run of `client` does anything else, also one that runs out of memory
-abbrev pub ClientTouches : Type 0
-ClientTouches = (schema address state : List ℕ) (channels : List ℤ) (t : List Event) (status : Status) → RunsIn to_link (recovers schema address state channels) t status → Throughout (IsOfClient schema address state) t
-
--- a run ends by the status of a fault only where a call of that kind failed
-abbrev pub ClientHasCause : Type 0
-ClientHasCause = (schema address state : List ℕ) (channels : List ℤ) → HasCause (RunsIn to_link (recovers schema address state channels))

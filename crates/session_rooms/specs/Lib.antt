@@ -7,4 +7,3 @@ pub mod PostLaws
 pub mod PostAnswers
 pub mod PostWrites
 pub mod inner
-pub mod ClientAnswers

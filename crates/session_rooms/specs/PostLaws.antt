@@ -1,15 +1,10 @@
--- What can be said of `post` whatever happens. This project's own.
+-- What a run of `post` may do, whatever happens. This project's own.
 use Rattle.std.specs.Prelude.{◌≡◌, ℕ, List}
 use Rattle.tl_base.specs.declared.host.Slot.{Slot}
 use Rattle.tl_base.specs.declared.host.Slot.TheVariants as slots
 use Rattle.tl_base.specs.declared.host.Out.{Out}
 use Rattle.tl_base.specs.declared.host.Out.TheVariants as outs
-use Rattle.outside.specs.declared.status.Status.{Status}
 use Rattle.outside.specs.Events.{Event, opened, took, ended, read_failed, created, put, write_failed, listened, connected, accepted, told}
-use Rattle.outside.specs.Laws.{Throughout, HasCause}
-use Rattle.outside.specs.Begun.{to_link}
-use Rattle.outside.specs.Runs.{RunsIn}
-use Rattle.session_rooms.specs.Post.{posts}
 
 -- Schema, Input and the link are read
 abbrev pub IsReadByPost : Slot → Type 0
@@ -45,11 +40,3 @@ IsOfPost schema address input (listened to ok) = ⊥
 IsOfPost schema address input (connected to ok) = to ≡ address
 IsOfPost schema address input (accepted ok) = ⊥
 IsOfPost schema address input (told moment) = ⊥
-
--- no run of `post` does anything else, also one that runs out of memory
-abbrev pub PostTouches : Type 0
-PostTouches = (schema address input : List ℕ) (t : List Event) (status : Status) → RunsIn to_link (posts schema address input) t status → Throughout (IsOfPost schema address input) t
-
--- a run ends by the status of a fault only where a call of that kind failed
-abbrev pub PostHasCause : Type 0
-PostHasCause = (schema address input : List ℕ) → HasCause (RunsIn to_link (posts schema address input))

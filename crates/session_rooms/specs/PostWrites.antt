@@ -1,4 +1,4 @@
--- What `post` has written, whatever stops it, and what it leaves as it was. This project's own.
+-- What `post` has written, whatever stops it. This project's own.
 use Rattle.std.specs.Prelude.{◌≡◌, ◌⊎◌, ℕ, List, [], ◌∷◌, ◌++◌}
 use Rattle.tl_numbers.specs.Bytes.{AreBytes}
 use Rattle.tl_base.specs.Outside.{written_of}
@@ -11,7 +11,7 @@ use Rattle.outside.specs.Begun.{to_link}
 use Rattle.outside.specs.Events.{Event, Outside}
 use Rattle.outside.specs.Runs.{RunsIn}
 use Rattle.outside.specs.Fits.{Fits}
-use Rattle.session_commands.specs.Linked.{next_link, KeepsFiles}
+use Rattle.session_commands.specs.Linked.{next_link}
 use Rattle.session_commands.specs.Post.{PostAnswer}
 use Rattle.session_rooms.specs.Post.{posts}
 
@@ -32,9 +32,3 @@ abbrev pub PostWrites : Type 0
 PostWrites =
     (schema address input : List ℕ) (t : List Event) (status : Status) (s n : Outside) → RunsIn to_link (posts schema address input) t status → Fits t s n → AreBytes (next_link s.view)
     → WritesNone s n ⊎ ((a : Answer) × PostAnswer s.view.files (next_link s.view) schema address input a × WritesSome a s n) ⊎ ((status ≡ Memory) × (written_of Output n.view ≡ written_of Output s.view))
-
--- whatever happens, files, moments, the room and State are as before
-abbrev pub PostLeaves : Type 0
-PostLeaves =
-    (schema address input : List ℕ) (t : List Event) (status : Status) (s n : Outside) → RunsIn to_link (posts schema address input) t status → Fits t s n
-    → KeepsFiles s.view n.view × (n.view.written.state ≡ s.view.written.state) × (n.view.state_name ≡ s.view.state_name)

@@ -9,8 +9,5 @@ mod post;
 mod sending;
 
 pub use client::{recover_client, run_client};
-pub use laws::{
-    client_answers, client_has_cause, client_touches, post_answers, post_ends, post_has_cause,
-    post_leaves, post_touches, post_writes,
-};
+pub use laws::{post_answers, post_ends, post_writes};
 pub use post::{post_call, run_post};

@@ -8,8 +8,8 @@ use Rattle.fault_lines.specs.Profiled as answer
 use Rattle.outside.specs.Laws.{Keeps, Explains, HasCause}
 use Rattle.outside.specs.Runs.{Runs}
 use Rattle.outside.proofs.Causing.{keeps_answer, cause_answer, cause_run}
-use Rattle.codec_rooms.specs.Laws.{Named, IsOf, Touches, AnswersFiles, ReadsFiles, EndsFiles}
-use Rattle.codec_rooms.proofs.FileLaws.{Comes, comes_as, comes_print, touches, answers_files, reads_files, ends_files}
+use Rattle.codec_rooms.specs.Laws.{Named, IsOf, ReadsFiles, EndsFiles}
+use Rattle.codec_rooms.proofs.FileLaws.{Touches, Comes, comes_as, comes_print, touches, reads_files, ends_files}
 use Rattle.codec_rooms.proofs.TypedFiles.{comes_answer, comes_of_file}
 use Rattle.codec_rooms.proofs.TypedLaws.{keeps_named, cause_of_file}
 use Rattle.update_commands.specs.Make.{OfMadeRun, summed, too_full}
@@ -46,9 +46,6 @@ module _ (schema : List ℕ) (number count : ℕ) where
 
   comes : Comes (λ s. (make schema number count).answers s.view.files) (makes schema number count)
   comes = comes_of_file (codes "schema") (OfProfile (makes_by number count)) (λ S files. answer.OfProfile (λ p b. OfMadeRun number count b) S) comes_profile Schema schema
-
-  pub make_answers : AnswersFiles (make schema number count)
-  make_answers = answers_files (make schema number count) comes (λ files. one_make number count files schema)
 
   pub make_reads : ReadsFiles (make schema number count)
   make_reads = reads_files (make schema number count) make_touches make_has_cause

@@ -22,7 +22,7 @@ use Rattle.outside.specs.Pieces.{ReadsFile}
 use Rattle.outside.specs.Printing.{Answers, Unread}
 use Rattle.outside.specs.Steps.{Step, Then}
 use Rattle.outside.proofs.Causing.{told_status}
-use Rattle.codec_rooms.specs.Laws.{IsOneAnswer}
+use Rattle.codec_rooms.specs.Laws.{Command}
 use Rattle.codec_rooms.proofs.FileLaws.{Comes, comes_as, comes_print}
 use Rattle.codec_rooms.proofs.TypedFiles.{comes_answer, comes_file, comes_of_file}
 use Rattle.update_replay.specs.Replays.{Replays, goes_on, seen_of}
@@ -36,6 +36,10 @@ use Rattle.update_commands.specs.Commands.{replay}
 use Rattle.update_commands.specs.Profile.{OfProfile, no_profile, profiled}
 use Rattle.update_commands.specs.ReplayWork.{after_journal, replays, replays_by}
 use Rattle.update_commands.proofs.Replayed.{read_are}
+
+-- the one answer to the first files with the names
+abbrev pub IsOneAnswer : Command → Files → Answer → Type 0
+IsOneAnswer c files a = c.answers files a × ((b : Answer) → c.answers files b → b ≡ a)
 
 -- ---- a profile
 

@@ -12,8 +12,8 @@ use Rattle.outside.specs.Pieces.{ReadsFile}
 use Rattle.outside.specs.Begun.{to_output}
 use Rattle.outside.specs.Runs.{RunsIn}
 use Rattle.outside.proofs.Causing.{keeps_answer, keeps_file, keeps_tell, keeps_then, cause_answer, cause_run, cause_tell, cause_then, explains_last, unread_file}
-use Rattle.codec_rooms.specs.Laws.{Named, Command, IsOf, IsUsed, Touches, IsOneAnswer, AnswersFiles, ReadsFiles, EndsFiles}
-use Rattle.codec_rooms.proofs.FileLaws.{ComesTo, unread, answered as told, run_done, touches, answers_files, reads_files, ends_files}
+use Rattle.codec_rooms.specs.Laws.{Named, Command, IsOf, IsUsed, ReadsFiles, EndsFiles}
+use Rattle.codec_rooms.proofs.FileLaws.{ComesTo, unread, answered as told, run_done, Touches, touches, reads_files, ends_files}
 use Rattle.codec_rooms.proofs.TypedLaws.{keeps_named, cause_of_file}
 use Rattle.fault_lines.specs.Messages.{step_line}
 use Rattle.update_replay.specs.Endings.{Ending, whole, no_step, not_made, too_long}
@@ -24,7 +24,7 @@ use Rattle.update_commands.specs.Profile.{OfProfile}
 use Rattle.update_commands.specs.ReplayWork.{after_journal, replays, replays_by}
 use Rattle.update_commands.specs.Commands.{replay}
 use Rattle.update_commands.proofs.ProfiledLaws.{keeps_profile, cause_profile}
-use Rattle.update_commands.proofs.ReplayFiles.{comes_one}
+use Rattle.update_commands.proofs.ReplayFiles.{IsOneAnswer, comes_one}
 
 module _ (schema journal : List ℕ) (n : ℕ) where
   abbrev reads : Named
@@ -87,9 +87,6 @@ module _ (schema journal : List ℕ) (n : ℕ) where
 
   one_only : (files : Files) (a b : Answer) → only.answers files a → only.answers files b → a ≡ b
   one_only files a b h k = k.1 a h.0
-
-  pub replay_answers : AnswersFiles (replay schema journal n)
-  replay_answers t status s k h f is = let a = answers_files only (comes_one schema journal n) one_only t status s k h f is in (a.0, a.1.0, a.2)
 
   is_only : (files : Files) (t : List Event) (status : Status) (a : Answer) → ComesTo (IsOneAnswer (replay schema journal n) files) t status → (status ≡ ReadFault → ⊥) → ReplayAnswer files schema journal n a → IsOneAnswer (replay schema journal n) files a
   is_only files t status a (unread e) readable is = absurd (readable e)

@@ -12,8 +12,5 @@ pub use laws::{journals_have_one_answer, made_runs_have_one_answer};
 pub use make::run_text;
 pub use make_work::{make_run, run_make};
 pub use replay::{replay_journal, run_replay};
-pub use runs::{
-    make_answers, make_ends, make_has_cause, make_reads, make_touches, replay_answers, replay_ends,
-    replay_has_cause, replay_reads, replay_touches,
-};
+pub use runs::{make_ends, make_reads, replay_ends, replay_reads};
 pub use steps::unmade_line;

@@ -1,12 +1,9 @@
 -- What is sent for a call.
-use Rattle.std.proofs.Common.{◌≡◌, ◌≢◌, ℕ, ℤ, pos, ◌≤◌, List, [], ◌∷◌, ◌++◌, Option, Some, None, Result, Ok, Err, refl, sym, ap, ◌∙◌, subst, arith}
-use Rattle.std.specs.Prelude.{OnOk, IfSome}
+use Rattle.std.proofs.Common.{◌≡◌, ℕ, ℤ, pos, ◌≤◌, List, [], ◌∷◌, Option, Some, None, Result, Ok, Err, refl, sym, ap, ◌∙◌, subst, arith}
+use Rattle.std.specs.Prelude.{IfSome}
 use Rattle.std.specs.FinMap as map
-use Rattle.std.specs.declared.alloc.AllocError.{AllocError}
-use Rattle.tl_base.specs.Packets.{packet}
 use Rattle.box_events.specs.declared.limits.TheConstants.{MAX_FRAME_BYTES}
 use Rattle.box_events.specs.declared.positions.Receipt.{Receipt}
-use Rattle.box_events.specs.declared.replies.Frame.{Frame}
 use Rattle.box_events.specs.declared.replies.Frame.TheVariants.{Push as PushFrame, Reply}
 use Rattle.box_events.specs.declared.replies.Reply.{Reply as SomeReply}
 use Rattle.box_events.specs.declared.replies.Reply.TheVariants.{Receipt as ReceiptReply, Error}
@@ -23,31 +20,13 @@ use Rattle.box_server.specs.Servers.{ServerState}
 use Rattle.box_server.specs.Sound.{IsSound}
 use Rattle.box_server.specs.declared.fault.PostFault.{PostFault}
 use Rattle.box_server.specs.declared.posted.Posted.{Posted}
-use Rattle.box_server.specs.declared.entry.Entry.{Entry}
-use Rattle.box_server.specs.Keeping.{with_more}
-use Rattle.box_server.specs.Rebuilding.{kept_of}
-use Rattle.box_server.specs.Storing.{Takes}
-use Rattle.box_server.proofs.Rebuilt.{refused_adds_nothing}
-use Rattle.wire_profile.specs.Places.{ProfileView}
 use Rattle.box_world.specs.Sizes.{frame_size}
 use Rattle.box_world.proofs.AnswersBelow.{answers_below}
 use Rattle.box_world.proofs.PushesBelow.{pushes_below, receipts_below, refusals_below}
-use Rattle.update_sessions.specs.Kept.{kept_for}
-use Rattle.update_sessions.specs.Packed.{Packed, SpellsFrame}
 use Rattle.update_sessions.specs.Serving.{after_request, push_frames, posted_frames, sent_for}
-use Rattle.update_sessions.specs.declared.answering.CallAnswer.{CallAnswer}
-use Rattle.update_sessions.specs.inner.Steps.{Puts}
-use Rattle.update_sessions.specs.inner.StoreSteps.{AreShort, Sends, Took, frames_in, if_any}
-use Rattle.update_sessions.proofs.Entries.{more_none}
-use Rattle.update_sessions.proofs.Packets.{packed_then, packed_one}
+use Rattle.update_sessions.specs.inner.StoreSteps.{Sends}
 
 -- ---- requests but for posts
-
-pub answered_of : (r : Request) → ((random_id : ℤ) (posts : List Post) → r ≢ request.Post random_id posts) → IsAnswered r
-answered_of request.State other = tt
-answered_of (request.Difference pts qts date) other = tt
-answered_of (request.Channel id pts) other = tt
-answered_of (request.Post random_id posts) other = other random_id posts refl
 
 pub sent_answer : (s : ServerState) (n : ℕ) (r : Request) → IsAnswered r → sent_for s n r ≡ Reply n (answer s r) ∷ []
 sent_answer s n request.State h = refl
@@ -60,29 +39,6 @@ after_answer s request.State h = refl
 after_answer s (request.Difference pts qts date) h = refl
 after_answer s (request.Channel id pts) h = refl
 after_answer s (request.Post random_id posts) h = absurd h
-
--- one packet in an empty buffer
-pub packed_first : (p : ProfileView) (f : Frame) (old new : List ℕ) → old ≡ [] → Puts (SpellsFrame p f) old new → Packed (SpellsFrame p) (f ∷ []) new
-packed_first p f old new none (b, s, is) = subst (Packed (SpellsFrame p) (f ∷ [])) (sym (is ∙ ap (λ (l : List ℕ). l ++ packet b) none)) (packed_one (SpellsFrame p) f b s)
-
--- and one more
-pub packed_second : (p : ProfileView) (fs : List Frame) (f : Frame) (old new : List ℕ) → Packed (SpellsFrame p) fs old → Puts (SpellsFrame p f) old new → Packed (SpellsFrame p) (fs ++ f ∷ []) new
-packed_second p fs f old new packed (b, s, is) = subst (Packed (SpellsFrame p) (fs ++ f ∷ [])) (sym is) (packed_then (SpellsFrame p) fs (f ∷ []) old (packet b) packed (packed_one (SpellsFrame p) f b s))
-
-pub both_by : (p : ProfileView) (f g : Frame) (old mid new : List ℕ) (r : Result (Unit {0}) AllocError) → old ≡ [] → Puts (SpellsFrame p f) old mid → OnOk r (Puts (SpellsFrame p g) mid new) → OnOk r (Packed (SpellsFrame p) (f ∷ g ∷ []) new)
-both_by p f g old mid new (Ok u) none first h = packed_second p (f ∷ []) g mid new (packed_first p f old mid none first) h
-both_by p f g old mid new (Err e) none first h = tt
-
--- what is sent, with a push and without one
-pub sent_both : (p : ProfileView) (x : CallAnswer) (g : Frame) (old mid new : List ℕ) (r : Result (Unit {0}) AllocError) → x.push ≡ Some g → old ≡ [] → Puts (SpellsFrame p x.reply) old mid → OnOk r (Puts (SpellsFrame p g) mid new) → OnOk r (Packed (SpellsFrame p) (frames_in x) new)
-sent_both p x g old mid new r is none first h =
-    subst (λ (o : Option Frame). OnOk r (Packed (SpellsFrame p) (x.reply ∷ if_any o) new)) (sym is) (both_by p x.reply g old mid new r none first h)
-
-pub sent_alone : (p : ProfileView) (x : CallAnswer) (old new : List ℕ) → x.push ≡ None → old ≡ [] → Puts (SpellsFrame p x.reply) old new → Packed (SpellsFrame p) (frames_in x) new
-sent_alone p x old new is none first = subst (λ (o : Option Frame). Packed (SpellsFrame p) (x.reply ∷ if_any o) new) (sym is) (packed_first p x.reply old new none first)
-
-pub push_fits : (x : CallAnswer) (g : Frame) → x.push ≡ Some g → AreShort x → frame_size g ≤ MAX_FRAME_BYTES
-push_fits x g is short = subst (λ (o : Option Frame). IfSome o (λ f. frame_size f ≤ MAX_FRAME_BYTES)) is short.push
 
 -- an answer is short, and so is what is sent
 pub answer_short : (s : ServerState) (n : ℕ) (r : Request) (reply : SomeReply) → IsSound s → reply ≡ answer s r → frame_size (Reply n reply) ≤ MAX_FRAME_BYTES
@@ -142,26 +98,3 @@ pub push_short : (s : ServerState) (random_id : ℤ) (posts : List Post) (q : Po
 push_short s random_id posts q sound is = short_by s random_id posts (map.get s.receipts random_id) (post_cause s posts) q refl sound is
 
 -- ---- what a store takes
-
-kept_answer : (s : ServerState) (r : Request) → IsAnswered r → kept_for s r ≡ []
-kept_answer s request.State h = refl
-kept_answer s (request.Difference pts qts date) h = refl
-kept_answer s (request.Channel id pts) h = refl
-kept_answer s (request.Post random_id posts) h = absurd h
-
-pub took_answer : (s : ServerState) (n : ℕ) (r : Request) (x : CallAnswer) (e0 e1 : Option (List Entry)) → IsAnswered r → Sends x (sent_for s n r) → e1 ≡ e0 → Took s n r e0 e1 s x
-took_answer s n r x e0 e1 h sends same =
-    record { sends = sends; server = sym (after_answer s r h); appended = same ∙ more_none e0 ∙ ap (λ (l : List Entry). with_more l e0) (sym (kept_answer s r h)) }
-
-pub took_posted : (s t : ServerState) (n : ℕ) (id : ℤ) (posts : List Post) (q : Posted) (x : CallAnswer) (e0 e1 : Option (List Entry)) → Takes s id posts q t → e1 ≡ with_more (kept_of s id posts) e0 → Sends x (posted_frames n (Ok q)) → Took s n (request.Post id posts) e0 e1 t x
-took_posted s t n id posts q x e0 e1 takes more sends = record { sends = subst (λ (a : Result Posted PostFault). Sends x (posted_frames n a)) takes.answer sends; server = takes.server; appended = more }
-
-pub took_refused : (s t : ServerState) (n : ℕ) (id : ℤ) (posts : List Post) (f : PostFault) (x : CallAnswer) (e0 e1 : Option (List Entry)) → Err f ≡ post_answer s id posts → t ≡ s → e1 ≡ with_more [] e0 → Sends x (posted_frames n (Err f))
-    → Took s n (request.Post id posts) e0 e1 t x
-took_refused s t n id posts f x e0 e1 is same more sends =
-    let none = refused_adds_nothing s id posts f is in
-    record {
-      sends = subst (λ (a : Result Posted PostFault). Sends x (posted_frames n a)) is sends;
-      server = same ∙ sym none.1;
-      appended = more ∙ ap (λ (l : List Entry). with_more l e0) (sym none.0);
-    }

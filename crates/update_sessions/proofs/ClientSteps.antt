@@ -1,9 +1,8 @@
 -- Steps of a client's session.
-use Rattle.std.proofs.Common.{◌≡◌, inl, inr, ℕ, ◌<◌, ◌≤◌, List, [], ◌∷◌, ◌++◌, length, true, false, Option, Some, None, Ok, Err, refl, sym, ap, ◌∙◌, subst, arith}
+use Rattle.std.proofs.Common.{◌≡◌, inr, ℕ, ◌<◌, ◌≤◌, List, [], ◌∷◌, ◌++◌, length, true, false, Option, Some, None, Ok, Err, refl, sym, ap, ◌∙◌, subst, arith}
 use Rattle.std.specs.Prelude.{IfSome}
 use Rattle.std.specs.Io.KnownBytes.{Appends}
 use Rattle.tl_base.specs.Writing.{AppendsPrefix}
-use Rattle.tl_base.specs.declared.packet.PacketFault.TheVariants.{Ended}
 use Rattle.box_events.specs.declared.difference_fault.WeaveFault.TheVariants as weaving
 use Rattle.box_events.specs.declared.replies.Frame.{Frame}
 use Rattle.box_events.specs.declared.replies.Frame.TheVariants.{Push, Reply}
@@ -16,8 +15,6 @@ use Rattle.box_client.specs.Replies.{Outcome, ignored, refuses, becomes, peer_er
 use Rattle.box_events.specs.Weaves.{overlaps, uneven}
 use Rattle.box_client.specs.declared.fault.ClientFault.{ClientFault}
 use Rattle.box_client.specs.declared.fault.ClientFault.TheVariants as client
-use Rattle.box_client.specs.declared.fault.Told.{Told}
-use Rattle.box_client.specs.declared.fault.Told.TheVariants.{Reply as Taken, Stale}
 use Rattle.box_client.proofs.GivenOnce.{pushed_next, replied_next}
 use Rattle.box_world.specs.Worlds.{after_reply}
 use Rattle.wire_profile.specs.Places.{ProfileView}
@@ -38,11 +35,6 @@ use Rattle.update_sessions.proofs.Exchanging.{cut_none, exchanged_still}
 use Rattle.update_sessions.proofs.Stepping.{over_as, over_same, over_then, over_now, step_done, step_cut, step_kept}
 
 -- ---- a frame
-
--- what is answered of a reply, as what is made of a frame
-pub heard_reply : (c d : ClientState) (n : ℕ) (r : SomeReply) (told : Told) → Answers c (replied c n r) (Ok told) d → HearsFrame c (Reply n r) (Ok tt) d
-heard_reply c d n r Taken h = (ap cause_in h, sym (ap (after_reply c) h))
-heard_reply c d n r Stale h = (ap cause_in h.0, h.1 ∙ sym (ap (after_reply c) h.0))
 
 pub refused_reply : (c d : ClientState) (n : ℕ) (r : SomeReply) (fault : ClientFault) → Answers c (replied c n r) (Err fault) d → HearsFrame c (Reply n r) (Err fault) d
 refused_reply c d n r (client.PeerError code) h = (peer_error code, ap cause_in h.0, refl, h.1)
@@ -66,14 +58,6 @@ hears_next c (Reply n r) = after_next c (replied c n r) (replied_next c n r)
 pub next_ok : (c d : ClientState) (f : Frame) → d ≡ hears c f → d.next ≡ c.next
 next_ok c d f is = ap (λ (x : ClientState). x.next) is ∙ hears_next c f
 
--- no refusal is a link fault
-pub client_failed : (fault : ClientFault) → of_client fault ≡ LinkFault → ⊥
-client_failed (client.PeerError code) e = cc
-client_failed client.WrongKind e = cc
-client_failed (client.Weave fault) e = cc
-client_failed (client.SeqBack at seq) e = cc
-client_failed client.Memory e = cc
-
 module _ (p : ProfileView) where
   -- ---- one step
 
@@ -89,16 +73,9 @@ module _ (p : ProfileView) where
   if_none c None l1 fault h = tt
   if_none c (Some bytes) l1 fault h = none_by c bytes l1 fault h
 
-  if_ended : (c : ClientState) (l0 l1 : Option (List ℕ)) → IfSome l0 (λ bytes. Receives (MeansFrame p) (WireRefused p frames) bytes l1 (Ok None)) → IfSome l0 (λ bytes. HearsNone p c bytes [] c (Packet (Ended 0)))
-  if_ended c None l1 h = tt
-  if_ended c (Some bytes) l1 h = ((refl, refl), inl (h, refl))
-
   -- no frame was received
   pub next_none : (c : ClientState) (l0 w0 l1 w1 : Option (List ℕ)) (fault : SessionFault) → IfSome l0 (λ bytes. Receives (MeansFrame p) (WireRefused p frames) bytes l1 (Err fault)) → w0 ≡ w1 → HearsNext p c l0 w0 l1 w1 c (Err fault)
   next_none c l0 w0 l1 w1 fault h w = over_same l0 w0 w1 (λ bytes out. HearsNone p c bytes out c fault) w (if_none c l0 l1 fault h)
-
-  pub next_ended : (c : ClientState) (l0 w0 l1 w1 : Option (List ℕ)) → IfSome l0 (λ bytes. Receives (MeansFrame p) (WireRefused p frames) bytes l1 (Ok None)) → w0 ≡ w1 → HearsNext p c l0 w0 l1 w1 c (Err (Packet (Ended 0)))
-  next_ended c l0 w0 l1 w1 h w = over_same l0 w0 w1 (λ bytes out. HearsNone p c bytes out c (Packet (Ended 0))) w (if_ended c l0 l1 h)
 
   -- a frame was received, and is refused
   refused_one : (c d : ClientState) (f : Frame) (fault : ClientFault) (bytes rest : List ℕ) → ComesFirst (MeansFrame p) f bytes rest → HearsFrame c f (Err fault) d → HearsNone p c bytes [] d (of_client fault)

@@ -1,5 +1,5 @@
 -- Calls of a session, kept.
-use Rattle.std.proofs.Common.{◌≡◌, ◌≢◌, ◌⊎◌, inl, inr, Bool, true, false, ℕ, ℤ, ◌<◌, ◌≤◌, ◌^◌, List, [], ◌∷◌, ◌++◌, Option, Some, None, Result, Ok, Err, refl, sym, ap, ◌∙◌, subst, append-nil, append_assoc, arith}
+use Rattle.std.proofs.Common.{◌≡◌, ℕ, ℤ, ◌<◌, ◌≤◌, ◌^◌, List, [], ◌∷◌, ◌++◌, Option, Some, None, Result, Ok, Err, refl, sym, ap, ◌∙◌, subst, append-nil, append_assoc, arith}
 use Rattle.std.specs.FinMap as map
 use Rattle.box_events.specs.declared.positions.Receipt.{Receipt}
 use Rattle.box_events.specs.declared.requests.Numbered.{Numbered}
@@ -13,7 +13,7 @@ use Rattle.box_server.specs.Refusing.{post_cause}
 use Rattle.box_server.specs.Servers.{ServerState, dated_at}
 use Rattle.box_server.specs.declared.fault.PostFault.{PostFault}
 use Rattle.box_server.specs.declared.entry.Entry.{Entry}
-use Rattle.box_server.specs.Rebuilding.{Rebuilds, is_new, kept_if}
+use Rattle.box_server.specs.Rebuilding.{Rebuilds}
 use Rattle.box_server.proofs.Rebuilt.{date_aside, one_more, one_server}
 use Rattle.wire_profile.specs.Places.{ProfileView}
 use Rattle.update_sessions.specs.declared.fault.SessionFault.{SessionFault}
@@ -69,25 +69,6 @@ sessions_keep_dates p s bytes out t (Err LinkFault) cs h = date_of p s t cs (bro
 sessions_keep_dates p s bytes out t (Err Memory) cs h = date_of p s t cs (broken_ends (server_side p) s t bytes out cs h)
 
 -- ---- entries
-
-one_if : (b : Bool) (s : ServerState) (id : ℤ) (posts : List Post) → kept_if b s id posts ≢ [] → (e : Entry) × (kept_if b s id posts ≡ e ∷ [])
-one_if true s id posts new = (record { date = s.date; random_id = id; posts = posts }, refl)
-one_if false s id posts new = absurd (new refl)
-
--- what a call adds is one entry, if it adds any,
-pub kept_one : (s : ServerState) (r : Request) → kept_for s r ≢ [] → (e : Entry) × (kept_for s r ≡ e ∷ [])
-kept_one s request.State new = absurd (new refl)
-kept_one s (request.Difference pts qts date) new = absurd (new refl)
-kept_one s (request.Channel id pts) new = absurd (new refl)
-kept_one s (request.Post id posts) new = one_if (is_new s id posts) s id posts new
-
-none_or_one : (es : List Entry) → (es ≢ [] → (e : Entry) × (es ≡ e ∷ [])) → (es ≡ []) ⊎ ((e : Entry) × (es ≡ e ∷ []))
-none_or_one [] one = inl refl
-none_or_one (e ∷ es) one = inr (one (λ x. cc))
-
--- and else none
-pub kept_at_most_one : (s : ServerState) (r : Request) → (kept_for s r ≡ []) ⊎ ((e : Entry) × (kept_for s r ≡ e ∷ []))
-kept_at_most_one s r = none_or_one (kept_for s r) (kept_one s r)
 
 request_kept : (es : List Entry) (s : ServerState) (r : Request) → s.date < 2 ^ 31 → Rebuilds es s → Rebuilds (es ++ kept_for s r) (after_request s r)
 request_kept es s request.State small k = subst (λ (l : List Entry). Rebuilds l s) (sym (append-nil es)) k

@@ -101,21 +101,6 @@ packet_link_failed {A} {B} r q x y is of told failed =
     let fault : x ≡ packets.ReadFault = packet_failed x (sym of ∙ same) in
     cc
 
--- no refusal of a message is one
-pub wire_failed : (fault : WireFault) → of_wire fault ≡ LinkFault → ⊥
-wire_failed (wire.Refused place cause) e = cc
-wire_failed (wire.Trailing place) e = cc
-wire_failed (wire.NotServed place) e = cc
-wire_failed (wire.BadVersion version) e = cc
-wire_failed (wire.BadNumber number) e = cc
-wire_failed (wire.WrongUpdate place) e = cc
-wire_failed (wire.BadCount pts count) e = cc
-wire_failed (wire.BadEnd pts) e = cc
-wire_failed (wire.BadDate date) e = cc
-wire_failed wire.UnorderedSetting e = cc
-wire_failed (wire.BadSeq seq_start seq) e = cc
-wire_failed wire.Memory e = cc
-
 -- a frame that was read is one that a client takes
 pub hearable : (p : ProfileView) → IsProfile p → (f : Frame) (b : List ℕ) → MeansFrame p f b → IsHearable f
 hearable p good f b m = frames_taken p good f b m.0 m.1

@@ -15,7 +15,7 @@ use Rattle.update_sessions.specs.declared.answering.CallAnswer.{CallAnswer}
 use Rattle.update_sessions.specs.declared.fault.SessionFault.TheVariants.{Wire}
 use Rattle.update_sessions.specs.Kept.{kept_for}
 use Rattle.update_sessions.specs.Packed.{MeansCall, Packed, SpellsFrame}
-use Rattle.update_sessions.specs.StoreEnds.{answered, refused, out_of_memory}
+use Rattle.update_sessions.specs.StoreEnds.{answered, refused}
 use Rattle.update_sessions.specs.Turns.{AnswersPacket}
 use Rattle.update_sessions.specs.inner.StoreSteps.{Took, frames_in}
 
@@ -33,10 +33,6 @@ module _ (p : ProfileView) (s : ServerState) (bytes out : List ℕ) (e0 e1 : Opt
       record { message = call; means = means; taken = tt; sent = subst (λ (fs : List Frame). Packed (SpellsFrame p) fs out) took.sends.frames packed; ends = took.server },
       took.appended,
     )
-
-    -- there was no memory for it
-    pub turn_unsent : AnswersPacket p s bytes out e0 e1 (out_of_memory t)
-    turn_unsent = inr (record { call = call; means = means; ends = took.server; kept = took.appended })
 
 -- there is room for what the call adds that the bytes mean
 pub turn_keeps : (p : ProfileView) (s : ServerState) (bytes : List ℕ) (a b : KeeperState) (F G : Type 0) (call : Numbered) → MeansCall p call bytes → (G → F) → Keeps a b F (λ es. length (es ++ kept_for s call.request) ≤ a.room)

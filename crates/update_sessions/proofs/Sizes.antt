@@ -74,9 +74,6 @@ ticks_next c d asks is same most =
     let next : d.next ≡ c.next + length asks = ap (λ (x : ClientState). x.next) is ∙ next_past c ∙ ap (λ (l : List Numbered). c.next + length l) (sym same) in
     omega (arith, next, most)
 
-pub ask_short : (calls : List Numbered) (i : ℕ) (call : Numbered) → All (λ c. call_size c ≤ MAX_FRAME_BYTES) calls → slice_get calls i ≡ Some call → call_size call ≤ MAX_FRAME_BYTES
-ask_short calls i call all at = subst (λ (c : Numbered). call_size c ≤ MAX_FRAME_BYTES) (get_or_from_slice_get calls i call call at) (all i call (slice_get_within calls i call at))
-
 -- one more packet
 pub packed_more : {M : Type 0} (Spells : M → List ℕ → Type 0) (ms : List M) (i : ℕ) (m : M) (old new : List ℕ) → slice_get ms i ≡ Some m → Packed Spells (take i ms) old → Puts (Spells m) old new → Packed Spells (take (i + 1) ms) new
 packed_more {M} Spells ms i m old new at packed (b, s, is) =

@@ -1,5 +1,5 @@
 -- A decoder that is fed with an input. This project's own.
-use Rattle.std.specs.Prelude.{◌≡◌, ℕ, [], ◌∷◌, Option, Some, None, Result, Ok, Err}
+use Rattle.std.specs.Prelude.{◌≡◌, ℕ, [], ◌∷◌, Option, Some, None, Result, Ok, Err, codes}
 use Rattle.tl_base.specs.declared.host.Slot.TheVariants.{Input}
 use Rattle.tl_plan.specs.PlanLaws.{IsInstance}
 use Rattle.tl_schema.specs.Formed.{IsFormed}
@@ -9,13 +9,15 @@ use Rattle.tl_types.specs.Values.{ValueView}
 use Rattle.tl_decode.specs.Decoders.{DecoderView, HasValue}
 use Rattle.tl_decode.specs.declared.whole.WholeFault.{WholeFault}
 use Rattle.tl_decode.specs.declared.whole.WholeFault.TheVariants.{Refused, Trailing, ReadFault, Memory}
-use Rattle.outside.specs.Answer.{Answer}
+use Rattle.outside.specs.Answer.{Answer, refused}
+use Rattle.outside.specs.declared.status.Status.{Status}
+use Rattle.schema_files.specs.Lines.{cause_text, input_line}
 use Rattle.outside.specs.Jobs.{Making, unread, no_memory}
 use Rattle.outside.specs.Events.{HostState, took, ended, read_failed}
 use Rattle.outside.specs.Grown.{Grew}
 use Rattle.outside.specs.Printing.{Makes}
 use Rattle.outside.specs.Begun.{Did}
-use Rattle.codec_rooms.specs.Decode.{ReadsValue, Verdict, answer_of}
+use Rattle.codec_rooms.specs.Decode.{ReadsValue, Verdict, answer_of, printed}
 
 -- the decoder has the value that the input is, or it is none
 abbrev pub FeedsInput : Declared → Shape → HostState → HostState → DecoderView → Result (Unit {0}) WholeFault → Type 0
@@ -44,7 +46,14 @@ abbrev pub MakesAs : Option Answer → Making → Type 0
 MakesAs (Some a) m = Makes (λ b. b ≡ a) m
 MakesAs None m = m ≡ unread
 
--- the verdict's, or out of memory
-abbrev pub MakesVerdict : Declared → Shape → Option Verdict → Making → Type 0
-MakesVerdict schema T (Some r) m = MakesAs (answer_of schema T r) m
-MakesVerdict schema T None m = m ≡ no_memory
+-- what is told of an input that is no value, or out of memory; no schema and no type matter to that
+abbrev pub MakesFault : WholeFault → Making → Type 0
+MakesFault (Refused place cause) m = Makes (λ b. b ≡ refused (input_line place (cause_text cause))) m
+MakesFault (Trailing place) m = Makes (λ b. b ≡ refused (input_line place (codes "Trailing"))) m
+MakesFault ReadFault m = m ≡ unread
+MakesFault Memory m = m ≡ no_memory
+
+-- the verdict's answer is printed; where there is no verdict, out of memory is handed on
+abbrev pub PrintsVerdict : Declared → Shape → Option Verdict → HostState → HostState → Option Status → Type 0
+PrintsVerdict schema T (Some r) p q answer = Did (printed (answer_of schema T r)) p q answer
+PrintsVerdict schema T None p q answer = (answer ≡ None) × (q ≡ p)

@@ -38,7 +38,7 @@ use Rattle.call_commands.specs.Calls as answers
 use Rattle.codec_rooms.specs.Typed.{OfText, after_schema, no_schema, schema_of}
 use Rattle.codec_rooms.proofs.TypedFiles.{text_stays}
 use Rattle.call_commands.specs.CallsWork.{OfInput, after_opening, tells_calls}
-use Rattle.run_laws.specs.Ended.{Ended, IsShown, LinkFailed, ReadFailed, RunsJob, WriteFailed}
+use Rattle.run_laws.specs.Ended.{IsShown, LinkFailed, RunsJob, WriteFailed}
 use Rattle.run_laws.specs.Ended as ended
 use Rattle.run_laws.proofs.files.Coming.{Spares, spares_as, spares_both, spares_more}
 use Rattle.run_laws.proofs.files.Cutting.{Cut, past, within, begun_writes, cut, Lost, line_told, some_more, told_as}

@@ -21,7 +21,7 @@ use Rattle.serve_rooms.specs.ServedBytes.{added_in}
 use Rattle.serve_rooms.specs.Sessions.{keep_fault_line}
 use Rattle.serve_rooms.specs.declared.status.KeptStatus.{KeptStatus}
 use Rattle.serve_rooms.specs.declared.status.KeptStatus.TheVariants.{KeepFault, Run}
-use Rattle.run_laws.specs.Ended.{Ended, LinkFailed, ReadFailed, Stops, ToldBefore, WriteFailed}
+use Rattle.run_laws.specs.Ended.{Ended, LinkFailed, ReadFailed, WriteFailed}
 use Rattle.run_laws.specs.Ended as ending
 use Rattle.run_laws.specs.Kept.{HostEnds, IsKeeperEnd, IsOutsideFault, KeptByFile, KeptEnd, kept_status}
 use Rattle.run_laws.specs.Kept as kept

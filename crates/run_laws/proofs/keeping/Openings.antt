@@ -32,7 +32,7 @@ use Rattle.run_laws.specs.Ended.{ReadFailed, WriteFailed}
 use Rattle.run_laws.proofs.serving.Beginnings.{Seam, within, past, seam, hosted_both, nothing_after, some_more, tails}
 use Rattle.run_laws.proofs.keeping.Entries.{starts_or_bad}
 use Rattle.run_laws.proofs.serving.Loads as loads
-use Rattle.run_laws.proofs.serving.Loads.{Came, LineSaid, Untouched, any_profile, came, none_added, refusal_said, said_after, tells_said, untouched_none}
+use Rattle.run_laws.proofs.serving.Loads.{Came, LineSaid, Untouched, any_profile, came, none_added, said_after, tells_said}
 
 -- what acts say of entries, after what a host did
 pub agrees_later : (Sound : Type 0) (room : ℕ) (o : Option (List Entry)) (events : List Event) (t : List Act) → AgreesAll Sound room o (map (λ e. hosted e) events ++ t) → AgreesAll Sound room o t

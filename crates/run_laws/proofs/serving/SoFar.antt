@@ -18,7 +18,7 @@ use Rattle.outside.proofs.Fitting.{fits_keeps, reliable_on}
 use Rattle.update_sessions.specs.declared.fault.SessionFault.{SessionFault}
 use Rattle.session_commands.specs.Keep.{SessionsBy}
 use Rattle.session_commands.specs.Linked.{next_link}
-use Rattle.session_commands.specs.Serve.{SessionEnd, IsAny, IsWhole, Sessions, Total, end_errors, end_of, end_output, end_status, first_fault, no_sessions, total_answer, with_session}
+use Rattle.session_commands.specs.Serve.{SessionEnd, IsAny, IsWhole, Sessions, Total, end_errors, end_output, end_status, first_fault, no_sessions, total_answer, with_session}
 use Rattle.session_commands.specs.Serve as commands
 use Rattle.session_commands.specs.inner.Serving.{GoesOn}
 use Rattle.session_commands.proofs.ServeRuns.{at_zero}

@@ -1,6 +1,6 @@
 use Rattle.std.proofs.Common.{ap, sym, refl, subst, None, Some, List, ℕ, ◌∙◌, ◌≡◌, is_some, IsSome}
 use Rattle.box_server.specs.inner.LastIndexes.{found, place_in, index_in}
-use Rattle.box_server.proofs.KeyPlaces.{placed, placed_there, places_kept, kept, not_found}
+use Rattle.box_server.proofs.KeyPlaces.{placed, places_kept, kept, not_found}
 use Rattle.box_server.proofs.places.take_place.Goals as goal
 
 pub returns-clause-same : goal.returns-clause-same

@@ -3,7 +3,7 @@ use Rattle.std.proofs.lemmas.Int.{to_z-of_z}
 use Rattle.box_events.specs.declared.positions.LaneName.TheVariants.{Channel}
 use Rattle.box_server.specs.Servers.{empty_channel}
 use Rattle.box_server.specs.inner.Drafts.{AddsTo, place_from}
-use Rattle.box_server.proofs.Tailing.{found_at, added_at, added_new, refused_new}
+use Rattle.box_server.proofs.Tailing.{found_at, added_at, added_new}
 use Rattle.box_server.proofs.tail.add_to.Goals as goal
 
 pub returns-in_default : goal.returns-in_default

@@ -1,4 +1,4 @@
-use Rattle.std.proofs.Common.{◌≡◌, ◌∷◌, [], rules, map, codes, string_bytes, ◌∙◌, ap}
+use Rattle.std.proofs.Common.{◌≡◌, [], rules, codes, string_bytes}
 use Rattle.commands.proofs.KeepWords.{five, found}
 use Rattle.commands.proofs.keep_words.keep_in.Goals as goal
 

@@ -1,7 +1,7 @@
-use Rattle.std.proofs.Common.{ap, arith}
+use Rattle.std.proofs.Common.{ap}
 use Rattle.std.proofs.lemmas.Result.{err_from_is_err_and}
-use Rattle.outside.specs.Pieces.{broken, full, short, taken_view}
-use Rattle.outside.proofs.TakenPackets.{content_stopped, content_taken, length_bad, length_fits, length_misfits, short_few}
+use Rattle.outside.specs.Pieces.{broken, full, taken_view}
+use Rattle.outside.proofs.TakenPackets.{content_stopped, content_taken, length_bad, length_fits, length_misfits}
 use Rattle.outside.proofs.packets.take_content.Goals as goal
 
 pub returns-then-not-is_packet_length : goal.returns-then-not-is_packet_length

@@ -4,7 +4,7 @@ use Rattle.outside.specs.Packets.{cut_off}
 use Rattle.outside.specs.Packets as packets
 use Rattle.outside.specs.Pieces.{broken, taken_view}
 use Rattle.outside.proofs.Growing.{did_nothing, did_stop}
-use Rattle.outside.proofs.TakenPackets.{can_head, full_long, head_cut, head_taken, head_whole}
+use Rattle.outside.proofs.TakenPackets.{can_head, head_cut, head_taken, head_whole}
 use Rattle.outside.proofs.packets.take_packet.Goals as goal
 
 pub returns-in_err-head : goal.returns-in_err-head

@@ -6,7 +6,7 @@ use Rattle.box_events.specs.declared.updates.Update.{Update}
 use Rattle.box_events.specs.declared.updates.Update.TheVariants.{Common as CommonUpdate, Secret as SecretUpdate, Channel as ChannelUpdate, Setting as SettingUpdate}
 use Rattle.box_events.specs.Events.{EventView, added}
 use Rattle.box_server.specs.inner.Drafts.{AddsTo, AddsToChannel}
-use Rattle.box_server.proofs.Drafting.{refuses_common, refuses_secret, refuses_channel, refuses_setting, adds_common, adds_secret, adds_channel, adds_setting}
+use Rattle.box_server.proofs.Drafting.{refuses_common, refuses_secret, refuses_channel, adds_common, adds_secret, adds_channel, adds_setting}
 use Rattle.box_server.proofs.draft.Draft.add_common.Goals as goal
 
 pub returns : goal.returns

@@ -10,7 +10,7 @@ use Rattle.box_server.specs.declared.server.Server.TheInside.{Inside}
 use Rattle.box_server.specs.inner.Drafted.{Fits, joined_channels}
 use Rattle.box_server.specs.inner.Insides.{channel_view, server_view}
 use Rattle.box_server.specs.inner.Taking.{with_draft, Takes}
-use Rattle.box_server.proofs.Taken.{same_view, same_server, taken_view, receipt_is, receipts_back, receipts_more, known_at, have_ids, receives_known, receives_refused, keys_refused, draft_refused, taken_by, draft_sound, cause_bad}
+use Rattle.box_server.proofs.Taken.{taken_view, receipt_is, receipts_back, receipts_more, known_at, receives_known, receives_refused, keys_refused, draft_refused, taken_by, draft_sound, cause_bad}
 use Rattle.box_server.proofs.server.Server.post.Goals as goal
 
 pub returns-in-Some : goal.returns-in-Some

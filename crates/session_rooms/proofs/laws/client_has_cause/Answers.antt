@@ -1,5 +1,0 @@
-use Rattle.session_rooms.proofs.ClientLaws as laws
-use Rattle.session_rooms.proofs.laws.client_has_cause.Goals as goal
-
-pub returns : goal.returns
-returns c = laws.client_has_cause
