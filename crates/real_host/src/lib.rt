@@ -2,11 +2,14 @@
 #![tactic(auto)]
 
 mod links;
+mod log;
 mod real;
+mod state_end;
 mod state_file;
 mod streams;
 mod words;
 
 pub use real::RealHost;
+pub use state_end::StateEnd;
 pub use streams::hold_streams;
 pub use words::words_of;

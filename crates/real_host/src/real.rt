@@ -1,7 +1,14 @@
-//! The real outside: files, the standard streams, TCP and the clock. What they hold or take is not told: this is the trusted edge.
-ghost use Rattle.std.specs.Prelude.{IfSome, ◌≡◌, ◌≤◌, ◌<◌, ◌^◌, length};
+//! The real outside: files, the standard streams, TCP and the clock. Each call notes what it did; that it did so is trusted.
+ghost use Rattle.std.specs.Prelude.{IfSome, OnErr, OnOk, ◌≡◌, ◌≤◌, ◌<◌, ◌^◌, ◌∷◌, ◌++◌, [], length};
+ghost use Rattle.tl_base.specs.declared.host.Out.TheVariants.{State};
+ghost use Rattle.outside.specs.Events.{write_failed};
+ghost use Rattle.outside.specs.Grown.{Grew};
+ghost use Rattle.real_host.specs.Noted.{event_of};
+ghost use Rattle.real_host.specs.declared.state_end.StateEnd.TheVariants.{Named, Removed};
 
 use crate::links::{Link, accept, connect, end_late, listen};
+use crate::log::{Call, Log};
+use crate::state_end::StateEnd;
 use crate::state_file::{StateFile, hold};
 use outside::Host;
 use std::fs::File;
@@ -21,6 +28,7 @@ pub struct RealHost {
     listener: Option<TcpListener>,
     link: Option<Link>,
     counts: Counts,
+    log: Log,
     // The moment that was told last.
     moment: u32,
     ghost small: { moment < 2 ^ 31 },
@@ -38,13 +46,20 @@ impl Drop for RealHost {
             listener: _,
             link: _,
             counts: _,
+            log: _,
             moment: _,
         } = self;
     }
 }
 
 impl RealHost {
-    pub fn new(rt: HostRuntime) -> RealHost {
+    ghost use Rattle.real_host.specs.Seen.{after, ends_of, fresh, seen};
+
+    /// A host of which no call was made.
+    pub fn new(rt: HostRuntime) -> RealHost
+        ensures calls { seen result ≡ fresh }
+        ensures ends { ends_of result ≡ [] }
+    {
         RealHost {
             rt,
             schema: None,
@@ -54,6 +69,7 @@ impl RealHost {
             listener: None,
             link: None,
             counts: Counts::none(),
+            log: Log::new(),
             moment: 0,
         }
     }
@@ -63,21 +79,58 @@ impl RealHost {
         BufReader::new(self.rt.alloc(), fs::open(&self.rt, name)?)
     }
 
-    /// Gives the file that State was written to its name, if it is to be kept, and removes it else.
-    pub fn end_state(&mut self, is_kept: bool) -> io::Result<()> {
+    // Gives the file that State was written to its name, if there is one.
+    fn name_state(&mut self) -> Option<()>
+        ensures counts { self.new.counts ≡ self.old.counts }
+        ensures log { self.new.log ≡ self.old.log }
+    {
         match self.saved.take() {
-            None => Ok(()),
-            Some(file) if is_kept => file.keep(&self.rt),
-            Some(file) => {
-                file.discard(&self.rt);
+            None => Some(()),
+            Some(file) => file.keep(&self.rt).ok(),
+        }
+    }
+
+    /// Gives the file that State was written to its name, if there is one, and notes that. Where it can't, that is a write to State that failed.
+    pub fn keep_state(&mut self) -> Result<(), Failed>
+        ensures ok { OnOk result (seen self.new ≡ seen self.old) }
+        ensures err { OnErr result (Grew (seen self.old) (write_failed State ∷ []) (seen self.new)) }
+        ensures ends { OnOk result (ends_of self.new ≡ ends_of self.old ++ Named ∷ []) }
+    {
+        match self.name_state() {
+            Some(()) => {
+                self.log = self.log.ended(&StateEnd::Named);
                 Ok(())
+            }
+            None => {
+                self.note(&Call::Write(Out::State, &[], None));
+                Err(self.counts.fail(Kind::Writes))
             }
         }
     }
 
+    /// Removes the file that State was written to, if there is one, and notes that.
+    pub fn discard_state(&mut self)
+        ensures calls { seen self.new ≡ seen self.old }
+        ensures ends { ends_of self.new ≡ ends_of self.old ++ Removed ∷ [] }
+    {
+        if let Some(file) = self.saved.take() {
+            file.discard(&self.rt);
+        }
+        self.log = self.log.ended(&StateEnd::Removed);
+    }
+
+    // Notes a call.
+    fn note(&mut self, call: &Call<'_>)
+        ensures calls { seen self.new ≡ after (self.old.log.events ++ event_of call.now ∷ []) self.old.counts }
+        ensures ends { ends_of self.new ≡ ends_of self.old }
+    {
+        self.log = self.log.with(call);
+    }
+
     // Opens a file for a slot. None: that failed, or the slot is a link's.
     fn open_for(&mut self, slot: Slot, name: &str) -> Option<()>
-        ensures { self.new.counts ≡ self.old.counts }
+        ensures counts { self.new.counts ≡ self.old.counts }
+        ensures log { self.new.log ≡ self.old.log }
     {
         let file = self.open(name).ok()?;
         match slot {
@@ -96,6 +149,7 @@ impl RealHost {
     fn read_from(&mut self, slot: Slot, into: &mut [u8]) -> Option<usize>
         ensures count { IfSome result (λ n. n ≤ length into.new) }
         ensures counts { self.new.counts ≡ self.old.counts }
+        ensures log { self.new.log ≡ self.old.log }
     {
         match slot {
             Slot::Schema => read_some(&mut self.schema, into),
@@ -110,7 +164,8 @@ impl RealHost {
 
     // Begins the file that State is written to. What was written under another name is given up.
     fn create_state(&mut self, name: &str) -> Option<()>
-        ensures { self.new.counts ≡ self.old.counts }
+        ensures counts { self.new.counts ≡ self.old.counts }
+        ensures log { self.new.log ≡ self.old.log }
     {
         if let Some(file) = self.saved.take() {
             file.discard(&self.rt);
@@ -124,6 +179,7 @@ impl RealHost {
     fn write_to(&mut self, out: Out, piece: &[u8]) -> Option<usize>
         ensures count { IfSome result (λ n. (0 < n) × (n ≤ length piece.now)) }
         ensures counts { self.new.counts ≡ self.old.counts }
+        ensures log { self.new.log ≡ self.old.log }
     {
         let wrote = match out {
             Out::Output => write_some(&mut self.rt.stdout(), piece),
@@ -139,7 +195,8 @@ impl RealHost {
 
     // Takes connections at an address.
     fn listen_at(&mut self, address: &str) -> Option<()>
-        ensures { self.new.counts ≡ self.old.counts }
+        ensures counts { self.new.counts ≡ self.old.counts }
+        ensures log { self.new.log ≡ self.old.log }
     {
         let listener = listen(&self.rt, address).ok()?;
         self.listener = Some(listener);
@@ -148,7 +205,8 @@ impl RealHost {
 
     // Makes a link to an address, once the one before is closed.
     fn connect_to(&mut self, address: &str) -> Option<()>
-        ensures { self.new.counts ≡ self.old.counts }
+        ensures counts { self.new.counts ≡ self.old.counts }
+        ensures log { self.new.log ≡ self.old.log }
     {
         self.link = None;
         let link = connect(&self.rt, address).ok()?;
@@ -158,7 +216,8 @@ impl RealHost {
 
     // Takes the next link. The one before is closed now, and not when the next one comes: its other end may wait for that.
     fn accept_next(&mut self) -> Option<()>
-        ensures { self.new.counts ≡ self.old.counts }
+        ensures counts { self.new.counts ≡ self.old.counts }
+        ensures log { self.new.log ≡ self.old.log }
     {
         self.link = None;
         let link = match &self.listener {
@@ -225,12 +284,14 @@ fn write_open<W: Write>(to: &mut Option<W>, piece: &[u8]) -> Option<usize>
 }
 
 impl Host for RealHost {
-    ghost use Rattle.outside.specs.Unseen.{unseen};
+    ghost use Rattle.real_host.specs.Seen.{seen};
 
-    ghost state = { λ h. unseen h.counts };
+    ghost state = { seen };
 
     fn open_slot(&mut self, slot: Slot, name: &str) -> Result<(), Failed> {
-        match self.open_for(slot, name) {
+        let opened = self.open_for(slot, name);
+        self.note(&Call::Open(slot, name, opened.is_some()));
+        match opened {
             Some(()) => Ok(()),
             None => Err(self.counts.fail(slot.kind())),
         }
@@ -240,7 +301,9 @@ impl Host for RealHost {
         if into.is_empty() {
             return Ok(0);
         }
-        match self.read_from(slot, into) {
+        let count = self.read_from(slot, into);
+        self.note(&Call::Read(slot, into, count));
+        match count {
             Some(count) => Ok(count),
             None => Err(self.counts.fail(slot.kind())),
         }
@@ -252,6 +315,7 @@ impl Host for RealHost {
         } else {
             None
         };
+        self.note(&Call::Create(out, name, created.is_some()));
         match created {
             Some(()) => Ok(()),
             None => Err(self.counts.fail(out.kind())),
@@ -262,28 +326,36 @@ impl Host for RealHost {
         if piece.is_empty() {
             return Ok(0);
         }
-        match self.write_to(out, piece) {
+        let count = self.write_to(out, piece);
+        self.note(&Call::Write(out, piece, count));
+        match count {
             Some(count) => Ok(count),
             None => Err(self.counts.fail(out.kind())),
         }
     }
 
     fn listen(&mut self, address: &str) -> Result<(), Failed> {
-        match self.listen_at(address) {
+        let listens = self.listen_at(address);
+        self.note(&Call::Listen(address, listens.is_some()));
+        match listens {
             Some(()) => Ok(()),
             None => Err(self.counts.fail(Kind::Links)),
         }
     }
 
     fn connect(&mut self, address: &str) -> Result<(), Failed> {
-        match self.connect_to(address) {
+        let connected = self.connect_to(address);
+        self.note(&Call::Connect(address, connected.is_some()));
+        match connected {
             Some(()) => Ok(()),
             None => Err(self.counts.fail(Kind::Links)),
         }
     }
 
     fn accept(&mut self) -> Result<(), Failed> {
-        match self.accept_next() {
+        let accepted = self.accept_next();
+        self.note(&Call::Accept(accepted.is_some()));
+        match accepted {
             Some(()) => Ok(()),
             None => Err(self.counts.fail(Kind::Links)),
         }
@@ -293,6 +365,8 @@ impl Host for RealHost {
         if let Some(moment) = self.seconds() {
             self.moment = moment;
         }
-        self.moment
+        let moment = self.moment;
+        self.note(&Call::Now(moment));
+        moment
     }
 }
