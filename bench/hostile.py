@@ -43,9 +43,13 @@ def values():
     nest = " ".join("f%d:e%d" % (number, number) for number in range(250))
     yield "a type of no bytes", "a = A;", "a", bytes(TEXT), 1
     yield "250 fields of no bytes", wide + "v n:int %s = V;" % nest, "vector<v>", (40_000).to_bytes(4, "little") + bytes(160_000), 0
+    absent = " ".join("f%d:n.0?int" % number for number in range(254))
+    yield "254 absent fields", "v n:# %s = V;" % absent, "vector<v>", (40_000).to_bytes(4, "little") + bytes(160_000), 0
     yield "the greatest count", POINT, "vector<int>", b"\xff\xff\xff\x7f" + bytes(JSON), 1
     yield "16 levels of vectors", POINT, "vector<" * 15 + "int" + ">" * 15, b"\x01\x00\x00\x00" * 14 + (4_000_000).to_bytes(4, "little") + bytes(JSON - 60), 1
     yield "empty vectors", POINT, "vector<vector<int>>", (4_000_000).to_bytes(4, "little") + bytes(16_000_000), 0
+    flags = " ".join("%s%03d:n.0?true" % ("x" * 997, number) for number in range(254))
+    yield "flags of long names", "v n:# %s = V;" % flags, "vector<v>", (1_000).to_bytes(4, "little") + b"\x01\x00\x00\x00" * 1_000, 0
     yield "empty strings", POINT, "vector<string>", (4_000_000).to_bytes(4, "little") + bytes(16_000_000), 0
 
 
@@ -58,6 +62,7 @@ def jsons():
     yield "one key", "Point", filled('{"_":"point"', ',"x":1', ',"y":2}', JSON), 0
     yield "many keys", "Point", "{" + ",".join('"%07d":0' % number for number in range(1_300_000)) + "}", 1
     yield "127 levels", "int", filled("[0", "," + "[" * 126 + "]" * 126, "]", JSON), 1
+    yield "small objects", "vector<Point>", filled('[{"":0}', ',{"":0}', "]", JSON), 1
     yield "open brackets", "int", "[" * JSON, 1
     yield "one number", "int", "1" * JSON, 1
     yield "a small number", "int", "0." + "0" * (JSON - 3) + "1", 1
@@ -90,7 +95,7 @@ def timed(words, status, name):
 
 def tell(name, size, words, status):
     took, line = timed(words, status, name)
-    peak = runs.peak_memory(words) if status == 0 else None
+    peak = runs.peak_memory(words, status=status)
     print(f"{name:>24} {size:>9} {took:>8.3f} {took * 1e9 / size:>8.1f} {'-' if peak is None else '%.0f' % (peak / 1e6):>6}  {line[:90]}")
 
 

@@ -49,21 +49,21 @@ def least_time(words, answer, status=0, input_path=None):
     return min(times)
 
 
-def told(words, report, pattern, input_path):
+def told(words, report, pattern, input_path, status=0):
     """The number that a report has after a pattern, after one run that writes it."""
     with open(os.devnull, "wb") as nowhere:
-        run_once(words, nowhere, 0, input_path)
+        run_once(words, nowhere, status, input_path)
     with open(report, encoding="utf-8", errors="replace") as file:
         found = re.search(pattern, file.read())
     return int(found.group(1)) if found else None
 
 
-def peak_memory(words, input_path=None):
+def peak_memory(words, input_path=None, status=0):
     """The greatest resident set of one run in bytes, or None without GNU time."""
     if not os.path.exists(TIME):
         return None
     with tempfile.NamedTemporaryFile() as report:
-        kilobytes = told([TIME, "-f", "%M", "-o", report.name, *words], report.name, r"(\d+)", input_path)
+        kilobytes = told([TIME, "-f", "%M", "-o", report.name, *words], report.name, r"(\d+)\s*$", input_path, status)
     return None if kilobytes is None else kilobytes * 1024
 
 
