@@ -12,7 +12,7 @@ use Rattle.box_events.specs.declared.replies.Reply.TheVariants.{State, Empty, Di
 use Rattle.box_events.specs.Weaves.{WeaveCause, woven_of}
 use Rattle.channel_box.specs.States.{ChannelState, first}
 use Rattle.channel_box.specs.Steps.{is_asking, asks_number, Answered, stale, refused, taken, answered, Ticked, ticked, and_asks, and_waits, channel_is_due}
-use Rattle.box_client.specs.declared.brought.Brought.{Brought}
+use Rattle.box_client.specs.declared.received.Received.{Received}
 use Rattle.box_client.specs.States.{ClientState}
 use Rattle.box_client.specs.Pushes.{updated, all_updated, settings_in, pack_heard, pushed}
 use Rattle.box_client.specs.Replies.{Outcome, ignored, nothing_new, group_done, group_taken, group_woven, brings, group_replied, by_channels, channel_replied, replied}
@@ -69,20 +69,20 @@ pushed_next c (Container updates date seq_start seq) = pack_next (ltb 0 seq) (al
 
 -- answers
 
-done_next : (last : Bool) (c : ClientState) (b : Brought) (xs ys : List EventView) → (group_done last c b xs ys).next ≡ c.next
+done_next : (last : Bool) (c : ClientState) (b : Received) (xs ys : List EventView) → (group_done last c b xs ys).next ≡ c.next
 done_next true c b xs ys = refl
 done_next false c b xs ys = refl
 
-taken_next : (back : Bool) (c : ClientState) (b : Brought) (xs ys : List EventView) → next_after c (group_taken back c b xs ys) ≡ c.next
+taken_next : (back : Bool) (c : ClientState) (b : Received) (xs ys : List EventView) → next_after c (group_taken back c b xs ys) ≡ c.next
 taken_next true c b xs ys = refl
 taken_next false c b xs ys = done_next b.last c b xs ys
 
-woven_next : (c : ClientState) (b : Brought) (o p : Result (List EventView) WeaveCause) → next_after c (group_woven c b o p) ≡ c.next
+woven_next : (c : ClientState) (b : Received) (o p : Result (List EventView) WeaveCause) → next_after c (group_woven c b o p) ≡ c.next
 woven_next c b (Err cause) p = refl
 woven_next c b (Ok xs) (Err cause) = refl
 woven_next c b (Ok xs) (Ok ys) = taken_next (b.last && ltb b.state.seq c.settings.at) c b xs ys
 
-brings_next : (c : ClientState) (b : Brought) → next_after c (brings c b) ≡ c.next
+brings_next : (c : ClientState) (b : Received) → next_after c (brings c b) ≡ c.next
 brings_next c b = woven_next c b (woven_of c.common.at b.state.pts b.news b.others) (woven_of c.secret.at b.state.qts b.secrets [])
 
 group_next : (c : ClientState) (r : Reply) → next_after c (group_replied c r) ≡ c.next

@@ -23,8 +23,8 @@ use Rattle.box_events.specs.Weaves.{WeaveCause, woven_of}
 use Rattle.box_events.proofs.Made.{reaches}
 use Rattle.channel_box.specs.States.{ChannelState, first, has_id}
 use Rattle.channel_box.specs.Steps.{at_first, watched, watched_if, may_watch, channel_of, is_dropped, is_asking, is_due, heard_by, flagged, woken, forgotten, asks_number, Answered, taken_by, answered_by, grown, replied as channel_replied_by, Ticked, ticked, and_asks, and_waits, channel_is_due}
-use Rattle.channel_box.proofs.Brought.{ending_sums}
-use Rattle.box_client.specs.declared.brought.Brought.{Brought}
+use Rattle.channel_box.proofs.Received.{ending_sums}
+use Rattle.box_client.specs.declared.received.Received.{Received}
 use Rattle.box_client.specs.States.{ClientState, new_client}
 use Rattle.box_client.specs.Pushes.{updated, all_updated, settings_in, pack_heard, pushed}
 use Rattle.box_client.specs.Replies.{Outcome, ignored, becomes, nothing_new, group_done, group_taken, group_woven, brings, group_replied, by_channels, channel_replied, replied}
@@ -110,25 +110,25 @@ pushed_numbers c (Container updates date seq_start seq) =
 woven_reaches : (from to : ℕ) (news : List (List ℕ)) (others : List Placed) (xs : List EventView) → woven_of from to news others ≡ Ok xs → from + sum_by count_of xs ≡ to
 woven_reaches from to news others xs is = omega (arith, ending_sums xs, reaches from to news others xs is)
 
-done_numbers : (last : Bool) (c : ClientState) (b : Brought) (xs ys : List EventView) → c.common.at + sum_by count_of xs ≡ b.state.pts → c.secret.at + sum_by count_of ys ≡ b.state.qts
+done_numbers : (last : Bool) (c : ClientState) (b : Received) (xs ys : List EventView) → c.common.at + sum_by count_of xs ≡ b.state.pts → c.secret.at + sum_by count_of ys ≡ b.state.qts
     → client_numbers (group_done last c b xs ys) ≡ n_group_done last (client_numbers c) b.state.pts b.state.qts b.state.seq b.state.date
 done_numbers true c b xs ys p q =
     λ i. record (client_numbers c) { common = lane_extended count_of c.common xs true b.state.pts p i; secret = lane_extended count_of c.secret ys true b.state.qts q i; settings = overlaid_numbers c.settings b.settings b.state.seq b.state.date i }
 done_numbers false c b xs ys p q =
     λ i. record (client_numbers c) { common = lane_extended count_of c.common xs false b.state.pts p i; secret = lane_extended count_of c.secret ys false b.state.qts q i; settings = record (settings_numbers c.settings) { mode = Again } }
 
-taken_numbers : (back : Bool) (c : ClientState) (b : Brought) (xs ys : List EventView) → c.common.at + sum_by count_of xs ≡ b.state.pts → c.secret.at + sum_by count_of ys ≡ b.state.qts
+taken_numbers : (back : Bool) (c : ClientState) (b : Received) (xs ys : List EventView) → c.common.at + sum_by count_of xs ≡ b.state.pts → c.secret.at + sum_by count_of ys ≡ b.state.qts
     → HasNumbers c (group_taken back c b xs ys) (n_group_done b.last (client_numbers c) b.state.pts b.state.qts b.state.seq b.state.date)
 taken_numbers true c b xs ys p q = tt
 taken_numbers false c b xs ys p q = done_numbers b.last c b xs ys p q
 
-woven_numbers : (c : ClientState) (b : Brought) (o s : Result (List EventView) WeaveCause) → woven_of c.common.at b.state.pts b.news b.others ≡ o → woven_of c.secret.at b.state.qts b.secrets [] ≡ s
+woven_numbers : (c : ClientState) (b : Received) (o s : Result (List EventView) WeaveCause) → woven_of c.common.at b.state.pts b.news b.others ≡ o → woven_of c.secret.at b.state.qts b.secrets [] ≡ s
     → HasNumbers c (group_woven c b o s) (n_group_done b.last (client_numbers c) b.state.pts b.state.qts b.state.seq b.state.date)
 woven_numbers c b (Err cause) s e f = tt
 woven_numbers c b (Ok xs) (Err cause) e f = tt
 woven_numbers c b (Ok xs) (Ok ys) e f = taken_numbers (b.last && ltb b.state.seq c.settings.at) c b xs ys (woven_reaches c.common.at b.state.pts b.news b.others xs e) (woven_reaches c.secret.at b.state.qts b.secrets [] ys f)
 
-brings_numbers : (c : ClientState) (b : Brought) → HasNumbers c (brings c b) (n_group_done b.last (client_numbers c) b.state.pts b.state.qts b.state.seq b.state.date)
+brings_numbers : (c : ClientState) (b : Received) → HasNumbers c (brings c b) (n_group_done b.last (client_numbers c) b.state.pts b.state.qts b.state.seq b.state.date)
 brings_numbers c b = woven_numbers c b (woven_of c.common.at b.state.pts b.news b.others) (woven_of c.secret.at b.state.qts b.secrets []) refl refl
 
 group_numbers : (c : ClientState) (r : Reply) → HasNumbers c (group_replied c r) (n_group_replied (client_numbers c) r)

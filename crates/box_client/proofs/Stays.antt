@@ -19,11 +19,11 @@ use Rattle.box_events.specs.declared.difference_fault.WeaveFault.TheVariants.{Ov
 use Rattle.box_events.specs.Weaves.{WeaveCause, woven_of}
 use Rattle.channel_box.specs.States.{ChannelState, first}
 use Rattle.channel_box.specs.Steps.{is_asking, asks_number, Answered, stale, refused, taken, answered, Ticked, ticked, and_asks, and_waits, channel_is_due}
-use Rattle.box_client.specs.declared.brought.Brought.{Brought}
+use Rattle.box_client.specs.declared.received.Received.{Received}
 use Rattle.box_client.specs.declared.fault.ClientFault.{ClientFault}
 use Rattle.box_client.specs.declared.fault.ClientFault.TheVariants.{PeerError, WrongKind, Weave, SeqBack, Memory}
-use Rattle.box_client.specs.declared.fault.Told.{Told}
-use Rattle.box_client.specs.declared.fault.Told.TheVariants.{Reply as Taken, Stale}
+use Rattle.box_client.specs.declared.fault.ReplyOutcome.{ReplyOutcome}
+use Rattle.box_client.specs.declared.fault.ReplyOutcome.TheVariants.{Reply as Taken, Stale}
 use Rattle.box_client.specs.States.{ClientState, new_client}
 use Rattle.box_client.specs.Messages.{are_messages}
 use Rattle.box_client.specs.Insides.{IsSteady}
@@ -61,7 +61,7 @@ extend_again : (t : LaneState EventView) (xs : List EventView) → (extend count
 unfolding extend
 extend_again t xs = refl
 
-stays_done : (last : Bool) (c : ClientState) (b : Brought) (xs ys : List EventView) → IsSteady c → are_messages ys ≡ true → IsSteady (group_done last c b xs ys)
+stays_done : (last : Bool) (c : ClientState) (b : Received) (xs ys : List EventView) → IsSteady c → are_messages ys ≡ true → IsSteady (group_done last c b xs ys)
 stays_done true c b xs ys m new = record {
   mode = (extend_live c.secret ys ∙ sym (extend_live c.common xs), overlay_live c.settings b.settings b.state.seq b.state.date ∙ sym (extend_live c.common xs));
   secret = messages_extend c.secret ys true m.secret new;
@@ -79,16 +79,16 @@ client_in c ignored = c
 client_in c (refuses cause) = c
 client_in c (becomes d) = d
 
-stays_taken : (back : Bool) (c : ClientState) (b : Brought) (xs ys : List EventView) → IsSteady c → are_messages ys ≡ true → IsSteady (client_in c (group_taken back c b xs ys))
+stays_taken : (back : Bool) (c : ClientState) (b : Received) (xs ys : List EventView) → IsSteady c → are_messages ys ≡ true → IsSteady (client_in c (group_taken back c b xs ys))
 stays_taken true c b xs ys m new = m
 stays_taken false c b xs ys m new = stays_done b.last c b xs ys m new
 
-stays_woven : (c : ClientState) (b : Brought) (o p : Result (List EventView) WeaveCause) → ((ys : List EventView) → p ≡ Ok ys → are_messages ys ≡ true) → IsSteady c → IsSteady (client_in c (group_woven c b o p))
+stays_woven : (c : ClientState) (b : Received) (o p : Result (List EventView) WeaveCause) → ((ys : List EventView) → p ≡ Ok ys → are_messages ys ≡ true) → IsSteady c → IsSteady (client_in c (group_woven c b o p))
 stays_woven c b (Err cause) p new m = m
 stays_woven c b (Ok xs) (Err cause) new m = m
 stays_woven c b (Ok xs) (Ok ys) new m = stays_taken (b.last && ltb b.state.seq c.settings.at) c b xs ys m (new ys refl)
 
-stays_brings : (c : ClientState) (b : Brought) → IsSteady c → IsSteady (client_in c (brings c b))
+stays_brings : (c : ClientState) (b : Received) → IsSteady c → IsSteady (client_in c (brings c b))
 stays_brings c b m =
     stays_woven c b (woven_of c.common.at b.state.pts b.news b.others) (woven_of c.secret.at b.state.qts b.secrets []) (messages_woven c.secret.at b.state.qts b.secrets) m
 
@@ -125,7 +125,7 @@ stays_replied c n r m =
 kept : (c d : ClientState) → d ≡ c → IsSteady c → IsSteady d
 kept c d same m = subst IsSteady (sym same) m
 
-pub stays_answers : (old : ClientState) (o : Outcome) (result : Result Told ClientFault) (new : ClientState) → IsSteady old → IsSteady (client_in old o) → Answers old o result new → IsSteady new
+pub stays_answers : (old : ClientState) (o : Outcome) (result : Result ReplyOutcome ClientFault) (new : ClientState) → IsSteady old → IsSteady (client_in old o) → Answers old o result new → IsSteady new
 stays_answers old o (Ok Taken) new m n a = subst (λ (x : Outcome). IsSteady (client_in old x)) a n
 stays_answers old o (Ok Stale) new m n a = kept old new a.1 m
 stays_answers old o (Err (PeerError code)) new m n a = kept old new a.1 m

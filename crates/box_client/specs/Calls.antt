@@ -9,13 +9,13 @@ use Rattle.channel_box.specs.declared.fault.WatchFault.TheVariants.{Already, Too
 use Rattle.channel_box.specs.Steps.{is_watched, channel_of}
 use Rattle.box_client.specs.declared.fault.ClientFault.{ClientFault}
 use Rattle.box_client.specs.declared.fault.ClientFault.TheVariants.{PeerError, WrongKind, Weave, SeqBack, Memory}
-use Rattle.box_client.specs.declared.fault.Told.{Told}
-use Rattle.box_client.specs.declared.fault.Told.TheVariants.{Reply as Taken, Stale}
+use Rattle.box_client.specs.declared.fault.ReplyOutcome.{ReplyOutcome}
+use Rattle.box_client.specs.declared.fault.ReplyOutcome.TheVariants.{Reply as Taken, Stale}
 use Rattle.box_client.specs.States.{ClientState}
 use Rattle.box_client.specs.Replies.{Outcome, ignored, refuses, becomes, peer_error, wrong_kind, no_list, seq_back}
 
 -- What a call answers, by what comes of the answer that it was handed. Only where somebody asks its number is memory asked for.
-abbrev pub Answers : ClientState → Outcome → Result Told ClientFault → ClientState → Type 0
+abbrev pub Answers : ClientState → Outcome → Result ReplyOutcome ClientFault → ClientState → Type 0
 Answers old o (Ok Taken) new = o ≡ becomes new
 Answers old o (Ok Stale) new = (o ≡ ignored) × (new ≡ old)
 Answers old o (Err (PeerError code)) new = (o ≡ refuses (peer_error code)) × (new ≡ old)

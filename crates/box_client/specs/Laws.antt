@@ -6,7 +6,7 @@ use Rattle.box_events.specs.declared.updates.Push.{Push}
 use Rattle.box_events.specs.declared.replies.Reply.{Reply}
 use Rattle.channel_box.specs.Steps.{watched, may_watch}
 use Rattle.box_events.specs.Weaves.{woven_of}
-use Rattle.box_client.specs.declared.brought.Brought.{Brought}
+use Rattle.box_client.specs.declared.received.Received.{Received}
 use Rattle.box_client.specs.declared.loading.TheConstants.{MAX_NEXT}
 use Rattle.box_client.specs.States.{ClientState, new_client}
 use Rattle.box_client.specs.Saving.{saved_of}
@@ -59,6 +59,6 @@ SavedAreLoaded = (c : ClientState) → IsSavable c → c.next ≤ MAX_NEXT → I
 
 -- A difference whose lists can be woven, and whose seq isn't below the client's, is taken.
 abbrev pub TakesWhatFits : Type 0
-TakesWhatFits = (c : ClientState) (b : Brought) (xs ys : List EventView)
+TakesWhatFits = (c : ClientState) (b : Received) (xs ys : List EventView)
     → woven_of c.common.at b.state.pts b.news b.others ≡ Ok xs → woven_of c.secret.at b.state.qts b.secrets [] ≡ Ok ys → c.settings.at ≤ b.state.seq
     → brings c b ≡ becomes (group_done b.last c b xs ys)

@@ -10,7 +10,7 @@ use Rattle.pts_machine.specs.SeqStates.{overlaid, asks_again}
 use Rattle.box_events.specs.Weaves.{WeaveCause, woven_of}
 use Rattle.channel_box.specs.States.{first}
 use Rattle.channel_box.specs.Steps.{is_asking, asks_number, Answered, stale, refused, taken, answered}
-use Rattle.box_client.specs.declared.brought.Brought.{Brought}
+use Rattle.box_client.specs.declared.received.Received.{Received}
 use Rattle.box_client.specs.States.{ClientState}
 
 -- why an answer is refused
@@ -27,7 +27,7 @@ pub data Outcome : Type 0 where
   becomes : ClientState → Outcome
 
 -- nothing is new since the client's positions
-abbrev pub nothing_new : ClientState → ℕ → ℕ → Brought
+abbrev pub nothing_new : ClientState → ℕ → ℕ → Received
 nothing_new c date seq = record {
   news = [];
   secrets = [];
@@ -38,7 +38,7 @@ nothing_new c date seq = record {
 }
 
 -- Both lanes grow. After the last part the settings are laid over the others, with its seq and date; after another all are to ask again.
-abbrev pub group_done : Bool → ClientState → Brought → List EventView → List EventView → ClientState
+abbrev pub group_done : Bool → ClientState → Received → List EventView → List EventView → ClientState
 group_done true c b xs ys = record c {
   common = extend count_of c.common xs true;
   secret = extend count_of c.secret ys true;
@@ -51,17 +51,17 @@ group_done false c b xs ys = record c {
 }
 
 -- the last part's seq may not be below the client's
-abbrev pub group_taken : Bool → ClientState → Brought → List EventView → List EventView → Outcome
+abbrev pub group_taken : Bool → ClientState → Received → List EventView → List EventView → Outcome
 group_taken true c b xs ys = refuses (seq_back c.settings.at b.state.seq)
 group_taken false c b xs ys = becomes (group_done b.last c b xs ys)
 
-abbrev pub group_woven : ClientState → Brought → Result (List EventView) WeaveCause → Result (List EventView) WeaveCause → Outcome
+abbrev pub group_woven : ClientState → Received → Result (List EventView) WeaveCause → Result (List EventView) WeaveCause → Outcome
 group_woven c b (Err cause) o = refuses (no_list cause)
 group_woven c b (Ok xs) (Err cause) = refuses (no_list cause)
 group_woven c b (Ok xs) (Ok ys) = group_taken (b.last && ltb b.state.seq c.settings.at) c b xs ys
 
 -- the common lane's events are woven of messages and other events, the secret lane's are messages alone
-abbrev pub brings : ClientState → Brought → Outcome
+abbrev pub brings : ClientState → Received → Outcome
 brings c b = group_woven c b (woven_of c.common.at b.state.pts b.news b.others) (woven_of c.secret.at b.state.qts b.secrets [])
 
 abbrev pub group_replied : ClientState → Reply → Outcome

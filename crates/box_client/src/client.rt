@@ -12,7 +12,7 @@ ghost use Rattle.box_client.specs.Messages.{HasMessages};
 ghost use Rattle.box_client.specs.declared.loading.TheConstants.{MAX_NEXT};
 ghost use Rattle.box_client.specs.Calls.{Answers, WatchesOne};
 
-use crate::fault::{ClientFault, LoadFault, Told};
+use crate::fault::{ClientFault, LoadFault, ReplyOutcome};
 use crate::parts::ClientParts;
 use crate::{asking, loading, pushing, replying, saving};
 use box_events::{Asks, Event, Push, Reply, Saved};
@@ -86,7 +86,7 @@ impl Client {
         alloc: Global,
         number: u32,
         reply: Reply,
-    ) -> Result<Told, ClientFault>
+    ) -> Result<ReplyOutcome, ClientFault>
         requires range { IsReplyInRange reply }
         ensures step { Answers self.old (replied self.old number reply) result self.new }
     {

@@ -5,7 +5,7 @@ use thiserror::Error;
 
 /// What came of an answer that isn't refused.
 #[derive(Clone, Copy)]
-pub enum Told {
+pub enum ReplyOutcome {
     /// It was asked for, and is taken.
     Reply,
     /// Nobody asks its number.

@@ -2,18 +2,18 @@
 #![tactic(auto)]
 
 mod asking;
-mod brought;
 mod client;
 mod fault;
 mod laws;
 mod loading;
 mod parts;
 mod pushing;
+mod received;
 mod replying;
 mod saving;
 
 pub use client::Client;
-pub use fault::{ClientFault, LoadFault, Told};
+pub use fault::{ClientFault, LoadFault, ReplyOutcome};
 pub use laws::{
     differences_that_fit_are_taken, numbers_alone, numbers_are_given_once, what_is_saved_is_loaded,
 };

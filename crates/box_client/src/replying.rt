@@ -9,9 +9,9 @@ ghost use Rattle.box_client.specs.Ranges.{IsReplyInRange};
 ghost use Rattle.box_client.specs.Calls.{Answers};
 ghost use Rattle.box_client.specs.Views.{client_of};
 
-use crate::brought::Brought;
-use crate::fault::{ClientFault, Told};
+use crate::fault::{ClientFault, ReplyOutcome};
 use crate::parts::ClientParts;
+use crate::received::Received;
 use box_events::{ListOf, MAX_END, Reply, Setting, State};
 use channel_box::weave_onto;
 use pts_machine::{Mode, Settings};
@@ -24,7 +24,7 @@ pub fn hear_reply(
     alloc: Global,
     number: u32,
     reply: Reply,
-) -> Result<Told, ClientFault>
+) -> Result<ReplyOutcome, ClientFault>
     requires range { IsReplyInRange reply }
     ensures step { Answers (client_of parts.old) (replied (client_of parts.old) number reply) result (client_of parts.new) }
 {
@@ -34,7 +34,7 @@ pub fn hear_reply(
     if parts.channels.asks(number) {
         return reply_to_channel(parts, alloc, number, reply);
     }
-    Ok(Told::Stale)
+    Ok(ReplyOutcome::Stale)
 }
 
 fn asks(mode: Mode, number: u32) -> bool
@@ -48,7 +48,11 @@ fn asks(mode: Mode, number: u32) -> bool
 }
 
 // An answer comes that the common group asked for.
-fn reply_to_group(parts: &mut ClientParts, alloc: Global, reply: Reply) -> Result<Told, ClientFault>
+fn reply_to_group(
+    parts: &mut ClientParts,
+    alloc: Global,
+    reply: Reply,
+) -> Result<ReplyOutcome, ClientFault>
     requires range { IsReplyInRange reply }
     ensures step { Answers (client_of parts.old) (group_replied (client_of parts.old) reply) result (client_of parts.new) }
 {
@@ -61,7 +65,7 @@ fn reply_to_group(parts: &mut ClientParts, alloc: Global, reply: Reply) -> Resul
                 date,
                 seq,
             };
-            let nothing = Brought {
+            let nothing = Received {
                 news: ListOf::new(alloc),
                 secrets: ListOf::new(alloc),
                 others: ListOf::new(alloc),
@@ -79,7 +83,7 @@ fn reply_to_group(parts: &mut ClientParts, alloc: Global, reply: Reply) -> Resul
             state,
             last,
         } => {
-            let brought = Brought {
+            let received = Received {
                 news,
                 secrets,
                 others,
@@ -87,30 +91,34 @@ fn reply_to_group(parts: &mut ClientParts, alloc: Global, reply: Reply) -> Resul
                 state,
                 last,
             };
-            take(parts, alloc, brought)
+            take(parts, alloc, received)
         }
         Reply::State(_) | Reply::Channel(_) | Reply::Receipt(_) => Err(ClientFault::WrongKind),
     }
 }
 
 // The events of an answer are woven and all memory is taken before anything changes.
-fn take(parts: &mut ClientParts, alloc: Global, brought: Brought) -> Result<Told, ClientFault>
-    requires pts { brought.state.pts ≤ MAX_END }
-    requires qts { brought.state.qts ≤ MAX_END }
-    requires few { length brought.news < 2 ^ 31 }
-    requires few_secrets { length brought.secrets < 2 ^ 31 }
-    requires others { AreOthers brought.others }
-    requires counted { AreCountedOthers brought.others }
-    ensures step { Answers (client_of parts.old) (brings (client_of parts.old) brought) result (client_of parts.new) }
+fn take(
+    parts: &mut ClientParts,
+    alloc: Global,
+    received: Received,
+) -> Result<ReplyOutcome, ClientFault>
+    requires pts { received.state.pts ≤ MAX_END }
+    requires qts { received.state.qts ≤ MAX_END }
+    requires few { length received.news < 2 ^ 31 }
+    requires few_secrets { length received.secrets < 2 ^ 31 }
+    requires others { AreOthers received.others }
+    requires counted { AreCountedOthers received.others }
+    ensures step { Answers (client_of parts.old) (brings (client_of parts.old) received) result (client_of parts.new) }
 {
-    let Brought {
+    let Received {
         news,
         secrets,
         others,
         settings,
         state,
         last,
-    } = brought;
+    } = received;
     let at = parts.settings.at();
     let events = weave_onto(alloc, &mut parts.common, state.pts, news, others)?;
     let none = ListOf::new(alloc);
@@ -119,19 +127,23 @@ fn take(parts: &mut ClientParts, alloc: Global, brought: Brought) -> Result<Told
         parts.settings.again();
         parts.common.extend(events, false);
         parts.secret.extend(messages, false);
-        return Ok(Told::Reply);
+        return Ok(ReplyOutcome::Reply);
     }
     if state.seq < at {
         return Err(ClientFault::SeqBack { at, seq: state.seq });
     }
-    lay(&mut parts.settings, settings, state)?;
+    overlay_settings(&mut parts.settings, settings, state)?;
     parts.common.extend(events, true);
     parts.secret.extend(messages, true);
-    Ok(Told::Reply)
+    Ok(ReplyOutcome::Reply)
 }
 
 // The settings of a final answer are laid over the others.
-fn lay(settings: &mut Settings, more: ListOf<Setting>, state: State) -> Result<(), Memory>
+fn overlay_settings(
+    settings: &mut Settings,
+    more: ListOf<Setting>,
+    state: State,
+) -> Result<(), Memory>
     requires order { settings.old.state.at ≤ state.seq }
     ensures ok { OnOk result (settings.new.state ≡ overlaid settings.old.state more state.seq state.date) }
     ensures err { OnErr result (settings.new.state ≡ settings.old.state) }
@@ -151,7 +163,7 @@ fn reply_to_channel(
     alloc: Global,
     number: u32,
     reply: Reply,
-) -> Result<Told, ClientFault>
+) -> Result<ReplyOutcome, ClientFault>
     requires range { IsReplyInRange reply }
     ensures step { Answers (client_of parts.old) (channel_replied (client_of parts.old) number reply) result (client_of parts.new) }
 {
@@ -159,9 +171,9 @@ fn reply_to_channel(
         Reply::Error { code, .. } => Err(ClientFault::PeerError { code }),
         Reply::Channel(reply) => {
             if parts.channels.reply(alloc, number, reply)? {
-                return Ok(Told::Reply);
+                return Ok(ReplyOutcome::Reply);
             }
-            Ok(Told::Stale)
+            Ok(ReplyOutcome::Stale)
         }
         Reply::State(_) | Reply::Empty { .. } | Reply::Difference { .. } | Reply::Receipt(_) => Err(
             ClientFault::WrongKind,

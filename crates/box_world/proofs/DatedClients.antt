@@ -18,7 +18,7 @@ use Rattle.pts_machine.specs.Packs.{Pack, last_date, pack_of, puts}
 use Rattle.pts_machine.specs.SeqStates.{SettingsState, hear_pack, overlaid, lane_of}
 use Rattle.channel_box.specs.States.{first}
 use Rattle.channel_box.specs.Steps as boxes
-use Rattle.box_client.specs.declared.brought.Brought.{Brought}
+use Rattle.box_client.specs.declared.received.Received.{Received}
 use Rattle.box_client.specs.States.{ClientState}
 use Rattle.box_client.specs.Pushes.{updated, all_updated, settings_in, pack_heard, pushed}
 use Rattle.box_client.specs.Replies.{ignored, becomes, nothing_new, group_done, group_taken, group_woven, group_replied, by_channels, channel_replied}
@@ -89,15 +89,15 @@ push_goes c (push.Container us date start seq) h low = pack_goes (ltb 0 seq) (al
 becomes_is : (c d : ClientState) → becomes c ≡ becomes d → c ≡ d
 becomes_is c d e = cc
 
-done_goes : (last : Bool) (c : ClientState) (b : Brought) (xs ys : List EventView) → b.state.date < 2 ^ 31 → IsDatedClient c → IsDatedClient (group_done last c b xs ys)
+done_goes : (last : Bool) (c : ClientState) (b : Received) (xs ys : List EventView) → b.state.date < 2 ^ 31 → IsDatedClient c → IsDatedClient (group_done last c b xs ys)
 done_goes true c b xs ys low h = let d = overlaid_dated c.settings b.settings b.state.seq b.state.date low (of_client c h) in record { date = d.date; held = d.lane.held }
 done_goes false c b xs ys low h = record { date = h.date; held = h.held }
 
-taken_goes : (back : Bool) (c : ClientState) (b : Brought) (xs ys : List EventView) (d : ClientState) → group_taken back c b xs ys ≡ becomes d → b.state.date < 2 ^ 31 → IsDatedClient c → IsDatedClient d
+taken_goes : (back : Bool) (c : ClientState) (b : Received) (xs ys : List EventView) (d : ClientState) → group_taken back c b xs ys ≡ becomes d → b.state.date < 2 ^ 31 → IsDatedClient c → IsDatedClient d
 taken_goes true c b xs ys d is low h = absurd cc
 taken_goes false c b xs ys d is low h = subst IsDatedClient (becomes_is (group_done b.last c b xs ys) d is) (done_goes b.last c b xs ys low h)
 
-woven_goes : (c : ClientState) (b : Brought) (o p : Result (List EventView) WeaveCause) (d : ClientState) → group_woven c b o p ≡ becomes d → b.state.date < 2 ^ 31 → IsDatedClient c → IsDatedClient d
+woven_goes : (c : ClientState) (b : Received) (o p : Result (List EventView) WeaveCause) (d : ClientState) → group_woven c b o p ≡ becomes d → b.state.date < 2 ^ 31 → IsDatedClient c → IsDatedClient d
 woven_goes c b (Err cause) p d is low h = absurd cc
 woven_goes c b (Ok xs) (Err cause) d is low h = absurd cc
 woven_goes c b (Ok xs) (Ok ys) d is low h = taken_goes (b.last && ltb b.state.seq c.settings.at) c b xs ys d is low h
@@ -106,7 +106,7 @@ group_goes : (c : ClientState) (r : Reply) (d : ClientState) → group_replied c
 group_goes c (reply.State state) d is low h = absurd cc
 group_goes c (reply.Empty date seq) d is low h = woven_goes c (nothing_new c date seq) (woven_of c.common.at c.common.at [] []) (woven_of c.secret.at c.secret.at [] []) d is low h
 group_goes c (reply.Difference news secrets others settings state last) d is low h =
-    let b : Brought = record { news = news; secrets = secrets; others = others; settings = settings; state = state; last = last } in
+    let b : Received = record { news = news; secrets = secrets; others = others; settings = settings; state = state; last = last } in
     woven_goes c b (woven_of c.common.at state.pts news others) (woven_of c.secret.at state.qts secrets []) d is low h
 group_goes c (reply.Channel r) d is low h = absurd cc
 group_goes c (reply.Receipt receipt) d is low h = absurd cc

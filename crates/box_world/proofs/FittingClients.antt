@@ -34,7 +34,7 @@ use Rattle.pts_machine.specs.Packs.{Pack, pack_of, puts, puts_all}
 use Rattle.pts_machine.specs.SeqStates.{SettingsState, hear_pack, overlaid, lane_of}
 use Rattle.channel_box.specs.States.{ChannelState, first, has_id}
 use Rattle.channel_box.specs.Steps as boxes
-use Rattle.box_client.specs.declared.brought.Brought.{Brought}
+use Rattle.box_client.specs.declared.received.Received.{Received}
 use Rattle.box_client.specs.States.{ClientState}
 use Rattle.box_client.specs.Pushes.{updated, all_updated, settings_in, pack_heard, pushed}
 use Rattle.box_client.specs.Replies.{ignored, becomes, nothing_new, group_done, group_taken, group_woven, brings, group_replied, by_channels, channel_replied, replied}
@@ -254,13 +254,13 @@ push_goes c (push.Container us date start seq) h f = pack_goes (ltb 0 seq) (all_
 becomes_is : (c d : ClientState) → becomes c ≡ becomes d → c ≡ d
 becomes_is c d e = cc
 
-record FitsBrought (b : Brought) : Type 0 where
+record FitsBrought (b : Received) : Type 0 where
   news : All IsText b.news
   secrets : All IsText b.secrets
   others : All FitsPlaced b.others
   settings : All FitsSetting b.settings
 
-done_goes : (last : Bool) (c : ClientState) (b : Brought) (xs ys : List EventView) → FitsClient c → All FitsSetting b.settings → All FitsEvent xs → All FitsEvent ys → FitsClient (group_done last c b xs ys)
+done_goes : (last : Bool) (c : ClientState) (b : Received) (xs ys : List EventView) → FitsClient c → All FitsSetting b.settings → All FitsEvent xs → All FitsEvent ys → FitsClient (group_done last c b xs ys)
 done_goes true c b xs ys h all x y = record {
   common = extend_all FitsEvent count_of c.common xs true h.common x;
   secret = extend_all FitsEvent count_of c.secret ys true h.secret y;
@@ -274,16 +274,16 @@ done_goes false c b xs ys h all x y = record {
   channels = h.channels;
 }
 
-taken_goes : (back : Bool) (c : ClientState) (b : Brought) (xs ys : List EventView) (d : ClientState) → group_taken back c b xs ys ≡ becomes d → FitsClient c → All FitsSetting b.settings → All FitsEvent xs → All FitsEvent ys → FitsClient d
+taken_goes : (back : Bool) (c : ClientState) (b : Received) (xs ys : List EventView) (d : ClientState) → group_taken back c b xs ys ≡ becomes d → FitsClient c → All FitsSetting b.settings → All FitsEvent xs → All FitsEvent ys → FitsClient d
 taken_goes true c b xs ys d is h all x y = absurd cc
 taken_goes false c b xs ys d is h all x y = subst FitsClient (becomes_is (group_done b.last c b xs ys) d is) (done_goes b.last c b xs ys h all x y)
 
-woven_goes : (c : ClientState) (b : Brought) (o p : Result (List EventView) WeaveCause) (d : ClientState) → group_woven c b o p ≡ becomes d → FitsClient c → FitsBrought b → ((xs : List EventView) → o ≡ Ok xs → All FitsEvent xs) → ((ys : List EventView) → p ≡ Ok ys → All FitsEvent ys) → FitsClient d
+woven_goes : (c : ClientState) (b : Received) (o p : Result (List EventView) WeaveCause) (d : ClientState) → group_woven c b o p ≡ becomes d → FitsClient c → FitsBrought b → ((xs : List EventView) → o ≡ Ok xs → All FitsEvent xs) → ((ys : List EventView) → p ≡ Ok ys → All FitsEvent ys) → FitsClient d
 woven_goes c b (Err cause) p d is h f x y = absurd cc
 woven_goes c b (Ok xs) (Err cause) d is h f x y = absurd cc
 woven_goes c b (Ok xs) (Ok ys) d is h f x y = taken_goes (b.last && ltb b.state.seq c.settings.at) c b xs ys d is h f.settings (x xs refl) (y ys refl)
 
-brings_goes : (c : ClientState) (b : Brought) (d : ClientState) → brings c b ≡ becomes d → FitsClient c → FitsBrought b → FitsClient d
+brings_goes : (c : ClientState) (b : Received) (d : ClientState) → brings c b ≡ becomes d → FitsClient c → FitsBrought b → FitsClient d
 brings_goes c b d is h f =
     woven_goes c b (woven_of c.common.at b.state.pts b.news b.others) (woven_of c.secret.at b.state.qts b.secrets []) d is h f (λ xs e. woven_all c.common.at b.state.pts b.news b.others xs e f.news f.others)
     (λ ys e. woven_all c.secret.at b.state.qts b.secrets [] ys e f.secrets (All-nil FitsPlaced))

@@ -34,7 +34,7 @@ use Rattle.box_server.specs.Servers.{ServerState, state_of, channel_in}
 use Rattle.box_server.specs.Entries.{bytes_of}
 use Rattle.box_client.specs.States.{ClientState}
 use Rattle.box_client.specs.Asking.{group_is_due, difference_of, group_ticked, ticks, wakes, is_one_asking}
-use Rattle.box_client.specs.declared.brought.Brought.{Brought}
+use Rattle.box_client.specs.declared.received.Received.{Received}
 use Rattle.box_client.specs.Replies.{Outcome, ignored, becomes, nothing_new, group_done, group_replied, channel_replied}
 use Rattle.box_server.specs.Runs.{limited, run_of}
 use Rattle.box_server.specs.Answers.{answer, is_whole, slice, last_by, carried, difference_by, channel_difference}
@@ -224,7 +224,7 @@ lane_ahead : (box : List EventView) (t : LaneState EventView) (n to : ℕ) (xs :
 lane_ahead box t n to xs c le f e b =
     (sound_extend count_of t xs true (asking_sound box t n c le f e) (omega (arith, le, sum_is xs, stretch_counts box t.at to xs b, stretch_inside box t.at to xs b))).ahead (extend_live t xs)
 
-group_ends : (s : ServerState) (boxes : Boxes) (c : ClientState) (n tx ty : ℕ) (b : Brought) (xs ys : List EventView) → Known s boxes → Agrees s boxes c → c.common.mode ≡ Asking n → c.flag ≡ false → Between s.common c.common.at tx xs → Between s.secret c.secret.at ty ys
+group_ends : (s : ServerState) (boxes : Boxes) (c : ClientState) (n tx ty : ℕ) (b : Received) (xs ys : List EventView) → Known s boxes → Agrees s boxes c → c.common.mode ≡ Asking n → c.flag ≡ false → Between s.common c.common.at tx xs → Between s.secret c.secret.at ty ys
     → IsPast s (group_done true c b xs ys) → Agrees s boxes (group_done true c b xs ys) → Nearer s c (group_done true c b xs ys)
 group_ends s boxes c n tx ty b xs ys k a e flag x y past agrees =
     let d : ClientState = group_done true c b xs ys in
@@ -242,7 +242,7 @@ group_ends s boxes c n tx ty b xs ys k a e flag x y past agrees =
       calm = λ w. absurd (not_waiting d.common.mode Live live refl w);
     }
 
-group_part : (s : ServerState) (boxes : Boxes) (c : ClientState) (n tx ty : ℕ) (b : Brought) (xs ys : List EventView) → Known s boxes → Agrees s boxes c → c.common.mode ≡ Asking n → Between s.common c.common.at tx xs → Between s.secret c.secret.at ty ys
+group_part : (s : ServerState) (boxes : Boxes) (c : ClientState) (n tx ty : ℕ) (b : Received) (xs ys : List EventView) → Known s boxes → Agrees s boxes c → c.common.mode ≡ Asking n → Between s.common c.common.at tx xs → Between s.secret c.secret.at ty ys
     → 1 ≤ ending xs + ending ys → Agrees s boxes (group_done false c b xs ys) → Nearer s c (group_done false c b xs ys)
 group_part s boxes c n tx ty b xs ys k a e x y some agrees =
     let d : ClientState = group_done false c b xs ys in
@@ -284,7 +284,7 @@ either_false false b e = inl refl
 next_part : (s : ServerState) (boxes : Boxes) (c : ClientState) (n : ℕ) (es fs : List EventView) → Known s boxes → Agrees s boxes c → c.common.mode ≡ Asking n → Runs s s c es fs → 1 ≤ ending (run_of es) + ending (run_of fs)
     → Next s boxes c (slice s c.common.at c.secret.at (run_of es) (run_of fs))
 next_part s boxes c n es fs k a e r some =
-    let b : Brought = brought_slice s c (run_of es) (run_of fs) in
+    let b : Received = brought_slice s c (run_of es) (run_of fs) in
     let x = run_lies s.common s.common c.common.at es r.more r.common in
     let y = run_lies s.secret s.secret c.secret.at fs r.secret_more r.secret in
     let tx : ℕ = c.common.at + ending (run_of es) in
@@ -300,7 +300,7 @@ next_part s boxes c n es fs k a e r some =
 next_final : (carries : Carries) (s : ServerState) (boxes : Boxes) (c : ClientState) (n : ℕ) (es fs : List EventView) → is_whole es ≡ true → is_whole fs ≡ true → Known s boxes → Agrees s boxes c → c.common.mode ≡ Asking n → c.flag ≡ false → Runs s s c es fs
     → Next s boxes c (Difference (bodies (run_of es)) (bodies (run_of fs)) (others_from c.common.at (run_of es)) (changed_since s.settings c.settings.date) (state_of s) true)
 next_final carries s boxes c n es fs we wf k a e flag r =
-    let b : Brought = brought_last s c (run_of es) (run_of fs) in
+    let b : Received = brought_last s c (run_of es) (run_of fs) in
     let x = run_lies s.common s.common c.common.at es r.more r.common in
     let y = run_lies s.secret s.secret c.secret.at fs r.secret_more r.secret in
     let tx : ℕ = c.common.at + ending (run_of es) in
@@ -317,7 +317,7 @@ next_final carries s boxes c n es fs we wf k a e flag r =
 next_none : (carries : Carries) (s : ServerState) (boxes : Boxes) (c : ClientState) (n : ℕ) (es fs : List EventView) → run_of es ≡ [] → run_of fs ≡ [] → changed_since s.settings c.settings.date ≡ [] → is_whole es ≡ true → is_whole fs ≡ true → Known s boxes
     → Agrees s boxes c → c.common.mode ≡ Asking n → c.flag ≡ false → Runs s s c es fs → Next s boxes c (Empty s.date (length s.settings))
 next_none carries s boxes c n es fs ne nf ns we wf k a e flag r =
-    let b : Brought = nothing_new c s.date (length s.settings) in
+    let b : Received = nothing_new c s.date (length s.settings) in
     let x = none_lies s.common s.common c.common.at es ne r.more r.common in
     let y = none_lies s.secret s.secret c.secret.at fs nf r.secret_more r.secret in
     let tx : ℕ = c.common.at + ending [] in

@@ -29,7 +29,7 @@ use Rattle.box_server.specs.Servers.{ServerState, state_of}
 use Rattle.box_server.specs.LastEntries.{changed_since}
 use Rattle.box_server.specs.Runs.{run_of}
 use Rattle.box_server.specs.Answers.{is_whole, reached, last_by, slice, carried, difference_by, difference_of}
-use Rattle.box_client.specs.declared.brought.Brought.{Brought}
+use Rattle.box_client.specs.declared.received.Received.{Received}
 use Rattle.box_client.specs.States.{ClientState}
 use Rattle.box_client.specs.Replies.{Outcome, ignored, becomes, nothing_new, group_done, group_taken, group_woven, brings, group_replied}
 use Rattle.box_world.specs.Agreeing.{IsPast, Reaches, Boxes, Each, Agrees}
@@ -58,7 +58,7 @@ asks_never m n (inr e) f = absurd cc
 
 -- ---- the group
 
-pub record OverlayFits (s : ServerState) (c : ClientState) (b : Brought) : Type 0 where
+pub record OverlayFits (s : ServerState) (c : ClientState) (b : Received) : Type 0 where
   pub order : c.settings.at ≤ b.state.seq
   pub within : b.state.seq ≤ length s.settings
   pub since : AreSince s.settings b.state.seq b.state.date
@@ -68,7 +68,7 @@ pub record OverlayFits (s : ServerState) (c : ClientState) (b : Brought) : Type 
 later_rise : (s : ServerState) (boxes : Boxes) (n : ℕ) → IsLedger s boxes → NeverFallFrom n s.settings
 later_rise s boxes n k i j d a b c = k.rise i j d (omega arith) b c
 
-pub goes_done : (s : ServerState) (boxes : Boxes) (c : ClientState) (b : Brought) (last : Bool) (tx ty : ℕ) (xs ys : List EventView) → IsLedger s boxes → Agrees s boxes c
+pub goes_done : (s : ServerState) (boxes : Boxes) (c : ClientState) (b : Received) (last : Bool) (tx ty : ℕ) (xs ys : List EventView) → IsLedger s boxes → Agrees s boxes c
     → Between s.common c.common.at tx xs → Between s.secret c.secret.at ty ys → (last ≡ true → OverlayFits s c b) → Goes s boxes c (group_done last c b xs ys)
 goes_done s boxes c b true tx ty xs ys k a x y over =
     let o = over refl in
@@ -98,7 +98,7 @@ seq_kept : (last : Bool) (seq at : ℕ) → (last ≡ true → at ≤ seq) → (
 seq_kept false seq at le = refl
 seq_kept true seq at le = let up = le refl in grind (arith, nat_tests)
 
-pub brings_lists : (c : ClientState) (b : Brought) (xs ys : List EventView) → woven_of c.common.at b.state.pts b.news b.others ≡ Ok xs → woven_of c.secret.at b.state.qts b.secrets [] ≡ Ok ys
+pub brings_lists : (c : ClientState) (b : Received) (xs ys : List EventView) → woven_of c.common.at b.state.pts b.news b.others ≡ Ok xs → woven_of c.secret.at b.state.qts b.secrets [] ≡ Ok ys
     → (b.last ≡ true → c.settings.at ≤ b.state.seq) → brings c b ≡ becomes (group_done b.last c b xs ys)
 brings_lists c b xs ys x y le =
     ap₂ (group_woven c b) x y ∙ ap (λ (t : Bool). group_taken t c b xs ys) (seq_kept b.last b.state.seq c.settings.at le)
@@ -117,7 +117,7 @@ settings_reach : (L : List Dated) (now : ℕ) (b : SettingsState) (xs : List Set
 unfolding overlaid settle
 settings_reach L now b xs seq date a = reach_up (len b.held) seq b.held (λ s x is. (a.within s x is).0)
 
-pub done_past : (m s : ServerState) (boxes : Boxes) (c : ClientState) (b : Brought) (tx ty : ℕ) (xs ys : List EventView) → IsLedger s boxes → Agrees s boxes c → Between s.common c.common.at tx xs → Between s.secret c.secret.at ty ys
+pub done_past : (m s : ServerState) (boxes : Boxes) (c : ClientState) (b : Received) (tx ty : ℕ) (xs ys : List EventView) → IsLedger s boxes → Agrees s boxes c → Between s.common c.common.at tx xs → Between s.secret c.secret.at ty ys
     → ending m.common ≤ tx → ending m.secret ≤ ty → length m.settings ≤ b.state.seq → IsPast m (group_done true c b xs ys)
 done_past m s boxes c b tx ty xs ys k a x y p q r = record {
   common = omega (arith, p, fits_reaches s.common c.common tx xs true k.common a.common x);
@@ -149,10 +149,10 @@ overlay_here : (carries : Carries) (m s : ServerState) (date : ℕ) → HasLater
 overlay_here carries m s date h = subst (λ (l : List Dated). IsOverlay l (length m.settings) date (changed_since m.settings date)) (sym h.1)
     (overlay_grows m.settings h.0 (length m.settings) date (changed_since m.settings date) (omega arith) (carries m.settings date))
 
-abbrev pub brought_slice : ServerState → ClientState → List EventView → List EventView → Brought
+abbrev pub brought_slice : ServerState → ClientState → List EventView → List EventView → Received
 brought_slice m c xs ys = record { news = bodies xs; secrets = bodies ys; others = others_from c.common.at xs; settings = []; state = reached m c.common.at c.secret.at xs ys; last = false }
 
-abbrev pub brought_last : ServerState → ClientState → List EventView → List EventView → Brought
+abbrev pub brought_last : ServerState → ClientState → List EventView → List EventView → Received
 brought_last m c xs ys = record { news = bodies xs; secrets = bodies ys; others = others_from c.common.at xs; settings = changed_since m.settings c.settings.date; state = state_of m; last = true }
 
 pub slice_is : (m s : ServerState) (c : ClientState) (es fs : List EventView) → Runs m s c es fs → group_replied c (slice m c.common.at c.secret.at (run_of es) (run_of fs)) ≡ becomes (group_done false c (brought_slice m c (run_of es) (run_of fs)) (run_of es) (run_of fs))
@@ -162,7 +162,7 @@ slice_is m s c es fs r =
 told_slice : (m s : ServerState) (boxes : Boxes) (c : ClientState) (es fs : List EventView) → IsLedger s boxes → Agrees s boxes c → Runs m s c es fs
     → Told s boxes c (Reaches m (slice m c.common.at c.secret.at (run_of es) (run_of fs))) (group_replied c (slice m c.common.at c.secret.at (run_of es) (run_of fs)))
 told_slice m s boxes c es fs k a r =
-    let b : Brought = brought_slice m c (run_of es) (run_of fs) in
+    let b : Received = brought_slice m c (run_of es) (run_of fs) in
     takes (group_done false c b (run_of es) (run_of fs))
     (slice_is m s c es fs r)
     (goes_done s boxes c b false (c.common.at + ending (run_of es)) (c.secret.at + ending (run_of fs)) (run_of es) (run_of fs) k a
@@ -183,7 +183,7 @@ last_over carries m s c es fs r = record { order = r.order; within = within_here
 told_last : (carries : Carries) (m s : ServerState) (boxes : Boxes) (c : ClientState) (es fs : List EventView) → is_whole es ≡ true → is_whole fs ≡ true → IsLedger s boxes → Agrees s boxes c → Runs m s c es fs
     → Told s boxes c (IsPast m) (brings c (brought_last m c (run_of es) (run_of fs)))
 told_last carries m s boxes c es fs we wf k a r =
-    let b : Brought = brought_last m c (run_of es) (run_of fs) in
+    let b : Received = brought_last m c (run_of es) (run_of fs) in
     let pe : c.common.at + ending (run_of es) ≡ ending m.common = whole_run m.common c.common.at es r.common we in
     let pf : c.secret.at + ending (run_of fs) ≡ ending m.secret = whole_run m.secret c.secret.at fs r.secret wf in
     takes (group_done true c b (run_of es) (run_of fs))
@@ -213,7 +213,7 @@ none_over carries m s c es fs ns r = record {
 told_none : (carries : Carries) (m s : ServerState) (boxes : Boxes) (c : ClientState) (es fs : List EventView) → run_of es ≡ [] → run_of fs ≡ [] → changed_since m.settings c.settings.date ≡ []
     → is_whole es ≡ true → is_whole fs ≡ true → IsLedger s boxes → Agrees s boxes c → Runs m s c es fs → Told s boxes c (IsPast m) (brings c (nothing_new c m.date (length m.settings)))
 told_none carries m s boxes c es fs ne nf ns we wf k a r =
-    let b : Brought = nothing_new c m.date (length m.settings) in
+    let b : Received = nothing_new c m.date (length m.settings) in
     let x = none_lies m.common s.common c.common.at es ne r.more r.common in
     let y = none_lies m.secret s.secret c.secret.at fs nf r.secret_more r.secret in
     takes (group_done true c b [] [])

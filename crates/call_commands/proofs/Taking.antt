@@ -12,8 +12,8 @@ use Rattle.outside.specs.Answer.{refused}
 use Rattle.outside.specs.Jobs.{Making, of_fault}
 use Rattle.outside.specs.Loading.{Refuses, RefusesAs}
 use Rattle.outside.specs.declared.status.Status.{Status}
-use Rattle.outside.specs.declared.stop.Unmade.{Unmade}
-use Rattle.outside.specs.declared.stop.Unmade.TheVariants as unmade
+use Rattle.outside.specs.declared.stop.LoadError.{LoadError}
+use Rattle.outside.specs.declared.stop.LoadError.TheVariants as load_error
 use Rattle.outside.specs.Events.{Event, HostState}
 use Rattle.outside.specs.Packets.{PacketView, TakesPacket, packet_view}
 use Rattle.outside.specs.Packets as taken
@@ -40,22 +40,22 @@ module _ (schema : Declared) (new : CallsView) (past : Log) where
   -- ---- the run ends
 
   -- a refusal that is told, or out of memory
-  pub refused_turn : (S : Step (steps.Turn SoFar Status)) (Says : List ℕ → Type 0) (u : Unmade) (p q : HostState) (r : Result Turn AllocError) → Begins S []
+  pub refused_turn : (S : Step (steps.Turn SoFar Status)) (Says : List ℕ → Type 0) (u : LoadError) (p q : HostState) (r : Result Turn AllocError) → Begins S []
       → ((line : List ℕ) → Says line → (t : List Event) (x : steps.Turn SoFar Status) → Last (Prints (refused line)) t x → S t x) → Refuses Says u → EndsMade (of_fault u) p q r → Turns S schema new past p q r
-  refused_turn S Says (unmade.Refused line) p q (Ok (turn.Next end)) can into says h = absurd h
-  refused_turn S Says (unmade.Refused line) p q (Ok (turn.Last status)) can into says h =
+  refused_turn S Says (load_error.Refused line) p q (Ok (turn.Next end)) can into says h = absurd h
+  refused_turn S Says (load_error.Refused line) p q (Ok (turn.Last status)) can into says h =
       did_as (Last (Prints (refused line.items))) S p q (Some (leave status)) (into line.items says) (did_last (Prints (refused line.items)) p q status h)
-  refused_turn S Says (unmade.Refused line) p q (Err e) can into says h = did_as (Last (Prints (refused line.items))) S p q None (into line.items says) (last_stopped (Prints (refused line.items)) p q h)
-  refused_turn S Says unmade.ReadFault p q r can into says h = absurd says
-  refused_turn S Says unmade.Memory p q (Ok (turn.Next end)) can into says h = absurd h
-  refused_turn S Says unmade.Memory p q (Ok (turn.Last status)) can into says h = absurd (let no : Some status ≡ None = h.0 in cc)
-  refused_turn S Says unmade.Memory p q (Err e) can into says h = subst (λ (s : HostState). Did S p s None) (sym h.1) (did_none S p can)
+  refused_turn S Says (load_error.Refused line) p q (Err e) can into says h = did_as (Last (Prints (refused line.items))) S p q None (into line.items says) (last_stopped (Prints (refused line.items)) p q h)
+  refused_turn S Says load_error.ReadFault p q r can into says h = absurd says
+  refused_turn S Says load_error.Memory p q (Ok (turn.Next end)) can into says h = absurd h
+  refused_turn S Says load_error.Memory p q (Ok (turn.Last status)) can into says h = absurd (let no : Some status ≡ None = h.0 in cc)
+  refused_turn S Says load_error.Memory p q (Err e) can into says h = subst (λ (s : HostState). Did S p s None) (sym h.1) (did_none S p can)
 
   as_line : (line said : List ℕ) → said ≡ line → (t : List Event) (x : steps.Turn SoFar Status) → Last (Prints (refused said)) t x → Last (Prints (refused line)) t x
   as_line line said is t x h = subst (λ (l : List ℕ). Last (Prints (refused l)) t x) is h
 
   -- likewise, with this line
-  line_turn : (place : ℕ) (why : List ℕ) (u : Unmade) (p q : HostState) (r : Result Turn AllocError) → RefusesAs (input_line place why) u → EndsMade (of_fault u) p q r → Turns (Last (TellsRefusal place why)) schema new past p q r
+  line_turn : (place : ℕ) (why : List ℕ) (u : LoadError) (p q : HostState) (r : Result Turn AllocError) → RefusesAs (input_line place why) u → EndsMade (of_fault u) p q r → Turns (Last (TellsRefusal place why)) schema new past p q r
   line_turn place why u p q r = refused_turn (Last (TellsRefusal place why)) (λ line. line ≡ input_line place why) u p q r (can_refuse place why) (λ line is t x h. as_line (input_line place why) line is t x h)
 
   -- ---- a packet was taken, or none
@@ -70,22 +70,22 @@ module _ (schema : Declared) (new : CallsView) (past : Log) where
         → Turns (TellsNext schema (so_far past at)) schema new past p q r
     taken_turn p m q x v r is h = then_turn p m q v r (subst (λ (y : PacketView). Did (TakesPacket Input) p m (Some y)) is h)
 
-    pub bad_turn : (p q : HostState) (n : ℕ) (u : Unmade) (r : Result Turn AllocError) → TellsUnpacked at (packet_fault.BadLength n) u → EndsMade (of_fault u) p q r → Turns (after_packet schema (so_far past at) (taken.bad_length n)) schema new past p q r
+    pub bad_turn : (p q : HostState) (n : ℕ) (u : LoadError) (r : Result Turn AllocError) → TellsUnpacked at (packet_fault.BadLength n) u → EndsMade (of_fault u) p q r → Turns (after_packet schema (so_far past at) (taken.bad_length n)) schema new past p q r
     bad_turn p q n u r tells = line_turn at (codes "BadLength " ++ decimal n) u p q r tells.1
 
-    pub cut_turn : (p q : HostState) (had : ℕ) (u : Unmade) (r : Result Turn AllocError) → TellsUnpacked at (packet_fault.Ended had) u → EndsMade (of_fault u) p q r → Turns (after_packet schema (so_far past at) (taken.ended had)) schema new past p q r
+    pub cut_turn : (p q : HostState) (had : ℕ) (u : LoadError) (r : Result Turn AllocError) → TellsUnpacked at (packet_fault.Ended had) u → EndsMade (of_fault u) p q r → Turns (after_packet schema (so_far past at) (taken.ended had)) schema new past p q r
     cut_turn p q had u r tells = line_turn at (codes "Ended " ++ decimal had) u p q r tells
 
     -- ---- a whole packet
 
     module _ (content : List ℕ) where
-      pub far_turn : (p q : HostState) (u : Unmade) (r : Result Turn AllocError) → MAX_PACKET_END < end_of (so_far past at) content → Begins (OfPacket schema (so_far past at) content) [] → RefusesAs (input_line at (codes "TooLong")) u → EndsMade (of_fault u) p q r
+      pub far_turn : (p q : HostState) (u : LoadError) (r : Result Turn AllocError) → MAX_PACKET_END < end_of (so_far past at) content → Begins (OfPacket schema (so_far past at) content) [] → RefusesAs (input_line at (codes "TooLong")) u → EndsMade (of_fault u) p q r
           → Turns (OfPacket schema (so_far past at) content) schema new past p q r
       far_turn p q u r far can =
           refused_turn (OfPacket schema (so_far past at) content) (λ line. line ≡ input_line at (codes "TooLong")) u p q r can (λ line is t x h. too_long far (as_line (input_line at (codes "TooLong")) line is t x h))
 
       module _ (old : CallsView) (stands : StandsFor schema old past) (within : end_of (so_far past at) content ≤ MAX_PACKET_END) where
-        pub content_turn : (p q : HostState) (u : Unmade) (r : Result Turn AllocError) → Begins (OfPacket schema (so_far past at) content) [] → TellsPacket schema old new at content (Err u) → EndsMade (of_fault u) p q r
+        pub content_turn : (p q : HostState) (u : LoadError) (r : Result Turn AllocError) → Begins (OfPacket schema (so_far past at) content) [] → TellsPacket schema old new at content (Err u) → EndsMade (of_fault u) p q r
             → Turns (OfPacket schema (so_far past at) content) schema new past p q r
         content_turn p q u r can =
             refused_turn (OfPacket schema (so_far past at) content) (λ line. (log : Log) → StandsFor schema old log → SaysRefused (ContentRefused schema log at content) line) u p q r can

@@ -18,7 +18,7 @@ use Rattle.tl_calls.specs.declared.fault.SendFault.{SendFault}
 use Rattle.tl_calls.specs.declared.fault.SendFault.TheVariants as send
 use Rattle.tl_calls.proofs.Stands.{found_open}
 use Rattle.outside.specs.Loading.{Refuses, RefusesAs}
-use Rattle.outside.specs.declared.stop.Unmade.{Unmade}
+use Rattle.outside.specs.declared.stop.LoadError.{LoadError}
 use Rattle.outside.proofs.Loaded.{refuses_as, memory_refuses}
 use Rattle.schema_files.specs.Lines.{cause_text, input_line}
 use Rattle.call_commands.specs.CallReports.{IsWhole, NoWhole, refused, trailing, ContentRefused, no_number, no_call, no_answer, full, no_result, result_cause_name}
@@ -57,7 +57,7 @@ module _ (schema : Declared) (T : Shape) (at : ℕ) (b : List ℕ) (few : at + (
   placed : (p place : ℕ) → p ≤ length b → place ≡ moved 0 p → at + (8 + place) ≡ at + (8 + p)
   placed p place inside is = ap (λ (n : ℕ). at + (8 + n)) (is ∙ as_moved p (length b) inside (omega (arith, few)))
 
-  pub unread_says : (fault : AnswerFault) (u : Unmade) → ReadsAnswer schema T b (Err fault) → TellsUnread at fault u → Refuses (SaysRefused NoWholeAt) u
+  pub unread_says : (fault : AnswerFault) (u : LoadError) → ReadsAnswer schema T b (Err fault) → TellsUnread at fault u → Refuses (SaysRefused NoWholeAt) u
   unread_says (answer.Refused place cause) u (p, r, is) tells =
       refuses_as (λ told. told ≡ input_line (at + (8 + place)) (cause_text cause)) (SaysRefused NoWholeAt) u
       (λ line says. (at + (8 + place), cause_text cause, (p, refused cause r refl, placed p place (refused_within schema MAX_LEVELS T b p cause r) is), says)) tells
@@ -73,12 +73,12 @@ abbrev pub SaysContent : Declared → CallsView → ℕ → List ℕ → List �
 SaysContent schema old at content line = (past : Log) → StandsFor schema old past → SaysRefused (ContentRefused schema past at content) line
 
 module _ (schema : Declared) (old : CallsView) (at : ℕ) (b : List ℕ) where
-  pub call_unread : at + (8 + length b) < 2 ^ 64 → (fault : AnswerFault) (u : Unmade) → ReadsAnswer schema type.call b (Err fault) → TellsUnread at fault u → Refuses (SaysContent schema old at (word 0 ++ b)) u
+  pub call_unread : at + (8 + length b) < 2 ^ 64 → (fault : AnswerFault) (u : LoadError) → ReadsAnswer schema type.call b (Err fault) → TellsUnread at fault u → Refuses (SaysContent schema old at (word 0 ++ b)) u
   call_unread few fault u read tells =
       refuses_as (SaysRefused (NoWholeAt schema type.call at b few)) (SaysContent schema old at (word 0 ++ b)) u
       (λ line (place, why, (p, none, is), says) past stands. (place, why, no_call b p refl none is, says)) (unread_says schema type.call at b few fault u read tells)
 
-  pub answer_unread : at + (8 + length b) < 2 ^ 64 → (n : ℕ) (call : ValueView) → n < 2 ^ 32 → open_at old n ≡ Some call → (fault : AnswerFault) (u : Unmade) → ReadsAnswer schema (result_type schema.decls call) b (Err fault) → TellsUnread at fault u
+  pub answer_unread : at + (8 + length b) < 2 ^ 64 → (n : ℕ) (call : ValueView) → n < 2 ^ 32 → open_at old n ≡ Some call → (fault : AnswerFault) (u : LoadError) → ReadsAnswer schema (result_type schema.decls call) b (Err fault) → TellsUnread at fault u
       → Refuses (SaysContent schema old at (word n ++ b)) u
   answer_unread few n call fits found fault u read tells =
       refuses_as (SaysRefused (NoWholeAt schema (result_type schema.decls call) at b few)) (SaysContent schema old at (word n ++ b)) u
@@ -89,7 +89,7 @@ module _ (schema : Declared) (old : CallsView) (at : ℕ) (b : List ℕ) where
   count : (past : Log) → StandsFor schema old past → length old.calls ≡ length (open_in past)
   count past stands = ap length stands.calls
 
-  pub call_unsent : (v : ValueView) → IsWhole schema type.call b v → (fault : SendFault) (new : CallsView) (u : Unmade) → Sends schema old new v (Err fault) → TellsUnsent at fault u → Refuses (SaysContent schema old at (word 0 ++ b)) u
+  pub call_unsent : (v : ValueView) → IsWhole schema type.call b v → (fault : SendFault) (new : CallsView) (u : LoadError) → Sends schema old new v (Err fault) → TellsUnsent at fault u → Refuses (SaysContent schema old at (word 0 ++ b)) u
   call_unsent v whole send.Full new u (many, same) tells =
       refuses_as (λ told. told ≡ input_line at (codes "Full")) (SaysContent schema old at (word 0 ++ b)) u
       (λ line says past stands. (at, codes "Full", full v b refl whole (omega (arith, many, count past stands)) refl refl, says)) tells
@@ -102,6 +102,6 @@ module _ (schema : Declared) (old : CallsView) (at : ℕ) (b : List ℕ) where
 no_content : (content : List ℕ) → IsPacketLength (length content) → length content < 4 → content ≡ []
 no_content content fits few = nil_from_length content (omega (arith, fits.0, few))
 
-pub unnumbered : (schema : Declared) (old : CallsView) (at : ℕ) (content : List ℕ) (u : Unmade) → IsPacketLength (length content) → length content < 4 → RefusesAs (input_line at (codes "NoNumber")) u → Refuses (SaysContent schema old at content) u
+pub unnumbered : (schema : Declared) (old : CallsView) (at : ℕ) (content : List ℕ) (u : LoadError) → IsPacketLength (length content) → length content < 4 → RefusesAs (input_line at (codes "NoNumber")) u → Refuses (SaysContent schema old at content) u
 unnumbered schema old at content u fits few tells =
     refuses_as (λ told. told ≡ input_line at (codes "NoNumber")) (SaysContent schema old at content) u (λ line says past stands. (at, codes "NoNumber", no_number (no_content content fits few) refl refl, says)) tells

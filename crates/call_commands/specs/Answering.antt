@@ -11,8 +11,8 @@ use Rattle.tl_types.specs.Values.{ValueView}
 use Rattle.tl_calls.specs.Results.{result_type}
 use Rattle.tl_calls.specs.Calling.{CallsView, StandsFor, open_at}
 use Rattle.tl_calls.specs.Events.{Log, Logged}
-use Rattle.outside.specs.declared.stop.Unmade.{Unmade}
-use Rattle.outside.specs.declared.stop.Unmade.TheVariants as unmade
+use Rattle.outside.specs.declared.stop.LoadError.{LoadError}
+use Rattle.outside.specs.declared.stop.LoadError.TheVariants as load_error
 use Rattle.outside.specs.Loading.{Refuses, RefusesAs}
 use Rattle.schema_files.specs.Lines.{input_line}
 use Rattle.call_commands.specs.CallReports.{Tells, ContentRefused}
@@ -34,7 +34,7 @@ SaysRefused Refused line = (place : ℕ) × (why : List ℕ) × Refused place wh
 
 -- A packet of this content, at this offset, was told: its line, and the calls stand for the events with it; or it is refused after the events before.
 -- Out of memory is free.
-abbrev pub TellsPacket : Declared → CallsView → CallsView → ℕ → List ℕ → Result (Vec ℕ Global) Unmade → Type 0
+abbrev pub TellsPacket : Declared → CallsView → CallsView → ℕ → List ℕ → Result (Vec ℕ Global) LoadError → Type 0
 TellsPacket schema old new at content (Ok line) = (past : Log) → StandsFor schema old past → (e : Logged) × Tells schema past content e line.items × StandsFor schema new (e ∷ past)
 TellsPacket schema old new at content (Err fault) = Refuses (λ line. (past : Log) → StandsFor schema old past → SaysRefused (ContentRefused schema past at content) line) fault
 
@@ -45,8 +45,8 @@ abbrev pub counted_line : ℕ → List ℕ → ℕ → List ℕ
 counted_line at cause n = input_line at (cause ++ (codes " " ++ decimal n))
 
 -- what is at this offset is no packet; a length is a word
-abbrev pub TellsUnpacked : ℕ → PacketFault → Unmade → Type 0
+abbrev pub TellsUnpacked : ℕ → PacketFault → LoadError → Type 0
 TellsUnpacked at (packet_fault.BadLength n) u = (n < 2 ^ 32) × RefusesAs (counted_line at (codes "BadLength") n) u
 TellsUnpacked at (packet_fault.Ended had) u = RefusesAs (counted_line at (codes "Ended") had) u
-TellsUnpacked at packet_fault.ReadFault u = u ≡ unmade.ReadFault
-TellsUnpacked at packet_fault.Memory u = u ≡ unmade.Memory
+TellsUnpacked at packet_fault.ReadFault u = u ≡ load_error.ReadFault
+TellsUnpacked at packet_fault.Memory u = u ≡ load_error.Memory

@@ -9,7 +9,7 @@ ghost use Rattle.call_commands.specs.Answering.{AnsweredIn, TellsPacket, IsAnswe
 use crate::lines::{numbered_line, stale_line};
 use crate::refusals::{unread, unsent};
 use crate::words::first_word;
-use outside::Unmade;
+use outside::LoadError;
 use schema_files::printed_line;
 use std::alloc::{AllocError, Global};
 use tl_calls::{Calls, result_of, whole_value};
@@ -24,7 +24,7 @@ pub fn tell_packet(
     calls: &mut Calls,
     at: u64,
     content: &[u8],
-) -> Result<Vec<u8>, Unmade>
+) -> Result<Vec<u8>, LoadError>
     requires same { printer.now.schema.now ≡ schema.now }
     requires few { calls.old.next < 2 ^ 31 }
     requires fitting { AreOpenIn schema.now calls.old }
@@ -36,7 +36,7 @@ pub fn tell_packet(
     ensures few { calls.new.next ≤ calls.old.next + 1 }
 {
     let Some((number, rest)) = first_word(content) else {
-        return Err(Unmade::placed(alloc, "input", at, "NoNumber"));
+        return Err(LoadError::placed(alloc, "input", at, "NoNumber"));
     };
     if number == 0 {
         tell_call(alloc, schema, printer, calls, at, rest)
@@ -53,7 +53,7 @@ fn tell_call(
     calls: &mut Calls,
     at: u64,
     bytes: &[u8],
-) -> Result<Vec<u8>, Unmade>
+) -> Result<Vec<u8>, LoadError>
     requires same { printer.now.schema.now ≡ schema.now }
     requires few { calls.old.next < 2 ^ 31 }
     requires fitting { AreOpenIn schema.now calls.old }
@@ -82,7 +82,7 @@ fn tell_answer(
     at: u64,
     number: u32,
     bytes: &[u8],
-) -> Result<Vec<u8>, Unmade>
+) -> Result<Vec<u8>, LoadError>
     requires same { printer.now.schema.now ≡ schema.now }
     requires some { number ≢ 0 }
     requires fitting { AreOpenIn schema.now calls.old }
@@ -126,7 +126,7 @@ fn tell_value(
     number: u32,
     of: &TypeRef,
     bytes: &[u8],
-) -> Result<Vec<u8>, Unmade>
+) -> Result<Vec<u8>, LoadError>
     requires same { printer.now.schema.now ≡ schema.now }
     requires open { IsAnsweredIn schema.now calls.old number (shape of.now) }
     requires fitting { AreOpenIn schema.now calls.old }

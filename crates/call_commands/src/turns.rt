@@ -14,7 +14,7 @@ ghost use Rattle.call_commands.specs.CallsWork.{OfPacket, TellsNext, TellsPacket
 ghost use Rattle.call_commands.specs.inner.Turning.{EndsMade, GoesOn, IsNext, Turns, turn_of};
 
 use crate::{MAX_PACKET_END, tell_packet, unpacked};
-use outside::{Host, Packet, Status, Unmade, print_made, take_packet, tell, unread, write_out};
+use outside::{Host, LoadError, Packet, Status, print_made, take_packet, tell, unread, write_out};
 use std::alloc::{AllocError, Global};
 use tl_base::{Out, PacketFault, Slot};
 use tl_calls::Calls;
@@ -31,7 +31,7 @@ pub enum Turn {
 }
 
 // Tells a refusal, which ends the run.
-fn refuse<H: Host>(host: &mut H, fault: Unmade) -> Result<Turn, AllocError>
+fn refuse<H: Host>(host: &mut H, fault: LoadError) -> Result<Turn, AllocError>
     ensures { EndsMade (of_fault fault) (H.state host.old) (H.state host.new) result }
 {
     let status = print_made(host, Err(fault))?;
@@ -71,7 +71,7 @@ fn tell_whole<H: Host>(
 {
     let end = at + 4 + content.len() as u64;
     if end > MAX_PACKET_END as u64 {
-        return refuse(host, Unmade::placed(alloc, "input", at, "TooLong"));
+        return refuse(host, LoadError::placed(alloc, "input", at, "TooLong"));
     }
     match tell_packet(alloc, schema, printer, calls, at, content) {
         Ok(line) => Ok(write_line(host, &line, end)),

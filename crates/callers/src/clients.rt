@@ -4,7 +4,7 @@ ghost use Rattle.box_client.specs.Asking.{ticks};
 ghost use Rattle.box_client.specs.Pushes.{pushed};
 ghost use Rattle.box_client.specs.Ranges.{IsPushInRange, IsReplyInRange};
 
-use box_client::{Client, ClientFault, Told};
+use box_client::{Client, ClientFault, ReplyOutcome};
 use box_events::{Asks, Push, Reply};
 use std::alloc::Global;
 use tl_base::Memory;
@@ -38,7 +38,7 @@ pub fn take_reply(
     ensures unchanged { OnErr result (client.new ≡ client.old) }
 {
     match client.hear_reply(alloc, number, reply)? {
-        Told::Reply => Ok(true),
-        Told::Stale => Ok(false),
+        ReplyOutcome::Reply => Ok(true),
+        ReplyOutcome::Stale => Ok(false),
     }
 }

@@ -10,7 +10,7 @@ use Rattle.outside.specs.Answer.{Answer, done, refused, decl_line}
 use Rattle.outside.specs.Jobs.{Job, unlinked_job}
 use Rattle.outside.specs.Kept.{KeepsUnread}
 use Rattle.outside.specs.Loading.{Refuses}
-use Rattle.outside.specs.declared.stop.Unmade.{Unmade}
+use Rattle.outside.specs.declared.stop.LoadError.{LoadError}
 use Rattle.schema_files.specs.Answering.{OfSchemaFile}
 use Rattle.schema_files.specs.Causes.{TypeNameCause}
 use Rattle.schema_files.specs.Loaded.{IsSchemaText, TypeNameRefused}
@@ -48,7 +48,7 @@ pub data OfLayers (old new : Declared) (T : Shape) (a : Answer) : Type 0 where
   whole : (n : ℕ) → IsUnbroken old new T → IsCount (Reached old T) n → a ≡ done (yes_line n) → OfLayers old new T a
 
 -- the line of what is answered, or its refusal; out of memory is free
-abbrev pub TellsLayers : Declared → Declared → Shape → Result (Vec ℕ Global) Unmade → Type 0
+abbrev pub TellsLayers : Declared → Declared → Shape → Result (Vec ℕ Global) LoadError → Type 0
 TellsLayers old new T (Ok line) = OfLayers old new T (done line.items)
 TellsLayers old new T (Err fault) = Refuses (λ line. OfLayers old new T (refused line)) fault
 

@@ -5,7 +5,7 @@ ghost use Rattle.tl_schema.specs.Seen.{shape};
 ghost use Rattle.codec_commands.specs.Layers.{TellsLayers, layers_line};
 
 use crate::lines::{break_text, yes_line};
-use outside::Unmade;
+use outside::LoadError;
 use std::alloc::Global;
 use tl_layers::{Break, LayerFault, compare};
 use tl_schema::{Schema, TypeRef};
@@ -16,7 +16,7 @@ pub fn verdict_line(
     old: &Schema,
     new: &Schema,
     of: &TypeRef,
-) -> Result<Vec<u8>, Unmade>
+) -> Result<Vec<u8>, LoadError>
     requires formed { IsFormed old.now (shape of.now) }
     ensures { TellsLayers old.now new.now (shape of.now) result }
 {
@@ -26,16 +26,16 @@ pub fn verdict_line(
             Ok(line)
         }
         Err(LayerFault::Broken { decl, cause }) => Err(broken(alloc, decl, cause)),
-        Err(LayerFault::Memory) => Err(Unmade::Memory),
+        Err(LayerFault::Memory) => Err(LoadError::Memory),
     }
 }
 
 // The refusal of a declaration that breaks.
-fn broken(alloc: Global, decl: u32, cause: Break) -> Unmade
+fn broken(alloc: Global, decl: u32, cause: Break) -> LoadError
     ensures { RefusesAs (layers_line decl cause) result }
 {
     match break_text(alloc, cause) {
-        Ok(why) => Unmade::of_decl(alloc, "layers", decl, why.as_str()),
-        Err(_) => Unmade::Memory,
+        Ok(why) => LoadError::of_decl(alloc, "layers", decl, why.as_str()),
+        Err(_) => LoadError::Memory,
     }
 }

@@ -7,7 +7,7 @@ use Rattle.tl_schema.specs.Schemas.{Declared}
 use Rattle.tl_schema.specs.Types.{Shape}
 use Rattle.outside.specs.Answer.{refused}
 use Rattle.outside.specs.Jobs.{making}
-use Rattle.outside.specs.declared.stop.Unmade.{Unmade}
+use Rattle.outside.specs.declared.stop.LoadError.{LoadError}
 use Rattle.outside.specs.Printing.{Makes}
 use Rattle.outside.specs.Steps.{Begins}
 use Rattle.outside.proofs.Growing.{can_then}
@@ -19,7 +19,7 @@ use Rattle.codec_commands.proofs.EachLayers.{each_told}
 use Rattle.codec_rooms.specs.Layers.{OfNew, compared}
 use Rattle.codec_rooms.proofs.Typing.{can_schema, refused_made}
 
-pub layers_made : (old new : Declared) (T : Shape) (r : Result (Vec ℕ Global) Unmade) → TellsLayers old new T r → Makes (OfLayers old new T) (making r)
+pub layers_made : (old new : Declared) (T : Shape) (r : Result (Vec ℕ Global) LoadError) → TellsLayers old new T r → Makes (OfLayers old new T) (making r)
 layers_made old new T (Ok line) h = h
 layers_made old new T (Err u) h = refused_made (OfLayers old new T) (λ line. OfLayers old new T (refused line)) u (λ line told. told) h
 

@@ -11,8 +11,8 @@ use Rattle.outside.specs.Answer.{Answer, refused}
 use Rattle.outside.specs.Jobs.{of_fault}
 use Rattle.outside.specs.Loading.{Refuses}
 use Rattle.outside.specs.declared.status.Status.{Status}
-use Rattle.outside.specs.declared.stop.Unmade.{Unmade}
-use Rattle.outside.specs.declared.stop.Unmade.TheVariants as unmade
+use Rattle.outside.specs.declared.stop.LoadError.{LoadError}
+use Rattle.outside.specs.declared.stop.LoadError.TheVariants as load_error
 use Rattle.outside.specs.Events.{Event, HostState}
 use Rattle.outside.specs.Printing.{Makes, Prints, PrintsMade}
 use Rattle.outside.specs.Begun.{DidIn}
@@ -31,10 +31,10 @@ use Rattle.codec_rooms.specs.Typed.{OfSchema, OfType, OfText, no_schema, schema_
 use Rattle.codec_rooms.specs.inner.Purposes.{IsPlanOf}
 
 -- what is told of something that is refused is an answer of this kind
-pub refused_made : (Is : Answer → Type 0) (Tells : List ℕ → Type 0) (u : Unmade) → ((line : List ℕ) → Tells line → Is (refused line)) → Refuses Tells u → Makes Is (of_fault u)
-refused_made Is Tells (unmade.Refused line) into h = into line.items h
-refused_made Is Tells unmade.ReadFault into h = absurd h
-refused_made Is Tells unmade.Memory into h = tt
+pub refused_made : (Is : Answer → Type 0) (Tells : List ℕ → Type 0) (u : LoadError) → ((line : List ℕ) → Tells line → Is (refused line)) → Refuses Tells u → Makes Is (of_fault u)
+refused_made Is Tells (load_error.Refused line) into h = into line.items h
+refused_made Is Tells load_error.ReadFault into h = absurd h
+refused_made Is Tells load_error.Memory into h = tt
 
 -- a step does what another can do, with the same answer
 pub did_as : {A : Type 0} {outs : List Out} (S W : Step A) (p q : HostState) (answer : Option A) → ((t : List Event) (a : A) → S t a → W t a) → DidIn outs S p q answer → DidIn outs W p q answer
@@ -43,11 +43,11 @@ did_as S W p q None into h =
     record { trace = h.trace; grew = h.grew; holds = record { rest = h.holds.rest; answer = h.holds.answer; whole = into (h.trace ++ h.holds.rest) h.holds.answer h.holds.whole; only = h.holds.only } }
 
 -- a refusal that is printed, or out of memory
-pub refusal_done : {outs : List Out} (W : Step Status) (Tells : List ℕ → Type 0) (u : Unmade) (p q : HostState) (answer : Option Status) → Begins W []
+pub refusal_done : {outs : List Out} (W : Step Status) (Tells : List ℕ → Type 0) (u : LoadError) (p q : HostState) (answer : Option Status) → Begins W []
     → ((line : List ℕ) → Tells line → (t : List Event) (status : Status) → Prints (refused line) t status → W t status) → Refuses Tells u → PrintsMade (of_fault u) p q answer → DidIn outs W p q answer
-refusal_done {outs = outs} W Tells (unmade.Refused line) p q answer can into h d = did_more W p q answer (did_as (Prints (refused line.items)) W p q answer (into line.items h) d)
-refusal_done W Tells unmade.ReadFault p q answer can into h d = absurd h
-refusal_done {outs = outs} W Tells unmade.Memory p q answer can into h d = subst (λ (o : Option Status). DidIn outs W p q o) (sym d.0) (subst (λ (s : HostState). DidIn outs W p s None) (sym d.1) (did_none W p can))
+refusal_done {outs = outs} W Tells (load_error.Refused line) p q answer can into h d = did_more W p q answer (did_as (Prints (refused line.items)) W p q answer (into line.items h) d)
+refusal_done W Tells load_error.ReadFault p q answer can into h d = absurd h
+refusal_done {outs = outs} W Tells load_error.Memory p q answer can into h d = subst (λ (o : Option Status). DidIn outs W p q o) (sym d.0) (subst (λ (s : HostState). DidIn outs W p s None) (sym d.1) (did_none W p can))
 
 pub begun_as : {A : Type 0} (S W : Step A) → ((t : List Event) (a : A) → S t a → W t a) → Begins S [] → Begins W []
 begun_as S W into m = record { rest = m.rest; answer = m.answer; whole = into m.rest m.answer m.whole }
@@ -66,7 +66,7 @@ module _ (what : List ℕ) (Rest : OfSchema) where
     can_schema (Some text) = can_text text
     can_schema None = can_tell _ _
 
-    pub text_refused : {outs : List Out} (text : List ℕ) (u : Unmade) (p q : HostState) (answer : Option Status) → ReadsSchema what text (Err u) → PrintsMade (of_fault u) p q answer
+    pub text_refused : {outs : List Out} (text : List ℕ) (u : LoadError) (p q : HostState) (answer : Option Status) → ReadsSchema what text (Err u) → PrintsMade (of_fault u) p q answer
         → DidIn outs (OfText what Rest text) p q answer
     text_refused text u p q answer = refusal_done (OfText what Rest text) (TellsSchema what text) u p q answer (can_text text)
         (λ line (cause, r, is) t status h. no_schema cause r (subst (λ (l : List ℕ). Prints (refused l) t status) is h))
@@ -83,7 +83,7 @@ module _ (Rest : OfType) (schema : Declared) (s : Shape) where
     | inr (cause, r) ↦ begun_as (Prints (refused (plan_line cause))) (OfPlan Rest s schema) (λ t status h. no_plan cause r h) (can_print (refused (plan_line cause)))
   ]
 
-  pub plan_refused : {outs : List Out} → Begins (Rest schema s) [] → (u : Unmade) (p q : HostState) (answer : Option Status) → PlansType schema s (Err u) → PrintsMade (of_fault u) p q answer
+  pub plan_refused : {outs : List Out} → Begins (Rest schema s) [] → (u : LoadError) (p q : HostState) (answer : Option Status) → PlansType schema s (Err u) → PrintsMade (of_fault u) p q answer
       → DidIn outs (OfPlan Rest s schema) p q answer
   plan_refused can u p q answer = refusal_done (OfPlan Rest s schema) (TellsPlan schema s) u p q answer (can_plan can)
       (λ line (cause, r, is) t status h. no_plan cause r (subst (λ (l : List ℕ). Prints (refused l) t status) is h))
@@ -105,7 +105,7 @@ module _ (Rest : OfType) (schema : Declared) (word : List ℕ) where
       | inr (cause, r) ↦ begun_as (Prints (refused (type_line cause))) (OfAsked Rest word schema) (λ t status h. no_type cause r h) (can_print (refused (type_line cause)))
     ]
 
-    pub asked_refused : {outs : List Out} (u : Unmade) (p q : HostState) (answer : Option Status) → Refuses (TellsType schema word) u → PrintsMade (of_fault u) p q answer → DidIn outs (OfAsked Rest word schema) p q answer
+    pub asked_refused : {outs : List Out} (u : LoadError) (p q : HostState) (answer : Option Status) → Refuses (TellsType schema word) u → PrintsMade (of_fault u) p q answer → DidIn outs (OfAsked Rest word schema) p q answer
     asked_refused u p q answer = refusal_done (OfAsked Rest word schema) (TellsType schema word) u p q answer can_asked
         (λ line (cause, r, is) t status h. no_type cause r (subst (λ (l : List ℕ). Prints (refused l) t status) is h))
 

@@ -20,7 +20,7 @@ ghost use Rattle.codec_rooms.specs.inner.Purposes.{IsPlanOf};
 use crate::feeding::read_value;
 use crate::output::{OutputLine, Piece};
 use crate::typed::{Purpose, follow_file};
-use outside::{Host, Status, Unmade, finish, print_made, tell, unread};
+use outside::{Host, LoadError, Status, finish, print_made, tell, unread};
 use schema_files::{cause_text, plan_of, put_line};
 use std::alloc::{AllocError, Global};
 use tl_base::Slot;
@@ -30,24 +30,24 @@ use tl_schema::{Schema, TypeRef};
 use tl_types::{Cause, Value};
 
 // What is told of bytes that are no spelling.
-fn cause_unmade(alloc: Global, place: u64, cause: Cause) -> Unmade
+fn cause_unmade(alloc: Global, place: u64, cause: Cause) -> LoadError
     ensures { RefusesAs (input_line place (cause_text cause)) result }
 {
     match cause_text(alloc, cause) {
-        Ok(why) => Unmade::placed(alloc, "input", place, why.as_str()),
-        Err(_) => Unmade::Memory,
+        Ok(why) => LoadError::placed(alloc, "input", place, why.as_str()),
+        Err(_) => LoadError::Memory,
     }
 }
 
 // What is told of an input that is no value.
-fn fault_unmade(alloc: Global, fault: WholeFault) -> Unmade
+fn fault_unmade(alloc: Global, fault: WholeFault) -> LoadError
     ensures { MakesFault fault (of_fault result) }
 {
     match fault {
         WholeFault::Refused { place, cause } => cause_unmade(alloc, place, cause),
-        WholeFault::Trailing { place } => Unmade::placed(alloc, "input", place, "Trailing"),
-        WholeFault::ReadFault => Unmade::ReadFault,
-        WholeFault::Memory => Unmade::Memory,
+        WholeFault::Trailing { place } => LoadError::placed(alloc, "input", place, "Trailing"),
+        WholeFault::ReadFault => LoadError::ReadFault,
+        WholeFault::Memory => LoadError::Memory,
     }
 }
 

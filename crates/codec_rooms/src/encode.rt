@@ -13,7 +13,7 @@ ghost use Rattle.codec_rooms.specs.Typed.{OfInput, OfPlan};
 ghost use Rattle.codec_rooms.specs.inner.Purposes.{IsPlanOf, MakesForm};
 
 use crate::typed::{Purpose, follow_file};
-use outside::{Host, Status, Unmade, finish, print_made, read_file, unread};
+use outside::{Host, LoadError, Status, finish, print_made, read_file, unread};
 use schema_files::{JSON_BYTES, fit_unmade, formed_value, plan_of};
 use std::alloc::{AllocError, Global};
 use tl_base::Slot;
@@ -23,7 +23,12 @@ use tl_schema::{Schema, TypeRef};
 use tl_types::Value;
 
 // The spelling of a value of a plan's type, or what is told of one that doesn't fit.
-fn spelling_made(alloc: Global, plan: &Plan, of: &TypeRef, value: &Value) -> Result<Vec<u8>, Unmade>
+fn spelling_made(
+    alloc: Global,
+    plan: &Plan,
+    of: &TypeRef,
+    value: &Value,
+) -> Result<Vec<u8>, LoadError>
     requires { IsPlanOf plan.now (shape of.now) }
     ensures { MakesForm plan.now.schema (shape of.now) (view value.now) (making result) }
 {
@@ -34,7 +39,7 @@ fn spelling_made(alloc: Global, plan: &Plan, of: &TypeRef, value: &Value) -> Res
 }
 
 // The spelling of the value that a text is the JSON of, or what is told of one that is none.
-fn spelled_text(alloc: Global, plan: &Plan, of: &TypeRef, text: &[u8]) -> Result<Vec<u8>, Unmade>
+fn spelled_text(alloc: Global, plan: &Plan, of: &TypeRef, text: &[u8]) -> Result<Vec<u8>, LoadError>
     requires { IsPlanOf plan.now (shape of.now) }
     ensures { Makes (OfJson plan.now.schema (shape of.now) text.now) (making result) }
 {

@@ -22,7 +22,7 @@ use Rattle.wire_profile.proofs.Passing.{is_profile}
 use Rattle.outside.specs.Answer.{Answer, refused}
 use Rattle.outside.specs.Jobs.{RefusedBy}
 use Rattle.outside.specs.Loading.{Refuses}
-use Rattle.outside.specs.declared.stop.Unmade.{Unmade}
+use Rattle.outside.specs.declared.stop.LoadError.{LoadError}
 use Rattle.outside.proofs.Loaded.{memory_refuses}
 use Rattle.schema_files.specs.Causes.{TypeNameCause}
 use Rattle.schema_files.specs.Loaded.{IsSchemaText, TypeNameRefused}
@@ -145,7 +145,7 @@ module _ (Then : ProfileView → Answer → Type 0) where
 
 -- ---- what is told of a schema that is none
 
-pub refused_profile : (S : Declared) (fault : ProfileFault) (line : Result (Vec ℕ Global) AllocError) (e : Unmade) → AnswersProfile S (Err fault) → IfOk line (λ l. profile_line fault ≡ Some l.items) → RefusedBy line e → Refuses (TellsProfile S) e
+pub refused_profile : (S : Declared) (fault : ProfileFault) (line : Result (Vec ℕ Global) AllocError) (e : LoadError) → AnswersProfile S (Err fault) → IfOk line (λ l. profile_line fault ≡ Some l.items) → RefusedBy line e → Refuses (TellsProfile S) e
 refused_profile S fault (Err x) e answers tells is = memory_refuses (TellsProfile S) e is
 refused_profile S (profile.Missing name) (Ok line) e answers tells is = subst (Refuses (TellsProfile S)) (sym is) (missing name, answers, sym (some_line _ _ tells))
 refused_profile S (profile.Differs name) (Ok line) e answers tells is = subst (Refuses (TellsProfile S)) (sym is) (differs name, answers, sym (some_line _ _ tells))

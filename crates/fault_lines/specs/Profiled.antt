@@ -9,7 +9,7 @@ use Rattle.wire_profile.specs.Profiles.{IsProfile}
 use Rattle.wire_profile.specs.Faults.{FaultView, missing, differs, IsAnswer}
 use Rattle.outside.specs.Answer.{Answer, refused}
 use Rattle.outside.specs.Loading.{Refuses}
-use Rattle.outside.specs.declared.stop.Unmade.{Unmade}
+use Rattle.outside.specs.declared.stop.LoadError.{LoadError}
 use Rattle.schema_files.specs.Answering.{OfSchemaFile}
 use Rattle.schema_files.specs.Loaded.{IsSchemaText}
 use Rattle.fault_lines.specs.Profiles.{named_line}
@@ -24,7 +24,7 @@ abbrev pub TellsProfile : Declared → List ℕ → Type 0
 TellsProfile S line = (fault : FaultView) × IsAnswer S (Err fault) × (line ≡ form_line fault)
 
 -- the profile that a schema is
-abbrev pub MakesProfile : Declared → Result ProfileView Unmade → Type 0
+abbrev pub MakesProfile : Declared → Result ProfileView LoadError → Type 0
 MakesProfile S (Ok p) = IsAnswer S (Ok p)
 MakesProfile S (Err fault) = Refuses (TellsProfile S) fault
 

@@ -3,7 +3,7 @@ ghost use Rattle.std.specs.Prelude.{◌≡◌, IfOk, Some};
 ghost use Rattle.fault_lines.specs.Profiled.{MakesProfile};
 ghost use Rattle.fault_lines.specs.Profiles.{named_line, profile_line};
 
-use outside::Unmade;
+use outside::LoadError;
 use std::alloc::{AllocError, Global};
 use tl_base::Bytes;
 use tl_schema::Schema;
@@ -32,11 +32,11 @@ pub fn profile_line(alloc: Global, fault: &ProfileFault) -> Result<Vec<u8>, Allo
 }
 
 /// The profile that a schema is, or the refusal for the first form that it lacks or has otherwise.
-pub fn profile_of<'s>(alloc: Global, schema: &'s Schema) -> Result<Profile<'s>, Unmade>
+pub fn profile_of<'s>(alloc: Global, schema: &'s Schema) -> Result<Profile<'s>, LoadError>
     ensures { MakesProfile schema.now result }
 {
     match Profile::of(alloc, schema) {
         Ok(profile) => Ok(profile),
-        Err(fault) => Err(Unmade::of_line(profile_line(alloc, &fault))),
+        Err(fault) => Err(LoadError::of_line(profile_line(alloc, &fault))),
     }
 }

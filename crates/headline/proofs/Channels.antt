@@ -27,7 +27,7 @@ use Rattle.channel_box.specs.Looks.{is_waiting}
 use Rattle.channel_box.specs.Steps.{asks_number, at_first, channel_asks, channel_is_due, channel_of, flagged, forgot, forgotten, grown, heard, heard_by, is_asking, is_due, may_watch, ticked, told_too_long, watched, watched_if, woken}
 use Rattle.box_server.specs.Servers.{ServerState}
 use Rattle.box_server.specs.Growing.{AllLie}
-use Rattle.box_client.specs.declared.brought.Brought.{Brought}
+use Rattle.box_client.specs.declared.received.Received.{Received}
 use Rattle.box_client.specs.Pushes.{all_updated, pack_heard, pushed, settings_in, updated}
 use Rattle.box_client.specs.Replies.{Outcome, ignored, becomes, channel_replied, group_done, group_replied, group_taken, group_woven, nothing_new, replied}
 use Rattle.box_client.specs.States.{ClientState}
@@ -195,24 +195,24 @@ up_taken whole box x (FarPart pts recent false) t after le =
 
 -- the group's answers leave the channels
 
-done_channels : (last : Bool) (c : ClientState) (b : Brought) (xs ys : List EventView) → (group_done last c b xs ys).channels ≡ c.channels
+done_channels : (last : Bool) (c : ClientState) (b : Received) (xs ys : List EventView) → (group_done last c b xs ys).channels ≡ c.channels
 done_channels true c b xs ys = refl
 done_channels false c b xs ys = refl
 
-taken_channels : (t : Bool) (c : ClientState) (b : Brought) (xs ys : List EventView) → (after_reply c (group_taken t c b xs ys)).channels ≡ c.channels
+taken_channels : (t : Bool) (c : ClientState) (b : Received) (xs ys : List EventView) → (after_reply c (group_taken t c b xs ys)).channels ≡ c.channels
 taken_channels true c b xs ys = refl
 taken_channels false c b xs ys = done_channels b.last c b xs ys
 
-woven_channels : (c : ClientState) (b : Brought) (o p : Result (List EventView) WeaveCause) → (after_reply c (group_woven c b o p)).channels ≡ c.channels
+woven_channels : (c : ClientState) (b : Received) (o p : Result (List EventView) WeaveCause) → (after_reply c (group_woven c b o p)).channels ≡ c.channels
 woven_channels c b (Err cause) p = refl
 woven_channels c b (Ok xs) (Err cause) = refl
 woven_channels c b (Ok xs) (Ok ys) = taken_channels (b.last && ltb b.state.seq c.settings.at) c b xs ys
 
 pub group_channels : (c : ClientState) (v : Reply) → (after_reply c (group_replied c v)).channels ≡ c.channels
 group_channels c (reply_of.State state) = refl
-group_channels c (reply_of.Empty date seq) = let b : Brought = nothing_new c date seq in woven_channels c b (woven_of c.common.at b.state.pts b.news b.others) (woven_of c.secret.at b.state.qts b.secrets [])
+group_channels c (reply_of.Empty date seq) = let b : Received = nothing_new c date seq in woven_channels c b (woven_of c.common.at b.state.pts b.news b.others) (woven_of c.secret.at b.state.qts b.secrets [])
 group_channels c (reply_of.Difference news secrets others settings state last) =
-    let b : Brought = record { news = news; secrets = secrets; others = others; settings = settings; state = state; last = last } in
+    let b : Received = record { news = news; secrets = secrets; others = others; settings = settings; state = state; last = last } in
     woven_channels c b (woven_of c.common.at b.state.pts b.news b.others) (woven_of c.secret.at b.state.qts b.secrets [])
 group_channels c (reply_of.Channel r) = refl
 group_channels c (reply_of.Receipt r) = refl

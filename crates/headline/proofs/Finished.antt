@@ -16,7 +16,7 @@ use Rattle.channel_box.specs.Steps.{asks_number, at_first, is_asking}
 use Rattle.box_server.specs.Answers.{answer}
 use Rattle.box_server.specs.Servers.{ServerState}
 use Rattle.box_server.proofs.Carrying.{changed_overlays}
-use Rattle.box_client.specs.declared.brought.Brought.{Brought}
+use Rattle.box_client.specs.declared.received.Received.{Received}
 use Rattle.box_client.specs.Replies.{Outcome, ignored, refuses, becomes, nothing_new, group_taken, group_woven, group_replied, replied}
 use Rattle.box_client.specs.States.{ClientState}
 use Rattle.box_world.specs.Agreeing.{IsPast, is_final, is_last_part}
@@ -95,11 +95,11 @@ after_is n steps k m c d number v s is at next =
 
 -- ---- the group takes each answer or refuses it
 
-taken_some : (b : Bool) (c : ClientState) (x : Brought) (xs ys : List EventView) → group_taken b c x xs ys ≡ ignored → ⊥
+taken_some : (b : Bool) (c : ClientState) (x : Received) (xs ys : List EventView) → group_taken b c x xs ys ≡ ignored → ⊥
 taken_some true c x xs ys e = absurd cc
 taken_some false c x xs ys e = absurd cc
 
-woven_some : (c : ClientState) (b : Brought) (o p : Result (List EventView) WeaveCause) → group_woven c b o p ≡ ignored → ⊥
+woven_some : (c : ClientState) (b : Received) (o p : Result (List EventView) WeaveCause) → group_woven c b o p ≡ ignored → ⊥
 woven_some c b (Err cause) p e = absurd cc
 woven_some c b (Ok xs) (Err cause) e = absurd cc
 woven_some c b (Ok xs) (Ok ys) e = taken_some (b.last && ltb b.state.seq c.settings.at) c b xs ys e
@@ -108,7 +108,7 @@ pub group_some : (c : ClientState) (v : Reply) → group_replied c v ≡ ignored
 group_some c (reply_of.State state) e = absurd cc
 group_some c (reply_of.Empty date seq) e = let b = nothing_new c date seq in woven_some c b (woven_of c.common.at b.state.pts b.news b.others) (woven_of c.secret.at b.state.qts b.secrets []) e
 group_some c (reply_of.Difference news secrets others settings state last) e =
-    let b : Brought = record { news = news; secrets = secrets; others = others; settings = settings; state = state; last = last } in
+    let b : Received = record { news = news; secrets = secrets; others = others; settings = settings; state = state; last = last } in
     woven_some c b (woven_of c.common.at b.state.pts b.news b.others) (woven_of c.secret.at b.state.qts b.secrets []) e
 group_some c (reply_of.Channel r) e = absurd cc
 group_some c (reply_of.Receipt r) e = absurd cc

@@ -27,7 +27,7 @@ use Rattle.box_server.specs.Refusing.{post_cause}
 use Rattle.box_server.specs.Servers.{ServerState, channel_in}
 use Rattle.box_server.specs.declared.fault.PostFault.{PostFault}
 use Rattle.box_server.proofs.Carrying.{changed_overlays}
-use Rattle.box_client.specs.declared.brought.Brought.{Brought}
+use Rattle.box_client.specs.declared.received.Received.{Received}
 use Rattle.box_client.specs.Asking as asking
 use Rattle.box_client.specs.Asking.{group_is_due, group_ticked, restarted, ticks, wakes}
 use Rattle.box_client.specs.Pushes.{all_updated, pack_heard, pushed, settings_in, updated}
@@ -85,24 +85,24 @@ unfolding extend settle
 extend_restart t xs true = refl
 extend_restart t xs false = refl
 
-fixed_done : (last : Bool) (c : ClientState) (b : Brought) (xs ys : List EventView) → Fixed c (group_done last c b xs ys)
+fixed_done : (last : Bool) (c : ClientState) (b : Received) (xs ys : List EventView) → Fixed c (group_done last c b xs ys)
 fixed_done true c b xs ys = record { common = extend_restart c.common xs true; secret = extend_restart c.secret ys true }
 fixed_done false c b xs ys = record { common = extend_restart c.common xs false; secret = extend_restart c.secret ys false }
 
-fixed_taken : (t : Bool) (c : ClientState) (b : Brought) (xs ys : List EventView) → Fixed c (after_reply c (group_taken t c b xs ys))
+fixed_taken : (t : Bool) (c : ClientState) (b : Received) (xs ys : List EventView) → Fixed c (after_reply c (group_taken t c b xs ys))
 fixed_taken true c b xs ys = fixed_none c
 fixed_taken false c b xs ys = fixed_done b.last c b xs ys
 
-fixed_woven : (c : ClientState) (b : Brought) (o p : Result (List EventView) WeaveCause) → Fixed c (after_reply c (group_woven c b o p))
+fixed_woven : (c : ClientState) (b : Received) (o p : Result (List EventView) WeaveCause) → Fixed c (after_reply c (group_woven c b o p))
 fixed_woven c b (Err cause) p = fixed_none c
 fixed_woven c b (Ok xs) (Err cause) = fixed_none c
 fixed_woven c b (Ok xs) (Ok ys) = fixed_taken (b.last && ltb b.state.seq c.settings.at) c b xs ys
 
 fixed_group : (c : ClientState) (v : Reply) → Fixed c (after_reply c (group_replied c v))
 fixed_group c (reply_of.State state) = fixed_none c
-fixed_group c (reply_of.Empty date seq) = let b : Brought = nothing_new c date seq in fixed_woven c b (woven_of c.common.at b.state.pts b.news b.others) (woven_of c.secret.at b.state.qts b.secrets [])
+fixed_group c (reply_of.Empty date seq) = let b : Received = nothing_new c date seq in fixed_woven c b (woven_of c.common.at b.state.pts b.news b.others) (woven_of c.secret.at b.state.qts b.secrets [])
 fixed_group c (reply_of.Difference news secrets others settings state last) =
-    let b : Brought = record { news = news; secrets = secrets; others = others; settings = settings; state = state; last = last } in
+    let b : Received = record { news = news; secrets = secrets; others = others; settings = settings; state = state; last = last } in
     fixed_woven c b (woven_of c.common.at b.state.pts b.news b.others) (woven_of c.secret.at b.state.qts b.secrets [])
 fixed_group c (reply_of.Channel r) = fixed_none c
 fixed_group c (reply_of.Receipt r) = fixed_none c

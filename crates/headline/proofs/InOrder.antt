@@ -18,7 +18,7 @@ use Rattle.channel_box.specs.Steps.{asks_number, at_first, channel_is_due, is_as
 use Rattle.box_server.specs.Answers.{answer}
 use Rattle.box_server.specs.Servers.{ServerState}
 use Rattle.box_server.proofs.Carrying.{changed_overlays}
-use Rattle.box_client.specs.declared.brought.Brought.{Brought}
+use Rattle.box_client.specs.declared.received.Received.{Received}
 use Rattle.box_client.specs.Asking as asking
 use Rattle.box_client.specs.Asking.{difference_of, group_is_due, group_ticked, is_one_asking, ticks, wakes}
 use Rattle.box_client.specs.Replies.{Outcome, becomes, channel_replied, group_done, group_replied, group_taken, group_woven, ignored, nothing_new, replied}
@@ -196,24 +196,24 @@ either_free n m (inr e) = ap (λ (k : Mode). one (is_asking n k)) e
 same_becomes : (c d : ClientState) → becomes c ≡ becomes d → d ≡ c
 same_becomes c d e = let is : c ≡ d = cc in sym is
 
-done_free : (n : ℕ) (last : Bool) (c : ClientState) (b : Brought) (xs ys : List EventView) → one (is_asking n (group_done last c b xs ys).common.mode) ≡ 0
+done_free : (n : ℕ) (last : Bool) (c : ClientState) (b : Received) (xs ys : List EventView) → one (is_asking n (group_done last c b xs ys).common.mode) ≡ 0
 done_free n true c b xs ys = either_free n (extend count_of c.common xs true).mode (inl (extend_live c.common xs))
 done_free n false c b xs ys = either_free n (extend count_of c.common xs false).mode (inr (extend_again c.common xs))
 
-taken_free : (n : ℕ) (c : ClientState) (b : Brought) (xs ys : List EventView) (t : Bool) (d : ClientState) → group_taken t c b xs ys ≡ becomes d → one (is_asking n d.common.mode) ≡ 0
+taken_free : (n : ℕ) (c : ClientState) (b : Received) (xs ys : List EventView) (t : Bool) (d : ClientState) → group_taken t c b xs ys ≡ becomes d → one (is_asking n d.common.mode) ≡ 0
 taken_free n c b xs ys true d e = absurd cc
 taken_free n c b xs ys false d e = ap (λ (x : ClientState). one (is_asking n x.common.mode)) (same_becomes (group_done b.last c b xs ys) d e) ∙ done_free n b.last c b xs ys
 
-woven_free : (n : ℕ) (c : ClientState) (b : Brought) (o p : Result (List EventView) WeaveCause) (d : ClientState) → group_woven c b o p ≡ becomes d → one (is_asking n d.common.mode) ≡ 0
+woven_free : (n : ℕ) (c : ClientState) (b : Received) (o p : Result (List EventView) WeaveCause) (d : ClientState) → group_woven c b o p ≡ becomes d → one (is_asking n d.common.mode) ≡ 0
 woven_free n c b (Err cause) p d e = absurd cc
 woven_free n c b (Ok xs) (Err cause) d e = absurd cc
 woven_free n c b (Ok xs) (Ok ys) d e = taken_free n c b xs ys (b.last && ltb b.state.seq c.settings.at) d e
 
 group_free : (n : ℕ) (c : ClientState) (v : Reply) (d : ClientState) → group_replied c v ≡ becomes d → one (is_asking n d.common.mode) ≡ 0
 group_free n c (reply_of.State state) d e = absurd cc
-group_free n c (reply_of.Empty date seq) d e = let b : Brought = nothing_new c date seq in woven_free n c b (woven_of c.common.at b.state.pts b.news b.others) (woven_of c.secret.at b.state.qts b.secrets []) d e
+group_free n c (reply_of.Empty date seq) d e = let b : Received = nothing_new c date seq in woven_free n c b (woven_of c.common.at b.state.pts b.news b.others) (woven_of c.secret.at b.state.qts b.secrets []) d e
 group_free n c (reply_of.Difference news secrets others settings state last) d e =
-    let b : Brought = record { news = news; secrets = secrets; others = others; settings = settings; state = state; last = last } in
+    let b : Received = record { news = news; secrets = secrets; others = others; settings = settings; state = state; last = last } in
     woven_free n c b (woven_of c.common.at b.state.pts b.news b.others) (woven_of c.secret.at b.state.qts b.secrets []) d e
 group_free n c (reply_of.Channel r) d e = absurd cc
 group_free n c (reply_of.Receipt r) d e = absurd cc

@@ -27,7 +27,7 @@ use Rattle.channel_box.specs.Looks.{is_waiting}
 use Rattle.channel_box.specs.Steps.{Answered, answered, asks_number, is_asking, is_due, refused, stale, taken}
 use Rattle.box_server.specs.Servers.{ServerState}
 use Rattle.box_server.specs.Growing.{AllLie}
-use Rattle.box_client.specs.declared.brought.Brought.{Brought}
+use Rattle.box_client.specs.declared.received.Received.{Received}
 use Rattle.box_client.specs.Asking.{group_is_due, group_ticked, ticks}
 use Rattle.box_client.specs.Pushes.{all_updated, pack_heard, pushed, settings_in, updated}
 use Rattle.box_client.specs.Replies.{ignored, becomes, by_channels, channel_replied, group_done, group_replied, group_taken, group_woven, nothing_new, replied}
@@ -196,7 +196,7 @@ up_overlaid : (b : SettingsState) (xs : List Setting) (seq date : ℕ) → EndsA
 unfolding overlaid settle
 up_overlaid b xs seq date after = reach_up (len b.held) seq b.held after
 
-up_done : (c : ClientState) (b : Brought) (last : Bool) (xs ys : List EventView) → After c → (last ≡ true → c.settings.at ≤ b.state.seq) → Up c (group_done last c b xs ys)
+up_done : (c : ClientState) (b : Received) (last : Bool) (xs ys : List EventView) → After c → (last ≡ true → c.settings.at ≤ b.state.seq) → Up c (group_done last c b xs ys)
 up_done c b true xs ys f le = record {
   common = omega (arith, extend_up count_of c.common xs true f.common);
   secret = omega (arith, extend_up count_of c.secret ys true f.secret);
@@ -212,20 +212,20 @@ not_back : (last : Bool) (seq at : ℕ) → (last && ltb seq at) ≡ false → l
 not_back true seq at e f = grind (arith, nat_tests)
 not_back false seq at e f = absurd (let w : false ≡ true = f in cc)
 
-up_taken : (c : ClientState) (b : Brought) (xs ys : List EventView) (t : Bool) → (b.last && ltb b.state.seq c.settings.at) ≡ t → After c → Up c (after_reply c (group_taken t c b xs ys))
+up_taken : (c : ClientState) (b : Received) (xs ys : List EventView) (t : Bool) → (b.last && ltb b.state.seq c.settings.at) ≡ t → After c → Up c (after_reply c (group_taken t c b xs ys))
 up_taken c b xs ys true e f = up_none c
 up_taken c b xs ys false e f = up_done c b b.last xs ys f (not_back b.last b.state.seq c.settings.at e)
 
-up_woven : (c : ClientState) (b : Brought) (o p : Result (List EventView) WeaveCause) → After c → Up c (after_reply c (group_woven c b o p))
+up_woven : (c : ClientState) (b : Received) (o p : Result (List EventView) WeaveCause) → After c → Up c (after_reply c (group_woven c b o p))
 up_woven c b (Err cause) p f = up_none c
 up_woven c b (Ok xs) (Err cause) f = up_none c
 up_woven c b (Ok xs) (Ok ys) f = up_taken c b xs ys (b.last && ltb b.state.seq c.settings.at) refl f
 
 pub up_group : (c : ClientState) (v : Reply) → After c → Up c (after_reply c (group_replied c v))
 up_group c (reply_of.State state) f = up_none c
-up_group c (reply_of.Empty date seq) f = let b : Brought = nothing_new c date seq in up_woven c b (woven_of c.common.at b.state.pts b.news b.others) (woven_of c.secret.at b.state.qts b.secrets []) f
+up_group c (reply_of.Empty date seq) f = let b : Received = nothing_new c date seq in up_woven c b (woven_of c.common.at b.state.pts b.news b.others) (woven_of c.secret.at b.state.qts b.secrets []) f
 up_group c (reply_of.Difference news secrets others settings state last) f =
-    let b : Brought = record { news = news; secrets = secrets; others = others; settings = settings; state = state; last = last } in
+    let b : Received = record { news = news; secrets = secrets; others = others; settings = settings; state = state; last = last } in
     up_woven c b (woven_of c.common.at b.state.pts b.news b.others) (woven_of c.secret.at b.state.qts b.secrets []) f
 up_group c (reply_of.Channel r) f = up_none c
 up_group c (reply_of.Receipt r) f = up_none c
@@ -270,14 +270,14 @@ up_replied c n v f = up_whom c n v (is_asking n c.common.mode) f
 same_becomes : (c d : ClientState) → becomes c ≡ becomes d → d ≡ c
 same_becomes c d e = let same : c ≡ d = cc in sym same
 
-again_taken : (c : ClientState) (b : Brought) (xs ys : List EventView) (t : Bool) (d : ClientState) → b.last ≡ false → group_taken t c b xs ys ≡ becomes d → d.common.mode ≡ Again
+again_taken : (c : ClientState) (b : Received) (xs ys : List EventView) (t : Bool) (d : ClientState) → b.last ≡ false → group_taken t c b xs ys ≡ becomes d → d.common.mode ≡ Again
 again_taken c b xs ys true d part e = absurd cc
 again_taken c b xs ys false d part e =
     ap (λ (x : ClientState). x.common.mode) (same_becomes (group_done b.last c b xs ys) d e)
     ∙ ap (λ (t : Bool). (group_done t c b xs ys).common.mode) part
     ∙ extend_again c.common xs
 
-again_woven : (c : ClientState) (b : Brought) (o p : Result (List EventView) WeaveCause) (d : ClientState) → b.last ≡ false → group_woven c b o p ≡ becomes d → d.common.mode ≡ Again
+again_woven : (c : ClientState) (b : Received) (o p : Result (List EventView) WeaveCause) (d : ClientState) → b.last ≡ false → group_woven c b o p ≡ becomes d → d.common.mode ≡ Again
 again_woven c b (Err cause) p d part e = absurd cc
 again_woven c b (Ok xs) (Err cause) d part e = absurd cc
 again_woven c b (Ok xs) (Ok ys) d part e = again_taken c b xs ys (b.last && ltb b.state.seq c.settings.at) d part e
@@ -286,7 +286,7 @@ pub again_group : (c : ClientState) (v : Reply) (d : ClientState) → is_final v
 again_group c (reply_of.State state) d part e = absurd cc
 again_group c (reply_of.Empty date seq) d part e = absurd (let w : true ≡ false = part in cc)
 again_group c (reply_of.Difference news secrets others settings state last) d part e =
-    let b : Brought = record { news = news; secrets = secrets; others = others; settings = settings; state = state; last = last } in
+    let b : Received = record { news = news; secrets = secrets; others = others; settings = settings; state = state; last = last } in
     again_woven c b (woven_of c.common.at b.state.pts b.news b.others) (woven_of c.secret.at b.state.qts b.secrets []) d part e
 again_group c (reply_of.Channel r) d part e = absurd cc
 again_group c (reply_of.Receipt r) d part e = absurd cc

@@ -5,8 +5,8 @@ use Rattle.std.specs.declared.alloc.AllocError.{AllocError}
 use Rattle.tl_base.specs.Outside.{View}
 use Rattle.outside.specs.declared.stop.Stop.{Stop}
 use Rattle.outside.specs.declared.stop.Stop.TheVariants as stop
-use Rattle.outside.specs.declared.stop.Unmade.{Unmade}
-use Rattle.outside.specs.declared.stop.Unmade.TheVariants as unmade
+use Rattle.outside.specs.declared.stop.LoadError.{LoadError}
+use Rattle.outside.specs.declared.stop.LoadError.TheVariants as load_error
 use Rattle.outside.specs.Answer.{Answer}
 use Rattle.outside.specs.Kept.{AddsPrefix, Leaves}
 
@@ -59,21 +59,21 @@ pub data Making : Type 0 where
   unread : Making
   no_memory : Making
 
-abbrev pub of_fault : Unmade → Making
-of_fault (unmade.Refused line) = refused_by line.items
-of_fault unmade.ReadFault = unread
-of_fault unmade.Memory = no_memory
+abbrev pub of_fault : LoadError → Making
+of_fault (load_error.Refused line) = refused_by line.items
+of_fault load_error.ReadFault = unread
+of_fault load_error.Memory = no_memory
 
-abbrev pub making : Result (Vec ℕ Global) Unmade → Making
+abbrev pub making : Result (Vec ℕ Global) LoadError → Making
 making (Ok text) = made text.items
 making (Err fault) = of_fault fault
 
 -- the refusal with this line, or out of memory where there is no line
-abbrev pub RefusedBy : Result (Vec ℕ Global) AllocError → Unmade → Type 0
-RefusedBy (Ok line) fault = fault ≡ unmade.Refused line
-RefusedBy (Err e) fault = fault ≡ unmade.Memory
+abbrev pub RefusedBy : Result (Vec ℕ Global) AllocError → LoadError → Type 0
+RefusedBy (Ok line) fault = fault ≡ load_error.Refused line
+RefusedBy (Err e) fault = fault ≡ load_error.Memory
 
-abbrev pub of_unmade : Unmade → Stop
-of_unmade (unmade.Refused line) = stop.Refused line
-of_unmade unmade.ReadFault = stop.ReadFault
-of_unmade unmade.Memory = stop.Memory
+abbrev pub of_load_error : LoadError → Stop
+of_load_error (load_error.Refused line) = stop.Refused line
+of_load_error load_error.ReadFault = stop.ReadFault
+of_load_error load_error.Memory = stop.Memory

@@ -26,4 +26,4 @@ pub use pieces::{Taken, take_bytes, tell, write_out};
 pub use printing::{print, print_made, unread};
 pub use reading::read_file;
 pub use status::Status;
-pub use stop::{Stop, Unmade};
+pub use stop::{LoadError, Stop};

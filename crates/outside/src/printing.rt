@@ -8,7 +8,7 @@ ghost use Rattle.outside.specs.Runs.{answered};
 
 use crate::host::Host;
 use crate::pieces::{tell, write_out};
-use crate::{Status, Unmade};
+use crate::{LoadError, Status};
 use std::alloc::AllocError;
 use tl_base::Out;
 
@@ -32,14 +32,14 @@ pub fn unread<H: Host>(host: &mut H) -> Status
 /// Writes what was made to Output, or tells why it was not made.
 pub fn print_made<H: Host>(
     host: &mut H,
-    made: Result<Vec<u8>, Unmade>,
+    made: Result<Vec<u8>, LoadError>,
 ) -> Result<Status, AllocError>
     ensures { PrintsMade (making made) (H.state host.old) (H.state host.new) (answered result) }
 {
     match made {
         Ok(text) => Ok(print(host, &text)),
-        Err(Unmade::Refused(line)) => Ok(tell(host, &line, Status::Refused)),
-        Err(Unmade::ReadFault) => Ok(unread(host)),
-        Err(Unmade::Memory) => Err(AllocError),
+        Err(LoadError::Refused(line)) => Ok(tell(host, &line, Status::Refused)),
+        Err(LoadError::ReadFault) => Ok(unread(host)),
+        Err(LoadError::Memory) => Err(AllocError),
     }
 }

@@ -30,7 +30,7 @@ pub enum Stop {
 
 /// Why a text for Output is not made.
 #[derive(Debug, Error, Drop)]
-pub enum Unmade {
+pub enum LoadError {
     /// Something is refused, and this is the whole line that says so on Errors.
     #[error("refused")]
     Refused(Vec<u8>),
@@ -52,75 +52,75 @@ impl Stop {
     }
 }
 
-impl Unmade {
+impl LoadError {
     /// The refusal that a line tells; out of memory, where there was none for the line.
-    pub fn of_line(line: Result<Vec<u8>, AllocError>) -> Unmade
+    pub fn of_line(line: Result<Vec<u8>, AllocError>) -> LoadError
         ensures { RefusedBy line result }
     {
         match line {
-            Ok(line) => Unmade::Refused(line),
-            Err(_) => Unmade::Memory,
+            Ok(line) => LoadError::Refused(line),
+            Err(_) => LoadError::Memory,
         }
     }
 
     /// The refusal of what is refused at an offset.
-    pub fn placed(alloc: Global, what: &str, place: u64, why: &str) -> Unmade
+    pub fn placed(alloc: Global, what: &str, place: u64, why: &str) -> LoadError
         ensures { RefusesAs (placed_line what.now place why.now) result }
     {
-        Unmade::of_line(placed_line(alloc, what, place, why))
+        LoadError::of_line(placed_line(alloc, what, place, why))
     }
 
     /// The refusal of what is refused for a cause without an offset.
-    pub fn unplaced(alloc: Global, what: &str, why: &str) -> Unmade
+    pub fn unplaced(alloc: Global, what: &str, why: &str) -> LoadError
         ensures { RefusesAs (unplaced_line what.now why.now) result }
     {
-        Unmade::of_line(unplaced_line(alloc, what, why))
+        LoadError::of_line(unplaced_line(alloc, what, why))
     }
 
     /// The refusal of a declaration, by its number, counted from 0.
-    pub fn of_decl(alloc: Global, what: &str, decl: u32, why: &str) -> Unmade
+    pub fn of_decl(alloc: Global, what: &str, decl: u32, why: &str) -> LoadError
         ensures { RefusesAs (decl_line what.now decl why.now) result }
     {
-        Unmade::of_line(decl_line(alloc, what, decl, why))
+        LoadError::of_line(decl_line(alloc, what, decl, why))
     }
 }
 
-impl From<TextFault> for Unmade {
+impl From<TextFault> for LoadError {
     ghost use Rattle.std.specs.Prelude.{◌≡◌};
     ghost use Rattle.outside.specs.Loading.{of_text};
 
     ghost from_gives = { λ e fault. fault ≡ of_text e };
 
-    fn from(fault: TextFault) -> Unmade {
+    fn from(fault: TextFault) -> LoadError {
         match fault {
-            TextFault::ReadFault => Unmade::ReadFault,
-            TextFault::Memory => Unmade::Memory,
+            TextFault::ReadFault => LoadError::ReadFault,
+            TextFault::Memory => LoadError::Memory,
         }
     }
 }
 
-impl From<AllocError> for Unmade {
+impl From<AllocError> for LoadError {
     ghost use Rattle.std.specs.Prelude.{◌≡◌};
-    ghost use Rattle.outside.specs.declared.stop.Unmade.TheVariants.{Memory};
+    ghost use Rattle.outside.specs.declared.stop.LoadError.TheVariants.{Memory};
 
     ghost from_gives = { λ _ fault. fault ≡ Memory };
 
-    fn from(_fault: AllocError) -> Unmade {
-        Unmade::Memory
+    fn from(_fault: AllocError) -> LoadError {
+        LoadError::Memory
     }
 }
 
-impl From<Unmade> for Stop {
+impl From<LoadError> for Stop {
     ghost use Rattle.std.specs.Prelude.{◌≡◌};
-    ghost use Rattle.outside.specs.Jobs.{of_unmade};
+    ghost use Rattle.outside.specs.Jobs.{of_load_error};
 
-    ghost from_gives = { λ e stop. stop ≡ of_unmade e };
+    ghost from_gives = { λ e stop. stop ≡ of_load_error e };
 
-    fn from(fault: Unmade) -> Stop {
+    fn from(fault: LoadError) -> Stop {
         match fault {
-            Unmade::Refused(line) => Stop::Refused(line),
-            Unmade::ReadFault => Stop::ReadFault,
-            Unmade::Memory => Stop::Memory,
+            LoadError::Refused(line) => Stop::Refused(line),
+            LoadError::ReadFault => Stop::ReadFault,
+            LoadError::Memory => Stop::Memory,
         }
     }
 }

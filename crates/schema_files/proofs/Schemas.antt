@@ -13,7 +13,7 @@ use Rattle.tl_combinators.specs.Sentences.{Reads, SyntaxRefused, FaultIs}
 use Rattle.tl_schema.specs.CheckedPrograms.{Checks}
 use Rattle.tl_schema.specs.declared.fault.CheckFault.{CheckFault}
 use Rattle.tl_schema.specs.declared.fault.CheckFault.TheVariants as check
-use Rattle.outside.specs.declared.stop.Unmade.{Unmade}
+use Rattle.outside.specs.declared.stop.LoadError.{LoadError}
 use Rattle.outside.specs.Loading.{Refuses, RefusesAs}
 use Rattle.outside.proofs.Loaded.{refuses_as, memory_refuses}
 use Rattle.schema_files.specs.Causes.{TextCause, TextTooLong, BadByte, OpenComment, Unexpected, NotProfile, TooMany, SchemaCause, Text, Checked}
@@ -26,22 +26,22 @@ use Rattle.schema_files.specs.inner.Tellings.{TellsLex, TellsSyntax, TellsCheck}
 
 module _ (what text : List ℕ) where
   -- the text is refused for this cause, and that is told
-  told : (cause : SchemaCause) (u : Unmade) → SchemaRefused text cause → RefusesAs (schema_line what cause) u → Refuses (TellsSchema what text) u
+  told : (cause : SchemaCause) (u : LoadError) → SchemaRefused text cause → RefusesAs (schema_line what cause) u → Refuses (TellsSchema what text) u
   told cause u refused = refuses_as (λ line. line ≡ schema_line what cause) (TellsSchema what text) u (λ line is. (cause, refused, is))
 
-  pub no_tokens : {X : Type 0} (view : X → List Token) (e : LexFault) (u : Unmade) → Lexes view text (Err e) → TellsLex what e u → Refuses (TellsSchema what text) u
+  pub no_tokens : {X : Type 0} (view : X → List Token) (e : LexFault) (u : LoadError) → Lexes view text (Err e) → TellsLex what e u → Refuses (TellsSchema what text) u
   no_tokens view lex.TextTooLong u lexed = told (Text TextTooLong) u (by_text TextTooLong (too_long lexed))
   no_tokens view (lex.BadByte at) u lexed = told (Text (BadByte at)) u (by_text (BadByte at) (bad_byte at lexed))
   no_tokens view (lex.OpenComment at) u lexed = told (Text (OpenComment at)) u (by_text (OpenComment at) (open_comment at lexed))
   no_tokens view lex.Memory u lexed = memory_refuses (TellsSchema what text) u
 
-  pub no_program : (tokens : List Token) (e : SyntaxFault) (u : Unmade) → Tokens text tokens → FaultIs (SyntaxRefused text tokens) e → TellsSyntax what e u → Refuses (TellsSchema what text) u
+  pub no_program : (tokens : List Token) (e : SyntaxFault) (u : LoadError) → Tokens text tokens → FaultIs (SyntaxRefused text tokens) e → TellsSyntax what e u → Refuses (TellsSchema what text) u
   no_program tokens (syntax.Unexpected at) u lexed parsed = told (Text (Unexpected at)) u (by_text (Unexpected at) (unexpected tokens at lexed parsed))
   no_program tokens (syntax.NotProfile at form) u lexed parsed = told (Text (NotProfile at form)) u (by_text (NotProfile at form) (not_profile tokens at form lexed parsed))
   no_program tokens (syntax.TooMany at) u lexed parsed = told (Text (TooMany at)) u (by_text (TooMany at) (too_many tokens at lexed parsed))
   no_program tokens syntax.Memory u lexed parsed = memory_refuses (TellsSchema what text) u
 
-  pub no_schema : (tokens : List Token) (program : List DeclText) (e : CheckFault) (u : Unmade) → Tokens text tokens → Reads text tokens program → Checks program (Err e) → TellsCheck what e u
+  pub no_schema : (tokens : List Token) (program : List DeclText) (e : CheckFault) (u : LoadError) → Tokens text tokens → Reads text tokens program → Checks program (Err e) → TellsCheck what e u
       → Refuses (TellsSchema what text) u
   no_schema tokens program (check.Refused decl cause) u lexed parsed refused = told (Checked decl cause) u (by_checks tokens program decl cause lexed parsed refused)
   no_schema tokens program check.Memory u lexed parsed none = memory_refuses (TellsSchema what text) u

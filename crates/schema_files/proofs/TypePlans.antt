@@ -14,7 +14,7 @@ use Rattle.schema_files.specs.Lines.{plan_line}
 use Rattle.schema_files.specs.Loaded.{HasPlan, PlanRefused}
 use Rattle.schema_files.specs.Parts.{TellsPlan}
 use Rattle.schema_files.specs.inner.Tellings.{TellsNoPlan}
-use Rattle.outside.specs.declared.stop.Unmade.{Unmade}
+use Rattle.outside.specs.declared.stop.LoadError.{LoadError}
 use Rattle.outside.specs.Loading.{Refuses}
 use Rattle.outside.proofs.Loaded.{refuses_as, memory_refuses}
 
@@ -65,7 +65,7 @@ module _ (schema : Declared) (T : Shape) where
 
 -- ---- what is told of a type without a plan
 
-pub plan_told : (schema : Declared) (T : Shape) (roots : List Shape) (e : PlanFault) (u : Unmade) → roots ≡ T ∷ [] → Plans schema roots (Err e) → TellsNoPlan e u → Refuses (TellsPlan schema T) u
+pub plan_told : (schema : Declared) (T : Shape) (roots : List Shape) (e : PlanFault) (u : LoadError) → roots ≡ T ∷ [] → Plans schema roots (Err e) → TellsNoPlan e u → Refuses (TellsPlan schema T) u
 plan_told schema T roots (planning.TypeTooDeep decl) u one is =
     refuses_as (λ line. line ≡ plan_line (TypeTooDeep decl)) (TellsPlan schema T) u (λ line told. (TypeTooDeep decl, sym (is ∙ ap (answer schema) one), told))
 plan_told schema T roots planning.TooManyInstances u one is =

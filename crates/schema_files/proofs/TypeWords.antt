@@ -6,7 +6,7 @@ use Rattle.tl_schema.specs.Schemas.{Declared}
 use Rattle.tl_schema.specs.AskedTypes.{NamesType}
 use Rattle.tl_schema.specs.declared.fault.TypeFault.{TypeFault}
 use Rattle.tl_schema.specs.declared.fault.TypeFault.TheVariants as type
-use Rattle.outside.specs.declared.stop.Unmade.{Unmade}
+use Rattle.outside.specs.declared.stop.LoadError.{LoadError}
 use Rattle.outside.specs.Loading.{Refuses, RefusesAs}
 use Rattle.outside.proofs.Loaded.{refuses_as, memory_refuses}
 use Rattle.schema_files.specs.Causes.{TextTooLong, BadByte, OpenComment, Unexpected, NotProfile, TooMany, TypeNameCause, Word, Asked}
@@ -16,10 +16,10 @@ use Rattle.schema_files.specs.Parts.{TellsType}
 use Rattle.schema_files.specs.inner.Tellings.{TellsNoType}
 
 module _ (schema : Declared) (text : List ℕ) where
-  told : (cause : TypeNameCause) (u : Unmade) → TypeNameRefused schema text cause → RefusesAs (type_line cause) u → Refuses (TellsType schema text) u
+  told : (cause : TypeNameCause) (u : LoadError) → TypeNameRefused schema text cause → RefusesAs (type_line cause) u → Refuses (TellsType schema text) u
   told cause u refused = refuses_as (λ line. line ≡ type_line cause) (TellsType schema text) u (λ line is. (cause, refused, is))
 
-  no_type : (e : TypeFault) (u : Unmade) → NamesType schema.program text (Err e) → TellsNoType e u → Refuses (TellsType schema text) u
+  no_type : (e : TypeFault) (u : LoadError) → NamesType schema.program text (Err e) → TellsNoType e u → Refuses (TellsType schema text) u
   no_type (type.Lex lex.TextTooLong) u h = told (Word TextTooLong) u (by_text TextTooLong (too_long h))
   no_type (type.Lex (lex.BadByte at)) u h = told (Word (BadByte at)) u (by_text (BadByte at) (bad_byte at h))
   no_type (type.Lex (lex.OpenComment at)) u h = told (Word (OpenComment at)) u (by_text (OpenComment at) (open_comment at h))
@@ -32,5 +32,5 @@ module _ (schema : Declared) (text : List ℕ) where
   no_type type.Memory u h = memory_refuses (TellsType schema text) u
 
   -- the word's bytes are the text
-  pub no_type_of : (bytes : List ℕ) (e : TypeFault) (u : Unmade) → bytes ≡ text → NamesType schema.program bytes (Err e) → TellsNoType e u → Refuses (TellsType schema text) u
+  pub no_type_of : (bytes : List ℕ) (e : TypeFault) (u : LoadError) → bytes ≡ text → NamesType schema.program bytes (Err e) → TellsNoType e u → Refuses (TellsType schema text) u
   no_type_of bytes e u same h = no_type e u (subst (λ (x : List ℕ). NamesType schema.program x (Err e)) same h)

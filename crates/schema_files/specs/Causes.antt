@@ -1,6 +1,6 @@
 -- Why a schema's text, a type's and an input of JSON are refused, and why a type has no plan, named as their lines name them. This project's own.
 use Rattle.std.specs.Prelude.{ℕ, List}
-use Rattle.tl_combinators.specs.declared.fault.Form.{Form}
+use Rattle.tl_combinators.specs.declared.fault.UnsupportedForm.{UnsupportedForm}
 use Rattle.tl_schema.specs.declared.fault.CheckCause.{CheckCause}
 use Rattle.tl_schema.specs.declared.fault.TypeCause.{TypeCause}
 use Rattle.tl_show.specs.declared.fault.FormCause.{FormCause}
@@ -13,7 +13,7 @@ pub data TextCause : Type 0 where
   BadByte : (at : ℕ) → TextCause
   OpenComment : (at : ℕ) → TextCause
   Unexpected : (at : ℕ) → TextCause
-  NotProfile : (at : ℕ) (form : Form) → TextCause
+  NotProfile : (at : ℕ) (form : UnsupportedForm) → TextCause
   TooMany : (at : ℕ) → TextCause
 
 -- a schema's text: as a text; or this declaration is the first that has this cause, the first in the order of the checks

@@ -15,8 +15,8 @@ use Rattle.tl_show.specs.declared.fault.FormCause.{FormCause}
 use Rattle.tl_show.specs.declared.fault.FormCause.TheVariants as form_cause
 use Rattle.tl_schema.specs.declared.fault.CheckCause.{CheckCause}
 use Rattle.tl_schema.specs.declared.fault.CheckCause.TheVariants as check
-use Rattle.tl_combinators.specs.declared.fault.Form.{Form}
-use Rattle.tl_combinators.specs.declared.fault.Form.TheVariants as form
+use Rattle.tl_combinators.specs.declared.fault.UnsupportedForm.{UnsupportedForm}
+use Rattle.tl_combinators.specs.declared.fault.UnsupportedForm.TheVariants as form
 use Rattle.tl_schema.specs.declared.fault.TypeCause.{TypeCause}
 use Rattle.tl_schema.specs.declared.fault.TypeCause.TheVariants as type
 use Rattle.outside.specs.Answer.{decl_line, placed_line, unplaced_line}
@@ -26,7 +26,7 @@ use Rattle.schema_files.specs.Causes.{TextCause, TextTooLong, BadByte, OpenComme
 abbrev pub line_text : List Declaration → Shape → ValueView → List ℕ
 line_text ds T v = compact_text (shown ds T v) ++ 10 ∷ []
 
-abbrev pub form_name : Form → List ℕ
+abbrev pub form_name : UnsupportedForm → List ℕ
 form_name form.DependentNumber = codes "DependentNumber"
 form_name form.Multiplicity = codes "Multiplicity"
 form_name form.Lifecycle = codes "Lifecycle"

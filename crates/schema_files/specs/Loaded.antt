@@ -5,7 +5,7 @@ use Rattle.tl_lexer.specs.declared.fault.LexFault.TheVariants as lex
 use Rattle.tl_lexer.specs.Tokens.{Tokens, LexRefused}
 use Rattle.tl_program.specs.Trees.{Tree}
 use Rattle.tl_program.specs.Program.{DeclText}
-use Rattle.tl_combinators.specs.declared.fault.Form.{Form}
+use Rattle.tl_combinators.specs.declared.fault.UnsupportedForm.{UnsupportedForm}
 use Rattle.tl_combinators.specs.declared.fault.SyntaxFault.{SyntaxFault}
 use Rattle.tl_combinators.specs.declared.fault.SyntaxFault.TheVariants as syntax
 use Rattle.tl_combinators.specs.Sentences.{Reads, SyntaxRefused}
@@ -27,7 +27,7 @@ pub data TextRefused (text : List ℕ) (Refuses : List Token → SyntaxFault →
   bad_byte : (at : ℕ) → LexRefused text (lex.BadByte at) → TextRefused text Refuses (BadByte at)
   open_comment : (at : ℕ) → LexRefused text (lex.OpenComment at) → TextRefused text Refuses (OpenComment at)
   unexpected : (tokens : List Token) (at : ℕ) → Tokens text tokens → Refuses tokens (syntax.Unexpected at) → TextRefused text Refuses (Unexpected at)
-  not_profile : (tokens : List Token) (at : ℕ) (form : Form) → Tokens text tokens → Refuses tokens (syntax.NotProfile at form) → TextRefused text Refuses (NotProfile at form)
+  not_profile : (tokens : List Token) (at : ℕ) (form : UnsupportedForm) → Tokens text tokens → Refuses tokens (syntax.NotProfile at form) → TextRefused text Refuses (NotProfile at form)
   too_many : (tokens : List Token) (at : ℕ) → Tokens text tokens → Refuses tokens (syntax.TooMany at) → TextRefused text Refuses (TooMany at)
 
 -- ---- a schema's text

@@ -9,7 +9,7 @@ ghost use Rattle.schema_files.specs.Parts.{ReadsForm, TellsUnfit};
 ghost use Rattle.schema_files.specs.inner.Tellings.{TellsNoForm};
 
 use crate::lines::{form_text, misfit_text};
-use outside::Unmade;
+use outside::LoadError;
 use std::alloc::Global;
 use tl_schema::{Schema, TypeRef};
 use tl_show::{FormCause, JsonKeys, JsonTextFault};
@@ -19,43 +19,43 @@ use tl_types::{FitFault, MisfitCause, Value, fits};
 pub const JSON_BYTES: u32 = 16_777_216;
 
 // What is told of JSON that isn't of the form of a type's values.
-fn form_unmade(alloc: Global, path: &[u32], cause: FormCause) -> Unmade
+fn form_error(alloc: Global, path: &[u32], cause: FormCause) -> LoadError
     ensures { RefusesAs (json_line (Unformed path.now cause)) result }
 {
     match form_text(alloc, path, cause) {
-        Ok(why) => Unmade::unplaced(alloc, "input", why.as_str()),
-        Err(_) => Unmade::Memory,
+        Ok(why) => LoadError::unplaced(alloc, "input", why.as_str()),
+        Err(_) => LoadError::Memory,
     }
 }
 
 // What is told of JSON of a value that doesn't fit.
-fn misfit_unmade(alloc: Global, path: &[u32], cause: MisfitCause) -> Unmade
+fn misfit_unmade(alloc: Global, path: &[u32], cause: MisfitCause) -> LoadError
     ensures { RefusesAs (json_line (Misfit path.now cause)) result }
 {
     match misfit_text(alloc, path, cause) {
-        Ok(why) => Unmade::unplaced(alloc, "input", why.as_str()),
-        Err(_) => Unmade::Memory,
+        Ok(why) => LoadError::unplaced(alloc, "input", why.as_str()),
+        Err(_) => LoadError::Memory,
     }
 }
 
 /// What is told of JSON of a value that doesn't fit, or that memory was out.
-pub fn fit_unmade(alloc: Global, fault: &FitFault) -> Unmade
+pub fn fit_unmade(alloc: Global, fault: &FitFault) -> LoadError
     ensures { TellsUnfit fault.now result }
 {
     match fault {
         FitFault::Misfit(misfit) => misfit_unmade(alloc, &misfit.path, misfit.cause),
-        FitFault::Memory => Unmade::Memory,
+        FitFault::Memory => LoadError::Memory,
     }
 }
 
 // What is told of a text that is the form of no value.
-fn json_unmade(alloc: Global, fault: &JsonTextFault) -> Unmade
+fn json_unmade(alloc: Global, fault: &JsonTextFault) -> LoadError
     ensures { TellsNoForm fault.now result }
 {
     match fault {
-        JsonTextFault::NoJson => Unmade::unplaced(alloc, "input", "Json"),
-        JsonTextFault::Form { path, cause } => form_unmade(alloc, path, *cause),
-        JsonTextFault::Memory => Unmade::Memory,
+        JsonTextFault::NoJson => LoadError::unplaced(alloc, "input", "Json"),
+        JsonTextFault::Form { path, cause } => form_error(alloc, path, *cause),
+        JsonTextFault::Memory => LoadError::Memory,
     }
 }
 
@@ -66,12 +66,12 @@ pub fn form_by(
     schema: &Schema,
     of: &TypeRef,
     text: &[u8],
-) -> Result<Value, Unmade>
+) -> Result<Value, LoadError>
     requires made { AreKeysOf schema.now keys.now }
     ensures { ReadsForm schema.now (shape of.now) text.now result }
 {
     if text.len() > JSON_BYTES as usize {
-        return Err(Unmade::unplaced(alloc, "input", "TooLong"));
+        return Err(LoadError::unplaced(alloc, "input", "TooLong"));
     }
     match keys.read(alloc, schema, of, text) {
         Ok(value) => Ok(value),
@@ -85,11 +85,11 @@ pub fn formed_value(
     schema: &Schema,
     of: &TypeRef,
     text: &[u8],
-) -> Result<Value, Unmade>
+) -> Result<Value, LoadError>
     ensures { ReadsForm schema.now (shape of.now) text.now result }
 {
     match JsonKeys::of(alloc, schema) {
         Ok(keys) => form_by(alloc, &keys, schema, of, text),
-        Err(_) => Err(Unmade::Memory),
+        Err(_) => Err(LoadError::Memory),
     }
 }

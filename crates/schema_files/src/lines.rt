@@ -3,7 +3,7 @@ ghost use Rattle.std.specs.Prelude.{◌≡◌, ◌++◌, IfOk, OnOk, string_byte
 ghost use Rattle.schema_files.specs.Lines.{cause_text, check_name, form_cause_name, form_name, form_text, misfit_cause_name, misfit_text, path_text, steps_text, type_cause_name};
 
 use std::alloc::{AllocError, Global};
-use tl_combinators::Form;
+use tl_combinators::UnsupportedForm;
 use tl_schema::{CheckCause, TypeCause};
 use tl_show::FormCause;
 use tl_types::{Cause, MisfitCause};
@@ -28,19 +28,19 @@ pub fn cause_text(alloc: Global, cause: Cause) -> Result<String, AllocError>
 }
 
 /// The name of a form that is left out.
-pub fn form_name(form: Form) -> &'static str
+pub fn form_name(form: UnsupportedForm) -> &'static str
     ensures { result.now ≡ form_name form }
 {
     match form {
-        Form::DependentNumber => "DependentNumber",
-        Form::Multiplicity => "Multiplicity",
-        Form::Lifecycle => "Lifecycle",
-        Form::PartialApplication => "PartialApplication",
-        Form::Anonymous => "Anonymous",
-        Form::ObjectType => "ObjectType",
-        Form::UnnamedField => "UnnamedField",
-        Form::CallInConstructor => "CallInConstructor",
-        Form::VectorNumber => "VectorNumber",
+        UnsupportedForm::DependentNumber => "DependentNumber",
+        UnsupportedForm::Multiplicity => "Multiplicity",
+        UnsupportedForm::Lifecycle => "Lifecycle",
+        UnsupportedForm::PartialApplication => "PartialApplication",
+        UnsupportedForm::Anonymous => "Anonymous",
+        UnsupportedForm::ObjectType => "ObjectType",
+        UnsupportedForm::UnnamedField => "UnnamedField",
+        UnsupportedForm::CallInConstructor => "CallInConstructor",
+        UnsupportedForm::VectorNumber => "VectorNumber",
     }
 }
 

@@ -4,7 +4,7 @@ ghost use Rattle.schema_files.specs.inner.Tellings.{TellsCheck};
 
 use crate::lines::check_name;
 use crate::text::{lex_unmade, syntax_unmade};
-use outside::Unmade;
+use outside::LoadError;
 use std::alloc::Global;
 use tl_combinators::parse;
 use tl_lexer::{TEXT_LIMIT, lex};
@@ -16,19 +16,19 @@ pub const SCHEMA_BYTES: u32 = 4_194_304;
 const _: () = prove!(SCHEMA_BYTES as usize == TEXT_LIMIT);
 
 // What is told of a program that is no schema.
-fn check_unmade(alloc: Global, what: &str, fault: CheckFault) -> Unmade
+fn check_unmade(alloc: Global, what: &str, fault: CheckFault) -> LoadError
     ensures { TellsCheck what.now fault result }
 {
     match fault {
         CheckFault::Refused { decl, cause } => {
-            Unmade::of_decl(alloc, what, decl, check_name(cause))
+            LoadError::of_decl(alloc, what, decl, check_name(cause))
         }
-        CheckFault::Memory => Unmade::Memory,
+        CheckFault::Memory => LoadError::Memory,
     }
 }
 
 /// The schema that a text spells. `what` is what lines call the input.
-pub fn schema_of(alloc: Global, what: &str, text: &[u8]) -> Result<Schema, Unmade>
+pub fn schema_of(alloc: Global, what: &str, text: &[u8]) -> Result<Schema, LoadError>
     ensures { ReadsSchema what.now text.now result }
 {
     let tokens = match lex(alloc, text) {

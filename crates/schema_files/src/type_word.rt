@@ -7,24 +7,24 @@ ghost use Rattle.schema_files.specs.inner.Tellings.{TellsNoType};
 
 use crate::lines::type_cause_name;
 use crate::text::{lex_unmade, syntax_unmade};
-use outside::Unmade;
+use outside::LoadError;
 use std::alloc::Global;
 use tl_schema::{Schema, TypeFault, TypeRef, type_of};
 
 // What is told of a word that is no type.
-fn type_unmade(alloc: Global, fault: TypeFault) -> Unmade
+fn type_unmade(alloc: Global, fault: TypeFault) -> LoadError
     ensures { TellsNoType fault result }
 {
     match fault {
         TypeFault::Lex(fault) => lex_unmade(alloc, "type", fault),
         TypeFault::Syntax(fault) => syntax_unmade(alloc, "type", fault),
-        TypeFault::Refused { cause } => Unmade::unplaced(alloc, "type", type_cause_name(cause)),
-        TypeFault::Memory => Unmade::Memory,
+        TypeFault::Refused { cause } => LoadError::unplaced(alloc, "type", type_cause_name(cause)),
+        TypeFault::Memory => LoadError::Memory,
     }
 }
 
 /// The type that a text means.
-pub fn type_spelled(alloc: Global, schema: &Schema, text: &[u8]) -> Result<TypeRef, Unmade>
+pub fn type_spelled(alloc: Global, schema: &Schema, text: &[u8]) -> Result<TypeRef, LoadError>
     ensures names { MeansType schema.now text.now result }
     ensures formed { IfOk result (λ of. IsFormed schema.now (shape of)) }
 {
@@ -35,7 +35,7 @@ pub fn type_spelled(alloc: Global, schema: &Schema, text: &[u8]) -> Result<TypeR
 }
 
 /// The type that a word means.
-pub fn type_named(alloc: Global, schema: &Schema, text: &str) -> Result<TypeRef, Unmade>
+pub fn type_named(alloc: Global, schema: &Schema, text: &str) -> Result<TypeRef, LoadError>
     ensures names { MeansType schema.now text.now result }
     ensures formed { IfOk result (λ of. IsFormed schema.now (shape of)) }
 {

@@ -10,8 +10,8 @@ use Rattle.outside.specs.Jobs.{of_fault}
 use Rattle.outside.specs.Loading.{Refuses}
 use Rattle.outside.specs.declared.status.Status.{Status}
 use Rattle.outside.specs.declared.status.Status.TheVariants.{ReadFault}
-use Rattle.outside.specs.declared.stop.Unmade.{Unmade}
-use Rattle.outside.specs.declared.stop.Unmade.TheVariants as unmade
+use Rattle.outside.specs.declared.stop.LoadError.{LoadError}
+use Rattle.outside.specs.declared.stop.LoadError.TheVariants as load_error
 use Rattle.fault_lines.specs.Profiled.{TellsProfile, form_line}
 use Rattle.fault_lines.proofs.Profiled.{each_schema}
 use Rattle.schema_files.specs.Lines.{schema_line}
@@ -85,13 +85,13 @@ can_reading None = can_end_by Unread (can_tell read_fault_line ReadFault)
 pub text_loaded : (text : List ℕ) (S : Declared) (p : HostState) → IsSchemaText text S → Did (OfText text) p p (Some (schema.Schema S))
 text_loaded text S p is = record { trace = []; grew = growing.grew_none p; holds = schema_of S is refl refl }
 
-pub text_told : (text : List ℕ) (u : Unmade) (p q : HostState) (answer : Option Status) → ReadsSchema (codes "schema") text (Err u) → PrintsMade (of_fault u) p q answer
+pub text_told : (text : List ℕ) (u : LoadError) (p q : HostState) (answer : Option Status) → ReadsSchema (codes "schema") text (Err u) → PrintsMade (of_fault u) p q answer
     → Did (OfText text) p q (option_map (λ status. schema.Ended status) answer)
-text_told text (unmade.Refused line) p q answer (cause, r, is) d =
+text_told text (load_error.Refused line) p q answer (cause, r, is) d =
     let S = Prints (refused line.items) in
     typing.did_as (EndsBy S) (OfText text) p q (option_map (λ status. schema.Ended status) answer) (λ t a h. no_schema cause r (subst (λ (l : List ℕ). EndsBy (Prints (refused l)) t a) is h)) (ended_by S p q answer d)
-text_told text unmade.ReadFault p q answer reads d = absurd reads
-text_told text unmade.Memory p q answer reads d =
+text_told text load_error.ReadFault p q answer reads d = absurd reads
+text_told text load_error.Memory p q answer reads d =
     subst (λ (o : Option Status). Did (OfText text) p q (option_map (λ status. schema.Ended status) o)) (sym d.0) (subst (λ (s : HostState). Did (OfText text) p s None) (sym d.1) (growing.did_none (OfText text) p (can_text text)))
 
 -- ---- the end of a run by what a host does alone
@@ -111,13 +111,13 @@ module _ (Rest : OfProfile) (S : Declared) where
     pub can_profile : BeginsKept (OfSchema Rest S) []
     can_profile = let told = each_schema S good in can_told told.0 told.1
 
-    pub profile_refused : (u : Unmade) (p q : HostState) (k : KeeperState) (answer : Option Status) → Refuses (TellsProfile S) u → PrintsMade (of_fault u) p q answer
+    pub profile_refused : (u : LoadError) (p q : HostState) (k : KeeperState) (answer : Option Status) → Refuses (TellsProfile S) u → PrintsMade (of_fault u) p q answer
         → DidKept (OfSchema Rest S) (beside p k) (beside q k) (option_map (λ status. Run status) answer)
-    profile_refused (unmade.Refused line) p q k answer (fault, lacks, is) d =
+    profile_refused (load_error.Refused line) p q k answer (fault, lacks, is) d =
         did_as (Last (Prints (refused line.items))) (OfSchema Rest S) (beside p k) (beside q k) (option_map (λ status. Run status) answer)
         (λ t status h. no_profile fault lacks (subst (λ (l : List ℕ). Last (Prints (refused l)) t status) is h)) (last_done (Prints (refused line.items)) p q k answer d)
-    profile_refused unmade.ReadFault p q k answer refuses d = absurd refuses
-    profile_refused unmade.Memory p q k answer refuses d =
+    profile_refused load_error.ReadFault p q k answer refuses d = absurd refuses
+    profile_refused load_error.Memory p q k answer refuses d =
         subst (λ (o : Option Status). DidKept (OfSchema Rest S) (beside p k) (beside q k) (option_map (λ status. Run status) o)) (sym d.0)
         (subst (λ (s : HostState). DidKept (OfSchema Rest S) (beside p k) (beside s k) None) (sym d.1) (did_none (OfSchema Rest S) (beside p k) can_profile))
 

@@ -13,7 +13,7 @@ use Rattle.outside.specs.Answer.{refused}
 use Rattle.outside.specs.Jobs.{of_fault}
 use Rattle.outside.specs.Loading.{Refuses}
 use Rattle.outside.specs.declared.status.Status.{Status}
-use Rattle.outside.specs.declared.stop.Unmade.{Unmade}
+use Rattle.outside.specs.declared.stop.LoadError.{LoadError}
 use Rattle.fault_lines.specs.Profiled.{TellsProfile, form_line}
 use Rattle.outside.specs.Events.{Event, HostState}
 use Rattle.outside.specs.Laws.{Happened, Throughout}
@@ -159,7 +159,7 @@ module _ (Rest : OfProfile) where
       can_spare_loaded r good = can_spare (after_loading Rest r) (loaded_faulty r) (can_loaded Rest can r good)
 
       -- the schema is no profile, or memory ran out
-      pub refused_spare : (S : Declared) → IsSchema S → (u : Unmade) (p q : HostState) (answer : Option Status) → Refuses (TellsProfile S) u → PrintsMade (of_fault u) p q answer → DidIn to_serve (Spares (OfSchema Rest S)) p q answer
+      pub refused_spare : (S : Declared) → IsSchema S → (u : LoadError) (p q : HostState) (answer : Option Status) → Refuses (TellsProfile S) u → PrintsMade (of_fault u) p q answer → DidIn to_serve (Spares (OfSchema Rest S)) p q answer
       refused_spare S good u p q answer =
           refusal_done (Spares (OfSchema Rest S)) (TellsProfile S) u p q answer (can_spare_schema S good)
           (λ line (fault, lacks, is) t status h. spares_as (Last (Prints (refused (form_line fault)))) (OfSchema Rest S) (λ u a d. no_profile fault lacks d) t status (spares_last (Prints (refused (form_line fault))) t status (subst (λ (l : List ℕ). Prints (refused l) t status) is h)))

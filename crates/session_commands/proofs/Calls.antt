@@ -25,7 +25,7 @@ use Rattle.box_world.proofs.SpelledMessages.{read_of}
 use Rattle.update_sessions.specs.Packed.{MeansCall}
 use Rattle.outside.specs.Jobs.{RefusedBy}
 use Rattle.outside.specs.Loading.{Refuses, RefusesAs}
-use Rattle.outside.specs.declared.stop.Unmade.{Unmade}
+use Rattle.outside.specs.declared.stop.LoadError.{LoadError}
 use Rattle.outside.proofs.Loaded.{memory_refuses, refuses_as}
 use Rattle.fault_lines.specs.Messages.{wire_line}
 use Rattle.session_commands.specs.Lines.{long_call_line}
@@ -40,7 +40,7 @@ told_line : (p : ProfileView) (b line : List ℕ) (fault : WireFault) → (fault
 told_line p b line fault (inl memory) tells = absurd (none_some line (subst (λ (f : WireFault). wire_line (codes "input") f ≡ Some line) memory tells))
 told_line p b line fault (inr refused) tells = (fault, refused, tells)
 
-pub no_call_told : (p : ProfileView) (b : List ℕ) (fault : WireFault) (line : Result (Vec ℕ Global) AllocError) (u : Unmade) → (fault ≡ wire.Memory) ⊎ WireRefused p calls b fault → IfOk line (λ l. wire_line (codes "input") fault ≡ Some l.items)
+pub no_call_told : (p : ProfileView) (b : List ℕ) (fault : WireFault) (line : Result (Vec ℕ Global) AllocError) (u : LoadError) → (fault ≡ wire.Memory) ⊎ WireRefused p calls b fault → IfOk line (λ l. wire_line (codes "input") fault ≡ Some l.items)
     → RefusedBy line u → Refuses (TellsNoCall p b) u
 no_call_told p b fault (Ok line) u told tells is = subst (Refuses (TellsNoCall p b)) (sym is) (told_line p b line.items fault told tells)
 no_call_told p b fault (Err e) u told tells is = memory_refuses (TellsNoCall p b) u is
@@ -60,13 +60,13 @@ whole_call p good c b means =
 
 -- ---- answers
 
-pub no_call_sends : (p : ProfileView) (b bytes : List ℕ) (e : Unmade) (r : Result Sending Unmade) → bytes ≡ b → AreBytes bytes → Refuses (TellsNoCall p bytes) e → IsErrAnd r (λ z. z ≡ e) → Sends p b r
+pub no_call_sends : (p : ProfileView) (b bytes : List ℕ) (e : LoadError) (r : Result Sending LoadError) → bytes ≡ b → AreBytes bytes → Refuses (TellsNoCall p bytes) e → IsErrAnd r (λ z. z ≡ e) → Sends p b r
 no_call_sends p b bytes e (Ok s) same are told is = absurd is
 no_call_sends p b bytes e (Err z) same are told is =
     let here : Refuses (TellsUnsent p b) e = subst (λ (x : List ℕ). Refuses (TellsUnsent p x) e) same (refuses_as (TellsNoCall p bytes) (TellsUnsent p bytes) e (λ line h. (are, inl h)) told) in
     subst (Refuses (TellsUnsent p b)) (sym is) here
 
-pub long_sends : (p : ProfileView) (b bytes : List ℕ) (n : ℕ) (e : Unmade) → bytes ≡ b → AreBytes bytes → NumbersCall p bytes (Ok n) → MAX_FRAME_BYTES < length bytes → RefusesAs (long_call_line (length bytes)) e → Sends p b (Err e)
+pub long_sends : (p : ProfileView) (b bytes : List ℕ) (n : ℕ) (e : LoadError) → bytes ≡ b → AreBytes bytes → NumbersCall p bytes (Ok n) → MAX_FRAME_BYTES < length bytes → RefusesAs (long_call_line (length bytes)) e → Sends p b (Err e)
 long_sends p b bytes n e same are (c, means, is) long told =
     subst (λ (x : List ℕ). Refuses (TellsUnsent p x) e) same (refuses_as (λ line. line ≡ long_call_line (length bytes)) (TellsUnsent p bytes) e (λ line tells. (are, inr (c, means, long, tells))) told)
 

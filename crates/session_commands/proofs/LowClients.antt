@@ -40,8 +40,8 @@ use Rattle.box_events.specs.Weaves.{WeaveCause, woven_of}
 use Rattle.box_events.proofs.Made.{is_woven_of_others, keeps_counts, reaches}
 use Rattle.channel_box.specs.States.{ChannelState, first, has_id}
 use Rattle.channel_box.specs.Steps as boxes
-use Rattle.channel_box.proofs.Brought.{ending_sums, few_counted}
-use Rattle.box_client.specs.declared.brought.Brought.{Brought}
+use Rattle.channel_box.proofs.Received.{ending_sums, few_counted}
+use Rattle.box_client.specs.declared.received.Received.{Received}
 use Rattle.box_client.specs.Ranges.{AreUpdatesInRange, IsPushInRange, IsReplyInRange, IsSeqInRange, IsUpdateInRange}
 use Rattle.box_client.specs.States.{ClientState}
 use Rattle.box_client.specs.Pushes.{updated, all_updated, settings_in, pack_heard, pushed}
@@ -305,7 +305,7 @@ becomes_is c d e = cc
 ok_is : {A B : Type 0} (x y : A) → ◌≡◌ {A = Result A B} (Ok x) (Ok y) → x ≡ y
 ok_is x y e = cc
 
-done_low : (d : ℕ) (last : Bool) (c : ClientState) (b : Brought) (xs ys : List EventView) → (last ≡ true → c.settings.at ≤ b.state.seq) → IsWord b.state.seq → LowClient d c → LowLane (extend count_of c.common xs last) → LowLane (extend count_of c.secret ys last)
+done_low : (d : ℕ) (last : Bool) (c : ClientState) (b : Received) (xs ys : List EventView) → (last ≡ true → c.settings.at ≤ b.state.seq) → IsWord b.state.seq → LowClient d c → LowLane (extend count_of c.common xs last) → LowLane (extend count_of c.secret ys last)
     → LowClient (d + length b.settings) (group_done last c b xs ys)
 done_low d true c b xs ys up word h x y = record { common = x; secret = y; settings = overlaid_low d c.settings b.settings b.state.seq b.state.date h.settings (up refl) word; lanes = h.lanes; few = h.few }
 done_low d false c b xs ys up word h x y = record {
@@ -320,25 +320,25 @@ not_back : (last : Bool) (n m : ℕ) → (last && ltb n m) ≡ false → last �
 not_back true n m is e = grind (arith, nat_tests)
 not_back false n m is e = absurd cc
 
-taken_low : (d : ℕ) (back : Bool) (c : ClientState) (b : Brought) (xs ys : List EventView) (e : ClientState) → group_taken back c b xs ys ≡ becomes e → (back ≡ false → b.last ≡ true → c.settings.at ≤ b.state.seq) → IsWord b.state.seq → LowClient d c
+taken_low : (d : ℕ) (back : Bool) (c : ClientState) (b : Received) (xs ys : List EventView) (e : ClientState) → group_taken back c b xs ys ≡ becomes e → (back ≡ false → b.last ≡ true → c.settings.at ≤ b.state.seq) → IsWord b.state.seq → LowClient d c
     → LowLane (extend count_of c.common xs b.last) → LowLane (extend count_of c.secret ys b.last) → LowClient (d + length b.settings) e
 taken_low d true c b xs ys e is up word h x y = absurd cc
 taken_low d false c b xs ys e is up word h x y = subst (LowClient (d + length b.settings)) (becomes_is (group_done b.last c b xs ys) e is) (done_low d b.last c b xs ys (up refl) word h x y)
 
-woven_low : (d : ℕ) (c : ClientState) (b : Brought) (o p : Result (List EventView) WeaveCause) (e : ClientState) → group_woven c b o p ≡ becomes e → IsWord b.state.seq → LowClient d c → ((xs : List EventView) → o ≡ Ok xs → LowLane (extend count_of c.common xs b.last))
+woven_low : (d : ℕ) (c : ClientState) (b : Received) (o p : Result (List EventView) WeaveCause) (e : ClientState) → group_woven c b o p ≡ becomes e → IsWord b.state.seq → LowClient d c → ((xs : List EventView) → o ≡ Ok xs → LowLane (extend count_of c.common xs b.last))
     → ((ys : List EventView) → p ≡ Ok ys → LowLane (extend count_of c.secret ys b.last)) → LowClient (d + length b.settings) e
 woven_low d c b (Err cause) p e is word h x y = absurd cc
 woven_low d c b (Ok xs) (Err cause) e is word h x y = absurd cc
 woven_low d c b (Ok xs) (Ok ys) e is word h x y = taken_low d (b.last && ltb b.state.seq c.settings.at) c b xs ys e is (λ back last. not_back b.last b.state.seq c.settings.at back last) word h (x xs refl) (y ys refl)
 
-record IsBrought (b : Brought) : Type 0 where
+record IsBrought (b : Received) : Type 0 where
   common : b.state.pts ≤ MAX_END
   secret : b.state.qts ≤ MAX_END
   seq : IsWord b.state.seq
   are : AreOthers b.others
   counted : AreCountedOthers b.others
 
-brings_low : (d : ℕ) (c : ClientState) (b : Brought) (e : ClientState) → brings c b ≡ becomes e → LowClient d c → IsBrought b → LowClient (d + length b.settings) e
+brings_low : (d : ℕ) (c : ClientState) (b : Received) (e : ClientState) → brings c b ≡ becomes e → LowClient d c → IsBrought b → LowClient (d + length b.settings) e
 brings_low d c b e is h f =
     woven_low d c b (woven_of c.common.at b.state.pts b.news b.others) (woven_of c.secret.at b.state.qts b.secrets []) e is f.seq h
     (λ xs same. lane_woven c.common b.state.pts b.news b.others b.last xs same f.common f.are f.counted h.common) (λ ys same. lane_woven c.secret b.state.qts b.secrets [] b.last ys same f.secret tt tt h.secret)

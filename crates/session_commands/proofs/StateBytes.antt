@@ -15,7 +15,7 @@ use Rattle.box_wire.specs.Framing.{WireRefused}
 use Rattle.box_wire.specs.Kinds.{saved_clients}
 use Rattle.outside.specs.Jobs.{RefusedBy}
 use Rattle.outside.specs.Loading.{Gives, Refuses}
-use Rattle.outside.specs.declared.stop.Unmade.{Unmade}
+use Rattle.outside.specs.declared.stop.LoadError.{LoadError}
 use Rattle.outside.proofs.Loaded.{memory_refuses, refuses_as}
 use Rattle.fault_lines.specs.Messages.{wire_line}
 use Rattle.session_commands.specs.Client.{HasClient, loads, TellsNoClient, no_saved, not_loaded}
@@ -31,7 +31,7 @@ told_line : (p : ProfileView) (b line : List ℕ) (fault : WireFault) → (fault
 told_line p b line fault (inl memory) tells = absurd (none_some line (subst (λ (f : WireFault). wire_line (codes "state") f ≡ Some line) memory tells))
 told_line p b line fault (inr refused) tells = (fault, refused, tells)
 
-pub no_saved_told : (p : ProfileView) (b : List ℕ) (fault : WireFault) (line : Result (Vec ℕ Global) AllocError) (u : Unmade) → (fault ≡ wire.Memory) ⊎ WireRefused p saved_clients b fault → IfOk line (λ l. wire_line (codes "state") fault ≡ Some l.items)
+pub no_saved_told : (p : ProfileView) (b : List ℕ) (fault : WireFault) (line : Result (Vec ℕ Global) AllocError) (u : LoadError) → (fault ≡ wire.Memory) ⊎ WireRefused p saved_clients b fault → IfOk line (λ l. wire_line (codes "state") fault ≡ Some l.items)
     → RefusedBy line u → Refuses (TellsNoSaved p b) u
 no_saved_told p b fault (Ok line) u told tells is = subst (Refuses (TellsNoSaved p b)) (sym is) (told_line p b line.items fault told tells)
 no_saved_told p b fault (Err e) u told tells is = memory_refuses (TellsNoSaved p b) u is
@@ -52,10 +52,10 @@ some_bytes [] none is e = absurd (true≢false (sym is ∙ e))
 some_bytes (b ∷ bytes) none is e = omega arith
 
 module _ (p : ProfileView) (bytes : List ℕ) (some : 0 < length bytes) (few : length bytes ≤ MAX_STATE_BYTES) where
-  pub saved_refused : (e : Unmade) (r : Result ClientState Unmade) → ReadsSaved p bytes (Err e) → IsErrAnd r (λ z. z ≡ e) → Gives (HasClient p) (TellsNoClient p) bytes r
+  pub saved_refused : (e : LoadError) (r : Result ClientState LoadError) → ReadsSaved p bytes (Err e) → IsErrAnd r (λ z. z ≡ e) → Gives (HasClient p) (TellsNoClient p) bytes r
   saved_refused e (Ok c) h is = absurd is
-  saved_refused e (Err z) h is = subst (λ (u : Unmade). Refuses (TellsNoClient p bytes) u) (sym is) (refuses_as (TellsNoSaved p bytes) (TellsNoClient p bytes) e (λ line t. no_saved t.0 some few t.1 t.2) h)
+  saved_refused e (Err z) h is = subst (λ (u : LoadError). Refuses (TellsNoClient p bytes) u) (sym is) (refuses_as (TellsNoSaved p bytes) (TellsNoClient p bytes) e (λ line t. no_saved t.0 some few t.1 t.2) h)
 
-  pub client_given : (s : Saved) (r : Result ClientState Unmade) → ReadsSaved p bytes (Ok s) → LoadsClient s r → Gives (HasClient p) (TellsNoClient p) bytes r
+  pub client_given : (s : Saved) (r : Result ClientState LoadError) → ReadsSaved p bytes (Ok s) → LoadsClient s r → Gives (HasClient p) (TellsNoClient p) bytes r
   client_given s (Ok c) h l = loads s (record { some = some; few = few; is = h.0; means = h.1 }) l
   client_given s (Err e) h l = refuses_as (TellsNotLoaded s) (TellsNoClient p bytes) e (λ line t. not_loaded s t.0 (record { some = some; few = few; is = h.0; means = h.1 }) t.1 t.2) l

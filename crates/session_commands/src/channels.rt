@@ -5,11 +5,11 @@ ghost use Rattle.session_commands.specs.inner.Recovering.{Watches};
 
 use box_client::Client;
 use channel_box::WatchFault;
-use outside::Unmade;
+use outside::LoadError;
 use std::alloc::Global;
 
 /// Watches channels in order. One that is watched already stays as it is.
-pub fn watch_all(alloc: Global, client: &mut Client, channels: &[i64]) -> Result<(), Unmade>
+pub fn watch_all(alloc: Global, client: &mut Client, channels: &[i64]) -> Result<(), LoadError>
     ensures watches { Watches (watch_all channels.now client.old) result client.new }
     ensures next { client.new.next ≡ client.old.next }
 {
@@ -19,14 +19,14 @@ pub fn watch_all(alloc: Global, client: &mut Client, channels: &[i64]) -> Result
     Ok(())
 }
 
-fn watch_one(alloc: Global, client: &mut Client, id: i64) -> Result<(), Unmade>
+fn watch_one(alloc: Global, client: &mut Client, id: i64) -> Result<(), LoadError>
     ensures watches { Watches (watch_one client.old id) result client.new }
     ensures next { client.new.next ≡ client.old.next }
 {
     match client.watch(alloc, id) {
         Ok(()) => Ok(()),
         Err(WatchFault::Already) => Ok(()),
-        Err(WatchFault::TooMany) => Err(Unmade::unplaced(alloc, "words", "TooMany")),
-        Err(WatchFault::Memory) => Err(Unmade::Memory),
+        Err(WatchFault::TooMany) => Err(LoadError::unplaced(alloc, "words", "TooMany")),
+        Err(WatchFault::Memory) => Err(LoadError::Memory),
     }
 }

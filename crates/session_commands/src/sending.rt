@@ -11,7 +11,7 @@ ghost use Rattle.session_commands.specs.inner.Posting.{NumbersCall, Sends};
 use box_events::MAX_FRAME_BYTES;
 use box_wire::{SpellFault, read_call};
 use fault_lines::{spell_line, wire_line};
-use outside::Unmade;
+use outside::LoadError;
 use std::alloc::Global;
 use tl_base::Bytes;
 use tl_encode::spell;
@@ -27,7 +27,7 @@ pub struct Sending {
 }
 
 /// The call that a value is, unless a server refuses it or it is too long.
-pub fn call_of(alloc: Global, profile: &Profile, value: &Value) -> Result<Sending, Unmade>
+pub fn call_of(alloc: Global, profile: &Profile, value: &Value) -> Result<Sending, LoadError>
     ensures { (b : List ℕ) → Spells profile.now.schema call (view value.now) b → Sends profile.now b result }
 {
     let mut spelling = Vec::new(alloc);
@@ -48,19 +48,19 @@ pub fn call_of(alloc: Global, profile: &Profile, value: &Value) -> Result<Sendin
 }
 
 // The number of the call that bytes mean.
-fn call_number(alloc: Global, profile: &Profile, bytes: &Bytes) -> Result<u32, Unmade>
+fn call_number(alloc: Global, profile: &Profile, bytes: &Bytes) -> Result<u32, LoadError>
     ensures numbers { NumbersCall profile.now bytes.now result }
     ensures bytes { AreBytes bytes.now }
 {
     match read_call(alloc, profile, bytes.as_slice()) {
         Ok(call) => Ok(call.number),
-        Err(fault) => Err(Unmade::of_line(wire_line(alloc, "input", fault))),
+        Err(fault) => Err(LoadError::of_line(wire_line(alloc, "input", fault))),
     }
 }
 
 // What is told of a call that is too long.
-fn long_call(alloc: Global, length: u64) -> Unmade
+fn long_call(alloc: Global, length: u64) -> LoadError
     ensures { RefusesAs (long_call_line length) result }
 {
-    Unmade::of_line(spell_line(alloc, SpellFault::TooLong { length }))
+    LoadError::of_line(spell_line(alloc, SpellFault::TooLong { length }))
 }

@@ -10,7 +10,7 @@ use box_client::Client;
 use box_events::Saved;
 use box_wire::read_saved;
 use fault_lines::{load_line, wire_line};
-use outside::Unmade;
+use outside::LoadError;
 use std::alloc::Global;
 use wire_profile::Profile;
 
@@ -18,7 +18,7 @@ use wire_profile::Profile;
 pub const MAX_STATE_BYTES: u32 = 268_435_456;
 
 /// The client of a state's bytes, which is a new one where there are none.
-pub fn client_in(alloc: Global, profile: &Profile, bytes: &[u8]) -> Result<Client, Unmade>
+pub fn client_in(alloc: Global, profile: &Profile, bytes: &[u8]) -> Result<Client, LoadError>
     requires sound { IsProfile profile.now }
     ensures gives { Gives (HasClient profile.now) (TellsNoClient profile.now) bytes.now result }
     ensures next { IfOk result (λ client. client.next ≤ 2000000000) }
@@ -27,32 +27,32 @@ pub fn client_in(alloc: Global, profile: &Profile, bytes: &[u8]) -> Result<Clien
         return Ok(Client::new(alloc));
     }
     if bytes.len() > MAX_STATE_BYTES as usize {
-        return Err(Unmade::unplaced(alloc, "state", "TooLong"));
+        return Err(LoadError::unplaced(alloc, "state", "TooLong"));
     }
     let saved = saved_in(alloc, profile, bytes)?;
     client_of(alloc, saved)
 }
 
 // What is saved in a state's bytes.
-fn saved_in(alloc: Global, profile: &Profile, bytes: &[u8]) -> Result<Saved, Unmade>
+fn saved_in(alloc: Global, profile: &Profile, bytes: &[u8]) -> Result<Saved, LoadError>
     requires sound { IsProfile profile.now }
     ensures reads { ReadsSaved profile.now bytes.now result }
     ensures range { IfOk result IsSavedInRange }
 {
     match read_saved(alloc, profile, bytes) {
         Ok(saved) => Ok(saved),
-        Err(fault) => Err(Unmade::of_line(wire_line(alloc, "state", fault))),
+        Err(fault) => Err(LoadError::of_line(wire_line(alloc, "state", fault))),
     }
 }
 
 // The client that was saved.
-fn client_of(alloc: Global, saved: Saved) -> Result<Client, Unmade>
+fn client_of(alloc: Global, saved: Saved) -> Result<Client, LoadError>
     requires range { IsSavedInRange saved }
     ensures loads { LoadsClient saved result }
     ensures next { IfOk result (λ client. client.next ≤ 2000000000) }
 {
     match Client::load(alloc, saved) {
         Ok(client) => Ok(client),
-        Err(fault) => Err(Unmade::of_line(load_line(alloc, fault))),
+        Err(fault) => Err(LoadError::of_line(load_line(alloc, fault))),
     }
 }

@@ -19,7 +19,7 @@ use Rattle.update_sessions.specs.declared.fault.SessionFault.{SessionFault}
 use Rattle.update_sessions.specs.declared.fault.SessionFault.TheVariants as session
 use Rattle.session_commands.specs.Client.{client_line}
 use Rattle.session_commands.specs.SessionEnds.{TellsSession, session_line}
-use Rattle.session_commands.specs.declared.leaving.Leaving.{Leaving}
+use Rattle.session_commands.specs.declared.saving.SavedState.{SavedState}
 use Rattle.session_commands.specs.inner.Recovering.{LeavesOf}
 use Rattle.session_rooms.proofs.Conversed.{may_converse}
 use Rattle.session_rooms.specs.Client.{Leaves, no_memory, saves, after_connect, after_create, after_session, after_state, ends_by}
@@ -30,10 +30,10 @@ use Rattle.session_rooms.specs.inner.Ends.{TellsEnd}
 pub can_leave : (p : ProfileView) (name : List ℕ) (c : ClientState) → Begins (Leaves p name c) []
 can_leave p name c = let m = can_tell memory_line Memory in record { rest = m.rest; answer = m.answer; whole = no_memory m.whole }
 
-pub left_so : (p : ProfileView) (name : List ℕ) (c : ClientState) (l : Leaving) → LeavesOf p c l → (q r : HostState) (status : Status) → Did (Then (Calls (created outs.State name)) (after_create c l.state)) q r (Some status) → DidIn to_link (Leaves p name c) q r (Some status)
+pub left_so : (p : ProfileView) (name : List ℕ) (c : ClientState) (l : SavedState) → LeavesOf p c l → (q r : HostState) (status : Status) → Did (Then (Calls (created outs.State name)) (after_create c l.state)) q r (Some status) → DidIn to_link (Leaves p name c) q r (Some status)
 left_so p name c l of q r status h = did_any _ q r status (did_as (Then (Calls (created outs.State name)) (after_create c l.state)) (Leaves p name c) q r (Some status) (λ t x w. saves l.state of.state w) h)
 
-module _ (c : ClientState) (l : Leaving) (of : l.line.items ≡ client_line c) (q r s : HostState) where
+module _ (c : ClientState) (l : SavedState) (of : l.line.items ≡ client_line c) (q r s : HostState) where
   pub saved_and_told : (line : List ℕ) (status : Status) → line ≡ l.line.items → Did (Writes outs.State l.state) q r (Some true) → Did (Prints (done line)) r s (Some status) → Did (after_create c l.state true) q s (Some status)
   saved_and_told line status is h prints = did_both _ (after_state c) q r s true _ h (subst (λ (x : List ℕ). Did (Prints (done x)) r s (Some status)) (is ∙ of) prints)
 

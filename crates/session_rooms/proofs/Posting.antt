@@ -19,7 +19,7 @@ use Rattle.outside.specs.Loading.{Refuses}
 use Rattle.outside.specs.declared.status.Status.{Status}
 use Rattle.outside.specs.declared.status.Status.TheVariants.{LinkFault, PeerFault}
 use Rattle.outside.specs.declared.stop.Stop.TheVariants as stop
-use Rattle.outside.specs.declared.stop.Unmade.{Unmade}
+use Rattle.outside.specs.declared.stop.LoadError.{LoadError}
 use Rattle.outside.proofs.Loaded.{refuses_as}
 use Rattle.fault_lines.specs.Packets.{TellsPacket, ended_line, length_line}
 use Rattle.outside.specs.Events.{Event, HostState, connected, opened, put}
@@ -60,19 +60,19 @@ module _ (S : Declared) (T : Shape) (text : List ℕ) where
   form_refused (Unformed path cause) h = h
   form_refused (Misfit path cause) h = absurd h
 
-  pub form_unread : (u : Unmade) → Refuses (TellsForm S T text) u → Refuses (TellsJson S T text) u
+  pub form_unread : (u : LoadError) → Refuses (TellsForm S T text) u → Refuses (TellsJson S T text) u
   form_unread u h = refuses_as (TellsForm S T text) (TellsJson S T text) u (λ line (cause, r, is). (cause, form_refused cause r, is)) h
 
 -- by another name of the schema and of the type
-pub json_as : (p : ProfileView) (S : Declared) (T : Shape) (text : List ℕ) (r : Result Value Unmade) → S ≡ p.schema → T ≡ call → ReadsJson S T text r → ReadsJson p.schema call text r
+pub json_as : (p : ProfileView) (S : Declared) (T : Shape) (text : List ℕ) (r : Result Value LoadError) → S ≡ p.schema → T ≡ call → ReadsJson S T text r → ReadsJson p.schema call text r
 json_as p S T text r same is h = subst (λ (x : Declared). ReadsJson x call text r) same (subst (λ (x : Shape). ReadsJson S x text r) is h)
 
 module _ (p : ProfileView) (text : List ℕ) where
-  pub no_json_made : (u : Unmade) → ReadsJson p.schema call text (Err u) → MakesCall p text (Err u)
+  pub no_json_made : (u : LoadError) → ReadsJson p.schema call text (Err u) → MakesCall p text (Err u)
   no_json_made u h = refuses_as (TellsJson p.schema call text) (TellsNothing p text) u (λ line told. no_json_told told) h
 
   module _ (good : IsProfile p) (x : Value) (is : IsJsonOf p.schema call text (view x)) where
-    pub call_made : (r : Result Sending Unmade) → ((b : List ℕ) → Spells p.schema call (view x) b → Sends p b r) → MakesCall p text r
+    pub call_made : (r : Result Sending LoadError) → ((b : List ℕ) → Spells p.schema call (view x) b → Sends p b r) → MakesCall p text r
     call_made (Ok s) sends =
         let k = spelled p good [] [] text x is in
         let t = sends k.0 k.1 in
@@ -131,7 +131,7 @@ module _ (p : ProfileView) (address : List ℕ) where
     refusal line (no_call_told (x, b, is, spells, (are, inl (fault, r, tells)))) t s h = json_of x b is spells are (no_call fault line r tells h)
     refusal line (no_call_told (x, b, is, spells, (are, inr (c, means, long, tells)))) t s h = json_of x b is spells are (long_call c means long (subst (λ (l : List ℕ). Prints (refused l) t s) tells h))
 
-    pub text_refused : (u : Unmade) (q r : HostState) (answer : Option Status) → IsProfile p → AreBytes text → MakesCall p text (Err u) → PrintsMade (of_fault u) q r answer → DidIn to_link (OfText p address text) q r answer
+    pub text_refused : (u : LoadError) (q r : HostState) (answer : Option Status) → IsProfile p → AreBytes text → MakesCall p text (Err u) → PrintsMade (of_fault u) q r answer → DidIn to_link (OfText p address text) q r answer
     text_refused u q r answer good are told = refusal_done (OfText p address text) (TellsNothing p text) u q r answer (can_text good text are) refusal told
 
     pub text_called : (s : Sending) (q r : HostState) (answer : Option Status) → MakesCall p text (Ok s) → DidIn to_link (CallsOver p address s.number s.bytes) q r answer → DidIn to_link (OfText p address text) q r answer

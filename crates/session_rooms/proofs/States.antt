@@ -11,8 +11,8 @@ use Rattle.outside.specs.Jobs.{of_fault}
 use Rattle.outside.specs.Loading.{Gives}
 use Rattle.outside.specs.declared.status.Status.{Status}
 use Rattle.outside.specs.declared.status.Status.TheVariants.{LinkFault}
-use Rattle.outside.specs.declared.stop.Unmade.{Unmade}
-use Rattle.outside.specs.declared.stop.Unmade.TheVariants as unmade
+use Rattle.outside.specs.declared.stop.LoadError.{LoadError}
+use Rattle.outside.specs.declared.stop.LoadError.TheVariants as load_error
 use Rattle.outside.specs.Events.{Event, HostState, connected, opened}
 use Rattle.outside.specs.Pieces.{ReadsFile, Takes, TakenView, full, short, broken, after_open, text_of}
 use Rattle.outside.specs.Printing.{Prints, PrintsMade}
@@ -66,7 +66,7 @@ module _ (p : ProfileView) (address name : List ℕ) (channels : List ℤ) where
     refusal line (inl told) t s h = no_client line told h
     refusal line (inr (c, has, none, is)) t s h = too_many c has none (subst (λ (l : List ℕ). Prints (refused l) t s) is h)
 
-    pub state_refused : (u : Unmade) (q r : HostState) (answer : Option Status) → IsProfile p → AreBytes bytes → MakesClient p channels bytes (Err u) → PrintsMade (of_fault u) q r answer → DidIn to_link (OfState p address name channels bytes) q r answer
+    pub state_refused : (u : LoadError) (q r : HostState) (answer : Option Status) → IsProfile p → AreBytes bytes → MakesClient p channels bytes (Err u) → PrintsMade (of_fault u) q r answer → DidIn to_link (OfState p address name channels bytes) q r answer
     state_refused u q r answer good are told = refusal_done (OfState p address name channels bytes) (TellsNone p channels bytes) u q r answer (can_state good are) refusal told
 
     pub state_made : (d : ClientState) (q r : HostState) (answer : Option Status) → MakesClient p channels bytes (Ok d) → DidIn to_link (Recovers p address name d) q r answer → DidIn to_link (OfState p address name channels bytes) q r answer
@@ -96,12 +96,12 @@ module _ (p : ProfileView) (address name : List ℕ) (channels : List ℤ) where
 -- ---- the client of a state's bytes, with its channels
 
 module _ (p : ProfileView) (channels : List ℤ) (bytes : List ℕ) where
-  pub none_given : (u : Unmade) → Gives (HasClient p) (TellsNoClient p) bytes (Err u) → MakesClient p channels bytes (Err u)
-  none_given (unmade.Refused line) h = inl h
-  none_given unmade.ReadFault h = h
-  none_given unmade.Memory h = h
+  pub none_given : (u : LoadError) → Gives (HasClient p) (TellsNoClient p) bytes (Err u) → MakesClient p channels bytes (Err u)
+  none_given (load_error.Refused line) h = inl h
+  none_given load_error.ReadFault h = h
+  none_given load_error.Memory h = h
 
-  pub none_watched : (c d : ClientState) (u : Unmade) → HasClient p bytes c → Watches (watch_all channels c) (Err u) d → MakesClient p channels bytes (Err u)
-  none_watched c d (unmade.Refused line) has h = inr (c, has, h.0, h.1)
-  none_watched c d unmade.ReadFault has h = h
-  none_watched c d unmade.Memory has h = h
+  pub none_watched : (c d : ClientState) (u : LoadError) → HasClient p bytes c → Watches (watch_all channels c) (Err u) d → MakesClient p channels bytes (Err u)
+  none_watched c d (load_error.Refused line) has h = inr (c, has, h.0, h.1)
+  none_watched c d load_error.ReadFault has h = h
+  none_watched c d load_error.Memory has h = h

@@ -10,10 +10,10 @@ ghost use Rattle.session_rooms.specs.Client.{OfState, OfStateFile, Recovers, aft
 ghost use Rattle.session_rooms.specs.inner.Ends.{MakesClient};
 
 use crate::conversing::converse;
-use crate::leaving::{leave_client, tell_session};
+use crate::saving::{save_client, tell_session};
 use box_client::Client;
 use fault_lines::profile_of;
-use outside::{Host, Status, Unmade, finish, print_made, read_file, tell};
+use outside::{Host, LoadError, Status, finish, print_made, read_file, tell};
 use schema_files::{SCHEMA_BYTES, schema_of};
 use session_commands::{MAX_STATE_BYTES, client_in, watch_all};
 use std::alloc::{AllocError, Global};
@@ -135,7 +135,7 @@ fn watching(
     profile: &Profile,
     bytes: &[u8],
     channels: &[i64],
-) -> Result<Client, Unmade>
+) -> Result<Client, LoadError>
     requires sound { IsProfile profile.now }
     ensures makes { MakesClient profile.now channels.now bytes.now result }
     ensures next { IfOk result (λ client. client.next ≤ 2000000000) }
@@ -177,7 +177,7 @@ fn recover_linked<H: Host>(
     ensures { DidIn to_link (after_connect profile.now state.now client.old true) (H.state host.old) (H.state host.new) (answered result) }
 {
     match converse(alloc, host, profile, client) {
-        Ok(()) => leave_client(alloc, host, profile, state, client),
+        Ok(()) => save_client(alloc, host, profile, state, client),
         Err(fault) => tell_session(alloc, host, fault),
     }
 }

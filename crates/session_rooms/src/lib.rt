@@ -4,8 +4,8 @@
 mod client;
 mod conversing;
 mod laws;
-mod leaving;
 mod post;
+mod saving;
 mod sending;
 
 pub use client::{recover_client, run_client};

@@ -16,7 +16,7 @@ ghost use Rattle.session_rooms.specs.inner.Sent.{MakesCall, TellsNoPacket};
 use crate::sending::send_packet;
 use fault_lines::{packet_stop, profile_of};
 use outside::{
-    Host, Packet, Status, Stop, Unmade, finish, print, print_made, read_file, take_packet, tell,
+    Host, LoadError, Packet, Status, Stop, finish, print, print_made, read_file, take_packet, tell,
 };
 use schema_files::{JSON_BYTES, SCHEMA_BYTES, fit_unmade, formed_value, schema_of};
 use session_commands::{Sending, call_of, reply_line};
@@ -128,7 +128,7 @@ fn post_json<H: Host>(
 }
 
 // The call that a text is the JSON of.
-fn sending_of(alloc: Global, profile: &Profile, text: &[u8]) -> Result<Sending, Unmade>
+fn sending_of(alloc: Global, profile: &Profile, text: &[u8]) -> Result<Sending, LoadError>
     requires sound { IsProfile profile.now }
     ensures { MakesCall profile.now text.now result }
 {
@@ -137,7 +137,7 @@ fn sending_of(alloc: Global, profile: &Profile, text: &[u8]) -> Result<Sending, 
 }
 
 // The value of a call that a text is the JSON of.
-fn json_value(alloc: Global, profile: &Profile, text: &[u8]) -> Result<Value, Unmade>
+fn json_value(alloc: Global, profile: &Profile, text: &[u8]) -> Result<Value, LoadError>
     ensures { ReadsJson profile.now.schema call text.now result }
 {
     let schema = profile.schema();

@@ -11,8 +11,8 @@ use Rattle.tl_types.specs.declared.cause.Cause.{Cause}
 use Rattle.tl_types.specs.declared.value.TheConstants.{MAX_LEVELS}
 use Rattle.tl_decode.specs.declared.whole.WholeFault.{WholeFault}
 use Rattle.tl_decode.specs.declared.whole.WholeFault.TheVariants as whole
-use Rattle.outside.specs.declared.stop.Unmade.{Unmade}
-use Rattle.outside.specs.declared.stop.Unmade.TheVariants as unmade
+use Rattle.outside.specs.declared.stop.LoadError.{LoadError}
+use Rattle.outside.specs.declared.stop.LoadError.TheVariants as load_error
 use Rattle.outside.specs.Loading.{RefusesAs, Gives}
 use Rattle.schema_files.specs.JsonInput.{IsForm}
 use Rattle.schema_files.specs.Lines.{line_text, input_line, cause_text}
@@ -21,11 +21,11 @@ use Rattle.schema_files.specs.Parts.{TellsJson}
 -- ---- bytes
 
 -- what is told of bytes that are no value
-abbrev pub TellsFault : WholeFault → Unmade → Type 0
+abbrev pub TellsFault : WholeFault → LoadError → Type 0
 TellsFault (whole.Refused place cause) u = RefusesAs (input_line place (cause_text cause)) u
 TellsFault (whole.Trailing place) u = RefusesAs (input_line place (codes "Trailing")) u
-TellsFault whole.ReadFault u = u ≡ unmade.ReadFault
-TellsFault whole.Memory u = u ≡ unmade.Memory
+TellsFault whole.ReadFault u = u ≡ load_error.ReadFault
+TellsFault whole.Memory u = u ≡ load_error.Memory
 
 -- it is the line of the value that all of the bytes spell
 abbrev pub IsLine : Declared → Shape → List ℕ → List ℕ → Type 0
@@ -37,7 +37,7 @@ pub data TellsBytes (schema : Declared) (T : Shape) (bytes line : List ℕ) : Ty
   faulty : (at : ℕ) (why : Cause) → Refused schema MAX_LEVELS T bytes at why → line ≡ input_line (moved 0 at) (cause_text why) → TellsBytes schema T bytes line
 
 abbrev pub Made : Type 0
-Made = Result (Vec ℕ Global) Unmade
+Made = Result (Vec ℕ Global) LoadError
 
 abbrev pub Decodes : Declared → Shape → List ℕ → Made → Type 0
 Decodes schema T bytes result = Gives (λ given out. IsLine schema T given out.items) (TellsBytes schema T) bytes result

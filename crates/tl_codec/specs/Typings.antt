@@ -3,7 +3,7 @@ use Rattle.std.specs.Prelude.{◌≡◌, ◌⊎◌, ℕ, List, [], ◌∷◌, �
 use Rattle.tl_schema.specs.Types.{Shape}
 use Rattle.tl_schema.specs.Schemas.{Declared}
 use Rattle.tl_schema.specs.AskedTypes.{IsTypeText}
-use Rattle.outside.specs.declared.stop.Unmade.{Unmade}
+use Rattle.outside.specs.declared.stop.LoadError.{LoadError}
 use Rattle.outside.specs.Loading.{Refuses, Gives}
 use Rattle.schema_files.specs.Loaded.{HasPlan, IsSchemaText}
 use Rattle.schema_files.specs.Parts.{TellsSchema, TellsType, TellsPlan}
@@ -18,7 +18,7 @@ abbrev pub IsCoderOf : List ℕ → Coder → Type 0
 IsCoderOf text coder = IsSchemaText text coder.0 × (coder.1 ≡ [])
 
 -- the codec of a text, or the line of its refusal
-abbrev pub Opens : List ℕ → Result Coder Unmade → Type 0
+abbrev pub Opens : List ℕ → Result Coder LoadError → Type 0
 Opens text result = Gives IsCoderOf (TellsSchema (codes "schema")) text result
 
 -- the text is that of the type, which has a plan
@@ -30,7 +30,7 @@ abbrev pub TellsName : Declared → List ℕ → List ℕ → Type 0
 TellsName schema name line = TellsType schema name line ⊎ ((T : Shape) × IsTypeText schema.program name T × TellsPlan schema T line)
 
 -- the type of the text has the next number; else the types are what they were
-abbrev pub Adds : Declared → List ℕ → List Shape → List Shape → Result ℕ Unmade → Type 0
+abbrev pub Adds : Declared → List ℕ → List Shape → List Shape → Result ℕ LoadError → Type 0
 Adds schema name old new (Ok n) = (n ≡ length old) × ((T : Shape) × (new ≡ old ++ T ∷ []) × IsPlannedType schema name T)
 Adds schema name old new (Err fault) = (new ≡ old) × Refuses (TellsName schema name) fault
 

@@ -3,7 +3,7 @@ use crate::line::line_of;
 use crate::naming::{planned_type, push_type};
 use crate::spelling::bytes_of;
 use codec_commands::listing;
-use outside::Unmade;
+use outside::LoadError;
 use schema_files::schema_of;
 use std::alloc::{AllocError, Global};
 use std::marker::Model;
@@ -56,13 +56,13 @@ impl Codec {
     ghost use Rattle.tl_codec.specs.Typings.{Adds, OfType, Opens};
 
     /// The codec of the schema that a text spells.
-    pub fn open(alloc: Global, text: &[u8]) -> Result<Codec, Unmade>
+    pub fn open(alloc: Global, text: &[u8]) -> Result<Codec, LoadError>
         ensures { Opens text.now result }
     {
         let schema = schema_of(alloc, "schema", text)?;
         match Codec::of(alloc, schema) {
             Ok(codec) => Ok(codec),
-            Err(_) => Err(Unmade::Memory),
+            Err(_) => Err(LoadError::Memory),
         }
     }
 
@@ -95,7 +95,7 @@ impl Codec {
     }
 
     /// Keeps a type, and gives its number: the first is 0. The same type may be asked for again, and has another number then.
-    pub fn add_type(&mut self, alloc: Global, name: &[u8]) -> Result<u32, Unmade>
+    pub fn add_type(&mut self, alloc: Global, name: &[u8]) -> Result<u32, LoadError>
         ensures adds { Adds self.old.0 name.now self.old.1 self.new.1 result }
         ensures schema { self.new.0 ≡ self.old.0 }
     {
@@ -104,7 +104,7 @@ impl Codec {
     }
 
     /// The line of the value of a type that all of the bytes spell.
-    pub fn decode(&self, alloc: Global, of: u32, bytes: &[u8]) -> Result<Vec<u8>, Unmade>
+    pub fn decode(&self, alloc: Global, of: u32, bytes: &[u8]) -> Result<Vec<u8>, LoadError>
         requires known { of < length self.now.1 }
         ensures { OfType Decodes self.now.0 self.now.1 of bytes.now result }
     {
@@ -113,7 +113,7 @@ impl Codec {
     }
 
     /// The spelling of the value of a type that the text is the JSON of.
-    pub fn encode(&self, alloc: Global, of: u32, text: &[u8]) -> Result<Vec<u8>, Unmade>
+    pub fn encode(&self, alloc: Global, of: u32, text: &[u8]) -> Result<Vec<u8>, LoadError>
         requires known { of < length self.now.1 }
         ensures { OfType Encodes self.now.0 self.now.1 of text.now result }
     {

@@ -5,7 +5,7 @@ ghost use Rattle.tl_show.specs.inner.Kept.{AreFormsOf};
 ghost use Rattle.tl_codec.specs.Codings.{Decodes};
 
 use crate::refusals::input_unmade;
-use outside::Unmade;
+use outside::LoadError;
 use schema_files::line_by;
 use std::alloc::Global;
 use tl_decode::decode_bytes_as;
@@ -19,7 +19,7 @@ pub fn line_of(
     forms: &JsonForms,
     of: &TypeRef,
     bytes: &[u8],
-) -> Result<Vec<u8>, Unmade>
+) -> Result<Vec<u8>, LoadError>
     requires formed { IsFormed schema.now (shape of.now) }
     requires made { AreFormsOf schema.now forms.now }
     ensures { Decodes schema.now (shape of.now) bytes.now result }
@@ -27,7 +27,7 @@ pub fn line_of(
     match decode_bytes_as(alloc, schema, of, bytes) {
         Ok(value) => match line_by(alloc, forms, schema, of, &value) {
             Ok(line) => Ok(line),
-            Err(_) => Err(Unmade::Memory),
+            Err(_) => Err(LoadError::Memory),
         },
         Err(fault) => Err(input_unmade(alloc, fault)),
     }

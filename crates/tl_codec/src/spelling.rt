@@ -8,7 +8,7 @@ ghost use Rattle.tl_types.specs.Spelling.{Spells};
 ghost use Rattle.tl_codec.specs.Codings.{Encodes};
 ghost use Rattle.tl_codec.specs.inner.Spellings.{GivesEach, SpellsAll};
 
-use outside::Unmade;
+use outside::LoadError;
 use schema_files::{fit_unmade, form_by};
 use std::alloc::Global;
 use tl_encode::spell;
@@ -23,7 +23,7 @@ pub fn bytes_of(
     keys: &JsonKeys,
     of: &TypeRef,
     text: &[u8],
-) -> Result<Vec<u8>, Unmade>
+) -> Result<Vec<u8>, LoadError>
     requires formed { IsFormed schema.now (shape of.now) }
     requires made { AreKeysOf schema.now keys.now }
     ensures { Encodes schema.now (shape of.now) text.now result }
@@ -38,7 +38,7 @@ fn spelling_of(
     schema: &Schema,
     of: &TypeRef,
     value: &Value,
-) -> Result<Vec<u8>, Unmade>
+) -> Result<Vec<u8>, LoadError>
     requires formed { IsFormed schema.now (shape of.now) }
     ensures { SpellsAll schema.now (shape of.now) (view value.now) result }
 {
@@ -51,12 +51,17 @@ fn spelling_of(
 }
 
 // The spelling of a value that fits.
-fn spelled(alloc: Global, schema: &Schema, of: &TypeRef, value: &Value) -> Result<Vec<u8>, Unmade>
+fn spelled(
+    alloc: Global,
+    schema: &Schema,
+    of: &TypeRef,
+    value: &Value,
+) -> Result<Vec<u8>, LoadError>
     ensures { GivesEach (Spells schema.now (shape of.now) (view value.now)) result }
 {
     let mut bytes = Vec::new(alloc);
     match spell(alloc, value, schema, of, &mut bytes) {
         Ok(()) => Ok(bytes),
-        Err(_) => Err(Unmade::Memory),
+        Err(_) => Err(LoadError::Memory),
     }
 }

@@ -5,7 +5,7 @@ use Rattle.tl_lexer.specs.Rule.{Rule, gives, fails, chain, choice, Next}
 use Rattle.tl_lexer.specs.declared.token.Token.{Token}
 use Rattle.tl_lexer.specs.declared.token.TokenKind.TheVariants.{Hash, Colon, Semi, Equals, Query, LBrace, RBrace, LBracket, RBracket, Star}
 use Rattle.tl_combinators.specs.declared.fault.SyntaxFault.{SyntaxFault}
-use Rattle.tl_combinators.specs.declared.fault.Form.TheVariants.{DependentNumber, ObjectType}
+use Rattle.tl_combinators.specs.declared.fault.UnsupportedForm.TheVariants.{DependentNumber, ObjectType}
 use Rattle.tl_program.specs.declared.built_in.BuiltIn.{BuiltIn}
 use Rattle.tl_program.specs.declared.built_in.BuiltIn.TheVariants.{Int, Long, Double, Str, Bytes, Vector, Int128, Int256}
 use Rattle.tl_combinators.specs.Tokens.{not_profile, Begins, token, this_word}

@@ -5,7 +5,7 @@ use Rattle.tl_lexer.specs.Rule.{Rule, gives, fails, chain, choice, loop, Next}
 use Rattle.tl_lexer.specs.declared.token.Token.{Token}
 use Rattle.tl_lexer.specs.declared.token.TokenKind.TheVariants.{Colon, Semi, Equals, LBrace, RBrace}
 use Rattle.tl_combinators.specs.declared.fault.SyntaxFault.{SyntaxFault}
-use Rattle.tl_combinators.specs.declared.fault.Form.TheVariants.{Lifecycle, PartialApplication, Anonymous}
+use Rattle.tl_combinators.specs.declared.fault.UnsupportedForm.TheVariants.{Lifecycle, PartialApplication, Anonymous}
 use Rattle.tl_program.specs.declared.built_in.BuiltIn.{BuiltIn}
 use Rattle.tl_combinators.specs.Taken.{taken}
 use Rattle.tl_program.specs.Letters.{is_lower, is_upper}

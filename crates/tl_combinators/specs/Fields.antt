@@ -5,7 +5,7 @@ use Rattle.tl_lexer.specs.Rule.{Rule, gives, fails, chain, choice, loop, Next}
 use Rattle.tl_lexer.specs.declared.token.Token.{Token}
 use Rattle.tl_lexer.specs.declared.token.TokenKind.TheVariants.{Word, Hash, Colon, Equals, Query, Dot, Bang, Percent, LBracket, LParen, Star}
 use Rattle.tl_combinators.specs.declared.fault.SyntaxFault.{SyntaxFault}
-use Rattle.tl_combinators.specs.declared.fault.Form.TheVariants.{Multiplicity, UnnamedField, CallInConstructor}
+use Rattle.tl_combinators.specs.declared.fault.UnsupportedForm.TheVariants.{Multiplicity, UnnamedField, CallInConstructor}
 use Rattle.tl_combinators.specs.Taken.{taken}
 use Rattle.tl_program.specs.Letters.{is_letter, is_digit}
 use Rattle.tl_combinators.specs.Tokens.{bytes_of, unexpected, not_profile, too_many, Begins, token, IsWord, letter_word}

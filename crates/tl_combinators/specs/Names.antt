@@ -7,7 +7,7 @@ use Rattle.tl_lexer.specs.Rule.{Rule, gives, fails, one, chain, choice, Next}
 use Rattle.tl_lexer.specs.declared.token.Token.{Token}
 use Rattle.tl_lexer.specs.declared.token.TokenKind.TheVariants.{Word, Hash, Dot}
 use Rattle.tl_combinators.specs.declared.fault.SyntaxFault.{SyntaxFault}
-use Rattle.tl_combinators.specs.declared.fault.Form.TheVariants.{ObjectType, VectorNumber}
+use Rattle.tl_combinators.specs.declared.fault.UnsupportedForm.TheVariants.{ObjectType, VectorNumber}
 use Rattle.tl_combinators.specs.declared.names.Name.{Name}
 use Rattle.tl_program.specs.Letters.{is_lower, is_letter}
 use Rattle.tl_combinators.specs.Tokens.{bytes_of, unexpected, not_profile, token, IsAt, IsWord, IsThis, letter_word}

@@ -8,7 +8,7 @@ use Rattle.tl_lexer.specs.declared.token.TokenKind.TheVariants.{Word}
 use Rattle.tl_program.specs.Letters.{first_is, is_lower, is_upper, is_letter, is_digit}
 use Rattle.tl_combinators.specs.declared.fault.SyntaxFault.{SyntaxFault}
 use Rattle.tl_combinators.specs.declared.fault.SyntaxFault.TheVariants.{Unexpected, NotProfile, TooMany, Memory}
-use Rattle.tl_combinators.specs.declared.fault.Form.{Form}
+use Rattle.tl_combinators.specs.declared.fault.UnsupportedForm.{UnsupportedForm}
 use Rattle.tl_combinators.specs.declared.reading.First.{First}
 use Rattle.tl_combinators.specs.declared.reading.First.TheVariants.{Letter, Lower, Upper, Digit}
 
@@ -33,7 +33,7 @@ abbrev pub unexpected : List ℕ → List Token → SyntaxFault
 unexpected text ts = Unexpected (place text ts)
 
 -- a form of the language that is left out begins here
-abbrev pub not_profile : List ℕ → Form → List Token → SyntaxFault
+abbrev pub not_profile : List ℕ → UnsupportedForm → List Token → SyntaxFault
 not_profile text form ts = NotProfile (place text ts) form
 
 -- one item more than there may be begins here

@@ -5,7 +5,7 @@ use Rattle.tl_lexer.specs.Rule.{Rule, gives, fails, chain, choice, loop, Next}
 use Rattle.tl_lexer.specs.declared.token.Token.{Token}
 use Rattle.tl_lexer.specs.declared.token.TokenKind.TheVariants.{Word, Less, Greater, Comma, LParen, RParen, Percent, Bang}
 use Rattle.tl_combinators.specs.declared.fault.SyntaxFault.{SyntaxFault}
-use Rattle.tl_combinators.specs.declared.fault.Form.TheVariants.{ObjectType}
+use Rattle.tl_combinators.specs.declared.fault.UnsupportedForm.TheVariants.{ObjectType}
 use Rattle.tl_program.specs.Letters.{is_letter}
 use Rattle.tl_combinators.specs.Tokens.{unexpected, not_profile, too_many, Begins, token, IsWord}
 use Rattle.tl_combinators.specs.Names.{type_name, IsObject}

@@ -8,7 +8,7 @@ ghost use Rattle.tl_program.specs.Program.{decl_text};
 ghost use Rattle.tl_program.specs.BuiltIns.{own_name};
 ghost use Rattle.tl_combinators.specs.BuiltInLines.{this_type, sort, boxed, opaque, bracketed, repeated, element, vector_result, vector, line_form, line_number, built_in_line};
 
-use crate::fault::{Form, SyntaxFault};
+use crate::fault::{SyntaxFault, UnsupportedForm};
 use crate::names::{Name, begins_object};
 use crate::numbers::{number_at, vector_line_number_at};
 use crate::reading::{begins, not_profile_at, take_this, take_token};
@@ -30,7 +30,7 @@ fn this_type_at(
     ensures inside { OnOk result (at.new ≤ length tokens.now) }
 {
     if begins_object(text, tokens, *at) {
-        return Err(not_profile_at(text, tokens, *at, Form::ObjectType));
+        return Err(not_profile_at(text, tokens, *at, UnsupportedForm::ObjectType));
     }
     take_this(text, tokens, at, name)
 }
@@ -43,7 +43,7 @@ pub fn sort_at(text: &[u8], tokens: &[Token], at: &mut usize) -> Result<Token, S
     ensures inside { OnOk result (at.new ≤ length tokens.now) }
 {
     if begins(tokens, *at, TokenKind::Hash) {
-        return Err(not_profile_at(text, tokens, *at, Form::DependentNumber));
+        return Err(not_profile_at(text, tokens, *at, UnsupportedForm::DependentNumber));
     }
     take_this(text, tokens, at, b"Type".as_slice())
 }

@@ -12,7 +12,7 @@ ghost use Rattle.tl_combinators.specs.Sentences.{ProgramText};
 
 use crate::built_in::{built_in_line_at, sort_at};
 use crate::description::Description;
-use crate::fault::{Form, SyntaxFault};
+use crate::fault::{SyntaxFault, UnsupportedForm};
 use crate::fields::{PART_LIMIT, fields_at};
 use crate::names::{Name, declared_name_at};
 use crate::numbers::number_at;
@@ -181,13 +181,13 @@ pub fn where_declaration_at(
     ensures inside { OnOk result (at.new ≤ length tokens.now) }
 {
     if begins_lifecycle(text, tokens, *at) {
-        return Err(not_profile_at(text, tokens, *at, Form::Lifecycle));
+        return Err(not_profile_at(text, tokens, *at, UnsupportedForm::Lifecycle));
     }
     if begins_word(text, tokens, *at, First::Upper) {
-        return Err(not_profile_at(text, tokens, *at, Form::PartialApplication));
+        return Err(not_profile_at(text, tokens, *at, UnsupportedForm::PartialApplication));
     }
     if begins_this(text, tokens, *at, b"_".as_slice()) {
-        return Err(not_profile_at(text, tokens, *at, Form::Anonymous));
+        return Err(not_profile_at(text, tokens, *at, UnsupportedForm::Anonymous));
     }
     declaration_at(alloc, text, tokens, at, function)
 }
@@ -198,13 +198,13 @@ pub fn declaration_too_many_at(text: &[u8], tokens: &[Token], at: usize) -> Synt
     ensures { Parses fault_of (λ (p : ProgramText). p) (declaration_too_many text.now) (drop at tokens.now) (drop at tokens.now) (Err result) }
 {
     if begins_lifecycle(text, tokens, at) {
-        return not_profile_at(text, tokens, at, Form::Lifecycle);
+        return not_profile_at(text, tokens, at, UnsupportedForm::Lifecycle);
     }
     if begins_word(text, tokens, at, First::Upper) {
-        return not_profile_at(text, tokens, at, Form::PartialApplication);
+        return not_profile_at(text, tokens, at, UnsupportedForm::PartialApplication);
     }
     if begins_this(text, tokens, at, b"_".as_slice()) {
-        return not_profile_at(text, tokens, at, Form::Anonymous);
+        return not_profile_at(text, tokens, at, UnsupportedForm::Anonymous);
     }
     if begins_word(text, tokens, at, First::Lower) {
         return too_many_at(text, tokens, at);

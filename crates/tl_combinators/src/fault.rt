@@ -4,7 +4,7 @@ use thiserror::Error;
 
 /// A form of the language that this profile leaves out.
 #[derive(Clone, Copy, Debug)]
-pub enum Form {
+pub enum UnsupportedForm {
     /// `#` after the colon in braces.
     DependentNumber,
     /// `[`, `*` or a Word that begins with a digit, where a field is expected.
@@ -33,7 +33,7 @@ pub enum SyntaxFault {
     Unexpected { at: u32 },
     /// A form that is left out stands here.
     #[error("a form that is left out at {at}: {form:?}")]
-    NotProfile { at: u32, form: Form },
+    NotProfile { at: u32, form: UnsupportedForm },
     /// The 16,385th declaration, the 257th variable or field of one, or the 17th level of a type begins here.
     #[error("one too many at {at}")]
     TooMany { at: u32 },

@@ -9,7 +9,7 @@ ghost use Rattle.tl_combinators.specs.DescriptionSoFar.{so_far, ParsesFields};
 ghost use Rattle.tl_combinators.specs.Fields.{digit, bit_value, IsBit, HasBit, bit, BeginsCondition, condition, conditional, held_text, called, in_condition, held, BeginsMultiplicity, IsLone, BeginsUnnamed, field, field_too_many, fields, FieldsText, fields_text};
 
 use crate::description::Description;
-use crate::fault::{Form, SyntaxFault};
+use crate::fault::{SyntaxFault, UnsupportedForm};
 use crate::reading::{
     First, begins, begins_word, bytes_at, not_profile_at, same, take_token, take_word, too_many_at,
     unexpected_at,
@@ -143,7 +143,7 @@ fn called_at(
     ensures free { IfOk result (λ h. cond_texts h.cond ≡ None) }
 {
     if !function {
-        return Err(not_profile_at(text, tokens, *at, Form::CallInConstructor));
+        return Err(not_profile_at(text, tokens, *at, UnsupportedForm::CallInConstructor));
     }
     take_token(text, tokens, at, TokenKind::Bang)?;
     let word = take_word(text, tokens, at, First::Letter)?;
@@ -256,10 +256,10 @@ fn field_at(
     ensures inside { OnOk result (at.new ≤ length tokens.now) }
 {
     if begins_multiplicity(text, tokens, *at) {
-        return Err(not_profile_at(text, tokens, *at, Form::Multiplicity));
+        return Err(not_profile_at(text, tokens, *at, UnsupportedForm::Multiplicity));
     }
     if begins_unnamed(text, tokens, *at) {
-        return Err(not_profile_at(text, tokens, *at, Form::UnnamedField));
+        return Err(not_profile_at(text, tokens, *at, UnsupportedForm::UnnamedField));
     }
     let word = take_word(text, tokens, at, First::Letter)?;
     take_token(text, tokens, at, TokenKind::Colon)?;
@@ -274,10 +274,10 @@ fn field_too_many_at(text: &[u8], tokens: &[Token], at: usize) -> SyntaxFault
     ensures { Parses fault_of (λ (s : FieldsText). s) (field_too_many text.now) (drop at tokens.now) (drop at tokens.now) (Err result) }
 {
     if begins_multiplicity(text, tokens, at) {
-        return not_profile_at(text, tokens, at, Form::Multiplicity);
+        return not_profile_at(text, tokens, at, UnsupportedForm::Multiplicity);
     }
     if begins_unnamed(text, tokens, at) {
-        return not_profile_at(text, tokens, at, Form::UnnamedField);
+        return not_profile_at(text, tokens, at, UnsupportedForm::UnnamedField);
     }
     if begins_word(text, tokens, at, First::Letter) {
         return too_many_at(text, tokens, at);

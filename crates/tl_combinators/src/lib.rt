@@ -13,7 +13,7 @@ mod parser;
 mod reading;
 mod types;
 
-pub use fault::{Form, SyntaxFault};
+pub use fault::{SyntaxFault, UnsupportedForm};
 pub use law::{each_list_of_pieces_has_one_description, each_list_of_tokens_is_read_or_refused};
 pub use parser::{parse, parse_type};
 pub use tl_program::{BuiltIn, Cond, Decl, Field, FieldKind, Program, TypeTree};

@@ -5,7 +5,7 @@ ghost use Rattle.tl_lexer.specs.declared.token.Token.{Token};
 ghost use Rattle.tl_combinators.specs.Tokens.{fault_of, Fits, unexpected, passes};
 ghost use Rattle.tl_combinators.specs.Names.{IsObject, IsSpace, IsLast, name_text, name_from, name, declared_name, type_name};
 
-use crate::fault::{Form, SyntaxFault};
+use crate::fault::{SyntaxFault, UnsupportedForm};
 use crate::reading::{
     First, begins_at, begins_this, bytes_at, is_word, not_profile_at, take_token, take_word,
     unexpected_at,
@@ -151,7 +151,7 @@ pub fn type_name_at(
     ensures inside { OnOk result (at.new ≤ length tokens.now) }
 {
     if begins_object(text, tokens, *at) {
-        return Err(not_profile_at(text, tokens, *at, Form::ObjectType));
+        return Err(not_profile_at(text, tokens, *at, UnsupportedForm::ObjectType));
     }
     name_at(alloc, text, tokens, at)
 }

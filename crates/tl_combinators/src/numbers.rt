@@ -5,7 +5,7 @@ ghost use Rattle.tl_lexer.specs.Rule.{Parses, Next};
 ghost use Rattle.tl_combinators.specs.Tokens.{bytes_of, fault_of, Fits};
 ghost use Rattle.tl_combinators.specs.Names.{IsHex, hex, IsOtherNumber, vector_hex, number, vector_line_number};
 
-use crate::fault::{Form, SyntaxFault};
+use crate::fault::{SyntaxFault, UnsupportedForm};
 use crate::reading::{begins_at, bytes_at, not_profile_at, same, take_token, unexpected_at};
 use tl_lexer::{Token, TokenKind};
 use tl_numbers::{BOXED_VECTOR, read_hex};
@@ -78,7 +78,7 @@ fn vector_hex_at(
     ensures inside { OnOk result (at.new ≤ length tokens.now) }
 {
     if begins_other_number(text, tokens, *at, edge) {
-        return Err(not_profile_at(text, tokens, *at, Form::VectorNumber));
+        return Err(not_profile_at(text, tokens, *at, UnsupportedForm::VectorNumber));
     }
     hex_at(text, tokens, at, edge)
 }

@@ -5,7 +5,7 @@ ghost use Rattle.tl_lexer.specs.declared.token.Token.{Token};
 ghost use Rattle.tl_program.specs.Letters.{first_is};
 ghost use Rattle.tl_combinators.specs.Tokens.{bytes_of, fault_of, Fits, place, unexpected, not_profile, too_many, Begins, token, IsAt, passes, IsWord, IsThis, this_word};
 
-use crate::fault::{Form, SyntaxFault};
+use crate::fault::{SyntaxFault, UnsupportedForm};
 use tl_lexer::{Token, TokenKind};
 
 /// Which first byte a Word is to have.
@@ -58,7 +58,12 @@ pub fn unexpected_at(text: &[u8], tokens: &[Token], at: usize) -> SyntaxFault
 }
 
 /// A form that is left out begins here.
-pub fn not_profile_at(text: &[u8], tokens: &[Token], at: usize, form: Form) -> SyntaxFault
+pub fn not_profile_at(
+    text: &[u8],
+    tokens: &[Token],
+    at: usize,
+    form: UnsupportedForm,
+) -> SyntaxFault
     requires { length text.now < 2 ^ 32 }
     ensures { result ≡ not_profile text.now form (drop at tokens.now) }
 {

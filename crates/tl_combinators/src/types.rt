@@ -5,7 +5,7 @@ ghost use Rattle.tl_combinators.specs.Tokens.{fault_of, Fits, bytes_of};
 ghost use Rattle.tl_program.specs.Trees.{view, views};
 ghost use Rattle.tl_combinators.specs.Types.{opens, closes, BeginsTerm, BeginsType, terms, listed, applied, application, no_level, after_percent, bare, core, in_parens, type_in, term, expression, at_end, whole_type};
 
-use crate::fault::{Form, SyntaxFault};
+use crate::fault::{SyntaxFault, UnsupportedForm};
 use crate::names::{begins_object, type_name_at};
 use crate::reading::{
     First, begins, begins_word, not_profile_at, take_token, too_many_at, unexpected_at,
@@ -69,7 +69,7 @@ fn no_level_at(text: &[u8], tokens: &[Token], at: usize) -> Result<TypeTree, Syn
     ensures on { OnOk result ⊥ }
 {
     if begins_object(text, tokens, at) {
-        return Err(not_profile_at(text, tokens, at, Form::ObjectType));
+        return Err(not_profile_at(text, tokens, at, UnsupportedForm::ObjectType));
     }
     if begins_type(text, tokens, at) {
         return Err(too_many_at(text, tokens, at));

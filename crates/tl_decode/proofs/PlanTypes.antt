@@ -12,10 +12,10 @@ use Rattle.tl_plan.specs.Plans.{InstanceView, IsPlan, MemberView, PlanView}
 use Rattle.tl_plan.specs.PlanLaws.{IsInstance}
 use Rattle.tl_plan.specs.Seen.{ShowsAt, member_view}
 use Rattle.tl_schema.specs.Forms.{HasForm}
-use Rattle.tl_schema.specs.declared.form.Form.{Form}
+use Rattle.tl_schema.specs.declared.form.TypeForm.{TypeForm}
 use Rattle.tl_plan.specs.declared.instances.Member.{Member}
 use Rattle.tl_plan.specs.declared.instances.Instance.{Instance}
-use Rattle.tl_schema.specs.declared.form.Form.TheVariants as form
+use Rattle.tl_schema.specs.declared.form.TypeForm.TheVariants as form
 use Rattle.tl_plan.proofs.PlanFacts.{instances_have_members, items_have_instances}
 use Rattle.tl_plan.proofs.FormedReached.{in_map}
 use Rattle.tl_types.specs.Values.{ValueViews}
@@ -34,7 +34,7 @@ members_there p j x there = rw there refl
 
 -- ---- types
 
-pub shown_type : (p : PlanView) (j : ℕ) (i : Instance) (f : Form) → ShowsAt p.instances j i → i.form ≡ f → HasForm (type_in p j) f
+pub shown_type : (p : PlanView) (j : ℕ) (i : Instance) (f : TypeForm) → ShowsAt p.instances j i → i.form ≡ f → HasForm (type_in p j) f
 shown_type p j i f shows is = subst (HasForm (type_in p j)) is (subst (λ (T : Shape). HasForm T i.form) (sym (type_there p j shows.0 shows.1)) shows.2.form)
 
 pub instance_type : (p : PlanView) (j : ℕ) (T : Shape) → IsInstance p j T → type_in p j ≡ T
@@ -107,7 +107,7 @@ item_there p good j i is_boxed U shows is =
 
 -- ---- forms
 
-pub made_node : (T : Shape) (f : Form) → HasForm T f → (f ≡ form.Call → ⊥) → (i : ℕ) (vs : ValueViews) → made T i vs ≡ value.node i vs
+pub made_node : (T : Shape) (f : TypeForm) → HasForm T f → (f ≡ form.Call → ⊥) → (i : ℕ) (vs : ValueViews) → made T i vs ≡ value.node i vs
 made_node T form.Int e other i vs = rw e refl
 made_node T form.Long e other i vs = rw e refl
 made_node T form.Nat e other i vs = rw e refl
@@ -123,7 +123,7 @@ made_node T (form.Vector b) e other i vs = rw e.1 refl
 made_node T (form.Boxed h) e other i vs = rw e.1 refl
 made_node T (form.Bare k) e other i vs = rw e.1 refl
 
-pub finds_none : (T : Shape) (f : Form) → HasForm T f → (f ≡ form.Call → ⊥) → ((h : ℕ) → f ≡ form.Boxed h → ⊥) → (ds : List Declaration) (w : ℕ) → find_in ds T w ≡ None
+pub finds_none : (T : Shape) (f : TypeForm) → HasForm T f → (f ≡ form.Call → ⊥) → ((h : ℕ) → f ≡ form.Boxed h → ⊥) → (ds : List Declaration) (w : ℕ) → find_in ds T w ≡ None
 finds_none T form.Int e other not_boxed ds w = rw e refl
 finds_none T form.Long e other not_boxed ds w = rw e refl
 finds_none T form.Nat e other not_boxed ds w = rw e refl

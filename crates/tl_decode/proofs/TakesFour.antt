@@ -14,8 +14,8 @@ use Rattle.tl_plan.specs.Plans.{PlanView}
 use Rattle.tl_plan.specs.PlanLaws.{IsInstance}
 use Rattle.tl_plan.specs.Seen.{ShowsAt}
 use Rattle.tl_schema.specs.Forms.{HasForm}
-use Rattle.tl_schema.specs.declared.form.Form.{Form}
-use Rattle.tl_schema.specs.declared.form.Form.TheVariants as form
+use Rattle.tl_schema.specs.declared.form.TypeForm.{TypeForm}
+use Rattle.tl_schema.specs.declared.form.TypeForm.TheVariants as form
 use Rattle.tl_plan.specs.declared.instances.Instance.{Instance}
 use Rattle.tl_decode.specs.Endings.{BeginsWithItem, EachItemTakesFour, TakesFour}
 use Rattle.tl_decode.proofs.PlanTypes.{instance_type, shown_type}
@@ -64,7 +64,7 @@ each_item_takes_four schema T ok (view.call i vs) b s = word_first b (word s.0.n
 
 -- ---- the kinds of roots
 
-wide_form : (T : Shape) (f : Form) → HasForm T f → (f ≡ form.Flag → ⊥) → ((i : ℕ) → f ≡ form.Bare i → ⊥) → BeginsWithItem T
+wide_form : (T : Shape) (f : TypeForm) → HasForm T f → (f ≡ form.Flag → ⊥) → ((i : ℕ) → f ≡ form.Bare i → ⊥) → BeginsWithItem T
 wide_form T form.Int is flag bare = subst BeginsWithItem (sym is) tt
 wide_form T form.Long is flag bare = subst BeginsWithItem (sym is) tt
 wide_form T form.Nat is flag bare = subst BeginsWithItem (sym is) tt
@@ -81,7 +81,7 @@ wide_form T (form.Boxed h) is flag bare = subst BeginsWithItem (sym is.1) tt
 wide_form T (form.Bare i) is flag bare = absurd (bare i refl)
 
 module _ (p : PlanView) (j : ℕ) (i : Instance) (shows : ShowsAt p.instances j i) (T : Shape) (root : IsInstance p j T) where
-  has : (f : Form) → i.form ≡ f → HasForm T f
+  has : (f : TypeForm) → i.form ≡ f → HasForm T f
   has f is = subst (λ (U : Shape). HasForm U f) (instance_type p j T root) (shown_type p j i f shows is)
 
   pub kind_wide : (i.form ≡ form.Flag → ⊥) → ((k : ℕ) → i.form ≡ form.Bare k → ⊥) → TakesFour p.schema T

@@ -22,7 +22,7 @@ use crate::planned::{finish, settle_at};
 use crate::stack::{Found, Next, StackFrame, WantedItem};
 use std::alloc::Global;
 use tl_base::{Source, take_end};
-use tl_plan::{Form, Plan};
+use tl_plan::{Plan, TypeForm};
 use tl_types::{MAX_LEVELS, Value};
 
 /// Reads as `decode` the value of a root of a plan that takes four bytes at least; None where the input has ended before it.
@@ -56,8 +56,8 @@ pub fn takes_four(plan: &Plan, root: u32) -> bool
     ensures only { result ≡ false → (T : Shape) → IsInstance plan.now root T → BeginsWithItem T → ⊥ }
 {
     match plan.instance(plan.root(root)).form {
-        Form::Flag => false,
-        Form::Bare { .. } => false,
+        TypeForm::Flag => false,
+        TypeForm::Bare { .. } => false,
         _ => true,
     }
 }

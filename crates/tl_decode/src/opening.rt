@@ -5,7 +5,7 @@ ghost use Rattle.tl_decode.specs.inner.Frames.{AreWell, GoesOn, IsBare, IsFresh,
 
 use crate::stack::{Advance, Found, ItemFault, Next, Onward, StackFrame, WantedItem};
 use std::alloc::{AllocError, Global};
-use tl_plan::{Form, Plan};
+use tl_plan::{Plan, TypeForm};
 use tl_types::{Cause, MAX_LEVELS, Value};
 
 /// A value of this instance is to be read: its first item is looked for, or it has none.
@@ -22,20 +22,20 @@ pub fn open(
     ensures { StepsFrom plan.now frames.now.items (Next.Open of) frames.now.items result }
 {
     match plan.instance(of).form {
-        Form::Int => Ok(wants(WantedItem::Int)),
-        Form::Long => Ok(wants(WantedItem::Long)),
-        Form::Nat => Ok(wants(WantedItem::Nat)),
-        Form::Double => Ok(wants(WantedItem::Opaque { width: 8 })),
-        Form::Int128 => Ok(wants(WantedItem::Opaque { width: 16 })),
-        Form::Int256 => Ok(wants(WantedItem::Opaque { width: 32 })),
-        Form::Str => Ok(wants(WantedItem::Text)),
-        Form::Raw => Ok(wants(WantedItem::Text)),
-        Form::Flag => Ok(closes(Value::Truth)),
-        Form::Var { .. } => Ok(closes(Value::Absent)),
-        Form::Vector { boxed } => open_list(plan, frames, of, boxed),
-        Form::Boxed { .. } => open_numbered(plan, frames, of),
-        Form::Call => open_numbered(plan, frames, of),
-        Form::Bare { entry } => open_bare(alloc, plan, frames, of, entry),
+        TypeForm::Int => Ok(wants(WantedItem::Int)),
+        TypeForm::Long => Ok(wants(WantedItem::Long)),
+        TypeForm::Nat => Ok(wants(WantedItem::Nat)),
+        TypeForm::Double => Ok(wants(WantedItem::Opaque { width: 8 })),
+        TypeForm::Int128 => Ok(wants(WantedItem::Opaque { width: 16 })),
+        TypeForm::Int256 => Ok(wants(WantedItem::Opaque { width: 32 })),
+        TypeForm::Str => Ok(wants(WantedItem::Text)),
+        TypeForm::Raw => Ok(wants(WantedItem::Text)),
+        TypeForm::Flag => Ok(closes(Value::Truth)),
+        TypeForm::Var { .. } => Ok(closes(Value::Absent)),
+        TypeForm::Vector { boxed } => open_list(plan, frames, of, boxed),
+        TypeForm::Boxed { .. } => open_numbered(plan, frames, of),
+        TypeForm::Call => open_numbered(plan, frames, of),
+        TypeForm::Bare { entry } => open_bare(alloc, plan, frames, of, entry),
     }
 }
 
@@ -58,14 +58,14 @@ fn item_of(plan: &Plan, of: u32) -> Option<WantedItem>
     ensures { IfSome result (λ W. (fs : List StackFrame) → AreWell plan.now fs → StepsFrom plan.now fs (Next.Open of) fs (Ok (Advance.Stops (Found.Wants W)))) }
 {
     match plan.instance(of).form {
-        Form::Int => Some(WantedItem::Int),
-        Form::Long => Some(WantedItem::Long),
-        Form::Nat => Some(WantedItem::Nat),
-        Form::Double => Some(WantedItem::Opaque { width: 8 }),
-        Form::Int128 => Some(WantedItem::Opaque { width: 16 }),
-        Form::Int256 => Some(WantedItem::Opaque { width: 32 }),
-        Form::Str => Some(WantedItem::Text),
-        Form::Raw => Some(WantedItem::Text),
+        TypeForm::Int => Some(WantedItem::Int),
+        TypeForm::Long => Some(WantedItem::Long),
+        TypeForm::Nat => Some(WantedItem::Nat),
+        TypeForm::Double => Some(WantedItem::Opaque { width: 8 }),
+        TypeForm::Int128 => Some(WantedItem::Opaque { width: 16 }),
+        TypeForm::Int256 => Some(WantedItem::Opaque { width: 32 }),
+        TypeForm::Str => Some(WantedItem::Text),
+        TypeForm::Raw => Some(WantedItem::Text),
         _ => None,
     }
 }

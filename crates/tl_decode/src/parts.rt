@@ -6,7 +6,7 @@ ghost use Rattle.tl_decode.specs.inner.Frames.{Adds, AreWell, Comes, IsWellFrame
 use crate::opening::open;
 use crate::stack::{Advance, Coming, ItemFault, Next, StackFrame};
 use std::alloc::{AllocError, Global};
-use tl_plan::{Form, Plan};
+use tl_plan::{Plan, TypeForm};
 use tl_types::{Value, stands};
 
 /// The next part is opened, or the list or record is whole.
@@ -138,7 +138,7 @@ fn record_of(plan: &Plan, of: u32, entry: u32, fields: Vec<Value>) -> Value
     ensures { view result ≡ made (type_in plan.now of) entry (values fields.items) }
 {
     match plan.instance(of).form {
-        Form::Call => Value::Call { entry, fields },
+        TypeForm::Call => Value::Call { entry, fields },
         _ => Value::Node { entry, fields },
     }
 }

@@ -9,7 +9,7 @@ use crate::opening::begin;
 use crate::stack::{Item, ItemFault, Next, StackFrame, WantedItem};
 use std::alloc::Global;
 use tl_base::BOXED_VECTOR;
-use tl_plan::{Form, Member, Plan};
+use tl_plan::{Member, Plan, TypeForm};
 use tl_types::{Cause, Value};
 
 /// The item that was looked for is there.
@@ -106,8 +106,8 @@ fn numbered(plan: &Plan, of: u32, word: u32) -> Option<u32>
     ensures { result ≡ find_in plan.now.schema.decls (type_in plan.now of) word }
 {
     match plan.instance(of).form {
-        Form::Boxed { head } => member(plan.schema(), head, word),
-        Form::Call => function(plan.schema(), word),
+        TypeForm::Boxed { head } => member(plan.schema(), head, word),
+        TypeForm::Call => function(plan.schema(), word),
         _ => None,
     }
 }

@@ -4,7 +4,7 @@ use Rattle.tl_schema.specs.Types.{Shape, Shapes, no_shapes}
 use Rattle.tl_schema.specs.Types as type
 use Rattle.tl_schema.specs.Schemas.{Declaration}
 use Rattle.tl_schema.specs.Forms.{HasForm, outermost}
-use Rattle.tl_schema.specs.declared.form.Form.{Form}
+use Rattle.tl_schema.specs.declared.form.TypeForm.{TypeForm}
 use Rattle.tl_schema.proofs.Forms.{by_form}
 use Rattle.tl_types.specs.Values.{ValueView}
 use Rattle.tl_types.specs.Values as value
@@ -23,5 +23,5 @@ module _ (ds : List Declaration) where
   bare_start (value.int z) i args = refl
   bare_start v i args = refl
 
-  pub start_by_form : (T : Shape) (f : Form) (v : ValueView) → HasForm T f → start ds (outermost f) v ≡ start ds T v
+  pub start_by_form : (T : Shape) (f : TypeForm) (v : ValueView) → HasForm T f → start ds (outermost f) v ≡ start ds T v
   start_by_form T f v is = by_form (λ (U : Shape). start ds U v) (record { vector = vector_start v; boxed = boxed_start v; bare = bare_start v }) T f is

@@ -8,7 +8,7 @@ ghost use Rattle.tl_schema.specs.Forms.{outermost};
 use crate::items::{put_double, put_vector_prefix, put_word};
 use crate::texts::{put_text, text_len};
 use std::alloc::AllocError;
-use tl_plan::Form;
+use tl_plan::TypeForm;
 use tl_schema::Schema;
 use tl_types::Value;
 
@@ -17,7 +17,7 @@ use tl_types::Value;
 pub fn put_start(
     value: &Value,
     schema: &Schema,
-    form: Form,
+    form: TypeForm,
     out: &mut Vec<u8>,
 ) -> Result<(), AllocError>
     requires in_range { is_in_range (view value.now) ≡ true }
@@ -44,11 +44,11 @@ pub fn put_start(
 }
 
 // Appends what comes before the count of a list.
-fn put_list_prefix(form: Form, out: &mut Vec<u8>) -> Result<(), AllocError>
+fn put_list_prefix(form: TypeForm, out: &mut Vec<u8>) -> Result<(), AllocError>
     ensures { OnOk result (out.new.items ≡ out.old.items ++ list_prefix (outermost form)) }
 {
     match form {
-        Form::Vector { boxed } => put_vector_prefix(boxed, out),
+        TypeForm::Vector { boxed } => put_vector_prefix(boxed, out),
         _ => Ok(()),
     }
 }
@@ -56,14 +56,14 @@ fn put_list_prefix(form: Form, out: &mut Vec<u8>) -> Result<(), AllocError>
 // Appends what comes before the fields of a record.
 fn put_record_prefix(
     schema: &Schema,
-    form: Form,
+    form: TypeForm,
     entry: u32,
     out: &mut Vec<u8>,
 ) -> Result<(), AllocError>
     ensures { OnOk result (out.new.items ≡ out.old.items ++ record_prefix schema.now.decls (outermost form) entry) }
 {
     match form {
-        Form::Boxed { .. } => put_number(schema, entry, out),
+        TypeForm::Boxed { .. } => put_number(schema, entry, out),
         _ => Ok(()),
     }
 }
@@ -79,7 +79,7 @@ fn put_number(schema: &Schema, entry: u32, out: &mut Vec<u8>) -> Result<(), Allo
 }
 
 /// How many bytes come before the parts of a value.
-pub fn start_len(value: &Value, schema: &Schema, form: Form) -> u64
+pub fn start_len(value: &Value, schema: &Schema, form: TypeForm) -> u64
     requires in_range { is_in_range (view value.now) ≡ true }
     ensures { result ≡ length (start schema.now.decls (outermost form) (view value.now)) }
 {
@@ -98,21 +98,21 @@ pub fn start_len(value: &Value, schema: &Schema, form: Form) -> u64
 }
 
 // How many bytes come before the count of a list.
-fn list_prefix_len(form: Form) -> u64
+fn list_prefix_len(form: TypeForm) -> u64
     ensures { result ≡ length (list_prefix (outermost form)) }
 {
     match form {
-        Form::Vector { boxed: true } => 4,
+        TypeForm::Vector { boxed: true } => 4,
         _ => 0,
     }
 }
 
 // How many bytes come before the fields of a record.
-fn record_prefix_len(schema: &Schema, form: Form, entry: u32) -> u64
+fn record_prefix_len(schema: &Schema, form: TypeForm, entry: u32) -> u64
     ensures { result ≡ length (record_prefix schema.now.decls (outermost form) entry) }
 {
     match form {
-        Form::Boxed { .. } => number_len(schema, entry),
+        TypeForm::Boxed { .. } => number_len(schema, entry),
         _ => 0,
     }
 }

@@ -6,7 +6,7 @@ use Rattle.tl_schema.specs.Types.{Shape, Shapes, shapes_of}
 use Rattle.tl_schema.specs.Types as type
 use Rattle.tl_schema.specs.Closing.{closed, closed_each}
 use Rattle.tl_plan.specs.inner.Nodes.{AreBelow, Grows, type_at, type_by, types_at}
-use Rattle.tl_schema.specs.declared.form.Form.TheVariants as form
+use Rattle.tl_schema.specs.declared.form.TypeForm.TheVariants as form
 use Rattle.tl_plan.proofs.NodeTypes.{below_at, below_push, get_type, grows_below, grows_then, grows_types, type_got}
 
 -- ---- one type

@@ -8,8 +8,8 @@ use Rattle.tl_schema.specs.Closing.{list_of_shapes}
 use Rattle.tl_plan.specs.Types.{deepest, levels}
 use Rattle.tl_schema.specs.Forms.{HasForm}
 use Rattle.tl_plan.specs.inner.Nodes.{AreBelow, AreDistinct, Grows, HasParts, NodeView, capped, deepest_of, levels_in, first_of, key_of, levels_above, number_of, parts_of, tag_of, type_at, type_by, types_after, types_at}
-use Rattle.tl_schema.specs.declared.form.Form.{Form}
-use Rattle.tl_schema.specs.declared.form.Form.TheVariants as form
+use Rattle.tl_schema.specs.declared.form.TypeForm.{TypeForm}
+use Rattle.tl_schema.specs.declared.form.TypeForm.TheVariants as form
 use Rattle.tl_plan.proofs.TypeLists.{none_some, some_is}
 
 -- ---- elements of lists
@@ -130,7 +130,7 @@ number_in (type.boxed h Ts) = h
 number_in (type.bare i Ts) = i
 number_in T = 0
 
-tag_by : (f : Form) (Ts : List Shape) → tag_in (type_by f Ts) ≡ tag_of f
+tag_by : (f : TypeForm) (Ts : List Shape) → tag_in (type_by f Ts) ≡ tag_of f
 tag_by form.Int Ts = refl
 tag_by form.Long Ts = refl
 tag_by form.Nat Ts = refl
@@ -146,7 +146,7 @@ tag_by (form.Vector b) Ts = refl
 tag_by (form.Boxed h) Ts = refl
 tag_by (form.Bare i) Ts = refl
 
-number_by : (f : Form) (Ts : List Shape) → number_in (type_by f Ts) ≡ number_of f
+number_by : (f : TypeForm) (Ts : List Shape) → number_in (type_by f Ts) ≡ number_of f
 number_by form.Int Ts = refl
 number_by form.Long Ts = refl
 number_by form.Nat Ts = refl
@@ -171,7 +171,7 @@ one_part Ts (k ∷ []) e = refl
 one_part Ts (k ∷ j ∷ ks) e = absurd (omega (arith, e))
 
 -- a type of a form has the parts that it was made of
-pub parts_by : (Ts : List Shape) (f : Form) (ks : List ℕ) → HasParts f ks → parts_of (type_by f (types_at Ts ks)) ≡ types_at Ts ks
+pub parts_by : (Ts : List Shape) (f : TypeForm) (ks : List ℕ) → HasParts f ks → parts_of (type_by f (types_at Ts ks)) ≡ types_at Ts ks
 parts_by Ts form.Int ks h = no_parts Ts ks h
 parts_by Ts form.Long ks h = no_parts Ts ks h
 parts_by Ts form.Nat ks h = no_parts Ts ks h
@@ -187,7 +187,7 @@ parts_by Ts (form.Vector b) ks h = one_part Ts ks h
 parts_by Ts (form.Boxed i) ks h = list_again (types_at Ts ks)
 parts_by Ts (form.Bare i) ks h = list_again (types_at Ts ks)
 
-pub form_by : (f : Form) (Ts : List Shape) → HasForm (type_by f Ts) f
+pub form_by : (f : TypeForm) (Ts : List Shape) → HasForm (type_by f Ts) f
 form_by form.Int Ts = refl
 form_by form.Long Ts = refl
 form_by form.Nat Ts = refl
@@ -205,13 +205,13 @@ form_by (form.Bare i) Ts = (shapes_of Ts, refl)
 
 -- ---- keys
 
-abbrev form_from : ℕ → ℕ → Form
+abbrev form_from : ℕ → ℕ → TypeForm
 form_from t n =
     if t == 0 then form.Int else if t == 1 then form.Long else if t == 2 then form.Nat else if t == 3 then (if n == 8 then form.Double else if n == 16 then form.Int128 else form.Int256)
     else if t == 4 then form.Str else if t == 5 then form.Raw else if t == 6 then form.Flag else if t == 7 then form.Call else if t == 8 then form.Var n else if t == 9 then form.Vector (n == 1)
     else if t == 10 then form.Boxed n else form.Bare n
 
-form_again : (f : Form) → form_from (tag_of f) (number_of f) ≡ f
+form_again : (f : TypeForm) → form_from (tag_of f) (number_of f) ≡ f
 form_again form.Int = refl
 form_again form.Long = refl
 form_again form.Nat = refl
@@ -229,7 +229,7 @@ form_again (form.Boxed h) = refl
 form_again (form.Bare i) = refl
 
 -- one key is of one form with the same parts
-pub same_key : (f g : Form) (ks js : List ℕ) → key_of f ks ≡ key_of g js → (f ≡ g) × (ks ≡ js)
+pub same_key : (f g : TypeForm) (ks js : List ℕ) → key_of f ks ≡ key_of g js → (f ≡ g) × (ks ≡ js)
 same_key f g ks js e =
     let tags : tag_of f ≡ tag_of g = cc in
     let numbers : number_of f ≡ number_of g = cc in
@@ -246,7 +246,7 @@ same_numbers Ts (k ∷ ks) (j ∷ js) distinct p q e =
     ap₂ (λ (i : ℕ) (is : List ℕ). i ∷ is) (distinct k j (type_at Ts j) (get_type Ts k p.0 ∙ ap Some here) (get_type Ts j q.0)) (same_numbers Ts ks js distinct p.1 q.1 later)
 
 -- one type has one key
-pub one_key : (Ts : List Shape) (f g : Form) (ks js : List ℕ) → AreDistinct Ts → AreBelow (length Ts) ks → AreBelow (length Ts) js → HasParts f ks → HasParts g js → type_by f (types_at Ts ks) ≡ type_by g (types_at Ts js) → key_of f ks ≡ key_of g js
+pub one_key : (Ts : List Shape) (f g : TypeForm) (ks js : List ℕ) → AreDistinct Ts → AreBelow (length Ts) ks → AreBelow (length Ts) js → HasParts f ks → HasParts g js → type_by f (types_at Ts ks) ≡ type_by g (types_at Ts js) → key_of f ks ≡ key_of g js
 one_key Ts f g ks js distinct p q hf hg e =
     let tags : tag_of f ≡ tag_of g = sym (tag_by f (types_at Ts ks)) ∙ ap tag_in e ∙ tag_by g (types_at Ts js) in
     let numbers : number_of f ≡ number_of g = sym (number_by f (types_at Ts ks)) ∙ ap number_in e ∙ number_by g (types_at Ts js) in
@@ -283,7 +283,7 @@ module _ (Ts : List Shape) (ns : List NodeView) (each : (k : ℕ) (n : NodeView)
   one_more (k ∷ []) are e = let level = levels_at k are.0 in omega (arith, level)
   one_more (k ∷ j ∷ ks) are e = absurd (omega (arith, e))
 
-  pub levels_are : (f : Form) (ks : List ℕ) → AreBelow (length ns) ks → HasParts f ks → levels_above ns ks ≡ capped (levels (type_by f (types_at Ts ks)))
+  pub levels_are : (f : TypeForm) (ks : List ℕ) → AreBelow (length ns) ks → HasParts f ks → levels_above ns ks ≡ capped (levels (type_by f (types_at Ts ks)))
   levels_are form.Int ks are h = one_level ks h
   levels_are form.Long ks are h = one_level ks h
   levels_are form.Nat ks are h = one_level ks h

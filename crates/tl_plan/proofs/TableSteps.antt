@@ -16,7 +16,7 @@ use Rattle.tl_plan.specs.inner.Nodes.{AreBelow, AreDistinct, Grows, HasParts, No
 use Rattle.tl_schema.specs.Forms.{HasForm}
 use Rattle.tl_plan.specs.inner.Tables.{AreKeys, AreNodes, IsNode, IsTable, node_view, types_of_nodes}
 use Rattle.tl_plan.specs.declared.table.Node.{Node}
-use Rattle.tl_schema.specs.declared.form.Form.{Form}
+use Rattle.tl_schema.specs.declared.form.TypeForm.{TypeForm}
 use Rattle.tl_plan.proofs.TypeLists.{by_test, none_some, some_is}
 use Rattle.tl_plan.proofs.NodeTypes.{Pushed, earlier, last, below_more, count_after, form_by, get_last, get_pushed, get_within, levels_are, one_key, parts_by, push_after, same_key, type_got, types_more}
 
@@ -28,13 +28,13 @@ no_nodes = record {
 }
 
 -- a type that has a key is the node's that is found by it
-pub found_type : (Ts : List Shape) (ns : List NodeView) (numbers : List (List ℕ × ℕ)) → AreNodes Ts ns numbers → (f : Form) (ks : List ℕ) (k : ℕ) → place_in numbers (key_of f ks) ≡ Some k → slice_get Ts k ≡ Some (type_by f (types_at Ts ks))
+pub found_type : (Ts : List Shape) (ns : List NodeView) (numbers : List (List ℕ × ℕ)) → AreNodes Ts ns numbers → (f : TypeForm) (ks : List ℕ) (k : ℕ) → place_in numbers (key_of f ks) ≡ Some k → slice_get Ts k ≡ Some (type_by f (types_at Ts ks))
 found_type Ts ns numbers are f ks k at =
     let p = are.keys.only (key_of f ks) k at in
     let same = same_key f p.0.form ks p.0.parts p.2 in
-    (are.each k p.0 p.1).type ∙ ap Some (ap₂ (λ (g : Form) (js : List ℕ). type_by g (types_at Ts js)) (sym same.0) (sym same.1))
+    (are.each k p.0 p.1).type ∙ ap Some (ap₂ (λ (g : TypeForm) (js : List ℕ). type_by g (types_at Ts js)) (sym same.0) (sym same.1))
 
-module _ (ns : List NodeView) (numbers : List (List ℕ × ℕ)) (f : Form) (ks : List ℕ) where
+module _ (ns : List NodeView) (numbers : List (List ℕ × ℕ)) (f : TypeForm) (ks : List ℕ) where
   abbrev Ts : List Shape
   Ts = types_after [] ns
 

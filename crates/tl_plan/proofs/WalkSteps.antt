@@ -13,7 +13,7 @@ use Rattle.tl_plan.specs.Plans.{AreAmong, InstanceView, MemberView, NamesAmong, 
 use Rattle.tl_plan.specs.inner.Nodes.{AreBelow, Grows, parts_of, type_at, types_at}
 use Rattle.tl_plan.specs.Seen.{Shows, member_view}
 use Rattle.tl_schema.specs.Forms.{HasForm}
-use Rattle.tl_schema.specs.declared.form.Form.{Form}
+use Rattle.tl_schema.specs.declared.form.TypeForm.{TypeForm}
 use Rattle.tl_plan.specs.declared.instances.Instance.{Instance}
 use Rattle.tl_plan.specs.inner.Walks.{Walk, Walks, find, find_all, then_walk}
 use Rattle.tl_plan.specs.declared.fault.PlanFault.{PlanFault}
@@ -207,7 +207,7 @@ pub record NamesBy (S : Declared) (T : Shape) (As : List Shape) (is : List ℕ) 
   pub entries : is ≡ entries_of S T
 
 -- a type with these declarations
-pub record_shows : (S : Declared) (T : Shape) (f : Form) (As : List Shape) (entries : List ℕ) (old new : List Shape) (first ns : List ℕ) (result : Result Instance PlanFault) → HasForm T f → NamesBy S T As entries → Walks (find_all (types_at old first) (flat_map (fields_named S As) entries)) old new ns result (λ i. (i.form ≡ f) × (i.item ≡ None) × (map member_view i.members.items ≡ map (member_of S (types_at new ns) As) entries)) → Walks (find_all (types_at old first) (names_of S T)) old new ns result (λ i. Shows (instance_of S (types_at new ns) T) i)
+pub record_shows : (S : Declared) (T : Shape) (f : TypeForm) (As : List Shape) (entries : List ℕ) (old new : List Shape) (first ns : List ℕ) (result : Result Instance PlanFault) → HasForm T f → NamesBy S T As entries → Walks (find_all (types_at old first) (flat_map (fields_named S As) entries)) old new ns result (λ i. (i.form ≡ f) × (i.item ≡ None) × (map member_view i.members.items ≡ map (member_of S (types_at new ns) As) entries)) → Walks (find_all (types_at old first) (names_of S T)) old new ns result (λ i. Shows (instance_of S (types_at new ns) T) i)
 record_shows S T f As entries old new first ns (Ok i) form names h = (
   ap (find_all (types_at old first)) names.named ∙ h.0,
   h.1,

@@ -7,7 +7,7 @@ ghost use Rattle.tl_plan.specs.inner.Nodes.{AreBelow, Grows, HasParts, type_by, 
 
 use crate::table::Table;
 use std::alloc::{AllocError, Global};
-use tl_schema::{Form, TypeRef};
+use tl_schema::{TypeForm, TypeRef};
 
 /// The number of the type, with the types of these numbers in place of its variables. A variable past them stays.
 #[cycle(close)]
@@ -22,33 +22,33 @@ pub fn close(
     ensures closed { IfOk result (λ n. slice_get table.new n ≡ Some (closed (types_at table.old args.now) (shape of.now))) }
 {
     match of {
-        TypeRef::Int => leaf(alloc, Form::Int, table),
-        TypeRef::Long => leaf(alloc, Form::Long, table),
-        TypeRef::Nat => leaf(alloc, Form::Nat, table),
-        TypeRef::Double => leaf(alloc, Form::Double, table),
-        TypeRef::Int128 => leaf(alloc, Form::Int128, table),
-        TypeRef::Int256 => leaf(alloc, Form::Int256, table),
-        TypeRef::Str => leaf(alloc, Form::Str, table),
-        TypeRef::Raw => leaf(alloc, Form::Raw, table),
-        TypeRef::Flag => leaf(alloc, Form::Flag, table),
-        TypeRef::Call => leaf(alloc, Form::Call, table),
+        TypeRef::Int => leaf(alloc, TypeForm::Int, table),
+        TypeRef::Long => leaf(alloc, TypeForm::Long, table),
+        TypeRef::Nat => leaf(alloc, TypeForm::Nat, table),
+        TypeRef::Double => leaf(alloc, TypeForm::Double, table),
+        TypeRef::Int128 => leaf(alloc, TypeForm::Int128, table),
+        TypeRef::Int256 => leaf(alloc, TypeForm::Int256, table),
+        TypeRef::Str => leaf(alloc, TypeForm::Str, table),
+        TypeRef::Raw => leaf(alloc, TypeForm::Raw, table),
+        TypeRef::Flag => leaf(alloc, TypeForm::Flag, table),
+        TypeRef::Call => leaf(alloc, TypeForm::Call, table),
         TypeRef::Var { place } => match args.get(*place as usize) {
             Some(arg) => Ok(*arg),
-            None => leaf(alloc, Form::Var { place: *place }, table),
+            None => leaf(alloc, TypeForm::Var { place: *place }, table),
         },
         TypeRef::Vector { boxed, item } => {
             let part = close(item, args, alloc, table)?;
             let mut parts = Vec::new(alloc);
             parts.push(part)?;
-            table.number(alloc, Form::Vector { boxed: *boxed }, parts)
+            table.number(alloc, TypeForm::Vector { boxed: *boxed }, parts)
         }
         TypeRef::Boxed { head, args: inner } => {
             let parts = close_each(inner, args, alloc, table)?;
-            table.number(alloc, Form::Boxed { head: *head }, parts)
+            table.number(alloc, TypeForm::Boxed { head: *head }, parts)
         }
         TypeRef::Bare { entry, args: inner } => {
             let parts = close_each(inner, args, alloc, table)?;
-            table.number(alloc, Form::Bare { entry: *entry }, parts)
+            table.number(alloc, TypeForm::Bare { entry: *entry }, parts)
         }
     }
 }
@@ -73,7 +73,7 @@ fn close_each(
 }
 
 // The number of a type that has no parts.
-fn leaf(alloc: Global, form: Form, table: &mut Table) -> Result<u32, AllocError>
+fn leaf(alloc: Global, form: TypeForm, table: &mut Table) -> Result<u32, AllocError>
     requires { HasParts form [] }
     ensures grows { Grows table.old table.new }
     ensures number { IfOk result (λ n. slice_get table.new n ≡ Some (type_by form [])) }

@@ -1,6 +1,6 @@
 //! The instances of a plan.
 
-use tl_schema::Form;
+use tl_schema::TypeForm;
 
 /// A declaration of an instance's type, and the instance of each of its fields, in order.
 pub struct Member {
@@ -21,7 +21,7 @@ impl Drop for Member {
 
 /// A closed type, by its number in a plan.
 pub struct Instance {
-    pub form: Form,
+    pub form: TypeForm,
     /// The instance of the elements, where the type is a vector.
     pub item: Option<u32>,
     /// Of a boxed type its constructors, of a bare one that constructor, of a call every function, in the order of declarations; otherwise none.

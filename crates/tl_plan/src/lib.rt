@@ -20,4 +20,4 @@ pub use laws::{
 };
 pub use planner::plan;
 pub use plans::Plan;
-pub use tl_schema::Form;
+pub use tl_schema::TypeForm;

@@ -8,12 +8,12 @@ ghost use Rattle.tl_plan.specs.inner.Tables.{node_view};
 use std::alloc::{AllocError, Global};
 use std::collections::BTreeMap;
 use std::marker::Model;
-use tl_schema::Form;
+use tl_schema::TypeForm;
 
 // A type: its form, the numbers of its parts, which are below its own, and its levels.
 #[derive(Drop)]
 struct Node {
-    form: Form,
+    form: TypeForm,
     parts: Vec<u32>,
     levels: u32,
 }
@@ -61,7 +61,12 @@ impl Table {
     }
 
     /// The number of the type of this form with these parts.
-    pub fn number(&mut self, alloc: Global, form: Form, parts: Vec<u32>) -> Result<u32, AllocError>
+    pub fn number(
+        &mut self,
+        alloc: Global,
+        form: TypeForm,
+        parts: Vec<u32>,
+    ) -> Result<u32, AllocError>
         requires below { AreBelow (length self.old) parts.items }
         requires parts { HasParts form parts.items }
         ensures grows { Grows self.old self.new }
@@ -89,7 +94,7 @@ impl Table {
     }
 
     /// The form of a type.
-    pub fn form(&self, n: u32) -> Form
+    pub fn form(&self, n: u32) -> TypeForm
         requires { n < length self.now }
         ensures { HasForm (type_at self.now n) result }
     {
@@ -116,7 +121,7 @@ impl Table {
 }
 
 // The key of a type of this form with these parts: no other type has it.
-fn key_of(alloc: Global, form: Form, parts: &[u32]) -> Result<Vec<u32>, AllocError>
+fn key_of(alloc: Global, form: TypeForm, parts: &[u32]) -> Result<Vec<u32>, AllocError>
     ensures { IfOk result (λ key. key.items ≡ key_of form parts.now) }
 {
     let mut key = Vec::new(alloc);
@@ -128,38 +133,38 @@ fn key_of(alloc: Global, form: Form, parts: &[u32]) -> Result<Vec<u32>, AllocErr
     Ok(key)
 }
 
-fn tag_of(form: Form) -> u32
+fn tag_of(form: TypeForm) -> u32
     ensures { result ≡ tag_of form }
 {
     match form {
-        Form::Int => 0,
-        Form::Long => 1,
-        Form::Nat => 2,
-        Form::Double => 3,
-        Form::Int128 => 3,
-        Form::Int256 => 3,
-        Form::Str => 4,
-        Form::Raw => 5,
-        Form::Flag => 6,
-        Form::Call => 7,
-        Form::Var { .. } => 8,
-        Form::Vector { .. } => 9,
-        Form::Boxed { .. } => 10,
-        Form::Bare { .. } => 11,
+        TypeForm::Int => 0,
+        TypeForm::Long => 1,
+        TypeForm::Nat => 2,
+        TypeForm::Double => 3,
+        TypeForm::Int128 => 3,
+        TypeForm::Int256 => 3,
+        TypeForm::Str => 4,
+        TypeForm::Raw => 5,
+        TypeForm::Flag => 6,
+        TypeForm::Call => 7,
+        TypeForm::Var { .. } => 8,
+        TypeForm::Vector { .. } => 9,
+        TypeForm::Boxed { .. } => 10,
+        TypeForm::Bare { .. } => 11,
     }
 }
 
-fn number_of(form: Form) -> u32
+fn number_of(form: TypeForm) -> u32
     ensures { result ≡ number_of form }
 {
     match form {
-        Form::Double => 8,
-        Form::Int128 => 16,
-        Form::Int256 => 32,
-        Form::Var { place } => place,
-        Form::Vector { boxed } => { if boxed { 1 } else { 0 } }
-        Form::Boxed { head } => head,
-        Form::Bare { entry } => entry,
+        TypeForm::Double => 8,
+        TypeForm::Int128 => 16,
+        TypeForm::Int256 => 32,
+        TypeForm::Var { place } => place,
+        TypeForm::Vector { boxed } => { if boxed { 1 } else { 0 } }
+        TypeForm::Boxed { head } => head,
+        TypeForm::Bare { entry } => entry,
         _ => 0,
     }
 }

@@ -17,7 +17,7 @@ use crate::instances::{Instance, Member};
 use crate::queue::Queue;
 use crate::table::Table;
 use std::alloc::Global;
-use tl_schema::{Form, Schema, SchemaField, TypeRef};
+use tl_schema::{Schema, SchemaField, TypeForm, TypeRef};
 
 /// Reaches the roots, in order.
 pub fn reach(
@@ -55,18 +55,18 @@ pub fn instance(
     let form = table.form(node);
     let parts = Vec::from_slice(alloc, table.parts(node))?;
     match form {
-        Form::Vector { .. } => vector(alloc, schema, form, &parts, table, queue),
-        Form::Boxed { head } => {
+        TypeForm::Vector { .. } => vector(alloc, schema, form, &parts, table, queue),
+        TypeForm::Boxed { head } => {
             let entries = heads.constructors(head);
             let of = Declarations { form, entries };
             record(alloc, schema, of, &parts, table, queue)
         }
-        Form::Bare { entry } => {
+        TypeForm::Bare { entry } => {
             let entries = &[entry];
             let of = Declarations { form, entries };
             record(alloc, schema, of, &parts, table, queue)
         }
-        Form::Call => {
+        TypeForm::Call => {
             let entries = &heads.functions;
             let of = Declarations { form, entries };
             record(alloc, schema, of, &parts, table, queue)
@@ -83,7 +83,7 @@ pub fn instance(
 fn vector(
     alloc: Global,
     schema: &Schema,
-    form: Form,
+    form: TypeForm,
     parts: &[u32],
     table: &Table,
     queue: &mut Queue,
@@ -104,7 +104,7 @@ fn vector(
 // A form, and the declarations of its values.
 #[derive(Clone, Copy)]
 struct Declarations<'a> {
-    form: Form,
+    form: TypeForm,
     entries: &'a [u32],
 }
 

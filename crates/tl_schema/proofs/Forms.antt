@@ -3,8 +3,8 @@ use Rattle.std.proofs.Common.{◌≡◌, ℕ, Bool, sym, ap, ◌∙◌}
 use Rattle.tl_schema.specs.Types.{Shape, Shapes, no_shapes}
 use Rattle.tl_schema.specs.Types as type
 use Rattle.tl_schema.specs.Forms.{HasForm, outermost}
-use Rattle.tl_schema.specs.declared.form.Form.{Form}
-use Rattle.tl_schema.specs.declared.form.Form.TheVariants as form
+use Rattle.tl_schema.specs.declared.form.TypeForm.{TypeForm}
+use Rattle.tl_schema.specs.declared.form.TypeForm.TheVariants as form
 
 -- what is the same for a vector of any elements, and for a type that is applied to any others
 pub record LooksOutside {A : Type 0} (of : Shape → A) : Type 0 where
@@ -12,7 +12,7 @@ pub record LooksOutside {A : Type 0} (of : Shape → A) : Type 0 where
   pub boxed : (h : ℕ) (args : Shapes) → of (type.boxed h no_shapes) ≡ of (type.boxed h args)
   pub bare : (i : ℕ) (args : Shapes) → of (type.bare i no_shapes) ≡ of (type.bare i args)
 
-pub by_form : {A : Type 0} (of : Shape → A) → LooksOutside of → (T : Shape) (f : Form) → HasForm T f → of (outermost f) ≡ of T
+pub by_form : {A : Type 0} (of : Shape → A) → LooksOutside of → (T : Shape) (f : TypeForm) → HasForm T f → of (outermost f) ≡ of T
 by_form of outside T form.Int is = ap of (sym is)
 by_form of outside T form.Long is = ap of (sym is)
 by_form of outside T form.Nat is = ap of (sym is)

@@ -2,11 +2,11 @@
 use Rattle.std.specs.Prelude.{◌≡◌}
 use Rattle.tl_schema.specs.Types.{Shape, Shapes, no_shapes}
 use Rattle.tl_schema.specs.Types as type
-use Rattle.tl_schema.specs.declared.form.Form.{Form}
-use Rattle.tl_schema.specs.declared.form.Form.TheVariants as form
+use Rattle.tl_schema.specs.declared.form.TypeForm.{TypeForm}
+use Rattle.tl_schema.specs.declared.form.TypeForm.TheVariants as form
 
 -- the form of a type
-abbrev pub HasForm : Shape → Form → Type 0
+abbrev pub HasForm : Shape → TypeForm → Type 0
 HasForm T form.Int = T ≡ type.int
 HasForm T form.Long = T ≡ type.long
 HasForm T form.Nat = T ≡ type.nat
@@ -23,7 +23,7 @@ HasForm T (form.Boxed h) = (args : Shapes) × (T ≡ type.boxed h args)
 HasForm T (form.Bare i) = (args : Shapes) × (T ≡ type.bare i args)
 
 -- A type that has nothing but its outermost part: of a vector the elements are any, and what is applied is applied to nothing.
-abbrev pub outermost : Form → Shape
+abbrev pub outermost : TypeForm → Shape
 outermost form.Int = type.int
 outermost form.Long = type.long
 outermost form.Nat = type.nat

@@ -6,7 +6,7 @@ use crate::schema::TypeRef;
 
 /// The outermost part of a closed type.
 #[derive(Clone, Copy)]
-pub enum Form {
+pub enum TypeForm {
     /// 32 bits, signed.
     Int,
     /// 64 bits, signed.
@@ -37,23 +37,23 @@ pub enum Form {
 }
 
 /// The outermost part of a type.
-pub fn form_of(of: &TypeRef) -> Form
+pub fn form_of(of: &TypeRef) -> TypeForm
     ensures { HasForm (shape of.now) result }
 {
     match of {
-        TypeRef::Int => Form::Int,
-        TypeRef::Long => Form::Long,
-        TypeRef::Nat => Form::Nat,
-        TypeRef::Double => Form::Double,
-        TypeRef::Int128 => Form::Int128,
-        TypeRef::Int256 => Form::Int256,
-        TypeRef::Str => Form::Str,
-        TypeRef::Raw => Form::Raw,
-        TypeRef::Flag => Form::Flag,
-        TypeRef::Call => Form::Call,
-        TypeRef::Var { place } => Form::Var { place: *place },
-        TypeRef::Vector { boxed, .. } => Form::Vector { boxed: *boxed },
-        TypeRef::Boxed { head, .. } => Form::Boxed { head: *head },
-        TypeRef::Bare { entry, .. } => Form::Bare { entry: *entry },
+        TypeRef::Int => TypeForm::Int,
+        TypeRef::Long => TypeForm::Long,
+        TypeRef::Nat => TypeForm::Nat,
+        TypeRef::Double => TypeForm::Double,
+        TypeRef::Int128 => TypeForm::Int128,
+        TypeRef::Int256 => TypeForm::Int256,
+        TypeRef::Str => TypeForm::Str,
+        TypeRef::Raw => TypeForm::Raw,
+        TypeRef::Flag => TypeForm::Flag,
+        TypeRef::Call => TypeForm::Call,
+        TypeRef::Var { place } => TypeForm::Var { place: *place },
+        TypeRef::Vector { boxed, .. } => TypeForm::Vector { boxed: *boxed },
+        TypeRef::Boxed { head, .. } => TypeForm::Boxed { head: *head },
+        TypeRef::Bare { entry, .. } => TypeForm::Bare { entry: *entry },
     }
 }

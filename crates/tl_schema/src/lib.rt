@@ -24,7 +24,7 @@ mod wrong_arity;
 
 pub use checks::check;
 pub use fault::{CheckCause, CheckFault, TypeCause, TypeFault};
-pub use form::{Form, form_of};
+pub use form::{TypeForm, form_of};
 pub use laws::{
     closing_keeps_formed, each_program_is_a_schema_or_refused, each_text_is_a_type_or_refused,
     fields_are_formed, results_are_formed,

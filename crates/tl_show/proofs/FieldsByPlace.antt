@@ -15,7 +15,7 @@ use Rattle.tl_types.specs.declared.value.Value.{Value}
 use Rattle.tl_types.specs.Parts.{arguments_of, is_absent}
 use Rattle.tl_show.specs.inner.Forms.{FormView, form_in, part_of, read_at, record_by, unless_missing, written}
 use Rattle.tl_show.specs.inner.FormViews.{form_view, part_view}
-use Rattle.tl_show.specs.declared.form.Form.{Form}
+use Rattle.tl_show.specs.declared.form.JsonForm.{JsonForm}
 use Rattle.tl_show.specs.declared.form.Part.{Part}
 use Rattle.tl_show.specs.declared.form.Part.TheVariants.{Field}
 
@@ -43,10 +43,10 @@ pub field_past : (fs : List FormView) (n : List ℕ) (args : List Shape) (vs : L
     → part_of n args (read_at fs (views vs)) (part_view p) ≡ None
 field_past fs n args vs p i of is past = rw is (read_past fs (closed args (shape of)) vs i past)
 
-pub form_there : (forms : List Form) (i : ℕ) (f : Form) → i < length forms → f ≡ get_or forms i f → form_in (slice_get (map form_view forms) i) ≡ form_view f
+pub form_there : (forms : List JsonForm) (i : ℕ) (f : JsonForm) → i < length forms → f ≡ get_or forms i f → form_in (slice_get (map form_view forms) i) ≡ form_view f
 form_there forms i f within at = ap form_in (slice_get_item form_view forms i f within at)
 
-pub form_past : (forms : List Form) (i : ℕ) → length forms ≤ i → slice_get (map form_view forms) i ≡ None
+pub form_past : (forms : List JsonForm) (i : ℕ) → length forms ≤ i → slice_get (map form_view forms) i ≡ None
 form_past forms i past = slice_get_past (map form_view forms) i (rw (length-map forms form_view) past)
 
 pub node_written : (fs : List FormView) (T : Shape) (v : ValueView) (i : ℕ) (vs : ValueViews) (args : List Shape) → v ≡ node i vs → args ≡ arguments_of T

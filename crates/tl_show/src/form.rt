@@ -34,7 +34,7 @@ impl Drop for Key {
 }
 
 /// How the records of a declaration are written: the text of its name, and the keys in the order of their bytes.
-pub struct Form {
+pub struct JsonForm {
     pub name: String,
     /// The name as JSON.
     pub title: Vec<u8>,
@@ -43,9 +43,9 @@ pub struct Form {
 }
 
 // By hand, so that each exit of an owner has one call to prove.
-impl Drop for Form {
+impl Drop for JsonForm {
     fn drop(self) {
-        let Form {
+        let JsonForm {
             name: _,
             title: _,
             keys: _,

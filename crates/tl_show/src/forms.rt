@@ -6,7 +6,7 @@ ghost use Rattle.tl_show.specs.inner.Forms.{AreForms, IsForm, PutsFields};
 ghost use Rattle.tl_show.specs.inner.FormViews.{entry_views, form_view, key_view, part_view};
 
 use crate::copying::copy_type;
-use crate::form::{Form, Key, Part};
+use crate::form::{JsonForm, Key, Part};
 use crate::parts::name_text;
 use crate::quoting::quoted_of;
 use json::Writer;
@@ -15,7 +15,7 @@ use std::collections::BTreeMap;
 use tl_schema::{Entry, Schema, SchemaField};
 
 /// The forms of a schema's declarations; none where one of these has two fields of one name, or a field named `_`.
-pub fn forms_of(alloc: Global, schema: &Schema) -> Result<Option<Vec<Form>>, AllocError>
+pub fn forms_of(alloc: Global, schema: &Schema) -> Result<Option<Vec<JsonForm>>, AllocError>
     ensures { IfOk result (λ found. IfSome found (λ forms. AreForms schema.now.decls (map form_view forms.items))) }
 {
     let mut forms = Vec::with_capacity(alloc, schema.count() as usize)?;
@@ -29,7 +29,7 @@ pub fn forms_of(alloc: Global, schema: &Schema) -> Result<Option<Vec<Form>>, All
 }
 
 // The form of a declaration; none where two keys are alike.
-fn form_of(alloc: Global, entry: &Entry) -> Result<Option<Form>, AllocError>
+fn form_of(alloc: Global, entry: &Entry) -> Result<Option<JsonForm>, AllocError>
     ensures { IfOk result (λ found. IfSome found (λ form. IsForm (declaration entry.now) (form_view form))) }
 {
     let Some(parts) = parts_of(alloc, &entry.fields)? else {
@@ -38,7 +38,7 @@ fn form_of(alloc: Global, entry: &Entry) -> Result<Option<Form>, AllocError>
     let name = name_text(alloc, entry.name.as_slice())?;
     let title = quoted_of(alloc, &name)?;
     let keys = keys_of(alloc, parts.into_iter().collect(alloc)?)?;
-    Ok(Some(Form { name, title, keys }))
+    Ok(Some(JsonForm { name, title, keys }))
 }
 
 // The keys with what stands at them, in the same order.

@@ -6,7 +6,7 @@ ghost use Rattle.tl_types.specs.Seen.{view};
 ghost use Rattle.tl_show.specs.Shown.{shown};
 ghost use Rattle.tl_show.specs.inner.Kept.{AreFormsOf};
 
-use crate::form::Form;
+use crate::form::JsonForm;
 use crate::forms::forms_of;
 use crate::held::HeldText;
 use crate::sink::TextSink;
@@ -19,7 +19,7 @@ use tl_types::Value;
 /// How the records of a schema are written, for what owns this beside the schema. `JsonPrinter` has both.
 pub struct JsonForms {
     // None, where a declaration has two keys that are alike.
-    forms: Option<Vec<Form>>,
+    forms: Option<Vec<JsonForm>>,
 }
 
 // By hand, so that each exit of an owner has one call to prove.

@@ -12,7 +12,7 @@ ghost use Rattle.tl_show.specs.inner.Lines.{PutsMember, key_text};
 ghost use Rattle.tl_show.specs.inner.Scopes.{shapes_in};
 ghost use Rattle.tl_types.specs.Parts.{is_absent};
 
-use crate::form::{Form, Key, Part};
+use crate::form::{JsonForm, Key, Part};
 use crate::scope::{Scope, resolved};
 use crate::sink::TextSink;
 use crate::texts::{write_hex, write_text};
@@ -25,7 +25,7 @@ pub fn write_value<S: TextSink>(
     value: &Value,
     of: &TypeRef,
     scope: Option<&Scope<'_>>,
-    forms: &[Form],
+    forms: &[JsonForm],
     out: &mut S,
 )
     ensures { S.puts out.old out.new (compact_text (written (map form_view forms.now) (closed (shapes_in scope.entry) (shape of.now)) (view value.now))) }
@@ -74,7 +74,7 @@ fn write_items<S: TextSink>(
     items: &[Value],
     of: &TypeRef,
     scope: Option<&Scope<'_>>,
-    forms: &[Form],
+    forms: &[JsonForm],
     out: &mut S,
 )
     ensures { S.puts out.old out.new (compact_text (array (written_each (map form_view forms.now) (closed (shapes_in scope.entry) (shape of.now)) (views items.now)))) }
@@ -104,7 +104,7 @@ fn write_record<S: TextSink>(
     fields: &[Value],
     entry: u32,
     scope: Option<&Scope<'_>>,
-    forms: &[Form],
+    forms: &[JsonForm],
     out: &mut S,
 )
     ensures { S.puts out.old out.new (compact_text (record_by (map form_view forms.now) entry (shapes_in scope.entry) (read_at (map form_view forms.now) (views fields.now)))) }
@@ -119,9 +119,9 @@ fn write_record<S: TextSink>(
 #[cycle(write)]
 fn write_members<S: TextSink>(
     fields: &[Value],
-    form: &Form,
+    form: &JsonForm,
     scope: Option<&Scope<'_>>,
-    forms: &[Form],
+    forms: &[JsonForm],
     out: &mut S,
 )
     ensures { S.puts out.old out.new (compact_text (object (members_of (form_view form.now) (shapes_in scope.entry) (read_at (map form_view forms.now) (views fields.now))))) }
@@ -139,10 +139,10 @@ fn write_members<S: TextSink>(
 fn write_member<S: TextSink>(
     fields: &[Value],
     key: &Key,
-    form: &Form,
+    form: &JsonForm,
     later: bool,
     scope: Option<&Scope<'_>>,
-    forms: &[Form],
+    forms: &[JsonForm],
     out: &mut S,
 ) -> bool
     ensures { PutsMember S.puts result later out.old out.new (string_bytes key.now.name) (part_of (string_bytes form.now.name) (shapes_in scope.entry) (read_at (map form_view forms.now) (views fields.now)) (part_view key.now.part)) }
@@ -168,7 +168,7 @@ fn write_field<S: TextSink>(
     later: bool,
     of: &TypeRef,
     scope: Option<&Scope<'_>>,
-    forms: &[Form],
+    forms: &[JsonForm],
     out: &mut S,
 ) -> bool
     ensures { let v = view value.now in PutsMember S.puts result later out.old out.new (string_bytes key.now.name) (unless_missing (is_absent v) (written (map form_view forms.now) (closed (shapes_in scope.entry) (shape of.now)) v)) }

@@ -4,7 +4,7 @@ use Rattle.tl_schema.specs.Types.{Shape, Shapes, no_shapes}
 use Rattle.tl_schema.specs.Types as type
 use Rattle.tl_schema.specs.Schemas.{Declaration}
 use Rattle.tl_schema.specs.Forms.{HasForm, outermost}
-use Rattle.tl_schema.specs.declared.form.Form.{Form}
+use Rattle.tl_schema.specs.declared.form.TypeForm.{TypeForm}
 use Rattle.tl_schema.proofs.Forms.{by_form}
 use Rattle.tl_types.specs.Values.{ValueView}
 use Rattle.tl_types.specs.Values as value
@@ -23,5 +23,5 @@ module _ (ds : List Declaration) where
   bare_node n bit (value.int z) i args = refl
   bare_node n bit v i args = refl
 
-  pub node_by_form : (n : ℕ) (bit : Bit) (T : Shape) (f : Form) (v : ValueView) → HasForm T f → node_misfit ds n bit (outermost f) v ≡ node_misfit ds n bit T v
+  pub node_by_form : (n : ℕ) (bit : Bit) (T : Shape) (f : TypeForm) (v : ValueView) → HasForm T f → node_misfit ds n bit (outermost f) v ≡ node_misfit ds n bit T v
   node_by_form n bit T f v is = by_form (λ (U : Shape). node_misfit ds n bit U v) (record { vector = vector_node n bit v; boxed = boxed_node n bit v; bare = bare_node n bit v }) T f is

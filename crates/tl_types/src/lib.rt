@@ -20,7 +20,7 @@ pub use misfit::{FitFault, Misfit, MisfitCause};
 pub use nodes::{is_called, node_misfit};
 pub use parts::{arguments_of, is_absent, item_of, slots_of};
 pub use tl_schema::{
-    CheckCause, CheckFault, Entry, Form, Schema, SchemaField, TypeCause, TypeFault, TypeRef, check,
-    form_of, type_of,
+    CheckCause, CheckFault, Entry, Schema, SchemaField, TypeCause, TypeFault, TypeForm, TypeRef,
+    check, form_of, type_of,
 };
 pub use value::{MAX_LEVELS, Value};

@@ -8,7 +8,7 @@ ghost use Rattle.tl_types.specs.inner.Plain.{IsPlain};
 use crate::misfit::MisfitCause;
 use crate::parts::{is_absent, slots_of};
 use crate::value::Value;
-use tl_schema::{Form, Schema};
+use tl_schema::{Schema, TypeForm};
 
 /// The first cause that the value has, its own parts aside: of a type of this form, with so many levels left, where it stands by this bit or by none.
 #[inline(always)]
@@ -17,7 +17,7 @@ pub fn node_misfit(
     schema: &Schema,
     levels: u32,
     bit: Option<bool>,
-    form: Form,
+    form: TypeForm,
 ) -> Option<MisfitCause>
     ensures { result ≡ node_misfit schema.now.decls levels bit (outermost form) (view value.now) }
 {
@@ -43,50 +43,50 @@ pub fn node_misfit(
 
 // Whether the value is a number or a string, as the form is: most are, and fit where they are in range.
 #[inline(always)]
-fn is_plain(value: &Value, form: Form) -> bool
+fn is_plain(value: &Value, form: TypeForm) -> bool
     ensures { IsTrue result → IsPlain (outermost form) (view value.now) }
 {
     match (form, value) {
-        (Form::Int, Value::Int(_)) => true,
-        (Form::Long, Value::Long(_)) => true,
-        (Form::Nat, Value::Nat(_)) => true,
-        (Form::Str, Value::Text(_)) => true,
-        (Form::Raw, Value::Text(_)) => true,
+        (TypeForm::Int, Value::Int(_)) => true,
+        (TypeForm::Long, Value::Long(_)) => true,
+        (TypeForm::Nat, Value::Nat(_)) => true,
+        (TypeForm::Str, Value::Text(_)) => true,
+        (TypeForm::Raw, Value::Text(_)) => true,
         _ => false,
     }
 }
 
 // Whether the value is of the form's kind, or isn't there and stands by a bit.
-fn has_kind(value: &Value, bit: Option<bool>, form: Form) -> bool
+fn has_kind(value: &Value, bit: Option<bool>, form: TypeForm) -> bool
     ensures { result ≡ has_kind bit (outermost form) (view value.now) }
 {
     is_kind(value, form) || (bit.is_some() && is_absent(value))
 }
 
 // Whether the value is of the form's kind.
-fn is_kind(value: &Value, form: Form) -> bool
+fn is_kind(value: &Value, form: TypeForm) -> bool
     ensures { result ≡ is_kind (outermost form) (view value.now) }
 {
     match form {
-        Form::Int => matches!(value, Value::Int(_)),
-        Form::Long => matches!(value, Value::Long(_)),
-        Form::Nat => matches!(value, Value::Nat(_)),
-        Form::Double => matches!(value, Value::Opaque(_)),
-        Form::Int128 => matches!(value, Value::Opaque(_)),
-        Form::Int256 => matches!(value, Value::Opaque(_)),
-        Form::Str => matches!(value, Value::Text(_)),
-        Form::Raw => matches!(value, Value::Text(_)),
-        Form::Flag => matches!(value, Value::Truth),
-        Form::Call => matches!(value, Value::Call { .. }),
-        Form::Var { .. } => false,
-        Form::Vector { .. } => matches!(value, Value::List(_)),
-        Form::Boxed { .. } => matches!(value, Value::Node { .. }),
-        Form::Bare { .. } => matches!(value, Value::Node { .. }),
+        TypeForm::Int => matches!(value, Value::Int(_)),
+        TypeForm::Long => matches!(value, Value::Long(_)),
+        TypeForm::Nat => matches!(value, Value::Nat(_)),
+        TypeForm::Double => matches!(value, Value::Opaque(_)),
+        TypeForm::Int128 => matches!(value, Value::Opaque(_)),
+        TypeForm::Int256 => matches!(value, Value::Opaque(_)),
+        TypeForm::Str => matches!(value, Value::Text(_)),
+        TypeForm::Raw => matches!(value, Value::Text(_)),
+        TypeForm::Flag => matches!(value, Value::Truth),
+        TypeForm::Call => matches!(value, Value::Call { .. }),
+        TypeForm::Var { .. } => false,
+        TypeForm::Vector { .. } => matches!(value, Value::List(_)),
+        TypeForm::Boxed { .. } => matches!(value, Value::Node { .. }),
+        TypeForm::Bare { .. } => matches!(value, Value::Node { .. }),
     }
 }
 
 // Whether a record is of a constructor of the type, and a call of a function.
-fn has_constructor(value: &Value, schema: &Schema, form: Form) -> bool
+fn has_constructor(value: &Value, schema: &Schema, form: TypeForm) -> bool
     ensures { result ≡ has_constructor schema.now.decls (outermost form) (view value.now) }
 {
     match value {
@@ -97,12 +97,12 @@ fn has_constructor(value: &Value, schema: &Schema, form: Form) -> bool
 }
 
 // Whether the declaration is a constructor of the type, if this has any.
-fn is_constructor(schema: &Schema, form: Form, entry: u32) -> bool
+fn is_constructor(schema: &Schema, form: TypeForm, entry: u32) -> bool
     ensures { result ≡ is_constructor schema.now.decls (outermost form) entry }
 {
     match form {
-        Form::Boxed { head } => constructs(schema, head, entry),
-        Form::Bare { entry: own } => entry == own,
+        TypeForm::Boxed { head } => constructs(schema, head, entry),
+        TypeForm::Bare { entry: own } => entry == own,
         _ => true,
     }
 }
@@ -122,7 +122,7 @@ pub fn is_called(schema: &Schema, entry: u32) -> bool
 }
 
 // Whether an opaque value has as many bytes as its type, and a record or call as many values as its declaration has fields.
-fn has_count(value: &Value, schema: &Schema, form: Form) -> bool
+fn has_count(value: &Value, schema: &Schema, form: TypeForm) -> bool
     ensures { result ≡ has_count schema.now.decls (outermost form) (view value.now) }
 {
     match value {
@@ -134,13 +134,13 @@ fn has_count(value: &Value, schema: &Schema, form: Form) -> bool
 }
 
 // Whether the type has so many bytes, if its values are opaque.
-fn has_width(form: Form, count: usize) -> bool
+fn has_width(form: TypeForm, count: usize) -> bool
     ensures { result ≡ has_width (outermost form) count }
 {
     match form {
-        Form::Double => count == 8,
-        Form::Int128 => count == 16,
-        Form::Int256 => count == 32,
+        TypeForm::Double => count == 8,
+        TypeForm::Int128 => count == 16,
+        TypeForm::Int256 => count == 32,
         _ => true,
     }
 }

@@ -7,8 +7,8 @@ use Rattle.tl_codec.specs.Codings.{Made}
 use Rattle.tl_codec.specs.Typings.{Adds, Coder, OfType, Opens}
 use Rattle.tl_codec.specs.Comparing.{MakesAnswer, OfTexts}
 use Rattle.codec_commands.specs.Check.{listing}
-use Rattle.outside.specs.declared.stop.Unmade.{Unmade}
-use Rattle.outside.specs.declared.stop.Unmade.TheVariants as unmade
+use Rattle.outside.specs.declared.stop.LoadError.{LoadError}
+use Rattle.outside.specs.declared.stop.LoadError.TheVariants as load_error
 use Rattle.tlbox_c.specs.Telling.{Fills, HandsMade, Tells, TellsNumber}
 use Rattle.tlbox_c.specs.declared.held.Held.{Held}
 use Rattle.tlbox_c.specs.declared.telling.TheConstants.{CLOSED, DONE, MEMORY, NO_TYPE, REFUSED}
@@ -46,19 +46,19 @@ Boxes codec status None = status ≡ MEMORY
 Boxes codec status (Some x) = (status ≡ DONE) × (x.codec ≡ codec) × (x.last.items ≡ [])
 
 -- the codec that was opened is behind the handle, or the line of its refusal is handed out; or there was no memory
-abbrev pub Opened : Result Coder Unmade → ℕ → Option Held → List ℕ → List ℕ → ℕ → Type 0
+abbrev pub Opened : Result Coder LoadError → ℕ → Option Held → List ℕ → List ℕ → ℕ → Type 0
 Opened (Ok codec) status after old new len = Boxes codec status after × (new ≡ old) × (len ≡ 0)
-Opened (Err (unmade.Refused line)) status after old new len = (status ≡ REFUSED) × (after ≡ None) × Fills line.items old new × (len ≡ length line.items)
-Opened (Err unmade.ReadFault) status after old new len = (status ≡ MEMORY) × (after ≡ None) × (new ≡ old) × (len ≡ 0)
-Opened (Err unmade.Memory) status after old new len = (status ≡ MEMORY) × (after ≡ None) × (new ≡ old) × (len ≡ 0)
+Opened (Err (load_error.Refused line)) status after old new len = (status ≡ REFUSED) × (after ≡ None) × Fills line.items old new × (len ≡ length line.items)
+Opened (Err load_error.ReadFault) status after old new len = (status ≡ MEMORY) × (after ≡ None) × (new ≡ old) × (len ≡ 0)
+Opened (Err load_error.Memory) status after old new len = (status ≡ MEMORY) × (after ≡ None) × (new ≡ old) × (len ≡ 0)
 
 abbrev pub OpensAt : List ℕ → ℕ → Option Held → List ℕ → List ℕ → ℕ → Type 0
-OpensAt text status after old new len = (made : Result Coder Unmade) × Opens text made × Opened made status after old new len
+OpensAt text status after old new len = (made : Result Coder LoadError) × Opens text made × Opened made status after old new len
 
 -- the type of a text is kept, and its number told; or the line of its refusal is kept
 abbrev pub AddsTo : List ℕ → ℕ → Held → Held → ℕ → ℕ → Type 0
 AddsTo name status x y old new =
-    (y.codec.0 ≡ x.codec.0) × ((made : Result ℕ Unmade) × Adds x.codec.0 name x.codec.1 y.codec.1 made × TellsNumber made status old new y.last.items)
+    (y.codec.0 ≡ x.codec.0) × ((made : Result ℕ LoadError) × Adds x.codec.0 name x.codec.1 y.codec.1 made × TellsNumber made status old new y.last.items)
 
 -- the same of a handle, which may be closed
 abbrev pub AddsAt : List ℕ → ℕ → Option Held → Option Held → ℕ → ℕ → Type 0

@@ -6,14 +6,14 @@ ghost use Rattle.tlbox_c.specs.Telling.{Fills};
 
 use crate::held::Held;
 use crate::telling::{DONE, MEMORY, NO_TYPE, REFUSED, copy_out, keep, keep_number};
-use outside::Unmade;
+use outside::LoadError;
 use std::alloc::Global;
 use tl_codec::Codec;
 
 /// What is behind a handle after an opening, and its status.
 pub fn opened(
     alloc: Global,
-    made: Result<Codec, Unmade>,
+    made: Result<Codec, LoadError>,
     out: &mut [u8],
     len: &mut usize,
 ) -> (u32, Option<Box<Held>>)
@@ -22,7 +22,7 @@ pub fn opened(
     *len = 0;
     match made {
         Ok(codec) => boxed(alloc, codec),
-        Err(Unmade::Refused(line)) => {
+        Err(LoadError::Refused(line)) => {
             copy_out(&line, out, len);
             (REFUSED, None)
         }

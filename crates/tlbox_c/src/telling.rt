@@ -2,7 +2,7 @@
 ghost use Rattle.std.specs.Prelude.{◌≡◌, length};
 ghost use Rattle.tlbox_c.specs.Telling.{Fills, HandsMade, Tells, TellsFault, TellsNumber};
 
-use outside::Unmade;
+use outside::LoadError;
 use std::alloc::Global;
 
 /// The work is done.
@@ -17,7 +17,7 @@ pub const CLOSED: u32 = 100;
 pub const NO_TYPE: u32 = 101;
 
 /// Keeps what was made, or the line of a refusal; nothing, where there was no memory.
-pub fn keep(alloc: Global, made: Result<Vec<u8>, Unmade>, last: &mut Vec<u8>) -> u32
+pub fn keep(alloc: Global, made: Result<Vec<u8>, LoadError>, last: &mut Vec<u8>) -> u32
     ensures { Tells made result last.new.items }
 {
     match made {
@@ -32,7 +32,7 @@ pub fn keep(alloc: Global, made: Result<Vec<u8>, Unmade>, last: &mut Vec<u8>) ->
 /// Tells a number and keeps nothing, or keeps the line of a refusal.
 pub fn keep_number(
     alloc: Global,
-    made: Result<u32, Unmade>,
+    made: Result<u32, LoadError>,
     number: &mut u32,
     last: &mut Vec<u8>,
 ) -> u32
@@ -49,15 +49,15 @@ pub fn keep_number(
 }
 
 // Keeps the line of a refusal; nothing, where there was no memory.
-fn keep_fault(alloc: Global, fault: Unmade, last: &mut Vec<u8>) -> u32
+fn keep_fault(alloc: Global, fault: LoadError, last: &mut Vec<u8>) -> u32
     ensures { TellsFault fault result last.new.items }
 {
     match fault {
-        Unmade::Refused(line) => {
+        LoadError::Refused(line) => {
             *last = line;
             REFUSED
         }
-        Unmade::ReadFault | Unmade::Memory => {
+        LoadError::ReadFault | LoadError::Memory => {
             *last = Vec::new(alloc);
             MEMORY
         }
@@ -76,7 +76,7 @@ pub fn copy_out(bytes: &[u8], out: &mut [u8], len: &mut usize)
 }
 
 /// Hands out what was made, or the line of a refusal; nothing, where there was no memory.
-pub fn hand_made(made: Result<Vec<u8>, Unmade>, out: &mut [u8], len: &mut usize) -> u32
+pub fn hand_made(made: Result<Vec<u8>, LoadError>, out: &mut [u8], len: &mut usize) -> u32
     ensures { HandsMade made result out.old out.new len.new }
 {
     match made {
@@ -84,7 +84,7 @@ pub fn hand_made(made: Result<Vec<u8>, Unmade>, out: &mut [u8], len: &mut usize)
             copy_out(&bytes, out, len);
             DONE
         }
-        Err(Unmade::Refused(line)) => {
+        Err(LoadError::Refused(line)) => {
             copy_out(&line, out, len);
             REFUSED
         }

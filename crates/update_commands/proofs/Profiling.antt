@@ -10,7 +10,7 @@ use Rattle.outside.specs.Answer.{refused}
 use Rattle.outside.specs.Jobs.{of_fault}
 use Rattle.outside.specs.Loading.{Refuses}
 use Rattle.outside.specs.declared.status.Status.{Status}
-use Rattle.outside.specs.declared.stop.Unmade.{Unmade}
+use Rattle.outside.specs.declared.stop.LoadError.{LoadError}
 use Rattle.fault_lines.specs.Profiled.{TellsProfile, form_line}
 use Rattle.fault_lines.proofs.Profiled.{are_profiles, each_schema}
 use Rattle.outside.specs.Events.{HostState}
@@ -30,7 +30,7 @@ module _ (Rest : ProfileView → Step Status) (S : Declared) where
     pub can_profile : Begins (OfProfile Rest S) []
     can_profile = let told = each_schema S good in can_told told.0 told.1
 
-    pub profile_refused : {outs : List Out} (u : Unmade) (p q : HostState) (answer : Option Status) → Refuses (TellsProfile S) u → PrintsMade (of_fault u) p q answer → DidIn outs (OfProfile Rest S) p q answer
+    pub profile_refused : {outs : List Out} (u : LoadError) (p q : HostState) (answer : Option Status) → Refuses (TellsProfile S) u → PrintsMade (of_fault u) p q answer → DidIn outs (OfProfile Rest S) p q answer
     profile_refused u p q answer = refusal_done (OfProfile Rest S) (TellsProfile S) u p q answer can_profile
         (λ line (fault, lacks, is) t status h. no_profile fault lacks (subst (λ (l : List ℕ). Prints (refused l) t status) is h))
 

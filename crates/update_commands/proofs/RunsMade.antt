@@ -4,7 +4,7 @@ use Rattle.tl_schema.specs.CheckedPrograms.{IsSchema}
 use Rattle.tl_schema.specs.Schemas.{Declared}
 use Rattle.outside.specs.Answer.{refused}
 use Rattle.outside.specs.Jobs.{making}
-use Rattle.outside.specs.declared.stop.Unmade.{Unmade}
+use Rattle.outside.specs.declared.stop.LoadError.{LoadError}
 use Rattle.outside.specs.Printing.{Makes}
 use Rattle.outside.specs.Steps.{Begins}
 use Rattle.outside.proofs.Printed.{can_answer}
@@ -17,7 +17,7 @@ use Rattle.update_commands.proofs.Profiling.{can_profile}
 
 module _ (number count : ℕ) where
   -- the run's text is an answer's
-  pub run_made : (r : Result (Vec ℕ Global) Unmade) → TellsRun number count r → Makes (OfMadeRun number count) (making r)
+  pub run_made : (r : Result (Vec ℕ Global) LoadError) → TellsRun number count r → Makes (OfMadeRun number count) (making r)
   run_made (Ok text) h = h
   run_made (Err u) h = refused_made (OfMadeRun number count) (λ line. OfMadeRun number count (refused line)) u (λ line is. is) h
 

@@ -7,7 +7,7 @@ use Rattle.outside.specs.Answer.{Answer, done, placed_line, refused}
 use Rattle.outside.specs.Jobs.{Job, unlinked_job}
 use Rattle.outside.specs.Kept.{KeepsUnread}
 use Rattle.outside.specs.Loading.{Refuses}
-use Rattle.outside.specs.declared.stop.Unmade.{Unmade}
+use Rattle.outside.specs.declared.stop.LoadError.{LoadError}
 use Rattle.fault_lines.specs.Profiled.{OfProfileFile}
 use Rattle.update_replay.specs.MadeRuns.{MakesRun}
 use Rattle.update_replay.specs.declared.made_fault.MadeFault.TheVariants.{PoolFull}
@@ -22,7 +22,7 @@ pub data OfMadeRun (number count : ℕ) (a : Answer) : Type 0 where
   too_full : (at bytes : ℕ) → MakesRun number count (Err (PoolFull at bytes)) → a ≡ refused (full_line at bytes) → OfMadeRun number count a
 
 -- the summary, or its refusal; out of memory is free
-abbrev pub TellsRun : ℕ → ℕ → Result (Vec ℕ Global) Unmade → Type 0
+abbrev pub TellsRun : ℕ → ℕ → Result (Vec ℕ Global) LoadError → Type 0
 TellsRun number count (Ok text) = OfMadeRun number count (done text.items)
 TellsRun number count (Err fault) = Refuses (λ line. OfMadeRun number count (refused line)) fault
 

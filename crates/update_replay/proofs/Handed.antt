@@ -213,12 +213,12 @@ module _ (p : ProfileView) (n : ℕ) (journal : List ℕ) (ss : List Step) (outp
       stops e (past_steps many is) = inr (too_long old.at, one_too_many old.at h.left s x rest h.began begins_left many refl, ap Err (sym is))
       stops e (impossible cause few refuses is) = inr (not_made old.at cause, not_possible old.at h.left s x rest cause h.began begins_left few refuses refl, ap Err (sym is))
 
-      unmade_by : (e : ReplayFault) → MakesAfter old.world old.steps old.at s new.world new.lines.items (Err e) → HandsOut p n journal ss output new (Err e)
-      unmade_by e makes = let m = made_of (Err e) makes in (m.0, stops e m.1)
+      load_error_by : (e : ReplayFault) → MakesAfter old.world old.steps old.at s new.world new.lines.items (Err e) → HandsOut p n journal ss output new (Err e)
+      load_error_by e makes = let m = made_of (Err e) makes in (m.0, stops e m.1)
 
-      pub unmade : (e : ReplayFault) (r : Result Bool ReplayFault) → IsErrAnd r (λ z. z ≡ e) → MakesAfter old.world old.steps old.at s new.world new.lines.items (Err e) → HandsOut p n journal ss output new r
-      unmade e (Ok b) is makes = absurd is
-      unmade e (Err z) is makes = subst (λ (f : ReplayFault). HandsOut p n journal ss output new (Err f)) (sym is) (unmade_by e makes)
+      pub load_error : (e : ReplayFault) (r : Result Bool ReplayFault) → IsErrAnd r (λ z. z ≡ e) → MakesAfter old.world old.steps old.at s new.world new.lines.items (Err e) → HandsOut p n journal ss output new r
+      load_error e (Ok b) is makes = absurd is
+      load_error e (Err z) is makes = subst (λ (f : ReplayFault). HandsOut p n journal ss output new (Err f)) (sym is) (load_error_by e makes)
 
     -- ---- ends
 

@@ -30,7 +30,7 @@ use Rattle.box_client.specs.Asking.{difference_of, group_is_due, group_ticked, i
 use Rattle.box_client.specs.Pushes.{all_updated, pack_heard, pushed, settings_in, updated}
 use Rattle.box_client.specs.Replies.{Outcome, becomes, by_channels, channel_replied, group_done, group_replied, group_taken, group_woven, ignored, nothing_new, refuses, replied}
 use Rattle.box_client.specs.States.{ClientState}
-use Rattle.box_client.specs.declared.brought.Brought.{Brought}
+use Rattle.box_client.specs.declared.received.Received.{Received}
 use Rattle.box_world.specs.Streams.{asked_by, channel_request}
 use Rattle.box_world.specs.Worlds.{after_reply}
 use Rattle.box_world.proofs.ChannelReplying.{is_asked}
@@ -232,24 +232,24 @@ GroupFrees n c ignored = ⊥
 GroupFrees n c (refuses cause) = Unit {0}
 GroupFrees n c (becomes d) = Frees n c d
 
-done_frees : (n : ℕ) (last : Bool) (c : ClientState) (b : Brought) (xs ys : List EventView) → Frees n c (group_done last c b xs ys)
+done_frees : (n : ℕ) (last : Bool) (c : ClientState) (b : Received) (xs ys : List EventView) → Frees n c (group_done last c b xs ys)
 done_frees n true c b xs ys = record { free = extend_asks n c.common xs true; channels = refl }
 done_frees n false c b xs ys = record { free = extend_asks n c.common xs false; channels = refl }
 
-taken_frees : (n : ℕ) (back : Bool) (c : ClientState) (b : Brought) (xs ys : List EventView) → GroupFrees n c (group_taken back c b xs ys)
+taken_frees : (n : ℕ) (back : Bool) (c : ClientState) (b : Received) (xs ys : List EventView) → GroupFrees n c (group_taken back c b xs ys)
 taken_frees n true c b xs ys = tt
 taken_frees n false c b xs ys = done_frees n b.last c b xs ys
 
-woven_frees : (n : ℕ) (c : ClientState) (b : Brought) (o p : Result (List EventView) WeaveCause) → GroupFrees n c (group_woven c b o p)
+woven_frees : (n : ℕ) (c : ClientState) (b : Received) (o p : Result (List EventView) WeaveCause) → GroupFrees n c (group_woven c b o p)
 woven_frees n c b (Err cause) p = tt
 woven_frees n c b (Ok xs) (Err cause) = tt
 woven_frees n c b (Ok xs) (Ok ys) = taken_frees n (b.last && ltb b.state.seq c.settings.at) c b xs ys
 
 group_frees : (n : ℕ) (c : ClientState) (r : Reply) → GroupFrees n c (group_replied c r)
 group_frees n c (reply.State state) = tt
-group_frees n c (reply.Empty date seq) = let b : Brought = nothing_new c date seq in woven_frees n c b (woven_of c.common.at b.state.pts b.news b.others) (woven_of c.secret.at b.state.qts b.secrets [])
+group_frees n c (reply.Empty date seq) = let b : Received = nothing_new c date seq in woven_frees n c b (woven_of c.common.at b.state.pts b.news b.others) (woven_of c.secret.at b.state.qts b.secrets [])
 group_frees n c (reply.Difference news secrets others settings state last) =
-    let b : Brought = record { news = news; secrets = secrets; others = others; settings = settings; state = state; last = last } in
+    let b : Received = record { news = news; secrets = secrets; others = others; settings = settings; state = state; last = last } in
     woven_frees n c b (woven_of c.common.at b.state.pts b.news b.others) (woven_of c.secret.at b.state.qts b.secrets [])
 group_frees n c (reply.Channel r) = tt
 group_frees n c (reply.Receipt r) = tt

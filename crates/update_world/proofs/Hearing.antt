@@ -17,7 +17,7 @@ use Rattle.channel_box.specs.States.{ChannelState, first}
 use Rattle.channel_box.specs.Steps.{Answered, stale, refused, taken, answered, answered_by, asks_number, is_asking, taken_by}
 use Rattle.channel_box.specs.Steps as channels
 use Rattle.box_events.specs.Weaves.{WeaveCause, woven_of}
-use Rattle.box_client.specs.declared.brought.Brought.{Brought}
+use Rattle.box_client.specs.declared.received.Received.{Received}
 use Rattle.box_client.specs.declared.fault.ClientFault.{ClientFault}
 use Rattle.box_client.specs.declared.fault.ClientFault.TheVariants.{PeerError, WrongKind, Weave, SeqBack, Memory as ClientMemory}
 use Rattle.box_events.specs.declared.difference_fault.WeaveFault.TheVariants.{Overlap, Uneven, Memory as WeaveMemory}
@@ -51,16 +51,16 @@ use Rattle.update_world.proofs.SentLists.{sent_get, sent_length}
 -- ---- what a client's answer tells
 
 -- an answer that the group takes, or refuses, is never ignored
-not_ignored : (last : Bool) (c : ClientState) (b : Brought) (xs ys : List EventView) → group_taken last c b xs ys ≡ ignored → ⊥
+not_ignored : (last : Bool) (c : ClientState) (b : Received) (xs ys : List EventView) → group_taken last c b xs ys ≡ ignored → ⊥
 not_ignored true c b xs ys e = cc
 not_ignored false c b xs ys e = cc
 
-group_told : (c : ClientState) (b : Brought) (o p : Result (List EventView) WeaveCause) → group_woven c b o p ≡ ignored → ⊥
+group_told : (c : ClientState) (b : Received) (o p : Result (List EventView) WeaveCause) → group_woven c b o p ≡ ignored → ⊥
 group_told c b (Err cause) p e = cc
 group_told c b (Ok xs) (Err cause) e = cc
 group_told c b (Ok xs) (Ok ys) e = not_ignored _ c b xs ys e
 
-brings_told : (c : ClientState) (b : Brought) → brings c b ≡ ignored → ⊥
+brings_told : (c : ClientState) (b : Received) → brings c b ≡ ignored → ⊥
 brings_told c b e = group_told c b (woven_of c.common.at b.state.pts b.news b.others) (woven_of c.secret.at b.state.qts b.secrets []) e
 
 group_never : (c : ClientState) (r : SomeReply) → group_replied c r ≡ ignored → ⊥

@@ -11,7 +11,7 @@ use crate::outcome::Outcome;
 use crate::parts::WorldParts;
 use crate::reading::frame_for;
 use crate::spelling::send_calls;
-use box_client::{Client, ClientFault, Told};
+use box_client::{Client, ClientFault, ReplyOutcome};
 use box_events::{Asks, Frame};
 use channel_box::WatchFault;
 use report_lines::HeardAs;
@@ -52,8 +52,8 @@ fn deliver(alloc: Global, client: &mut Client, frame: Frame) -> Result<HeardAs, 
             Ok(HeardAs::Push)
         }
         Frame::Reply { number, reply } => match client.hear_reply(alloc, number, reply) {
-            Ok(Told::Reply) => Ok(HeardAs::Reply),
-            Ok(Told::Stale) => Ok(HeardAs::Stale),
+            Ok(ReplyOutcome::Reply) => Ok(HeardAs::Reply),
+            Ok(ReplyOutcome::Stale) => Ok(HeardAs::Stale),
             Err(ClientFault::Memory) => Err(AllocError),
             Err(_) => unreachable!(),
         },

@@ -4,8 +4,8 @@ use Rattle.tl_calls.specs.declared.fault.AnswerFault.{AnswerFault}
 use Rattle.tl_calls.specs.declared.fault.AnswerFault.TheVariants as answer
 use Rattle.tl_calls.specs.declared.fault.SendFault.{SendFault}
 use Rattle.tl_calls.specs.declared.fault.SendFault.TheVariants as send
-use Rattle.outside.specs.declared.stop.Unmade.{Unmade}
-use Rattle.outside.specs.declared.stop.Unmade.TheVariants as unmade
+use Rattle.outside.specs.declared.stop.LoadError.{LoadError}
+use Rattle.outside.specs.declared.stop.LoadError.TheVariants as load_error
 use Rattle.outside.specs.Loading.{RefusesAs}
 use Rattle.schema_files.specs.Lines.{cause_text, input_line}
 use Rattle.call_commands.specs.CallReports.{result_cause_name}
@@ -25,13 +25,13 @@ offset_in (answer.Trailing place) = place
 offset_in answer.Memory = 0
 
 -- bytes after the first word of the packet at this offset are no value
-abbrev pub TellsUnread : ℕ → AnswerFault → Unmade → Type 0
+abbrev pub TellsUnread : ℕ → AnswerFault → LoadError → Type 0
 TellsUnread at (answer.Refused place cause) u = RefusesAs (input_line (at + (8 + place)) (cause_text cause)) u
 TellsUnread at (answer.Trailing place) u = RefusesAs (input_line (at + (8 + place)) (codes "Trailing")) u
-TellsUnread at answer.Memory u = u ≡ unmade.Memory
+TellsUnread at answer.Memory u = u ≡ load_error.Memory
 
 -- the call of the packet at this offset is not sent
-abbrev pub TellsUnsent : ℕ → SendFault → Unmade → Type 0
+abbrev pub TellsUnsent : ℕ → SendFault → LoadError → Type 0
 TellsUnsent at send.Full u = RefusesAs (input_line at (codes "Full")) u
 TellsUnsent at (send.Result cause) u = RefusesAs (input_line at (result_cause_name cause)) u
-TellsUnsent at send.Memory u = u ≡ unmade.Memory
+TellsUnsent at send.Memory u = u ≡ load_error.Memory

@@ -14,7 +14,7 @@ use Rattle.update_sessions.specs.Packed.{MeansCall}
 use Rattle.outside.specs.Loading.{Refuses}
 use Rattle.outside.specs.declared.stop.Stop.{Stop}
 use Rattle.outside.specs.declared.stop.Stop.TheVariants as stop
-use Rattle.outside.specs.declared.stop.Unmade.{Unmade}
+use Rattle.outside.specs.declared.stop.LoadError.{LoadError}
 use Rattle.fault_lines.specs.Messages.{wire_line}
 use Rattle.session_commands.specs.declared.sending.Sending.{Sending}
 use Rattle.session_commands.specs.Linked.{KeepsFiles, LeavesLinks}
@@ -32,7 +32,7 @@ abbrev pub TellsLong : ProfileView → List ℕ → List ℕ → Type 0
 TellsLong p b line = (c : Numbered) × MeansCall p c b × (MAX_FRAME_BYTES < length b) × (line ≡ long_call_line (length b))
 
 -- the number of the call that the bytes mean
-abbrev pub NumbersCall : ProfileView → List ℕ → Result ℕ Unmade → Type 0
+abbrev pub NumbersCall : ProfileView → List ℕ → Result ℕ LoadError → Type 0
 NumbersCall p b (Ok n) = (c : Numbered) × MeansCall p c b × (c.number ≡ n)
 NumbersCall p b (Err fault) = Refuses (TellsNoCall p b) fault
 
@@ -48,7 +48,7 @@ pub record MaySendCall (p : ProfileView) (b : List ℕ) (n : ℕ) : Type 0 where
   pub number : call.number ≡ n
   pub fits : IsPacketLength (length b)
 
-abbrev pub Sends : ProfileView → List ℕ → Result Sending Unmade → Type 0
+abbrev pub Sends : ProfileView → List ℕ → Result Sending LoadError → Type 0
 Sends p b (Ok s) = (s.bytes ≡ b) × MaySendCall p b s.number
 Sends p b (Err fault) = Refuses (TellsUnsent p b) fault
 

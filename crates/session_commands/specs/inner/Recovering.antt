@@ -13,10 +13,10 @@ use Rattle.wire_values.specs.SavedClients.{saved_tree}
 use Rattle.box_wire.specs.Kinds.{saved_clients}
 use Rattle.box_wire.specs.Framing.{Framed, Means, WireRefused}
 use Rattle.outside.specs.Loading.{Refuses}
-use Rattle.outside.specs.declared.stop.Unmade.{Unmade}
+use Rattle.outside.specs.declared.stop.LoadError.{LoadError}
 use Rattle.fault_lines.specs.Messages.{wire_line}
 use Rattle.fault_lines.specs.SavedClients.{load_line}
-use Rattle.session_commands.specs.declared.leaving.Leaving.{Leaving}
+use Rattle.session_commands.specs.declared.saving.SavedState.{SavedState}
 use Rattle.session_commands.specs.Client.{OfStateFile, client_line, many_channels_line}
 use Rattle.session_commands.specs.Linked.{next_link, KeepsFiles, LeavesLinks, LeavesState}
 
@@ -27,7 +27,7 @@ abbrev pub TellsNoSaved : ProfileView → List ℕ → List ℕ → Type 0
 TellsNoSaved p bytes line = (fault : WireFault) × WireRefused p saved_clients bytes fault × (wire_line (codes "state") fault ≡ Some line)
 
 -- what is saved is read of the bytes
-abbrev pub ReadsSaved : ProfileView → List ℕ → Result Saved Unmade → Type 0
+abbrev pub ReadsSaved : ProfileView → List ℕ → Result Saved LoadError → Type 0
 ReadsSaved p bytes (Ok s) = IsSaved s × Means p saved_clients (saved_tree s) bytes
 ReadsSaved p bytes (Err e) = Refuses (TellsNoSaved p bytes) e
 
@@ -36,21 +36,21 @@ abbrev pub TellsNotLoaded : Saved → List ℕ → Type 0
 TellsNotLoaded s line = (fault : LoadFault) × IsCauseOf s fault × (load_line fault ≡ Some line)
 
 -- a client is loaded of it
-abbrev pub LoadsClient : Saved → Result ClientState Unmade → Type 0
+abbrev pub LoadsClient : Saved → Result ClientState LoadError → Type 0
 LoadsClient s (Ok c) = IsLoadedAs s c
 LoadsClient s (Err e) = Refuses (TellsNotLoaded s) e
 
 -- ---- channels
 
 -- these are watched; or there is no place for one
-abbrev pub Watches : Option ClientState → Result (Unit {0}) Unmade → ClientState → Type 0
+abbrev pub Watches : Option ClientState → Result (Unit {0}) LoadError → ClientState → Type 0
 Watches o (Ok u) d = o ≡ Some d
 Watches o (Err e) d = Refuses (λ line. (o ≡ None) × (line ≡ many_channels_line)) e
 
 -- ---- what is left of a client
 
 -- its spelling and its line
-pub record LeavesOf (p : ProfileView) (c : ClientState) (l : Leaving) : Type 0 where
+pub record LeavesOf (p : ProfileView) (c : ClientState) (l : SavedState) : Type 0 where
   pub state : Framed p saved_clients (saved_tree (saved_of c)) l.state
   pub line : l.line.items ≡ client_line c
 

@@ -4,7 +4,7 @@ use Rattle.box_client.specs.States.{ClientState}
 use Rattle.wire_profile.specs.Places.{ProfileView}
 use Rattle.outside.specs.Loading.{Refuses}
 use Rattle.outside.specs.declared.status.Status.{Status}
-use Rattle.outside.specs.declared.stop.Unmade.{Unmade}
+use Rattle.outside.specs.declared.stop.LoadError.{LoadError}
 use Rattle.outside.specs.Events.{HostState}
 use Rattle.outside.specs.Begun.{DidIn, to_link}
 use Rattle.update_sessions.specs.declared.fault.SessionFault.{SessionFault}
@@ -27,6 +27,6 @@ abbrev pub TellsNone : ProfileView → List ℤ → List ℕ → List ℕ → Ty
 TellsNone p channels bytes line = TellsNoClient p bytes line ⊎ ((c : ClientState) × HasClient p bytes c × (watch_all channels c ≡ None) × (line ≡ many_channels_line))
 
 -- the client of a state's bytes, which watches these channels too
-abbrev pub MakesClient : ProfileView → List ℤ → List ℕ → Result ClientState Unmade → Type 0
+abbrev pub MakesClient : ProfileView → List ℤ → List ℕ → Result ClientState LoadError → Type 0
 MakesClient p channels bytes (Ok d) = (c : ClientState) × HasClient p bytes c × (watch_all channels c ≡ Some d)
 MakesClient p channels bytes (Err fault) = Refuses (TellsNone p channels bytes) fault

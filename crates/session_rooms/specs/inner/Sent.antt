@@ -9,7 +9,7 @@ use Rattle.wire_profile.specs.Places.{ProfileView}
 use Rattle.outside.specs.Loading.{Refuses}
 use Rattle.outside.specs.declared.status.Status.{Status}
 use Rattle.outside.specs.declared.status.Status.TheVariants.{PeerFault}
-use Rattle.outside.specs.declared.stop.Unmade.{Unmade}
+use Rattle.outside.specs.declared.stop.LoadError.{LoadError}
 use Rattle.fault_lines.specs.Packets.{length_line, ended_line}
 use Rattle.outside.specs.Events.{HostState}
 use Rattle.outside.specs.Pieces.{Tells}
@@ -33,7 +33,7 @@ pub data TellsNothing (p : ProfileView) (text line : List ℕ) : Type 0 where
   no_call_told : TellsNoCall p text line → TellsNothing p text line
 
 -- the call that a text is the JSON of
-abbrev pub MakesCall : ProfileView → List ℕ → Result Sending Unmade → Type 0
+abbrev pub MakesCall : ProfileView → List ℕ → Result Sending LoadError → Type 0
 MakesCall p text (Ok s) = (x : ValueView) × IsJsonOf p.schema call text x × Spells p.schema call x s.bytes × MaySendCall p s.bytes s.number
 MakesCall p text (Err fault) = Refuses (TellsNothing p text) fault
 

@@ -3,8 +3,8 @@ use Rattle.std.specs.Prelude.{◌≡◌, ℕ, suc, ◌-◌, ◌<◌, ◌^◌, mi
 use Rattle.tl_schema.specs.Types.{Shape, Shapes, shapes_of}
 use Rattle.tl_schema.specs.Types as type
 use Rattle.tl_plan.specs.Types.{arguments_of}
-use Rattle.tl_schema.specs.declared.form.Form.{Form}
-use Rattle.tl_schema.specs.declared.form.Form.TheVariants as form
+use Rattle.tl_schema.specs.declared.form.TypeForm.{TypeForm}
+use Rattle.tl_schema.specs.declared.form.TypeForm.TheVariants as form
 
 -- ---- lists of types
 
@@ -39,7 +39,7 @@ first_of [] = type.call
 first_of (T ∷ Ts) = T
 
 -- the type of this form with these parts
-abbrev pub type_by : Form → List Shape → Shape
+abbrev pub type_by : TypeForm → List Shape → Shape
 type_by form.Int Ts = type.int
 type_by form.Long Ts = type.long
 type_by form.Nat Ts = type.nat
@@ -56,7 +56,7 @@ type_by (form.Boxed h) Ts = type.boxed h (shapes_of Ts)
 type_by (form.Bare i) Ts = type.bare i (shapes_of Ts)
 
 -- so many parts has a type of this form
-abbrev pub HasParts : Form → List ℕ → Type 0
+abbrev pub HasParts : TypeForm → List ℕ → Type 0
 HasParts (form.Vector is_boxed) ns = length ns ≡ 1
 HasParts (form.Boxed h) ns = Unit {0}
 HasParts (form.Bare i) ns = Unit {0}
@@ -64,7 +64,7 @@ HasParts f ns = ns ≡ []
 
 -- ---- keys
 
-abbrev pub tag_of : Form → ℕ
+abbrev pub tag_of : TypeForm → ℕ
 tag_of form.Int = 0
 tag_of form.Long = 1
 tag_of form.Nat = 2
@@ -80,7 +80,7 @@ tag_of (form.Vector is_boxed) = 9
 tag_of (form.Boxed h) = 10
 tag_of (form.Bare i) = 11
 
-abbrev pub number_of : Form → ℕ
+abbrev pub number_of : TypeForm → ℕ
 number_of form.Double = 8
 number_of form.Int128 = 16
 number_of form.Int256 = 32
@@ -90,13 +90,13 @@ number_of (form.Boxed h) = h
 number_of (form.Bare i) = i
 number_of f = 0
 
-abbrev pub key_of : Form → List ℕ → List ℕ
+abbrev pub key_of : TypeForm → List ℕ → List ℕ
 key_of f ns = tag_of f ∷ number_of f ∷ ns
 
 -- ---- nodes
 
 pub record NodeView : Type 0 where
-  pub form : Form
+  pub form : TypeForm
   pub parts : List ℕ
   pub levels : ℕ
 

@@ -7,7 +7,7 @@ use Rattle.tl_show.specs.inner.Forms as form
 use Rattle.tl_show.specs.declared.form.Part.{Part}
 use Rattle.tl_show.specs.declared.form.Part.TheVariants.{Name, Field}
 use Rattle.tl_show.specs.declared.form.Key.{Key}
-use Rattle.tl_show.specs.declared.form.Form.{Form}
+use Rattle.tl_show.specs.declared.form.JsonForm.{JsonForm}
 
 abbrev pub part_view : Part → PartView
 part_view Name = form.name
@@ -25,5 +25,5 @@ key_view k = (string_bytes k.name, part_view k.part)
 abbrev pub key_views : List Key → List (List ℕ × PartView)
 key_views ks = map key_view ks
 
-abbrev pub form_view : Form → FormView
+abbrev pub form_view : JsonForm → FormView
 form_view f = record { name = string_bytes f.name; keys = key_views f.keys.items }

@@ -1,5 +1,5 @@
 use Rattle.std.proofs.Common.{arith}
-use Rattle.tl_schema.specs.declared.form.Form.TheVariants as form
+use Rattle.tl_schema.specs.declared.form.TypeForm.TheVariants as form
 use Rattle.tl_decode.proofs.PlanTypes.{shown_type}
 use Rattle.tl_decode.proofs.Opened.{opens_int, opens_long, opens_nat, opens_opaque, opens_str, opens_raw}
 use Rattle.tl_decode.proofs.opening.item_of.Goals as goal

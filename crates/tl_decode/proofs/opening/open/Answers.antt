@@ -1,5 +1,5 @@
 use Rattle.std.proofs.Common.{arith, inl, inr}
-use Rattle.tl_schema.specs.declared.form.Form.TheVariants as form
+use Rattle.tl_schema.specs.declared.form.TypeForm.TheVariants as form
 use Rattle.tl_types.proofs.Views.{view-Truth, view-Absent}
 use Rattle.tl_decode.proofs.PlanTypes.{shown_type}
 use Rattle.tl_decode.proofs.Opened.{opens_int, opens_long, opens_nat, opens_opaque, opens_str, opens_raw, opens_flag, opens_var}

@@ -1,5 +1,5 @@
 use Rattle.std.proofs.Common.{refl, ◌∙◌, sym}
-use Rattle.tl_schema.specs.declared.form.Form.TheVariants as form
+use Rattle.tl_schema.specs.declared.form.TypeForm.TheVariants as form
 use Rattle.tl_types.specs.Seen.{views}
 use Rattle.tl_types.proofs.Views.{view-Node, view-Call}
 use Rattle.tl_decode.specs.inner.Frames.{type_in}

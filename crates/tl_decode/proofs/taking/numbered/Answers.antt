@@ -1,7 +1,7 @@
 use Rattle.std.proofs.Common.{refl, ap, sym, ◌∙◌}
 use Rattle.tl_schema.specs.Types.{Shape}
 use Rattle.tl_schema.specs.Schemas.{Declared}
-use Rattle.tl_schema.specs.declared.form.Form.TheVariants as form
+use Rattle.tl_schema.specs.declared.form.TypeForm.TheVariants as form
 use Rattle.tl_types.specs.inner.Reading.{first_from, is_member, is_function}
 use Rattle.tl_decode.specs.inner.Frames.{find_in, type_in}
 use Rattle.tl_decode.proofs.PlanTypes.{finds_none, shown_type}

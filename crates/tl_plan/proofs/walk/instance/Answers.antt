@@ -1,7 +1,7 @@
 use Rattle.std.proofs.Common.{◌≡◌, ◌∷◌, [], refl, ◌∙◌, ap}
 use Rattle.tl_schema.specs.Types.{Shapes}
 use Rattle.tl_schema.specs.Types as type
-use Rattle.tl_schema.specs.declared.form.Form.TheVariants as form
+use Rattle.tl_schema.specs.declared.form.TypeForm.TheVariants as form
 use Rattle.tl_plan.specs.inner.Nodes.{type_at, types_at}
 use Rattle.tl_plan.proofs.WalkSteps.{bare_names, boxed_names, record_shows}
 use Rattle.tl_plan.proofs.walk.instance.Goals as goal

@@ -9,14 +9,14 @@ ghost use Rattle.session_rooms.specs.inner.Ends.{TellsEnd};
 
 use box_client::Client;
 use outside::{Host, Status, Stop, print, tell, write_out};
-use session_commands::{Leaving, leaving_of, session_stop};
+use session_commands::{SavedState, saved_state, session_stop};
 use std::alloc::{AllocError, Global};
 use tl_base::Out;
 use update_sessions::SessionFault;
 use wire_profile::Profile;
 
 /// Saves a client under a name, and writes where it is.
-pub fn leave_client<H: Host>(
+pub fn save_client<H: Host>(
     alloc: Global,
     host: &mut H,
     profile: &Profile,
@@ -25,19 +25,19 @@ pub fn leave_client<H: Host>(
 ) -> Result<Status, AllocError>
     ensures { DidIn to_link (Leaves profile.now name.now client.now) (H.state host.old) (H.state host.new) (answered result) }
 {
-    let leaving = leaving_of(alloc, profile, client)?;
+    let saving = saved_state(alloc, profile, client)?;
     match host.create(Out::State, name) {
-        Ok(()) => Ok(write_state(host, &leaving)),
+        Ok(()) => Ok(write_state(host, &saving)),
         Err(_) => Ok(tell(host, b"tlbox: write fault\n", Status::WriteFault)),
     }
 }
 
 // Writes State, which was created, and then the line.
-fn write_state<H: Host>(host: &mut H, leaving: &Leaving) -> Status
-    ensures { (c : ClientState) → leaving.now.line.items ≡ client_line c → Did (after_create c leaving.now.state true) (H.state host.old) (H.state host.new) (Some result) }
+fn write_state<H: Host>(host: &mut H, saving: &SavedState) -> Status
+    ensures { (c : ClientState) → saving.now.line.items ≡ client_line c → Did (after_create c saving.now.state true) (H.state host.old) (H.state host.new) (Some result) }
 {
-    match write_out(host, Out::State, leaving.state.as_slice()) {
-        Ok(()) => print(host, &leaving.line),
+    match write_out(host, Out::State, saving.state.as_slice()) {
+        Ok(()) => print(host, &saving.line),
         Err(_) => tell(host, b"tlbox: write fault\n", Status::WriteFault),
     }
 }

@@ -3,7 +3,7 @@ use Rattle.box_events.specs.declared.saved.Saved.{Saved}
 use Rattle.box_wire.specs.Framing.{Framed}
 use Rattle.box_wire.specs.Kinds.{saved_clients}
 use Rattle.wire_values.specs.SavedClients.{saved_tree}
-use Rattle.session_commands.proofs.leaving.leaving_of.Goals as goal
+use Rattle.session_commands.proofs.saving.saved_state.Goals as goal
 
 pub returns : goal.returns
 returns c = record {

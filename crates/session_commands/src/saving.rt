@@ -12,19 +12,19 @@ use wire_profile::Profile;
 
 /// The bytes for State, and the line for Output.
 #[derive(Drop)]
-pub struct Leaving {
+pub struct SavedState {
     pub state: Bytes,
     pub line: Vec<u8>,
 }
 
 /// What is to be written of a client.
-pub fn leaving_of(alloc: Global, profile: &Profile, client: &Client) -> Result<Leaving, Memory>
+pub fn saved_state(alloc: Global, profile: &Profile, client: &Client) -> Result<SavedState, Memory>
     ensures { IfOk result (LeavesOf profile.now client.now) }
 {
     let saved = client.save(alloc)?;
     let state = spell_saved(alloc, profile, &saved)?;
     let line = client_line(alloc, client)?;
-    Ok(Leaving { state, line })
+    Ok(SavedState { state, line })
 }
 
 // The line of a client's positions.
