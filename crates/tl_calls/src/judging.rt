@@ -26,7 +26,7 @@ pub fn traits_of(of: &TypeRef, schema: &Schema, known: &[Traits]) -> Traits
     ensures { TraitsStand schema.now known.now (shape of.now) result }
 {
     match of {
-        TypeRef::Var { place } => known.get(*place as usize).copied().unwrap_or(PLAIN),
+        TypeRef::Var { index } => known.get(*index as usize).copied().unwrap_or(PLAIN),
         TypeRef::Vector { item, .. } => {
             let t = traits_of(item, schema, known);
             Traits {

@@ -127,7 +127,7 @@ fn names(of: &TypeRef, var: u32) -> bool
     ensures { result ≡ names var (shape of.now) }
 {
     match of {
-        TypeRef::Var { place } => *place == var,
+        TypeRef::Var { index } => *index == var,
         TypeRef::Vector { item, .. } => names(item, var),
         TypeRef::Boxed { args, .. } => name_in(args, var),
         TypeRef::Bare { args, .. } => name_in(args, var),

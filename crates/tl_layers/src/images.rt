@@ -25,7 +25,7 @@ pub fn is_image(of: &TypeRef, made: &TypeRef, pair: &Pair) -> bool
         TypeRef::Raw => matches!(made, TypeRef::Raw),
         TypeRef::Flag => matches!(made, TypeRef::Flag),
         TypeRef::Call => matches!(made, TypeRef::Call),
-        TypeRef::Var { place } => is_variable(made, *place),
+        TypeRef::Var { index } => is_variable(made, *index),
         TypeRef::Vector { boxed, item } => match made {
             TypeRef::Vector {
                 boxed: other,
@@ -67,11 +67,11 @@ fn are_images(all: &Vec<TypeRef>, made: &Vec<TypeRef>, pair: &Pair) -> bool
 }
 
 // Whether a type is this variable.
-fn is_variable(made: &TypeRef, place: u32) -> bool
-    ensures { result ≡ is_same (shape made.now) (var place) }
+fn is_variable(made: &TypeRef, index: u32) -> bool
+    ensures { result ≡ is_same (shape made.now) (var index) }
 {
     match made {
-        TypeRef::Var { place: other } => *other == place,
+        TypeRef::Var { index: other } => *other == index,
         _ => false,
     }
 }
@@ -92,7 +92,7 @@ pub fn image_of(of: &TypeRef, pair: &Pair, alloc: Global) -> Result<TypeRef, All
         TypeRef::Raw => Ok(TypeRef::Raw),
         TypeRef::Flag => Ok(TypeRef::Flag),
         TypeRef::Call => Ok(TypeRef::Call),
-        TypeRef::Var { place } => Ok(TypeRef::Var { place: *place }),
+        TypeRef::Var { index } => Ok(TypeRef::Var { index: *index }),
         TypeRef::Vector { boxed, item } => {
             let image = image_of(item, pair, alloc)?;
             Ok(TypeRef::Vector {

@@ -32,9 +32,9 @@ pub fn close(
         TypeRef::Raw => leaf(alloc, TypeForm::Raw, table),
         TypeRef::Flag => leaf(alloc, TypeForm::Flag, table),
         TypeRef::Call => leaf(alloc, TypeForm::Call, table),
-        TypeRef::Var { place } => match args.get(*place as usize) {
+        TypeRef::Var { index } => match args.get(*index as usize) {
             Some(arg) => Ok(*arg),
-            None => leaf(alloc, TypeForm::Var { place: *place }, table),
+            None => leaf(alloc, TypeForm::Var { index: *index }, table),
         },
         TypeRef::Vector { boxed, item } => {
             let part = close(item, args, alloc, table)?;

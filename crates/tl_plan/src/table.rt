@@ -161,7 +161,7 @@ fn number_of(form: TypeForm) -> u32
         TypeForm::Double => 8,
         TypeForm::Int128 => 16,
         TypeForm::Int256 => 32,
-        TypeForm::Var { place } => place,
+        TypeForm::Var { index } => index,
         TypeForm::Vector { boxed } => { if boxed { 1 } else { 0 } }
         TypeForm::Boxed { head } => head,
         TypeForm::Bare { entry } => entry,

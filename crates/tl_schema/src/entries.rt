@@ -72,7 +72,7 @@ fn line_result(alloc: Global, name: &[u8]) -> Result<TypeRef, AllocError>
     if name == b"vector".as_slice() {
         return Ok(TypeRef::Vector {
             boxed: true,
-            item: Box::new(alloc, TypeRef::Var { place: 0 })?,
+            item: Box::new(alloc, TypeRef::Var { index: 0 })?,
         });
     }
     Ok(base_term(name).unwrap_or(TypeRef::Call))

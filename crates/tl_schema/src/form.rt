@@ -28,7 +28,7 @@ pub enum TypeForm {
     /// A call of any function.
     Call,
     /// A variable that nothing stands in place of; no instance of a plan is one.
-    Var { place: u32 },
+    Var { index: u32 },
     Vector { boxed: bool },
     /// One of the constructors of the type with this number.
     Boxed { head: u32 },
@@ -51,7 +51,7 @@ pub fn form_of(of: &TypeRef) -> TypeForm
         TypeRef::Raw => TypeForm::Raw,
         TypeRef::Flag => TypeForm::Flag,
         TypeRef::Call => TypeForm::Call,
-        TypeRef::Var { place } => TypeForm::Var { place: *place },
+        TypeRef::Var { index } => TypeForm::Var { index: *index },
         TypeRef::Vector { boxed, .. } => TypeForm::Vector { boxed: *boxed },
         TypeRef::Boxed { head, .. } => TypeForm::Boxed { head: *head },
         TypeRef::Bare { entry, .. } => TypeForm::Bare { entry: *entry },

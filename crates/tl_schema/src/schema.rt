@@ -36,7 +36,7 @@ pub enum TypeRef {
     /// A call of any function.
     Call,
     /// A variable of the declaration, by its index.
-    Var { place: u32 },
+    Var { index: u32 },
     Vector { boxed: bool, item: Box<TypeRef> },
     /// One of the constructors of the type with this number. Types are numbered from 0, in the order of their first constructors.
     Boxed { head: u32, args: Vec<TypeRef> },
@@ -50,7 +50,7 @@ impl Drop for TypeRef {
         match self {
             TypeRef::Int | TypeRef::Long | TypeRef::Nat | TypeRef::Double => {}
             TypeRef::Int128 | TypeRef::Int256 | TypeRef::Str | TypeRef::Raw => {}
-            TypeRef::Flag | TypeRef::Call | TypeRef::Var { place: _ } => {}
+            TypeRef::Flag | TypeRef::Call | TypeRef::Var { index: _ } => {}
             TypeRef::Vector { boxed: _, item: _ } => {}
             TypeRef::Boxed { head: _, args: _ } => {}
             TypeRef::Bare { entry: _, args: _ } => {}

@@ -63,7 +63,7 @@ fn named_term(
 {
     if scope.is_variable(name) {
         return Ok(TypeRef::Var {
-            place: scope.variable(name),
+            index: scope.variable(name),
         });
     }
     if name == b"vector".as_slice() {

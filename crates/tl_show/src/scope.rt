@@ -32,10 +32,10 @@ fn resolved_in<'a>(scope: &'a Scope<'a>, of: &'a TypeRef) -> (&'a TypeRef, Optio
     ensures same { closed (shapes_in result.1) (shape result.0.now) ≡ closed (shapes_of scope.now) (shape of.now) }
     ensures settled { IsSettled (shapes_in result.1) (shape result.0.now) }
 {
-    let TypeRef::Var { place } = of else {
+    let TypeRef::Var { index } = of else {
         return (of, Some(scope));
     };
-    let Some(arg) = scope.args.get(*place as usize) else {
+    let Some(arg) = scope.args.get(*index as usize) else {
         return (of, Some(scope));
     };
     match scope.outer {

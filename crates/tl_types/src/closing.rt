@@ -23,9 +23,9 @@ pub fn close(of: &TypeRef, args: &[TypeRef], alloc: Global) -> Result<TypeRef, A
         TypeRef::Raw => Ok(TypeRef::Raw),
         TypeRef::Flag => Ok(TypeRef::Flag),
         TypeRef::Call => Ok(TypeRef::Call),
-        TypeRef::Var { place } => match args.get(*place as usize) {
+        TypeRef::Var { index } => match args.get(*index as usize) {
             Some(arg) => copy_type(arg, alloc),
-            None => Ok(TypeRef::Var { place: *place }),
+            None => Ok(TypeRef::Var { index: *index }),
         },
         TypeRef::Vector { boxed, item } => {
             let closed = close(item, args, alloc)?;
@@ -76,7 +76,7 @@ fn copy_type(of: &TypeRef, alloc: Global) -> Result<TypeRef, AllocError>
         TypeRef::Raw => Ok(TypeRef::Raw),
         TypeRef::Flag => Ok(TypeRef::Flag),
         TypeRef::Call => Ok(TypeRef::Call),
-        TypeRef::Var { place } => Ok(TypeRef::Var { place: *place }),
+        TypeRef::Var { index } => Ok(TypeRef::Var { index: *index }),
         TypeRef::Vector { boxed, item } => {
             let copy = copy_type(item, alloc)?;
             Ok(TypeRef::Vector {

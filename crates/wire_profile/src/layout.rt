@@ -121,7 +121,7 @@ impl<'s> Layout<'s> {
     {
         match answer {
             Some(head) => is_boxed(of, number_at(&self.heads, head)),
-            None => matches!(of, TypeRef::Var { place: 0 }),
+            None => matches!(of, TypeRef::Var { index: 0 }),
         }
     }
 

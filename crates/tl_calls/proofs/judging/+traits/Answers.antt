@@ -7,7 +7,7 @@ use Rattle.tl_calls.proofs.Judged.{stands_var, stands_vector, stands_boxed, stan
 use Rattle.tl_calls.proofs.judging.+traits.Goals as goal
 
 pub traits_of-returns-in-Var : goal.traits_of-returns-in-Var
-traits_of-returns-in-Var t c = stands_var c.args.schema.now c.args.known.now c.args.of.now c.in-Var.place c.unwrap_or.result c.in-Var.is
+traits_of-returns-in-Var t c = stands_var c.args.schema.now c.args.known.now c.args.of.now c.in-Var.index c.unwrap_or.result c.in-Var.is
     (c.unwrap_or.ensures ∙ ap (λ (o : Option Traits). unwrap_or o plain) c.copied.ensures ∙ c.get.ensures.lookup.4 (omega arith) _)
 
 pub traits_of-returns-in-Vector : goal.traits_of-returns-in-Vector

@@ -12,14 +12,14 @@ use Rattle.tl_plan.proofs.closing.+close.Goals as goal
 
 pub close-returns-in-Some-clause-closed : goal.close-returns-in-Some-clause-closed
 close-returns-in-Some-clause-closed t c =
-    variable_closed c.args.table.now c.args.args.now c.in-Var.place c.in-Some.arg.now (shape c.args.of.now) c.requires
-    (slice_get_read c.args.args.now (length c.args.args.now) c.in-Var.place c.in-Some.arg.now refl c.in-Some.ensures.lookup.3.0 c.in-Some.ensures.lookup.1)
-    (shape-Var c.args.of.now c.in-Var.place c.in-Var.is)
+    variable_closed c.args.table.now c.args.args.now c.in-Var.index c.in-Some.arg.now (shape c.args.of.now) c.requires
+    (slice_get_read c.args.args.now (length c.args.args.now) c.in-Var.index c.in-Some.arg.now refl c.in-Some.ensures.lookup.3.0 c.in-Some.ensures.lookup.1)
+    (shape-Var c.args.of.now c.in-Var.index c.in-Var.is)
 
 pub close-returns-in-None-clause-closed : goal.close-returns-in-None-clause-closed
 close-returns-in-None-clause-closed t c =
     subst (λ (T : Shape). IfOk c.leaf-in-None.result (λ n. slice_get c.leaf-in-None.new.table n ≡ Some T))
-    (variable_stays c.args.table.now c.args.args.now c.in-Var.place (shape c.args.of.now) c.in-None.ensures.lookup.3 (shape-Var c.args.of.now c.in-Var.place c.in-Var.is)) c.leaf-in-None.ensures.number
+    (variable_stays c.args.table.now c.args.args.now c.in-Var.index (shape c.args.of.now) c.in-None.ensures.lookup.3 (shape-Var c.args.of.now c.in-Var.index c.in-Var.is)) c.leaf-in-None.ensures.number
 
 pub close-returns-in_ok-push-in-Vector-clause-closed :
     goal.close-returns-in_ok-push-in-Vector-clause-closed
