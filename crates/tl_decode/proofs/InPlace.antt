@@ -27,10 +27,15 @@ steps_then p old mid new n m (Ok (step.Stops f)) a b = (record { frames = b.0.fr
 steps_then p old mid new n m (Err (stop.Refused cause)) a b = (b.0, λ s. a.0.same s ∙ b.1 s)
 steps_then p old mid new n m (Err stop.Memory) a b = tt
 
-closes_opens : (p : PlanView) (old new fs : List StackFrame) (f g : StackFrame) (v : Value) (j : ℕ) → old ≡ fs ++ f ∷ [] → new ≡ fs ++ g ∷ [] → AreWell p old → Adds p f v g (Some j) → StepsFrom p old (next.Close v) new (Ok (step.Goes (next.Open j)))
+pub closes_opens : (p : PlanView) (old new fs : List StackFrame) (f g : StackFrame) (v : Value) (j : ℕ) → old ≡ fs ++ f ∷ [] → new ≡ fs ++ g ∷ [] → AreWell p old → Adds p f v g (Some j) → StepsFrom p old (next.Close v) new (Ok (step.Goes (next.Open j)))
 closes_opens p old new fs f g v j e is all (h, one, opens) =
     let first = closes_in p old fs f h v e all one.0 (λ w. one.1) in
     rw is (steps_then p old fs (fs ++ g ∷ []) (next.Close v) (next.Part h) (Ok (step.Goes (next.Open j))) first (opens fs first.0.frames))
+
+pub closes_taken : (p : PlanView) (fs others : List StackFrame) (f g h : StackFrame) (v : Value) → AreWell p (fs ++ f ∷ []) → Adds p f v g None → fs ++ g ∷ [] ≡ others ++ h ∷ [] → StepsFrom p (fs ++ f ∷ []) (next.Close v) others (Ok (step.Goes (next.Part h)))
+closes_taken p fs others f g h v well adds split =
+    let both = same_from_push fs others g h split in
+    rw (sym both.0, sym both.1) (closes_in p (fs ++ f ∷ []) fs f g v refl well adds.0 (λ w. adds.1))
 
 -- ---- one value more
 
@@ -71,6 +76,13 @@ module _ (p : PlanView) (xs : List StackFrame) (n : ℕ) (f : StackFrame) (len :
   last_taken g h v others adds split =
       let both = same_from_push (take (n - 1) xs) others g h (sym (last_set g) ∙ split) in
       rw (sym both.0, sym both.1) (closes_in p xs (take (n - 1) xs) f g v last_of well adds.0 (λ w. adds.1))
+
+  -- what holds of any frames inside which it becomes another
+  pub last_becomes : (P : List StackFrame → List StackFrame → Type 0) (g : StackFrame) → ((fs : List StackFrame) → AreWell p (fs ++ f ∷ []) → P (fs ++ f ∷ []) (fs ++ g ∷ [])) → P xs (slice_set xs (n - 1) g)
+  last_becomes P g holds =
+      let ys = take (n - 1) xs in
+      let there = holds ys (subst (AreWell p) last_of well) in
+      subst (λ (zs : List StackFrame). P zs (slice_set xs (n - 1) g)) (sym last_of) (subst (λ (zs : List StackFrame). P (ys ++ f ∷ []) zs) (sym (last_set g)) there)
 
 -- ---- a step, and then all others
 

@@ -30,5 +30,6 @@ pub mod RootsOrEnds
 pub mod SizesGiven
 pub mod TakesFour
 pub mod PieceWork
+pub mod ListNumbers
 pub mod FedWhole
 pub mod WholeValues

@@ -6,6 +6,7 @@ ghost use Rattle.tl_decode.specs.inner.Needs.{IsInOrder, IsNextValue, ItemLess, 
 use crate::fault::DecodeFault;
 use crate::held_items::{next_item, next_word};
 use crate::machine::{close_part, go_on};
+use crate::numbers::{begins_numbers, take_numbers};
 use crate::planned::{settle_at, stopped};
 use crate::stack::{Found, Item, Next, Onward, Reading, StackFrame, WantedItem};
 use crate::taking::take;
@@ -27,13 +28,15 @@ pub fn take_piece(
     ensures less { PieceLess plan.now (piece_work plan.now reading.old) piece.now reading.new result }
 {
     let mut used = 0usize;
+    let mut may_begin = true;
     'items: loop {
-        let (value, words) = take_words(alloc, plan, reading, at, &piece[used..])?;
+        let (value, words) = take_words(alloc, plan, reading, at, &piece[used..], may_begin)?;
         used += words;
         match value {
             Some(value) => return Ok(Some((value, used))),
             None => {}
         }
+        may_begin = begins_numbers(reading.wanted);
         match take_item(alloc, plan, reading, at, &piece[used..])? {
             None => return Ok(None),
             Some((found, count)) => {
@@ -55,12 +58,13 @@ fn take_words(
     reading: &mut Reading,
     at: &mut u64,
     next: &[u8],
+    may_begin: bool,
 ) -> Result<(Option<Value>, usize), DecodeFault>
     requires { IsInOrder plan.now reading.old }
     ensures takes { TakesWords plan.now (reads_on plan.now reading.old at.old) next.now reading.new at.new result }
     ensures less { IfOk result (λ x. IfNone x.0 (WorksLess plan.now reading.old reading.new x.1)) }
 {
-    let mut used = 0usize;
+    let mut used = take_numbers(plan, reading, at, next, may_begin)?;
     'words: loop {
         let Some(value) = next_value(reading.wanted, &reading.held, &next[used..]) else {
             return Ok((None, used));
@@ -86,11 +90,13 @@ fn after_value(
     requires { AreWell plan.now frames.old.items }
     ensures { SettlesAt plan.now (next_at plan.now (views plan.now frames.old.items) (Next.Close value)) (next_work plan.now (views plan.now frames.old.items) (Next.Close value)) place frames.new.items result }
 {
-    if frames.is_empty() {
-        return Ok(Found::Done { value });
+    match frames.last_mut() {
+        None => Ok(Found::Done { value }),
+        Some(top) => {
+            let onward = close_part(plan, top, value)?;
+            found_after(alloc, plan, frames, onward, place)
+        }
     }
-    let onward = close_part(plan, frames, value)?;
-    found_after(alloc, plan, frames, onward, place)
 }
 
 // What is found after a value that became a part; a refusal is one at the place.

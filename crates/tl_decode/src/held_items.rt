@@ -166,7 +166,8 @@ fn whole_word(bytes: &[u8]) -> Item
     }
 }
 
-fn word_in(bytes: &[u8]) -> u32
+/// The four bytes that are first, as a number.
+pub fn word_in(bytes: &[u8]) -> u32
     requires { 4 ≤ length bytes.now }
     ensures { result ≡ from_le_bytes w32 (take 4 bytes.now) }
 {

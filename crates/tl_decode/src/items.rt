@@ -1,5 +1,5 @@
 //! Items from a source.
-ghost use Rattle.std.specs.Prelude.{◌≡◌, ◌≤◌, ◌++◌, ℕ, List, IsErrOf, OnOk, length};
+ghost use Rattle.std.specs.Prelude.{◌≡◌, ◌≤◌, ◌<◌, ◌^◌, ◌++◌, ℕ, List, IsErrOf, OnOk, length};
 ghost use Rattle.tl_base.specs.Using.{Used};
 ghost use Rattle.tl_types.specs.Offsets.{moved};
 ghost use Rattle.tl_types.specs.inner.Reading.{added_at, spot, word_at};
@@ -130,12 +130,11 @@ fn exact_of<S: Source>(
     at: &mut u64,
     from: &mut S,
 ) -> Result<(), DecodeFault>
+    requires { at.old < 2 ^ 64 }
     ensures read { ReadsAs (λ _. out.new.items) (S.state from.old).left (S.state from.new).left at.old at.new result (added_at out.old.items place count) }
     ensures grows { OnOk result ((more : List ℕ) × (out.new.items ≡ out.old.items ++ more) × (length more ≡ count)) }
     ensures used { Used (S.state from.old) (S.state from.new) (IsErrOf result DecodeFault.ReadFault) }
 {
-    // Read for the proof alone: that the offset fits.
-    let _start = *at;
     let mut piece = [0u8; PIECE_BYTES as usize];
     let mut left = count;
     while left > 0 {

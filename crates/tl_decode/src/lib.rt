@@ -10,6 +10,7 @@ mod items;
 mod laws;
 mod machine;
 mod members;
+mod numbers;
 mod opening;
 mod parts;
 mod piecewise;

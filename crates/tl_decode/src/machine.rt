@@ -1,6 +1,6 @@
 //! The steps that need no bytes: values are opened, their parts come in order, and values close.
 ghost use Rattle.std.specs.Prelude.{◌≡◌, ◌<◌, ◌∷◌, ◌++◌, List, [], IfOk, length};
-ghost use Rattle.tl_decode.specs.inner.Frames.{AreWell, GoesOn, IsWellNext, SettlesFrom, StepsFrom};
+ghost use Rattle.tl_decode.specs.inner.Frames.{AreWell, ClosesPart, GoesOn, IsWellFrame, IsWellNext, SettlesFrom, StepsFrom};
 
 use crate::opening::{onward, open};
 use crate::parts::{add, part};
@@ -76,24 +76,15 @@ fn close(
     }
 }
 
-/// A value becomes a part of the innermost list or record, of which there is one. This is the first step of `settle`, told without a value.
+/// A value becomes a part of the innermost list or record. This is the first step of `settle`, told without a value.
 #[inline(always)]
-pub fn close_part(
-    plan: &Plan,
-    frames: &mut Vec<StackFrame>,
-    value: Value,
-) -> Result<Onward, AllocError>
-    requires frames { AreWell plan.now frames.old.items }
-    requires some { 0 < length frames.old.items }
-    ensures goes { IfOk result (GoesOn plan.now frames.old.items value frames.new.items) }
-    ensures some { 0 < length frames.new.items }
+pub fn close_part(plan: &Plan, top: &mut StackFrame, value: Value) -> Result<Onward, AllocError>
+    requires { IsWellFrame plan.now top.old }
+    ensures { IfOk result (ClosesPart plan.now top.old value top.new) }
 {
-    match frames.last_mut() {
-        None => unreachable!(),
-        Some(top) => match add(plan, top, value)? {
-            Some(of) => Ok(onward(plan, of)),
-            None => Ok(Onward::Rest),
-        },
+    match add(plan, top, value)? {
+        Some(of) => Ok(onward(plan, of)),
+        None => Ok(Onward::Rest),
     }
 }
 

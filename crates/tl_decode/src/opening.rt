@@ -1,7 +1,7 @@
 //! The beginning of a value of an instance.
 ghost use Rattle.std.specs.Prelude.{◌≡◌, ◌<◌, IfOk, IfSome, List, Ok, length};
 ghost use Rattle.tl_plan.specs.Plans.{IsPlan};
-ghost use Rattle.tl_decode.specs.inner.Frames.{AreWell, GoesOn, IsBare, IsFresh, IsInPlan, IsList, IsNumbered, StepsFrom, members_in, type_in};
+ghost use Rattle.tl_decode.specs.inner.Frames.{AreWell, GoesOn, IsBare, IsFresh, IsInPlan, IsItem, IsList, IsNumbered, StepsFrom, members_in, type_in};
 
 use crate::stack::{Advance, Found, ItemFault, Next, Onward, StackFrame, WantedItem};
 use std::alloc::{AllocError, Global};
@@ -55,7 +55,7 @@ pub fn onward(plan: &Plan, of: u32) -> Onward
 #[inline(always)]
 fn item_of(plan: &Plan, of: u32) -> Option<WantedItem>
     requires { IsInPlan plan.now of }
-    ensures { IfSome result (λ W. (fs : List StackFrame) → AreWell plan.now fs → StepsFrom plan.now fs (Next.Open of) fs (Ok (Advance.Stops (Found.Wants W)))) }
+    ensures { IfSome result (IsItem plan.now of) }
 {
     match plan.instance(of).form {
         TypeForm::Int => Some(WantedItem::Int),

@@ -134,6 +134,10 @@ find_in ds T w = None
 unfoldable pub number_at : PlanView → ℕ → Shape → ℕ → ℕ → Reader
 number_at p n T place w = numbered_at (fields_at (value_at p.schema.decls n) (arguments_of T) []) (made T) p.schema.decls place w (find_in p.schema.decls T w)
 
+-- the item is an `int` or a `#`
+abbrev pub IsNumber : WantedItem → Type 0
+IsNumber W = (W ≡ wanted.Int) ⊎ (W ≡ wanted.Nat)
+
 -- after the word w, where it isn't a value by itself
 abbrev pub after_word : PlanView → ℕ → WantedItem → ℕ → ℕ → Reader
 after_word p n wanted.Int place w s = Ok (value.int (cast_signed w32 w), s)
@@ -284,6 +288,10 @@ SettlesFrom p fs n new result = Settles p (next_at p (views p fs) n) (next_work 
 abbrev pub Opens : PlanView → StackFrame → StackFrame → ℕ → Type 0
 Opens p f g j = (fs : List StackFrame) → AreWell p fs → StepsFrom p fs (next.Part f) (fs ++ g ∷ []) (Ok (step.Goes (next.Open j)))
 
+-- a value of instance j is this item, which is looked for then
+abbrev pub IsItem : PlanView → ℕ → WantedItem → Type 0
+IsItem p j W = (fs : List StackFrame) → AreWell p fs → StepsFrom p fs (next.Open j) fs (Ok (step.Stops (found.Wants W)))
+
 -- of the record with these fields, what comes next
 abbrev pub Comes : PlanView → ℕ → ℕ → Vec Value Global → Coming → Type 0
 Comes p j m fields (coming.End i) =
@@ -307,6 +315,10 @@ abbrev pub GoesOn : PlanView → List StackFrame → Value → List StackFrame �
 GoesOn p old v new (onward.Item W) = StepsFrom p old (next.Close v) new (Ok (step.Stops (found.Wants W)))
 GoesOn p old v new (onward.Value j) = StepsFrom p old (next.Close v) new (Ok (step.Goes (next.Open j)))
 GoesOn p old v new onward.Rest = (fs : List StackFrame) (f : StackFrame) → new ≡ fs ++ f ∷ [] → StepsFrom p old (next.Close v) fs (Ok (step.Goes (next.Part f)))
+
+-- the same, where the innermost frame f becomes g
+abbrev pub ClosesPart : PlanView → StackFrame → Value → StackFrame → Onward → Type 0
+ClosesPart p f v g o = (fs : List StackFrame) → AreWell p (fs ++ f ∷ []) → GoesOn p (fs ++ f ∷ []) v (fs ++ g ∷ []) o
 
 -- ---- types whose values have parts
 

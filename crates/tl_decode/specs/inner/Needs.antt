@@ -1,5 +1,5 @@
 -- How many bytes an item has, as far as its first bytes tell; and items that are whole. This project's own.
-use Rattle.std.specs.Prelude.{◌≡◌, ℕ, ◌+◌, ◌-◌, ◌*◌, ◌^◌, ◌<◌, ◌≤◌, List, [], ◌++◌, length, take, drop, false, Option, Some, None, Result, Ok, Err, nat_lt, if◌then◌else◌}
+use Rattle.std.specs.Prelude.{◌≡◌, ℕ, ◌+◌, ◌-◌, ◌*◌, ◌^◌, ◌<◌, ◌≤◌, List, [], ◌∷◌, ◌++◌, length, take, drop, false, Option, Some, None, Result, Ok, Err, nat_lt, if◌then◌else◌}
 use Rattle.tl_plan.specs.Plans.{PlanView}
 use Rattle.tl_types.specs.Offsets.{moved}
 use Rattle.tl_types.specs.Texts.{missing}
@@ -10,6 +10,7 @@ use Rattle.tl_types.specs.declared.cause.Cause.{Cause}
 use Rattle.tl_types.specs.declared.value.Value.{Value}
 use Rattle.tl_decode.specs.declared.fault.DecodeFault.{DecodeFault}
 use Rattle.tl_decode.specs.declared.fault.DecodeFault.TheVariants as fault
+use Rattle.tl_decode.specs.declared.stack.StackFrame.{StackFrame}
 use Rattle.tl_decode.specs.declared.stack.WantedItem.{WantedItem}
 use Rattle.tl_decode.specs.declared.stack.WantedItem.TheVariants as wanted
 use Rattle.tl_decode.specs.declared.stack.Item.{Item}
@@ -112,6 +113,20 @@ TakesWords p old next new at (Ok x) = (x.1 ≤ length next) × EndsWords p old n
 TakesWords p old next new at (Err (fault.Refused place cause)) = (is_truncated cause ≡ false) × ((more : List ℕ) → old (next ++ more) ≡ Err (place, cause))
 TakesWords p old next new at (Err fault.ReadFault) = ⊥
 TakesWords p old next new at (Err fault.Memory) = Unit {0}
+
+-- ---- numbers of a list
+
+-- So many of the next bytes are taken, and the same item is looked for: reading goes on from the new frames as it did from the old ones.
+pub record MovesOn (p : PlanView) (W : WantedItem) (next : List ℕ) (old new : List StackFrame) (n : ℕ) : Type 0 where
+  pub within : n ≤ length next
+  pub frames : AreWell p new
+  pub same : (at : ℕ) → at < 2 ^ 64 → (more : List ℕ) → found_at p (views p old) (found.Wants W) (spot at (next ++ more)) ≡ found_at p (views p new) (found.Wants W) (spot (moved at n) (drop n next ++ more))
+  pub work : found_work p (views p new) (found.Wants W) ≤ found_work p (views p old) (found.Wants W)
+  pub less : 0 < n → found_work p (views p new) (found.Wants W) < found_work p (views p old) (found.Wants W)
+
+-- the same, where the innermost frame f becomes g
+abbrev pub AddsNumbers : PlanView → WantedItem → List ℕ → StackFrame → StackFrame → ℕ → Type 0
+AddsNumbers p W next f g n = (fs : List StackFrame) → AreWell p (fs ++ f ∷ []) → MovesOn p W next (fs ++ f ∷ []) (fs ++ g ∷ []) n
 
 -- ---- how often a decoder asks for more
 

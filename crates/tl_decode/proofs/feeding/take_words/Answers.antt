@@ -1,4 +1,4 @@
-use Rattle.std.proofs.Common.{◌≡◌, ◌+◌, ◌-◌, length, take, drop, ap, refl, arith}
+use Rattle.std.proofs.Common.{◌≡◌, ◌+◌, ◌-◌, length, take, drop, ap, arith}
 use Rattle.std.proofs.lemmas.Result.{err_from_is_err_and}
 use Rattle.tl_types.specs.Offsets.{moved}
 use Rattle.tl_decode.specs.declared.stack.Found.TheVariants as found
@@ -9,7 +9,10 @@ use Rattle.tl_decode.proofs.PieceWork.{falls}
 use Rattle.tl_decode.proofs.feeding.take_words.Goals as goal
 
 pub words-init : goal.words-init
-words-init c = record { so_far = record { within = omega arith; order = c.requires; reads = λ more. refl }; work = omega arith; less = λ some. omega (arith, some) }
+words-init c =
+    let taken = c.in_ok-used.ensures.takes in
+    let less = c.in_ok-used.ensures.less in
+    record { so_far = record { within = taken.0; order = taken.1.0; reads = taken.1.1 }; work = less.0; less = less.1 }
 
 pub returns-in_err-value-clause-takes : goal.returns-in_err-value-clause-takes
 returns-in_err-value-clause-takes c =
@@ -18,7 +21,7 @@ returns-in_err-value-clause-takes c =
     let next = c.args.next.now in
     let x = rw c.deref.ensures.value at c.in-Some.ensures in
     let is : c.saturating_add.result ≡ moved c.words.at (length now.held.items + 4) = omega (arith, c.saturating_add.ensures, ap length x.1.0) in
-    let q = err_from_is_err_and c.from_residual.result c.from_residual.ensures.1 in
+    let q = err_from_is_err_and c.from_residual-in_err-value.result c.from_residual-in_err-value.ensures.1 in
     let t = word_error p now c.words.at c.saturating_add.result (take (length next - c.words.used) (drop c.words.used next)) c.after_value.new.frames x.0 c.in-Some.value x.1 (x.2 p) is _ c.in_err-value.ensures in
     rw (q.1, q.2) (words_fail p (reads_on p c.args.reading.now c.args.at.now) next c.words.used c.words.at now c.words.invariant.so_far (record now { frames = c.after_value.new.frames }) c.saturating_add.result 0 _ (found_work p (views p now.frames.items) (found.Wants now.wanted)) t)
 

@@ -6,7 +6,7 @@ use Rattle.tl_decode.proofs.Pieces.{added_more, adding_none, adding_more, adding
 use Rattle.tl_decode.proofs.items.exact_of.Goals as goal
 
 pub loop-left-init : goal.loop-left-init
-loop-left-init g c = record { bound = search rules; grows = ([], sym (append-nil c.args.out.now.items), omega arith); width = refl; read = adding_none _ c.args.place _ _ _; used = used_none _ ⊥ (λ f. f) }
+loop-left-init g c = record { bound = c.requires; grows = ([], sym (append-nil c.args.out.now.items), omega arith); width = refl; read = adding_none _ c.args.place _ _ _; used = used_none _ ⊥ (λ f. f) }
 
 pub returns-in-Err-Ended-clause-read : goal.returns-in-Err-Ended-clause-read
 returns-in-Err-Ended-clause-read g c =
