@@ -30,7 +30,7 @@ use Rattle.box_server.specs.Refusing.{first_cause, bad_entries, too_many, box_fu
 use Rattle.box_server.specs.Receiving.{answer_by, state_by, Receives}
 use Rattle.box_server.specs.inner.Drafted.{Fits, joined, joined_channels, AreAligned, IsBlank, Drafts}
 use Rattle.box_server.specs.inner.Rooms.{numbers_of, blank_tail}
-use Rattle.box_server.specs.inner.Taking.{CountsKeys, Takes, with_draft}
+use Rattle.box_server.specs.inner.Taking.{CountsKeys, IsPlan, Takes, TakesUnkept, with_draft}
 use Rattle.box_server.proofs.Soundness.{posted_sound}
 use Rattle.box_events.specs.Boxes.{ending}
 use Rattle.box_events.specs.BoxViews.{BoxView, end_of}
@@ -242,13 +242,47 @@ pub draft_refused : (s : ServerState) (random_id : ℤ) (posts : List Post) (f :
 draft_refused s random_id posts f fresh bad many (inl memory) = receives_nothing s s random_id posts f memory refl
 draft_refused s random_id posts f fresh bad many (inr full) = receives_refused s random_id posts f fresh (cause_full s posts (Some f) bad many full)
 
-pub taken_by : (s t : ServerState) (random_id : ℤ) (posts : List Post) (d : Draft) (r : Result Posted PostFault) → map.get s.receipts random_id ≡ None → first_cause (bad_entries (entries_of posts)) ≡ None → first_cause (too_many (applied_all s (entries_of posts))) ≡ None → Drafts s posts (Ok d) → Takes s random_id d r t
-    → Receives s random_id posts r t
-taken_by s t random_id posts d (Ok p) fresh bad many h takes = receives_new s t random_id posts d p fresh (cause_full s posts None bad many h.3) h.1 h.2 takes.0 takes.1
-taken_by s t random_id posts d (Err f) fresh bad many h takes = receives_nothing s t random_id posts f takes.0 takes.1
-
 pub draft_sound : (s : ServerState) (random_id : ℤ) (posts : List Post) (d : Draft) → IsSound s → first_cause (bad_entries (entries_of posts)) ≡ None → first_cause (too_many (applied_all s (entries_of posts))) ≡ None → Drafts s posts (Ok d) → IsSound (with_draft s random_id d)
 draft_sound s random_id posts d sound bad many h = subst IsSound (sym (posted_with s random_id posts d h.1)) (posted_sound s random_id posts sound (cause_full s posts None bad many h.3))
+
+few_by : (a b : Bool) → first_cause ((a, TooManyChannels) ∷ (b, TooManySettings) ∷ []) ≡ None → b ≡ false
+few_by true b e = absurd cc
+few_by false true e = absurd cc
+few_by false false e = refl
+
+few_at : (n : ℕ) → ltb MAX_KEYS n ≡ false → n ≤ MAX_KEYS
+few_at n e = grind (arith, nat_tests)
+
+few_of : (t : ServerState) (keys : ℕ) → first_cause (too_many t) ≡ None → keys ≡ keys_in t.settings → keys ≤ MAX_KEYS
+few_of t keys none is = let le = few_at (keys_in t.settings) (few_by (ltb MAX_CHANNELS (length t.channels)) (ltb MAX_KEYS (keys_in t.settings)) none) in omega (arith, le, is)
+
+-- ---- a draft of new posts, and what comes of it
+
+pub plan_of : (s : ServerState) (random_id : ℤ) (posts : List Post) (keys : ℕ) (d : Draft) → IsSound s → map.get s.receipts random_id ≡ None → first_cause (bad_entries (entries_of posts)) ≡ None → CountsKeys s posts (Ok keys) → Drafts s posts (Ok d) → IsPlan s random_id posts keys d
+plan_of s random_id posts keys d sound fresh bad counts h = record {
+  ready = record {
+    fits = h.0;
+    count = counts.1 ∙ ap (λ (t : ServerState). keys_in t.settings) (sym h.1);
+    few = few_of (applied_all s (entries_of posts)) keys counts.0 counts.1;
+    fresh = fresh;
+    sound = draft_sound s random_id posts d sound bad counts.0 h;
+  };
+  cause = cause_full s posts None bad counts.0 h.3;
+  applies = h.1;
+  updates = h.2;
+}
+
+pub taken_by : (s t : ServerState) (random_id : ℤ) (posts : List Post) (keys : ℕ) (d : Draft) (p : Posted) → IsPlan s random_id posts keys d → Takes s random_id d (Ok p) t → Receives s random_id posts (Ok p) t
+taken_by s t random_id posts keys d p plan takes = receives_new s t random_id posts d p plan.ready.fresh plan.cause plan.applies plan.updates takes.0 takes.1
+
+pub unkept_by : (s t : ServerState) (random_id : ℤ) (posts : List Post) (keys : ℕ) (d : Draft) (r : Result Posted PostFault) → IsPlan s random_id posts keys d → TakesUnkept s random_id d r t → Receives s random_id posts r t
+unkept_by s t random_id posts keys d (Ok p) plan takes = taken_by s t random_id posts keys d p plan takes
+unkept_by s t random_id posts keys d (Err f) plan takes = receives_nothing s t random_id posts f takes.0 takes.1
+
+-- the same, of the ids that the code has
+pub unkept_at : (s t : ServerState) (id k m : ℤ) (posts : List Post) (keys : ℕ) (d : Draft) (r : Result Posted PostFault) → k ≡ id → m ≡ id → IsPlan s k posts keys d → TakesUnkept s m d r t → Receives s id posts r t
+unkept_at s t id k m posts keys d r one other plan takes =
+    unkept_by s t id posts keys d r (subst (λ (z : ℤ). IsPlan s z posts keys d) one plan) (subst (λ (z : ℤ). TakesUnkept s z d r t) other takes)
 
 pub box_end : (b : BoxView) → b.first ≡ 0 → end_of b ≡ ending b.events
 box_end b first = ap (λ (n : ℕ). n + ending b.events) first ∙ omega arith

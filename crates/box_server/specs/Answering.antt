@@ -6,6 +6,8 @@ use Rattle.box_server.specs.declared.posted.Posted.{Posted}
 use Rattle.box_server.specs.declared.entry.Entry.{Entry}
 use Rattle.box_server.specs.declared.store_fault.OpenFault.{OpenFault}
 use Rattle.box_server.specs.declared.store_fault.OpenFault.TheVariants as opening
+use Rattle.box_server.specs.declared.store_fault.StoreFault.{StoreFault}
+use Rattle.box_server.specs.declared.store_fault.StoreFault.TheVariants as storing
 use Rattle.box_server.specs.declared.store_fault.StoreRefusal.{StoreRefusal}
 use Rattle.box_server.specs.declared.store_fault.StoreRefusal.TheVariants as refusing
 use Rattle.box_server.specs.Rebuilding.{are_right, rebuilt, IsBad, is_new, kept_of}
@@ -34,6 +36,20 @@ IsOpenFailed (Err (opening.Failed keeper)) = Unit {0}
 IsOpenFailed (Err (opening.Memory keeper)) = ⊥
 
 -- ---- posts are taken
+
+-- As the server, and a new post is kept; a refusal changes nothing. Where the keeper fails, the post was new, and the server is as before.
+abbrev pub TakesThem : {K : Type 0} → StoredView K → ℤ → List Post → Result Posted StoreFault → StoredView K → Type 0
+TakesThem s random_id posts (Ok posted) t = Takes s.server random_id posts posted t.server
+TakesThem s random_id posts (Err (storing.Refused fault)) t = (Err fault ≡ post_answer s.server random_id posts) × (t ≡ s)
+TakesThem s random_id posts (Err storing.Failed) t = (is_new s.server random_id posts ≡ true) × (t.server ≡ s.server)
+TakesThem s random_id posts (Err storing.Memory) t = t ≡ s
+
+-- what a call appended to the entries: a new post's entry, where it was answered
+abbrev pub taken_after : {K : Type 0} → StoredView K → ℤ → List Post → Result Posted StoreFault → List Entry
+taken_after s random_id posts (Ok posted) = kept_of s.server random_id posts
+taken_after s random_id posts (Err fault) = []
+
+-- ---- posts are taken by a store that is handed on
 
 -- As the server, and a new post is kept; a refusal changes nothing. Where the keeper fails, the post was new.
 abbrev pub TakesPosts : {K : Type 0} → StoredView K → ℤ → List Post → Result (StoredView K × Posted) (StoreRefusal K) → Type 0

@@ -7,8 +7,8 @@ ghost use Rattle.box_events.specs.declared.limits.TheConstants.{MAX_IDS, MAX_KEY
 ghost use Rattle.box_server.specs.Entries.{entries_of, is_event};
 ghost use Rattle.box_server.specs.LastEntries.{keys_in};
 ghost use Rattle.box_server.specs.Receiving.{Receives};
-ghost use Rattle.box_server.specs.inner.Drafted.{Fits, joined, Drafts, IsBlank};
-ghost use Rattle.box_server.specs.inner.Taking.{CountsKeys, Takes, with_draft};
+ghost use Rattle.box_server.specs.inner.Drafted.{Drafts, IsBlank};
+ghost use Rattle.box_server.specs.inner.Taking.{Adds, CountsKeys, IsReady, Prepares, Takes, TakesUnkept};
 ghost use Rattle.box_server.specs.Answers.{IsAnswered, answer, difference_of, channel_difference};
 ghost use Rattle.box_server.specs.Servers.{new_server, dated_at, state_of, channel_in, empty_channel};
 ghost use Rattle.box_server.specs.Sound.{IsSound};
@@ -18,13 +18,18 @@ use crate::answers::{are_whole, channel_reply, difference, is_at, number_of, ref
 use crate::channel::{Channel, append_all};
 use crate::checking::check;
 use crate::draft::Draft;
+use crate::entry::Entry;
 use crate::fault::PostFault;
+use crate::keeper::Keeper;
+use crate::no_keeper::NoKeeper;
 use crate::opening::opens_too_many;
 use crate::posted::Posted;
+use crate::prepared::Prepared;
 use crate::receipts::keep;
 use crate::room::{blank_tails, grow, numbers, room_for};
 use crate::runs::run_from;
 use crate::setting_list::SettingList;
+use crate::store_fault::KeepFault;
 use crate::tail::Tail;
 use box_events::{EventBox, ListOf, MAX_KEYS, Post, Push, Receipt, Reply, Request, State};
 use std::alloc::Global;
@@ -166,16 +171,27 @@ impl Server {
     pub fn post(&mut self, random_id: i64, posts: &[Post]) -> Result<Posted, PostFault>
         ensures { Receives self.old random_id posts.now result self.new }
     {
-        if let Some(receipt) = self.receipts.get(&random_id) {
-            return Ok(Posted {
-                receipt: *receipt,
+        match self.prepare(random_id, posts)? {
+            Prepared::Known { receipt } => Ok(Posted {
+                receipt,
                 push: None,
-            });
+            }),
+            Prepared::New { keys, draft } => self.take_unkept(random_id, keys, draft),
+        }
+    }
+
+    /// What the server would do with posts under a random id.
+    pub(crate) fn prepare(&self, random_id: i64, posts: &[Post]) -> Result<Prepared, PostFault>
+        ensures prepares { Prepares self.now random_id posts.now result }
+        ensures sound { IsSound self.now }
+    {
+        if let Some(receipt) = self.receipts.get(&random_id) {
+            return Ok(Prepared::Known { receipt: *receipt });
         }
         check(posts)?;
         let keys = self.keys_with(posts)?;
         let draft = self.draft(posts)?;
-        self.take(random_id, keys, draft)
+        Ok(Prepared::New { keys, draft })
     }
 
     // How many keys have a setting with these posts. It refuses them where too much would be kept.
@@ -219,14 +235,40 @@ impl Server {
         })
     }
 
-    // Takes what a draft brings, and keeps the receipt of it. All memory is taken before anything changes.
-    fn take(&mut self, random_id: i64, keys: usize, draft: Draft) -> Result<Posted, PostFault>
-        requires fits { Fits self.old draft }
-        requires keys { keys ≡ keys_in (joined self.old draft).settings }
-        requires few { keys ≤ MAX_KEYS }
-        requires fresh { map.get self.old.receipts random_id ≡ Option.None }
-        requires sound { IsSound (with_draft self.old random_id draft) }
-        ensures { Takes self.old random_id draft result self.new }
+    // Takes what a draft brings, and it is kept nowhere.
+    fn take_unkept(
+        &mut self,
+        random_id: i64,
+        keys: usize,
+        draft: Draft,
+    ) -> Result<Posted, PostFault>
+        requires { IsReady self.old random_id keys draft }
+        ensures { TakesUnkept self.old random_id draft result self.new }
+    {
+        let entry = Entry {
+            date: self.date,
+            random_id,
+            posts: ListOf::new(*self.channels.allocator()),
+        };
+        match self.take(keys, draft, &mut NoKeeper, entry) {
+            Ok(posted) => Ok(posted),
+            // A keeper that keeps nothing never fails.
+            Err(_) => Err(PostFault::Memory),
+        }
+    }
+
+    /// Takes what a draft brings, keeps the receipt of it, and has a keeper add its entry. All memory is taken before the keeper is asked, and nothing
+    /// fails after it.
+    pub(crate) fn take<K: Keeper>(
+        &mut self,
+        keys: usize,
+        draft: Draft,
+        keeper: &mut K,
+        entry: Entry,
+    ) -> Result<Posted, KeepFault>
+        requires { IsReady self.old entry.random_id keys draft }
+        ensures takes { Takes self.old entry.random_id draft result self.new }
+        ensures adds { Adds K.state keeper.old keeper.new entry result }
     {
         let opened = room_for(
             &mut self.common,
@@ -252,11 +294,12 @@ impl Server {
         let (first, last) = numbers(self.settings.len() as u32, seq);
         keep(
             &mut self.receipts,
-            random_id,
             receipt,
             &mut self.settings,
             settings,
             keys,
+            keeper,
+            entry,
         )?;
         append_all(&mut self.common, common.into_events());
         append_all(&mut self.secret, secret.into_events());

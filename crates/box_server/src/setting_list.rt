@@ -6,9 +6,13 @@ ghost use Rattle.box_server.specs.Entries.{entries_of};
 ghost use Rattle.box_server.specs.LastEntries.{changed_since, keys_in};
 ghost use Rattle.box_server.specs.Posting.{dated_with, settings_of};
 ghost use Rattle.box_server.specs.inner.LastIndexes.{entry_at, since_at, NotesFresh, NotesPost};
+ghost use Rattle.box_server.specs.inner.Taking.{Adds};
 
 use crate::dated::DatedSetting;
+use crate::entry::Entry;
+use crate::keeper::Keeper;
 use crate::places::{note_all, release_places, take_places};
+use crate::store_fault::KeepFault;
 use box_events::{ListOf, Post, Setting};
 use std::alloc::Global;
 use std::collections::BTreeMap;
@@ -134,18 +138,30 @@ impl SettingList {
         }
     }
 
-    /// Appends settings, all or none of them. So many keys have a setting then.
-    pub fn append_all(&mut self, more: Vec<DatedSetting>, keys: usize) -> Result<(), Memory>
+    /// Appends settings, all or none of them, once a keeper has added an entry. So many keys have a setting then. All memory is taken before the
+    /// keeper is asked.
+    pub fn append_all<K: Keeper>(
+        &mut self,
+        more: Vec<DatedSetting>,
+        keys: usize,
+        keeper: &mut K,
+        entry: Entry,
+    ) -> Result<(), KeepFault>
         requires limit { length self.old + length more.items ≤ MAX_END }
         requires keys { keys ≡ keys_in (self.old ++ more.items) }
         requires few { keys ≤ MAX_KEYS }
         ensures ok { OnOk result (self.new ≡ self.old ++ more.items) }
         ensures err { OnErr result (self.new ≡ self.old) }
+        ensures adds { Adds K.state keeper.old keeper.new entry result }
     {
         self.settings.reserve(more.len())?;
-        if let Err(fault) = take_places(&mut self.last, &more) {
+        if take_places(&mut self.last, &more).is_err() {
             release_places(&mut self.last, &more);
-            return Err(fault);
+            return Err(KeepFault::Memory);
+        }
+        if keeper.add(entry).is_err() {
+            release_places(&mut self.last, &more);
+            return Err(KeepFault::Failed);
         }
         note_all(&mut self.settings, &mut self.last, more);
         self.keys = keys;

@@ -1,16 +1,20 @@
 //! A server beside the keeper of its posts.
-ghost use Rattle.std.specs.Prelude.{◌≡◌, ◌<◌, ◌≤◌, ◌^◌, ◌++◌, Ok, Err, IfSome, length, ⊤};
+ghost use Rattle.std.specs.Prelude.{◌≡◌, ◌<◌, ◌≤◌, ◌^◌, ◌++◌, Ok, Err, IfSome, IsErrOf, length, ⊤};
 ghost use Rattle.box_server.specs.Servers.{dated_at};
 ghost use Rattle.box_server.specs.Keeping.{Keeps, with_more};
 ghost use Rattle.box_server.specs.Rebuilding.{kept_of};
+ghost use Rattle.box_server.specs.Sound.{IsSound};
 ghost use Rattle.box_server.specs.Storing.{Tells};
-ghost use Rattle.box_server.specs.Answering.{Opens, opened_keeper, IsOpenFailed, TakesPosts, IsPostFailed, kept_keeper, kept_after};
+ghost use Rattle.box_server.specs.Answering.{Opens, opened_keeper, IsOpenFailed, TakesThem, taken_after, TakesPosts, IsPostFailed, kept_keeper, kept_after};
+ghost use Rattle.box_server.specs.declared.store_fault.StoreFault.TheVariants.{Failed};
+ghost use Rattle.box_server.specs.inner.Taking.{store_answer};
 
 use crate::entry::{Entry, Posts};
 use crate::keeper::Keeper;
 use crate::loading::{LoadFault, load};
 use crate::no_keeper::NoKeeper;
-use crate::store_fault::{OpenFault, StoreRefusal};
+use crate::prepared::Prepared;
+use crate::store_fault::{KeepFault, OpenFault, StoreFault, StoreRefusal};
 use crate::{PostFault, Posted, Server};
 use std::alloc::Global;
 use std::marker::Model;
@@ -60,38 +64,49 @@ impl<K: Keeper> Stored<K> {
         }
     }
 
-    /// Takes posts as the server does, and keeps new ones before it answers. Where the keeper fails nothing is answered.
+    /// Takes posts as the server does. New ones are kept first, once nothing else can fail: where the keeper fails, or memory runs out, the server is
+    /// as before, and nothing is answered.
+    pub fn take(&mut self, random_id: i64, posts: Posts) -> Result<Posted, StoreFault>
+        ensures posts { TakesThem self.old random_id posts result self.new }
+        ensures sound { IsSound self.old.server }
+        ensures entries { (K.state self.new.keeper).entries ≡ with_more (taken_after self.old random_id posts result) (K.state self.old.keeper).entries }
+        ensures used { Keeps (K.state self.old.keeper) (K.state self.new.keeper) (IsErrOf result Failed) (λ es. length (es ++ kept_of self.old.server random_id posts) ≤ (K.state self.old.keeper).room) }
+    {
+        let prepared = match self.server.prepare(random_id, posts.as_slice()) {
+            Ok(prepared) => prepared,
+            Err(PostFault::Memory) => return Err(StoreFault::Memory),
+            Err(fault) => return Err(StoreFault::Refused { fault }),
+        };
+        match prepared {
+            Prepared::Known { receipt } => Ok(Posted {
+                receipt,
+                push: None,
+            }),
+            Prepared::New { keys, draft } => {
+                let entry = Entry {
+                    date: self.server.state().date,
+                    random_id,
+                    posts,
+                };
+                store_answer(self.server.take(keys, draft, &mut self.keeper, entry))
+            }
+        }
+    }
+
+    /// Takes posts as `take` does, and hands the store on. Where the keeper fails, it alone comes back.
     pub fn post(self, random_id: i64, posts: Posts) -> Result<(Stored<K>, Posted), StoreRefusal<K>>
         ensures posts { TakesPosts self random_id posts result }
         ensures entries { (K.state (kept_keeper result)).entries ≡ with_more (kept_after self random_id posts result) (K.state self.keeper).entries }
         ensures used { Keeps (K.state self.keeper) (K.state (kept_keeper result)) (IsPostFailed result) (λ es. length (es ++ kept_of self.server random_id posts) ≤ (K.state self.keeper).room) }
     {
-        let Stored {
-            mut keeper,
-            mut server,
-        } = self;
-        let date = server.state().date;
-        match server.post(random_id, posts.as_slice()) {
-            Ok(posted) => {
-                if posted.push.is_none() {
-                    return Ok((Stored { keeper, server }, posted));
-                }
-                match keeper.add(Entry {
-                    date,
-                    random_id,
-                    posts,
-                }) {
-                    Ok(()) => Ok((Stored { keeper, server }, posted)),
-                    Err(_) => Err(StoreRefusal::Failed { keeper }),
-                }
-            }
-            Err(PostFault::Memory) => Err(StoreRefusal::Memory {
-                store: Stored { keeper, server },
+        let mut store = self;
+        match store.take(random_id, posts) {
+            Ok(posted) => Ok((store, posted)),
+            Err(StoreFault::Refused { fault }) => Err(StoreRefusal::Refused { store, fault }),
+            Err(StoreFault::Failed) => Err(StoreRefusal::Failed {
+                keeper: store.into_keeper(),
             }),
-            Err(fault) => Err(StoreRefusal::Refused {
-                store: Stored { keeper, server },
-                fault,
-            }),
+            Err(StoreFault::Memory) => Err(StoreRefusal::Memory { store }),
         }
     }
 
@@ -119,6 +134,17 @@ impl<K: Keeper> Stored<K> {
     {
         let Stored { keeper, server: _ } = self;
         keeper
+    }
+}
+
+// What a store answers where its server took a draft, or didn't.
+fn store_answer(taken: Result<Posted, KeepFault>) -> Result<Posted, StoreFault>
+    ensures { result ≡ store_answer taken }
+{
+    match taken {
+        Ok(posted) => Ok(posted),
+        Err(KeepFault::Failed) => Err(StoreFault::Failed),
+        Err(KeepFault::Memory) => Err(StoreFault::Memory),
     }
 }
 
