@@ -6,9 +6,9 @@ ghost use Rattle.tl_types.specs.Seen.{view};
 ghost use Rattle.tl_types.specs.Spelling.{Spells};
 
 use std::alloc::Global;
-use tl_encode::spell;
+use tl_encode::spelling_as;
 use tl_schema::{Schema, TypeRef};
-use tl_types::{FitFault, Value, fits};
+use tl_types::{FitFault, Value};
 
 /// The bytes that spell a value of a type, or where and why it doesn't fit.
 pub fn bytes_of(
@@ -20,10 +20,5 @@ pub fn bytes_of(
     requires formed { IsFormed schema.now (shape of.now) }
     ensures { IfOk result (λ bytes. Spells schema.now (shape of.now) (view value.now) bytes.items) }
 {
-    // Read for the proof alone: that the schema is sound.
-    let _count = schema.count();
-    fits(alloc, schema, of, value)?;
-    let mut bytes = Vec::new(alloc);
-    spell(alloc, value, schema, of, &mut bytes)?;
-    Ok(bytes)
+    spelling_as(alloc, schema, of, value)
 }

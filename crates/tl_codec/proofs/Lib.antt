@@ -2,5 +2,4 @@ pub mod Adding
 pub mod Alike
 pub mod Compared
 pub mod Numbered
-pub mod Spelled
 pub mod Told

@@ -1,4 +1,3 @@
 -- What private clauses alone cite.
 pub mod Kept
 pub mod Names
-pub mod Spellings

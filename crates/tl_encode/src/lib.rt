@@ -17,4 +17,4 @@ pub use encoder::{encode, spelled_len, spelling_of};
 pub use fault::EncodeFault;
 pub use laws::each_spelling_reads_back;
 pub use spelling::spell;
-pub use walk::encode_walk;
+pub use walk::{encode_walk, spelling_as};

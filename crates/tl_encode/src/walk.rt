@@ -1,5 +1,5 @@
 //! Values of closed types.
-ghost use Rattle.std.specs.Prelude.{◌≤◌, ℕ, List, None, IfSome, IsErrOf, length};
+ghost use Rattle.std.specs.Prelude.{◌≡◌, ◌≤◌, ℕ, List, None, IfOk, IfSome, IsErrOf, length};
 ghost use Rattle.tl_base.specs.Using.{WritesOnly, Wrote};
 ghost use Rattle.tl_schema.specs.Formed.{IsFormed};
 ghost use Rattle.tl_schema.specs.Seen.{shape};
@@ -7,7 +7,7 @@ ghost use Rattle.tl_types.specs.Fitting.{misfit};
 ghost use Rattle.tl_types.specs.Seen.{view};
 ghost use Rattle.tl_types.specs.Spelling.{Spells};
 ghost use Rattle.tl_types.specs.Values.{depth};
-ghost use Rattle.tl_encode.specs.Encoding.{AnswersMisfit, KeepsSink, WritesSpelling};
+ghost use Rattle.tl_encode.specs.Encoding.{AnswersMisfit, KeepsSink, TellsFit, WritesSpelling};
 
 use crate::fault::EncodeFault;
 use crate::spelling::spell;
@@ -15,7 +15,7 @@ use crate::writing::write_bytes;
 use std::alloc::Global;
 use tl_base::Sink;
 use tl_schema::{Schema, TypeRef};
-use tl_types::{MAX_LEVELS, Value, fits};
+use tl_types::{FitFault, MAX_LEVELS, Value, fits};
 
 /// Writes the spelling of a value of a closed type, and answers its length.
 pub fn encode_walk<K: Sink>(
@@ -25,7 +25,6 @@ pub fn encode_walk<K: Sink>(
     value: &Value,
     to: &mut K,
 ) -> Result<u64, EncodeFault>
-    requires formed { IsFormed schema.now (shape of.now) }
     // What has a spelling is written as that, whichever one is named.
     ensures spelled { (spelling : List ℕ) → Spells schema.now (shape of.now) (view value.now) spelling → depth (view value.now) ≤ MAX_LEVELS → WritesSpelling (K.state to.old).written (K.state to.new).written spelling result }
     // What has none is refused, where and why it doesn't fit.
@@ -35,26 +34,25 @@ pub fn encode_walk<K: Sink>(
     // A sound sink that has room for the spelling doesn't fail.
     ensures room { (spelling : List ℕ) → Spells schema.now (shape of.now) (view value.now) spelling → Wrote (K.state to.old) (K.state to.new) (length spelling) (IsErrOf result EncodeFault.WriteFault) }
 {
-    // Read for the proof alone: that the schema is sound.
-    let _count = schema.count();
-    fits(alloc, schema, of, value)?;
-    write_spelling(alloc, schema, of, value, to)
+    let bytes = spelling_as(alloc, schema, of, value)?;
+    write_bytes(&bytes, to)
 }
 
-// Writes the spelling of a value that fits.
-fn write_spelling<K: Sink>(
+/// The spelling of a value of a closed type, for a caller that wants the bytes in memory.
+pub fn spelling_as(
     alloc: Global,
     schema: &Schema,
     of: &TypeRef,
     value: &Value,
-    to: &mut K,
-) -> Result<u64, EncodeFault>
-    ensures spelled { (spelling : List ℕ) → Spells schema.now (shape of.now) (view value.now) spelling → WritesSpelling (K.state to.old).written (K.state to.new).written spelling result }
-    ensures kept { KeepsSink to.old to.new result }
-    ensures used { WritesOnly (K.state to.old) (K.state to.new) (IsErrOf result EncodeFault.WriteFault) }
-    ensures room { (spelling : List ℕ) → Spells schema.now (shape of.now) (view value.now) spelling → Wrote (K.state to.old) (K.state to.new) (length spelling) (IsErrOf result EncodeFault.WriteFault) }
+) -> Result<Vec<u8>, FitFault>
+    ensures spelled { (spelling : List ℕ) → Spells schema.now (shape of.now) (view value.now) spelling → IfOk result (λ bytes. bytes.items ≡ spelling) }
+    ensures spells { IsFormed schema.now (shape of.now) → IfOk result (λ bytes. Spells schema.now (shape of.now) (view value.now) bytes.items × (depth (view value.now) ≤ MAX_LEVELS)) }
+    ensures fits { TellsFit (misfit schema.now.decls MAX_LEVELS None (shape of.now) (view value.now)) result }
 {
+    // Read for the proof alone: that the schema is sound.
+    let _count = schema.count();
+    fits(alloc, schema, of, value)?;
     let mut bytes = Vec::new(alloc);
     spell(alloc, value, schema, of, &mut bytes)?;
-    write_bytes(&bytes, to)
+    Ok(bytes)
 }

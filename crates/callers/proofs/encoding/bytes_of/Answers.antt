@@ -1,10 +1,15 @@
-use Rattle.std.proofs.Common.{◌∙◌, ℕ, List, ◌++◌, ap}
+use Rattle.std.proofs.Common.{◌≤◌}
+use Rattle.std.proofs.lemmas.Result.{IfOk-weaker}
 use Rattle.tl_schema.specs.Seen.{shape}
 use Rattle.tl_types.specs.Seen.{view}
-use Rattle.callers.proofs.Spellings.{spelled_there}
+use Rattle.tl_types.specs.Spelling.{Spells}
+use Rattle.tl_types.specs.Values.{depth}
+use Rattle.tl_types.specs.declared.value.TheConstants.{MAX_LEVELS}
 use Rattle.callers.proofs.encoding.bytes_of.Goals as goal
 
 pub returns : goal.returns
 returns c =
-    spelled_there c.args.schema.now (shape c.args.of.now) (view c.args.value.now) c.spell.new.out.items c.count-count.ensures.sound c.requires.formed c.in_ok-fits.ensures.fits
-    (λ b spells. c.in_ok-spell.ensures b spells ∙ ap (λ (z : List ℕ). z ++ b) c.new-bytes.ensures.items)
+    let S = c.args.schema.now in
+    let T = shape c.args.of.now in
+    let v = view c.args.value.now in
+    IfOk-weaker c.spelling_as.result (λ bytes. Spells S T v bytes.items × (depth v ≤ MAX_LEVELS)) (λ bytes. Spells S T v bytes.items) (λ bytes is. is.0) (c.spelling_as.ensures.spells c.requires.formed)
