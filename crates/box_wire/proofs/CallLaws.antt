@@ -8,6 +8,7 @@ use Rattle.tl_types.specs.declared.value.TheConstants.{MAX_LEVELS}
 use Rattle.tl_schema.specs.Types as type
 use Rattle.tl_schema.specs.Schemas.{Declared}
 use Rattle.wire_profile.specs.declared.wire_fault.WireFault.{WireFault}
+use Rattle.tl_base.specs.declared.fault.Fault.{Fault}
 use Rattle.box_wire.specs.inner.Wholes.{ReadsValue}
 use Rattle.wire_forms.specs.declared.form.Cell.{Cell}
 use Rattle.wire_forms.specs.declared.form.Cell.TheVariants.{Whole, Query}
@@ -152,5 +153,5 @@ call_levels t is e = absurd is
 
 -- ---- the schema of a profile
 
-pub whole_call : (R S : Declared) (bytes : List ℕ) → R ≡ S → (r : Result Value WireFault) → ReadsValue R type.call bytes r → ReadsValue S type.call bytes r
+pub whole_call : (R S : Declared) (bytes : List ℕ) → R ≡ S → (r : Result Value (Fault WireFault)) → ReadsValue R type.call bytes r → ReadsValue S type.call bytes r
 whole_call R S bytes same r is = subst (λ (U : Declared). ReadsValue U type.call bytes r) same is

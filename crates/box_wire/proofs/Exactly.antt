@@ -1,6 +1,6 @@
 -- Bytes are one message of a kind, or are none for one cause; and what is answered of them.
 use Rattle.std.proofs.Common.{◌≡◌, ℕ, ◌<◌, List, [], ◌++◌, length, append-nil, length-append, Option, Some, None, Result, Ok, Err, sym, ap, ◌∙◌, subst, refl, inl, inr, arith}
-use Rattle.std.specs.Prelude.{◌⊎◌, IfOk, IfErr}
+use Rattle.std.specs.Prelude.{IfOk, IfErr}
 use Rattle.tl_numbers.specs.Bytes.{AreBytes}
 use Rattle.tl_schema.specs.Formed.{IsFormed}
 use Rattle.tl_types.specs.Values.{ValueView}
@@ -22,7 +22,9 @@ use Rattle.wire_profile.specs.declared.wire_fault.WireFault.{WireFault}
 use Rattle.wire_profile.specs.declared.wire_fault.WireFault.TheVariants as wire
 use Rattle.box_wire.specs.Kinds.{Kind}
 use Rattle.box_wire.specs.Framing.{SpellsWhole, Means, WireRefused, no_value, goes_on, no_message}
-use Rattle.box_wire.specs.Answers.{Reads}
+use Rattle.box_wire.specs.Answers.{HasCause, Reads}
+use Rattle.tl_base.specs.declared.fault.Fault.{Fault}
+use Rattle.tl_base.specs.declared.fault.Fault.TheVariants as fault
 use Rattle.box_wire.specs.inner.Wholes.{ReadsValue, AnswersMessage, as_wire_fault}
 
 -- Messages of a kind, and their values.
@@ -39,10 +41,10 @@ none_some x e = cc
 some_is : {A : Type 0} (x y : A) → Some x ≡ Some y → x ≡ y
 some_is x y e = cc
 
-ok_or_err : {M : Type 0} (x : M) (e : WireFault) → ◌≡◌ {A = Result M WireFault} (Ok x) (Err e) → ⊥
+ok_or_err : {M : Type 0} (x : M) (e : Fault WireFault) → ◌≡◌ {A = Result M (Fault WireFault)} (Ok x) (Err e) → ⊥
 ok_or_err x e is = cc
 
-err_is : {M : Type 0} (f e : WireFault) → ◌≡◌ {A = Result M WireFault} (Err f) (Err e) → f ≡ e
+err_is : {M : Type 0} (f e : Fault WireFault) → ◌≡◌ {A = Result M (Fault WireFault)} (Err f) (Err e) → f ≡ e
 err_is f e is = cc
 
 refused_as : (p q : ℕ) (c d : Cause) → p ≡ q → c ≡ d → wire.Refused (moved 0 p) c ≡ wire.Refused (moved 0 q) d
@@ -95,21 +97,21 @@ module _ (p : ProfileView) (good : IsProfile p) (kind : Kind) (formed : IsFormed
   one_fault e f (no_message v r c) (goes_on w x rest s on some at) = absurd (not_on v w x rest r s on some)
   one_fault e f (no_message w s c) (no_message v r d) = some_is e f (cause_as w v (Some e) (Some f) s r c d)
 
-  told_of : (e : WireFault) (f : WholeFault) → ReadsWhole p.schema (cell_shape p kind.cell) bytes (Err f) → e ≡ as_wire_fault f → (e ≡ wire.Memory) ⊎ WireRefused p kind bytes e
-  told_of e (whole.Refused place cause) (offset, r, at) is = inr (no_value offset cause r (is ∙ ap (λ (n : ℕ). wire.Refused n cause) at))
-  told_of e (whole.Trailing place) (v, x, rest, split, some, spells, deep, at) is = inr (goes_on v x rest (spells, deep) split some (is ∙ ap (λ (n : ℕ). wire.Trailing n) at))
-  told_of e whole.ReadFault r is = inl is
-  told_of e whole.Memory r is = inl is
+  told_of : (e : Fault WireFault) (f : WholeFault) → ReadsWhole p.schema (cell_shape p kind.cell) bytes (Err f) → e ≡ as_wire_fault f → HasCause (WireRefused p kind bytes) e
+  told_of e (whole.Refused place cause) (offset, r, at) is = subst (HasCause (WireRefused p kind bytes)) (sym is) (no_value offset cause r (ap (λ (n : ℕ). wire.Refused n cause) at))
+  told_of e (whole.Trailing place) (v, x, rest, split, some, spells, deep, at) is = subst (HasCause (WireRefused p kind bytes)) (sym is) (goes_on v x rest (spells, deep) split some (ap (λ (n : ℕ). wire.Trailing n) at))
+  told_of e whole.ReadFault r is = subst (HasCause (WireRefused p kind bytes)) (sym is) tt
+  told_of e whole.Memory r is = subst (HasCause (WireRefused p kind bytes)) (sym is) tt
 
   module _ {M : Type 0} (tree : M → ValueView) (inside : ValueView → M) (Is : M → Type 0) (laws : KindLaws kind tree inside Is) where
     -- what is answered, of the bytes
-    abbrev Given : Result M WireFault → Type 0
+    abbrev Given : Result M (Fault WireFault) → Type 0
     Given r = IfOk r (λ m. Is m × Means p kind (tree m) bytes)
 
-    abbrev Told : Result M WireFault → Type 0
-    Told r = IfErr r (λ e. (e ≡ wire.Memory) ⊎ WireRefused p kind bytes e)
+    abbrev Told : Result M (Fault WireFault) → Type 0
+    Told r = IfErr r (HasCause (WireRefused p kind bytes))
 
-    abbrev ReadsThem : Result M WireFault → Type 0
+    abbrev ReadsThem : Result M (Fault WireFault) → Type 0
     ReadsThem r = Reads Is (λ m. Means p kind (tree m) bytes) (WireRefused p kind bytes) r
 
     -- bytes mean one message
@@ -117,32 +119,33 @@ module _ (p : ProfileView) (good : IsProfile p) (kind : Kind) (formed : IsFormed
     one_message m n a b s r =
         sym (laws.back m a) ∙ ap inside (sym s.same ∙ ap (λ (u : ValueView). kind.normal (owned p u)) (same_whole s.v r.v s.spelled r.spelled) ∙ r.same) ∙ laws.back n b
 
-    reads_by : (r : Result M WireFault) → Given r → Told r → ReadsThem r
+    reads_by : (r : Result M (Fault WireFault)) → Given r → Told r → ReadsThem r
     reads_by (Ok x) given told = record {
       given = given;
       told = tt;
       meant = λ m is means. inl (ap Ok (one_message x m given.0 is given.1 means));
       refused = λ e s. absurd (never_both (tree x) given.1 e s);
     }
-    reads_by (Err e) given told = record {
+    reads_by (Err (fault.Refused e)) given told = record {
       given = tt;
       told = told;
-      meant = λ m is means. elim told [ inl memory ↦ inr (ap Err memory) | inr s ↦ absurd (never_both (tree m) means e s) ];
-      refused = λ f s. elim told [ inl memory ↦ inr (ap Err memory) | inr t ↦ inl (ap Err (one_fault e f t s)) ];
+      meant = λ m is means. absurd (never_both (tree m) means e told);
+      refused = λ f s. inl (ap (λ (x : WireFault). Err (fault.Refused x)) (one_fault e f told s));
     }
+    reads_by (Err fault.Memory) given told = record { given = tt; told = tt; meant = λ m is means. inr refl; refused = λ f s. inr refl }
 
-    pub reads_none : (e : WireFault) → ReadsValue p.schema (cell_shape p kind.cell) bytes (Err e) → ReadsThem (Err e)
+    pub reads_none : (e : Fault WireFault) → ReadsValue p.schema (cell_shape p kind.cell) bytes (Err e) → ReadsThem (Err e)
     reads_none e none = reads_by (Err e) tt (told_of e none.0 none.1 none.2)
 
-    answered : (v : ValueView) → SpellsWhole p kind v bytes → (o : Option WireFault) → kind.cause (owned p v) ≡ o → (r : Result M WireFault) → AnswersMessage o (inside (owned p v)) r → Given r × Told r
-    answered v s (Some e) c (Ok x) is = absurd (ok_or_err x e is)
-    answered v s (Some e) c (Err f) is = (tt, inr (subst (WireRefused p kind bytes) (sym (err_is f e is)) (no_message v s c)))
+    answered : (v : ValueView) → SpellsWhole p kind v bytes → (o : Option WireFault) → kind.cause (owned p v) ≡ o → (r : Result M (Fault WireFault)) → AnswersMessage o (inside (owned p v)) r → Given r × Told r
+    answered v s (Some e) c (Ok x) is = absurd (ok_or_err x (fault.Refused e) is)
+    answered v s (Some e) c (Err f) is = (tt, subst (HasCause (WireRefused p kind bytes)) (sym (err_is f (fault.Refused e) is)) (no_message v s c))
     answered v s None c (Ok x) is =
         let t_is = own_of p good v kind.cell bytes laws.alone s.0 (laws.served (owned p v) c) in
         ((subst Is (sym is) (laws.read (owned p v) t_is c), record { v = v; spelled = s; clear = c; same = sym (laws.same (owned p v) t_is c) ∙ ap tree (sym is) }), tt)
-    answered v s None c (Err f) is = (tt, inl is)
+    answered v s None c (Err f) is = (tt, subst (HasCause (WireRefused p kind bytes)) (sym is) tt)
 
-    pub reads_value : (v : ValueView) → SpellsWhole p kind v bytes → (t : ValueView) → t ≡ owned p v → (r : Result M WireFault) → AnswersMessage (kind.cause t) (inside t) r → ReadsThem r
+    pub reads_value : (v : ValueView) → SpellsWhole p kind v bytes → (t : ValueView) → t ≡ owned p v → (r : Result M (Fault WireFault)) → AnswersMessage (kind.cause t) (inside t) r → ReadsThem r
     reads_value v s t is r answers =
         let here : AnswersMessage (kind.cause (owned p v)) (inside (owned p v)) r = subst (λ (u : ValueView). AnswersMessage (kind.cause u) (inside u) r) is answers in
         let both = answered v s (kind.cause (owned p v)) refl r here in

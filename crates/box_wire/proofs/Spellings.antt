@@ -1,5 +1,5 @@
 -- The spelling of a value, and what is answered of it.
-use Rattle.std.proofs.Common.{◌≡◌, ℕ, List, [], ◌++◌, None, Result, Err, sym, ap, ◌∙◌, subst, refl, inl, inr}
+use Rattle.std.proofs.Common.{◌≡◌, ℕ, List, None, Result, Err, sym, subst, refl, inl, inr}
 use Rattle.tl_schema.specs.Types.{Shape}
 use Rattle.tl_schema.specs.Schemas.{Declared}
 use Rattle.tl_schema.specs.CheckedPrograms.{IsSchema}
@@ -25,7 +25,3 @@ spelled_by S T v bytes r is gives = record { given = inr (bytes, is.0, gives); e
 
 pub spelled_none : (Framed : List ℕ → Type 0) → Spelled Framed (Err Memory)
 spelled_none Framed = record { given = inl refl; each = λ b s. tt }
-
--- what is put after nothing
-pub put_first : (old new b : List ℕ) → old ≡ [] → new ≡ old ++ b → new ≡ b
-put_first old new b none is = is ∙ ap (λ (z : List ℕ). z ++ b) none

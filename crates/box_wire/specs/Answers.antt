@@ -2,9 +2,10 @@
 use Rattle.std.specs.Prelude.{◌≡◌, ◌⊎◌, ℕ, ◌<◌, ◌≤◌, List, length, Result, Ok, Err, IfOk, IfErr}
 use Rattle.box_events.specs.declared.limits.TheConstants.{MAX_FRAME_BYTES}
 use Rattle.wire_profile.specs.declared.wire_fault.WireFault.{WireFault}
-use Rattle.wire_profile.specs.declared.wire_fault.WireFault.TheVariants as wire
 use Rattle.box_wire.specs.declared.fault.SpellFault.{SpellFault}
 use Rattle.box_wire.specs.declared.fault.SpellFault.TheVariants.{TooLong, Memory}
+use Rattle.tl_base.specs.declared.fault.Fault.{Fault}
+use Rattle.tl_base.specs.declared.fault.Fault.TheVariants as fault
 
 -- ---- spelling
 
@@ -25,13 +26,18 @@ IsOnly Framed bytes = Framed bytes × ((b : List ℕ) → Framed b → bytes ≡
 
 -- ---- reading
 
+-- a refusal is so for its cause
+abbrev pub HasCause : {C : Type 0} → (C → Type 0) → Fault C → Type 0
+HasCause IsCause (fault.Refused cause) = IsCause cause
+HasCause IsCause fault.Memory = Unit {0}
+
 -- Messages that are some kind's, what the bytes mean, and why they mean none.
-pub record Reads {M : Type 0} (Is : M → Type 0) (Means : M → Type 0) (Refused : WireFault → Type 0) (result : Result M WireFault) : Type 0 where
+pub record Reads {M : Type 0} (Is : M → Type 0) (Means : M → Type 0) (Refused : WireFault → Type 0) (result : Result M (Fault WireFault)) : Type 0 where
   -- what is given is meant
   pub given : IfOk result (λ m. Is m × Means m)
   -- what is refused is so for this cause
-  pub told : IfErr result (λ fault. (fault ≡ wire.Memory) ⊎ Refused fault)
+  pub told : IfErr result (HasCause Refused)
   -- what is meant is given
-  pub meant : (m : M) → Is m → Means m → (result ≡ Ok m) ⊎ (result ≡ Err wire.Memory)
+  pub meant : (m : M) → Is m → Means m → (result ≡ Ok m) ⊎ (result ≡ Err fault.Memory)
   -- each cause is told
-  pub refused : (fault : WireFault) → Refused fault → (result ≡ Err fault) ⊎ (result ≡ Err wire.Memory)
+  pub refused : (cause : WireFault) → Refused cause → (result ≡ Err (fault.Refused cause)) ⊎ (result ≡ Err fault.Memory)

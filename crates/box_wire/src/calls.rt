@@ -12,7 +12,7 @@ use crate::fault::SpellFault;
 use crate::wholes::{bytes_of_call, value_of_call, within};
 use box_events::Numbered;
 use std::alloc::Global;
-use tl_base::Bytes;
+use tl_base::{Bytes, Fault};
 use tl_types::Value;
 use wire_profile::{Profile, WireFault, call_cause};
 use wire_values::{call_of, call_value};
@@ -27,7 +27,11 @@ pub fn spell_call(alloc: Global, profile: &Profile, call: &Numbered) -> Result<B
 }
 
 /// Reads a call. A call of any function of the schema is decoded, so that one that no server answers is told from bytes that are none.
-pub fn read_call(alloc: Global, profile: &Profile, bytes: &[u8]) -> Result<Numbered, WireFault>
+pub fn read_call(
+    alloc: Global,
+    profile: &Profile,
+    bytes: &[u8],
+) -> Result<Numbered, Fault<WireFault>>
     ensures { Reads (λ _. ⊤) (λ m. Means profile.now calls (call_tree m) bytes.now) (WireRefused profile.now calls bytes.now) result }
 {
     let mut value = value_of_call(alloc, profile.schema(), bytes)?;
@@ -36,11 +40,11 @@ pub fn read_call(alloc: Global, profile: &Profile, bytes: &[u8]) -> Result<Numbe
 }
 
 // The call of a value, or its first cause.
-fn call_in(alloc: Global, value: Value) -> Result<Numbered, WireFault>
+fn call_in(alloc: Global, value: Value) -> Result<Numbered, Fault<WireFault>>
     ensures { AnswersMessage (call_cause (view value)) (call_by (view value)) result }
 {
     match call_cause(&value) {
-        Some(fault) => Err(fault),
+        Some(cause) => Err(Fault::Refused(cause)),
         None => Ok(call_of(alloc, value)?),
     }
 }

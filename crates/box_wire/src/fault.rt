@@ -38,7 +38,7 @@ impl<T: Drop> From<AllocFailed<T>> for SpellFault {
 /// Why no step is read.
 #[derive(Clone, Copy, Debug, Error)]
 pub enum StepReadFault {
-    /// The bytes are no step. It holds no `Memory`.
+    /// The bytes are no step.
     #[error(transparent)]
     Wire(WireFault),
     /// The source failed.

@@ -13,7 +13,7 @@ use crate::fault::SpellFault;
 use crate::wholes::{bytes_of, value_in, within};
 use box_events::Frame;
 use std::alloc::Global;
-use tl_base::Bytes;
+use tl_base::{Bytes, Fault};
 use tl_types::Value;
 use wire_profile::{Profile, WireFault, frame_cause};
 use wire_values::{frame_of, frame_value};
@@ -31,7 +31,7 @@ pub fn spell_frame(alloc: Global, profile: &Profile, frame: &Frame) -> Result<By
 }
 
 /// Reads a frame. It takes memory for what was read, never for a count that was only announced.
-pub fn read_frame(alloc: Global, profile: &Profile, bytes: &[u8]) -> Result<Frame, WireFault>
+pub fn read_frame(alloc: Global, profile: &Profile, bytes: &[u8]) -> Result<Frame, Fault<WireFault>>
     ensures { Reads IsFrame (λ m. Means profile.now frames (frame_tree m) bytes.now) (WireRefused profile.now frames bytes.now) result }
 {
     let mut value = value_in(alloc, profile.plan(), FRAME_ROOT, bytes)?;
@@ -40,11 +40,11 @@ pub fn read_frame(alloc: Global, profile: &Profile, bytes: &[u8]) -> Result<Fram
 }
 
 // The frame of a value, or its first cause.
-fn frame_in(alloc: Global, value: Value) -> Result<Frame, WireFault>
+fn frame_in(alloc: Global, value: Value) -> Result<Frame, Fault<WireFault>>
     ensures { AnswersMessage (cause_of root.Frame (view value)) (frame_in (view value)) result }
 {
     match frame_cause(&value) {
-        Some(fault) => Err(fault),
+        Some(cause) => Err(Fault::Refused(cause)),
         None => Ok(frame_of(alloc, value)?),
     }
 }

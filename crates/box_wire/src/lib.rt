@@ -15,3 +15,4 @@ pub use frames::{read_frame, spell_frame};
 pub use laws::{calls_and_bytes, frames_and_bytes, saved_clients_and_bytes, steps_and_bytes};
 pub use saved::{read_saved, spell_saved};
 pub use steps::{read_step, spell_step};
+pub use tl_base::Fault;

@@ -13,7 +13,7 @@ ghost use Rattle.box_wire.specs.inner.Wholes.{AnswersMessage};
 use crate::wholes::{bytes_of, value_in};
 use box_events::Saved;
 use std::alloc::Global;
-use tl_base::{Bytes, Memory};
+use tl_base::{Bytes, Fault, Memory};
 use tl_types::Value;
 use wire_profile::{Profile, WireFault, saved_cause};
 use wire_values::{saved_of, saved_value};
@@ -32,7 +32,7 @@ pub fn spell_saved(alloc: Global, profile: &Profile, saved: &Saved) -> Result<By
 }
 
 /// Reads a saved client, of version 2, or of version 1 without read marks.
-pub fn read_saved(alloc: Global, profile: &Profile, bytes: &[u8]) -> Result<Saved, WireFault>
+pub fn read_saved(alloc: Global, profile: &Profile, bytes: &[u8]) -> Result<Saved, Fault<WireFault>>
     ensures { Reads IsSaved (λ m. Means profile.now saved_clients (saved_tree m) bytes.now) (WireRefused profile.now saved_clients bytes.now) result }
 {
     let mut value = value_in(alloc, profile.plan(), SAVED_ROOT, bytes)?;
@@ -41,11 +41,11 @@ pub fn read_saved(alloc: Global, profile: &Profile, bytes: &[u8]) -> Result<Save
 }
 
 // The saved client of a value, or its first cause.
-fn saved_in(alloc: Global, value: Value) -> Result<Saved, WireFault>
+fn saved_in(alloc: Global, value: Value) -> Result<Saved, Fault<WireFault>>
     ensures { AnswersMessage (cause_of root.Saved (view value)) (saved_by (view value)) result }
 {
     match saved_cause(&value) {
-        Some(fault) => Err(fault),
+        Some(cause) => Err(Fault::Refused(cause)),
         None => Ok(saved_of(alloc, value)?),
     }
 }

@@ -11,29 +11,34 @@ ghost use Rattle.box_wire.specs.inner.Wholes.{IsSpelling, ReadsValue, as_wire_fa
 use crate::fault::SpellFault;
 use box_events::MAX_FRAME_BYTES;
 use std::alloc::{AllocError, Global};
-use tl_base::Bytes;
+use tl_base::{Bytes, Fault};
 use tl_decode::{WholeFault, decode_bytes, decode_bytes_as};
-use tl_encode::{spell, spelling_of};
+use tl_encode::{spelling_as, spelling_of};
 use tl_plan::Plan;
 use tl_schema::{Schema, TypeRef};
-use tl_types::{Value, fits};
+use tl_types::Value;
 use wire_profile::WireFault;
 
 // A fault over bytes in memory, which are always read.
-fn wire_fault(fault: WholeFault) -> WireFault
+fn wire_fault(fault: WholeFault) -> Fault<WireFault>
     requires { fault ≢ WholeFault.ReadFault }
     ensures { result ≡ as_wire_fault fault }
 {
     match fault {
-        WholeFault::Refused { place, cause } => WireFault::Refused { place, cause },
-        WholeFault::Trailing { place } => WireFault::Trailing { place },
+        WholeFault::Refused { place, cause } => Fault::Refused(WireFault::Refused { place, cause }),
+        WholeFault::Trailing { place } => Fault::Refused(WireFault::Trailing { place }),
         WholeFault::ReadFault => unreachable!(),
-        WholeFault::Memory => WireFault::Memory,
+        WholeFault::Memory => Fault::Memory,
     }
 }
 
 /// The value of a root of a plan that is the whole of the bytes.
-pub fn value_in(alloc: Global, plan: &Plan, root: u32, bytes: &[u8]) -> Result<Value, WireFault>
+pub fn value_in(
+    alloc: Global,
+    plan: &Plan,
+    root: u32,
+    bytes: &[u8],
+) -> Result<Value, Fault<WireFault>>
     requires { root < plan.now.roots }
     ensures whole { (T : Shape) → IsInstance plan.now root T → IsFormed plan.now.schema T → ReadsValue plan.now.schema T bytes.now result }
     ensures bytes { AreBytes bytes.now }
@@ -45,7 +50,11 @@ pub fn value_in(alloc: Global, plan: &Plan, root: u32, bytes: &[u8]) -> Result<V
 }
 
 /// The call of any function of a schema that is the whole of the bytes.
-pub fn value_of_call(alloc: Global, schema: &Schema, bytes: &[u8]) -> Result<Value, WireFault>
+pub fn value_of_call(
+    alloc: Global,
+    schema: &Schema,
+    bytes: &[u8],
+) -> Result<Value, Fault<WireFault>>
     ensures whole { ReadsValue schema.now call bytes.now result }
     ensures bytes { AreBytes bytes.now }
 {
@@ -71,14 +80,8 @@ pub fn bytes_of(alloc: Global, plan: &Plan, root: u32, value: &Value) -> Result<
 pub fn bytes_of_call(alloc: Global, schema: &Schema, value: &Value) -> Result<Vec<u8>, AllocError>
     ensures { IfOk result (λ bytes. IsSpelling schema.now call (view value.now) bytes.items) }
 {
-    // Read for the proof alone: that the schema is sound.
-    let _count = schema.count();
-    match fits(alloc, schema, &TypeRef::Call, value) {
-        Ok(()) => {
-            let mut bytes = Vec::new(alloc);
-            spell(alloc, value, schema, &TypeRef::Call, &mut bytes)?;
-            Ok(bytes)
-        }
+    match spelling_as(alloc, schema, &TypeRef::Call, value) {
+        Ok(bytes) => Ok(bytes),
         Err(_) => Err(AllocError),
     }
 }

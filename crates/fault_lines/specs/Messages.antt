@@ -1,5 +1,5 @@
--- The lines of bytes that are no message, and of messages that are too long. Out of memory has none. This project's own.
-use Rattle.std.specs.Prelude.{ℕ, ℤ, List, ◌++◌, Option, Some, None, option_map, codes, decimal}
+-- The lines of bytes that are no message, and of messages that are too long, where out of memory has none. This project's own.
+use Rattle.std.specs.Prelude.{ℕ, ℤ, List, ◌++◌, Option, Some, None, codes, decimal}
 use Rattle.std.specs.Fmt.{signed_decimal}
 use Rattle.tl_types.specs.Offsets.{moved}
 use Rattle.outside.specs.Answer.{placed_line, unplaced_line}
@@ -22,7 +22,6 @@ wire_place (wire.BadEnd pts) = None
 wire_place (wire.BadDate date) = None
 wire_place wire.UnorderedSetting = None
 wire_place (wire.BadSeq seq_start seq) = None
-wire_place wire.Memory = None
 
 -- causes of two values
 abbrev pub count_words : ℤ → ℤ → List ℕ
@@ -32,19 +31,18 @@ abbrev pub seq_words : ℤ → ℤ → List ℕ
 seq_words seq_start seq = ((codes "BadSeq " ++ signed_decimal seq_start) ++ codes " ") ++ signed_decimal seq
 
 -- the cause, and its values; a refusal of the bytes is told by its own cause
-abbrev pub wire_words : WireFault → Option (List ℕ)
-wire_words (wire.Refused place cause) = Some (cause_text cause)
-wire_words (wire.Trailing place) = Some (codes "Trailing")
-wire_words (wire.NotServed place) = Some (codes "NotServed")
-wire_words (wire.WrongUpdate place) = Some (codes "WrongUpdate")
-wire_words (wire.BadVersion version) = Some (codes "BadVersion " ++ signed_decimal version)
-wire_words (wire.BadNumber number) = Some (codes "BadNumber " ++ signed_decimal number)
-wire_words (wire.BadCount pts count) = Some (count_words pts count)
-wire_words (wire.BadEnd pts) = Some (codes "BadEnd " ++ signed_decimal pts)
-wire_words (wire.BadDate date) = Some (codes "BadDate " ++ signed_decimal date)
-wire_words wire.UnorderedSetting = Some (codes "UnorderedSetting")
-wire_words (wire.BadSeq seq_start seq) = Some (seq_words seq_start seq)
-wire_words wire.Memory = None
+abbrev pub wire_words : WireFault → List ℕ
+wire_words (wire.Refused place cause) = cause_text cause
+wire_words (wire.Trailing place) = codes "Trailing"
+wire_words (wire.NotServed place) = codes "NotServed"
+wire_words (wire.WrongUpdate place) = codes "WrongUpdate"
+wire_words (wire.BadVersion version) = codes "BadVersion " ++ signed_decimal version
+wire_words (wire.BadNumber number) = codes "BadNumber " ++ signed_decimal number
+wire_words (wire.BadCount pts count) = count_words pts count
+wire_words (wire.BadEnd pts) = codes "BadEnd " ++ signed_decimal pts
+wire_words (wire.BadDate date) = codes "BadDate " ++ signed_decimal date
+wire_words wire.UnorderedSetting = codes "UnorderedSetting"
+wire_words (wire.BadSeq seq_start seq) = seq_words seq_start seq
 
 -- a cause at its place, or without one
 abbrev pub line_at : List ℕ → Option ℕ → List ℕ → List ℕ
@@ -52,8 +50,8 @@ line_at what None why = unplaced_line what why
 line_at what (Some place) why = placed_line what place why
 
 -- of bytes that are no message, by what their input is called
-abbrev pub wire_line : List ℕ → WireFault → Option (List ℕ)
-wire_line what fault = option_map (line_at what (wire_place fault)) (wire_words fault)
+abbrev pub wire_line : List ℕ → WireFault → List ℕ
+wire_line what fault = line_at what (wire_place fault) (wire_words fault)
 
 -- ---- journals
 
@@ -63,8 +61,8 @@ step_place at None = at
 step_place at (Some place) = moved at place
 
 -- of bytes in a journal that begin no step, by the offset at which it begins
-abbrev pub step_line : ℕ → WireFault → Option (List ℕ)
-step_line at fault = option_map (placed_line (codes "journal") (step_place at (wire_place fault))) (wire_words fault)
+abbrev pub step_line : ℕ → WireFault → List ℕ
+step_line at fault = placed_line (codes "journal") (step_place at (wire_place fault)) (wire_words fault)
 
 -- ---- messages that are not sent
 

@@ -24,7 +24,6 @@ fn wire_place(fault: WireFault) -> Option<u64>
         WireFault::BadDate { .. } => None,
         WireFault::UnorderedSetting => None,
         WireFault::BadSeq { .. } => None,
-        WireFault::Memory => None,
     }
 }
 
@@ -46,7 +45,7 @@ fn seq_words(alloc: Global, seq_start: i32, seq: i32) -> Result<String, AllocErr
 
 // The cause, and its values.
 fn wire_words(alloc: Global, fault: WireFault) -> Result<String, AllocError>
-    ensures { IfOk result (λ s. wire_words fault ≡ Some (string_bytes s)) }
+    ensures { IfOk result (λ s. string_bytes s ≡ wire_words fault) }
 {
     match fault {
         WireFault::Refused { cause, .. } => cause_text(alloc, cause),
@@ -60,13 +59,12 @@ fn wire_words(alloc: Global, fault: WireFault) -> Result<String, AllocError>
         WireFault::BadDate { date } => format!(in alloc; "BadDate {date}"),
         WireFault::UnorderedSetting => String::from_str(alloc, "UnorderedSetting"),
         WireFault::BadSeq { seq_start, seq } => seq_words(alloc, seq_start, seq),
-        WireFault::Memory => Err(AllocError),
     }
 }
 
 /// The line of bytes that are no message, by what their input is called: at the place of the cause, where it has one.
 pub fn wire_line(alloc: Global, what: &str, fault: WireFault) -> Result<Vec<u8>, AllocError>
-    ensures { IfOk result (λ line. wire_line what.now fault ≡ Some line.items) }
+    ensures { IfOk result (λ line. line.items ≡ wire_line what.now fault) }
 {
     let why = wire_words(alloc, fault)?;
     match wire_place(fault) {
@@ -77,7 +75,7 @@ pub fn wire_line(alloc: Global, what: &str, fault: WireFault) -> Result<Vec<u8>,
 
 /// The line of bytes in a journal that begin no step: of the cause's place after the offset at which the step begins, and of that offset where it has none.
 pub fn step_line(alloc: Global, at: u64, fault: WireFault) -> Result<Vec<u8>, AllocError>
-    ensures { IfOk result (λ line. step_line at fault ≡ Some line.items) }
+    ensures { IfOk result (λ line. line.items ≡ step_line at fault) }
 {
     let why = wire_words(alloc, fault)?;
     match wire_place(fault) {

@@ -1,5 +1,5 @@
 -- What a replay of a journal's bytes reports.
-use Rattle.std.proofs.Common.{◌≡◌, ℕ, ◌≤◌, List, [], ◌∷◌, ◌++◌, append-nil, append_assoc, length, length-append, take, drop, take-append-drop, length-drop, Bool, true, false, cond, ◌&&◌, Option, Some, None, option_map, refl, sym, ap, ◌∙◌, subst, arith, codes}
+use Rattle.std.proofs.Common.{◌≡◌, ℕ, ◌≤◌, List, [], ◌∷◌, ◌++◌, append-nil, append_assoc, length, length-append, take, drop, take-append-drop, length-drop, Bool, true, false, cond, ◌&&◌, Some, refl, sym, ap, ◌∙◌, subst, arith, codes}
 use Rattle.std.proofs.lemmas.Bool.Decides.{nat_tests}
 use Rattle.tl_base.specs.Contents.{Files}
 use Rattle.tl_base.specs.Outside.{HasFile}
@@ -18,12 +18,11 @@ use Rattle.update_world.specs.Spelled.{IsSpelled, packet_size}
 use Rattle.update_replay.specs.Endings.{Ending, is_cut_short, no_step, not_made, of_refusal, too_long, whole}
 use Rattle.update_replay.specs.Replays.{Began, BeginsStep, Replayed, StepFollows, at_its_end, goes_on, no_step_follows, none, not_possible, one_more, one_too_many, seen_of}
 use Rattle.update_replay.specs.declared.limits.TheConstants.{MAX_JOURNAL_BYTES, MAX_STEPS}
-use Rattle.outside.specs.Answer.{Answer, done, refused_after}
+use Rattle.outside.specs.Answer.{Answer, done}
 use Rattle.outside.specs.declared.status.Status.TheVariants.{Refused}
 use Rattle.outside.proofs.SameFiles.{same_file}
 use Rattle.schema_files.specs.Answering.{OfSchemaText, no_schema as no_schema_text, schema_of}
 use Rattle.schema_files.specs.Loaded.{IsSchemaText}
-use Rattle.fault_lines.specs.Messages.{step_line}
 use Rattle.fault_lines.specs.Profiled.{IsProfileText, OfProfile, no_profile as no_profile_of, profiled}
 use Rattle.update_commands.specs.Replay.{OfJournalFile, ReplayAnswer, ending_answer}
 use Rattle.headline.specs.Replay.{Refuses, no_journal, no_profile, no_schema}
@@ -115,17 +114,10 @@ pub data Answered (schema journal : List ℕ) (n : ℕ) (a : Answer) : Type 0 wh
 some_is : (a b : Answer) → Some a ≡ Some b → b ≡ a
 some_is a b e = let same : a ≡ b = cc in sym same
 
-none_some : {A : Type 0} (x : A) → None ≡ Some x → ⊥
-none_some x e = cc
-
-line_status : (output : List ℕ) (line : Option (List ℕ)) (a : Answer) → option_map (refused_after output) line ≡ Some a → a.status ≡ Refused
-line_status output None a e = absurd (none_some a e)
-line_status output (Some line) a e = ap (λ (x : Answer). x.status) (some_is (refused_after output line) a e)
-
 of_ending : (schema journal : List ℕ) (n : ℕ) (a : Answer) (p : ProfileView) (ss : List Step) (output : List ℕ) (ending : Ending) → IsProfileText schema p → Replayed p n journal ss output ending → ending_answer output ending ≡ Some a
     → ((k : ℕ) → ending ≡ whole k → Reports p n journal output) → Answered schema journal n a
 of_ending schema journal n a p ss output (whole k) text r e reports = reported p output text (reports k refl) (some_is (done output) a e)
-of_ending schema journal n a p ss output (no_step at fault) text r e reports = refused_so (no_journal p ss output (no_step at fault) text r tt e) (line_status output (step_line at fault) a e)
+of_ending schema journal n a p ss output (no_step at fault) text r e reports = refused_so (no_journal p ss output (no_step at fault) text r tt e) (ap (λ (x : Answer). x.status) (some_is _ a e))
 of_ending schema journal n a p ss output (not_made at cause) text r e reports = refused_so (no_journal p ss output (not_made at cause) text r tt e) (ap (λ (x : Answer). x.status) (some_is _ a e))
 of_ending schema journal n a p ss output (too_long at) text r e reports = refused_so (no_journal p ss output (too_long at) text r tt e) (ap (λ (x : Answer). x.status) (some_is _ a e))
 

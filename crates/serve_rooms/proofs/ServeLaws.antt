@@ -9,7 +9,6 @@ use Rattle.tl_schema.specs.Schemas.{Declared}
 use Rattle.box_events.specs.declared.requests.Numbered.{Numbered}
 use Rattle.box_server.specs.Servers.{ServerState, new_server, dated_at}
 use Rattle.wire_profile.specs.Places.{ProfileView}
-use Rattle.box_wire.specs.Kinds.{calls}
 use Rattle.outside.specs.Answer.{link_fault_line, memory_line, read_fault_line, refused, write_fault_line}
 use Rattle.outside.specs.declared.status.Status.{Status}
 use Rattle.outside.specs.declared.status.Status.TheVariants as statuses
@@ -36,7 +35,6 @@ use Rattle.session_commands.specs.Keep.{bad_entry_line}
 use Rattle.session_commands.specs.Lines.{served_line}
 use Rattle.session_commands.specs.Serve.{first_fault}
 use Rattle.session_commands.specs.SessionEnds.{session_line}
-use Rattle.session_commands.proofs.ToldCauses.{call_told, told_line}
 use Rattle.session_rooms.specs.Sending.{Sends}
 use Rattle.session_rooms.proofs.SentMessages.{unsent}
 use Rattle.serve_rooms.specs.Acts.{Act, Loading, hosted, loaded, added, rebuilds, unaccepted, unread, events_in, IsKeeperFault}
@@ -225,8 +223,7 @@ module _ (p : ProfileView) where
 
   bytes_cause : (s : ServerState) (bytes : List ℕ) (r : Answered) (b u : List Act) → Happened IsFromLink (events_in b) → AnswersBytes p s bytes u r → IsAnswered r (events_in (b ++ u))
   bytes_cause s bytes r b u came (no_call f refuses none is) =
-      let line = told_line p calls call_told (codes "peer") bytes f refuses in
-      subst (λ (a : Answered). IsAnswered a (events_in (b ++ u))) (sym is) (has_line (session.Wire f) (events_in (b ++ u)) line.0 line.1 (came_first b u came))
+      subst (λ (a : Answered). IsAnswered a (events_in (b ++ u))) (sym is) (has_line (session.Wire f) (events_in (b ++ u)) _ refl (came_first b u came))
   bytes_cause s bytes r b u came (answers c means h) =
       subst (λ (l : List Act). IsAnswered r (events_in (b ++ l))) (sym h.splits)
       (subst (λ (l : List Act). IsAnswered r (events_in l)) (append_assoc b h.first h.rest) (adding_cause s c h.between r (b ++ h.first) h.rest (came_first b h.first came) h.goes))

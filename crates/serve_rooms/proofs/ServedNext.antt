@@ -15,6 +15,7 @@ use Rattle.outside.specs.Kept.{Leaves}
 use Rattle.outside.specs.declared.status.Status.{Status}
 use Rattle.outside.specs.declared.status.Status.TheVariants as statuses
 use Rattle.fault_lines.specs.Packets.{length_line, ended_line}
+use Rattle.fault_lines.specs.Messages.{wire_line}
 use Rattle.outside.specs.Events.{Event, Outside, accepted}
 use Rattle.outside.specs.Packets.{PacketView, whole, TakesPacket}
 use Rattle.outside.specs.Packets as packets
@@ -33,7 +34,6 @@ use Rattle.session_commands.specs.Linked.{next_link}
 use Rattle.session_commands.specs.Serve.{SessionEnd, served, peer_fault, link_fault, IsShortEnd, end_of, end_errors, end_output, end_status, first_fault}
 use Rattle.session_commands.specs.Serve as commands
 use Rattle.session_commands.specs.SessionEnds.{many_frames_line, session_line}
-use Rattle.session_commands.proofs.ToldCauses.{call_told, told_line}
 use Rattle.session_rooms.proofs.LeftPackets.{packet_left}
 use Rattle.session_rooms.proofs.LeftViews.{IsOverLink, SparesRest, beside, last_link, leaves_then, link_spares, spares_rest, unlinked}
 use Rattle.serve_rooms.specs.Acts.{Act, hosted, events_in}
@@ -82,9 +82,7 @@ module _ (p : ProfileView) where
   added_known s c false t r h = subst CanEnd (sym h.1) tt
 
   bytes_known : (s : ServerState) (bytes : List ℕ) (t : List Act) (r : Answered) → AnswersBytes p s bytes t r → CanEnd r
-  bytes_known s bytes t r (no_call fault refuses none is) =
-      let line = told_line p calls call_told (codes "peer") bytes fault refuses in
-      subst CanEnd (sym is) (record { word = tt; ends = peer_fault line.0; is = ap (option_map (λ (l : List ℕ). peer_fault l)) line.1 })
+  bytes_known s bytes t r (no_call fault refuses none is) = subst CanEnd (sym is) (record { word = tt; ends = peer_fault (wire_line (codes "peer") fault); is = refl })
   bytes_known s bytes t r (answers c means h) = added_known s c h.between h.rest r h.goes
 
   packet_known : (s : ServerState) (v : PacketView) (t : List Event) (u : List Act) (r : Answered) (a m : Outside) → TakesPacket Link t v → Fits t a m → after_packet p s v u r → CanEnd r

@@ -1,5 +1,5 @@
 -- The call that a value is.
-use Rattle.std.proofs.Common.{◌≡◌, ◌⊎◌, ℕ, ◌<◌, ◌≤◌, ◌%◌, List, [], ◌++◌, length, Some, None, Result, Ok, Err, Vec, Global, codes, sym, ap, ◌∙◌, subst, arith, inl, inr}
+use Rattle.std.proofs.Common.{◌≡◌, ℕ, ◌<◌, ◌≤◌, ◌%◌, List, [], ◌++◌, length, Result, Ok, Err, Vec, Global, codes, sym, ap, ◌∙◌, subst, arith, inl, inr}
 use Rattle.std.specs.Prelude.{⊤, IfOk, IsErrAnd}
 use Rattle.std.specs.declared.alloc.AllocError.{AllocError}
 use Rattle.tl_numbers.specs.Bytes.{AreBytes}
@@ -11,7 +11,6 @@ use Rattle.box_events.specs.declared.limits.TheConstants.{MAX_FRAME_BYTES}
 use Rattle.box_events.specs.declared.requests.Numbered.{Numbered}
 use Rattle.wire_forms.specs.declared.form.Cell.TheVariants.{Query}
 use Rattle.wire_profile.specs.declared.wire_fault.WireFault.{WireFault}
-use Rattle.wire_profile.specs.declared.wire_fault.WireFault.TheVariants as wire
 use Rattle.wire_profile.specs.Places.{ProfileView}
 use Rattle.wire_profile.specs.Profiles.{IsProfile}
 use Rattle.wire_profile.specs.SpelledForms.{owned}
@@ -32,18 +31,11 @@ use Rattle.session_commands.specs.Lines.{long_call_line}
 use Rattle.session_commands.specs.declared.sending.Sending.{Sending}
 use Rattle.session_commands.specs.inner.Posting.{TellsNoCall, TellsUnsent, NumbersCall, MaySendCall, Sends}
 
-none_some : {A : Type 0} (x : A) → None ≡ Some x → ⊥
-none_some x e = cc
-
--- a cause has its line; there is none for want of memory
-told_line : (p : ProfileView) (b line : List ℕ) (fault : WireFault) → (fault ≡ wire.Memory) ⊎ WireRefused p calls b fault → wire_line (codes "input") fault ≡ Some line → TellsNoCall p b line
-told_line p b line fault (inl memory) tells = absurd (none_some line (subst (λ (f : WireFault). wire_line (codes "input") f ≡ Some line) memory tells))
-told_line p b line fault (inr refused) tells = (fault, refused, tells)
-
-pub no_call_told : (p : ProfileView) (b : List ℕ) (fault : WireFault) (line : Result (Vec ℕ Global) AllocError) (u : LoadError) → (fault ≡ wire.Memory) ⊎ WireRefused p calls b fault → IfOk line (λ l. wire_line (codes "input") fault ≡ Some l.items)
+-- a cause has its line
+pub no_call_told : (p : ProfileView) (b : List ℕ) (fault : WireFault) (line : Result (Vec ℕ Global) AllocError) (u : LoadError) → WireRefused p calls b fault → IfOk line (λ l. l.items ≡ wire_line (codes "input") fault)
     → RefusedBy line u → Refuses (TellsNoCall p b) u
-no_call_told p b fault (Ok line) u told tells is = subst (Refuses (TellsNoCall p b)) (sym is) (told_line p b line.items fault told tells)
-no_call_told p b fault (Err e) u told tells is = memory_refuses (TellsNoCall p b) u is
+no_call_told p b fault (Ok line) u refused tells is = subst (Refuses (TellsNoCall p b)) (sym is) (fault, refused, tells)
+no_call_told p b fault (Err e) u refused tells is = memory_refuses (TellsNoCall p b) u is
 
 -- ---- the spelling
 

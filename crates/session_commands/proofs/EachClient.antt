@@ -1,5 +1,5 @@
 -- Each `client` whose files are there has an answer.
-use Rattle.std.proofs.Common.{◌≡◌, ◌⊎◌, ℕ, zero, suc, ℤ, ◌+◌, ◌<◌, ◌≤◌, ◌^◌, List, [], ◌∷◌, ◌++◌, length, length-append, Bool, true, false, Option, Some, None, Result, Ok, Err, refl, ap, codes, inl, inr, arith}
+use Rattle.std.proofs.Common.{◌≡◌, ◌⊎◌, ℕ, zero, suc, ℤ, ◌+◌, ◌<◌, ◌≤◌, ◌^◌, List, [], ◌∷◌, ◌++◌, length, length-append, Bool, true, false, Option, Some, None, Result, Ok, Err, refl, ap, inl, inr, arith}
 use Rattle.std.specs.List.{All, AllByRecursion}
 use Rattle.std.proofs.lemmas.Bool.{cases_lt}
 use Rattle.std.proofs.lemmas.List.Elements.{All-head, All-tail}
@@ -53,7 +53,6 @@ use Rattle.update_sessions.proofs.HonestFrames.{honestly}
 use Rattle.outside.specs.Answer.{Answer, refused}
 use Rattle.outside.proofs.SameFiles.{file_bytes}
 use Rattle.fault_lines.specs.Answers.{answer_line}
-use Rattle.fault_lines.specs.Messages.{wire_line}
 use Rattle.fault_lines.proofs.Profiled.{each_profiled}
 use Rattle.session_commands.specs.declared.state.TheConstants.{MAX_STATE_BYTES}
 use Rattle.session_commands.specs.Lines.{packet_line}
@@ -67,7 +66,6 @@ use Rattle.session_commands.proofs.EachPost.{begins_so, each_message}
 use Rattle.session_commands.proofs.GoingClients.{IsGoing, asks_fit, brought_by, going_hears, going_ticks, going_wakes, heard_of, saved_fit}
 use Rattle.session_commands.proofs.OneExchange.{rest_bytes}
 use Rattle.session_commands.proofs.OneReply.{body_bytes}
-use Rattle.session_commands.proofs.ToldCauses.{frame_told, saved_told, told_line}
 
 -- what a client's link may give, and its settings come to
 abbrev MOST : ℕ
@@ -116,14 +114,14 @@ module _ (p : ProfileView) (good : IsProfile p) where
     ended : is_one_asking d ≡ false → k ≤ n → HearEnd left d n k
     full : is_one_asking d ≡ true → k ≡ n → HearEnd left d n k
     none : is_one_asking d ≡ true → k < n → (f : PacketFault) (line : List ℕ) → NoFrame left f → IsWordLong f → packet_line f ≡ Some line → HearEnd left d n k
-    no_message : is_one_asking d ≡ true → k < n → (f : WireFault) (line : List ℕ) → RefusedPacket (WireRefused p frames) left f → wire_line (codes "peer") f ≡ Some line → HearEnd left d n k
+    no_message : is_one_asking d ≡ true → k < n → (f : WireFault) → RefusedPacket (WireRefused p frames) left f → HearEnd left d n k
     no_answer : is_one_asking d ≡ true → k < n → (f : Frame) (e : ClientFault) (line : List ℕ) → RefusedFrame p d left f e → answer_line e ≡ Some line → HearEnd left d n k
 
   one_on : (left : List ℕ) (d : ClientState) (n k : ℕ) → HearEnd left d n k → HearEnd left d (suc n) (suc k)
   one_on left d n k (ended is le) = ended is (omega (arith, le))
   one_on left d n k (full asks is) = full asks (omega (arith, is))
   one_on left d n k (none asks less f line h few tells) = none asks (omega (arith, less)) f line h few tells
-  one_on left d n k (no_message asks less f line h tells) = no_message asks (omega (arith, less)) f line h tells
+  one_on left d n k (no_message asks less f h) = no_message asks (omega (arith, less)) f h
   one_on left d n k (no_answer asks less f e line h tells) = no_answer asks (omega (arith, less)) f e line h tells
 
   record Hearing (n : ℕ) (c : ClientState) (bytes : List ℕ) : Type 0 where
@@ -206,9 +204,8 @@ module _ (p : ProfileView) (good : IsProfile p) where
                       (no_answer asks (omega arith) m.0 told.0 told.2.0 (record { rest = b.rest; comes = comes; cause = cause; refuses = is; is = told.1 }) told.2.1))
                 ])
             | inr r ↦
-                (let line = told_line p frames frame_told (codes "peer") b.body r.0 r.1 in
                 stops (suc n) k d c bytes h (omega (arith, few)) (omega (arith, small))
-                (no_message asks (omega arith) r.0 line.0 (record { body = b.body; rest = b.rest; fits = b.fits; parts = b.parts; refused = r.1 }) line.1))
+                (no_message asks (omega arith) r.0 (record { body = b.body; rest = b.rest; fits = b.fits; parts = b.parts; refused = r.1 }))
           ]
           | inr b ↦ stops (suc n) k d c bytes h (omega (arith, few)) (omega (arith, small)) (none asks (omega arith) b.fault b.line b.none b.few b.tells)
         ]
@@ -237,7 +234,7 @@ module _ (p : ProfileView) (good : IsProfile p) where
     by_end (ended is le) = saves (length g.taken_frames) (of_hears (Ok (length g.taken_frames)) [] (g.left, g.exchanged, is, refl, le, refl))
     by_end (full asks is) = fails fault.TooManyFrames _ (of_hears (Err fault.TooManyFrames) [] (g.left, g.exchanged, asks, is, refl)) tt refl
     by_end (none asks less f line h short tells) = fails (fault.Packet f) line (of_hears (Err (fault.Packet f)) [] (g.left, still asks less, h, refl)) short tells
-    by_end (no_message asks less f line h tells) = fails (fault.Wire f) line (of_hears (Err (fault.Wire f)) [] (g.left, still asks less, h, refl)) tt tells
+    by_end (no_message asks less f h) = fails (fault.Wire f) _ (of_hears (Err (fault.Wire f)) [] (g.left, still asks less, h, refl)) tt refl
     by_end (no_answer asks less f e line h tells) = fails (fault.Client e) line (of_hears (Err (fault.Client e)) (f ∷ []) (g.left, f, still asks less, h, refl)) tt tells
 
   each_session : (address name : List ℕ) (d : ℕ) (c : ClientState) (given : List ℕ) → AreBytes given → IsGoing 0 d c → d + length given ≤ MOST → (a : Answer) × OfSession p address name c given a
@@ -275,7 +272,7 @@ module _ (p : ProfileView) (good : IsProfile p) where
   of_bytes (b ∷ bytes) are few =
       elim (each_message p good saved_clients (saved_formed p good) saved_tree saved_in IsSaved saved_laws (b ∷ bytes) are) as (λ z. Begins (b ∷ bytes) ⊎ Told (b ∷ bytes)) [
         | inl m ↦ by_cause (b ∷ bytes) m.0 (record { some = omega arith; few = few; is = m.1; means = m.2 }) (load_cause m.0) refl
-        | inr r ↦ (let line = told_line p saved_clients saved_told (codes "state") (b ∷ bytes) r.0 r.1 in inr (line.0, no_saved r.0 (omega arith) few r.1 line.1))
+        | inr r ↦ inr (_, no_saved r.0 (omega arith) few r.1 refl)
       ]
 
   each_begin : (bytes : List ℕ) → AreBytes bytes → Begins bytes ⊎ Told bytes

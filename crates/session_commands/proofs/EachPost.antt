@@ -1,5 +1,5 @@
 -- Each `post` whose files are there has an answer.
-use Rattle.std.proofs.Common.{◌≡◌, ◌⊎◌, ℕ, ◌%◌, ◌^◌, ◌<◌, ◌≤◌, List, [], ◌∷◌, ◌++◌, append-nil, append_assoc, length, take, drop, take-append-drop, Option, Some, None, Ok, Err, Bool, true, false, true≢false, refl, sym, ap, ◌∙◌, subst, inl, inr, codes, arith}
+use Rattle.std.proofs.Common.{◌≡◌, ◌⊎◌, ℕ, ◌%◌, ◌^◌, ◌<◌, ◌≤◌, List, [], ◌∷◌, ◌++◌, append-nil, append_assoc, length, take, drop, take-append-drop, Option, Some, None, Ok, Err, Bool, true, false, true≢false, refl, sym, ap, ◌∙◌, subst, inl, inr, arith}
 use Rattle.std.proofs.lemmas.Bool.{cases_lt}
 use Rattle.std.proofs.lemmas.List.{length-take-le}
 use Rattle.std.proofs.lemmas.Str.{IsUtf8-from_is_utf8, is_utf8-from_IsUtf8}
@@ -55,7 +55,6 @@ use Rattle.session_commands.proofs.JsonBytes.{read_holds}
 use Rattle.session_commands.proofs.ReadBytes.{read_value_holds}
 use Rattle.session_commands.proofs.SpelledBytes.{spelled_are}
 use Rattle.session_commands.proofs.OneReply.{body_bytes}
-use Rattle.session_commands.proofs.ToldCauses.{told_line, frame_told, call_told}
 
 -- ---- packets
 
@@ -158,7 +157,7 @@ module _ (p : ProfileView) (good : IsProfile p) where
         | inl here ↦ (_, reply f means.v (is, means) here means.spelled refl)
         | inr other ↦ (_, another f (is, means) other refl)
       ]
-      | inr (fault, r) ↦ (let told = told_line p frames frame_told (codes "peer") body fault r in (_, no_frame fault told.0 r told.1 refl))
+      | inr (fault, r) ↦ (_, no_frame fault r refl)
     ]
 
     of_packet : (bytes : List ℕ) → AreBytes bytes → BeginsPacket bytes ⊎ BeginsNone bytes → (o : Outcome) × OfLink p n bytes o
@@ -179,7 +178,7 @@ module _ (p : ProfileView) (good : IsProfile p) where
         | inl more ↦ (_, long_call c means more refl)
         | inr few ↦ (let told = each_link c.number given bytes in (_, sent c means (omega (arith, few)) (told.0, told.1, refl)))
       ]
-      | inr (fault, r) ↦ (let told = told_line p calls call_told (codes "input") b fault r in (_, no_call fault told.0 r told.1 refl))
+      | inr (fault, r) ↦ (_, no_call fault r refl)
     ]
 
     module _ (input : List ℕ) (are : AreBytes input) where

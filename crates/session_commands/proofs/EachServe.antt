@@ -58,7 +58,6 @@ use Rattle.session_commands.proofs.EachPost.{begins_so, each_message}
 use Rattle.session_commands.proofs.OneReply.{body_bytes}
 use Rattle.session_commands.proofs.OneExchange.{rest_bytes}
 use Rattle.session_commands.proofs.OneTotal.{given_bytes}
-use Rattle.session_commands.proofs.ToldCauses.{call_told, told_line}
 
 both_all : {A : Type 0} (P : A → Type 0) (xs ys : List A) → AllByRecursion P xs → AllByRecursion P ys → AllByRecursion P (xs ++ ys)
 both_all P [] ys h k = k
@@ -124,7 +123,7 @@ module _ (p : ProfileView) (good : IsProfile p) where
     full : k ≡ n → RowEnd left n k
     empty : k < n → left ≡ [] → RowEnd left n k
     none : k < n → (f : PacketFault) (line : List ℕ) → NoPacket left f → IsWordLong f → packet_line f ≡ Some line → RowEnd left n k
-    refused : k < n → (f : WireFault) (line : List ℕ) → RefusedPacket (WireRefused p calls) left f → wire_line (codes "peer") f ≡ Some line → RowEnd left n k
+    refused : k < n → (f : WireFault) → RefusedPacket (WireRefused p calls) left f → RowEnd left n k
 
   record Row (n : ℕ) (bytes : List ℕ) : Type 0 where
     came_calls : List Numbered
@@ -137,7 +136,7 @@ module _ (p : ProfileView) (good : IsProfile p) where
   one_on left n k (full is) = full (omega (arith, is))
   one_on left n k (empty less is) = empty (omega (arith, less)) is
   one_on left n k (none less f line h few tells) = none (omega (arith, less)) f line h few tells
-  one_on left n k (refused less f line h tells) = refused (omega (arith, less)) f line h tells
+  one_on left n k (refused less f h) = refused (omega (arith, less)) f h
 
   none_row : (n : ℕ) (bytes : List ℕ) (f : PacketFault) (line : List ℕ) → NoFrame bytes f → IsWordLong f → packet_line f ≡ Some line → Row (suc n) bytes
   none_row n bytes f line (inl (is, at)) few tells = record { came_calls = []; left = bytes; came = refl; fit = tt; ends = empty (omega arith) is }
@@ -157,15 +156,13 @@ module _ (p : ProfileView) (good : IsProfile p) where
                 fit = (meant_fit calls call_tree call_in (λ _. ⊤) call_laws FitsCall call_in_fits p good m.0 b.body tt m.2, row.fit);
                 ends = one_on row.left n (length row.came_calls) row.ends;
               })
-          | inr r ↦
-              (let line = told_line p calls call_told (codes "peer") b.body r.0 r.1 in
-              record {
-                came_calls = [];
-                left = bytes;
-                came = refl;
-                fit = tt;
-                ends = refused (omega arith) r.0 line.0 (record { body = b.body; rest = b.rest; fits = b.fits; parts = b.parts; refused = r.1 }) line.1;
-              })
+          | inr r ↦ record {
+            came_calls = [];
+            left = bytes;
+            came = refl;
+            fit = tt;
+            ends = refused (omega arith) r.0 (record { body = b.body; rest = b.rest; fits = b.fits; parts = b.parts; refused = r.1 });
+          }
         ]
         | inr b ↦ none_row n bytes b.fault b.line b.none b.few b.tells
       ]
@@ -218,12 +215,12 @@ module _ (p : ProfileView) (good : IsProfile p) where
           whole = tt;
           stays = stays;
         }
-        | refused less f line lacks tells ↦ record {
+        | refused less f lacks ↦ record {
           out = sent.0;
           server = t;
           more = kept_in d row.came_calls;
-          ended = peer_fault line;
-          session = record { answer = Err (fault.Wire f); calls = row.came_calls; serves = (row.left, ex, less, lacks); entries = refl; word = tt; ended = ap (option_map (λ l. peer_fault l)) tells };
+          ended = peer_fault (wire_line (codes "peer") f);
+          session = record { answer = Err (fault.Wire f); calls = row.came_calls; serves = (row.left, ex, less, lacks); entries = refl; word = tt; ended = refl };
           whole = tt;
           stays = stays;
         }

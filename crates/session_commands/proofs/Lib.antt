@@ -6,7 +6,6 @@ pub mod OnePost
 pub mod JsonBytes
 pub mod SpelledBytes
 pub mod ReadBytes
-pub mod ToldCauses
 pub mod EachPost
 pub mod Sent
 pub mod InputParts

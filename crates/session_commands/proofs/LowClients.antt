@@ -40,7 +40,7 @@ use Rattle.box_events.specs.Weaves.{WeaveCause, woven_of}
 use Rattle.box_events.proofs.Made.{is_woven_of_others, keeps_counts, reaches}
 use Rattle.channel_box.specs.States.{ChannelState, first, has_id}
 use Rattle.channel_box.specs.Steps as boxes
-use Rattle.channel_box.proofs.Received.{ending_sums, few_counted}
+use Rattle.channel_box.proofs.Brought.{ending_sums, few_counted}
 use Rattle.box_client.specs.declared.received.Received.{Received}
 use Rattle.box_client.specs.Ranges.{AreUpdatesInRange, IsPushInRange, IsReplyInRange, IsSeqInRange, IsUpdateInRange}
 use Rattle.box_client.specs.States.{ClientState}

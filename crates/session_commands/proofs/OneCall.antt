@@ -25,7 +25,7 @@ use Rattle.schema_files.specs.Lines.{json_line}
 use Rattle.fault_lines.specs.Messages.{wire_line}
 use Rattle.session_commands.specs.Post.{OfSent, answer_of, OfCall, no_call, long_call, sent, OfJson, no_json, json_of, OfInput}
 use Rattle.session_commands.proofs.OneJson.{one_json, never_json, one_json_cause}
-use Rattle.session_commands.proofs.OneReply.{one_link, same_line}
+use Rattle.session_commands.proofs.OneReply.{one_link}
 
 module _ (p : ProfileView) (good : IsProfile p) where
   module _ (b : List ℕ) (are : AreBytes b) where
@@ -43,13 +43,13 @@ module _ (p : ProfileView) (good : IsProfile p) where
       one_sent n a c (o, h, is) (q, k, at) = is ∙ ap (answer_of address (packet b)) (one_link p good n given bytes o q h k) ∙ sym at
 
       one_of_call : (a c : Answer) → OfCall p address b given a → OfCall p address b given c → a ≡ c
-      one_of_call a c (no_call d k r tells is) (no_call e l s says at) = is ∙ ap refused (same_line (wire_line (codes "input")) d e k l (one_refusal d e r s) tells says) ∙ sym at
-      one_of_call a c (no_call d k r tells is) (long_call x m long at) = absurd (never_call x d m r)
-      one_of_call a c (no_call d k r tells is) (sent x m few h) = absurd (never_call x d m r)
-      one_of_call a c (long_call x m long is) (no_call e l s says at) = absurd (never_call x e m s)
+      one_of_call a c (no_call d r is) (no_call e s at) = is ∙ ap (λ (x : WireFault). refused (wire_line (codes "input") x)) (one_refusal d e r s) ∙ sym at
+      one_of_call a c (no_call d r is) (long_call x m long at) = absurd (never_call x d m r)
+      one_of_call a c (no_call d r is) (sent x m few h) = absurd (never_call x d m r)
+      one_of_call a c (long_call x m long is) (no_call e s at) = absurd (never_call x e m s)
       one_of_call a c (long_call x m long is) (long_call y k more at) = is ∙ sym at
       one_of_call a c (long_call x m long is) (sent y k few h) = absurd (omega (arith, long, few))
-      one_of_call a c (sent x m few h) (no_call e l s says at) = absurd (never_call x e m s)
+      one_of_call a c (sent x m few h) (no_call e s at) = absurd (never_call x e m s)
       one_of_call a c (sent x m few h) (long_call y k long at) = absurd (omega (arith, long, few))
       one_of_call a c (sent x m few h) (sent y k less g) = one_sent x.number a c h (subst (λ (z : Numbered). OfSent p z.number address b given c) (one_call y x k m) g)
 

@@ -36,7 +36,7 @@ body_bytes bytes body rest is are = bytes_first body rest (bytes_after bytes (wo
 some_is : {A : Type 0} (x y : A) → Some x ≡ Some y → x ≡ y
 some_is x y e = cc
 
-pub same_line : {F : Type 0} (f : F → Option (List ℕ)) (d e : F) (k l : List ℕ) → d ≡ e → f d ≡ Some k → f e ≡ Some l → k ≡ l
+same_line : {F : Type 0} (f : F → Option (List ℕ)) (d e : F) (k l : List ℕ) → d ≡ e → f d ≡ Some k → f e ≡ Some l → k ≡ l
 same_line f d e k l same is at = some_is k l (sym is ∙ ap f same ∙ at)
 
 module _ (p : ProfileView) (good : IsProfile p) (n : ℕ) where
@@ -55,13 +55,13 @@ module _ (p : ProfileView) (good : IsProfile p) (n : ℕ) where
         ((exactly_one p.schema good.schema MAX_LEVELS (cell_shape p frames.cell) body (frame_formed p good) are).one_value v w body body ([], sym (append-nil body), s.0, s.1) ([], sym (append-nil body), r.0, r.1)).0
 
     pub one_body : (o q : Outcome) → OfBody p n body o → OfBody p n body q → o ≡ q
-    one_body o q (no_frame d k r tells is) (no_frame e l s says at) = is ∙ ap peer (same_line (wire_line (codes "peer")) d e k l (one_cause d e r s) tells says) ∙ sym at
-    one_body o q (no_frame d k r tells is) (another g m not at) = absurd (never_frame g d m r)
-    one_body o q (no_frame d k r tells is) (reply g w m to s at) = absurd (never_frame g d m r)
-    one_body o q (another f m not is) (no_frame e l s says at) = absurd (never_frame f e m s)
+    one_body o q (no_frame d r is) (no_frame e s at) = is ∙ ap (λ (x : WireFault). peer (wire_line (codes "peer") x)) (one_cause d e r s) ∙ sym at
+    one_body o q (no_frame d r is) (another g m not at) = absurd (never_frame g d m r)
+    one_body o q (no_frame d r is) (reply g w m to s at) = absurd (never_frame g d m r)
+    one_body o q (another f m not is) (no_frame e s at) = absurd (never_frame f e m s)
     one_body o q (another f m not is) (another g h never at) = is ∙ sym at
     one_body o q (another f m not is) (reply g w h to s at) = absurd (not (subst (IsReplyTo n) (one_frame g f h m) to))
-    one_body o q (reply f v m to s is) (no_frame e l r says at) = absurd (never_frame f e m r)
+    one_body o q (reply f v m to s is) (no_frame e r at) = absurd (never_frame f e m r)
     one_body o q (reply f v m to s is) (another g h not at) = absurd (not (subst (IsReplyTo n) (one_frame f g m h) to))
     one_body o q (reply f v m to s is) (reply g w h too r at) = is ∙ ap (λ (x : ValueView). shows (line_text p.schema.decls (cell_shape p frames.cell) x)) (one_value v w s r) ∙ sym at
 

@@ -117,7 +117,7 @@ module _ (p : ProfileView) (good : IsProfile p) (bytes : List ℕ) (are : AreByt
   one_state_line k l (too_long long is) (no_saved e any few s says) = absurd (not_long few long)
   one_state_line k l (too_long long is) (not_loaded t g h at says) = absurd (not_long h.few long)
   one_state_line k l (no_saved d some few r tells) (too_long long at) = absurd (not_long few long)
-  one_state_line k l (no_saved d some few r tells) (no_saved e any less s says) = same_line (wire_line (codes "state")) d e k l (one_cause d e r s) tells says
+  one_state_line k l (no_saved d some few r tells) (no_saved e any less s says) = tells ∙ ap (wire_line (codes "state")) (one_cause d e r s) ∙ sym says
   one_state_line k l (no_saved d some few r tells) (not_loaded t g h at says) = absurd (never_saved t d h r)
   one_state_line k l (not_loaded s f h is tells) (too_long long at) = absurd (not_long h.few long)
   one_state_line k l (not_loaded s f h is tells) (no_saved e any few r says) = absurd (never_saved s e h r)

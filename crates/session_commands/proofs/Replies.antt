@@ -1,5 +1,5 @@
 -- The line of what comes back.
-use Rattle.std.proofs.Common.{◌≡◌, ◌⊎◌, ℕ, ◌≤◌, List, [], ◌++◌, append-nil, length, Bool, true, false, true≢false, Some, None, Result, Ok, Err, Vec, Global, codes, refl, sym, ap, ap₂, ◌∙◌, subst, inl, inr}
+use Rattle.std.proofs.Common.{◌≡◌, ℕ, ◌≤◌, List, [], ◌++◌, append-nil, length, Bool, true, false, true≢false, Some, Result, Ok, Err, Vec, Global, codes, refl, sym, ap, ap₂, ◌∙◌, subst}
 use Rattle.std.specs.Prelude.{◌<◌, ◌↔◌, IfOk, IsTrue, slice_get}
 use Rattle.std.proofs.lemmas.Option.{slice_get_within}
 use Rattle.std.specs.declared.alloc.AllocError.{AllocError}
@@ -15,7 +15,6 @@ use Rattle.box_events.specs.declared.replies.Frame.{Frame}
 use Rattle.wire_forms.specs.Forms.{constructs, forms}
 use Rattle.wire_forms.specs.declared.numbers.TheConstants.{FRAME_TYPE, PUSH}
 use Rattle.wire_profile.specs.declared.wire_fault.WireFault.{WireFault}
-use Rattle.wire_profile.specs.declared.wire_fault.WireFault.TheVariants as wire
 use Rattle.wire_profile.specs.Places.{ProfileView, cell_shape, number_at}
 use Rattle.wire_profile.specs.Profiles.{IsProfile}
 use Rattle.wire_profile.proofs.FormTable.{member_form}
@@ -30,40 +29,27 @@ use Rattle.schema_files.specs.Lines.{line_text}
 use Rattle.fault_lines.specs.Messages.{wire_line}
 use Rattle.session_commands.specs.Lines.{wrong_reply_line}
 use Rattle.session_commands.specs.Post.{shows, peer, IsReplyTo, OfBody, no_frame, another, reply}
-use Rattle.session_commands.specs.inner.Posting.{GivesLine, TellsNoFrame}
-
-none_some : {A : Type 0} (x : A) → None ≡ Some x → ⊥
-none_some x e = cc
+use Rattle.session_commands.specs.inner.Posting.{GivesLine}
 
 -- ---- what the other end did wrong
 
+peer_gives : (p : ProfileView) (n : ℕ) (body text : List ℕ) (s : Stop) → OfBody p n body (peer text) → PeerAs text s → GivesLine p n body (Err s)
+peer_gives p n body text (stop.Peer line) is tells = subst (λ (t : List ℕ). OfBody p n body (peer t)) (sym tells) is
+peer_gives p n body text stop.Memory is tells = tt
+peer_gives p n body text (stop.Refused line) is tells = tells
+peer_gives p n body text stop.ReadFault is tells = tells
+peer_gives p n body text stop.WriteFault is tells = tells
+peer_gives p n body text stop.LinkFault is tells = tells
+
 pub wrong_gives : (p : ProfileView) (n : ℕ) (body : List ℕ) (f : Frame) (s : Stop) → MeansFrame p f body → (IsReplyTo n f → ⊥) → PeerAs wrong_reply_line s → GivesLine p n body (Err s)
-wrong_gives p n body f (stop.Peer line) means not tells = another f means not (ap peer tells)
-wrong_gives p n body f stop.Memory means not tells = tt
-wrong_gives p n body f (stop.Refused line) means not tells = tells
-wrong_gives p n body f stop.ReadFault means not tells = tells
-wrong_gives p n body f stop.WriteFault means not tells = tells
-wrong_gives p n body f stop.LinkFault means not tells = tells
+wrong_gives p n body f s means not tells = peer_gives p n body wrong_reply_line s (another f means not refl) tells
 
-refused_gives : (p : ProfileView) (n : ℕ) (body : List ℕ) (fault : WireFault) (text : List ℕ) → (fault ≡ wire.Memory) ⊎ WireRefused p frames body fault → wire_line (codes "peer") fault ≡ Some text → OfBody p n body (peer text)
-refused_gives p n body fault text (inl memory) tells = absurd (none_some text (subst (λ (f : WireFault). wire_line (codes "peer") f ≡ Some text) memory tells))
-refused_gives p n body fault text (inr refused) tells = no_frame fault text refused tells refl
+pub fault_gives : (p : ProfileView) (n : ℕ) (body : List ℕ) (fault : WireFault) (s : Stop) → WireRefused p frames body fault → PeerAs (wire_line (codes "peer") fault) s → GivesLine p n body (Err s)
+fault_gives p n body fault s refused tells = peer_gives p n body (wire_line (codes "peer") fault) s (no_frame fault refused refl) tells
 
-pub fault_gives : (p : ProfileView) (n : ℕ) (body : List ℕ) (fault : WireFault) (s : Stop) → (fault ≡ wire.Memory) ⊎ WireRefused p frames body fault → TellsNoFrame fault s → GivesLine p n body (Err s)
-fault_gives p n body fault (stop.Peer line) told tells = refused_gives p n body fault line.items told tells
-fault_gives p n body fault stop.Memory told tells = tt
-fault_gives p n body fault (stop.Refused line) told tells = tells
-fault_gives p n body fault stop.ReadFault told tells = tells
-fault_gives p n body fault stop.WriteFault told tells = tells
-fault_gives p n body fault stop.LinkFault told tells = tells
-
-pub no_frame_told : (fault : WireFault) (line : Result (Vec ℕ Global) AllocError) (s : Stop) → IfOk line (λ l. wire_line (codes "peer") fault ≡ Some l.items) → PeerBy line s → TellsNoFrame fault s
-no_frame_told fault (Ok line) s tells is = subst (TellsNoFrame fault) (sym is) tells
-no_frame_told fault (Err e) s tells is = subst (TellsNoFrame fault) (sym is) tt
-
-pub wrong_told : (line : Result (Vec ℕ Global) AllocError) (s : Stop) → IfOk line (λ l. l.items ≡ wrong_reply_line) → PeerBy line s → PeerAs wrong_reply_line s
-wrong_told (Ok line) s tells is = subst (PeerAs wrong_reply_line) (sym is) tells
-wrong_told (Err e) s tells is = subst (PeerAs wrong_reply_line) (sym is) tt
+pub peer_told : (text : List ℕ) (line : Result (Vec ℕ Global) AllocError) (s : Stop) → IfOk line (λ l. l.items ≡ text) → PeerBy line s → PeerAs text s
+peer_told text (Ok line) s tells is = subst (PeerAs text) (sym is) tells
+peer_told text (Err e) s tells is = subst (PeerAs text) (sym is) tt
 
 pub not_reply : (b : Bool) (P : Type 0) → (IsTrue b ↔ P) → b ≡ false → P → ⊥
 not_reply b P is none p = true≢false (sym (is.1 p) ∙ none)

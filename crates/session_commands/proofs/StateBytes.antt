@@ -1,5 +1,5 @@
 -- What is made of a state's bytes.
-use Rattle.std.proofs.Common.{◌≡◌, ◌⊎◌, ℕ, ◌<◌, ◌≤◌, List, [], ◌∷◌, length, Some, None, Bool, false, true≢false, ◌==◌, Result, Ok, Err, Vec, Global, sym, ap, ◌∙◌, subst, inl, inr, codes, arith}
+use Rattle.std.proofs.Common.{◌≡◌, ℕ, ◌<◌, ◌≤◌, List, [], ◌∷◌, length, Some, None, Bool, false, true≢false, ◌==◌, Result, Ok, Err, Vec, Global, sym, ap, ◌∙◌, subst, inl, inr, codes, arith}
 use Rattle.std.proofs.lemmas.Bool.{cases_lt}
 use Rattle.std.specs.Prelude.{IfOk, IsErrAnd}
 use Rattle.std.specs.declared.alloc.AllocError.{AllocError}
@@ -9,7 +9,6 @@ use Rattle.box_client.specs.Saving.{bad_next}
 use Rattle.box_client.specs.States.{ClientState}
 use Rattle.box_client.proofs.Loadings.{next_is_bad}
 use Rattle.wire_profile.specs.declared.wire_fault.WireFault.{WireFault}
-use Rattle.wire_profile.specs.declared.wire_fault.WireFault.TheVariants as wire
 use Rattle.wire_profile.specs.Places.{ProfileView}
 use Rattle.box_wire.specs.Framing.{WireRefused}
 use Rattle.box_wire.specs.Kinds.{saved_clients}
@@ -27,14 +26,10 @@ none_some x e = cc
 
 -- ---- bytes that are no saved client
 
-told_line : (p : ProfileView) (b line : List ℕ) (fault : WireFault) → (fault ≡ wire.Memory) ⊎ WireRefused p saved_clients b fault → wire_line (codes "state") fault ≡ Some line → TellsNoSaved p b line
-told_line p b line fault (inl memory) tells = absurd (none_some line (subst (λ (f : WireFault). wire_line (codes "state") f ≡ Some line) memory tells))
-told_line p b line fault (inr refused) tells = (fault, refused, tells)
-
-pub no_saved_told : (p : ProfileView) (b : List ℕ) (fault : WireFault) (line : Result (Vec ℕ Global) AllocError) (u : LoadError) → (fault ≡ wire.Memory) ⊎ WireRefused p saved_clients b fault → IfOk line (λ l. wire_line (codes "state") fault ≡ Some l.items)
+pub no_saved_told : (p : ProfileView) (b : List ℕ) (fault : WireFault) (line : Result (Vec ℕ Global) AllocError) (u : LoadError) → WireRefused p saved_clients b fault → IfOk line (λ l. l.items ≡ wire_line (codes "state") fault)
     → RefusedBy line u → Refuses (TellsNoSaved p b) u
-no_saved_told p b fault (Ok line) u told tells is = subst (Refuses (TellsNoSaved p b)) (sym is) (told_line p b line.items fault told tells)
-no_saved_told p b fault (Err e) u told tells is = memory_refuses (TellsNoSaved p b) u is
+no_saved_told p b fault (Ok line) u refused tells is = subst (Refuses (TellsNoSaved p b)) (sym is) (fault, refused, tells)
+no_saved_told p b fault (Err e) u refused tells is = memory_refuses (TellsNoSaved p b) u is
 
 -- ---- what was saved isn't loaded
 

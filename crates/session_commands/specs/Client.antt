@@ -55,7 +55,7 @@ long_state_line = unplaced_line (codes "state") (codes "TooLong")
 -- the line says why it has none: it is too long; or its bytes are no saved client; or no client can be loaded of that
 pub data TellsNoClient (p : ProfileView) (bytes line : List ℕ) : Type 0 where
   too_long : MAX_STATE_BYTES < length bytes → line ≡ long_state_line → TellsNoClient p bytes line
-  no_saved : (fault : WireFault) → 0 < length bytes → length bytes ≤ MAX_STATE_BYTES → WireRefused p saved_clients bytes fault → wire_line (codes "state") fault ≡ Some line → TellsNoClient p bytes line
+  no_saved : (fault : WireFault) → 0 < length bytes → length bytes ≤ MAX_STATE_BYTES → WireRefused p saved_clients bytes fault → line ≡ wire_line (codes "state") fault → TellsNoClient p bytes line
   not_loaded : (s : Saved) (fault : LoadFault) → HasSaved p bytes s → IsCauseOf s fault → load_line fault ≡ Some line → TellsNoClient p bytes line
 
 -- ---- channels

@@ -46,7 +46,7 @@ IsReplyTo n (Reply m r) = m ≡ n
 
 -- What is made of a packet's bytes: they are no frame; a frame, but no reply to the call; or its reply, whose value is shown as it came.
 pub data OfBody (p : ProfileView) (n : ℕ) (body : List ℕ) (o : Outcome) : Type 0 where
-  no_frame : (fault : WireFault) (line : List ℕ) → WireRefused p frames body fault → wire_line (codes "peer") fault ≡ Some line → o ≡ peer line → OfBody p n body o
+  no_frame : (fault : WireFault) → WireRefused p frames body fault → o ≡ peer (wire_line (codes "peer") fault) → OfBody p n body o
   another : (f : Frame) → MeansFrame p f body → (IsReplyTo n f → ⊥) → o ≡ peer wrong_reply_line → OfBody p n body o
   reply : (f : Frame) (v : ValueView) → MeansFrame p f body → IsReplyTo n f → SpellsWhole p frames v body → o ≡ shows (line_text p.schema.decls (cell_shape p frames.cell) v) → OfBody p n body o
 
@@ -72,7 +72,7 @@ OfSent p n address b given a = (o : Outcome) × OfLink p n given o × (a ≡ ans
 
 -- the bytes are refused as a call; or they are one that is too long; or it is sent
 pub data OfCall (p : ProfileView) (address b given : List ℕ) (a : Answer) : Type 0 where
-  no_call : (fault : WireFault) (line : List ℕ) → WireRefused p calls b fault → wire_line (codes "input") fault ≡ Some line → a ≡ refused line → OfCall p address b given a
+  no_call : (fault : WireFault) → WireRefused p calls b fault → a ≡ refused (wire_line (codes "input") fault) → OfCall p address b given a
   long_call : (c : Numbered) → MeansCall p c b → MAX_FRAME_BYTES < length b → a ≡ refused (long_call_line (length b)) → OfCall p address b given a
   sent : (c : Numbered) → MeansCall p c b → length b ≤ MAX_FRAME_BYTES → OfSent p c.number address b given a → OfCall p address b given a
 

@@ -1,5 +1,5 @@
 //! The line of the frame that comes back.
-ghost use Rattle.std.specs.Prelude.{◌≡◌, ◌<◌, ◌≤◌, ◌↔◌, IfOk, IsTrue};
+ghost use Rattle.std.specs.Prelude.{◌≡◌, ◌<◌, ◌≤◌, ◌↔◌, IfOk, IsTrue, codes};
 ghost use Rattle.tl_plan.specs.PlanLaws.{IsInstance};
 ghost use Rattle.tl_schema.specs.Seen.{shape};
 ghost use Rattle.tl_schema.specs.Types as type;
@@ -12,14 +12,15 @@ ghost use Rattle.wire_forms.specs.declared.numbers.TheConstants.{FRAME_TYPE};
 ghost use Rattle.wire_profile.specs.Places.{cell_shape, number_at};
 ghost use Rattle.box_wire.specs.Framing.{SpellsWhole};
 ghost use Rattle.box_wire.specs.Kinds.{frames};
+ghost use Rattle.fault_lines.specs.Messages.{wire_line};
 ghost use Rattle.schema_files.specs.Lines.{line_text};
 ghost use Rattle.session_commands.specs.Post.{IsReplyTo};
 ghost use Rattle.session_commands.specs.Lines.{wrong_reply_line};
-ghost use Rattle.session_commands.specs.inner.Posting.{GivesLine, TellsNoFrame};
+ghost use Rattle.session_commands.specs.inner.Posting.{GivesLine};
 ghost use Rattle.outside.specs.Loading.{PeerAs};
 
 use box_events::Frame;
-use box_wire::read_frame;
+use box_wire::{Fault, read_frame};
 use fault_lines::wire_line;
 use outside::{Stop, unplaced_line};
 use schema_files::value_line;
@@ -54,7 +55,8 @@ pub fn reply_line(
                 Err(_) => Err(Stop::Memory),
             }
         }
-        Err(fault) => Err(no_frame(alloc, fault)),
+        Err(Fault::Refused(cause)) => Err(no_frame(alloc, cause)),
+        Err(Fault::Memory) => Err(Stop::Memory),
     }
 }
 
@@ -66,10 +68,10 @@ fn wrong_reply(alloc: Global) -> Stop
 }
 
 // The other end's fault of bytes that are no frame.
-fn no_frame(alloc: Global, fault: WireFault) -> Stop
-    ensures { TellsNoFrame fault result }
+fn no_frame(alloc: Global, cause: WireFault) -> Stop
+    ensures { PeerAs (wire_line (codes "peer") cause) result }
 {
-    Stop::of_peer(wire_line(alloc, "peer", fault))
+    Stop::of_peer(wire_line(alloc, "peer", cause))
 }
 
 // Whether a frame is the reply to the call of this number.

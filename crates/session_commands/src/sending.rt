@@ -9,7 +9,7 @@ ghost use Rattle.session_commands.specs.Lines.{long_call_line};
 ghost use Rattle.session_commands.specs.inner.Posting.{NumbersCall, Sends};
 
 use box_events::MAX_FRAME_BYTES;
-use box_wire::{SpellFault, read_call};
+use box_wire::{Fault, SpellFault, read_call};
 use fault_lines::{spell_line, wire_line};
 use outside::LoadError;
 use std::alloc::Global;
@@ -54,7 +54,8 @@ fn call_number(alloc: Global, profile: &Profile, bytes: &Bytes) -> Result<u32, L
 {
     match read_call(alloc, profile, bytes.as_slice()) {
         Ok(call) => Ok(call.number),
-        Err(fault) => Err(LoadError::of_line(wire_line(alloc, "input", fault))),
+        Err(Fault::Refused(cause)) => Err(LoadError::of_line(wire_line(alloc, "input", cause))),
+        Err(Fault::Memory) => Err(LoadError::Memory),
     }
 }
 

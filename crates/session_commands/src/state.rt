@@ -8,7 +8,7 @@ ghost use Rattle.session_commands.specs.inner.Recovering.{LoadsClient, ReadsSave
 
 use box_client::Client;
 use box_events::Saved;
-use box_wire::read_saved;
+use box_wire::{Fault, read_saved};
 use fault_lines::{load_line, wire_line};
 use outside::LoadError;
 use std::alloc::Global;
@@ -41,7 +41,8 @@ fn saved_in(alloc: Global, profile: &Profile, bytes: &[u8]) -> Result<Saved, Loa
 {
     match read_saved(alloc, profile, bytes) {
         Ok(saved) => Ok(saved),
-        Err(fault) => Err(LoadError::of_line(wire_line(alloc, "state", fault))),
+        Err(Fault::Refused(cause)) => Err(LoadError::of_line(wire_line(alloc, "state", cause))),
+        Err(Fault::Memory) => Err(LoadError::Memory),
     }
 }
 

@@ -10,7 +10,6 @@ use Rattle.box_events.specs.declared.requests.Numbered.{Numbered}
 use Rattle.box_client.specs.Replies.{Cause, no_list, peer_error, seq_back, wrong_kind}
 use Rattle.box_client.specs.States.{ClientState}
 use Rattle.box_client.specs.declared.fault.ClientFault.{ClientFault}
-use Rattle.box_wire.specs.Kinds.{frames}
 use Rattle.fault_lines.specs.Answers.{answer_line}
 use Rattle.box_client.specs.Asking.{ticks, wakes, is_one_asking}
 use Rattle.wire_profile.specs.Places.{ProfileView}
@@ -38,7 +37,6 @@ use Rattle.update_sessions.specs.Hearing.{IsFaultOf, hears}
 use Rattle.update_sessions.specs.Packed.{SpellsCall}
 use Rattle.session_commands.specs.Client.{client_line, many_channels_line}
 use Rattle.session_commands.specs.SessionEnds.{session_line}
-use Rattle.session_commands.proofs.ToldCauses.{frame_told, told_line}
 use Rattle.session_commands.specs.declared.state.TheConstants.{MAX_STATE_BYTES}
 use Rattle.session_rooms.specs.Client.{OfState, no_client, too_many, watches, OfStateFile, Recovers, after_reading, after_connect, after_session, Leaves, after_create, no_memory, saves, after_state, ends_by, recovers}
 use Rattle.session_rooms.specs.ClientLaws.{IsOfClient}
@@ -162,8 +160,7 @@ module _ (p : ProfileView) (fault : SessionFault) where
   -- a packet came, and is refused; or what is asked then can't be sent
   bytes_ended : (c : ClientState) (bytes : List ℕ) (t u : List Event) → Happened IsFromLink t → HearsBytes p c bytes u (Err fault) → IsEnded fault (t ++ u)
   bytes_ended c bytes t u came (no_frame f refuses none is) =
-      let line = told_line p frames frame_told (codes "peer") bytes f refuses in
-      ended_as fault (session.Wire f) (t ++ u) (same_fault fault (session.Wire f) is) (ended_first (session.Wire f) t u (has_line (session.Wire f) t line.0 line.1 came))
+      ended_as fault (session.Wire f) (t ++ u) (same_fault fault (session.Wire f) is) (ended_first (session.Wire f) t u (has_line (session.Wire f) t _ refl came))
   bytes_ended c bytes t u came (refused_frame f refuses none is) =
       let line = fault_line refuses.cause f refuses.is in
       ended_as fault (session.Client f) (t ++ u) (same_fault fault (session.Client f) is) (ended_first (session.Client f) t u (has_line (session.Client f) t line.0 line.1 came))

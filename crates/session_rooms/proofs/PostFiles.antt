@@ -41,6 +41,7 @@ use Rattle.schema_files.specs.declared.schema_text.TheConstants.{SCHEMA_BYTES}
 use Rattle.fault_lines.specs.Packets.{ended_line, length_line}
 use Rattle.fault_lines.specs.Profiled.{form_line}
 use Rattle.fault_lines.specs.Profiled as profiling
+use Rattle.fault_lines.specs.Messages.{wire_line}
 use Rattle.codec_rooms.specs.Laws.{IsAnswer}
 use Rattle.codec_rooms.specs.Typed as typed
 use Rattle.codec_rooms.proofs.FileLaws.{run_done}
@@ -302,7 +303,7 @@ module _ (p : ProfileView) (number : ℕ) (address b : List ℕ) where
 
 module _ (p : ProfileView) (address : List ℕ) where
   call_ends : (b : List ℕ) → Ends (λ files given. answer.OfCall p address b given) (OfCall p address b)
-  call_ends b t r s n (no_call fault line refuses is h) f told = refusal_gives (answer.OfCall p address b (next_link s.view)) line t r s n (answer.no_call fault line refuses is refl) h f told
+  call_ends b t r s n (no_call fault refuses h) f told = refusal_gives (answer.OfCall p address b (next_link s.view)) (wire_line (codes "input") fault) t r s n (answer.no_call fault refuses refl) h f told
   call_ends b t r s n (long_call c means long h) f told = refusal_gives (answer.OfCall p address b (next_link s.view)) (long_call_line (length b)) t r s n (answer.long_call c means long refl) h f told
   call_ends b t r s n (calls_it c means few h) f told =
       gives_as (OfSent p c.number address b (next_link s.view)) (answer.OfCall p address b (next_link s.view)) r s n (λ a of. answer.sent c means few of) (over_ends p c.number address b t r s n h f told)

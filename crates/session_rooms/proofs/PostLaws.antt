@@ -65,7 +65,7 @@ module _ (schema address input : List ℕ) where
       keeps_over b = keeps_then P _ _ (keeps_call P (connected address) (λ ok. refl)) (keeps_connected b)
 
     keeps_it : (b : List ℕ) → Keeps P (OfCall p address b)
-    keeps_it b t s (no_call fault line r is h) = prints line t s h
+    keeps_it b t s (no_call fault r h) = prints _ t s h
     keeps_it b t s (long_call c means long h) = prints _ t s h
     keeps_it b t s (calls_it c means few h) = keeps_over c.number b t s h
 
@@ -124,7 +124,7 @@ module _ (p : ProfileView) (address : List ℕ) where
     connect_cause b false t u s is h = lost t u s (subst (Happened (IsFailure kinds.Links)) (sym is) (inl refl)) h
 
   call_cause : (b : List ℕ) → HasCause (OfCall p address b)
-  call_cause b t s (no_call fault line r is h) = cause_print (refused line) tt t s h
+  call_cause b t s (no_call fault r h) = cause_print (refused _) tt t s h
   call_cause b t s (long_call c means long h) = cause_print (refused _) tt t s h
   call_cause b t s (calls_it c means few h) = cause_then _ (after_connect p c.number b) (connect_cause c.number b) t s h
 

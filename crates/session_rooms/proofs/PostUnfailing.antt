@@ -221,7 +221,7 @@ module _ (schema address input : List ℕ) where
 
   module _ (p : ProfileView) (good : IsProfile p) where
     call_told : (b : List ℕ) → Unfailing (λ files given. answer.OfCall p address b given) (OfCall p address b)
-    call_told b t r s n (no_call fault line refuses is h) f ready room = refusal_told line t r h
+    call_told b t r s n (no_call fault refuses h) f ready room = refusal_told _ t r h
     call_told b t r s n (long_call c means long h) f ready room = refusal_told _ t r h
     call_told b t r s n (calls_it c means few h) f ready room = over_told p c.number address b good t r s n h f ready.reliable ready.bytes (λ a of. room a (answer.sent c means few of))
 

@@ -214,7 +214,7 @@ part_later Is s m n same (inr (a, is, e)) =
 
 module _ (p : ProfileView) (good : IsProfile p) (address : List ℕ) where
   call_part : (b : List ℕ) → Parts (λ files given. answer.OfCall p address b given) (OfCall p address b)
-  call_part b t r s n (no_call fault line refuses is h) f bytes = refusal_part (answer.OfCall p address b (next_link s.view)) line t r s n h f
+  call_part b t r s n (no_call fault refuses h) f bytes = refusal_part (answer.OfCall p address b (next_link s.view)) _ t r s n h f
   call_part b t r s n (long_call c means long h) f bytes = refusal_part (answer.OfCall p address b (next_link s.view)) _ t r s n h f
   call_part b t r s n (calls_it c means few h) f bytes =
       part_as (OfSent p c.number address b (next_link s.view)) (answer.OfCall p address b (next_link s.view)) s n (λ a of. answer.sent c means few of) (over_part p good c.number address b t r s n h f bytes)

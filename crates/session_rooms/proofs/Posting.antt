@@ -1,5 +1,5 @@
 -- What follows of an input of `post`, and that it can go on to its end.
-use Rattle.std.proofs.Common.{◌≡◌, inl, inr, ℕ, ◌≤◌, List, [], ◌∷◌, ◌++◌, length, length-append, map, Bool, true, false, Option, Some, None, Result, Ok, Err, Vec, Global, refl, sym, ap, ◌∙◌, subst, arith}
+use Rattle.std.proofs.Common.{◌≡◌, inl, inr, ℕ, ◌≤◌, List, [], ◌∷◌, ◌++◌, length, length-append, map, Bool, true, false, Option, Some, None, Result, Ok, Err, Vec, Global, refl, sym, ap, ◌∙◌, subst, arith, codes}
 use Rattle.std.proofs.lemmas.List.{append-nil, append_assoc}
 use Rattle.tl_numbers.specs.Bytes.{AreBytes}
 use Rattle.tl_base.specs.declared.host.Out.{Out}
@@ -22,6 +22,7 @@ use Rattle.outside.specs.declared.stop.Stop.TheVariants as stop
 use Rattle.outside.specs.declared.stop.LoadError.{LoadError}
 use Rattle.outside.proofs.Loaded.{refuses_as}
 use Rattle.fault_lines.specs.Packets.{TellsPacket, ended_line, length_line}
+use Rattle.fault_lines.specs.Messages.{wire_line}
 use Rattle.outside.specs.Events.{Event, HostState, connected, opened, put}
 use Rattle.outside.specs.Packets.{PacketView, whole, TakesPacket, packet_view}
 use Rattle.outside.specs.declared.packets.Packet.{Packet}
@@ -91,7 +92,7 @@ module _ (p : ProfileView) (address : List ℕ) where
       record { rest = connected address false ∷ m.rest; answer = m.answer; whole = record { first = connected address false ∷ []; rest = m.rest; between = false; splits = refl; does = refl; goes = m.whole } }
 
   of_call : (b : List ℕ) (a : Answer) → post.OfCall p address b [] a → Begins (OfCall p address b) []
-  of_call b a (post.no_call fault line r tells is) = begun_as (Prints (refused line)) (OfCall p address b) (λ t s h. no_call fault line r tells h) (can_print (refused line))
+  of_call b a (post.no_call fault r is) = begun_as (Prints (refused (wire_line (codes "input") fault))) (OfCall p address b) (λ t s h. no_call fault r h) (can_print (refused (wire_line (codes "input") fault)))
   of_call b a (post.long_call c means long is) = begun_as (Prints (refused _)) (OfCall p address b) (λ t s h. long_call c means long h) (can_print (refused _))
   of_call b a (post.sent c means few of) = begun_as (CallsOver p address c.number b) (OfCall p address b) (λ t s h. calls_it c means few h) (can_call c.number b)
 
@@ -128,7 +129,7 @@ module _ (p : ProfileView) (address : List ℕ) where
   module _ (text : List ℕ) where
     refusal : (line : List ℕ) → TellsNothing p text line → (t : List Event) (s : Status) → Prints (refused line) t s → OfText p address text t s
     refusal line (no_json_told (cause, r, is)) t s h = no_json cause r (subst (λ (l : List ℕ). Prints (refused l) t s) is h)
-    refusal line (no_call_told (x, b, is, spells, (are, inl (fault, r, tells)))) t s h = json_of x b is spells are (no_call fault line r tells h)
+    refusal line (no_call_told (x, b, is, spells, (are, inl (fault, r, tells)))) t s h = json_of x b is spells are (no_call fault r (subst (λ (l : List ℕ). Prints (refused l) t s) tells h))
     refusal line (no_call_told (x, b, is, spells, (are, inr (c, means, long, tells)))) t s h = json_of x b is spells are (long_call c means long (subst (λ (l : List ℕ). Prints (refused l) t s) tells h))
 
     pub text_refused : (u : LoadError) (q r : HostState) (answer : Option Status) → IsProfile p → AreBytes text → MakesCall p text (Err u) → PrintsMade (of_fault u) q r answer → DidIn to_link (OfText p address text) q r answer

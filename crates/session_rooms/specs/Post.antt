@@ -1,5 +1,5 @@
 -- What `post` does. This project's own.
-use Rattle.std.specs.Prelude.{◌≡◌, ℕ, ◌<◌, ◌≤◌, List, length, codes, Bool, true, false, Option, Some, None}
+use Rattle.std.specs.Prelude.{ℕ, ◌<◌, ◌≤◌, List, length, codes, Bool, true, false, Option, Some, None}
 use Rattle.tl_numbers.specs.Bytes.{AreBytes}
 use Rattle.tl_base.specs.Packets.{packet}
 use Rattle.tl_base.specs.declared.host.Slot.TheVariants as slots
@@ -71,7 +71,7 @@ CallsOver p address n b = Then (Calls (connected address)) (after_connect p n b)
 
 -- the bytes are no call, or too long a one, and no link is made; or they are sent
 pub data OfCall (p : ProfileView) (address b : List ℕ) (t : List Event) (status : Status) : Type 0 where
-  no_call : (fault : WireFault) (line : List ℕ) → WireRefused p calls b fault → wire_line (codes "input") fault ≡ Some line → Prints (refused line) t status → OfCall p address b t status
+  no_call : (fault : WireFault) → WireRefused p calls b fault → Prints (refused (wire_line (codes "input") fault)) t status → OfCall p address b t status
   long_call : (c : Numbered) → MeansCall p c b → MAX_FRAME_BYTES < length b → Prints (refused (long_call_line (length b))) t status → OfCall p address b t status
   calls_it : (c : Numbered) → MeansCall p c b → length b ≤ MAX_FRAME_BYTES → CallsOver p address c.number b t status → OfCall p address b t status
 

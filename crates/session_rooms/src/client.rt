@@ -83,11 +83,7 @@ fn recover_schema<H: Host>(
     ensures { DidIn to_link (OfProfile (OfStateFile address.now state.now channels.now) schema.now) (H.state host.old) (H.state host.new) (answered result) }
 {
     match profile_of(alloc, schema) {
-        Ok(profile) => {
-            // Read for the proof alone: that the profile is sound.
-            let _schema = profile.schema();
-            recover_state(alloc, host, &profile, address, state, channels)
-        }
+        Ok(profile) => recover_state(alloc, host, &profile, address, state, channels),
         Err(fault) => print_made(host, Err(fault)),
     }
 }

@@ -84,11 +84,7 @@ fn post_schema<H: Host>(
     ensures { DidIn to_link (OfProfile (OfInputFile address.now input.now) schema.now) (H.state host.old) (H.state host.new) (answered result) }
 {
     match profile_of(alloc, schema) {
-        Ok(profile) => {
-            // Read for the proof alone: that the profile is sound.
-            let _schema = profile.schema();
-            post_input(alloc, host, &profile, address, input)
-        }
+        Ok(profile) => post_input(alloc, host, &profile, address, input),
         Err(fault) => print_made(host, Err(fault)),
     }
 }

@@ -20,7 +20,7 @@ mod slices;
 mod source;
 
 pub use counts::{Counts, Kind};
-pub use fault::{Failed, Memory};
+pub use fault::{Failed, Fault, Memory};
 pub use host::{Host, Out, Slot};
 pub use limited::Limited;
 pub use link::Link;

@@ -1,4 +1,3 @@
-pub mod ToldCauses
 pub mod OneReplay
 pub mod Reports
 pub mod JournalFiles

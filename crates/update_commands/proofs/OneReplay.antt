@@ -1,48 +1,42 @@
 -- What a replay answers is one.
-use Rattle.std.proofs.Common.{◌≡◌, ℕ, List, Option, Some, None, Bool, true, false, cond, option_map, refl, sym, ap, ap₂, ◌∙◌, subst}
+use Rattle.std.proofs.Common.{◌≡◌, ℕ, List, Some, Bool, true, false, cond, refl, sym, ap, ap₂, ◌∙◌, subst}
 use Rattle.tl_numbers.specs.Bytes.{AreBytes}
 use Rattle.box_events.specs.declared.steps.Step.{Step}
 use Rattle.wire_profile.specs.Places.{ProfileView}
 use Rattle.wire_profile.specs.Profiles.{IsProfile}
 use Rattle.wire_profile.specs.declared.wire_fault.WireFault.{WireFault}
-use Rattle.outside.specs.Answer.{Answer, refused_after}
-use Rattle.fault_lines.specs.Messages.{step_line}
+use Rattle.outside.specs.Answer.{Answer}
 use Rattle.update_replay.specs.Endings.{Ending, whole, no_step, not_made, too_long}
 use Rattle.update_replay.specs.Replays.{Replayed, no_step_follows, one_too_many, not_possible, at_its_end, goes_on, seen_of}
 use Rattle.update_replay.proofs.OneReplay.{replays_once}
 use Rattle.update_replay.proofs.EachReplay.{each_replayed}
 use Rattle.update_commands.specs.Replay.{ending_answer, OfJournal}
-use Rattle.update_commands.proofs.ToldCauses.{told_line}
 
 -- ---- an ending's answer
 
 pub some_is : {A : Type 0} (x y : A) → Some x ≡ Some y → x ≡ y
 some_is x y e = cc
 
-mapped_output : (output : List ℕ) (o : Option (List ℕ)) (a : Answer) → option_map (refused_after output) o ≡ Some a → a.output ≡ output
-mapped_output output None a e = absurd cc
-mapped_output output (Some line) a e = sym (ap (λ (x : Answer). x.output) (some_is _ _ e))
-
 -- what it writes is what the replay wrote
 pub output_is : (output : List ℕ) (ending : Ending) (a : Answer) → ending_answer output ending ≡ Some a → a.output ≡ output
 output_is output (whole k) a e = sym (ap (λ (x : Answer). x.output) (some_is _ _ e))
-output_is output (no_step at fault) a e = mapped_output output (step_line at fault) a e
+output_is output (no_step at fault) a e = sym (ap (λ (x : Answer). x.output) (some_is _ _ e))
 output_is output (not_made at cause) a e = sym (ap (λ (x : Answer). x.output) (some_is _ _ e))
 output_is output (too_long at) a e = sym (ap (λ (x : Answer). x.output) (some_is _ _ e))
 
 abbrev Told : List ℕ → Ending → Type 0
 Told output ending = (a : Answer) × (ending_answer output ending ≡ Some a)
 
-refusal_told : (output : List ℕ) (b : Bool) (at : ℕ) (fault : WireFault) → ((line : List ℕ) × (step_line at fault ≡ Some line)) → Told output (cond b (too_long at) (no_step at fault))
-refusal_told output true at fault line = (_, refl)
-refusal_told output false at fault (line, is) = (_, ap (option_map (refused_after output)) is)
+refusal_told : (output : List ℕ) (b : Bool) (at : ℕ) (fault : WireFault) → Told output (cond b (too_long at) (no_step at fault))
+refusal_told output true at fault = (_, refl)
+refusal_told output false at fault = (_, refl)
 
 -- ---- a journal
 
 module _ (p : ProfileView) (n : ℕ) (journal : List ℕ) where
   -- each ending of a replay is told
   pub ending_told : (ss : List Step) (output : List ℕ) (ending : Ending) → Replayed p n journal ss output ending → (a : Answer) × (ending_answer output ending ≡ Some a)
-  ending_told ss output ending (no_step_follows at left fault began none is) = subst (Told output) (sym is) (refusal_told output _ at fault (told_line p left fault at none.0))
+  ending_told ss output ending (no_step_follows at left fault began none is) = subst (Told output) (sym is) (refusal_told output _ at fault)
   ending_told ss output ending (one_too_many at left s x rest began begins most is) = subst (Told output) (sym is) (_, refl)
   ending_told ss output ending (not_possible at left s x rest cause began begins few refused is) = subst (Told output) (sym is) (_, refl)
   ending_told ss output ending (at_its_end at lines began ended written is) = subst (Told output) (sym is) (_, refl)

@@ -1,9 +1,9 @@
 -- Laws of `replay`.
-use Rattle.std.proofs.Common.{◌≡◌, codes, ℕ, List, [], ◌++◌, Option, Some, None, option_map, refl, sym, subst, inl, inr}
+use Rattle.std.proofs.Common.{◌≡◌, codes, ℕ, List, [], ◌++◌, Option, Some, None, refl, sym, subst, inl, inr}
 use Rattle.tl_base.specs.Contents.{Files}
 use Rattle.tl_base.specs.declared.host.Slot.TheVariants.{Schema, Input}
 use Rattle.wire_profile.specs.Places.{ProfileView}
-use Rattle.outside.specs.Answer.{Answer, refused_after}
+use Rattle.outside.specs.Answer.{Answer}
 use Rattle.outside.specs.declared.status.Status.{Status}
 use Rattle.outside.specs.declared.status.Status.TheVariants.{ReadFault}
 use Rattle.outside.specs.Events.{Event}
@@ -15,7 +15,6 @@ use Rattle.outside.proofs.Causing.{keeps_answer, keeps_file, keeps_tell, keeps_t
 use Rattle.codec_rooms.specs.Laws.{Named, Command, IsOf, IsUsed, ReadsFiles, EndsFiles}
 use Rattle.codec_rooms.proofs.FileLaws.{ComesTo, unread, answered as told, run_done, Touches, touches, reads_files, ends_files}
 use Rattle.codec_rooms.proofs.TypedLaws.{keeps_named, cause_of_file}
-use Rattle.fault_lines.specs.Messages.{step_line}
 use Rattle.update_replay.specs.Endings.{Ending, whole, no_step, not_made, too_long}
 use Rattle.update_replay.specs.declared.limits.TheConstants.{MAX_JOURNAL_BYTES}
 use Rattle.update_commands.specs.Replay.{OfJournal, ReplayAnswer, ending_answer}
@@ -54,13 +53,9 @@ replay_touches schema journal n = touches (replay schema journal n) (keeps_repla
 plain_as : (a b : Answer) → Some a ≡ Some b → Explains a.status [] → Explains b.status []
 plain_as a b is h = subst (λ (x : Answer). Explains x.status []) (some_is a b is) h
 
-plain_line : (output : List ℕ) (o : Option (List ℕ)) (a : Answer) → option_map (refused_after output) o ≡ Some a → Explains a.status []
-plain_line output None a is = absurd cc
-plain_line output (Some line) a is = plain_as _ a is tt
-
 plain_ending : (output : List ℕ) (ending : Ending) (a : Answer) → ending_answer output ending ≡ Some a → Explains a.status []
 plain_ending output (whole k) a is = plain_as _ a is tt
-plain_ending output (no_step at fault) a is = plain_line output (step_line at fault) a is
+plain_ending output (no_step at fault) a is = plain_as _ a is tt
 plain_ending output (not_made at cause) a is = plain_as _ a is tt
 plain_ending output (too_long at) a is = plain_as _ a is tt
 

@@ -1,5 +1,5 @@
 -- What `replay` answers: the report of its journal, or where and why schema, profile or journal is refused. This project's own.
-use Rattle.std.specs.Prelude.{◌≡◌, ℕ, List, Option, Some, option_map, codes}
+use Rattle.std.specs.Prelude.{◌≡◌, ℕ, List, Option, Some, codes}
 use Rattle.tl_base.specs.Contents.{Files, HoldBytes}
 use Rattle.tl_base.specs.Outside.{HasFile, IsFile}
 use Rattle.box_events.specs.declared.steps.Step.{Step}
@@ -20,7 +20,7 @@ long_line at = placed_line (codes "journal") at (codes "TooLong")
 -- what is answered where a replay has written this and comes to its ending: the lines stand, and a refusal is told
 abbrev pub ending_answer : List ℕ → Ending → Option Answer
 ending_answer output (whole k) = Some (done output)
-ending_answer output (no_step at fault) = option_map (refused_after output) (step_line at fault)
+ending_answer output (no_step at fault) = Some (refused_after output (step_line at fault))
 ending_answer output (not_made at cause) = Some (refused_after output (cause_line at cause))
 ending_answer output (too_long at) = Some (refused_after output (long_line at))
 

@@ -39,7 +39,7 @@ impl From<WriteFault> for LineFault {
 /// Why a replay stopped before its journal's end. `at` is the offset in the journal at which the step begins.
 #[derive(Clone, Copy, Debug, Error)]
 pub enum ReplayFault {
-    /// The bytes there are no step. It holds no `Memory`.
+    /// The bytes there are no step.
     #[error("no step at {at}: {fault}")]
     Wire { at: u32, fault: WireFault },
     /// The step there is not made. It holds no `Memory`.

@@ -1,11 +1,13 @@
 -- How a message is received: a packet, and what its bytes mean.
-use Rattle.std.proofs.Common.{◌≡◌, ◌⊎◌, inl, inr, Bool, ℕ, List, ◌++◌, length, true, false, Option, Some, None, Result, Ok, Err, refl, sym, ◌∙◌, subst}
+use Rattle.std.proofs.Common.{◌≡◌, Bool, ℕ, List, ◌++◌, length, true, false, Option, Some, None, Result, Ok, Err, refl, sym, ◌∙◌, subst}
 use Rattle.std.specs.Prelude.{IfSome}
 use Rattle.tl_base.specs.Packets.{IsPacketLength, ReadsPacket, PacketInto, packet}
 use Rattle.tl_base.specs.declared.packet.PacketFault.{PacketFault}
 use Rattle.tl_base.specs.declared.packet.PacketFault.TheVariants as packets
 use Rattle.wire_profile.specs.declared.wire_fault.WireFault.{WireFault}
-use Rattle.wire_profile.specs.declared.wire_fault.WireFault.TheVariants as wire
+use Rattle.box_wire.specs.Answers.{HasCause}
+use Rattle.tl_base.specs.declared.fault.Fault.{Fault}
+use Rattle.tl_base.specs.declared.fault.Fault.TheVariants as fault
 use Rattle.box_events.specs.declared.replies.Frame.{Frame}
 use Rattle.wire_profile.specs.Places.{ProfileView}
 use Rattle.wire_profile.specs.Profiles.{IsProfile}
@@ -33,36 +35,15 @@ module _ {M : Type 0} (MeansIt : M → List ℕ → Type 0) (Refused : List ℕ 
   no_more (Some x) b into h = h.0
 
   -- a packet is refused; a fault of memory is one of a session
-  refused_by : (x y into : List ℕ) (fault : WireFault) → IsPacketLength (length into) → x ≡ packet into ++ y → (fault ≡ wire.Memory) ⊎ Refused into fault → Receives {M = M} MeansIt Refused x (Some y) (Err (of_wire fault))
-  refused_by x y into wire.Memory fits is h = tt
-  refused_by x y into (wire.Refused place cause) fits is (inl e) = absurd cc
-  refused_by x y into (wire.Refused place cause) fits is (inr r) = record { body = into; rest = y; fits = fits; parts = is; refused = r }
-  refused_by x y into (wire.Trailing place) fits is (inl e) = absurd cc
-  refused_by x y into (wire.Trailing place) fits is (inr r) = record { body = into; rest = y; fits = fits; parts = is; refused = r }
-  refused_by x y into (wire.NotServed place) fits is (inl e) = absurd cc
-  refused_by x y into (wire.NotServed place) fits is (inr r) = record { body = into; rest = y; fits = fits; parts = is; refused = r }
-  refused_by x y into (wire.BadVersion version) fits is (inl e) = absurd cc
-  refused_by x y into (wire.BadVersion version) fits is (inr r) = record { body = into; rest = y; fits = fits; parts = is; refused = r }
-  refused_by x y into (wire.BadNumber number) fits is (inl e) = absurd cc
-  refused_by x y into (wire.BadNumber number) fits is (inr r) = record { body = into; rest = y; fits = fits; parts = is; refused = r }
-  refused_by x y into (wire.WrongUpdate place) fits is (inl e) = absurd cc
-  refused_by x y into (wire.WrongUpdate place) fits is (inr r) = record { body = into; rest = y; fits = fits; parts = is; refused = r }
-  refused_by x y into (wire.BadCount pts count) fits is (inl e) = absurd cc
-  refused_by x y into (wire.BadCount pts count) fits is (inr r) = record { body = into; rest = y; fits = fits; parts = is; refused = r }
-  refused_by x y into (wire.BadEnd pts) fits is (inl e) = absurd cc
-  refused_by x y into (wire.BadEnd pts) fits is (inr r) = record { body = into; rest = y; fits = fits; parts = is; refused = r }
-  refused_by x y into (wire.BadDate date) fits is (inl e) = absurd cc
-  refused_by x y into (wire.BadDate date) fits is (inr r) = record { body = into; rest = y; fits = fits; parts = is; refused = r }
-  refused_by x y into wire.UnorderedSetting fits is (inl e) = absurd cc
-  refused_by x y into wire.UnorderedSetting fits is (inr r) = record { body = into; rest = y; fits = fits; parts = is; refused = r }
-  refused_by x y into (wire.BadSeq seq_start seq) fits is (inl e) = absurd cc
-  refused_by x y into (wire.BadSeq seq_start seq) fits is (inr r) = record { body = into; rest = y; fits = fits; parts = is; refused = r }
+  refused_by : (x y into : List ℕ) (e : Fault WireFault) → IsPacketLength (length into) → x ≡ packet into ++ y → HasCause (Refused into) e → Receives {M = M} MeansIt Refused x (Some y) (Err (of_wire e))
+  refused_by x y into (fault.Refused cause) fits is r = record { body = into; rest = y; fits = fits; parts = is; refused = r }
+  refused_by x y into fault.Memory fits is r = tt
 
-  pub no_message : (a b : Option (List ℕ)) (into : List ℕ) (fault : WireFault) → IfSome a (λ bytes. ReadsPacket bytes b into (Ok true)) → IsPacketLength (length into) → (fault ≡ wire.Memory) ⊎ Refused into fault
-      → IfSome a (λ bytes. Receives {M = M} MeansIt Refused bytes b (Err (of_wire fault)))
-  no_message None b into fault h fits r = tt
-  no_message (Some x) None into fault h fits r = absurd h
-  no_message (Some x) (Some y) into fault h fits r = refused_by x y into fault fits h r
+  pub no_message : (a b : Option (List ℕ)) (into : List ℕ) (e : Fault WireFault) → IfSome a (λ bytes. ReadsPacket bytes b into (Ok true)) → IsPacketLength (length into) → HasCause (Refused into) e
+      → IfSome a (λ bytes. Receives {M = M} MeansIt Refused bytes b (Err (of_wire e)))
+  no_message None b into e h fits r = tt
+  no_message (Some x) None into e h fits r = absurd h
+  no_message (Some x) (Some y) into e h fits r = refused_by x y into e fits h r
 
   pub message : (a b : Option (List ℕ)) (into : List ℕ) (m : M) → IfSome a (λ bytes. ReadsPacket bytes b into (Ok true)) → IsPacketLength (length into) → MeansIt m into → IfSome a (λ bytes. Receives MeansIt Refused bytes b (Ok (Some m)))
   message None b into m h fits means = tt
@@ -85,8 +66,8 @@ module _ {M : Type 0} (MeansIt : M → List ℕ → Type 0) (Refused : List ℕ 
     pub meant : (m : M) → MeansIt m slice → IfSome a (λ bytes. Receives MeansIt Refused bytes b (Ok (Some m)))
     meant m means = message a b into m was_read is_fit (subst (MeansIt m) same means)
 
-    pub refused : (fault : WireFault) → (fault ≡ wire.Memory) ⊎ Refused slice fault → IfSome a (λ bytes. Receives {M = M} MeansIt Refused bytes b (Err (of_wire fault)))
-    refused fault told = no_message a b into fault was_read is_fit (subst (λ (l : List ℕ). (fault ≡ wire.Memory) ⊎ Refused l fault) same told)
+    pub refused : (e : Fault WireFault) → HasCause (Refused slice) e → IfSome a (λ bytes. Receives {M = M} MeansIt Refused bytes b (Err (of_wire e)))
+    refused e told = no_message a b into e was_read is_fit (subst (λ (l : List ℕ). HasCause (Refused l) e) same told)
 
 -- a link fault is one of the packet
 pub packet_failed : (fault : PacketFault) → of_packet fault ≡ LinkFault → fault ≡ packets.ReadFault

@@ -1,5 +1,5 @@
 -- What a server makes of one packet.
-use Rattle.std.proofs.Common.{◌≡◌, ◌≢◌, ◌⊎◌, inl, inr, ℕ, ◌≤◌, List, ◌++◌, length, Option, refl, sym, subst}
+use Rattle.std.proofs.Common.{◌≡◌, ℕ, ◌≤◌, List, ◌++◌, length, Option, refl, sym, subst}
 use Rattle.box_events.specs.declared.replies.Frame.{Frame}
 use Rattle.box_events.specs.declared.requests.Numbered.{Numbered}
 use Rattle.box_server.specs.Servers.{ServerState}
@@ -7,7 +7,6 @@ use Rattle.box_server.specs.declared.entry.Entry.{Entry}
 use Rattle.box_server.specs.Keeping.{KeeperState, Keeps}
 use Rattle.box_server.proofs.Added.{keeps_as}
 use Rattle.wire_profile.specs.declared.wire_fault.WireFault.{WireFault}
-use Rattle.wire_profile.specs.declared.wire_fault.WireFault.TheVariants as wire
 use Rattle.wire_profile.specs.Places.{ProfileView}
 use Rattle.box_wire.specs.Framing.{WireRefused}
 use Rattle.box_wire.specs.Kinds.{calls}
@@ -21,9 +20,8 @@ use Rattle.update_sessions.specs.inner.StoreSteps.{Took, frames_in}
 
 module _ (p : ProfileView) (s : ServerState) (bytes out : List ℕ) (e0 e1 : Option (List Entry)) where
   -- the bytes are no call
-  pub turn_unread : (fault : WireFault) → fault ≢ wire.Memory → (fault ≡ wire.Memory) ⊎ WireRefused p calls bytes fault → e1 ≡ e0 → AnswersPacket p s bytes out e0 e1 (refused s (Wire fault))
-  turn_unread fault other (inl e) same = absurd (other e)
-  turn_unread fault other (inr r) same = (r, refl, same)
+  pub turn_unread : (cause : WireFault) → WireRefused p calls bytes cause → e1 ≡ e0 → AnswersPacket p s bytes out e0 e1 (refused s (Wire cause))
+  turn_unread cause r same = (r, refl, same)
 
   -- a call is taken, and then
   module _ (call : Numbered) (means : MeansCall p call bytes) (t : ServerState) (x : CallAnswer) (took : Took s call.number call.request e0 e1 t x) where

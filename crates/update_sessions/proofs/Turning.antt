@@ -1,15 +1,17 @@
 -- What a client makes of one packet.
-use Rattle.std.proofs.Common.{◌≡◌, ◌⊎◌, inl, inr, ℕ, List, true, Ok, Err, refl, ap, ◌∙◌, subst}
+use Rattle.std.proofs.Common.{◌≡◌, ℕ, List, true, Ok, Err, refl, ap, ◌∙◌, subst}
 use Rattle.box_events.specs.declared.replies.Frame.{Frame}
 use Rattle.box_client.specs.States.{ClientState}
 use Rattle.box_client.specs.Asking.{ticks, is_one_asking}
 use Rattle.box_client.specs.declared.fault.ClientFault.{ClientFault}
 use Rattle.box_client.specs.declared.fault.ClientFault.TheVariants as client
 use Rattle.wire_profile.specs.declared.wire_fault.WireFault.{WireFault}
-use Rattle.wire_profile.specs.declared.wire_fault.WireFault.TheVariants as wire
 use Rattle.wire_profile.specs.Places.{ProfileView}
+use Rattle.box_wire.specs.Answers.{HasCause}
 use Rattle.box_wire.specs.Framing.{WireRefused}
 use Rattle.box_wire.specs.Kinds.{frames}
+use Rattle.tl_base.specs.declared.fault.Fault.{Fault}
+use Rattle.tl_base.specs.declared.fault.Fault.TheVariants as fault
 use Rattle.update_sessions.specs.Faults.{of_client, of_wire}
 use Rattle.update_sessions.specs.Packed.{MeansFrame, Packed, SpellsCall}
 use Rattle.update_sessions.specs.Turns.{HearsPacket}
@@ -17,30 +19,9 @@ use Rattle.update_sessions.specs.inner.Steps.{HearsFrame}
 
 module _ (p : ProfileView) (c : ClientState) (bytes out : List ℕ) where
   -- the bytes are no frame
-  pub turn_unread : (fault : WireFault) → (fault ≡ wire.Memory) ⊎ WireRefused p frames bytes fault → HearsPacket p c bytes out c (Err (of_wire fault))
-  turn_unread wire.Memory h = tt
-  turn_unread (wire.Refused place cause) (inl e) = absurd cc
-  turn_unread (wire.Refused place cause) (inr r) = (r, refl)
-  turn_unread (wire.Trailing place) (inl e) = absurd cc
-  turn_unread (wire.Trailing place) (inr r) = (r, refl)
-  turn_unread (wire.NotServed place) (inl e) = absurd cc
-  turn_unread (wire.NotServed place) (inr r) = (r, refl)
-  turn_unread (wire.BadVersion version) (inl e) = absurd cc
-  turn_unread (wire.BadVersion version) (inr r) = (r, refl)
-  turn_unread (wire.BadNumber number) (inl e) = absurd cc
-  turn_unread (wire.BadNumber number) (inr r) = (r, refl)
-  turn_unread (wire.WrongUpdate place) (inl e) = absurd cc
-  turn_unread (wire.WrongUpdate place) (inr r) = (r, refl)
-  turn_unread (wire.BadCount pts count) (inl e) = absurd cc
-  turn_unread (wire.BadCount pts count) (inr r) = (r, refl)
-  turn_unread (wire.BadEnd pts) (inl e) = absurd cc
-  turn_unread (wire.BadEnd pts) (inr r) = (r, refl)
-  turn_unread (wire.BadDate date) (inl e) = absurd cc
-  turn_unread (wire.BadDate date) (inr r) = (r, refl)
-  turn_unread wire.UnorderedSetting (inl e) = absurd cc
-  turn_unread wire.UnorderedSetting (inr r) = (r, refl)
-  turn_unread (wire.BadSeq seq_start seq) (inl e) = absurd cc
-  turn_unread (wire.BadSeq seq_start seq) (inr r) = (r, refl)
+  pub turn_unread : (e : Fault WireFault) → HasCause (WireRefused p frames bytes) e → HearsPacket p c bytes out c (Err (of_wire e))
+  turn_unread (fault.Refused cause) r = (r, refl)
+  turn_unread fault.Memory r = tt
 
   module _ (f : Frame) (means : MeansFrame p f bytes) where
     -- the frame is refused

@@ -2,7 +2,8 @@
 use Rattle.tl_base.specs.declared.packet.PacketFault.{PacketFault}
 use Rattle.tl_base.specs.declared.packet.PacketFault.TheVariants as packets
 use Rattle.wire_profile.specs.declared.wire_fault.WireFault.{WireFault}
-use Rattle.wire_profile.specs.declared.wire_fault.WireFault.TheVariants as wire
+use Rattle.tl_base.specs.declared.fault.Fault.{Fault}
+use Rattle.tl_base.specs.declared.fault.Fault.TheVariants as fault
 use Rattle.box_client.specs.declared.fault.ClientFault.{ClientFault}
 use Rattle.box_client.specs.declared.fault.ClientFault.TheVariants as client
 use Rattle.update_sessions.specs.declared.fault.SessionFault.{SessionFault}
@@ -16,9 +17,9 @@ of_packet (packets.BadLength n) = Packet (packets.BadLength n)
 of_packet (packets.Ended had) = Packet (packets.Ended had)
 
 -- a packet is no message
-abbrev pub of_wire : WireFault → SessionFault
-of_wire wire.Memory = Memory
-of_wire fault = Wire fault
+abbrev pub of_wire : Fault WireFault → SessionFault
+of_wire (fault.Refused cause) = Wire cause
+of_wire fault.Memory = Memory
 
 -- an answer is refused
 abbrev pub of_client : ClientFault → SessionFault

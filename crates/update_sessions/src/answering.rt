@@ -20,11 +20,11 @@ use crate::packing::put_frame;
 use crate::storing::StoreSession;
 use box_events::{Frame, Numbered, Reply, Request};
 use box_server::{Keeper, PostFault, Posted, Posts, Server, StoreRefusal, Stored};
-use box_wire::read_call;
+use box_wire::{Fault, read_call};
 use std::alloc::Global;
 use std::mem::drop;
 use tl_base::{Bytes, Memory};
-use wire_profile::{Profile, WireFault};
+use wire_profile::Profile;
 
 /// What is sent for a call: a reply, and then the push of a new post.
 #[derive(Drop)]
@@ -57,15 +57,13 @@ pub fn answer_packet<K: Keeper>(
 {
     let call = match read_call(alloc, profile, packet) {
         Ok(call) => call,
-        Err(fault) => match fault {
-            WireFault::Memory => return Err(StoreSession::Memory { store }),
-            fault => {
-                return Err(StoreSession::Session {
-                    store,
-                    fault: SessionFault::Wire(fault),
-                });
-            }
-        },
+        Err(Fault::Refused(cause)) => {
+            return Err(StoreSession::Session {
+                store,
+                fault: SessionFault::Wire(cause),
+            });
+        }
+        Err(Fault::Memory) => return Err(StoreSession::Memory { store }),
     };
     let (store, sent) = match take_call(alloc, store, call) {
         Ok(taken) => taken,

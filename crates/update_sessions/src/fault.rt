@@ -1,5 +1,6 @@
 //! Why a session ends before its time.
 use box_client::ClientFault;
+use box_wire::Fault;
 use std::alloc::AllocError;
 use thiserror::Error;
 use tl_base::{PacketFault, WriteFault};
@@ -14,7 +15,7 @@ pub enum SessionFault {
     /// The next bytes are no packet; `Ended` with 0 bytes where the link has ended and a client still asks. It holds no `ReadFault` and no `Memory`.
     #[error(transparent)]
     Packet(PacketFault),
-    /// The next packet is no message. It holds no `Memory`.
+    /// The next packet is no message.
     #[error(transparent)]
     Wire(WireFault),
     /// The client refuses the next frame. It holds no `Memory`.
@@ -57,16 +58,16 @@ impl From<PacketFault> for SessionFault {
     }
 }
 
-impl From<WireFault> for SessionFault {
+impl From<Fault<WireFault>> for SessionFault {
     ghost use Rattle.std.specs.Prelude.{◌≡◌};
     ghost use Rattle.update_sessions.specs.Faults.{of_wire};
 
     ghost from_gives = { λ fault e. e ≡ of_wire fault };
 
-    fn from(fault: WireFault) -> SessionFault {
+    fn from(fault: Fault<WireFault>) -> SessionFault {
         match fault {
-            WireFault::Memory => SessionFault::Memory,
-            fault => SessionFault::Wire(fault),
+            Fault::Refused(cause) => SessionFault::Wire(cause),
+            Fault::Memory => SessionFault::Memory,
         }
     }
 }

@@ -9,7 +9,8 @@ use Rattle.box_events.specs.declared.limits.TheConstants.{MAX_FRAME_BYTES}
 use Rattle.box_events.specs.declared.replies.Frame.{Frame}
 use Rattle.box_events.specs.declared.requests.Numbered.{Numbered}
 use Rattle.wire_profile.specs.declared.wire_fault.WireFault.{WireFault}
-use Rattle.wire_profile.specs.declared.wire_fault.WireFault.TheVariants as wire
+use Rattle.tl_base.specs.declared.fault.Fault.{Fault}
+use Rattle.tl_base.specs.declared.fault.Fault.TheVariants as fault
 use Rattle.wire_profile.specs.Places.{ProfileView}
 use Rattle.wire_profile.specs.Profiles.{IsProfile}
 use Rattle.wire_values.specs.Calls.{call_tree}
@@ -92,14 +93,14 @@ frame_means p is b f c = frames_meant p is f b c.fits.is c.fits.clear c.spelled
 pub call_means : (p : ProfileView) → IsProfile p → (b : List ℕ) (n : Numbered) → CarriesCall p b n → Means p calls (call_tree n) b
 call_means p is b n c = calls_meant p is n b tt c.fits c.spelled
 
-abbrev ReadsFrame : ProfileView → List ℕ → Result Frame WireFault → Type 0
+abbrev ReadsFrame : ProfileView → List ℕ → Result Frame (Fault WireFault) → Type 0
 ReadsFrame p b result = Reads IsFrame (λ m. Means p frames (frame_tree m) b) (WireRefused p frames b) result
 
-abbrev ReadsCall : ProfileView → List ℕ → Result Numbered WireFault → Type 0
+abbrev ReadsCall : ProfileView → List ℕ → Result Numbered (Fault WireFault) → Type 0
 ReadsCall p b result = Reads (λ _. ⊤) (λ m. Means p calls (call_tree m) b) (WireRefused p calls b) result
 
 -- what is read is what was sent
-same_by : {M : Type 0} (m n : M) → (◌≡◌ {A = Result M WireFault} (Ok m) (Ok n)) ⊎ (◌≡◌ {A = Result M WireFault} (Ok m) (Err wire.Memory)) → m ≡ n
+same_by : {M : Type 0} (m n : M) → (◌≡◌ {A = Result M (Fault WireFault)} (Ok m) (Ok n)) ⊎ (◌≡◌ {A = Result M (Fault WireFault)} (Ok m) (Err fault.Memory)) → m ≡ n
 same_by m n (inl q) = cc
 same_by m n (inr q) = absurd cc
 
@@ -113,14 +114,14 @@ pub frame_hearable : (p : ProfileView) → IsProfile p → (b : List ℕ) (f : F
 frame_hearable p is b f r = frames_taken p is f b r.given.0 r.given.1
 
 -- and only memory can be wanting
-memory_by : {M : Type 0} (n : M) (e : WireFault) → (◌≡◌ {A = Result M WireFault} (Err e) (Ok n)) ⊎ (◌≡◌ {A = Result M WireFault} (Err e) (Err wire.Memory)) → e ≡ wire.Memory
+memory_by : {M : Type 0} (n : M) (e : Fault WireFault) → (◌≡◌ {A = Result M (Fault WireFault)} (Err e) (Ok n)) ⊎ (◌≡◌ {A = Result M (Fault WireFault)} (Err e) (Err fault.Memory)) → e ≡ fault.Memory
 memory_by n e (inl q) = absurd cc
 memory_by n e (inr q) = cc
 
-pub frame_memory : (p : ProfileView) → IsProfile p → (b : List ℕ) (e : WireFault) → HasFrame p b → ReadsFrame p b (Err e) → e ≡ wire.Memory
+pub frame_memory : (p : ProfileView) → IsProfile p → (b : List ℕ) (e : Fault WireFault) → HasFrame p b → ReadsFrame p b (Err e) → e ≡ fault.Memory
 frame_memory p is b e has r = memory_by has.0 e (r.meant has.0 has.1.fits.is (frame_means p is b has.0 has.1))
 
-pub call_memory : (p : ProfileView) → IsProfile p → (b : List ℕ) (e : WireFault) → HasCall p b → ReadsCall p b (Err e) → e ≡ wire.Memory
+pub call_memory : (p : ProfileView) → IsProfile p → (b : List ℕ) (e : Fault WireFault) → HasCall p b → ReadsCall p b (Err e) → e ≡ fault.Memory
 call_memory p is b e has r = memory_by has.0 e (r.meant has.0 tt (call_means p is b has.0 has.1))
 
 -- ---- requests, one by one

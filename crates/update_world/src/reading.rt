@@ -10,7 +10,7 @@ use crate::fault::StepFault;
 use crate::pool::Pool;
 use crate::sent::End;
 use box_events::{Frame, Numbered};
-use box_wire::{read_call, read_frame};
+use box_wire::{Fault, read_call, read_frame};
 use std::alloc::{AllocError, Global};
 use tl_base::Memory;
 use wire_profile::{Profile, WireFault};
@@ -101,11 +101,11 @@ fn sent_call(alloc: Global, profile: &Profile, bytes: &[u8]) -> Result<Numbered,
 }
 
 // Between the ends of a world nothing else comes.
-fn as_memory(fault: WireFault) -> Memory
-    requires { fault ≡ WireFault.Memory }
+fn as_memory(fault: Fault<WireFault>) -> Memory
+    requires { fault ≡ Fault.Memory }
 {
     match fault {
-        WireFault::Memory => AllocError,
-        _ => unreachable!(),
+        Fault::Refused(_) => unreachable!(),
+        Fault::Memory => AllocError,
     }
 }

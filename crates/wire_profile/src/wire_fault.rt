@@ -1,5 +1,4 @@
 //! Why bytes are no message.
-use std::alloc::{AllocError, AllocFailed};
 use thiserror::Error;
 use tl_types::Cause;
 
@@ -39,28 +38,4 @@ pub enum WireFault {
     /// A seq is out of range, or the settings of a container aren't those of its stretch of seqs.
     #[error("the seqs {seq_start} to {seq}")]
     BadSeq { seq_start: i32, seq: i32 },
-    #[error("out of memory")]
-    Memory,
-}
-
-impl From<AllocError> for WireFault {
-    ghost use Rattle.std.specs.Prelude.{◌≡◌};
-    ghost use Rattle.wire_profile.specs.declared.wire_fault.WireFault.TheVariants.{Memory};
-
-    ghost from_gives = { λ _ e. e ≡ Memory };
-
-    fn from(_e: AllocError) -> WireFault {
-        WireFault::Memory
-    }
-}
-
-impl<T: Drop> From<AllocFailed<T>> for WireFault {
-    ghost use Rattle.std.specs.Prelude.{◌≡◌};
-    ghost use Rattle.wire_profile.specs.declared.wire_fault.WireFault.TheVariants.{Memory};
-
-    ghost from_gives = { λ _ e. e ≡ Memory };
-
-    fn from(_e: AllocFailed<T>) -> WireFault {
-        WireFault::Memory
-    }
 }

@@ -9,18 +9,20 @@ use Rattle.tl_decode.specs.Wholes.{ReadsWhole}
 use Rattle.tl_decode.specs.declared.whole.WholeFault.{WholeFault}
 use Rattle.tl_decode.specs.declared.whole.WholeFault.TheVariants as whole
 use Rattle.wire_profile.specs.declared.wire_fault.WireFault.{WireFault}
-use Rattle.wire_profile.specs.declared.wire_fault.WireFault.TheVariants.{Refused, Trailing, Memory}
+use Rattle.wire_profile.specs.declared.wire_fault.WireFault.TheVariants as wire
+use Rattle.tl_base.specs.declared.fault.Fault.{Fault}
+use Rattle.tl_base.specs.declared.fault.Fault.TheVariants.{Refused, Memory}
 use Rattle.box_wire.specs.Answers.{IsOnly}
 
 -- a fault over bytes in memory; a failed read isn't one
-abbrev pub as_wire_fault : WholeFault → WireFault
-as_wire_fault (whole.Refused place cause) = Refused place cause
-as_wire_fault (whole.Trailing place) = Trailing place
+abbrev pub as_wire_fault : WholeFault → Fault WireFault
+as_wire_fault (whole.Refused place cause) = Refused (wire.Refused place cause)
+as_wire_fault (whole.Trailing place) = Refused (wire.Trailing place)
 as_wire_fault whole.ReadFault = Memory
 as_wire_fault whole.Memory = Memory
 
 -- The value that the bytes spell, or why they spell none.
-abbrev pub ReadsValue : Declared → Shape → List ℕ → Result Value WireFault → Type 0
+abbrev pub ReadsValue : Declared → Shape → List ℕ → Result Value (Fault WireFault) → Type 0
 ReadsValue S T bytes (Ok value) = ReadsWhole S T bytes (Ok value)
 ReadsValue S T bytes (Err fault) = (e : WholeFault) × ReadsWhole S T bytes (Err e) × (fault ≡ as_wire_fault e)
 
@@ -29,7 +31,7 @@ abbrev pub IsSpelling : Declared → Shape → ValueView → List ℕ → Type 0
 IsSpelling S T v = IsOnly (Spells S T v)
 
 -- the first cause, or else the message, out of memory aside
-abbrev pub AnswersMessage : {M : Type 0} → Option WireFault → M → Result M WireFault → Type 0
-AnswersMessage (Some fault) m result = result ≡ Err fault
+abbrev pub AnswersMessage : {M : Type 0} → Option WireFault → M → Result M (Fault WireFault) → Type 0
+AnswersMessage (Some cause) m result = result ≡ Err (Refused cause)
 AnswersMessage None m (Ok x) = x ≡ m
 AnswersMessage None m (Err fault) = fault ≡ Memory

@@ -1,5 +1,5 @@
 -- A run of `replay`.
-use Rattle.std.proofs.Common.{◌≡◌, ℕ, ◌+◌, List, length, take, drop, Bool, Option, Some, None, option_map, codes, Ok, refl, sym, subst, inl, inr, arith}
+use Rattle.std.proofs.Common.{◌≡◌, ℕ, ◌+◌, List, length, take, drop, Bool, Some, codes, Ok, refl, sym, subst, inl, inr, arith}
 use Rattle.std.proofs.lemmas.Bool.{cases_lt}
 use Rattle.std.proofs.lemmas.List.{take_all, take-append-drop, length-take}
 use Rattle.tl_base.specs.Contents.{Files}
@@ -7,8 +7,7 @@ use Rattle.tl_base.specs.declared.host.Slot.TheVariants.{Schema, Input}
 use Rattle.tl_schema.specs.Schemas.{Declared}
 use Rattle.wire_profile.specs.Faults.{IsAnswer}
 use Rattle.wire_profile.specs.Places.{ProfileView}
-use Rattle.outside.specs.Answer.{Answer, refused_after}
-use Rattle.fault_lines.specs.Messages.{step_line}
+use Rattle.outside.specs.Answer.{Answer}
 use Rattle.fault_lines.specs.Profiled.{HasProfile}
 use Rattle.fault_lines.specs.Profiled as answer
 use Rattle.outside.specs.Begun.{to_output}
@@ -30,13 +29,9 @@ use Rattle.run_laws.proofs.files.Schemas.{Reached, bytes_come, comes_schema, fil
 
 -- ---- what is answered is printed
 
-line_printed : (output : List ℕ) (o : Option (List ℕ)) (a : Answer) → option_map (refused_after output) o ≡ Some a → IsPrinted a
-line_printed output None a is = absurd cc
-line_printed output (Some line) a is = after_printed output line a (sym (some_is _ _ is))
-
 ending_printed : (output : List ℕ) (ending : Ending) (a : Answer) → ending_answer output ending ≡ Some a → IsPrinted a
 ending_printed output (whole k) a is = done_printed output a (sym (some_is _ _ is))
-ending_printed output (no_step at fault) a is = line_printed output (step_line at fault) a is
+ending_printed output (no_step at fault) a is = after_printed output _ a (sym (some_is _ _ is))
 ending_printed output (not_made at cause) a is = after_printed output _ a (sym (some_is _ _ is))
 ending_printed output (too_long at) a is = after_printed output _ a (sym (some_is _ _ is))
 

@@ -1,5 +1,5 @@
 -- What `post` comes to over an outside, whatever stops it.
-use Rattle.std.proofs.Common.{◌≡◌, ℕ, List, [], ◌∷◌, ◌++◌, length, Bool, true, false, Some, refl, sym, ap, ◌∙◌, subst, inl, inr, arith}
+use Rattle.std.proofs.Common.{◌≡◌, ℕ, List, [], ◌∷◌, ◌++◌, length, Bool, true, false, Some, refl, sym, ap, ◌∙◌, subst, inl, inr, arith, codes}
 use Rattle.tl_base.specs.Outside.{View, left_of, written_of}
 use Rattle.tl_base.specs.Packets.{packet}
 use Rattle.tl_base.specs.declared.packet.PacketFault.{PacketFault}
@@ -22,6 +22,7 @@ use Rattle.outside.specs.Fits.{Fits}
 use Rattle.outside.proofs.Fitting.{fits_both, writes_append}
 use Rattle.outside.proofs.Sparing.{IsReading}
 use Rattle.fault_lines.specs.Packets.{ended_line, length_line}
+use Rattle.fault_lines.specs.Messages.{wire_line}
 use Rattle.schema_files.specs.Lines.{json_line}
 use Rattle.schema_files.specs.declared.json_input.TheConstants.{JSON_BYTES}
 use Rattle.update_sessions.specs.Heard.{NoFrame}
@@ -168,7 +169,7 @@ module _ (W : Type 0) where
 
   module _ (p : ProfileView) (address : List ℕ) where
     call_comes : (b : List ℕ) → Comes W End (λ files given. answer.OfCall p address b given) (OfCall p address b)
-    call_comes b t r s n (no_call fault line refuses is h) f c = refusal_comes W (answer.OfCall p address b (next_link s.view)) line t r s n (answer.no_call fault line refuses is refl) h f c
+    call_comes b t r s n (no_call fault refuses h) f c = refusal_comes W (answer.OfCall p address b (next_link s.view)) (wire_line (codes "input") fault) t r s n (answer.no_call fault refuses refl) h f c
     call_comes b t r s n (long_call x means long h) f c = refusal_comes W (answer.OfCall p address b (next_link s.view)) (long_call_line (length b)) t r s n (answer.long_call x means long refl) h f c
     call_comes b t r s n (calls_it x means few h) f c =
         came_as W (OfSent p x.number address b (next_link s.view)) (answer.OfCall p address b (next_link s.view)) r s n (λ a of. answer.sent x means few of) (over_comes p x.number address b t r s n h f c)

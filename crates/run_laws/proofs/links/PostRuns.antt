@@ -72,7 +72,7 @@ module _ (schema address input : List ℕ) where
   sent_safe (peer line) b a is = safe_as a.status PeerFault (ap (λ (x : Answer). x.status) is) peer_safe
 
   call_safe : (p : ProfileView) (b given : List ℕ) (a : Answer) → answer.OfCall p address b given a → IsSafe a.status
-  call_safe p b given a (answer.no_call fault line refuses tells is) = safe_as a.status Refused (ap (λ (x : Answer). x.status) is) refused_safe
+  call_safe p b given a (answer.no_call fault refuses is) = safe_as a.status Refused (ap (λ (x : Answer). x.status) is) refused_safe
   call_safe p b given a (answer.long_call c means long is) = safe_as a.status Refused (ap (λ (x : Answer). x.status) is) refused_safe
   call_safe p b given a (answer.sent c means few of) = sent_safe of.0 _ a of.2
 

@@ -1,11 +1,10 @@
 -- How a session can end: something is told of each end.
-use Rattle.std.proofs.Common.{◌≡◌, codes, ℕ, ◌+◌, ltb, List, Bool, true, false, Option, Some, None, Result, Ok, Err, refl, sym, ap, subst}
+use Rattle.std.proofs.Common.{◌≡◌, codes, ℕ, ◌+◌, ltb, List, Bool, true, false, Option, Some, None, Result, Ok, Err, refl, sym, subst}
 use Rattle.std.specs.Prelude.{option_map}
 use Rattle.tl_base.specs.declared.host.Slot.TheVariants.{Link}
 use Rattle.box_events.specs.declared.requests.Numbered.{Numbered}
 use Rattle.box_server.specs.Servers.{ServerState}
 use Rattle.wire_profile.specs.Places.{ProfileView}
-use Rattle.box_wire.specs.Kinds.{calls}
 use Rattle.fault_lines.specs.Answers.{answer_line}
 use Rattle.fault_lines.specs.Messages.{wire_line}
 use Rattle.fault_lines.specs.Packets.{length_line, ended_line}
@@ -21,7 +20,6 @@ use Rattle.update_sessions.specs.Serving.{after_request}
 use Rattle.session_commands.specs.Lines.{packet_line}
 use Rattle.session_commands.specs.Serve.{SessionEnd, served, peer_fault, link_fault, IsShortEnd, end_of}
 use Rattle.session_commands.specs.SessionEnds.{many_frames_line}
-use Rattle.session_commands.proofs.ToldCauses.{call_told, told_line}
 use Rattle.session_rooms.proofs.LeftPackets.{packet_left}
 use Rattle.serve_rooms.specs.Acts.{Act, events_in}
 use Rattle.serve_rooms.specs.Answering.{Answered, goes_on, has_ended, fails, unkept, after_sending, after_adding, AnswersBytes, no_call, answers, after_packet, AnswersNext, Session, over, lost, Served, turn_of, answers_by, AnswersAll}
@@ -59,9 +57,7 @@ module _ (p : ProfileView) where
   added_known s c false t r h = subst CanEnd (sym h.1) tt
 
   bytes_known : (s : ServerState) (bytes : List ℕ) (t : List Act) (r : Answered) → AnswersBytes p s bytes t r → CanEnd r
-  bytes_known s bytes t r (no_call fault refuses none is) =
-      let line = told_line p calls call_told (codes "peer") bytes fault refuses in
-      subst CanEnd (sym is) (record { word = tt; ends = peer_fault line.0; is = ap (option_map (λ (l : List ℕ). peer_fault l)) line.1 })
+  bytes_known s bytes t r (no_call fault refuses none is) = subst CanEnd (sym is) (record { word = tt; ends = peer_fault (wire_line (codes "peer") fault); is = refl })
   bytes_known s bytes t r (answers c means h) = added_known s c h.between h.rest r h.goes
 
   packet_known : (s : ServerState) (v : PacketView) (t : List Event) (u : List Act) (r : Answered) (a m : Outside) → TakesPacket Link t v → Fits t a m → after_packet p s v u r → CanEnd r
@@ -102,7 +98,7 @@ packet_end (Some l) is = absurd cc
 pub failed_end : (r : Result ℕ SessionFault) → end_of r ≡ Some link_fault → r ≡ Err session.LinkFault
 failed_end (Ok n) is = absurd cc
 failed_end (Err (session.Packet f)) is = absurd (packet_end (packet_line f) is)
-failed_end (Err (session.Wire f)) is = absurd (packet_end (wire_line (codes "peer") f) is)
+failed_end (Err (session.Wire f)) is = absurd (packet_end (Some (wire_line (codes "peer") f)) is)
 failed_end (Err (session.Client f)) is = absurd (packet_end (answer_line f) is)
 failed_end (Err session.TooManyFrames) is = absurd cc
 failed_end (Err session.LinkFault) is = refl

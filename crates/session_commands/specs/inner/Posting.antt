@@ -1,5 +1,5 @@
 -- What the parts of `post` do. This project's own.
-use Rattle.std.specs.Prelude.{◌≡◌, ◌⊎◌, ℕ, ◌<◌, ◌≤◌, List, length, codes, Some, Result, Ok, Err, Vec}
+use Rattle.std.specs.Prelude.{◌≡◌, ◌⊎◌, ℕ, ◌<◌, ◌≤◌, List, length, codes, Result, Ok, Err, Vec}
 use Rattle.std.specs.declared.alloc.Global.{Global}
 use Rattle.tl_numbers.specs.Bytes.{AreBytes}
 use Rattle.tl_base.specs.Outside.{View, IsThere}
@@ -25,7 +25,7 @@ use Rattle.session_commands.specs.Post.{Outcome, OfBody, shows, peer}
 
 -- the line says why the bytes are no call
 abbrev pub TellsNoCall : ProfileView → List ℕ → List ℕ → Type 0
-TellsNoCall p b line = (fault : WireFault) × WireRefused p calls b fault × (wire_line (codes "input") fault ≡ Some line)
+TellsNoCall p b line = (fault : WireFault) × WireRefused p calls b fault × (line ≡ wire_line (codes "input") fault)
 
 -- the line says that they are one that is too long
 abbrev pub TellsLong : ProfileView → List ℕ → List ℕ → Type 0
@@ -70,12 +70,6 @@ GivesLineBy Of (Err e) = ⊥
 
 abbrev pub GivesLine : ProfileView → ℕ → List ℕ → Result (Vec ℕ Global) Stop → Type 0
 GivesLine p n body result = GivesLineBy (OfBody p n body) result
-
--- the stop tells why bytes are no frame
-abbrev pub TellsNoFrame : WireFault → Stop → Type 0
-TellsNoFrame fault (stop.Peer line) = wire_line (codes "peer") fault ≡ Some line.items
-TellsNoFrame fault stop.Memory = Unit {0}
-TellsNoFrame fault s = ⊥
 
 -- ---- what is left as it was
 

@@ -24,7 +24,7 @@ use Rattle.session_commands.specs.Linked.{next_link, KeepsFiles, LeavesLinks, Le
 
 -- the line says why the bytes are no saved client
 abbrev pub TellsNoSaved : ProfileView → List ℕ → List ℕ → Type 0
-TellsNoSaved p bytes line = (fault : WireFault) × WireRefused p saved_clients bytes fault × (wire_line (codes "state") fault ≡ Some line)
+TellsNoSaved p bytes line = (fault : WireFault) × WireRefused p saved_clients bytes fault × (line ≡ wire_line (codes "state") fault)
 
 -- what is saved is read of the bytes
 abbrev pub ReadsSaved : ProfileView → List ℕ → Result Saved LoadError → Type 0

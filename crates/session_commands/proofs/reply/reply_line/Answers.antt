@@ -13,5 +13,6 @@ returns-in-Ok-frame_line c =
     reply_gives c.args.profile.now c.args.number c.args.frame c.in-Ok.read c.in-Ok-frame_line.line (rw c.as_slice.ensures.value at c.in-Ok.ensures.given)
     (is_reply c.is_reply_to.result (IsReplyTo c.args.number c.in-Ok.read) c.is_reply_to.ensures (search rules)) c.in-Ok-frame_line.ensures
 
-pub returns : goal.returns
-returns c = fault_gives c.args.profile.now c.args.number c.args.frame c.in-Err.fault c.no_frame.result (rw c.as_slice.ensures.value at c.in-Err.ensures.told) c.no_frame.ensures
+pub returns-in-Err-Refused : goal.returns-in-Err-Refused
+returns-in-Err-Refused c =
+    fault_gives c.args.profile.now c.args.number c.args.frame c.in-Err-Refused.cause c.no_frame.result (rw (c.in-Err-Refused.field-0-is, c.as_slice.ensures.value) at c.in-Err-Refused.ensures.told) c.no_frame.ensures

@@ -3,13 +3,9 @@ use Rattle.update_sessions.proofs.KeepsRoom.{keeps_still}
 use Rattle.update_sessions.proofs.ServerTurns.{turn_answered, turn_keeps, turn_keeps_same, turn_unread}
 use Rattle.update_sessions.proofs.answering.answer_packet.Goals as goal
 
-pub returns-in_default : goal.returns-in_default
-returns-in_default g c =
-    let old = g.K.Keeper.state c.args.store.keeper in
-    record {
-      answers = turn_unread c.args.profile.now c.args.store.server c.args.packet.now c.args.out.now old.entries old.entries c.in-Err.fault c.in_default.not-Memory c.in-Err.ensures.told refl;
-      kept = keeps_still old _;
-    }
+pub returns-in-Err-Refused-clause-answers : goal.returns-in-Err-Refused-clause-answers
+returns-in-Err-Refused-clause-answers g c =
+    rw c.in-Err-Refused.field-0-is (rw c.in-Err-Refused.field-0-is at c.in-Err-Refused.ensures.told, refl, refl)
 
 pub returns-in-Err-Failed-clause-kept : goal.returns-in-Err-Failed-clause-kept
 returns-in-Err-Failed-clause-kept g c =
