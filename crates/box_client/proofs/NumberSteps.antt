@@ -23,7 +23,7 @@ use Rattle.box_events.specs.Weaves.{WeaveCause, woven_of}
 use Rattle.box_events.proofs.Made.{reaches}
 use Rattle.channel_box.specs.States.{ChannelState, first, has_id}
 use Rattle.channel_box.specs.Steps.{at_first, watched, watched_if, may_watch, channel_of, is_dropped, is_asking, is_due, heard_by, flagged, woken, forgotten, asks_number, Answered, taken_by, answered_by, grown, replied as channel_replied_by, Ticked, ticked, and_asks, and_waits, channel_is_due}
-use Rattle.channel_box.proofs.Received.{ending_sums}
+use Rattle.channel_box.proofs.Brought.{ending_sums}
 use Rattle.box_client.specs.declared.received.Received.{Received}
 use Rattle.box_client.specs.States.{ClientState, new_client}
 use Rattle.box_client.specs.Pushes.{updated, all_updated, settings_in, pack_heard, pushed}
