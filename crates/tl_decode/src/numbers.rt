@@ -93,8 +93,10 @@ fn add_numbers(
     requires { IsNumber wanted }
     ensures { IfOk result (λ n. (p : PlanView) (j : ℕ) → IsInPlan p j → IsItem p j wanted → AddsNumbers p wanted next.now (StackFrame.List j left.old items.old) (StackFrame.List j left.new items.new) n) }
 {
-    let count = (next.len() / 4).min(*left as usize);
-    items.reserve(count)?;
+    let words = next.len() / 4;
+    let count = words.min(*left as usize);
+    // Room for the list's last number too, if it is there: the list needn't grow by it.
+    items.reserve(words.min(*left as usize + 1))?;
     let mut n = 0usize;
     while n < count {
         items.push_reserved(number_of(wanted, word_in(&next[4 * n..])));
